@@ -25,8 +25,10 @@ pub mod Lacked
 pub mod LackedBehind
 pub mod NearPlaces
 pub mod MetRanges
+pub mod MetTaking
 pub mod MetTables
 pub mod FarEntries
 pub mod InUse
+pub mod LowestTables
 pub mod Pinned
 pub mod Met

@@ -1,4 +1,6 @@
 -- What clearing the whole clusters of a range does: they read as zeros then, or as the disk below.
+use Rattle.qcow2_metadata.specs.declared.l2_mapping.L2Mapping.TheVariants as M
+use Rattle.qcow2_alloc.specs.declared.error.ImageError.TheVariants as I
 use Rattle.std.specs.Prelude.{ℕ, zero, suc, ◌+◌, ◌*◌, ◌/◌, ◌%◌, ◌≡◌, ◌≢◌, ◌⊎◌, ◌<◌, ◌≤◌, ◌&&◌, ◌++◌, Bool, true, not, nat_lt, List, [], ◌∷◌, Option, Some, None, IsSome, IsTrue, Result, Ok, Err, slice_get}
 use Rattle.std.specs.Option.{option_or}
 use Rattle.image_access.specs.Backing.{BackingView}
@@ -6,10 +8,9 @@ use Rattle.image_access.specs.Moments.{StorageView}
 use Rattle.qcow2_metadata.specs.Bytes.{Bytes}
 use Rattle.qcow2_metadata.specs.declared.header.HeaderFields.{HeaderFields}
 use Rattle.qcow2_metadata.specs.declared.l2_mapping.L2Mapping.{L2Mapping}
-use Rattle.qcow2_metadata.specs.declared.l2_mapping.L2Mapping.TheVariants as M
 use Rattle.qcow2_metadata.specs.Header.{cluster_size, entries_per_cluster}
 use Rattle.qcow2_metadata.specs.Cover.{cover, entry_cover}
-use Rattle.qcow2_metadata.specs.Entries.{is_copied, l1_entry, l2_entry}
+use Rattle.qcow2_metadata.specs.Entries.{is_copied, l1_entry, l2_entry, count}
 use Rattle.qcow2_metadata.specs.L2Mapping.{IsInReach, old_data_run}
 use Rattle.qcow2_metadata.specs.L2Table.{copied_host, zero_entry}
 use Rattle.qcow2_disk.specs.AbstractImages.{Setting, guest_of}
@@ -29,7 +30,6 @@ use Rattle.qcow2_alloc.specs.CachePins.{KeepsPinsAndNotes, l2_pins}
 use Rattle.qcow2_alloc.specs.declared.cache.MetadataCaches.{MetadataCaches}
 use Rattle.qcow2_alloc.specs.declared.clusters_to_free.ClustersToFreeEntry.{ClustersToFreeEntry}
 use Rattle.qcow2_alloc.specs.declared.error.ImageError.{ImageError}
-use Rattle.qcow2_alloc.specs.declared.error.ImageError.TheVariants as I
 use Rattle.qcow2_alloc.specs.ImageFile.{FileInvariant, contents_in, known_in, state_in}
 use Rattle.qcow2_alloc.specs.MetadataCaches.{CacheInvariant, IsEntryAt, MadeEntry, NotesHeld, known_of, l2_at, order_of}
 use Rattle.qcow2_image.specs.Backings.{HasPrepared}
@@ -43,7 +43,7 @@ use Rattle.qcow2_image.specs.Found.{l1_index_of}
 use Rattle.qcow2_image.specs.Image.{is_writable, size_of}
 use Rattle.qcow2_image.specs.ImageInvariant.{ImageInvariant, abstract_of, disk_of, listed_run, of_data, pending_in, to_free}
 use Rattle.qcow2_image.specs.L1Entries.{NeedsFarEntry}
-use Rattle.qcow2_image.specs.MetAlone.{IsMetAlone}
+use Rattle.qcow2_image.specs.MetAlone.{IsMetTaking}
 use Rattle.qcow2_image.specs.MovedTables.{MovesTables}
 use Rattle.qcow2_image.specs.NewTables.{IsFaultOrLacksTable}
 use Rattle.qcow2_image.specs.Prepared.{table_of}
@@ -120,12 +120,12 @@ module _ {S F : Type 0} (view : S → StorageView) (backing : F → BackingView)
   abbrev pub RefusesUngiven : Qcow2 S F → Qcow2 S F → ImageError → Type 0
   RefusesUngiven old new e = (IsRefusalByFault (refusal_of e) → ⊥) → (out : List (Option Prepared)) → let v = abstract_of view backing old out in let w = abstract_of view backing new out in RefusedEffect v w [] [] (refusal_of e) (IsSame v w)
 
-  -- A refusal that is no fault gives nothing. Where nothing refused the range at once, and no mapping is prepared, its first offset has no L2 table of its own then.
-  -- It is a limit then, or 20, for an L1 entry past 64 bits that would have to be written for that offset.
+  -- A refusal that is no fault gives nothing. Where nothing refused the range at once, it is a limit, or 20, for an L1 entry past 64 bits that would have to be written for its first offset.
+  -- Or it is 8, where a mapping is prepared that isn't existing, or 9, where one lies in the L2 table of that offset. Where none is prepared, the offset has no L2 table of its own then.
   pub record RefusesClearing (how : Clearance) (old new : Qcow2 S F) (offset n : ℕ) (e : ImageError) : Type 0 where
     pub ungiven : RefusesUngiven old new e
     pub lacks : refuses_to_clear old offset n how ≡ None → (out : List (Option Prepared)) → (abstract_of view backing old out).is_sound → (HasPrepared out → ⊥) → IsFaultOrLacksTable view new (from_in old offset n) e
-    pub met : refuses_to_clear old offset n how ≡ None → (out : List (Option Prepared)) → (abstract_of view backing old out).is_sound → (HasPrepared out → ⊥) → IsMetAlone ⊥ (NeedsFarEntry old (from_in old offset n)) e
+    pub met : refuses_to_clear old offset n how ≡ None → (out : List (Option Prepared)) → (abstract_of view backing old out).is_sound → IsMetTaking (HasPrepared out) (IsUnderMapping old.file.header.fields (from_in old offset n) out) ⊥ (NeedsFarEntry old (from_in old offset n)) e
 
   -- ---- parts of the work
 
@@ -193,6 +193,7 @@ module _ {S F : Type 0} (view : S → StorageView) (backing : F → BackingView)
     pub cleared_all : (i : ℕ) → i < n → cover a.file.header.fields (known_in view (with_caches a caches).file) (guest_at a.file.header.fields row column + i) ≡ cover_once_cleared how (cover a.file.header.fields (known_in view a.file) (guest_at a.file.header.fields row column + i))
     pub stays : (g : ℕ) → (g < guest_at a.file.header.fields row column) ⊎ (guest_at a.file.header.fields row column + n ≤ g) → cover a.file.header.fields (known_in view a.file) g ≡ cover a.file.header.fields (known_in view (with_caches a caches).file) g
     pub table_stays : table_at a.file.header.fields (known_in view (with_caches a caches).file) row ≡ table_at a.file.header.fields (known_in view a.file) row
+    pub counts : (k : ℕ) → count a.file.header.fields (known_in view a.file) k ≡ count a.file.header.fields (known_in view (with_caches a caches).file) k
     pub new_data : (k : ℕ) → now.new_data k ≡ p.new_data k
     pub new_tables : (k : ℕ) → now.new_tables k ≡ p.new_tables k
     pub old_tables : (k : ℕ) → now.old_tables k ≡ p.old_tables k

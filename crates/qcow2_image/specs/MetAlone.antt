@@ -1,4 +1,4 @@
--- What stands in the way of a call that takes clusters, on a sound image of which no mapping is prepared: a fault or a limit, and what has a cause in the image.
+-- What stands in the way of the calls on a sound image: a fault or a limit, and what has a cause in the image, or in what is prepared.
 use Rattle.std.specs.Prelude.{ℕ, ◌+◌, ◌-◌, ◌*◌, ◌/◌, ◌^◌, ◌<◌, ◌≤◌, ◌≡◌, ◌⊎◌, ◌&&◌, Bool, false, List, Option, None}
 use Rattle.image_access.specs.declared.storage.PreallocateMode.{PreallocateMode}
 use Rattle.image_access.specs.declared.storage.PreallocateMode.TheVariants as Mode
@@ -23,7 +23,7 @@ use Rattle.qcow2_image.specs.Prepared.{offset_of, table_of}
 use Rattle.qcow2_image.specs.Refusals.{IsFaultOrLimit}
 use Rattle.qcow2_image.specs.UnseenSteps.{is_announced}
 
--- A fault or a limit. Or 7, for bytes of a compressed cluster that have to be copied. Or 20, for an L1 entry past 64 bits that has to be written.
+-- What a call that takes clusters meets where no mapping is prepared: a fault or a limit. Or 7, for bytes of a compressed cluster that have to be copied. Or 20, for an L1 entry past 64 bits that has to be written.
 abbrev pub IsMetAlone : (compressed far : Type 0) → ImageError → Type 0
 IsMetAlone compressed far e = IsFaultOrLimit e ⊎ (((e ≡ I.Compressed) × compressed) ⊎ ((e ≡ I.Overflow) × far))
 
@@ -49,10 +49,6 @@ copied_end size_of_cluster from to Mode.Zero = rounded_up size_of_cluster from
 copied_end size_of_cluster from to Mode.FormatAllocate = to
 copied_end size_of_cluster from to Mode.FullAllocate = to
 copied_end size_of_cluster from to Mode.WriteData = to
-
--- Filling the range behind the end of a disk in a mode meets that too, by what is compressed where bytes are copied. Beside that 3 is met, for zeros without a cluster below version 3.
-abbrev pub IsMetFilling : PreallocateMode → (from to : ℕ) → HeaderFields → Bytes → ImageError → Type 0
-IsMetFilling mode from to h known e = IsMetAlone (HasCompressedIn from (copied_end (cluster_size h) from to mode) h known) ⊥ e ⊎ ((e ≡ I.Version) × ((mode ≡ Mode.Zero) × (h.version < 3)))
 
 -- the L1 table has an entry for the last byte before an offset, and 64 bits hold where its entries lie
 pub record HasNearEntries (to : ℕ) (h : HeaderFields) : Type 0 where
@@ -113,3 +109,14 @@ IsMetReadingRange out from to h known e = IsMetLooking (HasPrepared out) e ⊎ (
 -- Putting bytes into a prepared mapping, from so far within it on, meets a fault. Where the mapping is existing it meets what a range does that was looked up, and 20 where its place passes 64 bits.
 abbrev pub IsMetPutting : (held : Type 0) → Prepared → (at : ℕ) → ImageError → Type 0
 IsMetPutting held p at e = IsFault e ⊎ ((table_of p ≡ None) × (IsMetLookingAgain held e ⊎ ((e ≡ I.Overflow) × (2 ^ 64 ≤ offset_of p + at))))
+
+-- ---- taking clusters, on a sound image, whatever is prepared
+
+-- A call that takes clusters meets what it does where no mapping is prepared. Or 8, where the cache is full of L2 tables that can't leave it. Or 9, where an L2 table is kept as it is for a prepared mapping.
+abbrev pub IsMetTaking : (held kept compressed far : Type 0) → ImageError → Type 0
+IsMetTaking held kept compressed far e = IsMetAlone compressed far e ⊎ (((e ≡ I.InUse) × held) ⊎ ((e ≡ I.TablePrepared) × kept))
+
+-- Filling the range behind the end of a disk in a mode meets that, by what is compressed where bytes are copied. It meets 8 and 9 only where a mapping is prepared that isn't existing. Beside that 3 is met, for zeros without a cluster below version 3.
+abbrev pub IsMetGrowing : List (Option Prepared) → PreallocateMode → (from to : ℕ) → HeaderFields → Bytes → ImageError → Type 0
+IsMetGrowing out mode from to h known e =
+    IsMetTaking (HasPrepared out) (HasPrepared out) (HasCompressedIn from (copied_end (cluster_size h) from to mode) h known) ⊥ e ⊎ ((e ≡ I.Version) × ((mode ≡ Mode.Zero) × (h.version < 3)))

@@ -1,13 +1,13 @@
 -- What want of memory leaves of an image, and what a call counts of changes.
 use Rattle.std.specs.Prelude.{◌≡◌, ◌⊎◌, ◌<◌, ◌≤◌, Result, IfErr, IsErrOf, IsTrue}
-use Rattle.image_access.specs.Moments.{StorageView, ContentsStay}
+use Rattle.image_access.specs.Moments.{StorageView, ContentsStay, Rose}
 use Rattle.qcow2_alloc.specs.declared.error.ImageError.{ImageError}
 use Rattle.qcow2_alloc.specs.declared.error.ImageError.TheVariants.{Memory}
 use Rattle.qcow2_alloc.specs.ImageFile.{view_in}
 use Rattle.qcow2_image.specs.declared.image.Qcow2.{Qcow2}
 use Rattle.qcow2_image.specs.declared.prepared.CommitRefused.{CommitRefused}
 use Rattle.qcow2_image.specs.Calls.{reason_of}
-use Rattle.qcow2_alloc.specs.ImageStorage.{changes_of}
+use Rattle.qcow2_alloc.specs.ImageStorage.{changes_of, data_changes_of}
 use Rattle.qcow2_alloc.specs.KeptMarks.{HaveRisen, changes_in}
 use Rattle.qcow2_image.specs.Image.{has_noted_change, is_failed}
 
@@ -25,6 +25,18 @@ module _ {S F : Type 0} where
     pub storage : changes_of old.file.storage ≤ changes_of new.file.storage
     pub tables : old.file.caches.changes ≤ new.file.caches.changes
 
+  -- no write was told as data: the number of such changes stays
+  abbrev pub TellsNoData : Qcow2 S F → Qcow2 S F → Type 0
+  TellsNoData old new = data_changes_of new.file.storage ≡ data_changes_of old.file.storage
+
+  -- one was: the number of such changes rose, or stood at the greatest u64
+  abbrev pub TellsData : Qcow2 S F → Qcow2 S F → Type 0
+  TellsData old new = Rose (data_changes_of old.file.storage) (data_changes_of new.file.storage)
+
+  -- what was changed on the storage, if anything, was told as data
+  abbrev pub TellsDataAlone : Qcow2 S F → Qcow2 S F → Type 0
+  TellsDataAlone old new = (changes_of new.file.storage ≡ changes_of old.file.storage) ⊎ TellsData old new
+
 -- What a call leaves that want of memory refused. While the image hasn't failed, the contents stayed. It failed by this call only where a change was counted in it, and wherever one was.
 pub record MarksOnceChanged {S F : Type 0} (view : S → StorageView) (old new : Qcow2 S F) : Type 0 where
   pub contents : ¬ IsTrue (is_failed new) → ContentsStay (view_in view old.file) (view_in view new.file)
@@ -39,12 +51,13 @@ abbrev pub CommitFailsOnceWritten : {S F A : Type 0} → (S → StorageView) →
 CommitFailsOnceWritten view old new result = IfErr result (λ refused. reason_of refused ≡ Memory → MarksOnceChanged view old new)
 
 module _ {S F : Type 0} (view : S → StorageView) (old new : Qcow2 S F) where
-  -- A call notes and counts what it changes: an honest storage stays honest, what is noted in it was counted, and where nothing was counted the contents stayed.
+  -- A call notes and counts what it changes: an honest storage stays honest, what is noted in it was counted, and where nothing was counted the contents stayed. It tells nothing as data.
   pub record NotesChanges : Type 0 where
     pub honest : (view_in view old.file).is_honest → (view_in view new.file).is_honest
     pub no_fewer : NoFewerChanges old new
     pub why : IsTrue (has_noted_change new) → ChangesRose old new
     pub contents : ¬ ChangesRose old new → ContentsStay (view_in view old.file) (view_in view new.file)
+    pub kinds : TellsNoData old new
 
   -- so does a part of a call, before which no change may have been noted
   pub record NotesPart : Type 0 where
@@ -52,3 +65,4 @@ module _ {S F : Type 0} (view : S → StorageView) (old new : Qcow2 S F) where
     pub no_fewer : NoFewerChanges old new
     pub why : IsTrue (has_noted_change new) → IsTrue (has_noted_change old) ⊎ ChangesRose old new
     pub contents : ¬ IsTrue (has_noted_change old) → ¬ ChangesRose old new → ContentsStay (view_in view old.file) (view_in view new.file)
+    pub kinds : TellsNoData old new

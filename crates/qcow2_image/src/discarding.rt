@@ -1,12 +1,14 @@
 //! Clearing the whole clusters of a range: to zeros, or to what the disk below shows.
+ghost use Rattle.qcow2_image.specs.LowestPlaces.{LeavesLowestTables, TakesLowestTables};
 ghost use Rattle.qcow2_image.specs.LackedPlaces.{IsLimitedByTable};
 ghost use Rattle.qcow2_image.specs.BehindHeader.{StaysBehindHeader};
-ghost use Rattle.qcow2_image.specs.Noted.{ChangesRose, FailsOnceWritten, NotesPart};
+ghost use Rattle.qcow2_image.specs.Noted.{ChangesRose, FailsOnceWritten, NotesPart, TellsNoData};
 ghost use Rattle.qcow2_alloc.specs.KeptMarks.{KeepsFileNotes};
-ghost use Rattle.std.specs.Prelude.{ℕ, List, Option, ◌≡◌, ◌+◌, ◌-◌, ◌*◌, ◌/◌, ◌%◌, ◌^◌, ◌<◌, ◌≤◌, ◌≢◌, ◌++◌, true, false, not, Some, None, Ok, Err, IfOk, IfErr, IfSome, OnOk, IsOk, IsSome, IsTrue, MatchOption, nat_le, nat_lt, if◌then◌else◌};
+ghost use Rattle.qcow2_alloc.specs.KeptNotes.{NoData};
+ghost use Rattle.std.specs.Prelude.{ℕ, List, Option, ◌≡◌, ◌+◌, ◌-◌, ◌*◌, ◌/◌, ◌%◌, ◌^◌, ◌<◌, ◌≤◌, ◌≢◌, ◌++◌, true, false, not, Some, None, Ok, Err, IfOk, IfErr, IfSome, OnOk, IsOk, IsSome, IsTrue, MatchOption, nat_le, nat_lt, if◌then◌else◌, ◌⊎◌, IsErrAnd};
 ghost use Rattle.qcow2_image.specs.Found.{l1_index_of};
 ghost use Rattle.qcow2_metadata.specs.EntryTable.{entry_count};
-ghost use Rattle.qcow2_image.specs.MetAlone.{IsMetAlone, KeepsL1Place};
+ghost use Rattle.qcow2_image.specs.MetAlone.{KeepsL1Place, IsMetTaking};
 ghost use Rattle.qcow2_metadata.specs.Header.{cluster_size, entries_per_cluster, rounded_up as rounded_up_to};
 ghost use Rattle.qcow2_metadata.specs.Cover.{cover};
 ghost use Rattle.qcow2_metadata.specs.L2Mapping.{IsInReach, old_data_run};
@@ -14,13 +16,13 @@ ghost use Rattle.qcow2_metadata.specs.L2Table.{copied_host};
 ghost use Rattle.qcow2_laws.specs.CrashInvariant.{Pending};
 ghost use Rattle.qcow2_disk.specs.Rules.{answered, touched_from, touched_to};
 ghost use Rattle.qcow2_alloc.specs.CachePins.{l2_pins};
-ghost use Rattle.qcow2_alloc.specs.ImageError.{IsFault};
+ghost use Rattle.qcow2_alloc.specs.ImageError.{IsFault, IsOfTables};
 ghost use Rattle.qcow2_alloc.specs.ImageFile.{known_in, FileInvariant};
 ghost use Rattle.qcow2_alloc.specs.MetadataCaches.{IsEntryAt, l2_at};
 ghost use Rattle.qcow2_alloc.specs.declared.error.ImageError.TheVariants.{TablePrepared};
 ghost use Rattle.qcow2_image.specs.declared.prepared.Prepared.{Prepared};
 ghost use Rattle.qcow2_image.specs.Backings.{HasPrepared};
-ghost use Rattle.qcow2_image.specs.L1Entries.{IsRefusedAsFar, HasOwnTable, NeedsFarEntry, ReachesOffset, RefusesFarEntryFreeing};
+ghost use Rattle.qcow2_image.specs.L1Entries.{IsRefusedAsFar, HasOwnTable, NeedsFarEntry, ReachesOffset, RefusesFarEntryFreeing, ReachesAtMost};
 ghost use Rattle.qcow2_image.specs.NewTables.{IsFaultOrLacksTable};
 ghost use Rattle.qcow2_image.specs.PinnedTables.{HeedsPins};
 ghost use Rattle.qcow2_image.specs.Image.{HasNothingToFree, IsSameImage, ImageStays, is_failed, is_writable, size_of};
@@ -138,12 +140,17 @@ impl<S: Storage, F: WrappedFormat<S>> Qcow2<S, F> {
         ensures emptied { from_in self.old offset length < to_in self.old offset length → OnOk result (HasNothingToFree self.new) }
         ensures reaches { from_in self.old offset length < to_in self.old offset length → (out : List (Option Prepared)) → (abstract_of S.view F.backing self.old out).is_sound
             → OnOk result (ReachesOffset (from_in self.old offset length) self.old.file.header.fields self.new.file.header.fields) }
+        ensures lowest_tables { from_in self.old offset length < to_in self.old offset length → (out : List (Option Prepared)) → (abstract_of S.view F.backing self.old out).is_sound
+            → OnOk result (TakesLowestTables S.view (from_in self.old offset length) self.old self.new) }
         ensures far { from_in self.old offset length < to_in self.old offset length → RefusesFarEntryFreeing S.view F.backing (refuses_to_clear self.old offset length Clearance.Uncovered) (from_in self.old offset length) self.old self.new result }
+        ensures far_refused { from_in self.old offset length < to_in self.old offset length → refuses_to_clear self.old offset length Clearance.Uncovered ≡ None → NeedsFarEntry self.old (from_in self.old offset length) → IsErrAnd result (λ e. (e ≡ ImageError.Overflow) ⊎ IsOfTables e) }
         ensures range { IfOk result (λ range. range ≡ answered (cluster_size self.old.file.header.fields) (size_of self.old) offset length) }
         ensures freed { refuses_to_clear self.old offset length Clearance.Uncovered ≡ None → from_in self.old offset length < to_in self.old offset length → (out : List (Option Prepared)) → (abstract_of S.view F.backing self.old out).is_sound → IfErr result (FreesRefused self.new) }
         ensures pinned { from_in self.old offset length < to_in self.old offset length → refuses_to_clear self.old offset length Clearance.Uncovered ≡ None → HasOwnTable self.old (from_in self.old offset length) → HeedsPins self.old (from_in self.old offset length) result }
         ensures once_written { FailsOnceWritten S.view self.old self.new result }
+        ensures no_longer { ReachesAtMost (from_in self.old offset length) self.old self.new }
         ensures header_cluster { StaysBehindHeader S.view self.old self.new }
+        ensures kinds { TellsNoData self.old self.new }
         ensures faults { CountsImageFaults S.view F.backing self.old self.new result }
     {
         self.clear_range(offset, length, Clearance::Uncovered)
@@ -176,12 +183,17 @@ impl<S: Storage, F: WrappedFormat<S>> Qcow2<S, F> {
         ensures emptied { from_in self.old offset length < to_in self.old offset length → OnOk result (HasNothingToFree self.new) }
         ensures reaches { from_in self.old offset length < to_in self.old offset length → (out : List (Option Prepared)) → (abstract_of S.view F.backing self.old out).is_sound
             → OnOk result (ReachesOffset (from_in self.old offset length) self.old.file.header.fields self.new.file.header.fields) }
+        ensures lowest_tables { from_in self.old offset length < to_in self.old offset length → (out : List (Option Prepared)) → (abstract_of S.view F.backing self.old out).is_sound
+            → OnOk result (TakesLowestTables S.view (from_in self.old offset length) self.old self.new) }
         ensures far { from_in self.old offset length < to_in self.old offset length → RefusesFarEntryFreeing S.view F.backing (refuses_to_clear self.old offset length Clearance.Zeros) (from_in self.old offset length) self.old self.new result }
+        ensures far_refused { from_in self.old offset length < to_in self.old offset length → refuses_to_clear self.old offset length Clearance.Zeros ≡ None → NeedsFarEntry self.old (from_in self.old offset length) → IsErrAnd result (λ e. (e ≡ ImageError.Overflow) ⊎ IsOfTables e) }
         ensures range { IfOk result (λ range. range ≡ answered (cluster_size self.old.file.header.fields) (size_of self.old) offset length) }
         ensures freed { refuses_to_clear self.old offset length Clearance.Zeros ≡ None → from_in self.old offset length < to_in self.old offset length → (out : List (Option Prepared)) → (abstract_of S.view F.backing self.old out).is_sound → IfErr result (FreesRefused self.new) }
         ensures pinned { from_in self.old offset length < to_in self.old offset length → refuses_to_clear self.old offset length Clearance.Zeros ≡ None → HasOwnTable self.old (from_in self.old offset length) → HeedsPins self.old (from_in self.old offset length) result }
         ensures once_written { FailsOnceWritten S.view self.old self.new result }
+        ensures no_longer { ReachesAtMost (from_in self.old offset length) self.old self.new }
         ensures header_cluster { StaysBehindHeader S.view self.old self.new }
+        ensures kinds { TellsNoData self.old self.new }
         ensures faults { CountsImageFaults S.view F.backing self.old self.new result }
     {
         self.clear_range(offset, length, Clearance::Zeros)
@@ -214,12 +226,17 @@ impl<S: Storage, F: WrappedFormat<S>> Qcow2<S, F> {
         ensures emptied { from_in self.old offset length < to_in self.old offset length → OnOk result (HasNothingToFree self.new) }
         ensures reaches { from_in self.old offset length < to_in self.old offset length → (out : List (Option Prepared)) → (abstract_of S.view F.backing self.old out).is_sound
             → OnOk result (ReachesOffset (from_in self.old offset length) self.old.file.header.fields self.new.file.header.fields) }
+        ensures lowest_tables { from_in self.old offset length < to_in self.old offset length → (out : List (Option Prepared)) → (abstract_of S.view F.backing self.old out).is_sound
+            → OnOk result (TakesLowestTables S.view (from_in self.old offset length) self.old self.new) }
         ensures far { from_in self.old offset length < to_in self.old offset length → RefusesFarEntryFreeing S.view F.backing (refuses_to_clear self.old offset length Clearance.Zeros) (from_in self.old offset length) self.old self.new result }
+        ensures far_refused { from_in self.old offset length < to_in self.old offset length → refuses_to_clear self.old offset length Clearance.Zeros ≡ None → NeedsFarEntry self.old (from_in self.old offset length) → IsErrAnd result (λ e. (e ≡ ImageError.Overflow) ⊎ IsOfTables e) }
         ensures range { IfOk result (λ range. range ≡ answered (cluster_size self.old.file.header.fields) (size_of self.old) offset length) }
         ensures freed { refuses_to_clear self.old offset length Clearance.Zeros ≡ None → from_in self.old offset length < to_in self.old offset length → (out : List (Option Prepared)) → (abstract_of S.view F.backing self.old out).is_sound → IfErr result (FreesRefused self.new) }
         ensures pinned { from_in self.old offset length < to_in self.old offset length → refuses_to_clear self.old offset length Clearance.Zeros ≡ None → HasOwnTable self.old (from_in self.old offset length) → HeedsPins self.old (from_in self.old offset length) result }
         ensures once_written { FailsOnceWritten S.view self.old self.new result }
+        ensures no_longer { ReachesAtMost (from_in self.old offset length) self.old self.new }
         ensures header_cluster { StaysBehindHeader S.view self.old self.new }
+        ensures kinds { TellsNoData self.old self.new }
         ensures faults { CountsImageFaults S.view F.backing self.old self.new result }
     {
         self.discard_to_zero_unsafe(offset, length)
@@ -252,12 +269,17 @@ impl<S: Storage, F: WrappedFormat<S>> Qcow2<S, F> {
         ensures emptied { from_in self.old offset length < to_in self.old offset length → OnOk result (HasNothingToFree self.new) }
         ensures reaches { from_in self.old offset length < to_in self.old offset length → (out : List (Option Prepared)) → (abstract_of S.view F.backing self.old out).is_sound
             → OnOk result (ReachesOffset (from_in self.old offset length) self.old.file.header.fields self.new.file.header.fields) }
+        ensures lowest_tables { from_in self.old offset length < to_in self.old offset length → (out : List (Option Prepared)) → (abstract_of S.view F.backing self.old out).is_sound
+            → OnOk result (TakesLowestTables S.view (from_in self.old offset length) self.old self.new) }
         ensures far { from_in self.old offset length < to_in self.old offset length → RefusesFarEntryFreeing S.view F.backing (refuses_to_clear self.old offset length Clearance.KeptZeros) (from_in self.old offset length) self.old self.new result }
+        ensures far_refused { from_in self.old offset length < to_in self.old offset length → refuses_to_clear self.old offset length Clearance.KeptZeros ≡ None → NeedsFarEntry self.old (from_in self.old offset length) → IsErrAnd result (λ e. (e ≡ ImageError.Overflow) ⊎ IsOfTables e) }
         ensures range { IfOk result (λ range. range ≡ answered (cluster_size self.old.file.header.fields) (size_of self.old) offset length) }
         ensures freed { refuses_to_clear self.old offset length Clearance.KeptZeros ≡ None → from_in self.old offset length < to_in self.old offset length → (out : List (Option Prepared)) → (abstract_of S.view F.backing self.old out).is_sound → IfErr result (FreesRefused self.new) }
         ensures pinned { from_in self.old offset length < to_in self.old offset length → refuses_to_clear self.old offset length Clearance.KeptZeros ≡ None → HasOwnTable self.old (from_in self.old offset length) → HeedsPins self.old (from_in self.old offset length) result }
         ensures once_written { FailsOnceWritten S.view self.old self.new result }
+        ensures no_longer { ReachesAtMost (from_in self.old offset length) self.old self.new }
         ensures header_cluster { StaysBehindHeader S.view self.old self.new }
+        ensures kinds { TellsNoData self.old self.new }
         ensures faults { CountsImageFaults S.view F.backing self.old self.new result }
     {
         self.clear_range(offset, length, Clearance::KeptZeros)
@@ -283,7 +305,10 @@ impl<S: Storage, F: WrappedFormat<S>> Qcow2<S, F> {
         ensures emptied { from_in self.old offset length < to_in self.old offset length → OnOk result (HasNothingToFree self.new) }
         ensures reaches { from_in self.old offset length < to_in self.old offset length → (out : List (Option Prepared)) → (abstract_of S.view F.backing self.old out).is_sound
             → OnOk result (ReachesOffset (from_in self.old offset length) self.old.file.header.fields self.new.file.header.fields) }
+        ensures lowest_tables { from_in self.old offset length < to_in self.old offset length → (out : List (Option Prepared)) → (abstract_of S.view F.backing self.old out).is_sound
+            → OnOk result (TakesLowestTables S.view (from_in self.old offset length) self.old self.new) }
         ensures far { from_in self.old offset length < to_in self.old offset length → RefusesFarEntryFreeing S.view F.backing (refuses_to_clear self.old offset length how) (from_in self.old offset length) self.old self.new result }
+        ensures far_refused { from_in self.old offset length < to_in self.old offset length → refuses_to_clear self.old offset length how ≡ None → NeedsFarEntry self.old (from_in self.old offset length) → IsErrAnd result (λ e. (e ≡ ImageError.Overflow) ⊎ IsOfTables e) }
         ensures freed { refuses_to_clear self.old offset length how ≡ None → from_in self.old offset length < to_in self.old offset length → (out : List (Option Prepared)) → (abstract_of S.view F.backing self.old out).is_sound → IfErr result (FreesRefused self.new) }
         ensures pinned { from_in self.old offset length < to_in self.old offset length → refuses_to_clear self.old offset length how ≡ None → HasOwnTable self.old (from_in self.old offset length) → HeedsPins self.old (from_in self.old offset length) result }
         ensures range { IfOk result (λ range. range ≡ answered (cluster_size self.old.file.header.fields) (size_of self.old) offset length) }
@@ -291,6 +316,7 @@ impl<S: Storage, F: WrappedFormat<S>> Qcow2<S, F> {
         ensures since { NotesPart S.view self.old self.new }
         ensures once_written { FailsOnceWritten S.view self.old self.new result }
         ensures changed { (out : List (Option Prepared)) → (abstract_of S.view F.backing self.old out).is_sound → from_in self.old offset length < to_in self.old offset length → OnOk result (ChangesRose self.old self.new) }
+        ensures no_longer { ReachesAtMost (from_in self.old offset length) self.old self.new }
         ensures header_cluster { StaysBehindHeader S.view self.old self.new }
         ensures faults { CountsImageFaults S.view F.backing self.old self.new result }
     {
@@ -360,10 +386,11 @@ impl<S: Storage, F: WrappedFormat<S>> Qcow2<S, F> {
         requires writable { IsTrue (is_writable self.old) }
         requires some { from < to }
         ensures stays { ImageStays self.old self.new }
-        ensures notes { KeepsFileNotes S.view self.old.file self.new.file }
+        ensures notes { KeepsFileNotes S.view NoData self.old.file self.new.file }
+        ensures no_longer { ReachesAtMost from self.old self.new }
         ensures header_cluster { StaysBehindHeader S.view self.old self.new }
         ensures cause { IfErr result IsMetPreparing }
-        ensures met { (out : List (Option Prepared)) → ImageInvariant S.view F.backing (pending_in S.view F.backing self.old out) self.old out → IsClearable self.old.file.header.fields how from to → (HasPrepared out → ⊥) → IfErr result (IsMetAlone ⊥ (NeedsFarEntry self.old from)) }
+        ensures met { (out : List (Option Prepared)) → ImageInvariant S.view F.backing (pending_in S.view F.backing self.old out) self.old out → IsClearable self.old.file.header.fields how from to → IfErr result (IsMetTaking (HasPrepared out) (IsUnderMapping self.old.file.header.fields from out) ⊥ (NeedsFarEntry self.old from)) }
         ensures l1_place { l1_index_of self.old.file.header.fields from < entry_count self.old.l1_table → OnOk result (KeepsL1Place self.old.file.header.fields self.new.file.header.fields) }
         ensures limit { (out : List (Option Prepared)) → ImageInvariant S.view F.backing (pending_in S.view F.backing self.old out) self.old out → IsClearable self.old.file.header.fields how from to → IfErr result (IsLimitedByTable S.view from self.old self.new) }
         ensures lacks { (out : List (Option Prepared)) → ImageInvariant S.view F.backing (pending_in S.view F.backing self.old out) self.old out → IsClearable self.old.file.header.fields how from to
@@ -375,9 +402,11 @@ impl<S: Storage, F: WrappedFormat<S>> Qcow2<S, F> {
         ensures free { (out : List (Option Prepared)) → ImageInvariant S.view F.backing (pending_in S.view F.backing self.old out) self.old out
             → IfOk result (λ done. IsUnderMapping self.old.file.header.fields from out → ⊥) }
         ensures reaches { (out : List (Option Prepared)) → ImageInvariant S.view F.backing (pending_in S.view F.backing self.old out) self.old out → OnOk result (ReachesOffset from self.old.file.header.fields self.new.file.header.fields) }
+        ensures lowest_tables { (out : List (Option Prepared)) → ImageInvariant S.view F.backing (pending_in S.view F.backing self.old out) self.old out → IsClearable self.old.file.header.fields how from to → OnOk result (LeavesLowestTables S.view from self.old self.new) }
         ensures freed { (out : List (Option Prepared)) → ImageInvariant S.view F.backing (pending_in S.view F.backing self.old out) self.old out → IsClearable self.old.file.header.fields how from to
             → IfErr result (FreesRefused self.new) }
         ensures far { NeedsFarEntry self.old from → IsRefusedAsFar S.view F.backing self.old self.new result }
+        ensures far_refused { NeedsFarEntry self.old from → IsErrAnd result (λ e. (e ≡ ImageError.Overflow) ⊎ IsOfTables e) }
         ensures pinned { HasOwnTable self.old from → HeedsPins self.old from result }
         ensures faults { CountsImageFaults S.view F.backing self.old self.new result }
     {
@@ -392,10 +421,11 @@ impl<S: Storage, F: WrappedFormat<S>> Qcow2<S, F> {
         requires writable { IsTrue (is_writable self.old) }
         requires some { from < to }
         ensures stays { ImageStays self.old self.new }
-        ensures notes { KeepsFileNotes S.view self.old.file self.new.file }
+        ensures notes { KeepsFileNotes S.view NoData self.old.file self.new.file }
+        ensures no_longer { ReachesAtMost from self.old self.new }
         ensures header_cluster { StaysBehindHeader S.view self.old self.new }
         ensures cause { IfErr result IsMetPreparing }
-        ensures met { (out : List (Option Prepared)) → ImageInvariant S.view F.backing (pending_in S.view F.backing self.old out) self.old out → IsClearable self.old.file.header.fields how from to → (HasPrepared out → ⊥) → IfErr result (IsMetAlone ⊥ (NeedsFarEntry self.old from)) }
+        ensures met { (out : List (Option Prepared)) → ImageInvariant S.view F.backing (pending_in S.view F.backing self.old out) self.old out → IsClearable self.old.file.header.fields how from to → IfErr result (IsMetTaking (HasPrepared out) (IsUnderMapping self.old.file.header.fields from out) ⊥ (NeedsFarEntry self.old from)) }
         ensures l1_place { l1_index_of self.old.file.header.fields from < entry_count self.old.l1_table → OnOk result (KeepsL1Place self.old.file.header.fields self.new.file.header.fields) }
         ensures limit { (out : List (Option Prepared)) → ImageInvariant S.view F.backing (pending_in S.view F.backing self.old out) self.old out → IsClearable self.old.file.header.fields how from to → IfErr result (IsLimitedByTable S.view from self.old self.new) }
         ensures lacks { (out : List (Option Prepared)) → ImageInvariant S.view F.backing (pending_in S.view F.backing self.old out) self.old out → IsClearable self.old.file.header.fields how from to
@@ -407,6 +437,7 @@ impl<S: Storage, F: WrappedFormat<S>> Qcow2<S, F> {
         ensures free { (out : List (Option Prepared)) → ImageInvariant S.view F.backing (pending_in S.view F.backing self.old out) self.old out
             → IfOk result (λ done. IsUnderMapping self.old.file.header.fields from out → ⊥) }
         ensures reaches { (out : List (Option Prepared)) → ImageInvariant S.view F.backing (pending_in S.view F.backing self.old out) self.old out → OnOk result (ReachesOffset from self.old.file.header.fields self.new.file.header.fields) }
+        ensures lowest_tables { (out : List (Option Prepared)) → ImageInvariant S.view F.backing (pending_in S.view F.backing self.old out) self.old out → IsClearable self.old.file.header.fields how from to → OnOk result (LeavesLowestTables S.view from self.old self.new) }
         ensures far { NeedsFarEntry self.old from → (result ≡ Err ImageError.Overflow) × (self.new ≡ self.old) }
         ensures pinned { HasOwnTable self.old from → HeedsPins self.old from result }
         ensures faults { CountsImageFaults S.view F.backing self.old self.new result }

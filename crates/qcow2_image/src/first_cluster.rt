@@ -1,12 +1,14 @@
 //! The first cluster of a prepared range.
+ghost use Rattle.qcow2_alloc.specs.LowestRuns.{StaysUsed};
 ghost use Rattle.qcow2_image.specs.LackedPlaces.{IsLimitedByCluster, IsLimitedByFirst, first_of_range};
 ghost use Rattle.qcow2_metadata.specs.TableBytes.{HasPlace};
 ghost use Rattle.qcow2_image.specs.BehindHeader.{StaysBehindHeader};
 ghost use Rattle.qcow2_alloc.specs.KeptMarks.{KeepsFileNotes};
+ghost use Rattle.qcow2_alloc.specs.KeptNotes.{AlsoData, NoData};
 ghost use Rattle.std.specs.Prelude.{List, Option, ◌≡◌, ◌+◌, ◌-◌, ◌/◌, ◌%◌, ◌^◌, ◌<◌, ◌≤◌, true, false, Some, [], ◌∷◌, vec_capacity, IfOk, IfErr, IsSome, IsTrue, OnOk};
 ghost use Rattle.qcow2_image.specs.Backings.{HasPrepared};
 ghost use Rattle.qcow2_alloc.specs.ImageError.{IsFault};
-ghost use Rattle.qcow2_image.specs.MetAlone.{IsCopiedCompressed, IsMetAlone};
+ghost use Rattle.qcow2_image.specs.MetAlone.{IsCopiedCompressed, IsMetAlone, IsMetLooking, IsMetTaking};
 ghost use Rattle.qcow2_metadata.specs.L2Mapping.{IsHostCluster, IsInReach, greatest_offset};
 ghost use Rattle.qcow2_metadata.specs.Header.{cluster_size};
 ghost use Rattle.qcow2_metadata.specs.Cover.{cover};
@@ -60,10 +62,10 @@ impl<S: Storage, F: WrappedFormat<S>> Qcow2<S, F> {
         requires writable { IsTrue (is_writable self.old) }
         ensures stays { ImageStays self.old self.new }
         ensures header { KeepsHeader self.old.file.header self.new.file.header }
-        ensures notes { KeepsFileNotes S.view self.old.file self.new.file }
+        ensures notes { KeepsFileNotes S.view AlsoData self.old.file self.new.file }
         ensures header_cluster { 0 < table → StaysBehindHeader S.view self.old self.new }
         ensures cause { IfErr result IsMetPreparing }
-        ensures met { (out : List (Option Prepared)) → ImageInvariant S.view F.backing (pending_in S.view F.backing self.old out) self.old out → (HasPrepared out → ⊥) → HoldsTable S.view F.backing self.old offset table → IfErr result (IsMetAlone (IsCopiedCompressed self.old.file.header.fields (cover self.old.file.header.fields (known_in S.view self.old.file) (offset / cluster_size self.old.file.header.fields)) offset length overwrite) ⊥) }
+        ensures met { (out : List (Option Prepared)) → ImageInvariant S.view F.backing (pending_in S.view F.backing self.old out) self.old out → HoldsTable S.view F.backing self.old offset table → IfErr result (IsMetTaking (HasPrepared out) (0 < l2_pins self.old.file.caches table) (IsCopiedCompressed self.old.file.header.fields (cover self.old.file.header.fields (known_in S.view self.old.file) (offset / cluster_size self.old.file.header.fields)) offset length overwrite) ⊥) }
         ensures limit { (out : List (Option Prepared)) → ImageInvariant S.view F.backing (pending_in S.view F.backing self.old out) self.old out → HoldsTable S.view F.backing self.old offset table → IfErr result (IsLimitedByFirst S.view (first_of_range S.view offset self.old) self.old self.new) }
         ensures taken { IfErr result (λ e. e ≡ TablePrepared → 0 < l2_pins self.old.file.caches table) }
         ensures unpinned { OnOk result (l2_pins self.old.file.caches table ≡ 0) }
@@ -76,6 +78,7 @@ impl<S: Storage, F: WrappedFormat<S>> Qcow2<S, F> {
             → HoldsTable S.view F.backing self.old offset table → IfOk result (BeginsInKept self.old.file.header.fields offset (cover self.old.file.header.fields (known_in S.view self.old.file) (offset / cluster_size self.old.file.header.fields))) }
         ensures former { OnOk result (ListsFormer self.old self.new) }
         ensures lowest { (out : List (Option Prepared)) → ImageInvariant S.view F.backing (pending_in S.view F.backing self.old out) self.old out → IfOk result (BeginsLowest S.view self.new) }
+        ensures uses { (out : List (Option Prepared)) → ImageInvariant S.view F.backing (pending_in S.view F.backing self.old out) self.old out → HoldsTable S.view F.backing self.old offset table → OnOk result (StaysUsed S.view self.old.file self.new.file) }
         ensures faults { CountsImageFaults S.view F.backing self.old self.new result }
     {
         if self.file.caches.l2_is_pinned(table) {
@@ -106,10 +109,10 @@ impl<S: Storage, F: WrappedFormat<S>> Qcow2<S, F> {
         requires empty { room.items ≡ [] }
         requires room { 0 < vec_capacity room }
         ensures stays { ImageStays self.old self.new }
-        ensures notes { KeepsFileNotes S.view self.old.file self.new.file }
+        ensures notes { KeepsFileNotes S.view AlsoData self.old.file self.new.file }
         ensures header_cluster { 0 < table → StaysBehindHeader S.view self.old self.new }
         ensures cause { IfErr result IsMet }
-        ensures met { (out : List (Option Prepared)) → ImageInvariant S.view F.backing (pending_in S.view F.backing self.old out) self.old out → (HasPrepared out → ⊥) → HoldsTable S.view F.backing self.old offset table → cover self.old.file.header.fields (known_in S.view self.old.file) (offset / cluster_size self.old.file.header.fields) ≡ old.now → IfErr result (IsMetAlone (IsCopiedCompressed self.old.file.header.fields old.now offset length overwrite) ⊥) }
+        ensures met { (out : List (Option Prepared)) → ImageInvariant S.view F.backing (pending_in S.view F.backing self.old out) self.old out → HoldsTable S.view F.backing self.old offset table → cover self.old.file.header.fields (known_in S.view self.old.file) (offset / cluster_size self.old.file.header.fields) ≡ old.now → IfErr result (IsMetTaking (HasPrepared out) ⊥ (IsCopiedCompressed self.old.file.header.fields old.now offset length overwrite) ⊥) }
         ensures limit { (out : List (Option Prepared)) → ImageInvariant S.view F.backing (pending_in S.view F.backing self.old out) self.old out → HoldsTable S.view F.backing self.old offset table → IfErr result (IsLimitedByFirst S.view old.now self.old self.new) }
         ensures own { IfOk result (λ p. image_of p ≡ number_of self.old) }
         ensures first { IfOk result (IsFirst self.old.file.header.fields offset table) }
@@ -121,6 +124,7 @@ impl<S: Storage, F: WrappedFormat<S>> Qcow2<S, F> {
         ensures header { KeepsHeader self.old.file.header self.new.file.header }
         ensures former { OnOk result (ListsFormer self.old self.new) }
         ensures lowest { (out : List (Option Prepared)) → ImageInvariant S.view F.backing (pending_in S.view F.backing self.old out) self.old out → IfOk result (BeginsLowest S.view self.new) }
+        ensures uses { (out : List (Option Prepared)) → ImageInvariant S.view F.backing (pending_in S.view F.backing self.old out) self.old out → HoldsTable S.view F.backing self.old offset table → l2_pins self.old.file.caches table ≡ 0 → cover self.old.file.header.fields (known_in S.view self.old.file) (offset / cluster_size self.old.file.header.fields) ≡ old.now → OnOk result (StaysUsed S.view self.old.file self.new.file) }
         ensures faults { CountsImageFaults S.view F.backing self.old self.new result }
     {
         match kept_place(old) {
@@ -143,7 +147,7 @@ impl<S: Storage, F: WrappedFormat<S>> Qcow2<S, F> {
         requires empty { room.items ≡ [] }
         requires room { 0 < vec_capacity room }
         ensures stays { ImageStays self.old self.new }
-        ensures notes { KeepsFileNotes S.view self.old.file self.new.file }
+        ensures notes { KeepsFileNotes S.view AlsoData self.old.file self.new.file }
         ensures header_cluster { StaysBehindHeader S.view self.old self.new }
         ensures cause { IfErr result IsMet }
         ensures fault { (out : List (Option Prepared)) → ImageInvariant S.view F.backing (pending_in S.view F.backing self.old out) self.old out → cover self.old.file.header.fields (known_in S.view self.old.file) (offset / cluster_size self.old.file.header.fields) ≡ L2Mapping.Zero (Some (host, true)) → IfErr result IsFault }
@@ -159,6 +163,7 @@ impl<S: Storage, F: WrappedFormat<S>> Qcow2<S, F> {
         ensures header { self.new.file.header ≡ self.old.file.header }
         ensures list { KeepsList self.old self.new }
         ensures lowest { IfOk result (BeginsLowest S.view self.new) }
+        ensures uses { IsTrue (is_writable self.old) → (out : List (Option Prepared)) → ImageInvariant S.view F.backing (pending_in S.view F.backing self.old out) self.old out → HoldsTable S.view F.backing self.old offset table → l2_pins self.old.file.caches table ≡ 0 → cover self.old.file.header.fields (known_in S.view self.old.file) (offset / cluster_size self.old.file.header.fields) ≡ L2Mapping.Zero (Some (host, true)) → OnOk result (StaysUsed S.view self.old.file self.new.file) }
         ensures faults { CountsImageFaults S.view F.backing self.old self.new result }
     {
         self.fill_kept(host, offset, length, overwrite)?;
@@ -181,10 +186,10 @@ impl<S: Storage, F: WrappedFormat<S>> Qcow2<S, F> {
         requires empty { room.items ≡ [] }
         requires room { 0 < vec_capacity room }
         ensures stays { ImageStays self.old self.new }
-        ensures notes { KeepsFileNotes S.view self.old.file self.new.file }
+        ensures notes { KeepsFileNotes S.view AlsoData self.old.file self.new.file }
         ensures header_cluster { 0 < table → StaysBehindHeader S.view self.old self.new }
         ensures cause { IfErr result IsMet }
-        ensures met { (out : List (Option Prepared)) → ImageInvariant S.view F.backing (pending_in S.view F.backing self.old out) self.old out → (HasPrepared out → ⊥) → HoldsTable S.view F.backing self.old offset table → IfErr result (IsMetAlone (IsCopiedCompressed self.old.file.header.fields old.now offset length overwrite) ⊥) }
+        ensures met { (out : List (Option Prepared)) → ImageInvariant S.view F.backing (pending_in S.view F.backing self.old out) self.old out → HoldsTable S.view F.backing self.old offset table → IfErr result (IsMetTaking (HasPrepared out) ⊥ (IsCopiedCompressed self.old.file.header.fields old.now offset length overwrite) ⊥) }
         ensures limit { (out : List (Option Prepared)) → ImageInvariant S.view F.backing (pending_in S.view F.backing self.old out) self.old out → HoldsTable S.view F.backing self.old offset table → IfErr result (IsLimitedByCluster S.view self.old self.new) }
         ensures own { IfOk result (λ p. image_of p ≡ number_of self.old) }
         ensures first { IfOk result (IsFirst self.old.file.header.fields offset table) }
@@ -195,6 +200,7 @@ impl<S: Storage, F: WrappedFormat<S>> Qcow2<S, F> {
         ensures header { KeepsHeader self.old.file.header self.new.file.header }
         ensures former { OnOk result (ListsFormer self.old self.new) }
         ensures lowest { (out : List (Option Prepared)) → ImageInvariant S.view F.backing (pending_in S.view F.backing self.old out) self.old out → IfOk result (BeginsLowest S.view self.new) }
+        ensures uses { (out : List (Option Prepared)) → ImageInvariant S.view F.backing (pending_in S.view F.backing self.old out) self.old out → OnOk result (StaysUsed S.view self.old.file self.new.file) }
         ensures faults { CountsImageFaults S.view F.backing self.old self.new result }
     {
         let old_data = self.named_by(old)?;
@@ -219,10 +225,10 @@ impl<S: Storage, F: WrappedFormat<S>> Qcow2<S, F> {
     fn load_l2(&mut self, table: HostCluster) -> Result<(), ImageError>
         ensures header { self.new.file.header ≡ self.old.file.header }
         ensures stays { ImageStays self.old self.new }
-        ensures notes { KeepsFileNotes S.view self.old.file self.new.file }
+        ensures notes { KeepsFileNotes S.view NoData self.old.file self.new.file }
         ensures header_cluster { 0 < table → StaysBehindHeader S.view self.old self.new }
         ensures cause { IfErr result IsMet }
-        ensures fault { (p : Pending) (out : List (Option Prepared)) → ImageInvariant S.view F.backing p self.old out → (HasPrepared out → ⊥) → HasPlace self.old.file.header.fields.cluster_bits table → IfErr result IsFault }
+        ensures met { (p : Pending) (out : List (Option Prepared)) → ImageInvariant S.view F.backing p self.old out → HasPlace self.old.file.header.fields.cluster_bits table → IfErr result (IsMetLooking (HasPrepared out)) }
         ensures limited { (p : Pending) (out : List (Option Prepared)) → ImageInvariant S.view F.backing p self.old out → HasPlace self.old.file.header.fields.cluster_bits table → IfErr result IsUnlimited }
         ensures allocator { self.new.allocator ≡ self.old.allocator }
         ensures table { self.new.l1_table ≡ self.old.l1_table }
@@ -291,7 +297,7 @@ impl<S: Storage, F: WrappedFormat<S>> Qcow2<S, F> {
         ensures nameable { IfOk result (λ p. IsHostCluster self.old.file.header.fields.cluster_bits p.first_cluster) }
         ensures header { KeepsHeader self.old.file.header self.new.file.header }
         ensures stays { ImageStays self.old self.new }
-        ensures notes { KeepsFileNotes S.view self.old.file self.new.file }
+        ensures notes { KeepsFileNotes S.view AlsoData self.old.file self.new.file }
         ensures header_cluster { StaysBehindHeader S.view self.old self.new }
         ensures cause { IfErr result IsMet }
         ensures met { (p : Pending) (out : List (Option Prepared)) → ImageInvariant S.view F.backing p self.old out → HoldsAll S.view F.backing p out → IfErr result (IsMetAlone (IsCopiedCompressed self.old.file.header.fields old.now offset length overwrite) ⊥) }
@@ -299,6 +305,7 @@ impl<S: Storage, F: WrappedFormat<S>> Qcow2<S, F> {
         ensures gains { (p : Pending) (out : List (Option Prepared)) → ImageInvariant S.view F.backing p self.old out → HoldsAll S.view F.backing p out → Gains S.view F.backing p self.old self.new out offset length overwrite old.now result }
         ensures former { OnOk result (ListsFormer self.old self.new) }
         ensures lowest { (p : Pending) (out : List (Option Prepared)) → ImageInvariant S.view F.backing p self.old out → HoldsAll S.view F.backing p out → IfOk result (λ run. IsUsedBelow S.view self.new run.first_cluster) }
+        ensures uses { (p : Pending) (out : List (Option Prepared)) → ImageInvariant S.view F.backing p self.old out → HoldsAll S.view F.backing p out → OnOk result (StaysUsed S.view self.old.file self.new.file) }
         ensures faults { CountsImageFaults S.view F.backing self.old self.new result }
     {
         let pending = self.take_data()?;
@@ -318,7 +325,7 @@ impl<S: Storage, F: WrappedFormat<S>> Qcow2<S, F> {
         ensures header { KeepsHeader self.old.file.header self.new.file.header }
         ensures list { ListGrows self.old self.new }
         ensures stays { ImageStays self.old self.new }
-        ensures notes { KeepsFileNotes S.view self.old.file self.new.file }
+        ensures notes { KeepsFileNotes S.view NoData self.old.file self.new.file }
         ensures header_cluster { StaysBehindHeader S.view self.old self.new }
         ensures cause { IfErr result IsMet }
         ensures fault { (p : Pending) (out : List (Option Prepared)) → ImageInvariant S.view F.backing p self.old out → IfErr result IsFaultOrLimit }
@@ -326,6 +333,7 @@ impl<S: Storage, F: WrappedFormat<S>> Qcow2<S, F> {
         ensures takes { (p : Pending) (out : List (Option Prepared)) → ImageInvariant S.view F.backing p self.old out → HoldsAll S.view F.backing p out → TakesData S.view F.backing p self.old self.new out result }
         ensures former { ListsFormer self.old self.new }
         ensures lowest { (p : Pending) (out : List (Option Prepared)) → ImageInvariant S.view F.backing p self.old out → IfOk result (λ run. IsUsedBelow S.view self.new run.first_cluster) }
+        ensures uses { (p : Pending) (out : List (Option Prepared)) → ImageInvariant S.view F.backing p self.old out → OnOk result (StaysUsed S.view self.old.file self.new.file) }
         ensures faults { CountsImageFaults S.view F.backing self.old self.new result }
     {
         let Some(allocator) = &mut self.allocator else {

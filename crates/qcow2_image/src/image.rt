@@ -70,7 +70,7 @@ fn lacks_another(missing: Missing, header: &Header) -> bool
 
 #[tactic(auto, using(crate::proofs::Call::MetErrors::tables_met, crate::proofs::Call::MetErrors::storage_met, crate::proofs::Call::MetErrors::metadata_met))]
 impl<S: Storage, F: WrappedFormat<S>> Qcow2<S, F> {
-    ghost use Rattle.std.specs.Prelude.{◌≡◌, ◌≤◌, [], IfOk, IfErr, OnOk, IsTrue, MatchOption, MatchResult, true, Ok, Err, Some, None, false, nat_le, option_map, if◌then◌else◌};
+    ghost use Rattle.std.specs.Prelude.{◌≡◌, ◌≤◌, [], IfOk, IfErr, OnOk, IsTrue, MatchOption, MatchResult, true, Ok, Err, Some, None, false, nat_le, option_map, if◌then◌else◌, List, Option};
     ghost use Rattle.std.specs.String.{string_bytes};
     ghost use Rattle.qcow2_metadata.specs.Header.{header, cluster_size};
     ghost use Rattle.qcow2_alloc.specs.declared.error.ImageError.TheVariants.{Failed};
@@ -79,16 +79,15 @@ impl<S: Storage, F: WrappedFormat<S>> Qcow2<S, F> {
     ghost use Rattle.qcow2_image.specs.CountedOpening.{OpeningCounts};
     ghost use Rattle.qcow2_image.specs.Readable.{IsReasonAgainstTables, OpensRightly, NeededTablesRead};
     ghost use Rattle.qcow2_image.specs.Faults.{CountsImageFaults, SameFaults};
-    ghost use Rattle.qcow2_image.specs.Image.{storage_of_image, HasNothingToFree, ImageStays, IsBegun, KeepsRest, IsSameImage, is_failed, is_writable, is_external, has_noted_change, leaked_by, leaked_in, number_of, size_of};
-    ghost use Rattle.std.specs.Prelude.{List, Option};
+    ghost use Rattle.qcow2_image.specs.Image.{storage_of_image, HasNothingToFree, ImageStays, IsBegun, KeepsRest, IsSameImage, is_failed, is_writable, is_external, has_noted_change, leaked_by, leaked_in, number_of, size_of, KeepsWholeHeader};
     ghost use Rattle.qcow2_disk.specs.AbstractImages.{guest_of};
     ghost use Rattle.qcow2_image.specs.declared.prepared.Prepared.{Prepared};
     ghost use Rattle.qcow2_laws.specs.CrashInvariant.{Pending};
-    ghost use Rattle.qcow2_image.specs.ImageInvariant.{abstract_of, pending_in, ImageInvariant};
+    ghost use Rattle.qcow2_image.specs.ImageInvariant.{abstract_of, pending_in, ImageInvariant, HasL1Table};
     ghost use Rattle.qcow2_image.specs.CallParts.{EndsFreeing};
     ghost use Rattle.qcow2_alloc.specs.ImageError.{IsFault, IsOfTables};
     ghost use Rattle.qcow2_image.specs.Calls.{FlushesImage};
-    ghost use Rattle.qcow2_alloc.specs.ImageFile.{contents_in, known_in};
+    ghost use Rattle.qcow2_alloc.specs.ImageFile.{contents_in, known_in, view_in};
     ghost use Rattle.qcow2_image.specs.UnseenSteps.{UnseenStep, FreesListed};
     ghost use Rattle.qcow2_alloc.specs.FreeList.{with_listed};
     ghost use Rattle.qcow2_alloc.specs.ImageStorage.{storage_of};
@@ -97,11 +96,10 @@ impl<S: Storage, F: WrappedFormat<S>> Qcow2<S, F> {
     ghost use Rattle.image_access.specs.Moments.{ContentsStay, EachMomentSince};
     ghost use Rattle.qcow2_metadata.specs.Bytes.{byte_at};
     ghost use Rattle.qcow2_metadata.specs.Consistent.{IsConsistent};
-    ghost use Rattle.qcow2_alloc.specs.ImageFile.{view_in};
     ghost use Rattle.qcow2_alloc.specs.KeptAllocators.{IsAllocatorOf};
     ghost use Rattle.qcow2_alloc.specs.KeptMarks.{KeepsFileNotes};
-    ghost use Rattle.qcow2_image.specs.Noted.{FailsOnceWritten};
-    ghost use Rattle.qcow2_image.specs.ImageInvariant.{HasL1Table};
+    ghost use Rattle.qcow2_alloc.specs.KeptNotes.{NoData};
+    ghost use Rattle.qcow2_image.specs.Noted.{FailsOnceWritten, TellsNoData};
     ghost use Rattle.qcow2_image.specs.Created.{begins_image};
     ghost use Rattle.qcow2_image.specs.Growing.{SameFormat, WritesBack};
     ghost use Rattle.qcow2_image.specs.Unwritten.{ContentsStayThroughout, HoldsNothingModified, OnlyReadsImage, ReadsQuietly};
@@ -473,6 +471,7 @@ impl<S: Storage, F: WrappedFormat<S>> Qcow2<S, F> {
         ensures fault { (out : List (Option Prepared)) → (abstract_of S.view F.backing self.old out).is_sound → IfErr result IsFault }
         ensures marks { MarksFailed self.old self.new result }
         ensures image { IsSameImage self.old self.new }
+        ensures header { KeepsWholeHeader self.old self.new }
         ensures sees { FlushesImage S.view F.backing self.old self.new result }
         ensures emptied { IsTrue (is_writable self.old) → OnOk result (HasNothingToFree self.new) }
         ensures writes { (p : Pending) → ImageInvariant S.view F.backing (with_listed p self.old.file.free_list) self.old [] → WritesBack S.view F.backing p self.old self.new result }
@@ -480,6 +479,7 @@ impl<S: Storage, F: WrappedFormat<S>> Qcow2<S, F> {
         ensures once_written { FailsOnceWritten S.view self.old self.new result }
         ensures quiet { is_writable self.old ≡ false → ReadsQuietly S.view self.old self.new }
         ensures header_cluster { StaysBehindHeader S.view self.old self.new }
+        ensures kinds { TellsNoData self.old self.new }
         ensures faults { CountsImageFaults S.view F.backing self.old self.new result }
     {
         if self.is_failed {
@@ -493,11 +493,12 @@ impl<S: Storage, F: WrappedFormat<S>> Qcow2<S, F> {
     #[tactic(auto, using(crate::proofs::Call::MetErrors::storage_of_tables))]
     fn write_back(&mut self) -> Result<(), ImageError>
         ensures stays { ImageStays self.old self.new }
+        ensures header { self.new.file.header ≡ self.old.file.header }
         ensures cause { IfErr result IsOfTables }
         ensures fault { (p : Pending) (out : List (Option Prepared)) → ImageInvariant S.view F.backing (with_listed p self.old.file.free_list) self.old out → IfErr result IsFault }
         ensures emptied { IsTrue (is_writable self.old) → OnOk result (HasNothingToFree self.new) }
         ensures frees { (p : Pending) (out : List (Option Prepared)) → ImageInvariant S.view F.backing (with_listed p self.old.file.free_list) self.old out → FreesListed S.view F.backing p self.old self.new out result }
-        ensures notes { KeepsFileNotes S.view self.old.file self.new.file }
+        ensures notes { KeepsFileNotes S.view NoData self.old.file self.new.file }
         ensures quiet { is_writable self.old ≡ false → ReadsQuietly S.view self.old self.new }
         ensures header_cluster { StaysBehindHeader S.view self.old self.new }
         ensures written { IfOk result (λ done. known_in S.view self.new.file ≡ contents_in S.view self.new.file) }
@@ -523,7 +524,7 @@ impl<S: Storage, F: WrappedFormat<S>> Qcow2<S, F> {
         ensures faults { (p : Pending) (out : List (Option Prepared)) → ImageInvariant S.view F.backing (with_listed p self.old.file.free_list) self.old out → IfErr result IsFault }
         ensures noted { IsTrue self.old.file.caches.is_changed → IsTrue self.new.file.caches.is_changed }
         ensures idle { HasNothingToFree self.old → (result ≡ Ok tt) × (self.new ≡ self.old) }
-        ensures notes { KeepsFileNotes S.view self.old.file self.new.file }
+        ensures notes { KeepsFileNotes S.view NoData self.old.file self.new.file }
         ensures header_cluster { StaysBehindHeader S.view self.old self.new }
         ensures untouched { is_writable self.old ≡ false → self.new ≡ self.old }
         ensures counts { CountsImageFaults S.view F.backing self.old self.new result }
@@ -540,13 +541,14 @@ impl<S: Storage, F: WrappedFormat<S>> Qcow2<S, F> {
     // Frees the clusters that are to be freed, at the end of a call that changed an entry. Where there are none, nothing is done.
     pub(crate) fn end_freeing(&mut self) -> Result<(), ImageError>
         ensures image { IsSameImage self.old self.new }
-        ensures notes { KeepsFileNotes S.view self.old.file self.new.file }
+        ensures notes { KeepsFileNotes S.view NoData self.old.file self.new.file }
         ensures header_cluster { StaysBehindHeader S.view self.old self.new }
         ensures cause { IfErr result IsOfTables }
         ensures marks { MarksFailed self.old self.new result }
         ensures emptied { IsTrue (is_writable self.old) → OnOk result (HasNothingToFree self.new) }
         ensures frees { (out : List (Option Prepared)) → ImageInvariant S.view F.backing (pending_in S.view F.backing self.old out) self.old out
             → EndsFreeing S.view F.backing self.old self.new out result }
+        ensures uses { (out : List (Option Prepared)) → ImageInvariant S.view F.backing (pending_in S.view F.backing self.old out) self.old out → OnOk result (FreesJustListed S.view self.old self.new) }
         ensures idle { self.old.file.free_list ≡ [] → (result ≡ Ok tt) × (self.new ≡ self.old) }
         ensures table { self.new.l1_table ≡ self.old.l1_table }
         ensures header { self.new.file.header ≡ self.old.file.header }

@@ -11,19 +11,21 @@ ghost use Rattle.qcow2_image.specs.Faults.{CountsImageFaults, IsNotOfStorage};
 ghost use Rattle.qcow2_image.specs.Found.{AreBytesOf, IsFoundWhole, IsMappedAs, further_by};
 ghost use Rattle.qcow2_image.specs.CallParts.{PutsPart, WritesBytes};
 ghost use Rattle.qcow2_image.specs.HeldMappings.{HeedsHeld, KeepsHeld};
+ghost use Rattle.qcow2_image.specs.ListedClusters.{ListStays};
 ghost use Rattle.qcow2_image.specs.UnseenSteps.{UnseenStep};
 ghost use Rattle.qcow2_image.specs.ImageInvariant.{IsHonestBacking, ImageInvariant, pending_in, backing_bytes, disk_of, abstract_of};
 ghost use Rattle.qcow2_image.specs.declared.mapping.MappingKind.TheVariants.{Eof, Raw};
 ghost use Rattle.qcow2_image.specs.declared.mapping.Place.TheVariants.{Image};
 ghost use Rattle.qcow2_image.specs.declared.prepared.Prepared.{Prepared};
-ghost use Rattle.qcow2_image.specs.Image.{ImageStays, IsSameImage, is_failed, is_writable, size_of};
+ghost use Rattle.qcow2_image.specs.Image.{ImageStays, IsSameImage, is_failed, is_writable, size_of, KeepsWholeHeader};
 ghost use Rattle.qcow2_image.specs.Prepared.{image_of, table_of};
 ghost use Rattle.qcow2_image.specs.Refusals.{unusable, refuses_mapping, refuses_to_read, IsMet, IsUnlimited, MarksFailed};
 ghost use Rattle.qcow2_image.specs.SpecialReads.{TellsCompressed, TellsWhether};
 ghost use Rattle.qcow2_image.specs.Unwritten.{OnlyReadsImage, ReadsQuietly};
 ghost use Rattle.qcow2_alloc.specs.declared.error.ImageError.TheVariants.{Compressed, NotCompressed, OutdatedMapping, ReadOnly};
 ghost use Rattle.qcow2_alloc.specs.KeptMarks.{KeepsFileNotes};
-ghost use Rattle.qcow2_image.specs.Noted.{FailsOnceWritten};
+ghost use Rattle.qcow2_alloc.specs.KeptNotes.{AlsoData, NoData};
+ghost use Rattle.qcow2_image.specs.Noted.{FailsOnceWritten, TellsData, TellsDataAlone, TellsNoData};
 ghost use Rattle.qcow2_alloc.specs.ImageFile.{known_in};
 
 use crate::mappings::passes;
@@ -65,6 +67,7 @@ impl<S: Storage, F: WrappedFormat<S>> Qcow2<S, F> {
         ensures nothing { refuses_mapping self.old mapping.now.image ≡ None → length bytes.old ≡ 0 → (result ≡ Ok tt) × (self.new ≡ self.old) }
         ensures marks { MarksFailed self.old self.new result }
         ensures image { IsSameImage self.old self.new }
+        ensures header { KeepsWholeHeader self.old self.new }
         ensures outdated { (out : List (Option Prepared)) → (abstract_of S.view F.backing self.old out).is_sound → result ≡ Err OutdatedMapping
             → ¬ IsFoundWhole S.view self.old (mapping.now.offset + at) (further_by at mapping.now.kind) (length bytes.old) }
         ensures mapped { 0 < length bytes.old → (out : List (Option Prepared)) → (abstract_of S.view F.backing self.old out).is_sound
@@ -75,6 +78,7 @@ impl<S: Storage, F: WrappedFormat<S>> Qcow2<S, F> {
         ensures quiet { ReadsQuietly S.view self.old self.new }
         ensures held { refuses_mapping self.old mapping.now.image ≡ None → 0 < length bytes.old → HeedsHeld self.new (mapping.now.offset + at) (further_by at mapping.now.kind) (length bytes.old) result }
         ensures header_cluster { StaysBehindHeader S.view self.old self.new }
+        ensures kinds { TellsNoData self.old self.new }
         ensures unwritten { OnlyReadsImage S.view F.backing self.old self.new }
     {
         self.check_usable()?;
@@ -96,6 +100,7 @@ impl<S: Storage, F: WrappedFormat<S>> Qcow2<S, F> {
         bytes: &mut [u8],
     ) -> Result<(), ImageError>
         ensures stays { ImageStays self.old self.new }
+        ensures header { self.new.file.header ≡ self.old.file.header }
         ensures cause { IfErr result IsMet }
         ensures met { (p : Pending) (out : List (Option Prepared)) → ImageInvariant S.view F.backing p self.old out → IfErr result (IsMetMapped (IsCacheHeld self.old out) (further_by at mapping.now.kind) (IsFoundWhole S.view self.old (mapping.now.offset + at) (further_by at mapping.now.kind) (length bytes.old))) }
         ensures list { self.new.file.free_list ≡ self.old.file.free_list }
@@ -105,7 +110,7 @@ impl<S: Storage, F: WrappedFormat<S>> Qcow2<S, F> {
         ensures mapped { (p : Pending) (out : List (Option Prepared)) → ImageInvariant S.view F.backing p self.old out → OnOk result (IsFoundWhole S.view self.old (mapping.now.offset + at) (further_by at mapping.now.kind) (length bytes.old)) }
         ensures shows { 0 < length bytes.old → (p : Pending) (out : List (Option Prepared)) → ImageInvariant S.view F.backing p self.old out → IfOk result (λ done. Shows (disk_of S.view F.backing self.new) (mapping.now.offset + at) bytes.new) }
         ensures faults { CountsImageFaults S.view F.backing self.old self.new result }
-        ensures notes { KeepsFileNotes S.view self.old.file self.new.file }
+        ensures notes { KeepsFileNotes S.view NoData self.old.file self.new.file }
         ensures quiet { ReadsQuietly S.view self.old self.new }
         ensures held { 0 < length bytes.old → HeedsHeld self.new (mapping.now.offset + at) (further_by at mapping.now.kind) (length bytes.old) result }
         ensures header_cluster { StaysBehindHeader S.view self.old self.new }
@@ -139,6 +144,7 @@ impl<S: Storage, F: WrappedFormat<S>> Qcow2<S, F> {
         wanted: &MappingKind,
     ) -> Result<(), ImageError>
         ensures stays { ImageStays self.old self.new }
+        ensures header { self.new.file.header ≡ self.old.file.header }
         ensures cause { IfErr result IsMet }
         ensures met { (p : Pending) (out : List (Option Prepared)) → ImageInvariant S.view F.backing p self.old out → IfErr result (IsMetLookingAgain (IsCacheHeld self.old out)) }
         ensures list { self.new.file.free_list ≡ self.old.file.free_list }
@@ -147,7 +153,7 @@ impl<S: Storage, F: WrappedFormat<S>> Qcow2<S, F> {
         ensures mapped { 0 < length → (p : Pending) (out : List (Option Prepared)) → ImageInvariant S.view F.backing p self.old out → IfOk result (λ done. IsMappedAs S.view self.new offset wanted.now length) }
         ensures found { (p : Pending) (out : List (Option Prepared)) → ImageInvariant S.view F.backing p self.old out → OnOk result (IsFoundWhole S.view self.old offset wanted.now length) }
         ensures faults { CountsImageFaults S.view F.backing self.old self.new result }
-        ensures notes { KeepsFileNotes S.view self.old.file self.new.file }
+        ensures notes { KeepsFileNotes S.view NoData self.old.file self.new.file }
         ensures quiet { ReadsQuietly S.view self.old self.new }
         ensures held { 0 < length → HeedsHeld self.new offset wanted.now length result }
         ensures header_cluster { StaysBehindHeader S.view self.old self.new }
@@ -181,7 +187,7 @@ impl<S: Storage, F: WrappedFormat<S>> Qcow2<S, F> {
         ensures shows { (p : Pending) (out : List (Option Prepared)) → ImageInvariant S.view F.backing p self.old out → IsMappedAs S.view self.old offset kind.now (length bytes.old)
             → IfOk result (λ done. Shows (disk_of S.view F.backing self.new) offset bytes.new) }
         ensures faults { CountsImageFaults S.view F.backing self.old self.new result }
-        ensures notes { KeepsFileNotes S.view self.old.file self.new.file }
+        ensures notes { KeepsFileNotes S.view NoData self.old.file self.new.file }
         ensures quiet { ReadsQuietly S.view self.old self.new }
         ensures tables { KeepsHeld self.old self.new }
         ensures header_cluster { StaysBehindHeader S.view self.old self.new }
@@ -219,7 +225,7 @@ impl<S: Storage, F: WrappedFormat<S>> Qcow2<S, F> {
         ensures keeps { (p : Pending) (out : List (Option Prepared)) → ImageInvariant S.view F.backing p self.old out → UnseenStep S.view F.backing p p self.old self.new out }
         ensures reads { IsHonestBacking S.view F.backing self.old.backing → IfOk result (λ done. (length bytes.new ≡ length bytes.old) × AreBytesOf (backing_bytes S.view F.backing self.old.backing) offset bytes.new) }
         ensures faults { CountsImageFaults S.view F.backing self.old self.new result }
-        ensures notes { KeepsFileNotes S.view self.old.file self.new.file }
+        ensures notes { KeepsFileNotes S.view NoData self.old.file self.new.file }
         ensures below { is_some self.new.backing ≡ is_some self.old.backing }
         ensures header_cluster { StaysBehindHeader S.view self.old self.new }
     {
@@ -243,6 +249,7 @@ impl<S: Storage, F: WrappedFormat<S>> Qcow2<S, F> {
         ensures some { 0 < length bytes.old → IsErr result }
         ensures marks { MarksFailed self.old self.new result }
         ensures image { IsSameImage self.old self.new }
+        ensures header { KeepsWholeHeader self.old self.new }
         ensures slice { bytes.new ≡ bytes.old }
         ensures tells { 0 < length bytes.old → (out : List (Option Prepared)) → (abstract_of S.view F.backing self.old out).is_sound → IfErr result (TellsCompressed (known_in S.view self.old.file) offset) }
         ensures sees { AnswersCall S.view F.backing self.old self.new [] (λ done was is. is ≡ was) result }
@@ -250,6 +257,7 @@ impl<S: Storage, F: WrappedFormat<S>> Qcow2<S, F> {
         ensures once_written { FailsOnceWritten S.view self.old self.new result }
         ensures quiet { ReadsQuietly S.view self.old self.new }
         ensures header_cluster { StaysBehindHeader S.view self.old self.new }
+        ensures kinds { TellsNoData self.old self.new }
         ensures unwritten { OnlyReadsImage S.view F.backing self.old self.new }
     {
         match self.try_readv_special(bytes, offset)? {
@@ -273,6 +281,7 @@ impl<S: Storage, F: WrappedFormat<S>> Qcow2<S, F> {
         ensures some { 0 < length bytes.old → IfOk result (λ at. at ≡ Some offset) }
         ensures marks { MarksFailed self.old self.new result }
         ensures image { IsSameImage self.old self.new }
+        ensures header { KeepsWholeHeader self.old self.new }
         ensures slice { bytes.new ≡ bytes.old }
         ensures tells { 0 < length bytes.old → (out : List (Option Prepared)) → (abstract_of S.view F.backing self.old out).is_sound → TellsWhether (known_in S.view self.old.file) offset result }
         ensures sees { AnswersCall S.view F.backing self.old self.new [] (λ at was is. is ≡ was) result }
@@ -280,6 +289,7 @@ impl<S: Storage, F: WrappedFormat<S>> Qcow2<S, F> {
         ensures once_written { FailsOnceWritten S.view self.old self.new result }
         ensures quiet { ReadsQuietly S.view self.old self.new }
         ensures header_cluster { StaysBehindHeader S.view self.old self.new }
+        ensures kinds { TellsNoData self.old self.new }
         ensures unwritten { OnlyReadsImage S.view F.backing self.old self.new }
     {
         self.check_usable()?;
@@ -294,6 +304,7 @@ impl<S: Storage, F: WrappedFormat<S>> Qcow2<S, F> {
     // An offset at which no compressed cluster stands.
     fn plain_at(&mut self, offset: u64, length: u64) -> Result<Option<u64>, ImageError>
         ensures stays { ImageStays self.old self.new }
+        ensures header { self.new.file.header ≡ self.old.file.header }
         ensures cause { IfErr result IsMet }
         ensures met { (p : Pending) (out : List (Option Prepared)) → ImageInvariant S.view F.backing p self.old out → IfErr result (λ e. IsMetLooking (IsCacheHeld self.old out) e ⊎ (e ≡ Compressed)) }
         ensures list { self.new.file.free_list ≡ self.old.file.free_list }
@@ -301,7 +312,7 @@ impl<S: Storage, F: WrappedFormat<S>> Qcow2<S, F> {
         ensures keeps { (p : Pending) (out : List (Option Prepared)) → ImageInvariant S.view F.backing p self.old out → UnseenStep S.view F.backing p p self.old self.new out }
         ensures tells { (p : Pending) (out : List (Option Prepared)) → ImageInvariant S.view F.backing p self.old out → TellsWhether (known_in S.view self.old.file) offset result }
         ensures faults { CountsImageFaults S.view F.backing self.old self.new result }
-        ensures notes { KeepsFileNotes S.view self.old.file self.new.file }
+        ensures notes { KeepsFileNotes S.view NoData self.old.file self.new.file }
         ensures quiet { ReadsQuietly S.view self.old self.new }
         ensures header_cluster { StaysBehindHeader S.view self.old self.new }
         ensures unwritten { OnlyReadsImage S.view F.backing self.old self.new }
@@ -332,6 +343,7 @@ impl<S: Storage, F: WrappedFormat<S>> Qcow2<S, F> {
         ensures nothing { refuses_mapping self.old (image_of prepared.now) ≡ None → length bytes.now ≡ 0 → (result ≡ Ok tt) × (self.new ≡ self.old) }
         ensures marks { MarksFailed self.old self.new result }
         ensures image { IsSameImage self.old self.new }
+        ensures header { KeepsWholeHeader self.old self.new }
         ensures outdated { table_of prepared.now ≡ None → (out : List (Option Prepared)) → (abstract_of S.view F.backing self.old out).is_sound → result ≡ Err OutdatedMapping
             → ¬ IsFoundWhole S.view self.old (prepared.now.guest + at) (Raw Image (prepared.now.offset + at) true) (length bytes.now) }
         ensures mapped { table_of prepared.now ≡ None → 0 < length bytes.now → (out : List (Option Prepared)) → (abstract_of S.view F.backing self.old out).is_sound
@@ -341,7 +353,10 @@ impl<S: Storage, F: WrappedFormat<S>> Qcow2<S, F> {
         ensures faults { CountsImageFaults S.view F.backing self.old self.new result }
         ensures once_written { FailsOnceWritten S.view self.old self.new result }
         ensures held { refuses_mapping self.old (image_of prepared.now) ≡ None → table_of prepared.now ≡ None → 0 < length bytes.now → HeedsHeld self.new (prepared.now.guest + at) (Raw Image (prepared.now.offset + at) true) (length bytes.now) result }
+        ensures freeing { ListStays self.old self.new }
         ensures header_cluster { StaysBehindHeader S.view self.old self.new }
+        ensures kinds { IsSome (table_of prepared.now) → TellsDataAlone self.old self.new }
+        ensures told { 0 < length bytes.now → OnOk result (TellsData self.old self.new) }
     {
         self.check_usable()?;
         if prepared.image != self.number {
@@ -365,6 +380,7 @@ impl<S: Storage, F: WrappedFormat<S>> Qcow2<S, F> {
         bytes: &[u8],
     ) -> Result<(), ImageError>
         ensures stays { ImageStays self.old self.new }
+        ensures header { self.new.file.header ≡ self.old.file.header }
         ensures cause { IfErr result IsMet }
         ensures met { at + length bytes.now ≤ prepared.now.length → 0 < length bytes.now → (out : List (Option Prepared)) (k : ℕ) → slice_get out k ≡ Some (Some prepared.now) → ImageInvariant S.view F.backing (pending_in S.view F.backing self.old out) self.old out → IfErr result (IsMetPutting (IsCacheHeld self.old out) prepared.now at) }
         ensures outdated { 0 < length bytes.now → table_of prepared.now ≡ None → (p : Pending) (out : List (Option Prepared)) → ImageInvariant S.view F.backing p self.old out → result ≡ Err OutdatedMapping
@@ -375,9 +391,12 @@ impl<S: Storage, F: WrappedFormat<S>> Qcow2<S, F> {
         ensures puts { 0 < length bytes.now → at + length bytes.now ≤ prepared.now.length → (out : List (Option Prepared)) (k : ℕ) → slice_get out k ≡ Some (Some prepared.now)
             → ImageInvariant S.view F.backing (pending_in S.view F.backing self.old out) self.old out → PutsPart S.view F.backing self.old self.new out k prepared.now at bytes.now result }
         ensures faults { CountsImageFaults S.view F.backing self.old self.new result }
-        ensures notes { KeepsFileNotes S.view self.old.file self.new.file }
+        ensures notes { KeepsFileNotes S.view AlsoData self.old.file self.new.file }
+        ensures list { ListStays self.old self.new }
         ensures held { table_of prepared.now ≡ None → 0 < length bytes.now → HeedsHeld self.new (prepared.now.guest + at) (Raw Image (prepared.now.offset + at) true) (length bytes.now) result }
         ensures header_cluster { StaysBehindHeader S.view self.old self.new }
+        ensures kinds { IsSome (table_of prepared.now) → TellsDataAlone self.old self.new }
+        ensures told { OnOk result (TellsData self.old self.new) }
     {
         let Some(host) = prepared.offset.checked_add(at) else {
             return Err(ImageError::Overflow);
@@ -395,6 +414,7 @@ impl<S: Storage, F: WrappedFormat<S>> Qcow2<S, F> {
         length: u64,
     ) -> Result<(), ImageError>
         ensures stays { ImageStays self.old self.new }
+        ensures header { self.new.file.header ≡ self.old.file.header }
         ensures cause { IfErr result IsMet }
         ensures met { (p : Pending) (out : List (Option Prepared)) → ImageInvariant S.view F.backing p self.old out → IfErr result (λ e. (table_of prepared.now ≡ None) × IsMetLookingAgain (IsCacheHeld self.old out) e) }
         ensures list { self.new.file.free_list ≡ self.old.file.free_list }
@@ -405,9 +425,10 @@ impl<S: Storage, F: WrappedFormat<S>> Qcow2<S, F> {
         ensures found { table_of prepared.now ≡ None → (p : Pending) (out : List (Option Prepared)) → ImageInvariant S.view F.backing p self.old out → OnOk result (IsFoundWhole S.view self.old (prepared.now.guest + at) (Raw Image host true) length) }
         ensures private { IsSome (table_of prepared.now) → result ≡ Ok tt }
         ensures faults { CountsImageFaults S.view F.backing self.old self.new result }
-        ensures notes { KeepsFileNotes S.view self.old.file self.new.file }
+        ensures notes { KeepsFileNotes S.view NoData self.old.file self.new.file }
         ensures held { table_of prepared.now ≡ None → 0 < length → HeedsHeld self.new (prepared.now.guest + at) (Raw Image host true) length result }
         ensures header_cluster { StaysBehindHeader S.view self.old self.new }
+        ensures idle { IsSome (table_of prepared.now) → self.new ≡ self.old }
     {
         if prepared.table.is_some() {
             return Ok(());
@@ -424,14 +445,17 @@ impl<S: Storage, F: WrappedFormat<S>> Qcow2<S, F> {
     // Writes bytes as data. Cluster 0 is the header's: a place in it, which no entry and no mapping names, is refused 19 (metadata).
     pub(crate) fn write_data(&mut self, host: u64, bytes: &[u8]) -> Result<(), ImageError>
         ensures stays { ImageStays self.old self.new }
+        ensures header { self.new.file.header ≡ self.old.file.header }
         ensures cause { IfErr result IsMet }
         ensures fault { cluster_size self.old.file.header.fields ≤ host → IfErr result IsFault }
         ensures limited { IfErr result IsUnlimited }
         ensures current { result ≢ Err OutdatedMapping }
         ensures written { WritesBytes S.view self.old self.new host bytes.now result }
         ensures faults { CountsImageFaults S.view F.backing self.old self.new result }
-        ensures notes { KeepsFileNotes S.view self.old.file self.new.file }
+        ensures notes { KeepsFileNotes S.view AlsoData self.old.file self.new.file }
         ensures header_cluster { StaysBehindHeader S.view self.old self.new }
+        ensures kinds { TellsDataAlone self.old self.new }
+        ensures told { OnOk result (TellsData self.old self.new) }
     {
         if host < self.file.header.cluster_size() {
             return Err(ImageError::Metadata);

@@ -1,7 +1,11 @@
 //! A longer L1 table, in the place of the former one.
+ghost use Rattle.qcow2_image.specs.LowestPlaces.{LiesLowestForL1, IsL1InUse};
+ghost use Rattle.qcow2_metadata.specs.TableBytes.{entry_at};
+ghost use Rattle.qcow2_alloc.specs.LowestRuns.{StaysUsed};
 ghost use Rattle.qcow2_image.specs.BehindHeader.{KeepsL1TableBehind, StaysBehindHeader};
 ghost use Rattle.qcow2_alloc.specs.ImageError.{IsFault};
 ghost use Rattle.qcow2_alloc.specs.KeptMarks.{KeepsFileNotes};
+ghost use Rattle.qcow2_alloc.specs.KeptNotes.{NoData};
 ghost use Rattle.std.specs.Prelude.{ℕ, List, Option, ◌≡◌, ◌<◌, ◌≤◌, ◌++◌, ◌∷◌, [], ◌+◌, max, Some, IfErr, IfOk, IsTrue, OnErr, OnOk};
 ghost use Rattle.qcow2_metadata.specs.EntryTable.{entry_count};
 ghost use Rattle.qcow2_metadata.specs.L2Mapping.{IsHostCluster};
@@ -10,11 +14,12 @@ ghost use Rattle.qcow2_image.specs.declared.prepared.Prepared.{Prepared};
 ghost use Rattle.qcow2_image.specs.Found.{l1_index_of};
 ghost use Rattle.qcow2_image.specs.Image.{HasNothingToFree, ImageStays, is_writable};
 ghost use Rattle.qcow2_image.specs.ImageInvariant.{ImageInvariant, pending_in};
+ghost use Rattle.qcow2_image.specs.L1Entries.{HasLengthOf, ReachesAtMost};
 ghost use Rattle.qcow2_image.specs.ListedClusters.{SomeGaveWay};
 ghost use Rattle.qcow2_image.specs.LongerTables.{run_of_table, listed, with_table, IsLongerL1, StandsWhole, PlacesTable, NamesTable, NamesTaken, TakesTable, Lengthens, MakesEntry};
 ghost use Rattle.qcow2_image.specs.NewTables.{IsFaultOrLacksTable};
 ghost use Rattle.qcow2_alloc.specs.declared.error.ImageError.TheVariants.{Limit};
-ghost use Rattle.qcow2_image.specs.LackedPlaces.{EndsBefore, HasNoTablePlace, IsPlacedNear, LacksLongerTable, StandsInWay};
+ghost use Rattle.qcow2_image.specs.LackedPlaces.{EndsBefore, HasNoTablePlace, IsPlacedNear, LacksLongerTable, StandsInWay, listed_or_l1};
 ghost use Rattle.qcow2_image.specs.Refusals.{IsFaultOrLimit, IsMet};
 ghost use Rattle.qcow2_image.specs.UnseenSteps.{ListGrows};
 ghost use Rattle.qcow2_image.specs.Faults.{CountsImageFaults, IsNotOfStorage};
@@ -32,7 +37,8 @@ impl<S: Storage, F: WrappedFormat<S>> Qcow2<S, F> {
     pub(crate) fn reach_entry(&mut self, offset: u64) -> Result<(), ImageError>
         requires writable { IsTrue (is_writable self.old) }
         ensures stays { ImageStays self.old self.new }
-        ensures notes { KeepsFileNotes S.view self.old.file self.new.file }
+        ensures notes { KeepsFileNotes S.view NoData self.old.file self.new.file }
+        ensures no_longer { ReachesAtMost offset self.old self.new }
         ensures header_cluster { StaysBehindHeader S.view self.old self.new }
         ensures cause { IfErr result IsMet }
         ensures fault { (out : List (Option Prepared)) → ImageInvariant S.view F.backing (pending_in S.view F.backing self.old out) self.old out → IfErr result IsFaultOrLimit }
@@ -44,6 +50,9 @@ impl<S: Storage, F: WrappedFormat<S>> Qcow2<S, F> {
         ensures none { l1_index_of self.old.file.header.fields offset < entry_count self.old.l1_table → self.new ≡ self.old }
         ensures emptied { entry_count self.old.l1_table ≤ l1_index_of self.old.file.header.fields offset → OnOk result (HasNothingToFree self.new) }
         ensures makes { (out : List (Option Prepared)) → ImageInvariant S.view F.backing (pending_in S.view F.backing self.old out) self.old out → MakesEntry S.view F.backing self.old self.new out result }
+        ensures kept { OnOk result ((i : ℕ) → entry_at self.new.l1_table.bytes i ≡ entry_at self.old.l1_table.bytes i) }
+        ensures lowest { EndsBefore offset self.old → (out : List (Option Prepared)) → ImageInvariant S.view F.backing (pending_in S.view F.backing self.old out) self.old out → OnOk result (LiesLowestForL1 S.view (listed_or_l1 self.old) self.old self.new) }
+        ensures in_use { EndsBefore offset self.old → (out : List (Option Prepared)) → ImageInvariant S.view F.backing (pending_in S.view F.backing self.old out) self.old out → OnOk result (IsL1InUse S.view self.old) }
         ensures faults { CountsImageFaults S.view F.backing self.old self.new result }
     {
         let index = GuestOffset::new(offset).l1_index(self.file.header.cluster_bits());
@@ -57,8 +66,9 @@ impl<S: Storage, F: WrappedFormat<S>> Qcow2<S, F> {
     // Makes a new L1 table that has an entry of this index, with all old entries. The clusters of the old one are to be freed.
     pub(crate) fn grow_l1_table(&mut self, index: usize) -> Result<(), ImageError>
         ensures stays { ImageStays self.old self.new }
-        ensures notes { KeepsFileNotes S.view self.old.file self.new.file }
+        ensures notes { KeepsFileNotes S.view NoData self.old.file self.new.file }
         ensures noted { OnOk result (IsTrue self.new.file.caches.is_changed) }
+        ensures no_longer { HasLengthOf (max (entry_count self.old.l1_table) (index + 1)) self.old self.new }
         ensures header_cluster { StaysBehindHeader S.view self.old self.new }
         ensures cause { IsTrue (is_writable self.old) → IfErr result IsMet }
         ensures limit { (p : Pending) (out : List (Option Prepared)) → ImageInvariant S.view F.backing p self.old out → IfErr result (λ e. e ≡ Limit → LacksLongerTable S.view index (max (entry_count self.old.l1_table) (index + 1)) self.old.file.free_list self.old self.new) }
@@ -68,6 +78,9 @@ impl<S: Storage, F: WrappedFormat<S>> Qcow2<S, F> {
         ensures length { OnOk result (entry_count self.new.l1_table ≡ max (entry_count self.old.l1_table) (index + 1)) }
         ensures placed { self.old.l1_table.cluster_bits ≡ self.old.file.header.fields.cluster_bits → OnOk result (IsPlacedNear self.new.l1_table) }
         ensures list { OnOk result (ListGrows self.old self.new) }
+        ensures kept { OnOk result ((i : ℕ) → entry_at self.new.l1_table.bytes i ≡ entry_at self.old.l1_table.bytes i) }
+        ensures lowest { (p : Pending) (out : List (Option Prepared)) → ImageInvariant S.view F.backing p self.old out → OnOk result (LiesLowestForL1 S.view (listed_or_l1 self.old) self.old self.new) }
+        ensures in_use { (p : Pending) (out : List (Option Prepared)) → ImageInvariant S.view F.backing p self.old out → OnOk result (IsL1InUse S.view self.old) }
         ensures faults { CountsImageFaults S.view F.backing self.old self.new result }
     {
         if index >= MAX_L1_ENTRIES {
@@ -106,8 +119,9 @@ impl<S: Storage, F: WrappedFormat<S>> Qcow2<S, F> {
     // Gives an L1 table clusters, writes it there, and then the pointer that names it.
     fn enter_l1_table(&mut self, table: L1Table) -> Result<(), ImageError>
         ensures stays { ImageStays self.old self.new }
-        ensures notes { KeepsFileNotes S.view self.old.file self.new.file }
+        ensures notes { KeepsFileNotes S.view NoData self.old.file self.new.file }
         ensures noted { OnOk result (IsTrue self.new.file.caches.is_changed) }
+        ensures no_longer { HasLengthOf (entry_count table) self.old self.new }
         ensures header_cluster { table.cluster_bits ≡ self.old.l1_table.cluster_bits → StaysBehindHeader S.view self.old self.new }
         ensures cause { IsTrue (is_writable self.old) → IfErr result IsMet }
         ensures limit { (p : Pending) (out : List (Option Prepared)) → ImageInvariant S.view F.backing p self.old out → IsLongerL1 self.old table → 0 < entry_count table → IfErr result (λ e. e ≡ Limit → StandsInWay S.view (HasNoTablePlace (entry_count table)) self.old.file.free_list self.old self.new) }
@@ -117,6 +131,8 @@ impl<S: Storage, F: WrappedFormat<S>> Qcow2<S, F> {
         ensures entries { OnOk result (entry_count self.new.l1_table ≡ entry_count table) }
         ensures placed { entry_count table ≤ 4194304 → table.cluster_bits ≡ self.old.file.header.fields.cluster_bits → OnOk result (IsPlacedNear self.new.l1_table) }
         ensures list { OnOk result (ListGrows self.old self.new) }
+        ensures bytes { OnOk result (self.new.l1_table.bytes ≡ table.bytes) }
+        ensures lowest { (p : Pending) (out : List (Option Prepared)) → ImageInvariant S.view F.backing p self.old out → IsLongerL1 self.old table → OnOk result (LiesLowestForL1 S.view self.old.file.free_list self.old self.new) }
         ensures faults { CountsImageFaults S.view F.backing self.old self.new result }
     {
         let Some(allocator) = &mut self.allocator else {
@@ -130,7 +146,8 @@ impl<S: Storage, F: WrappedFormat<S>> Qcow2<S, F> {
     fn write_taken(&mut self, table: L1Table, taken: PendingClusters) -> Result<(), ImageError>
         requires { IsHostCluster self.old.file.header.fields.cluster_bits taken.first_cluster }
         ensures stays { ImageStays self.old self.new }
-        ensures notes { KeepsFileNotes S.view self.old.file self.new.file }
+        ensures notes { KeepsFileNotes S.view NoData self.old.file self.new.file }
+        ensures no_longer { HasLengthOf (entry_count table) self.old self.new }
         ensures header_cluster { table.cluster_bits ≡ self.old.l1_table.cluster_bits → 0 < taken.first_cluster → StaysBehindHeader S.view self.old self.new }
         ensures cause { IfErr result IsMet }
         ensures fault { (p : Pending) (out : List (Option Prepared)) → ImageInvariant S.view F.backing (with_table p table taken.first_cluster) self.old out → IsLongerL1 self.old table → IfErr result IsFault }
@@ -141,6 +158,7 @@ impl<S: Storage, F: WrappedFormat<S>> Qcow2<S, F> {
         ensures placed { OnOk result (self.new.l1_table ≡ record table { cluster = Some taken.first_cluster }) }
         ensures kept { OnOk result (self.new.file.free_list ≡ self.old.file.free_list) }
         ensures listed { OnErr result (self.new.file.free_list ≡ self.old.file.free_list ++ taken ∷ []) }
+        ensures uses { IsTrue (is_writable self.old) → (p : Pending) (out : List (Option Prepared)) → ImageInvariant S.view F.backing (with_table p table taken.first_cluster) self.old out → IsLongerL1 self.old table → OnOk result (StaysUsed S.view self.old.file self.new.file) }
         ensures faults { CountsImageFaults S.view F.backing self.old self.new result }
     {
         let done = self.write_l1_table(table, taken.cluster());
@@ -151,7 +169,8 @@ impl<S: Storage, F: WrappedFormat<S>> Qcow2<S, F> {
     fn write_l1_table(&mut self, mut table: L1Table, cluster: HostCluster) -> Result<(), ImageError>
         requires { IsHostCluster self.old.file.header.fields.cluster_bits cluster }
         ensures stays { ImageStays self.old self.new }
-        ensures notes { KeepsFileNotes S.view self.old.file self.new.file }
+        ensures notes { KeepsFileNotes S.view NoData self.old.file self.new.file }
+        ensures no_longer { HasLengthOf (entry_count table) self.old self.new }
         ensures header_cluster { table.cluster_bits ≡ self.old.l1_table.cluster_bits → 0 < cluster → StaysBehindHeader S.view self.old self.new }
         ensures cause { IfErr result IsMet }
         ensures fault { (p : Pending) (out : List (Option Prepared)) → ImageInvariant S.view F.backing (with_table p table cluster) self.old out → IsLongerL1 self.old table → IfErr result IsFault }
@@ -161,6 +180,7 @@ impl<S: Storage, F: WrappedFormat<S>> Qcow2<S, F> {
         ensures entries { OnOk result (entry_count self.new.l1_table ≡ entry_count table) }
         ensures placed { OnOk result (self.new.l1_table ≡ record table { cluster = Some cluster }) }
         ensures list { self.new.file.free_list ≡ self.old.file.free_list }
+        ensures uses { IsTrue (is_writable self.old) → (p : Pending) (out : List (Option Prepared)) → ImageInvariant S.view F.backing (with_table p table cluster) self.old out → IsLongerL1 self.old table → OnOk result (StaysUsed S.view self.old.file self.new.file) }
         ensures faults { CountsImageFaults S.view F.backing self.old self.new result }
     {
         self.place_l1_table(&mut table, cluster)?;
@@ -173,7 +193,7 @@ impl<S: Storage, F: WrappedFormat<S>> Qcow2<S, F> {
         table: &mut L1Table,
         cluster: HostCluster,
     ) -> Result<(), ImageError>
-        ensures notes { KeepsFileNotes S.view self.old.file self.new.file }
+        ensures notes { KeepsFileNotes S.view NoData self.old.file self.new.file }
         ensures header_cluster { table.old.cluster_bits ≡ self.old.l1_table.cluster_bits → 0 < cluster → StaysBehindHeader S.view self.old self.new }
         ensures cause { IfErr result IsMet }
         ensures fault { (p : Pending) (out : List (Option Prepared)) → ImageInvariant S.view F.backing (with_table p table.old cluster) self.old out → IsHostCluster table.old.cluster_bits cluster → IfErr result IsFault }
@@ -198,7 +218,8 @@ impl<S: Storage, F: WrappedFormat<S>> Qcow2<S, F> {
     fn name_l1_table(&mut self, table: L1Table, cluster: HostCluster) -> Result<(), ImageError>
         requires { IsHostCluster self.old.file.header.fields.cluster_bits cluster }
         ensures stays { ImageStays self.old self.new }
-        ensures notes { KeepsFileNotes S.view self.old.file self.new.file }
+        ensures notes { KeepsFileNotes S.view NoData self.old.file self.new.file }
+        ensures no_longer { HasLengthOf (entry_count table) self.old self.new }
         ensures header_cluster { KeepsL1TableBehind self.old.l1_table table → StaysBehindHeader S.view self.old self.new }
         ensures cause { IfErr result IsMet }
         ensures fault { IfErr result IsFault }
@@ -208,6 +229,7 @@ impl<S: Storage, F: WrappedFormat<S>> Qcow2<S, F> {
         ensures entries { OnOk result (entry_count self.new.l1_table ≡ entry_count table) }
         ensures table { OnOk result (self.new.l1_table ≡ table) }
         ensures list { self.new.file.free_list ≡ self.old.file.free_list }
+        ensures uses { (p : Pending) (out : List (Option Prepared)) → ImageInvariant S.view F.backing (with_table p table cluster) self.old out → StandsWhole S.view self.old table cluster → OnOk result (StaysUsed S.view self.old.file self.new.file) }
         ensures faults { CountsImageFaults S.view F.backing self.old self.new result }
     {
         let offset = cluster.offset(self.file.header.cluster_bits());

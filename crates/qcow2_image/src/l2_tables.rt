@@ -1,8 +1,12 @@
 //! The L2 table of a range: found, made, or put in the place of one that others may name too.
+ghost use Rattle.qcow2_image.specs.LowestPlaces.{MovesLowest, TakesLowestLeaving, TakesLowestOf};
+ghost use Rattle.qcow2_alloc.specs.ClustersToFree.{metadata_entry};
+ghost use Rattle.qcow2_alloc.specs.LowestRuns.{StaysUsed};
 ghost use Rattle.qcow2_image.specs.BehindHeader.{StaysBehindHeader};
 ghost use Rattle.qcow2_alloc.specs.KeptMarks.{KeepsFileNotes};
-ghost use Rattle.std.specs.Prelude.{ℕ, List, Option, is_some, ◌≡◌, ◌≢◌, ◌-◌, ◌*◌, ◌/◌, Some, ◌^◌, ◌<◌, ◌↔◌, IfOk, IfErr, OnOk, IsSome, IsTrue, Ok, Err, length, ◌⊎◌};
-ghost use Rattle.qcow2_image.specs.MetAlone.{IsMetAlone, KeepsL1Place};
+ghost use Rattle.qcow2_alloc.specs.KeptNotes.{NoData};
+ghost use Rattle.std.specs.Prelude.{ℕ, List, Option, is_some, ◌≡◌, ◌≢◌, ◌-◌, ◌*◌, ◌/◌, Some, ◌^◌, ◌<◌, ◌↔◌, IfOk, IfErr, OnOk, IsSome, IsTrue, Ok, Err, length, ◌⊎◌, ◌++◌, ◌∷◌, []};
+ghost use Rattle.qcow2_image.specs.MetAlone.{KeepsL1Place, IsMetLooking, IsMetTaking};
 ghost use Rattle.qcow2_metadata.specs.L2Mapping.{IsHostCluster};
 ghost use Rattle.qcow2_metadata.specs.EntryTable.{entry_count, HasRoomIfPlaced};
 ghost use Rattle.qcow2_alloc.specs.ImageError.{IsFault};
@@ -19,15 +23,15 @@ ghost use Rattle.qcow2_image.specs.UnseenSteps.{Ensures, UnseenStep};
 ghost use Rattle.qcow2_image.specs.ImageInvariant.{ImageInvariant, pending_in};
 ghost use Rattle.qcow2_metadata.specs.Cover.{cover};
 ghost use Rattle.qcow2_image.specs.declared.mapping.Place.TheVariants.{Image};
-ghost use Rattle.qcow2_image.specs.L1Entries.{HasFarEntry, HasOwnTable, NeedsFarEntry, ReachesOffset};
-ghost use Rattle.qcow2_image.specs.ListedClusters.{KeepsList, ListsSinceTable, SomeGaveWay};
+ghost use Rattle.qcow2_image.specs.L1Entries.{HasFarEntry, HasOwnTable, NeedsFarEntry, ReachesOffset, ReachesAtMost};
+ghost use Rattle.qcow2_image.specs.ListedClusters.{KeepsList, ListsSinceTable, SomeGaveWay, ListsNoMore};
 ghost use Rattle.qcow2_image.specs.NewTables.{IsFaultOrKeepsL1Table, IsFaultOrLacksTable, SaysKnown, IsStored, StandsReady, MayName, NamesShared, PlacesNewTable, Stores, NamesNew, WritesNew, EntersTable, OwnsTable};
 ghost use Rattle.qcow2_alloc.specs.TableCaches.{IsTableOf};
 ghost use Rattle.qcow2_laws.specs.Changes.{one_at, with_new_tables};
 ghost use Rattle.qcow2_metadata.specs.L2Table.{L2TableView};
 ghost use Rattle.qcow2_image.specs.PinnedTables.{FindsOwn, own_table};
 ghost use Rattle.qcow2_image.specs.LackedPlaces.{HasNearEntry, IsLimitedByCluster, IsLimitedByTable};
-ghost use Rattle.qcow2_image.specs.Refusals.{IsMet, IsUnlimited, IsFaultOrLimit};
+ghost use Rattle.qcow2_image.specs.Refusals.{IsMet, IsUnlimited};
 ghost use Rattle.qcow2_image.specs.Faults.{CountsImageFaults};
 
 use crate::Qcow2;
@@ -42,11 +46,12 @@ impl<S: Storage, F: WrappedFormat<S>> Qcow2<S, F> {
     pub(crate) fn table_for(&mut self, offset: u64) -> Result<HostCluster, ImageError>
         requires writable { IsTrue (is_writable self.old) }
         ensures stays { ImageStays self.old self.new }
-        ensures notes { KeepsFileNotes S.view self.old.file self.new.file }
+        ensures notes { KeepsFileNotes S.view NoData self.old.file self.new.file }
         ensures elsewhere { IfOk result (λ table. 0 < table) }
+        ensures no_longer { ReachesAtMost offset self.old self.new }
         ensures header_cluster { StaysBehindHeader S.view self.old self.new }
         ensures cause { IfErr result IsMet }
-        ensures met { (out : List (Option Prepared)) → ImageInvariant S.view F.backing (pending_in S.view F.backing self.old out) self.old out → (HasPrepared out → ⊥) → IfErr result (IsMetAlone ⊥ (NeedsFarEntry self.old offset)) }
+        ensures met { (out : List (Option Prepared)) → ImageInvariant S.view F.backing (pending_in S.view F.backing self.old out) self.old out → IfErr result (IsMetTaking (HasPrepared out) ⊥ ⊥ (NeedsFarEntry self.old offset)) }
         ensures l1_place { l1_index_of self.old.file.header.fields offset < entry_count self.old.l1_table → OnOk result (KeepsL1Place self.old.file.header.fields self.new.file.header.fields) }
         ensures limit { (out : List (Option Prepared)) → ImageInvariant S.view F.backing (pending_in S.view F.backing self.old out) self.old out → IfErr result (IsLimitedByTable S.view offset self.old self.new) }
         ensures lacks { (out : List (Option Prepared)) → ImageInvariant S.view F.backing (pending_in S.view F.backing self.old out) self.old out → (HasPrepared out → ⊥) → IfErr result (IsFaultOrLacksTable S.view self.new offset) }
@@ -54,6 +59,9 @@ impl<S: Storage, F: WrappedFormat<S>> Qcow2<S, F> {
         ensures finds { (out : List (Option Prepared)) → ImageInvariant S.view F.backing (pending_in S.view F.backing self.old out) self.old out → FindsTable S.view F.backing self.old self.new out offset result }
         ensures reaches { (out : List (Option Prepared)) → ImageInvariant S.view F.backing (pending_in S.view F.backing self.old out) self.old out → OnOk result (ReachesOffset offset self.old.file.header.fields self.new.file.header.fields) }
         ensures freed { (out : List (Option Prepared)) → ImageInvariant S.view F.backing (pending_in S.view F.backing self.old out) self.old out → OnOk result (ListsSinceTable offset self.old self.new) }
+        ensures lowest { (out : List (Option Prepared)) → ImageInvariant S.view F.backing (pending_in S.view F.backing self.old out) self.old out → IfOk result (λ table. ¬ HasOwnTable self.old offset → TakesLowestLeaving S.view table 1 self.old self.new) }
+        ensures moves { (out : List (Option Prepared)) → ImageInvariant S.view F.backing (pending_in S.view F.backing self.old out) self.old out → OnOk result (MovesLowest S.view self.old self.new) }
+        ensures freeing { (out : List (Option Prepared)) → ImageInvariant S.view F.backing (pending_in S.view F.backing self.old out) self.old out → OnOk result (ListsNoMore self.old self.new) }
         ensures far { NeedsFarEntry self.old offset → (result ≡ Err ImageError.Overflow) × (self.new ≡ self.old) }
         ensures own { HasOwnTable self.old offset → FindsOwn self.old self.new offset result }
         ensures faults { CountsImageFaults S.view F.backing self.old self.new result }
@@ -94,16 +102,17 @@ impl<S: Storage, F: WrappedFormat<S>> Qcow2<S, F> {
         requires writable { IsTrue (is_writable self.old) }
         ensures stays { ImageStays self.old self.new }
         ensures keeps_rest { KeepsRestOn self.old self.new }
-        ensures notes { KeepsFileNotes S.view self.old.file self.new.file }
+        ensures notes { KeepsFileNotes S.view NoData self.old.file self.new.file }
         ensures elsewhere { IfOk result (λ table. 0 < table) }
         ensures header_cluster { StaysBehindHeader S.view self.old self.new }
         ensures cause { IfErr result IsMet }
-        ensures fault { (p : Pending) (out : List (Option Prepared)) → ImageInvariant S.view F.backing p self.old out → (HasPrepared out → ⊥) → (HasOwnTable self.old offset ⊎ HasNearEntry self.old (l1_index_of self.old.file.header.fields offset)) → IfErr result IsFaultOrLimit }
+        ensures met { (p : Pending) (out : List (Option Prepared)) → ImageInvariant S.view F.backing p self.old out → (HasOwnTable self.old offset ⊎ HasNearEntry self.old (l1_index_of self.old.file.header.fields offset)) → IfErr result (IsMetTaking (HasPrepared out) ⊥ ⊥ ⊥) }
         ensures limited { (p : Pending) (out : List (Option Prepared)) → ImageInvariant S.view F.backing p self.old out → HasOwnTable self.old offset → IfErr result IsUnlimited }
         ensures lacks { (p : Pending) (out : List (Option Prepared)) → ImageInvariant S.view F.backing p self.old out → (HasPrepared out → ⊥) → IfErr result (IsFaultOrLacksTable S.view self.new offset) }
         ensures cached { IfOk result (λ table. IsSome (l2_at self.new.file.caches table)) }
         ensures ready { (p : Pending) (out : List (Option Prepared)) → ImageInvariant S.view F.backing p self.old out → Ensures S.view F.backing p self.old self.new out offset result }
         ensures quiet { HasOwnTable self.old offset → KeepsList self.old self.new }
+        ensures rest { HasOwnTable self.old offset → self.new ≡ record self.old { file = record self.old.file { storage = self.new.file.storage; caches = self.new.file.caches } } }
         ensures own { HasOwnTable self.old offset → FindsOwn self.old self.new offset result }
         ensures faults { CountsImageFaults S.view F.backing self.old self.new result }
     {
@@ -119,16 +128,18 @@ impl<S: Storage, F: WrappedFormat<S>> Qcow2<S, F> {
         requires writable { IsTrue (is_writable self.old) }
         ensures stays { ImageStays self.old self.new }
         ensures keeps_rest { KeepsRestOn self.old self.new }
-        ensures notes { KeepsFileNotes S.view self.old.file self.new.file }
+        ensures notes { KeepsFileNotes S.view NoData self.old.file self.new.file }
         ensures elsewhere { IfOk result (λ table. 0 < table) }
         ensures header_cluster { StaysBehindHeader S.view self.old self.new }
         ensures cause { IfErr result IsMet }
-        ensures fault { (p : Pending) (out : List (Option Prepared)) → ImageInvariant S.view F.backing p self.old out → (HasPrepared out → ⊥) → (HasOwnTable self.old offset ⊎ HasNearEntry self.old (l1_index_of self.old.file.header.fields offset)) → IfErr result IsFaultOrLimit }
+        ensures met { (p : Pending) (out : List (Option Prepared)) → ImageInvariant S.view F.backing p self.old out → (HasOwnTable self.old offset ⊎ HasNearEntry self.old (l1_index_of self.old.file.header.fields offset)) → IfErr result (IsMetTaking (HasPrepared out) ⊥ ⊥ ⊥) }
         ensures limited { (p : Pending) (out : List (Option Prepared)) → ImageInvariant S.view F.backing p self.old out → HasOwnTable self.old offset → IfErr result IsUnlimited }
         ensures limit { (p : Pending) (out : List (Option Prepared)) → ImageInvariant S.view F.backing p self.old out → HasNearEntry self.old (l1_index_of self.old.file.header.fields offset) → IfErr result (IsLimitedByCluster S.view self.old self.new) }
         ensures former { OnOk result (SomeGaveWay self.old self.new) }
         ensures lacks { (p : Pending) (out : List (Option Prepared)) → ImageInvariant S.view F.backing p self.old out → IfErr result (IsFaultOrLacksTable S.view self.new offset) }
         ensures owns { (p : Pending) (out : List (Option Prepared)) → ImageInvariant S.view F.backing p self.old out → OwnsTable S.view F.backing p self.old self.new out (l1_index_of self.old.file.header.fields offset) result }
+        ensures lowest { (p : Pending) (out : List (Option Prepared)) → ImageInvariant S.view F.backing p self.old out → IfOk result (λ table. ¬ HasOwnTable self.old offset → TakesLowestOf S.view table 1 (self.old.file.free_list ++ metadata_entry (own_table self.old offset) 1 ∷ []) self.old self.new) }
+        ensures uses { (p : Pending) (out : List (Option Prepared)) → ImageInvariant S.view F.backing p self.old out → OnOk result (StaysUsed S.view self.old.file self.new.file) }
         ensures quiet { HasOwnTable self.old offset → self.new ≡ self.old }
         ensures own { HasOwnTable self.old offset → IfOk result (λ table. table ≡ own_table self.old offset) }
         ensures faults { CountsImageFaults S.view F.backing self.old self.new result }
@@ -156,15 +167,17 @@ impl<S: Storage, F: WrappedFormat<S>> Qcow2<S, F> {
         requires writable { IsTrue (is_writable self.old) }
         ensures stays { ImageStays self.old self.new }
         ensures keeps_rest { KeepsRestOn self.old self.new }
-        ensures notes { KeepsFileNotes S.view self.old.file self.new.file }
+        ensures notes { KeepsFileNotes S.view NoData self.old.file self.new.file }
         ensures elsewhere { IfOk result (λ table. 0 < table) }
         ensures header_cluster { 0 < old → StaysBehindHeader S.view self.old self.new }
         ensures cause { IfErr result IsMet }
-        ensures fault { (p : Pending) (out : List (Option Prepared)) → ImageInvariant S.view F.backing p self.old out → (HasPrepared out → ⊥) → NamesShared S.view self.old index old → HasNearEntry self.old index → IfErr result IsFaultOrLimit }
+        ensures met { (p : Pending) (out : List (Option Prepared)) → ImageInvariant S.view F.backing p self.old out → NamesShared S.view self.old index old → HasNearEntry self.old index → IfErr result (IsMetTaking (HasPrepared out) ⊥ ⊥ ⊥) }
         ensures limit { (p : Pending) (out : List (Option Prepared)) → ImageInvariant S.view F.backing p self.old out → NamesShared S.view self.old index old → HasNearEntry self.old index → IfErr result (IsLimitedByCluster S.view self.old self.new) }
         ensures former { OnOk result (SomeGaveWay self.old self.new) }
         ensures l1_table { IfErr result (IsFaultOrKeepsL1Table self.old self.new) }
         ensures owns { (p : Pending) (out : List (Option Prepared)) → ImageInvariant S.view F.backing p self.old out → NamesShared S.view self.old index old → OwnsTable S.view F.backing p self.old self.new out index result }
+        ensures lowest { (p : Pending) (out : List (Option Prepared)) → ImageInvariant S.view F.backing p self.old out → NamesShared S.view self.old index old → IfOk result (λ cluster. TakesLowestOf S.view cluster 1 (self.old.file.free_list ++ metadata_entry old 1 ∷ []) self.old self.new) }
+        ensures uses { (p : Pending) (out : List (Option Prepared)) → ImageInvariant S.view F.backing p self.old out → NamesShared S.view self.old index old → OnOk result (StaysUsed S.view self.old.file self.new.file) }
         ensures faults { CountsImageFaults S.view F.backing self.old self.new result }
     {
         self.file
@@ -187,15 +200,17 @@ impl<S: Storage, F: WrappedFormat<S>> Qcow2<S, F> {
         requires writable { IsTrue (is_writable self.old) }
         ensures stays { ImageStays self.old self.new }
         ensures keeps_rest { KeepsRestOn self.old self.new }
-        ensures notes { KeepsFileNotes S.view self.old.file self.new.file }
+        ensures notes { KeepsFileNotes S.view NoData self.old.file self.new.file }
         ensures elsewhere { IfOk result (λ table. 0 < table) }
         ensures header_cluster { StaysBehindHeader S.view self.old self.new }
         ensures cause { IfErr result IsMet }
-        ensures fault { (p : Pending) (out : List (Option Prepared)) → ImageInvariant S.view F.backing p self.old out → (HasPrepared out → ⊥) → NamesShared S.view self.old index old → SaysKnown self.old.file.header.fields (known_in S.view self.old.file) index table → HasNearEntry self.old index → IfErr result IsFaultOrLimit }
+        ensures met { (p : Pending) (out : List (Option Prepared)) → ImageInvariant S.view F.backing p self.old out → NamesShared S.view self.old index old → SaysKnown self.old.file.header.fields (known_in S.view self.old.file) index table → HasNearEntry self.old index → IfErr result (IsMetTaking (HasPrepared out) ⊥ ⊥ ⊥) }
         ensures limit { (p : Pending) (out : List (Option Prepared)) → ImageInvariant S.view F.backing p self.old out → NamesShared S.view self.old index old → SaysKnown self.old.file.header.fields (known_in S.view self.old.file) index table → HasNearEntry self.old index → IfErr result (IsLimitedByCluster S.view self.old self.new) }
         ensures former { OnOk result (SomeGaveWay self.old self.new) }
         ensures l1_table { IfErr result (IsFaultOrKeepsL1Table self.old self.new) }
         ensures owns { (p : Pending) (out : List (Option Prepared)) → ImageInvariant S.view F.backing p self.old out → NamesShared S.view self.old index old → SaysKnown self.old.file.header.fields (known_in S.view self.old.file) index table → OwnsTable S.view F.backing p self.old self.new out index result }
+        ensures lowest { (p : Pending) (out : List (Option Prepared)) → ImageInvariant S.view F.backing p self.old out → NamesShared S.view self.old index old → SaysKnown self.old.file.header.fields (known_in S.view self.old.file) index table → IfOk result (λ cluster. TakesLowestOf S.view cluster 1 (self.old.file.free_list ++ metadata_entry old 1 ∷ []) self.old self.new) }
+        ensures uses { (p : Pending) (out : List (Option Prepared)) → ImageInvariant S.view F.backing p self.old out → NamesShared S.view self.old index old → SaysKnown self.old.file.header.fields (known_in S.view self.old.file) index table → OnOk result (StaysUsed S.view self.old.file self.new.file) }
         ensures faults { CountsImageFaults S.view F.backing self.old self.new result }
     {
         let entry = ClustersToFreeEntry::metadata(old, ClusterCount::new(1));
@@ -217,15 +232,17 @@ impl<S: Storage, F: WrappedFormat<S>> Qcow2<S, F> {
         requires writable { IsTrue (is_writable self.old) }
         ensures stays { ImageStays self.old self.new }
         ensures keeps_rest { KeepsRestOn self.old self.new }
-        ensures notes { KeepsFileNotes S.view self.old.file self.new.file }
+        ensures notes { KeepsFileNotes S.view NoData self.old.file self.new.file }
         ensures elsewhere { IfOk result (λ table. 0 < table) }
         ensures header_cluster { StaysBehindHeader S.view self.old self.new }
         ensures cause { IfErr result IsMet }
-        ensures fault { (p : Pending) (out : List (Option Prepared)) → ImageInvariant S.view F.backing p self.old out → (HasPrepared out → ⊥) → MayName S.view self.old index → SaysKnown self.old.file.header.fields (known_in S.view self.old.file) index table → HasNearEntry self.old index → IfErr result IsFaultOrLimit }
+        ensures met { (p : Pending) (out : List (Option Prepared)) → ImageInvariant S.view F.backing p self.old out → MayName S.view self.old index → SaysKnown self.old.file.header.fields (known_in S.view self.old.file) index table → HasNearEntry self.old index → IfErr result (IsMetTaking (HasPrepared out) ⊥ ⊥ ⊥) }
         ensures limit { (p : Pending) (out : List (Option Prepared)) → ImageInvariant S.view F.backing p self.old out → MayName S.view self.old index → SaysKnown self.old.file.header.fields (known_in S.view self.old.file) index table → HasNearEntry self.old index → IfErr result (IsLimitedByCluster S.view self.old self.new) }
         ensures former { OnOk result (SomeGaveWay self.old self.new) }
         ensures l1_table { IfErr result (IsFaultOrKeepsL1Table self.old self.new) }
         ensures enters { (p : Pending) (out : List (Option Prepared)) → ImageInvariant S.view F.backing p self.old out → MayName S.view self.old index → SaysKnown self.old.file.header.fields (known_in S.view self.old.file) index table → EntersTable S.view F.backing p self.old self.new out index result }
+        ensures lowest { (p : Pending) (out : List (Option Prepared)) → ImageInvariant S.view F.backing p self.old out → MayName S.view self.old index → SaysKnown self.old.file.header.fields (known_in S.view self.old.file) index table → IfOk result (λ cluster. TakesLowestOf S.view cluster 1 self.old.file.free_list self.old self.new) }
+        ensures uses { (p : Pending) (out : List (Option Prepared)) → ImageInvariant S.view F.backing p self.old out → MayName S.view self.old index → SaysKnown self.old.file.header.fields (known_in S.view self.old.file) index table → OnOk result (StaysUsed S.view self.old.file self.new.file) }
         ensures faults { CountsImageFaults S.view F.backing self.old self.new result }
     {
         let Some(allocator) = &mut self.allocator else {
@@ -254,15 +271,17 @@ impl<S: Storage, F: WrappedFormat<S>> Qcow2<S, F> {
     ) -> Result<(), ImageError>
         ensures stays { ImageStays self.old self.new }
         ensures keeps_rest { KeepsRest self.old self.new }
-        ensures notes { KeepsFileNotes S.view self.old.file self.new.file }
+        ensures notes { KeepsFileNotes S.view NoData self.old.file self.new.file }
         ensures header_cluster { 0 < cluster → StaysBehindHeader S.view self.old self.new }
         ensures cause { IfErr result IsMet }
-        ensures fault { (p : Pending) (out : List (Option Prepared)) → ImageInvariant S.view F.backing (with_new_tables p (one_at cluster)) self.old out → (HasPrepared out → ⊥) → SaysKnown self.old.file.header.fields (known_in S.view self.old.file) index table → HasNearEntry self.old index → IsHostCluster self.old.file.header.fields.cluster_bits cluster → IfErr result IsFault }
+        ensures met { (p : Pending) (out : List (Option Prepared)) → ImageInvariant S.view F.backing (with_new_tables p (one_at cluster)) self.old out → SaysKnown self.old.file.header.fields (known_in S.view self.old.file) index table → HasNearEntry self.old index → IsHostCluster self.old.file.header.fields.cluster_bits cluster → IfErr result (IsMetLooking (HasPrepared out)) }
         ensures limited { (p : Pending) (out : List (Option Prepared)) → ImageInvariant S.view F.backing (with_new_tables p (one_at cluster)) self.old out → SaysKnown self.old.file.header.fields (known_in S.view self.old.file) index table
             → HasNearEntry self.old index → IsHostCluster self.old.file.header.fields.cluster_bits cluster → IfErr result IsUnlimited }
         ensures allocator { self.new.allocator ≡ self.old.allocator }
         ensures l1_table { IfErr result (IsFaultOrKeepsL1Table self.old self.new) }
         ensures list { self.new.file.free_list ≡ self.old.file.free_list }
+        ensures uses { IsTrue (is_writable self.old) → (p : Pending) (out : List (Option Prepared)) → ImageInvariant S.view F.backing (with_new_tables p (one_at cluster)) self.old out → MayName S.view self.old index
+            → SaysKnown self.old.file.header.fields (known_in S.view self.old.file) index table → OnOk result (StaysUsed S.view self.old.file self.new.file) }
         ensures writes { (p : Pending) (out : List (Option Prepared)) → ImageInvariant S.view F.backing (with_new_tables p (one_at cluster)) self.old out → MayName S.view self.old index → IsTrue self.old.file.caches.is_changed
             → SaysKnown self.old.file.header.fields (known_in S.view self.old.file) index table → WritesNew S.view F.backing p self.old self.new out index cluster result }
         ensures faults { CountsImageFaults S.view F.backing self.old self.new result }
@@ -279,7 +298,7 @@ impl<S: Storage, F: WrappedFormat<S>> Qcow2<S, F> {
     fn store_first(&mut self) -> Result<(), ImageError>
         ensures stays { ImageStays self.old self.new }
         ensures keeps_rest { KeepsRest self.old self.new }
-        ensures notes { KeepsFileNotes S.view self.old.file self.new.file }
+        ensures notes { KeepsFileNotes S.view NoData self.old.file self.new.file }
         ensures header_cluster { StaysBehindHeader S.view self.old self.new }
         ensures cause { IfErr result IsMet }
         ensures fault { (p : Pending) (out : List (Option Prepared)) → ImageInvariant S.view F.backing p self.old out → IfErr result IsFault }
@@ -297,10 +316,10 @@ impl<S: Storage, F: WrappedFormat<S>> Qcow2<S, F> {
     fn place_l2(&mut self, cluster: HostCluster, mut table: L2Table) -> Result<(), ImageError>
         ensures stays { ImageStays self.old self.new }
         ensures keeps_rest { KeepsRest self.old self.new }
-        ensures notes { KeepsFileNotes S.view self.old.file self.new.file }
+        ensures notes { KeepsFileNotes S.view NoData self.old.file self.new.file }
         ensures header_cluster { 0 < cluster → StaysBehindHeader S.view self.old self.new }
         ensures cause { IfErr result IsMet }
-        ensures fault { (p : Pending) (out : List (Option Prepared)) → ImageInvariant S.view F.backing p self.old out → (HasPrepared out → ⊥) → 0 < p.new_tables cluster → IsTableOf self.old.file.header.fields table → IsStored S.view self.old → IsHostCluster table.cluster_bits cluster → IfErr result IsFault }
+        ensures met { (p : Pending) (out : List (Option Prepared)) → ImageInvariant S.view F.backing p self.old out → 0 < p.new_tables cluster → IsTableOf self.old.file.header.fields table → IsStored S.view self.old → IsHostCluster table.cluster_bits cluster → IfErr result (IsMetLooking (HasPrepared out)) }
         ensures limited { (p : Pending) (out : List (Option Prepared)) → ImageInvariant S.view F.backing p self.old out → 0 < p.new_tables cluster → IsTableOf self.old.file.header.fields table → IsStored S.view self.old → IsHostCluster table.cluster_bits cluster → IfErr result IsUnlimited }
         ensures rest { self.new ≡ record self.old { file = record self.old.file { storage = self.new.file.storage; caches = self.new.file.caches } } }
         ensures noted { IsTrue self.old.file.caches.is_changed → IsTrue self.new.file.caches.is_changed }
@@ -330,12 +349,14 @@ impl<S: Storage, F: WrappedFormat<S>> Qcow2<S, F> {
         requires nameable { IsHostCluster self.old.l1_table.cluster_bits cluster }
         ensures stays { ImageStays self.old self.new }
         ensures keeps_rest { KeepsRest self.old self.new }
-        ensures notes { KeepsFileNotes S.view self.old.file self.new.file }
+        ensures notes { KeepsFileNotes S.view NoData self.old.file self.new.file }
         ensures header_cluster { StaysBehindHeader S.view self.old self.new }
         ensures cause { IfErr result IsMet }
         ensures allocator { self.new.allocator ≡ self.old.allocator }
         ensures fault { IfErr result IsFault }
         ensures list { self.new.file.free_list ≡ self.old.file.free_list }
+        ensures uses { (p : Pending) (out : List (Option Prepared)) (table : L2TableView) → ImageInvariant S.view F.backing (with_new_tables p (one_at cluster)) self.old out → MayName S.view self.old index
+            → SaysKnown self.old.file.header.fields (known_in S.view self.old.file) index table → length table.bytes ≡ 2 ^ table.cluster_bits → StandsReady S.view self.old cluster table.bytes → OnOk result (StaysUsed S.view self.old.file self.new.file) }
         ensures names { (p : Pending) (out : List (Option Prepared)) (table : L2TableView) → ImageInvariant S.view F.backing (with_new_tables p (one_at cluster)) self.old out → MayName S.view self.old index → IsTrue self.old.file.caches.is_changed
             → SaysKnown self.old.file.header.fields (known_in S.view self.old.file) index table → length table.bytes ≡ 2 ^ table.cluster_bits → StandsReady S.view self.old cluster table.bytes → NamesNew S.view F.backing p self.old self.new out index cluster result }
         ensures faults { CountsImageFaults S.view F.backing self.old self.new result }

@@ -3,12 +3,13 @@ ghost use Rattle.qcow2_disk.specs.Alike.{IsAlike};
 ghost use Rattle.qcow2_image.specs.BehindHeader.{StaysBehindHeader};
 ghost use Rattle.std.specs.Prelude.{◌↔◌, List, Option, is_some, ◌≡◌, ◌+◌, ◌*◌, ◌-◌, ◌/◌, ◌%◌, true, Some, ◌^◌, ◌<◌, ◌≤◌, [], length, IfOk, IfErr, IfSome, IsOk, IsSome, IsTrue, Ok, Err, None, false, MatchOption, min, ℕ};
 ghost use Rattle.qcow2_metadata.specs.L2Mapping.{HasAlignedHost, IsInReach};
-ghost use Rattle.qcow2_image.specs.Image.{ImageStays, IsSameImage, number_of, size_of};
+ghost use Rattle.qcow2_image.specs.Image.{ImageStays, IsSameImage, KeepsWholeHeader, number_of, size_of};
 ghost use Rattle.qcow2_image.specs.Unwritten.{OnlyReadsImage, ReadsQuietly};
 ghost use Rattle.qcow2_laws.specs.CrashInvariant.{Pending};
 ghost use Rattle.qcow2_alloc.specs.MetadataCaches.{IsEntryAt, l2_at};
 ghost use Rattle.qcow2_alloc.specs.KeptMarks.{KeepsFileNotes};
-ghost use Rattle.qcow2_image.specs.Noted.{FailsOnceWritten};
+ghost use Rattle.qcow2_alloc.specs.KeptNotes.{NoData};
+ghost use Rattle.qcow2_image.specs.Noted.{FailsOnceWritten, TellsNoData};
 ghost use Rattle.qcow2_alloc.specs.ImageFile.{known_in, FileInvariant};
 ghost use Rattle.qcow2_image.specs.declared.prepared.Prepared.{Prepared};
 ghost use Rattle.qcow2_image.specs.Calls.{AnswersCall};
@@ -71,6 +72,7 @@ impl<S: Storage, F: WrappedFormat<S>> Qcow2<S, F> {
         ensures met { (out : List (Option Prepared)) → (abstract_of S.view F.backing self.old out).is_sound → IfErr result (IsMetLooking (IsCacheHeld self.old out)) }
         ensures marks { MarksFailed self.old self.new result }
         ensures image { IsSameImage self.old self.new }
+        ensures header { KeepsWholeHeader self.old self.new }
         ensures own { IfOk result (λ (mapping, n). (mapping.image ≡ number_of self.old) × (mapping.offset ≡ offset) × (mapping.length ≡ n)) }
         ensures within { IfOk result (λ (mapping, n). n ≤ max) }
         ensures some { IfOk result (λ (mapping, n). offset < size_of self.old → 0 < max → 0 < n) }
@@ -83,6 +85,7 @@ impl<S: Storage, F: WrappedFormat<S>> Qcow2<S, F> {
         ensures quiet { ReadsQuietly S.view self.old self.new }
         ensures held { offset < size_of self.old → IfOk result (λ (mapping, n). IsHeldRun self.new offset max mapping.kind n) }
         ensures header_cluster { StaysBehindHeader S.view self.old self.new }
+        ensures kinds { TellsNoData self.old self.new }
         ensures unwritten { OnlyReadsImage S.view F.backing self.old self.new }
     {
         self.check_usable()?;
@@ -104,6 +107,7 @@ impl<S: Storage, F: WrappedFormat<S>> Qcow2<S, F> {
         max: u64,
     ) -> Result<(MappingKind, u64), ImageError>
         ensures stays { ImageStays self.old self.new }
+        ensures header { self.new.file.header ≡ self.old.file.header }
         ensures cause { IfErr result IsOfTables }
         ensures met { (p : Pending) (out : List (Option Prepared)) → ImageInvariant S.view F.backing p self.old out → IfErr result (IsMetLooking (IsCacheHeld self.old out)) }
         ensures keeps { (p : Pending) (out : List (Option Prepared)) → ImageInvariant S.view F.backing p self.old out → UnseenStep S.view F.backing p p self.old self.new out }
@@ -114,7 +118,7 @@ impl<S: Storage, F: WrappedFormat<S>> Qcow2<S, F> {
         ensures past { size_of self.old ≤ offset → result ≡ Ok (Eof, 0) }
         ensures found { (p : Pending) (out : List (Option Prepared)) → ImageInvariant S.view F.backing p self.old out → IfOk result (λ (kind, n). IsFoundInImage S.view self.new offset max kind n) }
         ensures faults { CountsImageFaults S.view F.backing self.old self.new result }
-        ensures notes { KeepsFileNotes S.view self.old.file self.new.file }
+        ensures notes { KeepsFileNotes S.view NoData self.old.file self.new.file }
         ensures quiet { ReadsQuietly S.view self.old self.new }
         ensures held { offset < size_of self.old → IfOk result (λ (kind, n). IsHeldRun self.new offset max kind n) }
         ensures header_cluster { StaysBehindHeader S.view self.old self.new }

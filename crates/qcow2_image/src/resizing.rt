@@ -1,10 +1,14 @@
 //! A disk of another size: what lies behind a smaller one is dropped first, and the size is written last.
+ghost use Rattle.qcow2_alloc.specs.LowestRuns.{StaysUsed};
+ghost use Rattle.image_access.specs.declared.storage.PreallocateMode.TheVariants.{None as PreallocateNone};
+ghost use Rattle.qcow2_image.specs.LowestPlaces.{GrowsFromLowest};
 ghost use Rattle.qcow2_image.specs.BehindHeader.{StaysBehindHeader};
-ghost use Rattle.qcow2_image.specs.Noted.{ChangesRose, FailsOnceWritten, NotesChanges, NotesPart};
+ghost use Rattle.qcow2_image.specs.Noted.{ChangesRose, FailsOnceWritten, NotesChanges, NotesPart, TellsNoData};
 ghost use Rattle.qcow2_alloc.specs.KeptMarks.{HaveRisen, KeepsFileNotes};
+ghost use Rattle.qcow2_alloc.specs.KeptNotes.{NoData};
 ghost use Rattle.std.specs.Prelude.{ℕ, List, Option, ◌≡◌, ◌↔◌, ◌⊎◌, ◌+◌, ◌-◌, ◌<◌, ◌≤◌, max, nat_lt, [], Some, None, Ok, Err, IfOk, IfErr, IfSome, OnOk, OnErr, IsTrue, MatchOption, false};
 ghost use Rattle.qcow2_image.specs.LackedPlaces.{IsPlacedNear};
-ghost use Rattle.qcow2_image.specs.MetAlone.{IsMetFilling};
+ghost use Rattle.qcow2_image.specs.MetAlone.{IsMetGrowing};
 ghost use Rattle.image_access.specs.Moments.{EachMomentSince};
 ghost use Rattle.qcow2_metadata.specs.EntryTable.{entry_count};
 ghost use Rattle.qcow2_image.specs.Found.{l1_index_of};
@@ -53,6 +57,7 @@ impl<S: Storage, F: WrappedFormat<S>> Qcow2<S, F> {
         ensures last { (out : List (Option Prepared)) → (abstract_of S.view F.backing self.old out).is_sound → WritesSizeLast S.view F.backing self.old self.new }
         ensures once_written { FailsOnceWritten S.view self.old self.new result }
         ensures header_cluster { StaysBehindHeader S.view self.old self.new }
+        ensures kinds { TellsNoData self.old self.new }
         ensures faults { CountsImageFaults S.view F.backing self.old self.new result }
     {
         self.check_resize()?;
@@ -90,6 +95,7 @@ impl<S: Storage, F: WrappedFormat<S>> Qcow2<S, F> {
         ensures last { (out : List (Option Prepared)) → (abstract_of S.view F.backing self.old out).is_sound → WritesSizeLast S.view F.backing self.old self.new }
         ensures once_written { FailsOnceWritten S.view self.old self.new result }
         ensures header_cluster { StaysBehindHeader S.view self.old self.new }
+        ensures kinds { TellsNoData self.old self.new }
         ensures faults { CountsImageFaults S.view F.backing self.old self.new result }
     {
         let before = self.file.changes();
@@ -196,14 +202,14 @@ impl<S: Storage, F: WrappedFormat<S>> Qcow2<S, F> {
     /// Refused in this order: 16 (failed), 12 (dependency), 1 (read-only). Of a larger size also 6 (preallocation), for a mode that takes
     /// clusters where there is a disk below. Then 13 (limit) where the L1 table would be too long, and 3 (version) for `Zero` below
     /// version 3. Where the work meets them: 4 (unaligned table), 13 (limit), 14 (memory), 15 (storage). All modes but `None` may meet
-    /// 7 (compressed), 8 (everything is in use), 9 (table prepared) too. On a sound image of which nothing is prepared the work meets 13,
-    /// 14 and 15 alone, and 7 where a cluster behind the old end is compressed.
+    /// 7 (compressed), 8 (everything is in use), 9 (table prepared) too. On a sound image the work meets 13, 14 and 15 alone, 7 where a
+    /// cluster behind the old end is compressed, and 8 and 9 where a mapping is prepared that isn't existing.
     pub fn resize_grow(&mut self, size: u64, mode: PreallocateMode) -> Result<(), ImageError>
         ensures early { IfSome (refuses_to_resize self.old) (λ e. (result ≡ Err e) × (self.new ≡ self.old)) }
         ensures no_larger { refuses_to_resize self.old ≡ None → size ≤ size_of self.old → (result ≡ Ok tt) × (self.new ≡ self.old) }
         ensures preallocation { refuses_to_resize self.old ≡ None → size_of self.old < size → IsTrue (takes_over self.old mode) → (result ≡ Err Preallocation) × (self.new ≡ self.old) }
         ensures late { refuses_to_resize self.old ≡ None → IfErr result (λ e. IsMetPreparing e ⊎ ((e ≡ Preallocation) × IsTrue (takes_over self.old mode))) }
-        ensures met { refuses_to_resize self.old ≡ None → size_of self.old < size → (out : List (Option Prepared)) → (abstract_of S.view F.backing self.old out).is_sound → (HasPrepared out → ⊥) → IfErr result (λ e. IsMetFilling mode (size_of self.old) (rounded_up (cluster_size self.old.file.header.fields) size) self.old.file.header.fields (known_in S.view self.old.file) e ⊎ ((e ≡ Preallocation) × IsTrue (takes_over self.old mode))) }
+        ensures met { refuses_to_resize self.old ≡ None → size_of self.old < size → (out : List (Option Prepared)) → (abstract_of S.view F.backing self.old out).is_sound → IfErr result (λ e. IsMetGrowing out mode (size_of self.old) (rounded_up (cluster_size self.old.file.header.fields) size) self.old.file.header.fields (known_in S.view self.old.file) e ⊎ ((e ≡ Preallocation) × IsTrue (takes_over self.old mode))) }
         ensures limit { refuses_to_resize self.old ≡ None → size_of self.old < size → (out : List (Option Prepared)) → (abstract_of S.view F.backing self.old out).is_sound
             → IfErr result (λ e. e ≡ Limit → CantGrowDisk S.view F.backing mode size self.old self.new out) }
         ensures marks { MarksFailed self.old self.new result }
@@ -211,9 +217,11 @@ impl<S: Storage, F: WrappedFormat<S>> Qcow2<S, F> {
         ensures sees { GrowsTo S.view F.backing self.old self.new size mode result }
         ensures last { (out : List (Option Prepared)) → (abstract_of S.view F.backing self.old out).is_sound → WritesSizeLast S.view F.backing self.old self.new }
         ensures tables { refuses_to_resize self.old ≡ None → size_of self.old < size → (out : List (Option Prepared)) → (abstract_of S.view F.backing self.old out).is_sound → GrowsTables S.view F.backing self.old self.new size mode out result }
+        ensures lowest { refuses_to_resize self.old ≡ None → size_of self.old < size → mode ≡ PreallocateNone → (out : List (Option Prepared)) → (abstract_of S.view F.backing self.old out).is_sound → OnOk result (GrowsFromLowest S.view self.old self.new) }
         ensures freed { refuses_to_resize self.old ≡ None → size_of self.old < size → ¬ IsTrue (takes_over self.old mode) → (out : List (Option Prepared)) → (abstract_of S.view F.backing self.old out).is_sound → IfErr result (FreesRefused self.new) }
         ensures once_written { FailsOnceWritten S.view self.old self.new result }
         ensures header_cluster { StaysBehindHeader S.view self.old self.new }
+        ensures kinds { mode ≡ PreallocateNone → TellsNoData self.old self.new }
         ensures faults { CountsImageFaults S.view F.backing self.old self.new result }
     {
         self.check_resize()?;
@@ -244,16 +252,18 @@ impl<S: Storage, F: WrappedFormat<S>> Qcow2<S, F> {
         requires writable { IsTrue (is_writable self.old) }
         requires larger { size_of self.old < size }
         ensures cause { IfErr result IsMetPreparing }
-        ensures met { (out : List (Option Prepared)) → (abstract_of S.view F.backing self.old out).is_sound → (HasPrepared out → ⊥) → IfErr result (IsMetFilling mode (size_of self.old) (rounded_up (cluster_size self.old.file.header.fields) size) self.old.file.header.fields (known_in S.view self.old.file)) }
+        ensures met { (out : List (Option Prepared)) → (abstract_of S.view F.backing self.old out).is_sound → IfErr result (IsMetGrowing out mode (size_of self.old) (rounded_up (cluster_size self.old.file.header.fields) size) self.old.file.header.fields (known_in S.view self.old.file)) }
         ensures limit { (out : List (Option Prepared)) → (abstract_of S.view F.backing self.old out).is_sound → IfErr result (λ e. e ≡ Limit → CantGrowDisk S.view F.backing mode size self.old self.new out) }
         ensures marks { MarksFailed self.old self.new result }
         ensures image { IsResized (size_after result (size_of self.old) size) self.old self.new }
         ensures sees { GrowsTo S.view F.backing self.old self.new size mode result }
         ensures last { (out : List (Option Prepared)) → (abstract_of S.view F.backing self.old out).is_sound → WritesSizeLast S.view F.backing self.old self.new }
         ensures tables { (out : List (Option Prepared)) → (abstract_of S.view F.backing self.old out).is_sound → GrowsTables S.view F.backing self.old self.new size mode out result }
+        ensures lowest { mode ≡ PreallocateNone → (out : List (Option Prepared)) → (abstract_of S.view F.backing self.old out).is_sound → OnOk result (GrowsFromLowest S.view self.old self.new) }
         ensures freed { (out : List (Option Prepared)) → (abstract_of S.view F.backing self.old out).is_sound → IfErr result (FreesRefused self.new) }
         ensures once_written { FailsOnceWritten S.view self.old self.new result }
         ensures header_cluster { StaysBehindHeader S.view self.old self.new }
+        ensures kinds { mode ≡ PreallocateNone → TellsNoData self.old self.new }
         ensures faults { CountsImageFaults S.view F.backing self.old self.new result }
     {
         self.begin();
@@ -285,7 +295,7 @@ impl<S: Storage, F: WrappedFormat<S>> Qcow2<S, F> {
     fn renew_l1_table(&mut self, offset: u64) -> Result<(), ImageError>
         requires writable { IsTrue (is_writable self.old) }
         ensures stays { ImageStays self.old self.new }
-        ensures notes { KeepsFileNotes S.view self.old.file self.new.file }
+        ensures notes { KeepsFileNotes S.view NoData self.old.file self.new.file }
         ensures noted { OnOk result (IsTrue self.new.file.caches.is_changed) }
         ensures header_cluster { StaysBehindHeader S.view self.old self.new }
         ensures cause { IfErr result IsMet }
@@ -295,6 +305,7 @@ impl<S: Storage, F: WrappedFormat<S>> Qcow2<S, F> {
         ensures length { OnOk result (entry_count self.new.l1_table ≡ max (entry_count self.old.l1_table) (l1_index_of self.old.file.header.fields offset + 1)) }
         ensures emptied { OnOk result (HasNothingToFree self.new) }
         ensures makes { (out : List (Option Prepared)) → ImageInvariant S.view F.backing (pending_in S.view F.backing self.old out) self.old out → MakesEntry S.view F.backing self.old self.new out result }
+        ensures lowest { (out : List (Option Prepared)) → ImageInvariant S.view F.backing (pending_in S.view F.backing self.old out) self.old out → OnOk result (GrowsFromLowest S.view self.old self.new) }
         ensures freed { (out : List (Option Prepared)) → ImageInvariant S.view F.backing (pending_in S.view F.backing self.old out) self.old out → IfErr result (FreesRefused self.new) }
         ensures faults { CountsImageFaults S.view F.backing self.old self.new result }
     {
@@ -309,7 +320,7 @@ impl<S: Storage, F: WrappedFormat<S>> Qcow2<S, F> {
     fn lengthen_l1_table(&mut self, offset: u64) -> Result<(), ImageError>
         requires writable { IsTrue (is_writable self.old) }
         ensures stays { ImageStays self.old self.new }
-        ensures notes { KeepsFileNotes S.view self.old.file self.new.file }
+        ensures notes { KeepsFileNotes S.view NoData self.old.file self.new.file }
         ensures noted { OnOk result (IsTrue self.new.file.caches.is_changed) }
         ensures header_cluster { StaysBehindHeader S.view self.old self.new }
         ensures cause { IfErr result IsMet }
@@ -319,6 +330,7 @@ impl<S: Storage, F: WrappedFormat<S>> Qcow2<S, F> {
         ensures length { OnOk result (entry_count self.new.l1_table ≡ max (entry_count self.old.l1_table) (l1_index_of self.old.file.header.fields offset + 1)) }
         ensures emptied { OnOk result (HasNothingToFree self.new) }
         ensures makes { (out : List (Option Prepared)) → ImageInvariant S.view F.backing (pending_in S.view F.backing self.old out) self.old out → MakesEntry S.view F.backing self.old self.new out result }
+        ensures lowest { (out : List (Option Prepared)) → ImageInvariant S.view F.backing (pending_in S.view F.backing self.old out) self.old out → OnOk result (GrowsFromLowest S.view self.old self.new) }
         ensures faults { CountsImageFaults S.view F.backing self.old self.new result }
     {
         let index = GuestOffset::new(offset).l1_index(self.file.header.cluster_bits());
@@ -348,8 +360,9 @@ impl<S: Storage, F: WrappedFormat<S>> Qcow2<S, F> {
         ensures restored { OnErr result (self.new.file.header ≡ self.old.file.header) }
         ensures time { (view_in S.view self.old.file).is_honest → EachMomentSince (view_in S.view self.old.file) (view_in S.view self.new.file) (λ c. c ≡ (view_in S.view self.new.file).contents) }
         ensures writes { (out : List (Option Prepared)) → ImageInvariant S.view F.backing (pending_in S.view F.backing self.old out) self.old out → WritesSize S.view F.backing self.old self.new out size result }
+        ensures uses { (out : List (Option Prepared)) → ImageInvariant S.view F.backing (pending_in S.view F.backing self.old out) self.old out → OnOk result (StaysUsed S.view self.old.file self.new.file) }
         ensures resizes { (p : Pending) → ImageInvariant S.view F.backing p self.old [] → Resizes S.view F.backing p self.old self.new size result }
-        ensures notes { KeepsFileNotes S.view self.old.file self.new.file }
+        ensures notes { KeepsFileNotes S.view NoData self.old.file self.new.file }
         ensures header_cluster { StaysBehindHeader S.view self.old self.new }
         ensures faults { CountsImageFaults S.view F.backing self.old self.new result }
     {

@@ -6,6 +6,7 @@ use Rattle.std.proofs.Math.Nat.{le_refl, le_trans}
 use Rattle.image_access.specs.Moments.{StorageView, ContentsStay, Rose}
 use Rattle.qcow2_alloc.specs.CountedChanges.{CountsChanges}
 use Rattle.qcow2_alloc.specs.KeptMarks.{KeepsFileNotes}
+use Rattle.qcow2_alloc.specs.KeptNotes.{NoData}
 use Rattle.qcow2_alloc.specs.ImageFile.{view_in}
 use Rattle.qcow2_alloc.specs.ImageStorage.{changes_of, is_changed_of, storage_of}
 use Rattle.qcow2_alloc.specs.declared.cache.MetadataCaches.{MetadataCaches}
@@ -16,6 +17,7 @@ use Rattle.qcow2_image.specs.declared.image.Qcow2.{Qcow2}
 use Rattle.qcow2_image.specs.Image.{IsBegun, has_noted_change, is_failed, with_marks}
 use Rattle.qcow2_image.specs.Noted.{ChangesRose, HasMoreChanges, MarksOnceChanged, NoFewerChanges, NotesChanges, NotesPart}
 use Rattle.qcow2_image.specs.Refusals.{MarksFailed}
+use Rattle.qcow2_image.proofs.Call.ToldData.{none_told}
 
 -- a number that rose has risen since before, and goes on having risen
 rose_later : (a b c : ℕ) → b ≤ c → Rose a b → Rose a c
@@ -51,7 +53,7 @@ module _ {S F : Type 0} where
 module _ {S F : Type 0} (view : S → StorageView) where
   -- ---- nothing at all was done
   pub part_none : (image : Qcow2 S F) → NotesPart view image image
-  part_none image = record { honest = λ h. h; no_fewer = fewer_none image; why = λ noted. inl noted; contents = λ none few honest. refl }
+  part_none image = record { honest = λ h. h; no_fewer = fewer_none image; why = λ noted. inl noted; contents = λ none few honest. refl; kinds = refl }
 
   pub once_none : (image : Qcow2 S F) → MarksOnceChanged view image image
   once_none image = record {
@@ -61,7 +63,7 @@ module _ {S F : Type 0} (view : S → StorageView) where
   }
 
   -- ---- a part that keeps the notes
-  module _ (old new : Qcow2 S F) (kept : KeepsFileNotes view old.file new.file) where
+  module _ {MayTellData : Type 0} (old new : Qcow2 S F) (kept : KeepsFileNotes view MayTellData old.file new.file) where
     pub kept_fewer : NoFewerChanges old new
     kept_fewer = record { storage = kept.storage.changes.no_fewer; tables = kept.tables.no_fewer }
 
@@ -86,13 +88,15 @@ module _ {S F : Type 0} (view : S → StorageView) where
     kept_contents : ¬ IsTrue (has_noted_change new) → ContentsStay (view_in view old.file) (view_in view new.file)
     kept_contents none = kept.storage.contents (λ noted. none (or_left (is_changed_of new.file.storage) new.file.caches.is_changed noted))
 
-    pub notes_part : NotesPart view old new
-    notes_part = record {
-      honest = kept.storage.honest;
-      no_fewer = kept_fewer;
-      why = kept_why;
-      contents = λ none few. kept_contents (λ noted. elim (kept_why noted) [ inl was ↦ none was | inr rose ↦ few rose ]);
-    }
+  -- one that tells nothing as data
+  pub notes_part : (old new : Qcow2 S F) → KeepsFileNotes view NoData old.file new.file → NotesPart view old new
+  notes_part old new kept = record {
+    honest = kept.storage.honest;
+    no_fewer = kept_fewer old new kept;
+    why = kept_why old new kept;
+    contents = λ none few. kept_contents old new kept (λ noted. elim (kept_why old new kept noted) [ inl was ↦ none was | inr rose ↦ few rose ]);
+    kinds = none_told kept;
+  }
 
   -- ---- one part behind another, and a part behind a call
   pub parts_then : (a b c : Qcow2 S F) → NotesPart view a b → NotesPart view b c → NotesPart view a c
@@ -107,6 +111,7 @@ module _ {S F : Type 0} (view : S → StorageView) where
         let few_first : ¬ ChangesRose a b = λ rose. few (changes_later a b c then'.no_fewer rose) in
         then'.contents (λ noted. elim (first.why noted) [ inl was ↦ none was | inr rose ↦ few_first rose ]) (λ rose. few (changes_before a b c first.no_fewer rose)) (first.honest honest)
         ∙ first.contents none few_first honest;
+    kinds = then'.kinds ∙ first.kinds;
   }
 
   pub call_then : (a b c : Qcow2 S F) → NotesChanges view a b → NotesPart view b c → NotesChanges view a c
@@ -121,6 +126,7 @@ module _ {S F : Type 0} (view : S → StorageView) where
         let few_first : ¬ ChangesRose a b = λ rose. few (changes_later a b c then'.no_fewer rose) in
         then'.contents (λ noted. few_first (first.why noted)) (λ rose. few (changes_before a b c first.no_fewer rose)) (first.honest honest)
         ∙ first.contents few_first honest;
+    kinds = then'.kinds ∙ first.kinds;
   }
 
   -- ---- a call that begins
@@ -162,31 +168,32 @@ module _ {S F : Type 0} (view : S → StorageView) where
       };
       why = λ noted. elim (part.why noted) [ inl was ↦ absurd (nothing_noted was) | inr rose ↦ rose_begun new rose ];
       contents = λ few. subst (λ (s : S). ContentsStay (view s) (view_in view new.file)) begins.storage (part.contents nothing_noted (λ rose. few (rose_begun new rose)));
+      kinds = part.kinds ∙ begins.kinds;
     }
 
     pub part_of_call : (new : Qcow2 S F) → NotesChanges view old new → NotesPart view old new
-    part_of_call new call = record { honest = call.honest; no_fewer = call.no_fewer; why = λ noted. inr (call.why noted); contents = λ none. call.contents }
+    part_of_call new call = record { honest = call.honest; no_fewer = call.no_fewer; why = λ noted. inr (call.why noted); contents = λ none. call.contents; kinds = call.kinds }
 
-    pub notes_since : (new : Qcow2 S F) → KeepsFileNotes view begun.file new.file → NotesPart view old new
+    pub notes_since : (new : Qcow2 S F) → KeepsFileNotes view NoData begun.file new.file → NotesPart view old new
     notes_since new kept = part_of_call new (notes_begun new (notes_part begun new kept))
 
     -- where it is marked at its end, and wasn't before
-    pub once_marked : {A : Type 0} (mid new : Qcow2 S F) (done : Result A ImageError) → KeepsFileNotes view begun.file new.file → is_failed mid ≡ is_failed old → MarksFailed mid new done → done ≡ Err Memory → MarksOnceChanged view old new
+    pub once_marked : {MayTellData A : Type 0} (mid new : Qcow2 S F) (done : Result A ImageError) → KeepsFileNotes view MayTellData begun.file new.file → is_failed mid ≡ is_failed old → MarksFailed mid new done → done ≡ Err Memory → MarksOnceChanged view old new
     once_marked {A} mid new done kept same marks is =
         let mark : is_failed new ≡ (is_failed mid || has_noted_change new) = subst (λ (r : Result A ImageError). MarksFailed mid new r) is marks in
         record {
           contents = λ works. subst (λ (s : S). ContentsStay (view s) (view_in view new.file)) begins.storage (kept_contents begun new kept (λ noted. works (mark ∙ or_right (is_failed mid) (has_noted_change new) noted)));
           changed = λ failed. elim (or_cases (is_failed mid) (has_noted_change new) (sym mark ∙ failed)) [
             | inl was ↦ inl (sym same ∙ was)
-            | inr noted ↦ inr ((notes_begun new (notes_part begun new kept)).why noted)
+            | inr noted ↦ elim (kept_why begun new kept noted) [ inl before ↦ absurd (nothing_noted before) | inr rose ↦ inr (rose_begun new rose) ]
           ];
           marked = λ more. mark ∙ or_right (is_failed mid) (has_noted_change new) (kept_counted begun new kept (more_begun new more));
         }
 
-    pub once_written : {A : Type 0} (last new : Qcow2 S F) (done : Result A ImageError) → KeepsFileNotes view begun.file last.file → is_failed last ≡ is_failed old → MarksFailed last new done → new ≡ record last { is_failed = new.is_failed } → done ≡ Err Memory
+    pub once_written : {MayTellData A : Type 0} (last new : Qcow2 S F) (done : Result A ImageError) → KeepsFileNotes view MayTellData begun.file last.file → is_failed last ≡ is_failed old → MarksFailed last new done → new ≡ record last { is_failed = new.is_failed } → done ≡ Err Memory
         → MarksOnceChanged view old new
-    once_written last new done kept same marks rest =
-        once_marked last new done (subst (λ (f : ImageFile S). KeepsFileNotes view begun.file f) (sym (ap (λ (i : Qcow2 S F). i.file) rest)) kept) same marks
+    once_written {MayTellData} last new done kept same marks rest =
+        once_marked last new done (subst (λ (f : ImageFile S). KeepsFileNotes view MayTellData begun.file f) (sym (ap (λ (i : Qcow2 S F). i.file) rest)) kept) same marks
 
   -- Where all was done before it is marked, and it is noted whether anything was counted since the call began.
   pub refused_once : {A : Type 0} (old last new : Qcow2 S F) (done : Result A ImageError) → NotesChanges view old last → (done ≡ Err Memory → IsTrue (is_failed last) → IsTrue (is_failed old) ⊎ ChangesRose old last)

@@ -44,7 +44,7 @@ use Rattle.qcow2_image.proofs.UngivenCovers.{ungiven_stay}
 use Rattle.qcow2_disk.specs.UngivenCovers.{IsUngiven}
 
 -- what is listed is no table
-listed_no_table : (how : Clearance) (h : HeaderFields) (known : Bytes) (first n k : ℕ) → to_free of_tables (listed_by how h known first n) k ≡ 0
+pub listed_no_table : (how : Clearance) (h : HeaderFields) (known : Bytes) (first n k : ℕ) → to_free of_tables (listed_by how h known first n) k ≡ 0
 listed_no_table how h known first zero k = refl
 listed_no_table how h known first (suc n) k =
     let run = old_data_run h.cluster_bits (cover h known (first + n)) (cover_once_cleared how (cover h known (first + n))) in
@@ -63,6 +63,7 @@ module _ {S F : Type 0} (view : S → StorageView) (backing : F → BackingView)
     cleared_all = λ i lt. absurd (omega (arith, lt));
     stays = λ g out. refl;
     table_stays = refl;
+    counts = λ k. refl;
     new_data = λ k. refl;
     new_tables = λ k. refl;
     old_tables = λ k. refl;
@@ -120,6 +121,7 @@ module _ {S F : Type 0} (view : S → StorageView) (backing : F → BackingView)
       ];
       stays = λ g out. so_far.stays g (elim out [ inl below ↦ inl below | inr past ↦ inr (omega (arith, past)) ]) ∙ next.stays g (λ same. let is = guest_is in elim out [ inl below ↦ absurd (omega (arith, below, same, is)) | inr past ↦ absurd (omega (arith, past, same, is)) ]);
       table_stays = next.table_stays ∙ so_far.table_stays;
+      counts = λ k. so_far.counts k ∙ next.counts k;
       new_data = λ k. next.new_data reached k ∙ so_far.new_data k;
       new_tables = λ k. next.new_tables k ∙ so_far.new_tables k;
       old_tables = λ k. next.old_tables k ∙ so_far.old_tables k;

@@ -146,6 +146,7 @@ pub record OneCleared {S F : Type 0} (view : S → StorageView) (backing : F →
   pub cleared : cover a.file.header.fields (known_in view c.file) (guest_at a.file.header.fields row column) ≡ cover_once_cleared how (cover a.file.header.fields (known_in view a.file) (guest_at a.file.header.fields row column))
   pub stays : (g : ℕ) → g ≢ guest_at a.file.header.fields row column → cover a.file.header.fields (known_in view a.file) g ≡ cover a.file.header.fields (known_in view c.file) g
   pub table_stays : table_at a.file.header.fields (known_in view c.file) row ≡ table_at a.file.header.fields (known_in view a.file) row
+  pub counts : (k : ℕ) → count a.file.header.fields (known_in view a.file) k ≡ count a.file.header.fields (known_in view c.file) k
   pub new_data : IsInReach (cover a.file.header.fields (known_in view a.file) (guest_at a.file.header.fields row column)) → (k : ℕ) → now.new_data k ≡ p.new_data k
   pub new_tables : (k : ℕ) → now.new_tables k ≡ p.new_tables k
   pub old_tables : (k : ℕ) → now.old_tables k ≡ p.old_tables k
@@ -296,6 +297,7 @@ module _ {S F : Type 0} (view : S → StorageView) (backing : F → BackingView)
     cleared = covered;
     stays = others;
     table_stays = ap host_offset (same_l1 row);
+    counts = counts_stay;
     new_data = λ reach k. let n = names_cleared h k how old reach in let then = named_then k in omega (arith, n, then);
     new_tables = λ k. refl;
     old_tables = λ k. refl;

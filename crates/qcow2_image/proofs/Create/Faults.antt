@@ -27,7 +27,7 @@ use Rattle.qcow2_image.specs.Created.{IsUnmapped, IsUnwritten}
 use Rattle.qcow2_image.specs.Growing.{SameFormat}
 use Rattle.qcow2_image.specs.Image.{size_of}
 use Rattle.qcow2_image.specs.ImageInvariant.{abstract_of}
-use Rattle.qcow2_image.specs.MetAlone.{HasCompressedIn, IsMetFilling}
+use Rattle.qcow2_image.specs.MetAlone.{HasCompressedIn, IsMetGrowing}
 use Rattle.qcow2_image.specs.Readable.{IsRefusedRightly, IsTableRefused}
 use Rattle.qcow2_image.specs.Refusals.{IsFaultOrLimit}
 use Rattle.qcow2_image.specs.Resizing.{takes_over}
@@ -78,17 +78,20 @@ module _ {S F : Type 0} (view : S → StorageView) (old : Qcow2 S F) (unmapped :
   none_compressed : (from to : ℕ) → HasCompressedIn from to old.file.header.fields (known_in view old.file) → ⊥
   none_compressed from to some = subst (λ (v : L2Mapping). IsCompressed v) (unmapped.covers some.guest) some.is
 
-  filling_fault : (mode : PreallocateMode) (from to : ℕ) (e : ImageError) → IsMetFilling mode from to old.file.header.fields (known_in view old.file) e → IsFaultOrLimit e
+  filling_fault : (mode : PreallocateMode) (from to : ℕ) (e : ImageError) → IsMetGrowing [] mode from to old.file.header.fields (known_in view old.file) e → IsFaultOrLimit e
   filling_fault mode from to e met = elim met [
-    | inl alone ↦ elim alone [
-      | inl plain ↦ plain
-      | inr other ↦ elim other [ inl compressed ↦ absurd (none_compressed from _ compressed.1) | inr far ↦ absurd far.1 ]
+    | inl taking ↦ elim taking [
+      | inl alone ↦ elim alone [
+        | inl plain ↦ plain
+        | inr other ↦ elim other [ inl compressed ↦ absurd (none_compressed from _ compressed.1) | inr far ↦ absurd far.1 ]
+      ]
+      | inr other ↦ elim other [ inl held ↦ absurd (none_prepared held.1) | inr kept ↦ absurd (none_prepared kept.1) ]
     ]
     | inr version ↦ absurd (let third = unmapped.version in let below = version.1.1 in omega (arith, third, below))
   ]
 
   pub grown_fault : (new : Qcow2 S F) (size to : ℕ) (mode : PreallocateMode) (r : Result (Unit {0}) ImageError) → is_some old.backing ≡ false → (size ≤ size_of old → (r ≡ Ok tt) × (new ≡ old))
-      → (size_of old < size → IfErr r (λ e. IsMetFilling mode (size_of old) to old.file.header.fields (known_in view old.file) e ⊎ ((e ≡ I.Preallocation) × IsTrue (takes_over old mode)))) → IfErr r IsFaultOrLimit
+      → (size_of old < size → IfErr r (λ e. IsMetGrowing [] mode (size_of old) to old.file.header.fields (known_in view old.file) e ⊎ ((e ≡ I.Preallocation) × IsTrue (takes_over old mode)))) → IfErr r IsFaultOrLimit
   grown_fault new size to mode (Ok x) alone no_larger met = tt
   grown_fault new size to mode (Err e) alone no_larger met = elim (cases_lt (size_of old) size) [
     | inr le ↦ absurd (let bad = (no_larger le).0 in cc)

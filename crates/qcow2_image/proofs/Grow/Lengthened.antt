@@ -264,7 +264,7 @@ module _ {S F : Type 0} (view : S → StorageView) (backing : F → BackingView)
     none_in_run : h.l1_entries ≡ 0 → (k : ℕ) → in_run h k h.l1_offset (8 * h.l1_entries) ≡ 0
     none_in_run none k = ap (λ n. run_at (h.l1_offset / cluster_size h) n k) (no_clusters (8 * h.l1_entries) (cluster_size h) (file_sizes view p old.file sound.file).some (omega (arith, none))) ∙ run_none (h.l1_offset / cluster_size h) k
 
-    former_is : (c : Option ℕ) → old.l1_table.cluster ≡ c → (k : ℕ) → to_free of_tables (listed (run_of_table old.l1_table c)) k ≡ in_run h k h.l1_offset (8 * h.l1_entries)
+    pub former_is : (c : Option ℕ) → old.l1_table.cluster ≡ c → (k : ℕ) → to_free of_tables (listed (run_of_table old.l1_table c)) k ≡ in_run h k h.l1_offset (8 * h.l1_entries)
     former_is None is k = elim (cases_lt 0 h.l1_entries) [
       | inl some ↦ absurd (let e : Some (h.l1_offset / cluster_size h) ≡ None = sym (sound.l1_table.cluster some) ∙ is in cc)
       | inr none ↦ sym (none_in_run (omega (arith, none)) k)
@@ -281,7 +281,7 @@ module _ {S F : Type 0} (view : S → StorageView) (backing : F → BackingView)
               alone ∙ ap (λ n. run_at cluster n k) nothing ∙ run_none cluster k ∙ sym (none_in_run zero k)
         ]
 
-    no_data : (c : Option ℕ) (k : ℕ) → to_free of_data (listed (run_of_table old.l1_table c)) k ≡ 0
+    pub no_data : (c : Option ℕ) (k : ℕ) → to_free of_data (listed (run_of_table old.l1_table c)) k ≡ 0
     no_data None k = refl
     no_data (Some cluster) k = omega arith
 

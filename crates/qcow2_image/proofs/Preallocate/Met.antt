@@ -1,4 +1,4 @@
--- What filling a range, and a larger disk, is refused for on a sound image of which nothing is prepared.
+-- What filling a range, and a larger disk, is refused for on a sound image.
 use Rattle.std.proofs.Common.{◌≡◌, ◌⊎◌, inl, inr, ℕ, ◌+◌, ◌-◌, ◌*◌, ◌/◌, ◌%◌, ◌^◌, ◌<◌, ◌≤◌, Bool, true, false, List, Option, Some, None, pow_mono, sym, ap, ◌∙◌, subst, arith}
 use Rattle.std.specs.Prelude.{IfErr, IsErr, IsErrAnd, Result}
 use Rattle.std.proofs.Math.Nat.{div-lt_iff_lt-mul}
@@ -23,15 +23,17 @@ use Rattle.qcow2_alloc.specs.ImageError.{IsFault}
 use Rattle.qcow2_alloc.specs.ImageFile.{known_in}
 use Rattle.qcow2_alloc.specs.declared.error.ImageError.{ImageError}
 use Rattle.qcow2_alloc.proofs.AllocationSteps.{handed_on}
+use Rattle.qcow2_image.specs.Backings.{HasPrepared}
 use Rattle.qcow2_image.specs.CallParts.{UnseenCall}
+use Rattle.qcow2_image.specs.Clearing.{IsUnderMapping}
 use Rattle.qcow2_image.specs.Found.{l1_index_of}
 use Rattle.qcow2_image.specs.ImageInvariant.{ImageInvariant, pending_in}
 use Rattle.qcow2_image.specs.L1Entries.{NeedsFarEntry, ReachesOffset}
 use Rattle.qcow2_image.specs.LackedPlaces.{IsPlacedNear}
-use Rattle.qcow2_image.specs.MetAlone.{copied_end, CopiesCompressed, HasCompressedIn, HasNearEntries, IsMetAlone, IsMetFilling, KeepsL1Place}
+use Rattle.qcow2_image.specs.MetAlone.{copied_end, CopiesCompressed, HasCompressedIn, HasNearEntries, IsMetGrowing, IsMetTaking, KeepsL1Place}
 use Rattle.qcow2_image.specs.MovedTables.{MovesTables}
 use Rattle.qcow2_image.specs.Preallocation.{FillsPart, IsWholeRange}
-use Rattle.qcow2_image.specs.Refusals.{IsFaultOrLimit}
+use Rattle.qcow2_image.specs.Preparing.{IsTaken}
 use Rattle.qcow2_image.specs.declared.image.Qcow2.{Qcow2}
 use Rattle.qcow2_image.specs.declared.prepared.Prepared.{Prepared}
 use Rattle.qcow2_image.proofs.Grow.Lengths.{index_moved, index_rising, last_cluster}
@@ -39,6 +41,7 @@ use Rattle.qcow2_image.proofs.Preallocate.Covers.{touches_or}
 use Rattle.qcow2_image.proofs.Preallocate.Grown.{up_rising}
 use Rattle.qcow2_image.proofs.Preallocate.Turns.{same_size, same_version}
 use Rattle.qcow2_image.proofs.Prepare.MetRanges.{place_then}
+use Rattle.qcow2_image.proofs.Prepare.MetTaking.{taking_as}
 use Rattle.qcow2_image.proofs.Prepare.Unannounced.{compressed_in}
 
 -- ---- refusals
@@ -47,23 +50,16 @@ use Rattle.qcow2_image.proofs.Prepare.Unannounced.{compressed_in}
 pub hands_met : {A : Type 0} (P : ImageError → Type 0) (r : Result A ImageError) (e : ImageError) → IsErr r × IsErrAnd r (λ x. x ≡ e) → P e → IfErr r P
 hands_met P r e on met = handed_on (λ (x : Result _ _). IfErr x P) r e on met
 
--- by causes that follow
-pub met_as : (C F C' F' : Type 0) (e : ImageError) → (C → C') → (F → F') → IsMetAlone C F e → IsMetAlone C' F' e
-met_as C F C' F' e to far met = elim met [
-  | inl why ↦ inl why
-  | inr other ↦ elim other [ inl compressed ↦ inr (inl (compressed.0, to compressed.1)) | inr past ↦ inr (inr (past.0, far past.1)) ]
-]
-
--- with no cause of the others it is a fault or a limit
-pub met_no_more : (C F : Type 0) (e : ImageError) → (C → ⊥) → (F → ⊥) → IsMetAlone C F e → IsFaultOrLimit e
-met_no_more C F e none near met = elim met [
-  | inl why ↦ why
-  | inr other ↦ elim other [ inl compressed ↦ absurd (none compressed.1) | inr past ↦ absurd (near past.1) ]
-]
-
 -- clusters that are listed are freed behind the refusal, or a fault refuses that
-pub met_filling_freed : (mode : PreallocateMode) (from to : ℕ) (h : HeaderFields) (known : Bytes) (e e' : ImageError) → (e' ≡ e) ⊎ IsFault e' → IsMetFilling mode from to h known e → IsMetFilling mode from to h known e'
-met_filling_freed mode from to h known e e' told met = elim told [ inl same ↦ subst (IsMetFilling mode from to h known) (sym same) met | inr fault ↦ inl (inl (inl fault)) ]
+pub met_filling_freed : (out : List (Option Prepared)) (mode : PreallocateMode) (from to : ℕ) (h : HeaderFields) (known : Bytes) (e e' : ImageError) → (e' ≡ e) ⊎ IsFault e' → IsMetGrowing out mode from to h known e → IsMetGrowing out mode from to h known e'
+met_filling_freed out mode from to h known e e' told met = elim told [ inl same ↦ subst (IsMetGrowing out mode from to h known) (sym same) met | inr fault ↦ inl (inl (inl (inl fault))) ]
+
+-- a mapping for which a table is kept is prepared
+pub taken_prepared : (h : HeaderFields) (known : Bytes) (offset n : ℕ) (out : List (Option Prepared)) → IsTaken h known offset n out → HasPrepared out
+taken_prepared h known offset n out taken = record { place = taken.place; mapping = taken.other; there = taken.is_out; pins = taken.keeps_table }
+
+pub under_prepared : (h : HeaderFields) (offset : ℕ) (out : List (Option Prepared)) → IsUnderMapping h offset out → HasPrepared out
+under_prepared h offset out under = record { place = under.place; mapping = under.other; there = under.is_out; pins = under.keeps_table }
 
 -- ---- what is compressed
 
@@ -161,9 +157,12 @@ module _ {S F : Type 0} (view : S → StorageView) (backing : F → BackingView)
         needs.0.far (room_near h image.l1_table.cluster_bits image.l1_table.cluster (l1_index_of h from) sound.l1_table.bits (sound.l1_table.cluster (omega (arith, inside))) inside near.near)
 
     -- what preparing the first bytes of a range meets
-    pub met_piece : (n : ℕ) → from + n ≤ to → (overwrite : Bool) (e : ImageError) → IsMetAlone (CopiesCompressed from n overwrite image.file.header.fields (known_in view image.file)) (NeedsFarEntry image from) e
-        → IsMetAlone (HasCompressedIn from to image.file.header.fields (known_in view image.file)) ⊥ e
-    met_piece n within overwrite e met = met_as _ _ _ _ e (λ found. compressed_wider image.file.header.fields (known_in view image.file) from to from (from + n) (omega arith) within (compressed_in image.file.header.fields (known_in view image.file) from n overwrite found)) never_far met
+    pub met_piece : (n : ℕ) → from + n ≤ to → (overwrite : Bool) (e : ImageError) → IsMetTaking (HasPrepared out) (IsTaken image.file.header.fields (known_in view image.file) from n out) (CopiesCompressed from n overwrite image.file.header.fields (known_in view image.file)) (NeedsFarEntry image from) e
+        → IsMetTaking (HasPrepared out) (HasPrepared out) (HasCompressedIn from to image.file.header.fields (known_in view image.file)) ⊥ e
+    met_piece n within overwrite e met =
+        let h = image.file.header.fields in
+        let known = known_in view image.file in
+        taking_as (λ held. held) (taken_prepared h known from n out) (λ found. compressed_wider h known from to from (from + n) (omega arith) within (compressed_in h known from n overwrite found)) never_far e met
 
   -- what ends within a range that they reach, rounded up to a cluster, doesn't pass 64 bits
   pub never_past : (p : Pending) (image : Qcow2 S F) → ImageInvariant view backing p image out → (size at cs : ℕ) → at ≤ size → cs ≡ cluster_size image.file.header.fields → HasNearEntries (rounded_up (cluster_size image.file.header.fields) size) image.file.header.fields → 2 ^ 64 ≤ rounded_up cs at → ⊥
@@ -184,9 +183,9 @@ module _ {S F : Type 0} (view : S → StorageView) (backing : F → BackingView)
         compressed_wider h (known_in view old.file) x y from' to' low high
         (compressed_moved h h' (known_in view old.file) (known_in view now.file) from' to' part.header (still_compressed (cluster_size h) (pow_pos h.cluster_bits) first from at h (known_in view old.file) h' (known_in view now.file) part.covers) has)
 
-    pub met_before : (from' to' x y : ℕ) → x ≤ from' → to' ≤ y → (e : ImageError) → IsMetAlone (HasCompressedIn from' to' now.file.header.fields (known_in view now.file)) ⊥ e
-        → IsMetAlone (HasCompressedIn x y old.file.header.fields (known_in view old.file)) ⊥ e
-    met_before from' to' x y low high e met = met_as _ _ _ _ e (compressed_before from' to' x y low high) (λ never. never) met
+    pub met_before : (from' to' x y : ℕ) → x ≤ from' → to' ≤ y → (e : ImageError) → IsMetTaking (HasPrepared out) (HasPrepared out) (HasCompressedIn from' to' now.file.header.fields (known_in view now.file)) ⊥ e
+        → IsMetTaking (HasPrepared out) (HasPrepared out) (HasCompressedIn x y old.file.header.fields (known_in view old.file)) ⊥ e
+    met_before from' to' x y low high e met = taking_as (λ held. held) (λ kept. kept) (compressed_before from' to' x y low high) (λ never. never) e met
 
     -- the next part leaves the L1 table where it is
     pub place_on : (to : ℕ) (new : Qcow2 S F) → at < to → KeepsL1Place old.file.header.fields now.file.header.fields → HasNearEntries to old.file.header.fields
@@ -233,16 +232,16 @@ module _ {S F : Type 0} (view : S → StorageView) (backing : F → BackingView)
           omega (arith, parts, place, aligned, nameable, few, count)
 
   -- what filling behind the old end meets once the L1 table was made longer
-  pub met_behind : (old long : Qcow2 S F) (mode : PreallocateMode) (size from : ℕ) (e : ImageError) → UnseenCall view backing old long out → IsMetFilling mode from (rounded_up (cluster_size long.file.header.fields) size) long.file.header.fields (known_in view long.file) e
-      → IsMetFilling mode from (rounded_up (cluster_size old.file.header.fields) size) old.file.header.fields (known_in view old.file) e
+  pub met_behind : (old long : Qcow2 S F) (mode : PreallocateMode) (size from : ℕ) (e : ImageError) → UnseenCall view backing old long out → IsMetGrowing out mode from (rounded_up (cluster_size long.file.header.fields) size) long.file.header.fields (known_in view long.file) e
+      → IsMetGrowing out mode from (rounded_up (cluster_size old.file.header.fields) size) old.file.header.fields (known_in view old.file) e
   met_behind old long mode size from e call met =
       let h = old.file.header.fields in
       let h' = long.file.header.fields in
       let end : copied_end (cluster_size h') from (rounded_up (cluster_size h') size) mode ≡ copied_end (cluster_size h) from (rounded_up (cluster_size h) size) mode = ap (λ s. copied_end s from (rounded_up s size) mode) (same_size h h' call.header) in
       elim met [
-        | inl alone ↦ inl (met_as _ _ _ _ e
+        | inl alone ↦ inl (taking_as (λ held. held) (λ kept. kept)
             (λ has. subst (λ n. HasCompressedIn from n h (known_in view old.file)) end
             (compressed_moved h h' (known_in view old.file) (known_in view long.file) from (copied_end (cluster_size h') from (rounded_up (cluster_size h') size) mode) call.header (λ g is. subst IsCompressed (sym (call.covers g)) is) has))
-            (λ never. never) alone)
+            (λ never. never) e alone)
         | inr version ↦ inr (version.0, (version.1.0, subst (λ v. v < 3) (same_version h h' call.header) version.1.1))
       ]

@@ -48,7 +48,7 @@ use Rattle.qcow2_image.proofs.Moving.{file_moved_on}
 use Rattle.qcow2_image.proofs.Sound.{free_more}
 
 -- a run of one cluster
-run_one : (first k : ℕ) → run_at first 1 k ≡ one_at first k
+pub run_one : (first k : ℕ) → run_at first 1 k ≡ one_at first k
 run_one first k =
     let end : first + 0 ≡ first = omega arith in
     let sum : run_at first 0 k + one_at first k ≡ run_at first 1 k = subst (λ n. run_at first 0 k + one_at n k ≡ run_at first 1 k) end (run_last first 0 k) in

@@ -29,6 +29,7 @@ use Rattle.qcow2_image.specs.declared.prepared.Prepared.{Prepared}
 use Rattle.qcow2_image.specs.Found.{l1_index_of}
 use Rattle.qcow2_image.specs.ImageInvariant.{ImageInvariant}
 use Rattle.qcow2_image.specs.LongerTables.{RefusedMove}
+use Rattle.qcow2_image.specs.MetAlone.{IsMetLooking}
 use Rattle.qcow2_image.specs.NewTables.{IsFaultOrKeepsL1Table, IsFaultOrLacksTable, LacksTable, MayName, OwnsTable}
 use Rattle.qcow2_image.specs.UnseenSteps.{RefusedStep, pending_with_listed}
 use Rattle.qcow2_image.proofs.Backings.{pinned_by}
@@ -76,6 +77,10 @@ module _ {S F : Type 0} (view : S → StorageView) (backing : F → BackingView)
     pinned_prepared all =
         let one = some_pinned image.file.caches.l2.size image.file.caches.l2.entries sound.file.room.tables all.0 all.1 in
         pinned_by out one.0 (subst (λ n. 0 < n) (sound.pinned one.0) one.1)
+
+    -- a table is loaded but for a fault, or where a mapping is prepared
+    pub loads_looking : (e : ImageError) → IsInUseOrFault image.file.caches e → IsMetLooking (HasPrepared out) e
+    loads_looking e cause = elim cause [ inl used ↦ inr (used.0, pinned_prepared used.1) | inr fault ↦ inl fault ]
 
     -- without a prepared mapping it has a place
     pub fault_alone : (HasPrepared out → ⊥) → (e : ImageError) → IsInUseOrFault image.file.caches e → IsFault e

@@ -20,7 +20,6 @@ use Rattle.qcow2_laws.specs.SafeSteps.{DriverState, StateInvariant}
 use Rattle.qcow2_laws.proofs.Consistency.{in_own}
 use Rattle.qcow2_laws.proofs.PutRuns.{beside_tables}
 use Rattle.qcow2_laws.proofs.Shares.{shares}
-use Rattle.qcow2_alloc.specs.CachePins.{IsInUseOrFault}
 use Rattle.qcow2_alloc.specs.ImageError.{IsFault}
 use Rattle.qcow2_alloc.specs.ImageFile.{known_in, state_in}
 use Rattle.qcow2_alloc.specs.Limits.{IsFaultOr}
@@ -28,7 +27,6 @@ use Rattle.qcow2_alloc.specs.declared.error.ImageError.{ImageError}
 use Rattle.qcow2_alloc.specs.declared.error.ImageError.TheVariants as I
 use Rattle.qcow2_alloc.proofs.AllocationSteps.{handed_on}
 use Rattle.qcow2_alloc.proofs.KeptTables.Standing.{own_cluster}
-use Rattle.qcow2_image.specs.Backings.{HasPrepared}
 use Rattle.qcow2_image.specs.Found.{found_kind}
 use Rattle.qcow2_image.specs.ImageInvariant.{ImageInvariant}
 use Rattle.qcow2_image.specs.MetAlone.{IsMetAlone, IsMetMapped, IsMetReading, IsSpecial}
@@ -39,7 +37,6 @@ use Rattle.qcow2_image.specs.declared.mapping.MappingKind.TheVariants as M
 use Rattle.qcow2_image.specs.declared.prepared.Prepared.{Prepared}
 use Rattle.qcow2_image.proofs.Call.BehindHeader.{behind_first}
 use Rattle.qcow2_image.proofs.Map.Looked.{kind_within}
-use Rattle.qcow2_image.proofs.Prepare.Lacking.{fault_alone}
 
 -- ---- refusals
 
@@ -177,7 +174,3 @@ module _ {S F : Type 0} (view : S → StorageView) (backing : F → BackingView)
       let size = pow_pos h.cluster_bits in
       let behind : cluster_size h ≤ cluster * cluster_size h = hosted_behind s HostedHeld 0 (cluster * cluster_size h) invariant (subst (λ c. 0 < p.new_data c) (sym (own_cluster h.cluster_bits cluster)) some) in
       behind_first h.cluster_bits cluster (cluster * cluster_size h) refl (omega (arith, behind, size))
-
-  -- without a prepared mapping the cache of L2 tables has a place
-  pub loading_met : {A : Type 0} → (HasPrepared out → ⊥) → (r : Result A ImageError) → IfErr r (IsInUseOrFault image.file.caches) → IfErr r IsFault
-  loading_met none r why = met_as (IsInUseOrFault image.file.caches) IsFault r (λ e cause. fault_alone view backing out p image sound none e cause) why

@@ -1,4 +1,4 @@
--- What finding or making an L2 table, and clearing in one, is refused for on a sound image of which no mapping is prepared.
+-- What finding or making an L2 table, and clearing in one, is refused for on a sound image.
 use Rattle.std.proofs.Common.{◌≡◌, inl, inr, ℕ, ◌+◌, ◌-◌, ◌*◌, ◌/◌, ◌%◌, ◌^◌, ◌<◌, ◌≤◌, List, length, Option, Some, Result, Ok, Err, false, refl, sym, ap, ◌∙◌, subst}
 use Rattle.std.specs.Prelude.{◌⊎◌, IfErr, IfSome, IsErr, IsErrAnd, IsSome, None}
 use Rattle.image_access.specs.Backing.{BackingView}
@@ -19,42 +19,37 @@ use Rattle.qcow2_alloc.specs.declared.image_storage.ImageStorage.{ImageStorage}
 use Rattle.qcow2_alloc.proofs.AllocationSteps.{handed_on}
 use Rattle.qcow2_image.specs.Backings.{HasPrepared}
 use Rattle.qcow2_image.specs.CallParts.{RefusedCall, UnseenCall}
-use Rattle.qcow2_image.specs.Clearing.{IsClearable, RefusesClearing, from_in, refuses_to_clear}
+use Rattle.qcow2_image.specs.Clearing.{IsClearable, IsUnderMapping, RefusesClearing, from_in, refuses_to_clear}
 use Rattle.qcow2_image.specs.declared.discarding.Clearance.{Clearance}
 use Rattle.qcow2_image.specs.declared.image.Qcow2.{Qcow2}
 use Rattle.qcow2_image.specs.declared.prepared.Prepared.{Prepared}
 use Rattle.qcow2_image.specs.Found.{l1_index_of}
 use Rattle.qcow2_image.specs.ImageInvariant.{ImageInvariant, abstract_of, pending_in}
 use Rattle.qcow2_image.specs.L1Entries.{NeedsFarEntry}
-use Rattle.qcow2_image.specs.MetAlone.{IsMetAlone}
+use Rattle.qcow2_image.specs.MetAlone.{IsMetAlone, IsMetLooking, IsMetTaking}
 use Rattle.qcow2_image.specs.NewTables.{IsStored}
-use Rattle.qcow2_image.specs.Refusals.{IsFaultOrLimit}
 use Rattle.qcow2_image.specs.UnseenSteps.{HoldsTable}
 use Rattle.qcow2_image.proofs.Clear.Between.{fits_table}
-use Rattle.qcow2_image.proofs.Prepare.Lacking.{fault_alone}
+use Rattle.qcow2_image.proofs.Prepare.Lacking.{loads_looking}
 use Rattle.qcow2_image.proofs.Prepare.Placing.{holds, keeps_placed, keeps_stored, stands_there}
 
 -- ---- refusals
 module _ {A : Type 0} (compressed far : Type 0) where
-  pub either_alone : (r : Result A ImageError) → IfErr r IsFaultOrLimit → IfErr r (IsMetAlone compressed far)
-  either_alone (Ok x) why = tt
-  either_alone (Err e) why = inl why
-
   pub hands_alone : (r : Result A ImageError) (e : ImageError) → IsErr r × IsErrAnd r (λ x. x ≡ e) → IsMetAlone compressed far e → IfErr r (IsMetAlone compressed far)
   hands_alone r e on why = handed_on (λ (x : Result _ _). IfErr x (IsMetAlone compressed far)) r e on why
 
 module _ {S F : Type 0} (view : S → StorageView) (backing : F → BackingView) (out : List (Option Prepared)) where
-  -- the cache of L2 tables has a place, so a refusal is a fault
-  pub faults_alone : {A : Type 0} (p : Pending) (image : Qcow2 S F) → ImageInvariant view backing p image out → (HasPrepared out → ⊥) → (r : Result A ImageError) → IfErr r (IsInUseOrFault image.file.caches) → IfErr r IsFault
-  faults_alone p image sound none (Ok x) cause = tt
-  faults_alone p image sound none (Err e) cause = fault_alone view backing out p image sound none e cause
+  -- a table is loaded but for a fault, or where a mapping is prepared
+  pub faults_looking : {A : Type 0} (p : Pending) (image : Qcow2 S F) → ImageInvariant view backing p image out → (r : Result A ImageError) → IfErr r (IsInUseOrFault image.file.caches) → IfErr r (IsMetLooking (HasPrepared out))
+  faults_looking p image sound (Ok x) cause = tt
+  faults_looking p image sound (Err e) cause = loads_looking view backing out p image sound e cause
 
   -- clusters that are listed are freed behind the refusal, or a fault refuses that
-  pub alone_freed : (compressed far : Type 0) (old mid new : Qcow2 S F) (e e' : ImageError) → RefusedCall view backing old mid out e → (IsFault e → (e' ≡ e) × (new ≡ mid))
-      → (ImageInvariant view backing (pending_in view backing mid out) mid out → (e' ≡ e) ⊎ IsFault e') → IsMetAlone compressed far e → IsMetAlone compressed far e'
-  alone_freed compressed far old mid new e e' left fault told why = elim left [
-    | inl stays ↦ elim (told stays.sound) [ inl same ↦ subst (IsMetAlone compressed far) (sym same) why | inr now ↦ inl (inl now) ]
-    | inr broken ↦ inl (inl (subst IsFault (sym (fault broken.fault).0) broken.fault))
+  pub met_freed : (C : ImageError → Type 0) → ((e : ImageError) → IsFault e → C e) → (old mid new : Qcow2 S F) (e e' : ImageError) → RefusedCall view backing old mid out e → (IsFault e → (e' ≡ e) × (new ≡ mid))
+      → (ImageInvariant view backing (pending_in view backing mid out) mid out → (e' ≡ e) ⊎ IsFault e') → C e → C e'
+  met_freed C faults old mid new e e' left fault told why = elim left [
+    | inl stays ↦ elim (told stays.sound) [ inl same ↦ subst C (sym same) why | inr now ↦ faults e' now ]
+    | inr broken ↦ faults e' (subst IsFault (sym (fault broken.fault).0) broken.fault)
   ]
 
 -- ---- a new table, and the entries of a held one
@@ -85,20 +80,13 @@ module _ {S F : Type 0} (view : S → StorageView) (backing : F → BackingView)
       (subst (λ k. k % entries_per_cluster h + n ≤ entries_per_cluster h) (sym at) (subst (λ k. from / cluster_size h % entries_per_cluster h + k ≤ entries_per_cluster h) (sym many) (fits_table view backing out old mid how from to found whole some))) held.new_data
 
 -- a call that has begun needs an entry past 64 bits only where that was so before
-pub far_before : {S F : Type 0} (old begun : Qcow2 S F) (compressed : Type 0) (offset : ℕ) (e : ImageError) → begun ≡ record old { file = record old.file { storage = begun.file.storage; caches = begun.file.caches } }
-    → IsMetAlone compressed (NeedsFarEntry begun offset) e → IsMetAlone compressed (NeedsFarEntry old offset) e
-far_before {S} {F} old begun compressed offset e rest why =
-    let same = record old { file = record old.file { storage = begun.file.storage; caches = begun.file.caches } } in
-    elim (subst (λ (i : Qcow2 S F). IsMetAlone compressed (NeedsFarEntry i offset) e) rest why) [
-      | inl either ↦ inl either
-      | inr cause ↦ elim cause [
-        | inl special ↦ inr (inl special)
-        | inr past ↦ inr (inr (past.0, (record { within = past.1.0.within; far = past.1.0.far }, past.1.1)))
-      ]
-    ]
+pub far_before : {S F : Type 0} (old begun : Qcow2 S F) (offset : ℕ) → begun ≡ record old { file = record old.file { storage = begun.file.storage; caches = begun.file.caches } } → NeedsFarEntry begun offset → NeedsFarEntry old offset
+far_before {S} {F} old begun offset rest needs =
+    let is = subst (λ (i : Qcow2 S F). NeedsFarEntry i offset) rest needs in
+    (record { within = is.0.within; far = is.0.far }, is.1)
 
 -- so a refused clearing is met
-pub alone_cleared : {S F A : Type 0} (view : S → StorageView) (backing : F → BackingView) (how : Clearance) (old new : Qcow2 S F) (offset n : ℕ) (r : Result A ImageError) → IfErr r (RefusesClearing view backing how old new offset n) → refuses_to_clear old offset n how ≡ None
-    → (out : List (Option Prepared)) → (abstract_of view backing old out).is_sound → (HasPrepared out → ⊥) → IfErr r (IsMetAlone ⊥ (NeedsFarEntry old (from_in old offset n)))
-alone_cleared view backing how old new offset n (Ok x) refused none out sound unprepared = tt
-alone_cleared view backing how old new offset n (Err e) refused none out sound unprepared = refused.met none out sound unprepared
+pub met_cleared : {S F A : Type 0} (view : S → StorageView) (backing : F → BackingView) (how : Clearance) (old new : Qcow2 S F) (offset n : ℕ) (r : Result A ImageError) → IfErr r (RefusesClearing view backing how old new offset n) → refuses_to_clear old offset n how ≡ None
+    → (out : List (Option Prepared)) → (abstract_of view backing old out).is_sound → IfErr r (IsMetTaking (HasPrepared out) (IsUnderMapping old.file.header.fields (from_in old offset n) out) ⊥ (NeedsFarEntry old (from_in old offset n)))
+met_cleared view backing how old new offset n (Ok x) refused none out sound = tt
+met_cleared view backing how old new offset n (Err e) refused none out sound = refused.met none out sound

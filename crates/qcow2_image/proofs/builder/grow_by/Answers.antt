@@ -2,7 +2,7 @@ use Rattle.std.proofs.Common.{[], inl, ◌-◌, sym, subst}
 use Rattle.qcow2_image.specs.Created.{CantGrowBy, GrowsBy}
 use Rattle.qcow2_image.specs.Growing.{LosesNone}
 use Rattle.qcow2_image.specs.LackedTables.{LacksTableReaching}
-use Rattle.qcow2_image.proofs.Create.Faults.{grown_fault, none_prepared}
+use Rattle.qcow2_image.proofs.Create.Faults.{grown_fault}
 use Rattle.qcow2_image.proofs.Sizing.ShrinkCalls.{resize_works}
 use Rattle.qcow2_image.proofs.Create.Leaks.{surplus_taken, taking_limited}
 use Rattle.qcow2_image.proofs.Create.TakingPlace.{takes_by}
@@ -28,7 +28,7 @@ returns-in-None-clause-fault g c = λ usable writable alone sound unmapped. c.gr
 pub returns-in_default-clause-fault : goal.returns-in_default-clause-fault
 returns-in_default-clause-fault g c = λ usable writable alone sound unmapped.
     let does = c.resize_grow.ensures in
-    grown_fault g.S.Storage.view c.args.image.now unmapped c.resize_grow.new.self c.args.size _ c.args.mode c.resize_grow.result alone (does.no_larger usable) (λ lt. does.met usable lt [] sound none_prepared)
+    grown_fault g.S.Storage.view c.args.image.now unmapped c.resize_grow.new.self c.args.size _ c.args.mode c.resize_grow.result alone (does.no_larger usable) (λ lt. does.met usable lt [] sound)
 
 pub returns-in_default-clause-surplus : goal.returns-in_default-clause-surplus
 returns-in_default-clause-surplus g c = λ usable sound.

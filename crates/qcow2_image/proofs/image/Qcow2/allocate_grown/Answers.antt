@@ -10,8 +10,9 @@ use Rattle.qcow2_image.proofs.Call.BehindHeader.{behind_none}
 use Rattle.std.specs.Prelude.{IfErr}
 use Rattle.qcow2_alloc.specs.ImageFile.{known_in}
 use Rattle.qcow2_image.specs.ImageInvariant.{pending_in}
-use Rattle.qcow2_image.specs.MetAlone.{HasCompressedIn, HasNearEntries, IsMetAlone}
+use Rattle.qcow2_image.specs.MetAlone.{HasCompressedIn, HasNearEntries, IsMetTaking}
 use Rattle.qcow2_image.proofs.Preallocate.Met.{never_past}
+use Rattle.qcow2_image.specs.Backings.{HasPrepared}
 use Rattle.qcow2_image.proofs.image.Qcow2.allocate_grown.Goals as goal
 
 pub returns-in_default-clause-fills : goal.returns-in_default-clause-fills
@@ -43,17 +44,17 @@ pub returns-clause-notes : goal.returns-clause-notes
 returns-clause-notes g c = c.fill_range.ensures.notes
 
 pub returns-in_default-clause-met : goal.returns-in_default-clause-met
-returns-in_default-clause-met g c = λ out sound alone le near.
+returns-in_default-clause-met g c = λ out sound le near.
     let old = c.args.self.now in
     absurd (never_past g.S.Storage.view g.F.BackingDisk.backing out (pending_in g.S.Storage.view g.F.BackingDisk.backing old out) old sound c.args.size c.args.size c.cluster_size.result (omega arith) c.cluster_size.ensures.value near (c.in_default.ensures.none refl))
 
 pub returns-clause-met : goal.returns-clause-met
-returns-clause-met g c = λ out sound alone le near.
+returns-clause-met g c = λ out sound le near.
     let view = g.S.Storage.view in
     let old = c.args.self.now in
     let h = old.file.header.fields in
     let cs = cluster_size h in
     let some = pow_pos h.cluster_bits in
     let end : c.in-Some.end ≡ rounded_up (cluster_size c.args.self.now.file.header.fields) c.args.size = c.in-Some.ensures.some ∙ ap (λ s. rounded_up s c.args.size) c.cluster_size.ensures.value in
-    subst (λ n. IfErr c.fill_range.result (IsMetAlone (HasCompressedIn c.args.old n h (known_in view old.file)) ⊥)) end
-    (c.fill_range.ensures.met out sound alone (subst (λ n. c.args.old ≤ n) (sym end) (up_to_end cs c.args.old c.args.size some le)) (subst (λ n. n % cs ≡ 0) (sym end) (up_whole cs c.args.size some)) (subst (λ n. HasNearEntries n h) (sym end) near))
+    subst (λ n. IfErr c.fill_range.result (IsMetTaking (HasPrepared out) (HasPrepared out) (HasCompressedIn c.args.old n h (known_in view old.file)) ⊥)) end
+    (c.fill_range.ensures.met out sound (subst (λ n. c.args.old ≤ n) (sym end) (up_to_end cs c.args.old c.args.size some le)) (subst (λ n. n % cs ≡ 0) (sym end) (up_whole cs c.args.size some)) (subst (λ n. HasNearEntries n h) (sym end) near))

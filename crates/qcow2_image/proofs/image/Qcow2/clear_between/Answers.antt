@@ -1,4 +1,5 @@
-use Rattle.std.proofs.Common.{subst, sym, refl}
+use Rattle.qcow2_image.proofs.image.Qcow2.clear_between.Goals as goal
+use Rattle.std.proofs.Common.{subst, sym, refl, inl, ◌∙◌, inr, ap}
 use Rattle.std.specs.Prelude.{IsTrue}
 use Rattle.qcow2_alloc.proofs.KeptMarks.{notes_then}
 use Rattle.qcow2_image.proofs.Call.BehindHeader.{behind_then}
@@ -7,9 +8,13 @@ use Rattle.qcow2_image.proofs.Call.FreedBehind.{lacking_freed, refused_freed}
 use Rattle.qcow2_image.proofs.Call.Refused.{back_then_freed}
 use Rattle.qcow2_image.proofs.Prepare.FarEntries.{far_refusal, far_then_freed, far_unanswered}
 use Rattle.qcow2_image.proofs.Prepare.Lacked.{lacks_freed, limited_frees}
-use Rattle.qcow2_image.proofs.Prepare.MetTables.{alone_freed}
+use Rattle.qcow2_image.proofs.Prepare.MetTables.{met_freed}
 use Rattle.qcow2_image.specs.L1Entries.{NeedsFarEntry}
-use Rattle.qcow2_image.proofs.image.Qcow2.clear_between.Goals as goal
+use Rattle.qcow2_image.specs.Backings.{HasPrepared}
+use Rattle.qcow2_image.specs.MetAlone.{IsMetTaking}
+use Rattle.qcow2_image.specs.Clearing.{IsUnderMapping}
+use Rattle.qcow2_image.proofs.Grow.NoLonger.{length_then}
+use Rattle.qcow2_metadata.specs.Header.{HeaderView}
 
 pub returns-in-Ok-clause-clears : goal.returns-in-Ok-clause-clears
 returns-in-Ok-clause-clears g c = λ out sound whole. c.in-Ok.ensures.clears out sound whole
@@ -81,7 +86,25 @@ returns-in-Err-clause-limit g c = λ out sound whole is.
     lacks_freed view c.args.from old mid c.free_after.new.self c.free_after.ensures.keeps_rest.header freed.1 (c.in-Err.ensures.limit out sound whole freed.0)
 
 pub returns-in-Err-clause-met : goal.returns-in-Err-clause-met
-returns-in-Err-clause-met g c = λ out sound whole none.
+returns-in-Err-clause-met g c = λ out sound whole.
     let old = c.args.self.now in
-    alone_freed g.S.Storage.view g.F.BackingDisk.backing out ⊥ (NeedsFarEntry old c.args.from) old c.clear_in_table.new.self c.free_after.new.self c.in-Err.refusal c.free_after.result (c.in-Err.ensures.clears out sound whole) c.free_after.ensures.fault
-    (c.free_after.ensures.told out) (c.in-Err.ensures.met out sound whole none)
+    met_freed g.S.Storage.view g.F.BackingDisk.backing out (IsMetTaking (HasPrepared out) (IsUnderMapping old.file.header.fields c.args.from out) ⊥ (NeedsFarEntry old c.args.from)) (λ e fault. inl (inl (inl fault))) old c.clear_in_table.new.self c.free_after.new.self c.in-Err.refusal c.free_after.result (c.in-Err.ensures.clears out sound whole) c.free_after.ensures.fault
+    (c.free_after.ensures.told out) (c.in-Err.ensures.met out sound whole)
+
+pub returns-in-Ok-clause-no_longer : goal.returns-in-Ok-clause-no_longer
+returns-in-Ok-clause-no_longer g c = c.clear_in_table.ensures.no_longer
+
+pub returns-in-Err-clause-no_longer : goal.returns-in-Err-clause-no_longer
+returns-in-Err-clause-no_longer g c = length_then c.clear_in_table.ensures.no_longer (ap (λ (v : HeaderView). v.fields.l1_entries) c.free_after.ensures.keeps_rest.header)
+
+pub returns-in-Ok-clause-far_refused : goal.returns-in-Ok-clause-far_refused
+returns-in-Ok-clause-far_refused g c = λ needs. absurd (far_unanswered c.clear_in_table.result c.in-Ok.field-0 c.in-Ok.is (c.clear_in_table.ensures.far needs).0)
+
+pub returns-in-Err-clause-far_refused : goal.returns-in-Err-clause-far_refused
+returns-in-Err-clause-far_refused g c = λ needs. elim c.free_after.ensures.handed [
+  | inl still ↦ inl (still ∙ far_refusal c.clear_in_table.result c.in-Err.refusal c.in-Err.is (c.clear_in_table.ensures.far needs).0)
+  | inr met ↦ inr met
+]
+
+pub returns-in-Ok-clause-lowest_tables : goal.returns-in-Ok-clause-lowest_tables
+returns-in-Ok-clause-lowest_tables g c = λ out sound whole. c.in-Ok.ensures.lowest_tables out sound whole

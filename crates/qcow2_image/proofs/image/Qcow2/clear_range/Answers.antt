@@ -1,10 +1,11 @@
+use Rattle.qcow2_image.proofs.image.Qcow2.clear_range.Goals as goal
 use Rattle.qcow2_alloc.specs.ImageStorage.{is_changed_of}
 use Rattle.std.proofs.lemmas.Bool.{or_right}
 use Rattle.qcow2_image.specs.Noted.{FailsOnceWritten}
 use Rattle.qcow2_image.proofs.Call.OnceWritten.{kept_noted, notes_begun, notes_part, notes_since, once_marked, once_none, once_written, part_none}
 use Rattle.std.proofs.Common.{◌≡◌, ◌<◌, ◌+◌, ◌-◌, ℕ, min, sym, ap, ◌∙◌, subst, arith, inl, refl}
-use Rattle.std.specs.Prelude.{None, Some, Ok, Err, IfErr, IfOk, IsTrue, OnOk, Result}
-use Rattle.qcow2_alloc.specs.declared.error.ImageError.TheVariants.{Memory, TablePrepared}
+use Rattle.std.specs.Prelude.{None, Some, Ok, Err, IfErr, IfOk, IsTrue, OnOk, Result, IsErrAnd, ◌⊎◌}
+use Rattle.qcow2_alloc.specs.declared.error.ImageError.TheVariants.{Memory, TablePrepared, Limit, Overflow}
 use Rattle.qcow2_image.specs.Backings.{HasPrepared}
 use Rattle.qcow2_image.specs.NewTables.{IsFaultOrLacksTable}
 use Rattle.qcow2_image.specs.CallParts.{EndsFreeing, UnseenCall}
@@ -12,7 +13,7 @@ use Rattle.qcow2_image.specs.Clearing.{Clears, ClearsOrRefuses, ClearsPart, IsUn
 use Rattle.qcow2_image.specs.declared.image.Qcow2.{Qcow2}
 use Rattle.qcow2_image.specs.Image.{is_failed, has_noted_change}
 use Rattle.qcow2_image.specs.ImageInvariant.{ImageInvariant, pending_in}
-use Rattle.qcow2_image.specs.L1Entries.{IsRefusedAsFar, NeedsFarEntry, ReachesOffset}
+use Rattle.qcow2_image.specs.L1Entries.{IsRefusedAsFar, NeedsFarEntry, ReachesOffset, HasOwnTable, ReachesAtMost}
 use Rattle.qcow2_image.specs.Refusals.{FreesRefused}
 use Rattle.qcow2_image.proofs.Call.Marked.{MayMarkBy, marks_memory, may_mark, may_mark_refused}
 use Rattle.qcow2_image.proofs.Call.Called.{Quietly}
@@ -21,7 +22,7 @@ use Rattle.qcow2_image.proofs.Call.CallOutcomes.{is_fault, outcome}
 use Rattle.qcow2_image.proofs.Sizing.Shrinking.{fault_of}
 use Rattle.qcow2_image.proofs.Clear.ClearCalls.{begins, clear_interruption, clear_covers, clear_done, clear_refused, clear_works, clears_early, clears_nothing, err_is, fault_interruption, if_some, not_refused, refused_for, under_after, under_before, ungiven_interruption, ungiven_early, ungiven_refused, whole_in}
 use Rattle.qcow2_image.proofs.Call.FaultCounts.{same_of, counted_marked, counted_ok, counted_on, faults_then, untouched}
-use Rattle.qcow2_image.proofs.Prepare.FarEntries.{far_call_answered, far_call_on, far_prepared}
+use Rattle.qcow2_image.proofs.Prepare.FarEntries.{far_call_answered, far_call_on, far_prepared, far_begun}
 use Rattle.qcow2_alloc.proofs.KeptMarks.{notes_then}
 use Rattle.qcow2_image.proofs.Call.Notes.{same_kept}
 use Rattle.qcow2_alloc.proofs.AllocationSteps.{handed_on}
@@ -30,15 +31,18 @@ use Rattle.qcow2_image.proofs.Clear.Touched.{none_answered, some_answered}
 use Rattle.qcow2_image.proofs.Call.BehindHeader.{behind_call, behind_none, behind_then}
 use Rattle.qcow2_image.proofs.Prepare.Pinned.{begun_own, heeds_begun, heeds_refused, of_tables_untaken}
 use Rattle.qcow2_image.specs.PinnedTables.{HeedsPins}
-use Rattle.qcow2_image.specs.L1Entries.{HasOwnTable}
 use Rattle.qcow2_alloc.specs.declared.error.ImageError.{ImageError}
 use Rattle.qcow2_image.proofs.Prepare.Lacked.{hands_limit, lacks_ended, other_limit}
-use Rattle.qcow2_image.specs.LackedPlaces.{LacksTableFor}
+use Rattle.qcow2_image.specs.LackedPlaces.{LacksTableFor, FreesJustListed}
 use Rattle.qcow2_image.proofs.Call.Unlimited.{fault_unlimited}
-use Rattle.qcow2_alloc.specs.declared.error.ImageError.TheVariants.{Limit}
-use Rattle.qcow2_image.specs.MetAlone.{IsMetAlone}
+use Rattle.qcow2_image.specs.MetAlone.{IsMetTaking}
 use Rattle.qcow2_image.proofs.Prepare.MetTables.{far_before}
-use Rattle.qcow2_image.proofs.image.Qcow2.clear_range.Goals as goal
+use Rattle.qcow2_image.specs.LowestPlaces.{LeavesLowestTables}
+use Rattle.qcow2_image.proofs.Prepare.LowestTables.{begun_used, tables_alike, tables_freed}
+use Rattle.qcow2_image.proofs.Prepare.MetTaking.{taking_as}
+use Rattle.qcow2_alloc.specs.ImageError.{IsOfTables}
+use Rattle.qcow2_image.proofs.Grow.NoLonger.{length_then, reaches_behind}
+use Rattle.qcow2_metadata.specs.Header.{HeaderView}
 
 pub returns-in_err-from-clause-early : goal.returns-in_err-from-clause-early
 returns-in_err-from-clause-early g c =
@@ -219,7 +223,7 @@ returns-in_err-from-clause-refused g c =
     let old = c.args.self.now in
     let refused = refused_for c.check_clear.result _ (refuses_to_clear old c.args.offset c.args.length c.args.how) c.in_err-from.field-0.0 c.check_clear.ensures.refusal c.in_err-from.was in
     subst (λ (r : Result _ _). IfErr r (RefusesClearing g.S.Storage.view g.F.BackingDisk.backing c.args.how old old c.args.offset c.args.length)) (sym (err_is c.from_residual.result c.from_residual.ensures))
-    (record { ungiven = ungiven_early g.S.Storage.view g.F.BackingDisk.backing old c.in_err-from.field-0.0; lacks = λ none out sound unprepared. absurd (let no : None ≡ Some c.in_err-from.field-0.0 = sym none ∙ refused in cc); met = λ none out sound unprepared. absurd (let no : None ≡ Some c.in_err-from.field-0.0 = sym none ∙ refused in cc) })
+    (record { ungiven = ungiven_early g.S.Storage.view g.F.BackingDisk.backing old c.in_err-from.field-0.0; lacks = λ none out sound unprepared. absurd (let no : None ≡ Some c.in_err-from.field-0.0 = sym none ∙ refused in cc); met = λ none out sound. absurd (let no : None ≡ Some c.in_err-from.field-0.0 = sym none ∙ refused in cc) })
 
 pub returns-in_err-mark_failure-clause-refused : goal.returns-in_err-mark_failure-clause-refused
 returns-in_err-mark_failure-clause-refused g c =
@@ -245,10 +249,12 @@ returns-in_err-mark_failure-clause-refused g c =
     subst (λ (r : Result _ _). IfErr r (RefusesClearing view below c.args.how old c.mark_failure.new.self c.args.offset c.args.length)) (sym (err_is c.from_residual-in_err-mark_failure.result c.from_residual-in_err-mark_failure.ensures))
     (subst (λ (image : Qcow2 _ _). RefusesClearing view below c.args.how old image c.args.offset c.args.length e) (sym c.mark_failure.ensures.rest) (record {
       lacks = λ none out sound unprepared. subst (λ n. IsFaultOrLacksTable view entries n e) from (lacking out sound unprepared);
-      met = λ none out sound unprepared.
+      met = λ none out sound.
           let call = begins view below old c.args.how c.args.offset c.args.length works begun entries quiet out sound in
-          far_before old begun ⊥ (from_in old c.args.offset c.args.length) e c.begin.ensures.rest
-          (subst (λ n. IsMetAlone ⊥ (NeedsFarEntry begun n) e) from (subst (λ (r : Result _ _). IfErr r (IsMetAlone ⊥ (NeedsFarEntry begun c.in_ok-from.from))) done (c.clear_between-cleared.ensures.met out call.sound (whole out call) unprepared)));
+          let h = begun.file.header.fields in
+          taking_as (λ held. held) (under_before old.file.header.fields h (from_in old c.args.offset c.args.length) out call.header) (λ no. no) (far_before old begun (from_in old c.args.offset c.args.length) c.begin.ensures.rest) e
+          (subst (λ n. IsMetTaking (HasPrepared out) (IsUnderMapping h n out) ⊥ (NeedsFarEntry begun n) e) from
+          (subst (λ (r : Result _ _). IfErr r (IsMetTaking (HasPrepared out) (IsUnderMapping h c.in_ok-from.from out) ⊥ (NeedsFarEntry begun c.in_ok-from.from))) done (c.clear_between-cleared.ensures.met out call.sound (whole out call))));
       ungiven =
           ungiven_refused view below old c.args.how c.args.offset c.args.length works begun entries quiet e marked (c.clear_between-cleared.ensures.stays.image.number ∙ c.begin.ensures.stays.image.number)
           (subst (λ (r : Result _ _). MayMarkBy r (is_failed entries) marked) done (may_mark c.clear_between-cleared.new.self c.mark_failure.new.self c.clear_between-cleared.result c.mark_failure.ensures.marks)) (subst (λ (r : Result _ _). IfErr r (λ x. x ≡ Memory → IsTrue (has_noted_change entries) → IsTrue marked)) done (marks_memory c.clear_between-cleared.new.self c.mark_failure.new.self c.clear_between-cleared.new.self c.clear_between-cleared.result c.mark_failure.ensures.marks (ap (λ (i : Qcow2 _ _). i.file) c.mark_failure.ensures.rest)))
@@ -285,7 +291,7 @@ returns-in_err-end_freeing-clause-refused g c =
     subst (λ (r : Result _ _). IfErr r (RefusesClearing view below how old freed offset n)) (sym (err_is c.from_residual-in_err-end_freeing.result c.from_residual-in_err-end_freeing.ensures)) (record {
       ungiven = ungiven_interruption view below old how offset n works begun entries quiet parts freed c.end_freeing.result ends number x c.in_err-end_freeing.was;
       lacks = λ none out sound unprepared. inl (fault_of x (fault_interruption view below old how offset n works begun entries quiet parts freed c.end_freeing.result ends number x c.in_err-end_freeing.was out sound));
-      met = λ none out sound unprepared. inl (inl (fault_of x (fault_interruption view below old how offset n works begun entries quiet parts freed c.end_freeing.result ends number x c.in_err-end_freeing.was out sound)));
+      met = λ none out sound. inl (inl (inl (fault_of x (fault_interruption view below old how offset n works begun entries quiet parts freed c.end_freeing.result ends number x c.in_err-end_freeing.was out sound))));
     })
 
 pub returns-in_err-mark_failure-clause-faults : goal.returns-in_err-mark_failure-clause-faults
@@ -681,3 +687,100 @@ returns-in_err-end_freeing-clause-limit g c = λ none some out sound.
     let x = c.in_err-end_freeing.field-0.0 in
     hands_limit (λ e. LacksTableFor view (from_in old offset n) old freed) c.from_residual-in_err-end_freeing.result x c.from_residual-in_err-end_freeing.ensures
     (other_limit _ x (fault_unlimited x (fault_of x (fault_interruption view below old how offset n works begun entries quiet parts freed c.end_freeing.result ends number x c.in_err-end_freeing.was out sound))))
+
+pub returns-in_err-from-clause-no_longer : goal.returns-in_err-from-clause-no_longer
+returns-in_err-from-clause-no_longer g c = inl refl
+
+pub returns-then-to-from-clause-no_longer : goal.returns-then-to-from-clause-no_longer
+returns-then-to-from-clause-no_longer g c = inl refl
+
+pub returns-in_err-mark_failure-clause-no_longer : goal.returns-in_err-mark_failure-clause-no_longer
+returns-in_err-mark_failure-clause-no_longer g c =
+    let old = c.args.self.now in
+    let range = not_refused c.check_clear.result _ (refuses_to_clear old c.args.offset c.args.length c.args.how) (c.in_ok-from.from, c.in_ok-from.to) c.check_clear.ensures.refusal c.in_ok-from.was in
+    let from : c.in_ok-from.from ≡ from_in c.args.self.now c.args.offset c.args.length = ap (λ (r : ℕ × ℕ). r.0) range.1 in
+    length_then (reaches_behind (from_in old c.args.offset c.args.length) old c.begin.new.self c.clear_between-cleared.new.self (ap (λ (i : Qcow2 _ _). i.file.header) c.begin.ensures.rest) (ap (λ (i : Qcow2 _ _). i.l1_table) c.begin.ensures.rest) (subst (λ n. ReachesAtMost n c.begin.new.self c.clear_between-cleared.new.self) from c.clear_between-cleared.ensures.no_longer)) (ap (λ (v : HeaderView). v.fields.l1_entries) (ap (λ (i : Qcow2 _ _). i.file.header) c.mark_failure.ensures.rest))
+
+pub returns-in_err-end_freeing-clause-no_longer : goal.returns-in_err-end_freeing-clause-no_longer
+returns-in_err-end_freeing-clause-no_longer g c =
+    let old = c.args.self.now in
+    let range = not_refused c.check_clear.result _ (refuses_to_clear old c.args.offset c.args.length c.args.how) (c.in_ok-from.from, c.in_ok-from.to) c.check_clear.ensures.refusal c.in_ok-from.was in
+    let from : c.in_ok-from.from ≡ from_in c.args.self.now c.args.offset c.args.length = ap (λ (r : ℕ × ℕ). r.0) range.1 in
+    length_then (length_then (reaches_behind (from_in old c.args.offset c.args.length) old c.begin.new.self c.clear_between-cleared.new.self (ap (λ (i : Qcow2 _ _). i.file.header) c.begin.ensures.rest) (ap (λ (i : Qcow2 _ _). i.l1_table) c.begin.ensures.rest) (subst (λ n. ReachesAtMost n c.begin.new.self c.clear_between-cleared.new.self) from c.clear_between-cleared.ensures.no_longer)) (ap (λ (v : HeaderView). v.fields.l1_entries) (ap (λ (i : Qcow2 _ _). i.file.header) c.mark_failure.ensures.rest))) (ap (λ (v : HeaderView). v.fields.l1_entries) c.end_freeing.ensures.header)
+
+pub returns-clause-no_longer : goal.returns-clause-no_longer
+returns-clause-no_longer g c =
+    let old = c.args.self.now in
+    let range = not_refused c.check_clear.result _ (refuses_to_clear old c.args.offset c.args.length c.args.how) (c.in_ok-from.from, c.in_ok-from.to) c.check_clear.ensures.refusal c.in_ok-from.was in
+    let from : c.in_ok-from.from ≡ from_in c.args.self.now c.args.offset c.args.length = ap (λ (r : ℕ × ℕ). r.0) range.1 in
+    length_then (length_then (reaches_behind (from_in old c.args.offset c.args.length) old c.begin.new.self c.clear_between-cleared.new.self (ap (λ (i : Qcow2 _ _). i.file.header) c.begin.ensures.rest) (ap (λ (i : Qcow2 _ _). i.l1_table) c.begin.ensures.rest) (subst (λ n. ReachesAtMost n c.begin.new.self c.clear_between-cleared.new.self) from c.clear_between-cleared.ensures.no_longer)) (ap (λ (v : HeaderView). v.fields.l1_entries) (ap (λ (i : Qcow2 _ _). i.file.header) c.mark_failure.ensures.rest))) (ap (λ (v : HeaderView). v.fields.l1_entries) c.end_freeing.ensures.header)
+
+pub returns-in_err-from-clause-far_refused : goal.returns-in_err-from-clause-far_refused
+returns-in_err-from-clause-far_refused g c = λ some none needs.
+    let old = c.args.self.now in
+    let refused = refused_for c.check_clear.result _ (refuses_to_clear old c.args.offset c.args.length c.args.how) c.in_err-from.field-0.0 c.check_clear.ensures.refusal c.in_err-from.was in
+    absurd (let no : None ≡ Some c.in_err-from.field-0.0 = sym none ∙ refused in cc)
+
+pub returns-then-to-from-clause-far_refused : goal.returns-then-to-from-clause-far_refused
+returns-then-to-from-clause-far_refused g c = λ some none needs.
+    let old = c.args.self.now in
+    let range = not_refused c.check_clear.result _ (refuses_to_clear old c.args.offset c.args.length c.args.how) (c.in_ok-from.from, c.in_ok-from.to) c.check_clear.ensures.refusal c.in_ok-from.was in
+    let from : c.in_ok-from.from ≡ from_in c.args.self.now c.args.offset c.args.length = ap (λ (r : ℕ × ℕ). r.0) range.1 in
+    let to : c.in_ok-from.to ≡ to_in c.args.self.now c.args.offset c.args.length = ap (λ (r : ℕ × ℕ). r.1) range.1 in
+    absurd (omega (arith, c.if-to-from.true, from, to, some))
+
+pub returns-in_err-mark_failure-clause-far_refused : goal.returns-in_err-mark_failure-clause-far_refused
+returns-in_err-mark_failure-clause-far_refused g c = λ some none needs.
+    let old = c.args.self.now in
+    let range = not_refused c.check_clear.result _ (refuses_to_clear old c.args.offset c.args.length c.args.how) (c.in_ok-from.from, c.in_ok-from.to) c.check_clear.ensures.refusal c.in_ok-from.was in
+    let from : c.in_ok-from.from ≡ from_in c.args.self.now c.args.offset c.args.length = ap (λ (r : ℕ × ℕ). r.0) range.1 in
+    let refused = (subst (λ n. NeedsFarEntry c.begin.new.self n → IsErrAnd c.clear_between-cleared.result (λ e. (e ≡ Overflow) ⊎ IsOfTables e)) from c.clear_between-cleared.ensures.far_refused) (far_begun old c.begin.new.self (from_in old c.args.offset c.args.length) (from_in old c.args.offset c.args.length) refl c.begin.ensures.begun needs) in
+    handed_on (λ r. IsErrAnd r (λ e. (e ≡ Overflow) ⊎ IsOfTables e)) c.from_residual-in_err-mark_failure.result c.in_err-mark_failure.field-0.0 c.from_residual-in_err-mark_failure.ensures
+    (subst (λ (r : Result _ _). IsErrAnd r (λ e. (e ≡ Overflow) ⊎ IsOfTables e)) (sym c.mark_failure.ensures.answer ∙ c.in_err-mark_failure.was) refused)
+
+pub returns-in_err-end_freeing-clause-far_refused : goal.returns-in_err-end_freeing-clause-far_refused
+returns-in_err-end_freeing-clause-far_refused g c = λ some none needs.
+    let old = c.args.self.now in
+    let range = not_refused c.check_clear.result _ (refuses_to_clear old c.args.offset c.args.length c.args.how) (c.in_ok-from.from, c.in_ok-from.to) c.check_clear.ensures.refusal c.in_ok-from.was in
+    let from : c.in_ok-from.from ≡ from_in c.args.self.now c.args.offset c.args.length = ap (λ (r : ℕ × ℕ). r.0) range.1 in
+    let refused = (subst (λ n. NeedsFarEntry c.begin.new.self n → IsErrAnd c.clear_between-cleared.result (λ e. (e ≡ Overflow) ⊎ IsOfTables e)) from c.clear_between-cleared.ensures.far_refused) (far_begun old c.begin.new.self (from_in old c.args.offset c.args.length) (from_in old c.args.offset c.args.length) refl c.begin.ensures.begun needs) in
+    absurd (subst (λ (r : Result _ _). IsErrAnd r (λ e. (e ≡ Overflow) ⊎ IsOfTables e)) (sym c.mark_failure.ensures.answer ∙ c.in_ok-mark_failure.was) refused)
+
+pub returns-clause-far_refused : goal.returns-clause-far_refused
+returns-clause-far_refused g c = λ some none needs.
+    let old = c.args.self.now in
+    let range = not_refused c.check_clear.result _ (refuses_to_clear old c.args.offset c.args.length c.args.how) (c.in_ok-from.from, c.in_ok-from.to) c.check_clear.ensures.refusal c.in_ok-from.was in
+    let from : c.in_ok-from.from ≡ from_in c.args.self.now c.args.offset c.args.length = ap (λ (r : ℕ × ℕ). r.0) range.1 in
+    let refused = (subst (λ n. NeedsFarEntry c.begin.new.self n → IsErrAnd c.clear_between-cleared.result (λ e. (e ≡ Overflow) ⊎ IsOfTables e)) from c.clear_between-cleared.ensures.far_refused) (far_begun old c.begin.new.self (from_in old c.args.offset c.args.length) (from_in old c.args.offset c.args.length) refl c.begin.ensures.begun needs) in
+    absurd (subst (λ (r : Result _ _). IsErrAnd r (λ e. (e ≡ Overflow) ⊎ IsOfTables e)) (sym c.mark_failure.ensures.answer ∙ c.in_ok-mark_failure.was) refused)
+
+pub returns-clause-lowest_tables : goal.returns-clause-lowest_tables
+returns-clause-lowest_tables g c = λ lt out sound.
+    let view = g.S.Storage.view in
+    let below = g.F.BackingDisk.backing in
+    let old = c.args.self.now in
+    let begun = c.begin.new.self in
+    let entries = c.clear_between-cleared.new.self in
+    let freed = c.end_freeing.new.self in
+    let how = c.args.how in
+    let offset = c.args.offset in
+    let n = c.args.length in
+    let first = from_in old offset n in
+    let range = not_refused c.check_clear.result _ (refuses_to_clear old c.args.offset c.args.length c.args.how) (c.in_ok-from.from, c.in_ok-from.to) c.check_clear.ensures.refusal c.in_ok-from.was in
+    let from : c.in_ok-from.from ≡ from_in c.args.self.now c.args.offset c.args.length = ap (λ (r : ℕ × ℕ). r.0) range.1 in
+    let to : c.in_ok-from.to ≡ to_in c.args.self.now c.args.offset c.args.length = ap (λ (r : ℕ × ℕ). r.1) range.1 in
+    let works = clear_works old c.args.offset c.args.length c.args.how range.0 in
+    let quiet : (out : _) → _ → Quietly view below out old begun = λ out sound. record { keeps = c.begin.ensures.keeps (pending_in view below old out) out sound; list = c.begin.ensures.list } in
+    let done : c.clear_between-cleared.result ≡ Ok c.in_ok-mark_failure.field-0 = sym c.mark_failure.ensures.answer ∙ c.in_ok-mark_failure.was in
+    let marks = subst (λ (r : Result _ _). MayMarkBy r (is_failed entries) (is_failed c.mark_failure.new.self)) done (may_mark c.clear_between-cleared.new.self c.mark_failure.new.self c.clear_between-cleared.result c.mark_failure.ensures.marks) in
+    let same : c.mark_failure.new.self ≡ c.clear_between-cleared.new.self = c.mark_failure.ensures.rest ∙ ap (λ f. record entries { is_failed = f }) marks in
+    let began = begins view below old c.args.how c.args.offset c.args.length works begun entries quiet out sound in
+    let whole = subst (λ k. IsClearable begun.file.header.fields how k c.in_ok-from.to) (sym from) (subst (λ k. IsClearable begun.file.header.fields how (from_in old offset n) k) (sym to)
+    (whole_in view below old how offset n works begun entries quiet out began c.in_ok-from.ensures.version)) in
+    let cleared = subst (ClearsOrRefuses view below how c.in_ok-from.from c.in_ok-from.to begun entries out) done (c.clear_between-cleared.ensures.clears out began.sound whole) in
+    let leaves = subst (λ k. LeavesLowestTables view k begun entries) from (subst (λ (r : Result _ _). OnOk r (LeavesLowestTables view c.in_ok-from.from begun entries)) done (c.clear_between-cleared.ensures.lowest_tables out began.sound whole)) in
+    let frees = subst (λ (image : Qcow2 _ _). (out : _) → ImageInvariant view below (pending_in view below image out) image out → OnOk c.end_freeing.result (FreesJustListed view image freed)) same c.end_freeing.ensures.uses in
+    let just = subst (λ (r : Result _ _). OnOk r (FreesJustListed view entries freed)) c.in_ok-end_freeing.was (frees out cleared.sound) in
+    let known = c.begin.ensures.known (pending_in view below old out) out sound in
+    tables_alike view first old begun freed c.begin.ensures.rest (begun_used view old begun (ap (λ (i : Qcow2 _ _). i.file.header) c.begin.ensures.rest) known)
+    (tables_freed view first begun entries freed (c.end_freeing.ensures.header ∙ ap (λ (i : Qcow2 _ _). i.file.header) same) (c.end_freeing.ensures.table ∙ ap (λ (i : Qcow2 _ _). i.l1_table) same) just leaves)

@@ -1,4 +1,5 @@
-use Rattle.std.proofs.Common.{◌≡◌, inl, inr, ◌++◌, [], None, Err, refl, sym, ap, ◌∙◌, subst, rules, Option, false, true}
+use Rattle.qcow2_image.proofs.image.Qcow2.commit_data_mapping.Goals as goal
+use Rattle.std.proofs.Common.{◌≡◌, ℕ, inl, inr, ◌++◌, [], None, Err, refl, sym, ap, ◌∙◌, subst, rules, Option, false, true}
 use Rattle.std.specs.Prelude.{IsTrue, IsSome}
 use Rattle.qcow2_disk.specs.Calls.{storage}
 use Rattle.qcow2_alloc.specs.ImageStorage.{storage_of}
@@ -7,7 +8,10 @@ use Rattle.qcow2_image.specs.declared.prepared.CommitRefused.{CommitRefused}
 use Rattle.qcow2_image.specs.declared.prepared.CommitRefused.TheVariants.{Kept}
 use Rattle.qcow2_image.specs.Calls.{Commits, refusal_of}
 use Rattle.qcow2_image.specs.Image.{is_failed}
-use Rattle.qcow2_image.specs.ImageInvariant.{abstract_of, pending_in}
+use Rattle.std.proofs.lemmas.List.{append-nil}
+use Rattle.qcow2_alloc.specs.ImageFile.{contents_in, known_in}
+use Rattle.qcow2_image.specs.UnseenSteps.{freed_by}
+use Rattle.qcow2_image.specs.ImageInvariant.{IsReadyWith, abstract_of, pending_in}
 use Rattle.qcow2_image.proofs.Call.Marked.{may_mark_refused}
 use Rattle.qcow2_image.proofs.Call.CallOutcomes.{is_fault, outcome}
 use Rattle.qcow2_image.proofs.Commit.CommitCalls.{commit_interruption, commit_break_off, commit_done, commit_existing, commit_kept, refuses_unsound, true_or_false}
@@ -18,8 +22,8 @@ use Rattle.qcow2_image.proofs.Call.OnceWritten.{once_none, once_marked}
 use Rattle.qcow2_image.proofs.Call.BehindHeader.{behind_begun, behind_then}
 use Rattle.qcow2_image.proofs.Commit.Copied.{stands_copied}
 use Rattle.qcow2_image.proofs.image.Qcow2.commit_data_mapping.Goals.{then-entered, else-entered}
-use Rattle.qcow2_image.proofs.image.Qcow2.commit_data_mapping.Goals as goal
 use Rattle.qcow2_disk.proofs.Compose.{rests_none}
+use Rattle.qcow2_image.proofs.Call.ToldData.{none_told}
 
 pub returns-then-prepared-self-clause-sees : goal.returns-then-prepared-self-clause-sees
 returns-then-prepared-self-clause-sees g c = λ out k placed.
@@ -138,3 +142,24 @@ returns-in-Ok-clause-copied g c = λ out k placed sound some.
     stands_copied g.S.Storage.view g.F.BackingDisk.backing c.args.self.now c.begin.new.self c.enter_shares-entered.new.self c.end_freeing.new.self c.release_prepared-in-Ok.new.self c.args.prepared c.enter_shares-entered.new.prepared c.enter_shares-entered.result some c.end_freeing.result
     (λ out sound. record { keeps = c.begin.ensures.keeps (pending_in g.S.Storage.view g.F.BackingDisk.backing c.args.self.now out) out sound; list = c.begin.ensures.list }) c.enter_shares-entered.ensures.enters c.enter_shares-entered.ensures.in_place c.end_freeing.ensures.frees c.in-Ok.is
     c.release_prepared-in-Ok.ensures.rest out k placed sound
+
+pub returns-then-is_none-clause-kinds : goal.returns-then-is_none-clause-kinds
+returns-then-is_none-clause-kinds g c = none_told c.release_prepared.ensures.notes
+
+pub returns-in-Ok-clause-kinds : goal.returns-in-Ok-clause-kinds
+returns-in-Ok-clause-kinds g c = none_told c.release_prepared-in-Ok.ensures.notes ∙ none_told c.end_freeing.ensures.notes ∙ none_told c.enter_shares-entered.ensures.notes ∙ c.begin.ensures.begun.kinds
+
+pub returns-after-entered-clause-kinds : goal.returns-after-entered-clause-kinds
+returns-after-entered-clause-kinds g c = none_told c.end_freeing.ensures.notes ∙ none_told c.enter_shares-entered.ensures.notes ∙ c.begin.ensures.begun.kinds
+
+pub returns-then-is_none-clause-freeing : goal.returns-then-is_none-clause-freeing
+returns-then-is_none-clause-freeing g c = λ out k placed sound existing.
+    let old = c.args.self.now in
+    let none : c.args.prepared.table ≡ None = search rules in
+    let nothing : c.args.prepared.shares.items ≡ [] = subst (λ (o : Option ℕ). IsReadyWith old.file.header.fields (known_in g.S.Storage.view old.file) (contents_in g.S.Storage.view old.file) c.args.prepared o) none (sound.ready k c.args.prepared placed).mapped in
+    c.release_prepared.ensures.list ∙ ap (λ shares. old.file.free_list ++ freed_by shares) nothing ∙ append-nil old.file.free_list
+
+pub returns-in-Ok-clause-freeing : goal.returns-in-Ok-clause-freeing
+returns-in-Ok-clause-freeing g c = λ out k placed sound existing.
+    let some : IsSome c.args.prepared.table = search rules in
+    absurd (let e : false ≡ true = sym existing ∙ some in cc)

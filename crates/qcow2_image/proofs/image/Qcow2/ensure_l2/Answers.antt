@@ -1,4 +1,5 @@
-use Rattle.std.proofs.Common.{ap, inl, ◌∙◌}
+use Rattle.qcow2_image.proofs.image.Qcow2.ensure_l2.Goals as goal
+use Rattle.std.proofs.Common.{ap, inl, ◌∙◌, sym}
 use Rattle.qcow2_alloc.proofs.AllocationSteps.{handed_on}
 use Rattle.qcow2_image.specs.declared.image.Qcow2.{Qcow2}
 use Rattle.qcow2_image.specs.UnseenSteps.{Ensures, pending_with_listed}
@@ -8,14 +9,17 @@ use Rattle.std.specs.Prelude.{IfErr}
 use Rattle.qcow2_image.specs.NewTables.{IsFaultOrLacksTable}
 use Rattle.qcow2_alloc.specs.ImageFile.{contents_in}
 use Rattle.qcow2_image.specs.Found.{l1_index_of}
-use Rattle.qcow2_image.proofs.Prepare.Lacking.{fault_alone, named_place}
+use Rattle.qcow2_image.proofs.Prepare.Lacking.{fault_alone, named_place, loads_looking}
 use Rattle.qcow2_alloc.proofs.KeptMarks.{notes_then, notes_of_both}
 use Rattle.qcow2_image.proofs.Call.BehindHeader.{behind_caches, behind_then}
 use Rattle.qcow2_alloc.specs.CachePins.{l2_pins}
 use Rattle.qcow2_image.specs.PinnedTables.{FindsOwn}
-use Rattle.qcow2_image.proofs.Prepare.Lacked.{hands_unlimited, hands_either}
+use Rattle.qcow2_image.proofs.Prepare.Lacked.{hands_unlimited}
 use Rattle.qcow2_image.proofs.Call.Unlimited.{in_use_unlimited}
-use Rattle.qcow2_image.proofs.image.Qcow2.ensure_l2.Goals as goal
+use Rattle.qcow2_image.specs.Backings.{HasPrepared}
+use Rattle.qcow2_image.specs.MetAlone.{IsMetTaking}
+use Rattle.qcow2_image.proofs.Prepare.Met.{hands_met}
+use Rattle.qcow2_image.proofs.Prepare.MetTaking.{looking_taking}
 
 pub returns-in_err-cluster-clause-ready : goal.returns-in_err-cluster-clause-ready
 returns-in_err-cluster-clause-ready g c = λ p out sound.
@@ -126,11 +130,11 @@ returns-in_err-l2_get_or_insert-clause-limited g c = λ p out sound own.
     (in_use_unlimited mid.file.caches e
     (c.in_err-l2_get_or_insert.ensures.refusals mid.file.header.fields (named_place mid.file.header.fields (contents_in view mid.file) (l1_index_of old.file.header.fields c.args.offset) c.in_ok-cluster.cluster owned.1.place) q file.honest file.caches file.named_blocks))
 
-pub returns-in_err-cluster-clause-fault : goal.returns-in_err-cluster-clause-fault
-returns-in_err-cluster-clause-fault g c = λ p out sound none cause. hands_either c.from_residual.result c.in_err-cluster.field-0.0 c.from_residual.ensures (c.in_err-cluster.ensures.fault p out sound none cause)
+pub returns-in_err-cluster-clause-met : goal.returns-in_err-cluster-clause-met
+returns-in_err-cluster-clause-met g c = λ p out sound cause. hands_met (IsMetTaking (HasPrepared out) ⊥ ⊥ ⊥) c.from_residual.result c.in_err-cluster.field-0.0 c.from_residual.ensures (c.in_err-cluster.ensures.met p out sound cause)
 
-pub returns-in_err-l2_get_or_insert-clause-fault : goal.returns-in_err-l2_get_or_insert-clause-fault
-returns-in_err-l2_get_or_insert-clause-fault g c = λ p out sound none cause.
+pub returns-in_err-l2_get_or_insert-clause-met : goal.returns-in_err-l2_get_or_insert-clause-met
+returns-in_err-l2_get_or_insert-clause-met g c = λ p out sound cause.
     let view = g.S.Storage.view in
     let below = g.F.BackingDisk.backing in
     let old = c.args.self.now in
@@ -139,6 +143,15 @@ returns-in_err-l2_get_or_insert-clause-fault g c = λ p out sound none cause.
     let owned = c.in_ok-cluster.ensures.owns p out sound in
     let file = owned.0.sound.file in
     let e = c.in_err-l2_get_or_insert.field-0.0 in
-    hands_either c.from_residual-in_err-l2_get_or_insert.result e c.from_residual-in_err-l2_get_or_insert.ensures
-    (inl (fault_alone view below out q mid owned.0.sound none e
+    hands_met (IsMetTaking (HasPrepared out) ⊥ ⊥ ⊥) c.from_residual-in_err-l2_get_or_insert.result e c.from_residual-in_err-l2_get_or_insert.ensures
+    (looking_taking ⊥ ⊥ ⊥ e (loads_looking view below out q mid owned.0.sound e
     (c.in_err-l2_get_or_insert.ensures.refusals mid.file.header.fields (named_place mid.file.header.fields (contents_in view mid.file) (l1_index_of old.file.header.fields c.args.offset) c.in_ok-cluster.cluster owned.1.place) q file.honest file.caches file.named_blocks)))
+
+pub returns-in_err-cluster-clause-rest : goal.returns-in_err-cluster-clause-rest
+returns-in_err-cluster-clause-rest g c = λ own. c.own_l2.ensures.quiet own ∙ ap (λ (i : Qcow2 _ _). record c.args.self.now { file = record c.args.self.now.file { storage = i.file.storage; caches = i.file.caches } }) (sym (c.own_l2.ensures.quiet own))
+
+pub returns-in_err-l2_get_or_insert-clause-rest : goal.returns-in_err-l2_get_or_insert-clause-rest
+returns-in_err-l2_get_or_insert-clause-rest g c = λ own. ap (λ (i : Qcow2 _ _). record i { file = record i.file { storage = c.l2_get_or_insert.new.storage; caches = c.l2_get_or_insert.new.self } }) (c.own_l2.ensures.quiet own)
+
+pub returns-clause-rest : goal.returns-clause-rest
+returns-clause-rest g c = λ own. ap (λ (i : Qcow2 _ _). record i { file = record i.file { storage = c.l2_get_or_insert.new.storage; caches = c.l2_get_or_insert.new.self } }) (c.own_l2.ensures.quiet own)

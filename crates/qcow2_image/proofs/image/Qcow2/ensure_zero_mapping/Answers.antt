@@ -1,5 +1,5 @@
-use Rattle.qcow2_image.specs.declared.discarding.Clearance.TheVariants.{KeptZeros}
 use Rattle.qcow2_image.proofs.image.Qcow2.ensure_zero_mapping.Goals as goal
+use Rattle.qcow2_image.specs.declared.discarding.Clearance.TheVariants.{KeptZeros}
 
 pub returns-clause-far : goal.returns-clause-far
 returns-clause-far g c = c.clear_range.ensures.far
@@ -57,3 +57,15 @@ returns-clause-limit g c = c.clear_range.ensures.limit
 
 pub returns-clause-refused : goal.returns-clause-refused
 returns-clause-refused g c = c.clear_range.ensures.refused
+
+pub returns-clause-kinds : goal.returns-clause-kinds
+returns-clause-kinds g c = c.clear_range.ensures.since.kinds
+
+pub returns-clause-no_longer : goal.returns-clause-no_longer
+returns-clause-no_longer g c = c.clear_range.ensures.no_longer
+
+pub returns-clause-far_refused : goal.returns-clause-far_refused
+returns-clause-far_refused g c = c.clear_range.ensures.far_refused
+
+pub returns-clause-lowest_tables : goal.returns-clause-lowest_tables
+returns-clause-lowest_tables g c = c.clear_range.ensures.lowest_tables

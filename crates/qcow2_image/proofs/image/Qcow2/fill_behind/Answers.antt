@@ -9,9 +9,9 @@ use Rattle.qcow2_alloc.proofs.KeptMarks.{notes_none}
 use Rattle.std.specs.Prelude.{IfErr, Result}
 use Rattle.std.proofs.lemmas.Bool.{cases_lt}
 use Rattle.qcow2_alloc.specs.ImageFile.{known_in}
-use Rattle.qcow2_image.specs.MetAlone.{IsMetFilling}
 use Rattle.qcow2_image.proofs.Preallocate.Met.{hands_met}
 use Rattle.qcow2_image.proofs.Prepare.Taken.{if_err}
+use Rattle.qcow2_image.specs.MetAlone.{IsMetGrowing}
 use Rattle.qcow2_image.proofs.image.Qcow2.fill_behind.Goals as goal
 use Rattle.image_access.specs.declared.storage.PreallocateMode.{PreallocateMode}
 
@@ -77,38 +77,38 @@ pub returns-in_err-writes-in-WriteData-clause-notes : goal.returns-in_err-writes
 returns-in_err-writes-in-WriteData-clause-notes g c = notes_none
 
 pub returns-in-Zero-clause-met : goal.returns-in-Zero-clause-met
-returns-in-Zero-clause-met g c = λ out sound alone near.
+returns-in-Zero-clause-met g c = λ out sound near.
     let old = c.args.self.now in
     let h = old.file.header.fields in
     let larger = c.requires.larger in
     elim (cases_lt h.version 3) [
-      | inl low ↦ subst (λ (r : Result _ _). IfErr r (IsMetFilling c.args.mode c.args.old (rounded_up (cluster_size h) c.args.size) h (known_in g.S.Storage.view old.file))) (sym (c.zero_grown.ensures.version low).0) (inr (refl, (c.in-Zero.is, low)))
-      | inr high ↦ subst (λ (m : PreallocateMode). IfErr c.zero_grown.result (IsMetFilling m c.args.old (rounded_up (cluster_size h) c.args.size) h (known_in g.S.Storage.view old.file))) (sym c.in-Zero.is) (if_err c.zero_grown.result (λ e why. inl why) (c.zero_grown.ensures.met out sound alone (omega (arith, larger)) high near))
+      | inl low ↦ subst (λ (r : Result _ _). IfErr r (IsMetGrowing out c.args.mode c.args.old (rounded_up (cluster_size h) c.args.size) h (known_in g.S.Storage.view old.file))) (sym (c.zero_grown.ensures.version low).0) (inr (refl, (c.in-Zero.is, low)))
+      | inr high ↦ subst (λ (m : PreallocateMode). IfErr c.zero_grown.result (IsMetGrowing out m c.args.old (rounded_up (cluster_size h) c.args.size) h (known_in g.S.Storage.view old.file))) (sym c.in-Zero.is) (if_err c.zero_grown.result (λ e why. inl why) (c.zero_grown.ensures.met out sound (omega (arith, larger)) high near))
     ]
 
 pub returns-in-FormatAllocate-clause-met : goal.returns-in-FormatAllocate-clause-met
-returns-in-FormatAllocate-clause-met g c = λ out sound alone near.
+returns-in-FormatAllocate-clause-met g c = λ out sound near.
     let old = c.args.self.now in
     let h = old.file.header.fields in
     let larger = c.requires.larger in
-    subst (λ (m : PreallocateMode). IfErr c.allocate_grown.result (IsMetFilling m c.args.old (rounded_up (cluster_size h) c.args.size) h (known_in g.S.Storage.view old.file))) (sym c.in-FormatAllocate.is) (if_err c.allocate_grown.result (λ e why. inl why) (c.allocate_grown.ensures.met out sound alone (omega (arith, larger)) near))
+    subst (λ (m : PreallocateMode). IfErr c.allocate_grown.result (IsMetGrowing out m c.args.old (rounded_up (cluster_size h) c.args.size) h (known_in g.S.Storage.view old.file))) (sym c.in-FormatAllocate.is) (if_err c.allocate_grown.result (λ e why. inl why) (c.allocate_grown.ensures.met out sound (omega (arith, larger)) near))
 
 pub returns-in-FullAllocate-clause-met : goal.returns-in-FullAllocate-clause-met
-returns-in-FullAllocate-clause-met g c = λ out sound alone near.
+returns-in-FullAllocate-clause-met g c = λ out sound near.
     let old = c.args.self.now in
     let h = old.file.header.fields in
     let larger = c.requires.larger in
-    subst (λ (m : PreallocateMode). IfErr c.allocate_grown-in-FullAllocate.result (IsMetFilling m c.args.old (rounded_up (cluster_size h) c.args.size) h (known_in g.S.Storage.view old.file))) (sym c.in-FullAllocate.is) (if_err c.allocate_grown-in-FullAllocate.result (λ e why. inl why) (c.allocate_grown-in-FullAllocate.ensures.met out sound alone (omega (arith, larger)) near))
+    subst (λ (m : PreallocateMode). IfErr c.allocate_grown-in-FullAllocate.result (IsMetGrowing out m c.args.old (rounded_up (cluster_size h) c.args.size) h (known_in g.S.Storage.view old.file))) (sym c.in-FullAllocate.is) (if_err c.allocate_grown-in-FullAllocate.result (λ e why. inl why) (c.allocate_grown-in-FullAllocate.ensures.met out sound (omega (arith, larger)) near))
 
 pub returns-in_ok-writes-in-WriteData-clause-met : goal.returns-in_ok-writes-in-WriteData-clause-met
-returns-in_ok-writes-in-WriteData-clause-met g c = λ out sound alone near.
+returns-in_ok-writes-in-WriteData-clause-met g c = λ out sound near.
     let old = c.args.self.now in
     let h = old.file.header.fields in
     let larger = c.requires.larger in
-    subst (λ (m : PreallocateMode). IfErr c.allocate_grown-in-WriteData.result (IsMetFilling m c.args.old (rounded_up (cluster_size h) c.args.size) h (known_in g.S.Storage.view old.file))) (sym c.in-WriteData.is) (if_err c.allocate_grown-in-WriteData.result (λ e why. inl why) (c.allocate_grown-in-WriteData.ensures.met out sound alone (omega (arith, larger)) near))
+    subst (λ (m : PreallocateMode). IfErr c.allocate_grown-in-WriteData.result (IsMetGrowing out m c.args.old (rounded_up (cluster_size h) c.args.size) h (known_in g.S.Storage.view old.file))) (sym c.in-WriteData.is) (if_err c.allocate_grown-in-WriteData.result (λ e why. inl why) (c.allocate_grown-in-WriteData.ensures.met out sound (omega (arith, larger)) near))
 
 pub returns-in_err-writes-in-WriteData-clause-met : goal.returns-in_err-writes-in-WriteData-clause-met
-returns-in_err-writes-in-WriteData-clause-met g c = λ out sound alone near.
+returns-in_err-writes-in-WriteData-clause-met g c = λ out sound near.
     let h = c.args.self.now.file.header.fields in
-    hands_met (IsMetFilling c.args.mode c.args.old (rounded_up (cluster_size h) c.args.size) h (known_in g.S.Storage.view c.args.self.now.file)) c.from_residual.result c.in_err-writes-in-WriteData.field-0.0 c.from_residual.ensures
-    (inl (inl (inl c.in_err-writes-in-WriteData.ensures.fault)))
+    hands_met (IsMetGrowing out c.args.mode c.args.old (rounded_up (cluster_size h) c.args.size) h (known_in g.S.Storage.view c.args.self.now.file)) c.from_residual.result c.in_err-writes-in-WriteData.field-0.0 c.from_residual.ensures
+    (inl (inl (inl (inl c.in_err-writes-in-WriteData.ensures.fault))))

@@ -1,4 +1,5 @@
-use Rattle.qcow2_alloc.proofs.KeptMarks.{notes_then}
+use Rattle.qcow2_image.proofs.image.Qcow2.fill_first.Goals as goal
+use Rattle.qcow2_alloc.proofs.KeptMarks.{notes_then, notes_for}
 use Rattle.std.specs.Prelude.{Err, IsTrue}
 use Rattle.std.proofs.Common.{◌≡◌, ◌∙◌, ◌+◌, ◌^◌, ◌≤◌, ◌<◌, ◌∷◌, [], None, true, inl, min, refl, sym, ap, subst, arith, rules}
 use Rattle.qcow2_laws.specs.CrashInvariant.{Pending}
@@ -19,10 +20,10 @@ use Rattle.qcow2_image.proofs.Call.BehindHeader.{behind_then}
 use Rattle.qcow2_alloc.specs.ImageError.{IsFault}
 use Rattle.qcow2_alloc.specs.ImageFile.{known_in}
 use Rattle.qcow2_alloc.specs.declared.error.ImageError.{ImageError}
-use Rattle.qcow2_image.specs.MetAlone.{HasCompressedIn, IsMetAlone}
+use Rattle.qcow2_image.specs.MetAlone.{HasCompressedIn, IsMetTaking}
 use Rattle.qcow2_image.specs.declared.image.Qcow2.{Qcow2}
 use Rattle.qcow2_image.proofs.Preallocate.Met.{hands_met, met_piece, place_same}
-use Rattle.qcow2_image.proofs.image.Qcow2.fill_first.Goals as goal
+use Rattle.qcow2_image.specs.Backings.{HasPrepared}
 
 pub returns-in_err-prepared-clause-fills : goal.returns-in_err-prepared-clause-fills
 returns-in_err-prepared-clause-fills g c = λ out sound whole.
@@ -160,16 +161,16 @@ pub returns-in_err-prepared-clause-notes : goal.returns-in_err-prepared-clause-n
 returns-in_err-prepared-clause-notes g c = c.prepare.ensures.notes
 
 pub returns-in-Err-clause-notes : goal.returns-in-Err-clause-notes
-returns-in-Err-clause-notes g c = notes_then (notes_then (notes_then c.prepare.ensures.notes c.put_zeros.ensures.notes) c.release_prepared.ensures.notes) c.free_after.ensures.notes
+returns-in-Err-clause-notes g c = notes_then (notes_then (notes_then c.prepare.ensures.notes c.put_zeros.ensures.notes) (notes_for c.release_prepared.ensures.notes)) (notes_for c.free_after.ensures.notes)
 
 pub returns-in_err-free_listed-clause-notes : goal.returns-in_err-free_listed-clause-notes
-returns-in_err-free_listed-clause-notes g c = notes_then (notes_then (notes_then c.prepare.ensures.notes c.put_zeros.ensures.notes) c.commit_filled.ensures.notes) c.free_listed.ensures.notes
+returns-in_err-free_listed-clause-notes g c = notes_then (notes_then (notes_then c.prepare.ensures.notes c.put_zeros.ensures.notes) (notes_for c.commit_filled.ensures.notes)) (notes_for c.free_listed.ensures.notes)
 
 pub returns-clause-notes : goal.returns-clause-notes
-returns-clause-notes g c = notes_then (notes_then (notes_then c.prepare.ensures.notes c.put_zeros.ensures.notes) c.commit_filled.ensures.notes) c.free_listed.ensures.notes
+returns-clause-notes g c = notes_then (notes_then (notes_then c.prepare.ensures.notes c.put_zeros.ensures.notes) (notes_for c.commit_filled.ensures.notes)) (notes_for c.free_listed.ensures.notes)
 
 pub returns-in_err-prepared-clause-met : goal.returns-in_err-prepared-clause-met
-returns-in_err-prepared-clause-met g c = λ out sound alone whole near.
+returns-in_err-prepared-clause-met g c = λ out sound whole near.
     let view = g.S.Storage.view in
     let below = g.F.BackingDisk.backing in
     let old = c.args.self.now in
@@ -179,11 +180,11 @@ returns-in_err-prepared-clause-met g c = λ out sound alone whole near.
     let few = c.requires.few in
     let lt = c.requires.some in
     let some : 0 < c.min.result = omega (arith, most, asked, few, lt) in
-    hands_met (IsMetAlone (HasCompressedIn c.args.from c.args.to old.file.header.fields (known_in view old.file)) ⊥) c.from_residual.result e c.from_residual.ensures
-    (met_piece view below out (pending_in view below old out) old sound c.args.from c.args.to lt near c.min.result (omega (arith, asked, lt)) true e (c.in_err-prepared.ensures.met some out sound alone))
+    hands_met (IsMetTaking (HasPrepared out) (HasPrepared out) (HasCompressedIn c.args.from c.args.to old.file.header.fields (known_in view old.file)) ⊥) c.from_residual.result e c.from_residual.ensures
+    (met_piece view below out (pending_in view below old out) old sound c.args.from c.args.to lt near c.min.result (omega (arith, asked, lt)) true e (c.in_err-prepared.ensures.met some out sound))
 
 pub returns-in-Err-clause-met : goal.returns-in-Err-clause-met
-returns-in-Err-clause-met g c = λ out sound alone whole near.
+returns-in-Err-clause-met g c = λ out sound whole near.
     let view = g.S.Storage.view in
     let below = g.F.BackingDisk.backing in
     let old = c.args.self.now in
@@ -196,10 +197,10 @@ returns-in-Err-clause-met g c = λ out sound alone whole near.
     let ready = c.in_ok-prepared.ensures.readies some (None ∷ out) ((free_places view below).free old [] out sound) 0 refl in
     let answered = c.in_ok-prepared.ensures.answers some out sound in
     let fault = c.in-Err.ensures.fault (all_behind view below out old c.prepare.new.self p c.args.from c.args.to c.most.result c.min.result c.min-count.result sound ready answered lt whole few asked counted (c.in_ok-prepared.ensures.some some)) in
-    inl (inl (subst (λ (x : ImageError). IsFault x) (sym (c.free_after.ensures.fault fault).0) fault))
+    inl (inl (inl (subst (λ (x : ImageError). IsFault x) (sym (c.free_after.ensures.fault fault).0) fault)))
 
 pub returns-in_err-free_listed-clause-met : goal.returns-in_err-free_listed-clause-met
-returns-in_err-free_listed-clause-met g c = λ out sound alone whole near.
+returns-in_err-free_listed-clause-met g c = λ out sound whole near.
     let view = g.S.Storage.view in
     let below = g.F.BackingDisk.backing in
     let old = c.args.self.now in
@@ -218,8 +219,8 @@ returns-in_err-free_listed-clause-met g c = λ out sound alone whole near.
     let answered = c.in_ok-prepared.ensures.answers some out sound in
     let part = all_filled view below out old mid p from to c.most.result n c.min-count.result sound ready answered lt whole few asked counted (c.in_ok-prepared.ensures.some some) c.put_zeros.new.self done c.in_default.ensures.written c.commit_filled.ensures.commits c.commit_filled.ensures.header (c.in_ok-prepared.ensures.listed some out sound).reaches in
     let listed = subst (λ (x : Pending). ImageInvariant view below x done out) (all_listed view below done out) part.sound in
-    hands_met (IsMetAlone (HasCompressedIn from to old.file.header.fields (known_in view old.file)) ⊥) c.from_residual-in_err-free_listed.result c.in_err-free_listed.field-0.0 c.from_residual-in_err-free_listed.ensures
-    (inl (inl (c.in_err-free_listed.ensures.faults (beside view below done out) out listed)))
+    hands_met (IsMetTaking (HasPrepared out) (HasPrepared out) (HasCompressedIn from to old.file.header.fields (known_in view old.file)) ⊥) c.from_residual-in_err-free_listed.result c.in_err-free_listed.field-0.0 c.from_residual-in_err-free_listed.ensures
+    (inl (inl (inl (c.in_err-free_listed.ensures.faults (beside view below done out) out listed))))
 
 pub returns-clause-l1_place : goal.returns-clause-l1_place
 returns-clause-l1_place g c = λ within.

@@ -1,4 +1,5 @@
-use Rattle.qcow2_alloc.proofs.KeptMarks.{notes_then}
+use Rattle.qcow2_image.proofs.image.Qcow2.fill_grown.Goals as goal
+use Rattle.qcow2_alloc.proofs.KeptMarks.{notes_then, notes_for}
 use Rattle.std.proofs.Common.{◌≡◌, ◌∙◌, ap, subst, sym, refl, Ok, Err}
 use Rattle.std.specs.Prelude.{IsTrue}
 use Rattle.qcow2_alloc.specs.declared.error.ImageError.TheVariants.{Version}
@@ -11,7 +12,6 @@ use Rattle.qcow2_image.proofs.Call.FaultCounts.{counted_as, counted_of, untouche
 use Rattle.qcow2_image.proofs.Preallocate.FreedBehind.{grown_freed, grown_left, grown_told, limit_before, same_refusal}
 use Rattle.qcow2_alloc.specs.ImageFile.{known_in}
 use Rattle.qcow2_image.proofs.Preallocate.Met.{met_filling_freed}
-use Rattle.qcow2_image.proofs.image.Qcow2.fill_grown.Goals as goal
 
 pub returns-in-Err-clause-emptied : goal.returns-in-Err-clause-emptied
 returns-in-Err-clause-emptied g c = λ none. tt
@@ -77,14 +77,14 @@ pub returns-in-Ok-clause-notes : goal.returns-in-Ok-clause-notes
 returns-in-Ok-clause-notes g c = c.fill_behind.ensures.notes
 
 pub returns-in-Err-clause-notes : goal.returns-in-Err-clause-notes
-returns-in-Err-clause-notes g c = notes_then c.fill_behind.ensures.notes c.free_after.ensures.notes
+returns-in-Err-clause-notes g c = notes_then c.fill_behind.ensures.notes (notes_for c.free_after.ensures.notes)
 
 pub returns-in-Err-clause-met : goal.returns-in-Err-clause-met
-returns-in-Err-clause-met g c = λ out sound alone near.
+returns-in-Err-clause-met g c = λ out sound near.
     let view = g.S.Storage.view in
     let below = g.F.BackingDisk.backing in
     let old = c.args.self.now in
     let h = old.file.header.fields in
     let refused = c.in-Err.ensures.fills out sound in
-    met_filling_freed c.args.mode c.args.old (rounded_up (cluster_size h) c.args.size) h (known_in view old.file) c.in-Err.refusal c.free_after.result
-    (grown_told view below out old c.fill_behind.new.self c.free_after.new.self c.args.size c.args.mode c.in-Err.refusal c.free_after.result refused.left c.free_after.ensures.fault (c.free_after.ensures.told out)) (c.in-Err.ensures.met out sound alone near)
+    met_filling_freed out c.args.mode c.args.old (rounded_up (cluster_size h) c.args.size) h (known_in view old.file) c.in-Err.refusal c.free_after.result
+    (grown_told view below out old c.fill_behind.new.self c.free_after.new.self c.args.size c.args.mode c.in-Err.refusal c.free_after.result refused.left c.free_after.ensures.fault (c.free_after.ensures.told out)) (c.in-Err.ensures.met out sound near)

@@ -6,8 +6,9 @@ use Rattle.qcow2_image.proofs.Preallocate.Turns.{filled_first, filled_next, fill
 use Rattle.qcow2_image.proofs.Call.FaultCounts.{counted_ok, counted_on, faults_then, untouched}
 use Rattle.qcow2_image.proofs.Call.BehindHeader.{behind_none, behind_then}
 use Rattle.qcow2_alloc.specs.ImageFile.{known_in}
-use Rattle.qcow2_image.specs.MetAlone.{HasCompressedIn, IsMetAlone}
+use Rattle.qcow2_image.specs.MetAlone.{HasCompressedIn, IsMetTaking}
 use Rattle.qcow2_image.proofs.Preallocate.Met.{hands_met, met_before, near_moved, place_on}
+use Rattle.qcow2_image.specs.Backings.{HasPrepared}
 use Rattle.qcow2_image.proofs.image.Qcow2.fill_range.Goals as goal
 
 pub loop-at-init : goal.loop-at-init
@@ -74,7 +75,7 @@ pub returns-clause-notes : goal.returns-clause-notes
 returns-clause-notes g c = c.loop-at.invariant.notes
 
 pub returns-in_err-at-clause-met : goal.returns-in_err-at-clause-met
-returns-in_err-at-clause-met g c = λ out sound alone le whole near.
+returns-in_err-at-clause-met g c = λ out sound le whole near.
     let view = g.S.Storage.view in
     let below = g.F.BackingDisk.backing in
     let old = c.args.self.now in
@@ -86,6 +87,6 @@ returns-in_err-at-clause-met g c = λ out sound alone le whole near.
     let low = c.loop-at.invariant.turns.low in
     let part = c.loop-at.invariant.turns.so_far out sound whole in
     let kept = c.loop-at.invariant.place out sound whole near in
-    hands_met (IsMetAlone (HasCompressedIn from to old.file.header.fields (known_in view old.file)) ⊥) c.from_residual.result e c.from_residual.ensures
+    hands_met (IsMetTaking (HasPrepared out) (HasPrepared out) (HasCompressedIn from to old.file.header.fields (known_in view old.file)) ⊥) c.from_residual.result e c.from_residual.ensures
     (met_before view below out to from c.loop-at.at old now part c.loop-at.at to from to low (omega arith) e
-    (c.in_err-at.ensures.met out part.sound alone (still_at old.file.header.fields now.file.header.fields to part.header whole) (near_moved old.file.header.fields now.file.header.fields to to part.header kept (omega arith) near)))
+    (c.in_err-at.ensures.met out part.sound (still_at old.file.header.fields now.file.header.fields to part.header whole) (near_moved old.file.header.fields now.file.header.fields to to part.header kept (omega arith) near)))

@@ -1,14 +1,15 @@
+use Rattle.qcow2_image.proofs.image.Qcow2.grow_disk.Goals as goal
 use Rattle.std.proofs.lemmas.Bool.{or_right}
 use Rattle.qcow2_alloc.specs.declared.image_file.ImageFile.{ImageFile}
-use Rattle.qcow2_alloc.specs.ImageFile.{has_noted}
+use Rattle.qcow2_alloc.specs.ImageFile.{has_noted, known_in}
 use Rattle.qcow2_image.proofs.Call.Notes.{same_kept}
-use Rattle.qcow2_alloc.proofs.KeptMarks.{notes_then}
+use Rattle.qcow2_alloc.proofs.KeptMarks.{notes_then, notes_for}
 use Rattle.std.proofs.Common.{inl, inr, ◌≡◌, ◌∙◌, ◌+◌, ◌-◌, ◌<◌, max, sym, ap, subst, arith, refl}
 use Rattle.std.specs.Prelude.{Err, IfErr, IsTrue, Ok, OnOk, Result}
 use Rattle.qcow2_metadata.specs.declared.header.HeaderFields.{HeaderFields}
 use Rattle.qcow2_metadata.specs.EntryTable.{entry_count}
-use Rattle.qcow2_metadata.specs.Header.{with_size}
-use Rattle.qcow2_alloc.specs.declared.error.ImageError.TheVariants.{Memory, Version}
+use Rattle.qcow2_metadata.specs.Header.{with_size, cluster_size, rounded_up, with_fields}
+use Rattle.qcow2_alloc.specs.declared.error.ImageError.TheVariants.{Memory, Version, Limit}
 use Rattle.qcow2_alloc.specs.ImageError.{IsFault}
 use Rattle.qcow2_alloc.specs.ImageStorage.{is_changed_of}
 use Rattle.qcow2_image.specs.CallParts.{UnseenCall}
@@ -20,7 +21,7 @@ use Rattle.qcow2_image.specs.ImageInvariant.{ImageInvariant, pending_in}
 use Rattle.qcow2_image.specs.LongerTables.{MakesEntry}
 use Rattle.qcow2_image.specs.L1Entries.{ReachesOffset}
 use Rattle.qcow2_image.specs.Preallocation.{FillsGrown, FillsGrownOrRefuses}
-use Rattle.qcow2_image.specs.Refusals.{FreesRefused, IsFaultOrLimit, IsMet}
+use Rattle.qcow2_image.specs.Refusals.{FreesRefused, IsFaultOrLimit, IsMet, IsUnlimited}
 use Rattle.qcow2_image.proofs.Prepare.Taken.{if_err}
 use Rattle.qcow2_image.proofs.Call.Marked.{MayMarkBy, marks_memory, may_mark}
 use Rattle.qcow2_image.specs.Resizing.{GrowsTables, GrowsTo, LacksZeros, RefusesUnchanged, WritesSizeLast}
@@ -45,14 +46,13 @@ use Rattle.qcow2_image.proofs.Call.BehindHeader.{behind_by, behind_call, behind_
 use Rattle.qcow2_image.proofs.Prepare.Lacked.{faults_unlimited, unlimited_all}
 use Rattle.qcow2_image.proofs.Sizing.LackedTables.{behind_lacked, longer_ended}
 use Rattle.qcow2_image.specs.LackedTables.{CantGrowDisk, LacksPlaceBehind, LacksTableReaching}
-use Rattle.qcow2_alloc.specs.declared.error.ImageError.TheVariants.{Limit}
-use Rattle.qcow2_image.specs.Refusals.{IsUnlimited}
-use Rattle.qcow2_metadata.specs.Header.{cluster_size, rounded_up}
-use Rattle.qcow2_alloc.specs.ImageFile.{known_in}
 use Rattle.qcow2_image.specs.LackedPlaces.{IsPlacedNear}
-use Rattle.qcow2_image.specs.MetAlone.{IsMetFilling}
 use Rattle.qcow2_image.proofs.Preallocate.Met.{hands_met, met_behind, near_longer_ends}
-use Rattle.qcow2_image.proofs.image.Qcow2.grow_disk.Goals as goal
+use Rattle.qcow2_image.specs.MetAlone.{IsMetGrowing}
+use Rattle.qcow2_alloc.specs.LowestRuns.{StaysUsed}
+use Rattle.qcow2_image.specs.LowestPlaces.{GrowsFromLowest}
+use Rattle.qcow2_image.proofs.Prepare.LowestTables.{begun_used, grows_alike, grows_sized_lowest}
+use Rattle.qcow2_image.proofs.Call.ToldData.{none_told, none_told_by, none_told_in_call}
 
 pub returns-in_err-mark_failure-clause-sees : goal.returns-in_err-mark_failure-clause-sees
 returns-in_err-mark_failure-clause-sees g c =
@@ -345,7 +345,7 @@ returns-in_err-mark_fault-clause-once_written g c =
     let long : is_failed c.mark_failure.new.self ≡ is_failed c.args.self.now = subst (λ (r : Result _ _). MayMarkBy r (is_failed c.renew_l1_table-longer.new.self) (is_failed c.mark_failure.new.self)) made (may_mark c.renew_l1_table-longer.new.self c.mark_failure.new.self c.renew_l1_table-longer.result c.mark_failure.ensures.marks)
     ∙ c.renew_l1_table-longer.ensures.stays.failed ∙ c.begin.ensures.stays.failed in
     handed_on (λ r. FailsOnceWritten g.S.Storage.view c.args.self.now c.mark_fault.new.self r) c.from_residual-in_err-mark_fault.result c.in_err-mark_fault.field-0.0 c.from_residual-in_err-mark_fault.ensures
-    (λ memory. once_marked g.S.Storage.view c.args.self.now c.begin.new.self c.begin.ensures.begun c.fill_grown-filled.new.self c.mark_fault.new.self c.fill_grown-filled.result (notes_then (notes_then (notes_then c.renew_l1_table-longer.ensures.notes (same_kept c.renew_l1_table-longer.new.self c.mark_failure.new.self (ap (λ (i : Qcow2 _ _). i.file.storage) c.mark_failure.ensures.rest) (ap (λ (i : Qcow2 _ _). i.file.caches) c.mark_failure.ensures.rest))) c.fill_grown-filled.ensures.notes) (same_kept c.fill_grown-filled.new.self c.mark_fault.new.self (ap (λ (f : ImageFile _). f.storage) c.mark_fault.ensures.file) (ap (λ (f : ImageFile _). f.caches) c.mark_fault.ensures.file)))
+    (λ memory. once_marked g.S.Storage.view c.args.self.now c.begin.new.self c.begin.ensures.begun c.fill_grown-filled.new.self c.mark_fault.new.self c.fill_grown-filled.result (notes_then (notes_then (notes_then (notes_for c.renew_l1_table-longer.ensures.notes) (same_kept c.renew_l1_table-longer.new.self c.mark_failure.new.self (ap (λ (i : Qcow2 _ _). i.file.storage) c.mark_failure.ensures.rest) (ap (λ (i : Qcow2 _ _). i.file.caches) c.mark_failure.ensures.rest))) c.fill_grown-filled.ensures.notes) (same_kept c.fill_grown-filled.new.self c.mark_fault.new.self (ap (λ (f : ImageFile _). f.storage) c.mark_fault.ensures.file) (ap (λ (f : ImageFile _). f.caches) c.mark_fault.ensures.file)))
     (c.fill_grown-filled.ensures.stays.failed ∙ long) c.mark_fault.ensures.marks (sym c.mark_fault.ensures.answer ∙ c.in_err-mark_fault.was ∙ err_as c.in_err-mark_fault.field-0.0 Memory memory))
 
 pub returns-clause-once_written : goal.returns-clause-once_written
@@ -355,7 +355,7 @@ returns-clause-once_written g c = λ memory.
     ∙ c.renew_l1_table-longer.ensures.stays.failed ∙ c.begin.ensures.stays.failed in
     let put : c.fill_grown-filled.result ≡ Ok c.in_ok-mark_fault.field-0 = sym c.mark_fault.ensures.answer ∙ c.in_ok-mark_fault.was in
     let whole : c.mark_fault.new.self ≡ c.fill_grown-filled.new.self = subst (λ (r : Result _ _). OnOk r (c.mark_fault.new.self ≡ c.fill_grown-filled.new.self)) put c.mark_fault.ensures.same in
-    once_marked g.S.Storage.view c.args.self.now c.begin.new.self c.begin.ensures.begun c.write_size-written.new.self c.mark_fault-2.new.self c.write_size-written.result (notes_then (notes_then (notes_then (notes_then (notes_then c.renew_l1_table-longer.ensures.notes (same_kept c.renew_l1_table-longer.new.self c.mark_failure.new.self (ap (λ (i : Qcow2 _ _). i.file.storage) c.mark_failure.ensures.rest) (ap (λ (i : Qcow2 _ _). i.file.caches) c.mark_failure.ensures.rest))) c.fill_grown-filled.ensures.notes) (same_kept c.fill_grown-filled.new.self c.mark_fault.new.self (ap (λ (f : ImageFile _). f.storage) c.mark_fault.ensures.file) (ap (λ (f : ImageFile _). f.caches) c.mark_fault.ensures.file))) c.write_size-written.ensures.notes) (same_kept c.write_size-written.new.self c.mark_fault-2.new.self (ap (λ (f : ImageFile _). f.storage) c.mark_fault-2.ensures.file) (ap (λ (f : ImageFile _). f.caches) c.mark_fault-2.ensures.file)))
+    once_marked g.S.Storage.view c.args.self.now c.begin.new.self c.begin.ensures.begun c.write_size-written.new.self c.mark_fault-2.new.self c.write_size-written.result (notes_then (notes_then (notes_then (notes_then (notes_then (notes_for c.renew_l1_table-longer.ensures.notes) (same_kept c.renew_l1_table-longer.new.self c.mark_failure.new.self (ap (λ (i : Qcow2 _ _). i.file.storage) c.mark_failure.ensures.rest) (ap (λ (i : Qcow2 _ _). i.file.caches) c.mark_failure.ensures.rest))) c.fill_grown-filled.ensures.notes) (same_kept c.fill_grown-filled.new.self c.mark_fault.new.self (ap (λ (f : ImageFile _). f.storage) c.mark_fault.ensures.file) (ap (λ (f : ImageFile _). f.caches) c.mark_fault.ensures.file))) (notes_for c.write_size-written.ensures.notes)) (same_kept c.write_size-written.new.self c.mark_fault-2.new.self (ap (λ (f : ImageFile _). f.storage) c.mark_fault-2.ensures.file) (ap (λ (f : ImageFile _). f.caches) c.mark_fault-2.ensures.file)))
     (ap (λ (i : Qcow2 _ _). i.is_failed) c.write_size-written.ensures.rest ∙ ap (λ (i : Qcow2 _ _). i.is_failed) whole ∙ c.fill_grown-filled.ensures.stays.failed ∙ long) c.mark_fault-2.ensures.marks (sym c.mark_fault-2.ensures.answer ∙ memory)
 
 pub returns-in_err-mark_failure-clause-header_cluster : goal.returns-in_err-mark_failure-clause-header_cluster
@@ -474,7 +474,7 @@ returns-clause-limit g c = λ out sound.
     (subst (λ (r : Result _ _). IfErr r IsUnlimited) (sym c.mark_fault-2.ensures.answer) (faults_unlimited c.write_size-written.result c.write_size-written.ensures.cause))
 
 pub returns-in_err-mark_failure-clause-met : goal.returns-in_err-mark_failure-clause-met
-returns-in_err-mark_failure-clause-met g c = λ out sound alone.
+returns-in_err-mark_failure-clause-met g c = λ out sound.
     let view = g.S.Storage.view in
     let below = g.F.BackingDisk.backing in
     let old = c.args.self.now in
@@ -484,11 +484,11 @@ returns-in_err-mark_failure-clause-met g c = λ out sound alone.
     let h = old.file.header.fields in
     let e = c.in_err-mark_failure.field-0.0 in
     let done : c.renew_l1_table-longer.result ≡ Err c.in_err-mark_failure.field-0.0 = sym c.mark_failure.ensures.answer ∙ c.in_err-mark_failure.was in
-    hands_met (IsMetFilling c.args.mode (size_of old) (rounded_up (cluster_size h) c.args.size) h (known_in view old.file)) c.from_residual.result e c.from_residual.ensures
-    (inl (inl (subst (λ (r : Result _ _). IfErr r IsFaultOrLimit) done (c.renew_l1_table-longer.ensures.fault out (first out sound).sound))))
+    hands_met (IsMetGrowing out c.args.mode (size_of old) (rounded_up (cluster_size h) c.args.size) h (known_in view old.file)) c.from_residual.result e c.from_residual.ensures
+    (inl (inl (inl (subst (λ (r : Result _ _). IfErr r IsFaultOrLimit) done (c.renew_l1_table-longer.ensures.fault out (first out sound).sound)))))
 
 pub returns-in_err-mark_fault-clause-met : goal.returns-in_err-mark_fault-clause-met
-returns-in_err-mark_fault-clause-met g c = λ out sound alone.
+returns-in_err-mark_fault-clause-met g c = λ out sound.
     let view = g.S.Storage.view in
     let below = g.F.BackingDisk.backing in
     let old = c.args.self.now in
@@ -513,14 +513,53 @@ returns-in_err-mark_fault-clause-met g c = λ out sound alone.
     let e = c.in_err-mark_fault.field-0.0 in
     let done : c.fill_grown-filled.result ≡ Err c.in_err-mark_fault.field-0.0 = sym c.mark_fault.ensures.answer ∙ c.in_err-mark_fault.was in
     let from : c.size-end.result ≡ size_of c.args.self.now = c.size-end.ensures ∙ ap (λ (x : HeaderFields). x.size) call.header in
-    let why = subst (λ (r : Result _ _). IfErr r (IsMetFilling c.args.mode c.size-end.result (rounded_up (cluster_size long.file.header.fields) c.args.size) long.file.header.fields (known_in view long.file))) done (c.fill_grown-filled.ensures.met out call.sound alone near) in
-    hands_met (IsMetFilling c.args.mode (size_of old) (rounded_up (cluster_size h) c.args.size) h (known_in view old.file)) c.from_residual-in_err-mark_fault.result e c.from_residual-in_err-mark_fault.ensures
+    let why = subst (λ (r : Result _ _). IfErr r (IsMetGrowing out c.args.mode c.size-end.result (rounded_up (cluster_size long.file.header.fields) c.args.size) long.file.header.fields (known_in view long.file))) done (c.fill_grown-filled.ensures.met out call.sound near) in
+    hands_met (IsMetGrowing out c.args.mode (size_of old) (rounded_up (cluster_size h) c.args.size) h (known_in view old.file)) c.from_residual-in_err-mark_fault.result e c.from_residual-in_err-mark_fault.ensures
     (met_behind view below out old long c.args.mode c.args.size (size_of old) e call
-    (subst (λ n. IsMetFilling c.args.mode n (rounded_up (cluster_size long.file.header.fields) c.args.size) long.file.header.fields (known_in view long.file) e) from why))
+    (subst (λ n. IsMetGrowing out c.args.mode n (rounded_up (cluster_size long.file.header.fields) c.args.size) long.file.header.fields (known_in view long.file) e) from why))
 
 pub returns-clause-met : goal.returns-clause-met
-returns-clause-met g c = λ out sound alone.
+returns-clause-met g c = λ out sound.
     let old = c.args.self.now in
     let h = old.file.header.fields in
-    subst (λ (r : Result _ _). IfErr r (IsMetFilling c.args.mode (size_of old) (rounded_up (cluster_size h) c.args.size) h (known_in g.S.Storage.view old.file))) (sym c.mark_fault-2.ensures.answer)
-    (if_err c.write_size-written.result (λ e fault. inl (inl (inl fault))) c.write_size-written.ensures.cause)
+    subst (λ (r : Result _ _). IfErr r (IsMetGrowing out c.args.mode (size_of old) (rounded_up (cluster_size h) c.args.size) h (known_in g.S.Storage.view old.file))) (sym c.mark_fault-2.ensures.answer)
+    (if_err c.write_size-written.result (λ e fault. inl (inl (inl (inl fault)))) c.write_size-written.ensures.cause)
+
+pub returns-in_err-mark_failure-clause-kinds : goal.returns-in_err-mark_failure-clause-kinds
+returns-in_err-mark_failure-clause-kinds g c = λ mode. none_told_in_call c.begin.ensures.begun c.renew_l1_table-longer.ensures.notes c.mark_failure.ensures.rest
+
+pub returns-in_err-mark_fault-clause-kinds : goal.returns-in_err-mark_fault-clause-kinds
+returns-in_err-mark_fault-clause-kinds g c = λ mode. none_told_by c.mark_fault.ensures.rest ∙ none_told_by (c.fill_grown-filled.ensures.unfilled mode).1 ∙ none_told_in_call c.begin.ensures.begun c.renew_l1_table-longer.ensures.notes c.mark_failure.ensures.rest
+
+pub returns-clause-kinds : goal.returns-clause-kinds
+returns-clause-kinds g c = λ mode.
+    none_told_by c.mark_fault-2.ensures.rest ∙ none_told c.write_size-written.ensures.notes ∙ none_told_by c.mark_fault.ensures.rest ∙ none_told_by (c.fill_grown-filled.ensures.unfilled mode).1 ∙ none_told_in_call c.begin.ensures.begun c.renew_l1_table-longer.ensures.notes c.mark_failure.ensures.rest
+
+pub returns-clause-lowest : goal.returns-clause-lowest
+returns-clause-lowest g c = λ none out sound.
+    let view = g.S.Storage.view in
+    let below = g.F.BackingDisk.backing in
+    let old = c.args.self.now in
+    let begun = c.begin.new.self in
+    let mid = c.renew_l1_table-longer.new.self in
+    let first = begun_call view below old begun (λ out sound. record { keeps = c.begin.ensures.keeps (pending_in view below old out) out sound; list = c.begin.ensures.list }) in
+    let long = c.mark_failure.new.self in
+    let made : c.renew_l1_table-longer.result ≡ Ok c.in_ok-mark_failure.field-0 = sym c.mark_failure.ensures.answer ∙ c.in_ok-mark_failure.was in
+    let kept = subst (λ (r : Result _ _). MayMarkBy r (is_failed mid) (is_failed long)) made (may_mark c.renew_l1_table-longer.new.self c.mark_failure.new.self c.renew_l1_table-longer.result c.mark_failure.ensures.marks) in
+    let same : c.mark_failure.new.self ≡ c.renew_l1_table-longer.new.self = c.mark_failure.ensures.rest ∙ ap (λ f. record mid { is_failed = f }) kept in
+    let begins = first out sound in
+    let lengthens = subst (MakesEntry view below begun mid out) made (c.renew_l1_table-longer.ensures.makes out begins.sound) in
+    let put : c.fill_grown-filled.result ≡ Ok c.in_ok-mark_fault.field-0 = sym c.mark_fault.ensures.answer ∙ c.in_ok-mark_fault.was in
+    let whole : c.mark_fault.new.self ≡ c.fill_grown-filled.new.self = subst (λ (r : Result _ _). OnOk r (c.mark_fault.new.self ≡ c.fill_grown-filled.new.self)) put c.mark_fault.ensures.same in
+    let sized : c.mark_fault.new.self ≡ mid = whole ∙ (c.fill_grown-filled.ensures.unfilled none).1 ∙ same in
+    let low = subst (λ (r : Result _ _). OnOk r (GrowsFromLowest view begun mid)) made (c.renew_l1_table-longer.ensures.lowest out begins.sound) in
+    let known = c.begin.ensures.known (pending_in view below old out) out sound in
+    let as_begun = grows_alike view old begun mid c.begin.ensures.rest (begun_used view old begun (ap (λ (i : Qcow2 _ _). i.file.header) c.begin.ensures.rest) known) low in
+    let new = c.write_size-written.new.self in
+    let marked = is_failed c.mark_fault-2.new.self in
+    let kept_size = subst (λ (i : Qcow2 _ _). new ≡ record i { file = record i.file { storage = new.file.storage; header = new.file.header } }) sized c.write_size-written.ensures.rest in
+    let uses = subst (λ (i : Qcow2 _ _). OnOk c.write_size-written.result (StaysUsed view i.file new.file)) sized (c.write_size-written.ensures.uses out (subst (λ (i : Qcow2 _ _). ImageInvariant view below (pending_in view below i out) i out) (sym sized) lengthens.sound)) in
+    let header = subst (λ (i : Qcow2 _ _). OnOk c.write_size-written.result (new.file.header ≡ with_fields i.file.header (with_size i.file.header.fields c.args.size))) sized c.write_size-written.ensures.header in
+    subst (λ (image : Qcow2 _ _). OnOk c.mark_fault-2.result (GrowsFromLowest view old image)) (sym c.mark_fault-2.ensures.rest)
+    (subst (λ (r : Result _ _). OnOk r (GrowsFromLowest view old (with_marks new (is_changed_of c.mark_fault-2.new.self.file.storage) marked))) (sym c.mark_fault-2.ensures.answer)
+    (grows_sized_lowest view old mid new c.args.size (is_changed_of c.mark_fault-2.new.self.file.storage) marked c.write_size-written.result (ap (λ (i : Qcow2 _ _). i.allocator) kept_size) uses header as_begun))

@@ -3,7 +3,7 @@ use Rattle.qcow2_image.proofs.Prepare.Filling.{same_new_data}
 use Rattle.qcow2_image.proofs.Map.Loading.{caches_moved}
 use Rattle.qcow2_image.proofs.Call.BehindHeader.{behind_caches}
 use Rattle.qcow2_image.proofs.Prepare.Lacked.{in_use_all}
-use Rattle.qcow2_image.proofs.Prepare.Met.{loading_met}
+use Rattle.qcow2_image.proofs.Prepare.MetTables.{faults_looking}
 use Rattle.qcow2_image.proofs.image.Qcow2.load_l2.Goals as goal
 
 pub returns-clause-keeps : goal.returns-clause-keeps
@@ -28,7 +28,7 @@ returns-clause-limited g c = λ p out sound place.
     let old = c.args.self.now in
     in_use_all old.file.caches c.l2_get_or_insert.result (c.l2_get_or_insert.ensures.refusals old.file.header.fields place p sound.file.honest sound.file.caches sound.file.named_blocks)
 
-pub returns-clause-fault : goal.returns-clause-fault
-returns-clause-fault g c = λ p out sound none place.
+pub returns-clause-met : goal.returns-clause-met
+returns-clause-met g c = λ p out sound place.
     let old = c.args.self.now in
-    loading_met g.S.Storage.view g.F.BackingDisk.backing out p old sound none c.l2_get_or_insert.result (c.l2_get_or_insert.ensures.refusals old.file.header.fields place p sound.file.honest sound.file.caches sound.file.named_blocks)
+    faults_looking g.S.Storage.view g.F.BackingDisk.backing out p old sound c.l2_get_or_insert.result (c.l2_get_or_insert.ensures.refusals old.file.header.fields place p sound.file.honest sound.file.caches sound.file.named_blocks)

@@ -1,17 +1,16 @@
-use Rattle.std.proofs.Common.{◌*◌, ◌^◌, ◌≤◌, ap, ◌∙◌, arith}
+use Rattle.qcow2_image.proofs.image.Qcow2.name_l1_table.Goals as goal
+use Rattle.std.proofs.Common.{◌*◌, ◌^◌, ◌≤◌, ap, ◌∙◌, arith, inl, inr}
 use Rattle.qcow2_metadata.specs.EntryTable.{entry_count}
 use Rattle.qcow2_alloc.specs.ImageError.{of_storage}
 use Rattle.qcow2_alloc.specs.ImageStorage.{storage_of}
 use Rattle.qcow2_alloc.proofs.AllocationSteps.{handed_on}
 use Rattle.qcow2_image.specs.LongerTables.{NamesTable}
-use Rattle.qcow2_image.proofs.Grow.NamedL1.{named_interruption, named_so}
-use Rattle.qcow2_alloc.proofs.KeptMarks.{notes_none, notes_of_storage}
-use Rattle.qcow2_alloc.proofs.KeptMarks.{told_kept}
+use Rattle.qcow2_image.proofs.Grow.NamedL1.{named_interruption, named_so, uses_so}
+use Rattle.qcow2_alloc.proofs.KeptMarks.{notes_none, notes_of_storage, told_kept}
 use Rattle.qcow2_image.proofs.Call.BehindHeader.{behind_bits, behind_l1, behind_pointer, behind_then}
 use Rattle.qcow2_metadata.specs.Header.{HeaderView}
 use Rattle.qcow2_image.proofs.Prepare.Lacked.{hands_fault}
 use Rattle.qcow2_image.proofs.Call.Unlimited.{storage_fault}
-use Rattle.qcow2_image.proofs.image.Qcow2.name_l1_table.Goals as goal
 
 pub returns-in_err-write_l1_table_pointer-clause-names : goal.returns-in_err-write_l1_table_pointer-clause-names
 returns-in_err-write_l1_table_pointer-clause-names g c = λ p out sound noted ready.
@@ -39,10 +38,10 @@ pub returns-in_err-set_l1_table-clause-notes : goal.returns-in_err-set_l1_table-
 returns-in_err-set_l1_table-clause-notes g c = notes_none
 
 pub returns-in_err-write_l1_table_pointer-clause-notes : goal.returns-in_err-write_l1_table_pointer-clause-notes
-returns-in_err-write_l1_table_pointer-clause-notes g c = notes_of_storage (told_kept c.args.self.now.file.storage c.will_write.new.self c.write_l1_table_pointer.new.self c.write_l1_table_pointer.result c.will_write.ensures.storage c.will_write.ensures.changed _ c.write_l1_table_pointer.ensures.written c.write_l1_table_pointer.ensures.calls c.write_l1_table_pointer.ensures.noted)
+returns-in_err-write_l1_table_pointer-clause-notes g c = notes_of_storage (told_kept c.args.self.now.file.storage c.will_write.new.self c.write_l1_table_pointer.new.self c.write_l1_table_pointer.result c.will_write.ensures.storage c.will_write.ensures.changed c.will_write.ensures.kind _ c.write_l1_table_pointer.ensures.written c.write_l1_table_pointer.ensures.calls c.write_l1_table_pointer.ensures.noted)
 
 pub returns-clause-notes : goal.returns-clause-notes
-returns-clause-notes g c = notes_of_storage (told_kept c.args.self.now.file.storage c.will_write.new.self c.write_l1_table_pointer.new.self c.write_l1_table_pointer.result c.will_write.ensures.storage c.will_write.ensures.changed _ c.write_l1_table_pointer.ensures.written c.write_l1_table_pointer.ensures.calls c.write_l1_table_pointer.ensures.noted)
+returns-clause-notes g c = notes_of_storage (told_kept c.args.self.now.file.storage c.will_write.new.self c.write_l1_table_pointer.new.self c.write_l1_table_pointer.result c.will_write.ensures.storage c.will_write.ensures.changed c.will_write.ensures.kind _ c.write_l1_table_pointer.ensures.written c.write_l1_table_pointer.ensures.calls c.write_l1_table_pointer.ensures.noted)
 
 pub returns-in_err-set_l1_table-clause-header_cluster : goal.returns-in_err-set_l1_table-clause-header_cluster
 returns-in_err-set_l1_table-clause-header_cluster g c = λ keeps. behind_bits (ap (λ (v : HeaderView). v.fields.cluster_bits) c.in_err-set_l1_table.ensures.same)
@@ -59,3 +58,21 @@ returns-in_err-set_l1_table-clause-fault g c = absurd (let past = c.in_err-set_l
 pub returns-in_err-write_l1_table_pointer-clause-fault : goal.returns-in_err-write_l1_table_pointer-clause-fault
 returns-in_err-write_l1_table_pointer-clause-fault g c =
     hands_fault c.from_residual-in_err-write_l1_table_pointer.result (of_storage c.in_err-write_l1_table_pointer.field-0.0) c.from_residual-in_err-write_l1_table_pointer.ensures (storage_fault c.in_err-write_l1_table_pointer.field-0.0)
+
+pub returns-in_err-set_l1_table-clause-no_longer : goal.returns-in_err-set_l1_table-clause-no_longer
+returns-in_err-set_l1_table-clause-no_longer g c = inl (ap (λ (v : HeaderView). v.fields.l1_entries) c.in_err-set_l1_table.ensures.same)
+
+pub returns-in_err-write_l1_table_pointer-clause-no_longer : goal.returns-in_err-write_l1_table_pointer-clause-no_longer
+returns-in_err-write_l1_table_pointer-clause-no_longer g c = inr (ap (λ (v : HeaderView). v.fields.l1_entries) c.in_ok-set_l1_table.ensures.ok ∙ c.len.ensures.value)
+
+pub returns-clause-no_longer : goal.returns-clause-no_longer
+returns-clause-no_longer g c = inr (ap (λ (v : HeaderView). v.fields.l1_entries) c.in_ok-set_l1_table.ensures.ok ∙ c.len.ensures.value)
+
+pub returns-clause-uses : goal.returns-clause-uses
+returns-clause-uses g c = λ p out sound ready.
+    let old = c.args.self.now in
+    let t = c.args.table in
+    let few : entry_count c.args.table ≤ 4194304 = omega (arith, c.len.ensures.value, c.len.ensures.limit) in
+    let at = c.offset-offset.ensures ∙ ap (λ n. c.args.cluster * 2 ^ n) c.cluster_bits.ensures.value in
+    uses_so g.S.Storage.view g.F.BackingDisk.backing out p old t c.args.cluster sound ready c.requires few c.offset-offset.result c.len.result c.set_l1_table.new.self at c.len.ensures.value c.in_ok-set_l1_table.ensures.ok c.write_l1_table_pointer.result
+    c.write_l1_table_pointer.new.self (storage_of c.will_write.new.self) c.will_write.ensures.storage c.write_l1_table_pointer.ensures.written c.write_l1_table_pointer.ensures.calls c.in_ok-write_l1_table_pointer.field-0 c.in_ok-write_l1_table_pointer.was

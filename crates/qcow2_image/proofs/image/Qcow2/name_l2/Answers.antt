@@ -1,14 +1,14 @@
+use Rattle.qcow2_image.proofs.image.Qcow2.name_l2.Goals as goal
 use Rattle.std.proofs.lemmas.Bool.{or_right}
 use Rattle.qcow2_alloc.specs.ImageError.{of_storage}
 use Rattle.qcow2_alloc.specs.ImageStorage.{storage_of, is_changed_of}
 use Rattle.qcow2_alloc.proofs.AllocationSteps.{handed_on, fault_of_storage}
 use Rattle.qcow2_image.specs.NewTables.{NamesNew}
-use Rattle.qcow2_image.proofs.Prepare.Naming.{safe_throughout_named, named_so}
+use Rattle.qcow2_image.proofs.Prepare.Naming.{safe_throughout_named, named_so, uses_so}
 use Rattle.qcow2_alloc.proofs.KeptMarks.{placed_kept, notes_of_storage}
 use Rattle.std.proofs.Common.{refl, subst, sym, IsSome, ap, ◌+◌, ◌*◌, ◌^◌}
 use Rattle.qcow2_metadata.specs.EntryTable.{EntryTableView}
 use Rattle.qcow2_image.proofs.Call.BehindHeader.{behind_l1, behind_placed, behind_then, entry_behind, l1_entered}
-use Rattle.qcow2_image.proofs.image.Qcow2.name_l2.Goals as goal
 
 pub returns-in_err-write_l1_entry-clause-names : goal.returns-in_err-write_l1_entry-clause-names
 returns-in_err-write_l1_entry-clause-names g c = λ p out table sound may noted says whole ready.
@@ -32,10 +32,10 @@ returns-clause-names g c = λ p out table sound may noted says whole ready.
     c.write_l1_entry.ensures.written c.write_l1_entry.ensures.calls c.in_ok-write_l1_entry.field-0 c.in_ok-write_l1_entry.was
 
 pub returns-in_err-write_l1_entry-clause-notes : goal.returns-in_err-write_l1_entry-clause-notes
-returns-in_err-write_l1_entry-clause-notes g c = notes_of_storage (placed_kept c.args.self.now.file.storage c.will_write.new.self c.write_l1_entry.new.self c.write_l1_entry.result c.will_write.ensures.storage c.will_write.ensures.changed c.enter_l2_table.new.self.cluster _ (subst (λ (x : EntryTableView). IsSome x.cluster) (sym c.enter_l2_table.ensures.rest) c.requires.placed) c.write_l1_entry.ensures.written c.write_l1_entry.ensures.calls c.write_l1_entry.ensures.noted)
+returns-in_err-write_l1_entry-clause-notes g c = notes_of_storage (placed_kept c.args.self.now.file.storage c.will_write.new.self c.write_l1_entry.new.self c.write_l1_entry.result c.will_write.ensures.storage c.will_write.ensures.changed c.will_write.ensures.kind c.enter_l2_table.new.self.cluster _ (subst (λ (x : EntryTableView). IsSome x.cluster) (sym c.enter_l2_table.ensures.rest) c.requires.placed) c.write_l1_entry.ensures.written c.write_l1_entry.ensures.calls c.write_l1_entry.ensures.noted)
 
 pub returns-clause-notes : goal.returns-clause-notes
-returns-clause-notes g c = notes_of_storage (placed_kept c.args.self.now.file.storage c.will_write.new.self c.write_l1_entry.new.self c.write_l1_entry.result c.will_write.ensures.storage c.will_write.ensures.changed c.enter_l2_table.new.self.cluster _ (subst (λ (x : EntryTableView). IsSome x.cluster) (sym c.enter_l2_table.ensures.rest) c.requires.placed) c.write_l1_entry.ensures.written c.write_l1_entry.ensures.calls c.write_l1_entry.ensures.noted)
+returns-clause-notes g c = notes_of_storage (placed_kept c.args.self.now.file.storage c.will_write.new.self c.write_l1_entry.new.self c.write_l1_entry.result c.will_write.ensures.storage c.will_write.ensures.changed c.will_write.ensures.kind c.enter_l2_table.new.self.cluster _ (subst (λ (x : EntryTableView). IsSome x.cluster) (sym c.enter_l2_table.ensures.rest) c.requires.placed) c.write_l1_entry.ensures.written c.write_l1_entry.ensures.calls c.write_l1_entry.ensures.noted)
 
 pub returns-in_err-write_l1_entry-clause-header_cluster : goal.returns-in_err-write_l1_entry-clause-header_cluster
 returns-in_err-write_l1_entry-clause-header_cluster g c =
@@ -50,3 +50,9 @@ returns-clause-header_cluster g c =
     (behind_placed c.write_l1_entry.result c.enter_l2_table.new.self.cluster (λ k. k * 2 ^ c.enter_l2_table.new.self.cluster_bits + 8 * c.args.index) _ (ap g.S.Storage.view c.will_write.ensures.storage) (subst (λ (x : EntryTableView). IsSome x.cluster) (sym c.enter_l2_table.ensures.rest) c.requires.placed)
     (λ bits lies. entry_behind c.args.self.now.l1_table c.enter_l2_table.new.self c.args.index c.enter_l2_table.ensures.rest bits lies.l1) c.write_l1_entry.ensures.written c.write_l1_entry.ensures.calls)
     (behind_l1 (l1_entered c.args.self.now.l1_table c.enter_l2_table.new.self c.enter_l2_table.ensures.rest))
+
+pub returns-clause-uses : goal.returns-clause-uses
+returns-clause-uses g c = λ p out table sound may says whole ready.
+    uses_so g.S.Storage.view g.F.BackingDisk.backing c.args.self.now out p c.args.index c.args.cluster c.enter_l2_table.new.self table sound may says whole ready c.requires.within c.requires.nameable c.enter_l2_table.ensures.rest
+    c.enter_l2_table.ensures.entry c.enter_l2_table.ensures.offset c.enter_l2_table.ensures.copied c.write_l1_entry.ensures.fits c.write_l1_entry.new.self (storage_of c.will_write.new.self) c.write_l1_entry.result c.will_write.ensures.storage
+    c.write_l1_entry.ensures.written c.write_l1_entry.ensures.calls c.in_ok-write_l1_entry.field-0 c.in_ok-write_l1_entry.was

@@ -1,3 +1,4 @@
+use Rattle.qcow2_image.proofs.image.Qcow2.new_cluster.Goals as goal
 use Rattle.std.proofs.Common.{◌≡◌, ◌/◌, ◌<◌, inl, sym, ap, ◌∙◌, subst}
 use Rattle.qcow2_metadata.specs.Cover.{cover}
 use Rattle.qcow2_metadata.specs.Header.{cluster_size}
@@ -11,7 +12,7 @@ use Rattle.qcow2_image.specs.ImageInvariant.{run_of, new_data_by, over_all}
 use Rattle.qcow2_image.proofs.Prepare.Gaining.{listed_after_on, image_step_left, taken_new_data, taken_unused, still_holds, filled_as}
 use Rattle.qcow2_image.proofs.Prepare.Filling.{image_step_then}
 use Rattle.qcow2_image.proofs.Prepare.Listing.{lists_still}
-use Rattle.qcow2_alloc.proofs.KeptMarks.{notes_then}
+use Rattle.qcow2_alloc.proofs.KeptMarks.{notes_then, notes_for}
 use Rattle.qcow2_image.proofs.Call.Notes.{same_kept}
 use Rattle.qcow2_image.proofs.Call.BehindHeader.{behind_by, behind_none, behind_then}
 use Rattle.qcow2_image.proofs.Prepare.InUse.{used_stays}
@@ -20,7 +21,6 @@ use Rattle.qcow2_image.specs.LackedPlaces.{HasNoCluster, StandsInWay}
 use Rattle.qcow2_image.proofs.Prepare.Met.{filling_met, hands_met, new_behind}
 use Rattle.qcow2_image.specs.MetAlone.{IsCopiedCompressed, IsMetAlone}
 use Rattle.qcow2_image.proofs.Prepare.Unannounced.{copied_as}
-use Rattle.qcow2_image.proofs.image.Qcow2.new_cluster.Goals as goal
 
 pub returns-in-Ok-clause-gains : goal.returns-in-Ok-clause-gains
 returns-in-Ok-clause-gains g c = λ p out sound holds.
@@ -71,13 +71,13 @@ pub returns-in-Ok-clause-former : goal.returns-in-Ok-clause-former
 returns-in-Ok-clause-former g c = lists_still c.args.self.now c.take_data.new.self c.fill_cluster.new.self c.take_data.ensures.former (record { allocator = c.fill_cluster.ensures.allocator; list = c.fill_cluster.ensures.list })
 
 pub returns-in_err-pending-clause-notes : goal.returns-in_err-pending-clause-notes
-returns-in_err-pending-clause-notes g c = c.take_data.ensures.notes
+returns-in_err-pending-clause-notes g c = notes_for c.take_data.ensures.notes
 
 pub returns-in-Ok-clause-notes : goal.returns-in-Ok-clause-notes
-returns-in-Ok-clause-notes g c = notes_then c.take_data.ensures.notes c.fill_cluster.ensures.notes
+returns-in-Ok-clause-notes g c = notes_then (notes_for c.take_data.ensures.notes) c.fill_cluster.ensures.notes
 
 pub returns-in-Err-clause-notes : goal.returns-in-Err-clause-notes
-returns-in-Err-clause-notes g c = notes_then (notes_then c.take_data.ensures.notes c.fill_cluster.ensures.notes) (same_kept c.fill_cluster.new.self c.hand_back.new.self (ap (λ (i : Qcow2 _ _). i.file.storage) c.hand_back.ensures) (ap (λ (i : Qcow2 _ _). i.file.caches) c.hand_back.ensures))
+returns-in-Err-clause-notes g c = notes_then (notes_then (notes_for c.take_data.ensures.notes) c.fill_cluster.ensures.notes) (same_kept c.fill_cluster.new.self c.hand_back.new.self (ap (λ (i : Qcow2 _ _). i.file.storage) c.hand_back.ensures) (ap (λ (i : Qcow2 _ _). i.file.caches) c.hand_back.ensures))
 
 pub returns-in_err-pending-clause-header_cluster : goal.returns-in_err-pending-clause-header_cluster
 returns-in_err-pending-clause-header_cluster g c = c.take_data.ensures.header_cluster
@@ -132,3 +132,19 @@ returns-in-Err-clause-met g c = λ p out sound holds.
     let overwrite = c.args.overwrite in
     filling_met (IsCopiedCompressed hm c.args.old.now offset n overwrite) (IsCopiedCompressed h c.args.old.now offset n overwrite) ⊥ c.in-Err.refusal (copied_as h hm c.args.old.now offset n overwrite (size_format h hm took.2.header))
     (c.in-Err.ensures.met (new_behind view below out new_data mid took.2.sound c.cluster.result some))
+
+pub returns-in-Ok-clause-uses : goal.returns-in-Ok-clause-uses
+returns-in-Ok-clause-uses g c = λ p out sound holds k used.
+    let view = g.S.Storage.view in
+    let below = g.F.BackingDisk.backing in
+    let old = c.args.self.now in
+    let mid = c.take_data.new.self in
+    let new = c.fill_cluster.new.self in
+    let n = c.in_ok-pending.pending in
+    let took = c.in_ok-pending.ensures.takes p out sound holds in
+    let new_data = with_new_data (pending_with_listed p old mid) (run_of n) in
+    let some : 0 < new_data.new_data c.cluster.result = subst (λ k. 0 < new_data.new_data k) (sym c.cluster.ensures) (taken_new_data view below out old mid p n took.0 holds took.2) in
+    let free : over_all new_data_by out c.cluster.result ≡ 0 = ap (over_all new_data_by out) c.cluster.ensures ∙ taken_unused view below out old mid p n took.0 holds took.2 in
+    let filled = c.fill_cluster.ensures.image_step new_data out took.2.sound (still_holds view below out old mid p n took.0 holds took.2) some free in
+    let former = c.take_data.ensures.former in
+    used_stays view below out new_data former.after mid new took.2.sound filled.sound c.fill_cluster.ensures.value former.is c.fill_cluster.ensures.allocator c.fill_cluster.ensures.table filled.covers k (c.in_ok-pending.ensures.uses p out sound k used)

@@ -1,4 +1,5 @@
-use Rattle.std.proofs.Common.{arith, ◌≡◌, ◌^◌, false, length, refl, ap, ◌∙◌, subst, sym, IsSome, ◌<◌, ◌*◌}
+use Rattle.qcow2_image.proofs.image.Qcow2.place_l2.Goals as goal
+use Rattle.std.proofs.Common.{inl, arith, ◌≡◌, ◌^◌, false, length, refl, ap, ◌∙◌, subst, sym, IsSome, ◌<◌, ◌*◌}
 use Rattle.std.specs.Prelude.{Some, IfSome, OnOk}
 use Rattle.qcow2_metadata.specs.L2Table.{L2TableView}
 use Rattle.qcow2_alloc.specs.ImageError.{of_storage}
@@ -10,16 +11,17 @@ use Rattle.qcow2_image.specs.NewTables.{PlacesNewTable}
 use Rattle.qcow2_image.proofs.Call.Called.{keeps_then}
 use Rattle.qcow2_image.proofs.Map.Loading.{if_ok}
 use Rattle.qcow2_image.proofs.Prepare.Placing.{holds, keeps_placed, keeps_put, keeps_stored, places_when, stands_ready, stands_there}
-use Rattle.qcow2_alloc.proofs.KeptMarks.{notes_none, notes_then, notes_of_both, notes_of_storage}
-use Rattle.qcow2_alloc.proofs.KeptMarks.{placed_kept}
+use Rattle.qcow2_alloc.proofs.KeptMarks.{notes_none, notes_then, notes_of_both, notes_of_storage, placed_kept}
 use Rattle.qcow2_image.proofs.Call.BehindHeader.{behind_caches, behind_none, behind_placed, behind_then, table_behind}
 use Rattle.qcow2_alloc.specs.SparedHeaders.{CachesSpareHeader}
 use Rattle.qcow2_image.proofs.Prepare.Lacked.{hands_unlimited, in_use_all}
-use Rattle.qcow2_image.proofs.Call.Unlimited.{storage_unlimited}
+use Rattle.qcow2_image.proofs.Call.Unlimited.{storage_fault, storage_unlimited}
 use Rattle.qcow2_alloc.proofs.Outcomes.{not_both}
 use Rattle.qcow2_metadata.specs.L2Mapping.{IsHostCluster}
-use Rattle.qcow2_image.proofs.Prepare.MetTables.{faults_alone, put_refused}
-use Rattle.qcow2_image.proofs.image.Qcow2.place_l2.Goals as goal
+use Rattle.qcow2_image.proofs.Prepare.MetTables.{faults_looking, put_refused}
+use Rattle.qcow2_image.specs.Backings.{HasPrepared}
+use Rattle.qcow2_image.specs.MetAlone.{IsMetLooking}
+use Rattle.qcow2_image.proofs.Prepare.Met.{hands_met}
 
 pub returns-in_err-write_new_l2_table-clause-places : goal.returns-in_err-write_new_l2_table-clause-places
 returns-in_err-write_new_l2_table-clause-places g c = λ p out sound some format stored.
@@ -64,10 +66,10 @@ pub returns-then-not-is_nameable-clause-notes : goal.returns-then-not-is_nameabl
 returns-then-not-is_nameable-clause-notes g c = notes_none
 
 pub returns-in_err-write_new_l2_table-clause-notes : goal.returns-in_err-write_new_l2_table-clause-notes
-returns-in_err-write_new_l2_table-clause-notes g c = notes_of_storage (placed_kept c.args.self.now.file.storage c.will_write.new.self c.write_new_l2_table.new.self c.write_new_l2_table.result c.will_write.ensures.storage c.will_write.ensures.changed c.set_cluster.new.self.cluster _ (subst (λ (x : L2TableView). IsSome x.cluster) (sym c.set_cluster.ensures) refl) c.write_new_l2_table.ensures.written c.write_new_l2_table.ensures.calls c.write_new_l2_table.ensures.noted)
+returns-in_err-write_new_l2_table-clause-notes g c = notes_of_storage (placed_kept c.args.self.now.file.storage c.will_write.new.self c.write_new_l2_table.new.self c.write_new_l2_table.result c.will_write.ensures.storage c.will_write.ensures.changed c.will_write.ensures.kind c.set_cluster.new.self.cluster _ (subst (λ (x : L2TableView). IsSome x.cluster) (sym c.set_cluster.ensures) refl) c.write_new_l2_table.ensures.written c.write_new_l2_table.ensures.calls c.write_new_l2_table.ensures.noted)
 
 pub returns-clause-notes : goal.returns-clause-notes
-returns-clause-notes g c = notes_then (notes_of_storage (placed_kept c.args.self.now.file.storage c.will_write.new.self c.write_new_l2_table.new.self c.write_new_l2_table.result c.will_write.ensures.storage c.will_write.ensures.changed c.set_cluster.new.self.cluster _ (subst (λ (x : L2TableView). IsSome x.cluster) (sym c.set_cluster.ensures) refl) c.write_new_l2_table.ensures.written c.write_new_l2_table.ensures.calls c.write_new_l2_table.ensures.noted)) (notes_of_both c.l2_insert.ensures.marks c.l2_insert.ensures.notes)
+returns-clause-notes g c = notes_then (notes_of_storage (placed_kept c.args.self.now.file.storage c.will_write.new.self c.write_new_l2_table.new.self c.write_new_l2_table.result c.will_write.ensures.storage c.will_write.ensures.changed c.will_write.ensures.kind c.set_cluster.new.self.cluster _ (subst (λ (x : L2TableView). IsSome x.cluster) (sym c.set_cluster.ensures) refl) c.write_new_l2_table.ensures.written c.write_new_l2_table.ensures.calls c.write_new_l2_table.ensures.noted)) (notes_of_both c.l2_insert.ensures.marks c.l2_insert.ensures.notes)
 
 pub returns-then-not-is_nameable-clause-header_cluster : goal.returns-then-not-is_nameable-clause-header_cluster
 returns-then-not-is_nameable-clause-header_cluster g c = λ some. behind_none
@@ -100,8 +102,14 @@ returns-clause-limited g c = λ p out sound some format stored near.
     (put_refused g.S.Storage.view g.F.BackingDisk.backing c.args.self.now out p sound stored c.args.cluster some c.write_new_l2_table.new.self (storage_of c.will_write.new.self) c.args.table c.set_cluster.new.self c.clear_modified.new.self c.write_new_l2_table.result c.in_ok-write_new_l2_table.field-0 c.l2_insert.result
     c.will_write.ensures.storage c.set_cluster.ensures c.clear_modified.ensures format (subst (λ (t : L2TableView). length t.bytes ≡ 2 ^ t.cluster_bits) c.table.view_is c.table.invariant.whole) c.write_new_l2_table.ensures.written c.write_new_l2_table.ensures.calls c.in_ok-write_new_l2_table.was c.l2_insert.ensures.refusals)
 
-pub returns-clause-fault : goal.returns-clause-fault
-returns-clause-fault g c = λ p out sound none some format stored near.
-    faults_alone g.S.Storage.view g.F.BackingDisk.backing out p c.args.self.now sound none c.l2_insert.result
+pub returns-clause-met : goal.returns-clause-met
+returns-clause-met g c = λ p out sound some format stored near.
+    faults_looking g.S.Storage.view g.F.BackingDisk.backing out p c.args.self.now sound c.l2_insert.result
     (put_refused g.S.Storage.view g.F.BackingDisk.backing c.args.self.now out p sound stored c.args.cluster some c.write_new_l2_table.new.self (storage_of c.will_write.new.self) c.args.table c.set_cluster.new.self c.clear_modified.new.self c.write_new_l2_table.result c.in_ok-write_new_l2_table.field-0 c.l2_insert.result
     c.will_write.ensures.storage c.set_cluster.ensures c.clear_modified.ensures format (subst (λ (t : L2TableView). length t.bytes ≡ 2 ^ t.cluster_bits) c.table.view_is c.table.invariant.whole) c.write_new_l2_table.ensures.written c.write_new_l2_table.ensures.calls c.in_ok-write_new_l2_table.was c.l2_insert.ensures.refusals)
+
+pub returns-then-not-is_nameable-clause-met : goal.returns-then-not-is_nameable-clause-met
+returns-then-not-is_nameable-clause-met g c = λ p out sound some format stored near. not_both c.is_nameable.result (c.is_nameable.ensures.1 (subst (λ n. IsHostCluster n c.args.cluster) (sym c.cluster_bits.ensures.value) near)) c.if-not-is_nameable.true
+
+pub returns-in_err-write_new_l2_table-clause-met : goal.returns-in_err-write_new_l2_table-clause-met
+returns-in_err-write_new_l2_table-clause-met g c = λ p out sound some format stored near. hands_met (IsMetLooking (HasPrepared out)) c.from_residual.result (of_storage c.in_err-write_new_l2_table.field-0.0) c.from_residual.ensures (inl (storage_fault c.in_err-write_new_l2_table.field-0.0))

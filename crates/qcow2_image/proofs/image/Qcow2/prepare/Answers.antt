@@ -1,19 +1,23 @@
-use Rattle.std.proofs.Common.{⊎_elim, inl, inr, ◌∙◌, refl, sym, subst, ◌+◌}
+use Rattle.qcow2_image.proofs.image.Qcow2.prepare.Goals as goal
+use Rattle.std.proofs.Common.{⊎_elim, inl, inr, ◌∙◌, refl, sym, subst, ◌+◌, ap}
 use Rattle.std.specs.Prelude.{IsTrue}
 use Rattle.qcow2_alloc.specs.ImageError.{IsFault}
 use Rattle.qcow2_image.proofs.Call.Refused.{back_then_freed}
 use Rattle.qcow2_image.proofs.Call.FaultCounts.{counted_as, counted_of, untouched}
 use Rattle.qcow2_image.proofs.Prepare.FarEntries.{far_refusal, far_then_freed, far_unanswered}
-use Rattle.qcow2_alloc.proofs.KeptMarks.{notes_then}
+use Rattle.qcow2_alloc.proofs.KeptMarks.{notes_then, notes_for}
 use Rattle.qcow2_image.proofs.Call.BehindHeader.{behind_then}
 use Rattle.qcow2_image.proofs.Prepare.Lacked.{emptied_by_limit, limited_frees}
 use Rattle.qcow2_image.proofs.Prepare.LackedBehind.{range_freed}
 use Rattle.qcow2_image.specs.Image.{HasNothingToFree}
 use Rattle.qcow2_alloc.specs.ImageFile.{known_in}
 use Rattle.qcow2_image.specs.L1Entries.{NeedsFarEntry}
-use Rattle.qcow2_image.specs.MetAlone.{CopiesCompressed}
-use Rattle.qcow2_image.proofs.Prepare.MetTables.{alone_freed}
-use Rattle.qcow2_image.proofs.image.Qcow2.prepare.Goals as goal
+use Rattle.qcow2_image.specs.MetAlone.{CopiesCompressed, IsMetTaking}
+use Rattle.qcow2_image.proofs.Prepare.MetTables.{met_freed}
+use Rattle.qcow2_image.specs.Backings.{HasPrepared}
+use Rattle.qcow2_image.specs.Preparing.{IsTaken}
+use Rattle.qcow2_image.proofs.Grow.NoLonger.{length_then}
+use Rattle.qcow2_metadata.specs.Header.{HeaderView}
 
 pub returns-in-Ok-clause-readies : goal.returns-in-Ok-clause-readies
 returns-in-Ok-clause-readies g c = λ some out sound. c.in-Ok.ensures.readies some out sound
@@ -54,7 +58,7 @@ pub returns-in-Ok-clause-notes : goal.returns-in-Ok-clause-notes
 returns-in-Ok-clause-notes g c = c.prepare_range.ensures.notes
 
 pub returns-in-Err-clause-notes : goal.returns-in-Err-clause-notes
-returns-in-Err-clause-notes g c = notes_then c.prepare_range.ensures.notes c.free_after.ensures.notes
+returns-in-Err-clause-notes g c = notes_then c.prepare_range.ensures.notes (notes_for c.free_after.ensures.notes)
 
 pub returns-in-Ok-clause-header_cluster : goal.returns-in-Ok-clause-header_cluster
 returns-in-Ok-clause-header_cluster g c = c.prepare_range.ensures.header_cluster
@@ -95,8 +99,21 @@ pub returns-in-Ok-clause-l1_place : goal.returns-in-Ok-clause-l1_place
 returns-in-Ok-clause-l1_place g c = c.in-Ok.ensures.l1_place
 
 pub returns-in-Err-clause-met : goal.returns-in-Err-clause-met
-returns-in-Err-clause-met g c = λ some out sound alone.
+returns-in-Err-clause-met g c = λ some out sound.
     let old = c.args.self.now in
     let h = old.file.header.fields in
-    alone_freed g.S.Storage.view g.F.BackingDisk.backing out (CopiesCompressed c.args.offset c.args.length c.args.overwrite h (known_in g.S.Storage.view old.file)) (NeedsFarEntry old c.args.offset) old c.prepare_range.new.self c.free_after.new.self c.in-Err.refusal c.free_after.result
-    (c.in-Err.ensures.readies some out sound) c.free_after.ensures.fault (c.free_after.ensures.told out) (c.in-Err.ensures.met some out sound alone)
+    let known = known_in g.S.Storage.view old.file in
+    met_freed g.S.Storage.view g.F.BackingDisk.backing out (IsMetTaking (HasPrepared out) (IsTaken h known c.args.offset c.args.length out) (CopiesCompressed c.args.offset c.args.length c.args.overwrite h known) (NeedsFarEntry old c.args.offset)) (λ e fault. inl (inl (inl fault))) old c.prepare_range.new.self c.free_after.new.self c.in-Err.refusal c.free_after.result
+    (c.in-Err.ensures.readies some out sound) c.free_after.ensures.fault (c.free_after.ensures.told out) (c.in-Err.ensures.met some out sound)
+
+pub returns-in-Ok-clause-no_longer : goal.returns-in-Ok-clause-no_longer
+returns-in-Ok-clause-no_longer g c = c.prepare_range.ensures.no_longer
+
+pub returns-in-Err-clause-no_longer : goal.returns-in-Err-clause-no_longer
+returns-in-Err-clause-no_longer g c = length_then c.prepare_range.ensures.no_longer (ap (λ (v : HeaderView). v.fields.l1_entries) c.free_after.ensures.keeps_rest.header)
+
+pub returns-in-Ok-clause-freeing : goal.returns-in-Ok-clause-freeing
+returns-in-Ok-clause-freeing g c = λ some out sound. c.in-Ok.ensures.freeing some out sound
+
+pub returns-in-Ok-clause-lowest_tables : goal.returns-in-Ok-clause-lowest_tables
+returns-in-Ok-clause-lowest_tables g c = λ out sound. c.in-Ok.ensures.lowest_tables out sound

@@ -1,5 +1,6 @@
-use Rattle.std.proofs.Common.{◌≡◌, ◌⊎◌, ◌<◌, sym, ◌∙◌, subst, arith, ap, refl, ◌+◌}
-use Rattle.std.specs.Prelude.{IfErr, IfOk, IsErrAnd, None, Result, Some}
+use Rattle.qcow2_image.proofs.image.Qcow2.prepare_data_mapping.Goals as goal
+use Rattle.std.proofs.Common.{◌≡◌, ◌⊎◌, ◌<◌, sym, ◌∙◌, subst, arith, ap, refl, ◌+◌, ⊎_elim, inl, inr}
+use Rattle.std.specs.Prelude.{IfErr, IfOk, IsErrAnd, None, Result, Some, OnOk, IsNone}
 use Rattle.qcow2_alloc.specs.declared.error.ImageError.TheVariants.{Overflow, TablePrepared, Limit}
 use Rattle.qcow2_alloc.specs.ImageFile.{known_in}
 use Rattle.qcow2_image.specs.Preparing.{IsAnswered, IsTaken}
@@ -9,7 +10,7 @@ use Rattle.qcow2_image.proofs.Prepare.Taken.{if_err}
 use Rattle.qcow2_image.specs.declared.image.Qcow2.{Qcow2}
 use Rattle.qcow2_image.specs.Calls.{Prepares}
 use Rattle.qcow2_image.specs.Image.{is_failed}
-use Rattle.qcow2_image.specs.ListedClusters.{PreparesList}
+use Rattle.qcow2_image.specs.ListedClusters.{PreparesList, ListsNoMore}
 use Rattle.qcow2_image.specs.CallParts.{IsExisting}
 use Rattle.qcow2_image.specs.ImageInvariant.{meaning, pending_in}
 use Rattle.qcow2_image.specs.Refusals.{refuses_to_prepare}
@@ -26,18 +27,21 @@ use Rattle.qcow2_image.proofs.Call.OnceWritten.{once_written, once_none}
 use Rattle.qcow2_image.proofs.Call.BehindHeader.{behind_call, behind_none}
 use Rattle.qcow2_image.proofs.Prepare.Pinned.{begun_own, unpinned_begun}
 use Rattle.qcow2_image.specs.PinnedTables.{PreparesUnpinned}
-use Rattle.qcow2_image.specs.LowestPlaces.{BeginsLowest}
+use Rattle.qcow2_image.specs.LowestPlaces.{BeginsLowest, TakesLowestTables}
 use Rattle.qcow2_image.proofs.Prepare.Lacked.{limits_as}
 use Rattle.qcow2_image.proofs.Prepare.LackedBehind.{behind_begun, first_begun, place_ended}
 use Rattle.qcow2_image.specs.LackedPlaces.{LacksPlaceFor}
-use Rattle.qcow2_metadata.specs.Header.{cluster_size}
+use Rattle.qcow2_metadata.specs.Header.{cluster_size, HeaderView}
 use Rattle.qcow2_metadata.specs.declared.header.HeaderFields.{HeaderFields}
 use Rattle.qcow2_image.specs.L1Entries.{NeedsFarEntry}
-use Rattle.qcow2_image.specs.MetAlone.{CopiesCompressed, IsMetAlone}
-use Rattle.qcow2_image.proofs.Prepare.MetRanges.{alone_as}
+use Rattle.qcow2_image.specs.MetAlone.{CopiesCompressed, IsMetTaking}
 use Rattle.qcow2_image.proofs.Prepare.Unannounced.{compressed_as}
 use Rattle.qcow2_image.proofs.Prepare.MetTables.{far_before}
-use Rattle.qcow2_image.proofs.image.Qcow2.prepare_data_mapping.Goals as goal
+use Rattle.qcow2_image.proofs.Prepare.LowestTables.{begun_used, tables_begun}
+use Rattle.qcow2_image.specs.Prepared.{table_of}
+use Rattle.qcow2_image.specs.Backings.{HasPrepared}
+use Rattle.qcow2_image.proofs.Prepare.MetTaking.{taking_as}
+use Rattle.qcow2_image.proofs.Grow.NoLonger.{length_then, reaches_behind}
 
 pub returns-then-length-eq0-clause-sees : goal.returns-then-length-eq0-clause-sees
 returns-then-length-eq0-clause-sees g c =
@@ -205,12 +209,12 @@ returns-clause-limit g c = λ may some out sound.
     (λ e lacks. place_ended view c.args.offset c.args.length old mid new failed c.begin.ensures.rest same (behind_begun view c.args.offset old mid stays.header stays.covers) (nowhere_before view old mid c.args.offset c.args.length stays.header stays.covers) lacks) (c.prepare-prepared.ensures.limit some out stays.sound)))
 
 pub returns-in_err-check_prepare-clause-met : goal.returns-in_err-check_prepare-clause-met
-returns-in_err-check_prepare-clause-met g c = λ none some out sound alone.
+returns-in_err-check_prepare-clause-met g c = λ none some out sound.
     let refused = refused_for c.check_prepare.result tt (refuses_to_prepare c.args.self.now c.args.offset c.args.length) c.in_err-check_prepare.field-0.0 c.check_prepare.ensures.refusal c.in_err-check_prepare.was in
     absurd (let no : None ≡ Some c.in_err-check_prepare.field-0.0 = sym none ∙ refused in cc)
 
 pub returns-clause-met : goal.returns-clause-met
-returns-clause-met g c = λ may some out sound alone.
+returns-clause-met g c = λ may some out sound.
     let view = g.S.Storage.view in
     let below = g.F.BackingDisk.backing in
     let old = c.args.self.now in
@@ -220,7 +224,50 @@ returns-clause-met g c = λ may some out sound alone.
     let overwrite = c.args.overwrite in
     let stays = stays_kept view below out old mid sound (listed view below out old mid (λ s. record { keeps = c.begin.ensures.keeps (pending_in view below old out) out s; list = c.begin.ensures.list }) sound) in
     let size : cluster_size mid.file.header.fields ≡ cluster_size old.file.header.fields = ap (λ (x : HeaderFields). cluster_size x) stays.header in
-    subst (λ (r : Result _ _). IfErr r (IsMetAlone (CopiesCompressed from n overwrite old.file.header.fields (known_in view old.file)) (NeedsFarEntry old from))) (sym c.mark_failure.ensures.answer)
+    let h = old.file.header.fields in
+    let known = known_in view old.file in
+    subst (λ (r : Result _ _). IfErr r (IsMetTaking (HasPrepared out) (IsTaken h known from n out) (CopiesCompressed from n overwrite h known) (NeedsFarEntry old from))) (sym c.mark_failure.ensures.answer)
     (if_err c.prepare-prepared.result
-    (λ e met. far_before old mid (CopiesCompressed from n overwrite old.file.header.fields (known_in view old.file)) from e c.begin.ensures.begun.rest (alone_as (compressed_as old.file.header.fields mid.file.header.fields (known_in view old.file) (known_in view mid.file) from n overwrite size stays.covers) (λ far. far) e met))
-    (c.prepare-prepared.ensures.met some out stays.sound alone))
+    (taking_as (λ held. held) (λ taken. taken_before view old mid from n stays.header stays.covers out taken) (compressed_as h mid.file.header.fields known (known_in view mid.file) from n overwrite size stays.covers) (far_before old mid from c.begin.ensures.begun.rest))
+    (c.prepare-prepared.ensures.met some out stays.sound))
+
+pub returns-in_err-check_prepare-clause-no_longer : goal.returns-in_err-check_prepare-clause-no_longer
+returns-in_err-check_prepare-clause-no_longer g c = inl refl
+
+pub returns-then-length-eq0-clause-no_longer : goal.returns-then-length-eq0-clause-no_longer
+returns-then-length-eq0-clause-no_longer g c = inl refl
+
+pub returns-clause-no_longer : goal.returns-clause-no_longer
+returns-clause-no_longer g c = length_then (reaches_behind c.args.offset c.args.self.now c.begin.new.self c.prepare-prepared.new.self (ap (λ (i : Qcow2 _ _). i.file.header) c.begin.ensures.rest) (ap (λ (i : Qcow2 _ _). i.l1_table) c.begin.ensures.rest) c.prepare-prepared.ensures.no_longer) (ap (λ (v : HeaderView). v.fields.l1_entries) (ap (λ (i : Qcow2 _ _). i.file.header) c.mark_failure.ensures.rest))
+
+pub returns-then-length-eq0-clause-freeing : goal.returns-then-length-eq0-clause-freeing
+returns-then-length-eq0-clause-freeing g c = λ out sound none. inl refl
+
+pub returns-clause-freeing : goal.returns-clause-freeing
+returns-clause-freeing g c = λ out sound.
+    let view = g.S.Storage.view in
+    let below = g.F.BackingDisk.backing in
+    let old = c.args.self.now in
+    let mid = c.begin.new.self in
+    let new = c.prepare-prepared.new.self in
+    let some : 0 < c.args.length = let isnt = c.if-length-eq0.false in omega arith in
+    let stays = stays_kept view below out old mid sound (listed view below out old mid (λ s. record { keeps = c.begin.ensures.keeps (pending_in view below old out) out s; list = c.begin.ensures.list }) sound) in
+    subst (λ (image : Qcow2 _ _). IfOk c.mark_failure.result (λ p. IsNone (table_of p) → ListsNoMore old image)) (sym c.mark_failure.ensures.rest)
+    (subst (λ r. IfOk r (λ p. IsNone (table_of p) → ListsNoMore old new)) (sym c.mark_failure.ensures.answer)
+    (if_ok c.prepare-prepared.result (λ p less none. ⊎_elim (λ same. inl (same ∙ c.begin.ensures.list)) (λ empty. inr empty) (less none)) (c.prepare-prepared.ensures.freeing some out stays.sound)))
+
+pub returns-then-length-eq0-clause-lowest_tables : goal.returns-then-length-eq0-clause-lowest_tables
+returns-then-length-eq0-clause-lowest_tables g c = λ some out sound. absurd (let none : c.args.length ≡ 0 = c.if-length-eq0.true in omega (arith, none, some))
+
+pub returns-clause-lowest_tables : goal.returns-clause-lowest_tables
+returns-clause-lowest_tables g c = λ some out sound.
+    let view = g.S.Storage.view in
+    let below = g.F.BackingDisk.backing in
+    let old = c.args.self.now in
+    let mid = c.begin.new.self in
+    let new = c.prepare-prepared.new.self in
+    let stays = stays_kept view below out old mid sound (listed view below out old mid (λ s. record { keeps = c.begin.ensures.keeps (pending_in view below old out) out s; list = c.begin.ensures.list }) sound) in
+    let known = c.begin.ensures.known (pending_in view below old out) out sound in
+    subst (λ (image : Qcow2 _ _). OnOk c.mark_failure.result (TakesLowestTables view c.args.offset old image)) (sym c.mark_failure.ensures.rest)
+    (subst (λ r. OnOk r (TakesLowestTables view c.args.offset old (record new { is_failed = is_failed c.mark_failure.new.self }))) (sym c.mark_failure.ensures.answer)
+    (tables_begun view c.args.offset old mid new (is_failed c.mark_failure.new.self) c.prepare-prepared.result c.begin.ensures.rest (begun_used view old mid (ap (λ (i : Qcow2 _ _). i.file.header) c.begin.ensures.rest) known) (c.prepare-prepared.ensures.lowest_tables out stays.sound)))

@@ -1,4 +1,5 @@
-use Rattle.std.proofs.Common.{rules, refl, ◌/◌, sym, ap, ◌∙◌, subst, List, length, ◌≡◌, ◌<◌, true, false}
+use Rattle.qcow2_image.proofs.image.Qcow2.prepare_first.Goals as goal
+use Rattle.std.proofs.Common.{rules, refl, ◌/◌, sym, ap, ◌∙◌, subst, List, length, ◌≡◌, ◌<◌, true, false, inr}
 use Rattle.qcow2_metadata.specs.Cover.{cover}
 use Rattle.std.specs.Prelude.{IfErr, vec_capacity}
 use Rattle.qcow2_image.specs.declared.prepared.Share.{Share}
@@ -21,15 +22,16 @@ use Rattle.qcow2_image.specs.declared.image.Qcow2.{Qcow2}
 use Rattle.qcow2_alloc.proofs.KeptMarks.{notes_none}
 use Rattle.qcow2_image.proofs.Call.Notes.{pins_kept}
 use Rattle.qcow2_image.proofs.Call.BehindHeader.{behind_by, behind_none, behind_tables}
-use Rattle.qcow2_image.proofs.Prepare.InUse.{in_place_lowest}
+use Rattle.qcow2_image.proofs.Prepare.InUse.{in_place_lowest, used_pinned}
 use Rattle.qcow2_alloc.proofs.KeptTables.Turning.{always_ok}
 use Rattle.qcow2_alloc.specs.CachePins.{l2_pins}
 use Rattle.qcow2_image.proofs.Clear.Between.{no_pins}
 use Rattle.qcow2_image.proofs.Prepare.Lacked.{hands_limit, other_limit}
 use Rattle.qcow2_image.specs.LackedPlaces.{IsLimitedByFirst, LacksFirstCluster, first_of_range}
-use Rattle.qcow2_image.specs.MetAlone.{IsCopiedCompressed, IsMetAlone}
-use Rattle.qcow2_image.proofs.Backings.{pinned_by}
-use Rattle.qcow2_image.proofs.image.Qcow2.prepare_first.Goals as goal
+use Rattle.qcow2_image.specs.MetAlone.{IsCopiedCompressed, IsMetTaking}
+use Rattle.qcow2_image.specs.Backings.{HasPrepared}
+use Rattle.qcow2_image.proofs.Prepare.MetTaking.{taking_as}
+use Rattle.qcow2_image.proofs.Prepare.Taken.{if_err}
 
 pub returns-then-l2_is_pinned-clause-readies : goal.returns-then-l2_is_pinned-clause-readies
 returns-then-l2_is_pinned-clause-readies g c = λ out sound holds. back_none g.S.Storage.view g.F.BackingDisk.backing out c.args.self.now (pending_in g.S.Storage.view g.F.BackingDisk.backing c.args.self.now out) sound _
@@ -161,11 +163,10 @@ returns-in-None-clause-limit g c = λ out sound holds.
     subst (λ (x : L2Mapping). IfErr c.prepare_private.result (IsLimitedByFirst view x old c.prepare_private.new.self)) (sym covered) (c.prepare_private.ensures.limit out sound holds)
 
 pub returns-then-l2_is_pinned-clause-met : goal.returns-then-l2_is_pinned-clause-met
-returns-then-l2_is_pinned-clause-met g c = λ out sound none holds.
-    absurd (none (pinned_by out c.args.table (subst (λ n. 0 < n) (sound.pinned c.args.table) (c.l2_is_pinned.ensures.0 c.if-l2_is_pinned.true))))
+returns-then-l2_is_pinned-clause-met g c = λ out sound holds. inr (inr (refl, c.l2_is_pinned.ensures.0 c.if-l2_is_pinned.true))
 
 pub returns-in_err-old-clause-met : goal.returns-in_err-old-clause-met
-returns-in_err-old-clause-met g c = λ out sound none holds.
+returns-in_err-old-clause-met g c = λ out sound holds.
     let view = g.S.Storage.view in
     let below = g.F.BackingDisk.backing in
     let old = c.args.self.now in
@@ -174,9 +175,23 @@ returns-in_err-old-clause-met g c = λ out sound none holds.
     absurd (let e : false ≡ true = read in cc)
 
 pub returns-in-None-clause-met : goal.returns-in-None-clause-met
-returns-in-None-clause-met g c = λ out sound none holds.
+returns-in-None-clause-met g c = λ out sound holds.
     let view = g.S.Storage.view in
     let old = c.args.self.now in
     let p = pending_in view g.F.BackingDisk.backing old out in
     let covered = first_stands view g.F.BackingDisk.backing old p c.args.offset c.args.table c.new.result c.cluster_bits.result c.cluster-cluster.result c.in_ok-old.old c.cluster-cluster.ensures c.new.ensures c.cluster_bits.ensures.value holds (c.in_ok-old.ensures.says p (l1_index_of old.file.header.fields c.args.offset) sound.file) in
-    subst (λ (x : L2Mapping). IfErr c.prepare_private.result (IsMetAlone (IsCopiedCompressed old.file.header.fields x c.args.offset c.args.length c.args.overwrite) ⊥)) (sym covered) (c.prepare_private.ensures.met out sound none holds covered)
+    let copied = IsCopiedCompressed old.file.header.fields in
+    subst (λ (x : L2Mapping). IfErr c.prepare_private.result (IsMetTaking (HasPrepared out) (0 < l2_pins old.file.caches c.args.table) (copied x c.args.offset c.args.length c.args.overwrite) ⊥)) (sym covered)
+    (if_err c.prepare_private.result (taking_as (λ held. held) (λ no. absurd no) (λ is. is) (λ no. no)) (c.prepare_private.ensures.met out sound holds covered))
+
+pub returns-in-Some-clause-uses : goal.returns-in-Some-clause-uses
+returns-in-Some-clause-uses g c = λ out sound holds. used_pinned g.S.Storage.view g.F.BackingDisk.backing c.args.table c.args.self.now c.prepare_at.new.self c.prepare_at.ensures.pins
+
+pub returns-in-None-clause-uses : goal.returns-in-None-clause-uses
+returns-in-None-clause-uses g c = λ out sound holds.
+    let view = g.S.Storage.view in
+    let below = g.F.BackingDisk.backing in
+    let old = c.args.self.now in
+    let p = pending_in view below old out in
+    c.prepare_private.ensures.uses out sound holds (not_pinned _ c.l2_is_pinned.result c.l2_is_pinned.ensures c.if-l2_is_pinned.false)
+    (first_stands view below old p c.args.offset c.args.table c.new.result c.cluster_bits.result c.cluster-cluster.result c.in_ok-old.old c.cluster-cluster.ensures c.new.ensures c.cluster_bits.ensures.value holds (c.in_ok-old.ensures.says p (l1_index_of old.file.header.fields c.args.offset) sound.file))

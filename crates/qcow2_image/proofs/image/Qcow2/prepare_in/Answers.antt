@@ -1,5 +1,6 @@
+use Rattle.qcow2_image.proofs.image.Qcow2.prepare_in.Goals as goal
 use Rattle.std.proofs.Common.{◌≡◌, ◌+◌, ◌-◌, ◌/◌, ◌%◌, [], ◌∷◌, refl, sym, ap, ◌∙◌, subst, arith, inl, inr, length, ◌<◌, ◌*◌, ◌^◌, Some, min, ◌≢◌}
-use Rattle.std.specs.Prelude.{None, Err}
+use Rattle.std.specs.Prelude.{None, Err, slice_set}
 use Rattle.qcow2_metadata.specs.Cover.{cover}
 use Rattle.qcow2_metadata.specs.Header.{cluster_size, HeaderView}
 use Rattle.qcow2_metadata.specs.declared.header.HeaderFields.{HeaderFields}
@@ -14,7 +15,7 @@ use Rattle.qcow2_image.proofs.Free.{free_places}
 use Rattle.qcow2_image.proofs.Prepare.Onward.{release_prepared_broken, refused_free}
 use Rattle.qcow2_image.proofs.Call.FaultCounts.{counted_as, counted_still}
 use Rattle.qcow2_image.proofs.Prepare.Listing.{lists_then}
-use Rattle.qcow2_alloc.proofs.KeptMarks.{notes_then}
+use Rattle.qcow2_alloc.proofs.KeptMarks.{notes_then, notes_for}
 use Rattle.qcow2_image.proofs.Call.BehindHeader.{behind_then}
 use Rattle.qcow2_image.proofs.Prepare.InUse.{first_of, longer_lowest}
 use Rattle.qcow2_image.proofs.Prepare.Lacked.{hands_limit}
@@ -22,17 +23,22 @@ use Rattle.qcow2_image.proofs.Prepare.LackedBehind.{cant_go_on, first_begun, fir
 use Rattle.std.proofs.lemmas.Nat.{pow_pos}
 use Rattle.qcow2_disk.specs.Found.{rest_of_table}
 use Rattle.qcow2_image.specs.LackedPlaces.{IsNewThere, LacksData, behind_first, bytes_in_table, first_of_range}
-use Rattle.qcow2_image.specs.ImageInvariant.{IsPending, IsReadyWith}
+use Rattle.qcow2_image.specs.ImageInvariant.{IsPending, IsReadyWith, pending_in}
 use Rattle.qcow2_image.specs.Ranges.{EndsWithCluster}
 use Rattle.qcow2_image.proofs.Call.Slots.{get_set_same}
 use Rattle.qcow2_metadata.specs.Bytes.{Bytes}
 use Rattle.qcow2_metadata.specs.Entries.{count}
 use Rattle.qcow2_image.specs.UnseenSteps.{freed_by}
-use Rattle.qcow2_image.specs.MetAlone.{CopiesCompressed}
-use Rattle.qcow2_image.proofs.Prepare.MetTables.{hands_alone}
+use Rattle.qcow2_image.specs.MetAlone.{CopiesCompressed, IsMetTaking}
 use Rattle.qcow2_image.proofs.Prepare.MetRanges.{alone_as}
 use Rattle.qcow2_image.proofs.Prepare.Unannounced.{compressed_as, compressed_at}
-use Rattle.qcow2_image.proofs.image.Qcow2.prepare_in.Goals as goal
+use Rattle.qcow2_image.proofs.Prepare.LowestTables.{own_table_known}
+use Rattle.qcow2_laws.specs.Guests.{table_at}
+use Rattle.qcow2_image.specs.Found.{l1_index_of}
+use Rattle.qcow2_image.specs.Backings.{HasPrepared}
+use Rattle.qcow2_image.proofs.Prepare.Met.{hands_met}
+use Rattle.qcow2_image.proofs.Prepare.MetTaking.{taking_as}
+use Rattle.qcow2_alloc.specs.CachePins.{l2_pins}
 
 pub returns-in_err-prepared-clause-readies : goal.returns-in_err-prepared-clause-readies
 returns-in_err-prepared-clause-readies g c = λ out sound holds.
@@ -126,7 +132,7 @@ pub returns-in-Ok-clause-notes : goal.returns-in-Ok-clause-notes
 returns-in-Ok-clause-notes g c = notes_then c.prepare_first.ensures.notes c.prepare_rest.ensures.notes
 
 pub returns-in-Err-clause-notes : goal.returns-in-Err-clause-notes
-returns-in-Err-clause-notes g c = notes_then (notes_then c.prepare_first.ensures.notes c.prepare_rest.ensures.notes) c.release_prepared.ensures.notes
+returns-in-Err-clause-notes g c = notes_then (notes_then c.prepare_first.ensures.notes c.prepare_rest.ensures.notes) (notes_for c.release_prepared.ensures.notes)
 
 pub returns-in_err-prepared-clause-header_cluster : goal.returns-in_err-prepared-clause-header_cluster
 returns-in_err-prepared-clause-header_cluster g c = c.prepare_first.ensures.header_cluster
@@ -204,16 +210,16 @@ returns-in-Err-clause-limit g c = λ out sound holds some is.
     it.uncounted))
 
 pub returns-in_err-prepared-clause-met : goal.returns-in_err-prepared-clause-met
-returns-in_err-prepared-clause-met g c = λ out sound alone holds some.
+returns-in_err-prepared-clause-met g c = λ out sound holds some.
     let h = c.args.self.now.file.header.fields in
     let known = known_in g.S.Storage.view c.args.self.now.file in
     let offset = c.args.offset in
     let n = c.args.length in
-    hands_alone (CopiesCompressed offset n c.args.overwrite h known) ⊥ c.from_residual.result c.in_err-prepared.field-0.0 c.from_residual.ensures
-    (alone_as (λ copied. compressed_at h known offset n offset n c.args.overwrite (omega arith) some refl (inl refl) copied) (λ no. no) c.in_err-prepared.field-0.0 (c.in_err-prepared.ensures.met out sound alone holds))
+    hands_met (IsMetTaking (HasPrepared out) (0 < l2_pins c.args.self.now.file.caches c.args.table) (CopiesCompressed offset n c.args.overwrite h known) ⊥) c.from_residual.result c.in_err-prepared.field-0.0 c.from_residual.ensures
+    (taking_as (λ held. held) (λ kept. kept) (λ copied. compressed_at h known offset n offset n c.args.overwrite (omega arith) some refl (inl refl) copied) (λ no. no) c.in_err-prepared.field-0.0 (c.in_err-prepared.ensures.met out sound holds))
 
 pub returns-in-Err-clause-met : goal.returns-in-Err-clause-met
-returns-in-Err-clause-met g c = λ out sound alone holds some.
+returns-in-Err-clause-met g c = λ out sound holds some.
     let view = g.S.Storage.view in
     let below = g.F.BackingDisk.backing in
     let old = c.args.self.now in
@@ -226,5 +232,31 @@ returns-in-Err-clause-met g c = λ out sound alone holds some.
     let placed = (free_places view below).free old [] out sound in
     let ready = subst (λ o. IsReadied view below old mid (None ∷ out) 0 o n c.args.overwrite p) (sym first.guest) (c.in_ok-prepared.ensures.readies (None ∷ out) placed holds 0 refl) in
     let size : cluster_size hm ≡ cluster_size h = ap (λ (x : HeaderFields). cluster_size x) (header_format old.file.header mid.file.header c.in_ok-prepared.ensures.header) in
-    alone_as (λ found. compressed_as h hm (known_in view old.file) (known_in view mid.file) c.args.offset n c.args.overwrite size ready.covers (subst (λ o. CopiesCompressed o n c.args.overwrite hm (known_in view mid.file)) first.guest found)) (λ no. no)
-    c.in-Err.refusal (c.in-Err.ensures.met old (None ∷ out) 0 refl first.under ready)
+    inl (alone_as (λ found. compressed_as h hm (known_in view old.file) (known_in view mid.file) c.args.offset n c.args.overwrite size ready.covers (subst (λ o. CopiesCompressed o n c.args.overwrite hm (known_in view mid.file)) first.guest found)) (λ no. no)
+    c.in-Err.refusal (c.in-Err.ensures.met old (None ∷ out) 0 refl first.under ready))
+
+pub returns-in-Ok-clause-uses : goal.returns-in-Ok-clause-uses
+returns-in-Ok-clause-uses g c = λ out k free sound holds j used.
+    let view = g.S.Storage.view in
+    let below = g.F.BackingDisk.backing in
+    let old = c.args.self.now in
+    let mid = c.prepare_first.new.self in
+    let p = c.in_ok-prepared.prepared in
+    let first = c.in_ok-prepared.ensures.first in
+    let ready = subst (λ o. IsReadied view below old mid out k o c.args.length c.args.overwrite p) (sym first.guest) (c.in_ok-prepared.ensures.readies out sound holds k free) in
+    c.in-Ok.ensures.uses old out k free first.under ready j (c.in_ok-prepared.ensures.uses out sound holds j used)
+
+pub returns-in-Ok-clause-under : goal.returns-in-Ok-clause-under
+returns-in-Ok-clause-under g c = λ out k free sound holds.
+    let view = g.S.Storage.view in
+    let below = g.F.BackingDisk.backing in
+    let new = c.prepare_rest.new.self in
+    let h = new.file.header.fields in
+    let q = c.prepare_rest.new.prepared in
+    let first = c.in_ok-prepared.ensures.first in
+    let longer = c.in-Ok.ensures.longer in
+    let readied = returns-in-Ok-clause-readies g c out sound holds k free in
+    let mapped = (readied.sound.ready k q (get_set_same out k (Some q) None free)).mapped in
+    let pending : IsPending h (known_in view new.file) (contents_in view new.file) q c.args.table = subst (λ t. IsReadyWith h (known_in view new.file) (contents_in view new.file) q t) (longer.under ∙ first.under) mapped in
+    own_table_known view below (slice_set out k (Some q)) (pending_in view below new (slice_set out k (Some q))) new c.args.offset c.args.table readied.sound
+    (subst (λ o. table_at h (known_in view new.file) (l1_index_of h o) ≡ c.args.table * cluster_size h) (longer.guest ∙ first.guest) pending.named.place)

@@ -1,6 +1,7 @@
-use Rattle.std.proofs.Common.{rules, ◌≡◌, ◌-◌, ◌*◌, ◌%◌, ◌^◌, ◌++◌, [], ◌∷◌, inl, refl, sym, ap, ◌∙◌, subst, arith, List, length}
+use Rattle.qcow2_image.proofs.image.Qcow2.prepare_new.Goals as goal
+use Rattle.std.proofs.Common.{rules, ◌≡◌, ◌-◌, ◌*◌, ◌%◌, ◌^◌, ◌++◌, [], ◌∷◌, inl, refl, sym, ap, ◌∙◌, subst, arith, List, length, ◌+◌, ◌/◌, ◌<◌}
 use Rattle.qcow2_metadata.specs.declared.header.HeaderFields.{HeaderFields}
-use Rattle.qcow2_metadata.specs.Header.{cluster_size}
+use Rattle.qcow2_metadata.specs.Header.{cluster_size, HeaderView}
 use Rattle.qcow2_laws.specs.Unseen.{KeepsFormat}
 use Rattle.qcow2_alloc.proofs.ListedAfter.{header_format}
 use Rattle.qcow2_laws.specs.Changes.{with_new_data}
@@ -17,22 +18,21 @@ use Rattle.qcow2_image.proofs.Prepare.Filling.{image_step_kept, image_step_then}
 use Rattle.qcow2_image.proofs.Prepare.Owning.{refused as any_refusal}
 use Rattle.qcow2_image.proofs.Prepare.ReadyingNew.{back_none, readied_new}
 use Rattle.qcow2_image.proofs.Prepare.Listing.{lists_still}
-use Rattle.qcow2_alloc.proofs.KeptMarks.{notes_none, notes_then}
+use Rattle.qcow2_alloc.proofs.KeptMarks.{notes_none, notes_then, notes_for}
 use Rattle.qcow2_image.proofs.Call.Notes.{same_kept, pins_kept}
 use Rattle.qcow2_image.proofs.Call.BehindHeader.{behind_by, behind_none, behind_tables, behind_then}
-use Rattle.std.proofs.Common.{◌+◌, ◌/◌, ◌<◌}
 use Rattle.std.proofs.lemmas.Nat.{div-mul-add, mod_below, pow_pos}
 use Rattle.qcow2_image.proofs.Prepare.InUse.{used_pinned, used_stays}
 use Rattle.qcow2_image.proofs.Prepare.Lacked.{hands_limit, other_limit}
 use Rattle.qcow2_image.specs.LackedPlaces.{HasNoCluster, StandsInWay}
 use Rattle.qcow2_metadata.specs.TableBytes.{HasPlace}
 use Rattle.qcow2_image.proofs.Prepare.Lacking.{named_place}
-use Rattle.qcow2_metadata.specs.Header.{HeaderView}
 use Rattle.qcow2_alloc.specs.ImageFile.{known_in}
 use Rattle.qcow2_image.specs.Found.{l1_index_of}
 use Rattle.qcow2_image.proofs.Prepare.Met.{hands_met}
-use Rattle.qcow2_image.specs.MetAlone.{IsCopiedCompressed, IsMetAlone}
-use Rattle.qcow2_image.proofs.image.Qcow2.prepare_new.Goals as goal
+use Rattle.qcow2_image.specs.MetAlone.{IsCopiedCompressed, IsMetTaking}
+use Rattle.qcow2_image.specs.Backings.{HasPrepared}
+use Rattle.qcow2_image.proofs.Prepare.MetTaking.{looking_taking}
 
 pub returns-in_err-old_data-clause-readies : goal.returns-in_err-old_data-clause-readies
 returns-in_err-old_data-clause-readies g c = λ out sound holds unpinned covered.
@@ -109,10 +109,10 @@ pub returns-in_err-pending-clause-notes : goal.returns-in_err-pending-clause-not
 returns-in_err-pending-clause-notes g c = c.new_cluster.ensures.notes
 
 pub returns-in-Ok-clause-notes : goal.returns-in-Ok-clause-notes
-returns-in-Ok-clause-notes g c = notes_then (notes_then c.new_cluster.ensures.notes c.load_l2.ensures.notes) (pins_kept c.load_l2.new.self c.prepare_at.new.self (ap (λ (i : Qcow2 _ _). i.file.storage) c.prepare_at.ensures.pins.rest) c.prepare_at.ensures.pins.changed c.prepare_at.ensures.pins.counted)
+returns-in-Ok-clause-notes g c = notes_then (notes_then c.new_cluster.ensures.notes (notes_for c.load_l2.ensures.notes)) (pins_kept c.load_l2.new.self c.prepare_at.new.self (ap (λ (i : Qcow2 _ _). i.file.storage) c.prepare_at.ensures.pins.rest) c.prepare_at.ensures.pins.changed c.prepare_at.ensures.pins.counted)
 
 pub returns-in-Err-clause-notes : goal.returns-in-Err-clause-notes
-returns-in-Err-clause-notes g c = notes_then (notes_then c.new_cluster.ensures.notes c.load_l2.ensures.notes) (same_kept c.load_l2.new.self c.hand_back-in-Err.new.self (ap (λ (i : Qcow2 _ _). i.file.storage) c.hand_back-in-Err.ensures) (ap (λ (i : Qcow2 _ _). i.file.caches) c.hand_back-in-Err.ensures))
+returns-in-Err-clause-notes g c = notes_then (notes_then c.new_cluster.ensures.notes (notes_for c.load_l2.ensures.notes)) (same_kept c.load_l2.new.self c.hand_back-in-Err.new.self (ap (λ (i : Qcow2 _ _). i.file.storage) c.hand_back-in-Err.ensures) (ap (λ (i : Qcow2 _ _). i.file.caches) c.hand_back-in-Err.ensures))
 
 pub returns-in_err-old_data-clause-header_cluster : goal.returns-in_err-old_data-clause-header_cluster
 returns-in_err-old_data-clause-header_cluster g c = λ some. behind_none
@@ -175,16 +175,16 @@ returns-in-Err-clause-limit g c = λ out sound holds.
     other_limit _ c.in-Err.refusal (c.in-Err.ensures.limited new_data out gained.image_step.sound place)
 
 pub returns-in_err-old_data-clause-met : goal.returns-in_err-old_data-clause-met
-returns-in_err-old_data-clause-met g c = λ out sound none holds.
-    hands_met (IsMetAlone (IsCopiedCompressed c.args.self.now.file.header.fields c.args.old.now c.args.offset c.args.length c.args.overwrite) ⊥) c.from_residual.result c.in_err-old_data.field-0.0 c.from_residual.ensures (inl (inl c.in_err-old_data.ensures.fault))
+returns-in_err-old_data-clause-met g c = λ out sound holds.
+    hands_met (IsMetTaking (HasPrepared out) ⊥ (IsCopiedCompressed c.args.self.now.file.header.fields c.args.old.now c.args.offset c.args.length c.args.overwrite) ⊥) c.from_residual.result c.in_err-old_data.field-0.0 c.from_residual.ensures (inl (inl (inl c.in_err-old_data.ensures.fault)))
 
 pub returns-in_err-pending-clause-met : goal.returns-in_err-pending-clause-met
-returns-in_err-pending-clause-met g c = λ out sound none holds.
+returns-in_err-pending-clause-met g c = λ out sound holds.
     let p = pending_in g.S.Storage.view g.F.BackingDisk.backing c.args.self.now out in
-    hands_met (IsMetAlone (IsCopiedCompressed c.args.self.now.file.header.fields c.args.old.now c.args.offset c.args.length c.args.overwrite) ⊥) c.from_residual-in_err-pending.result c.in_err-pending.field-0.0 c.from_residual-in_err-pending.ensures (c.in_err-pending.ensures.met p out sound (λ k. omega arith))
+    hands_met (IsMetTaking (HasPrepared out) ⊥ (IsCopiedCompressed c.args.self.now.file.header.fields c.args.old.now c.args.offset c.args.length c.args.overwrite) ⊥) c.from_residual-in_err-pending.result c.in_err-pending.field-0.0 c.from_residual-in_err-pending.ensures (inl (c.in_err-pending.ensures.met p out sound (λ k. omega arith)))
 
 pub returns-in-Err-clause-met : goal.returns-in-Err-clause-met
-returns-in-Err-clause-met g c = λ out sound none holds.
+returns-in-Err-clause-met g c = λ out sound holds.
     let view = g.S.Storage.view in
     let below = g.F.BackingDisk.backing in
     let old = c.args.self.now in
@@ -195,4 +195,21 @@ returns-in-Err-clause-met g c = λ out sound none holds.
     let gained = c.in_ok-pending.ensures.gains p out sound all_new_data in
     let place = subst (λ b. HasPlace b c.args.table) (sym (ap (λ (v : HeaderView). v.fields.cluster_bits) c.new_cluster.ensures.header))
     (named_place old.file.header.fields (known_in view old.file) (l1_index_of old.file.header.fields c.args.offset) c.args.table holds.entry.place) in
-    inl (inl (c.in-Err.ensures.fault new_data out gained.image_step.sound none place))
+    looking_taking ⊥ (IsCopiedCompressed old.file.header.fields c.args.old.now c.args.offset c.args.length c.args.overwrite) ⊥ c.in-Err.refusal (c.in-Err.ensures.met new_data out gained.image_step.sound place)
+
+pub returns-in-Ok-clause-uses : goal.returns-in-Ok-clause-uses
+returns-in-Ok-clause-uses g c = λ out sound j used.
+    let view = g.S.Storage.view in
+    let below = g.F.BackingDisk.backing in
+    let old = c.args.self.now in
+    let p = pending_in view below old out in
+    let filled = c.new_cluster.new.self in
+    let mid = c.load_l2.new.self in
+    let n = c.in_ok-pending.pending in
+    let gained = c.in_ok-pending.ensures.gains p out sound (λ x. omega arith) in
+    let new_data = with_new_data (pending_with_listed p old filled) (run_of n) in
+    let kept = c.in-Ok.ensures.keeps new_data out gained.image_step.sound in
+    let former = c.in_ok-pending.ensures.former in
+    used_pinned view below c.args.table mid c.prepare_at.new.self c.prepare_at.ensures.pins j
+    (used_stays view below out new_data former.after filled mid gained.image_step.sound kept.sound c.load_l2.ensures.header former.is c.load_l2.ensures.allocator c.load_l2.ensures.table kept.unseen.covers j
+    (c.in_ok-pending.ensures.uses p out sound (λ x. omega arith) j used))

@@ -1,3 +1,4 @@
+use Rattle.qcow2_image.proofs.image.Qcow2.prepare_private.Goals as goal
 use Rattle.std.proofs.Common.{refl, ◌∙◌, inl}
 use Rattle.qcow2_image.proofs.Map.Loading.{if_ok, if_ok_any}
 use Rattle.qcow2_image.proofs.Prepare.KeptShares.{begins_kept}
@@ -6,9 +7,9 @@ use Rattle.qcow2_image.proofs.Prepare.Listing.{lists_none, lists_still}
 use Rattle.qcow2_image.proofs.Prepare.Lacked.{limits_as, needs_new, unlimited_all}
 use Rattle.qcow2_image.specs.LackedPlaces.{HasNoCluster, LacksFirstCluster, StandsInWay}
 use Rattle.qcow2_image.proofs.Prepare.Met.{met_as}
-use Rattle.qcow2_image.specs.MetAlone.{IsCopiedCompressed, IsMetAlone}
+use Rattle.qcow2_image.specs.MetAlone.{IsCopiedCompressed, IsMetTaking}
 use Rattle.qcow2_alloc.specs.ImageError.{IsFault}
-use Rattle.qcow2_image.proofs.image.Qcow2.prepare_private.Goals as goal
+use Rattle.qcow2_image.specs.Backings.{HasPrepared}
 
 pub returns-in-Some-clause-readies : goal.returns-in-Some-clause-readies
 returns-in-Some-clause-readies g c = λ out sound holds unpinned covered. c.prepare_kept.ensures.readies out sound holds unpinned (covered ∙ c.in-Some.ensures.place.0)
@@ -53,8 +54,14 @@ returns-in-None-clause-limit g c = λ out sound holds.
     (λ e full. (needs_new c.args.old.now c.requires.other (c.in-None.ensures.none refl), full)) (c.prepare_new.ensures.limit out sound holds)
 
 pub returns-in-Some-clause-met : goal.returns-in-Some-clause-met
-returns-in-Some-clause-met g c = λ out sound none holds covered.
-    met_as IsFault (IsMetAlone (IsCopiedCompressed c.args.self.now.file.header.fields c.args.old.now c.args.offset c.args.length c.args.overwrite) ⊥) c.prepare_kept.result (λ e fault. inl (inl fault)) (c.prepare_kept.ensures.fault out sound (covered ∙ c.in-Some.ensures.place.0))
+returns-in-Some-clause-met g c = λ out sound holds covered.
+    met_as IsFault (IsMetTaking (HasPrepared out) ⊥ (IsCopiedCompressed c.args.self.now.file.header.fields c.args.old.now c.args.offset c.args.length c.args.overwrite) ⊥) c.prepare_kept.result (λ e fault. inl (inl (inl fault))) (c.prepare_kept.ensures.fault out sound (covered ∙ c.in-Some.ensures.place.0))
 
 pub returns-in-None-clause-met : goal.returns-in-None-clause-met
-returns-in-None-clause-met g c = λ out sound none holds covered. c.prepare_new.ensures.met out sound none holds
+returns-in-None-clause-met g c = λ out sound holds covered. c.prepare_new.ensures.met out sound holds
+
+pub returns-in-Some-clause-uses : goal.returns-in-Some-clause-uses
+returns-in-Some-clause-uses g c = λ out sound holds unpinned covered. c.prepare_kept.ensures.uses c.requires.writable out sound holds unpinned (covered ∙ c.in-Some.ensures.place.0)
+
+pub returns-in-None-clause-uses : goal.returns-in-None-clause-uses
+returns-in-None-clause-uses g c = λ out sound holds unpinned covered. c.prepare_new.ensures.uses out sound

@@ -1,8 +1,9 @@
+use Rattle.qcow2_image.proofs.image.Qcow2.prepare_range.Goals as goal
 use Rattle.std.proofs.Common.{◌≡◌, true, false, inl, inr, refl, sym, ◌∙◌, subst, None, Option, [], ◌∷◌, ◌+◌, ap}
 use Rattle.qcow2_alloc.specs.ImageFile.{known_in}
 use Rattle.qcow2_alloc.proofs.AllocationSteps.{handed_on}
 use Rattle.qcow2_image.specs.CallParts.{PreparesRange}
-use Rattle.qcow2_image.specs.Preparing.{IsPlaceOf, IsWritableAt}
+use Rattle.qcow2_image.specs.Preparing.{IsPlaceOf, IsWritableAt, IsTaken}
 use Rattle.qcow2_image.specs.ImageInvariant.{meaning, pending_in}
 use Rattle.qcow2_image.proofs.Prepare.PreparedAs.{answered_before, answered_existing, answered_range, nowhere_before, taken_before}
 use Rattle.qcow2_image.proofs.Map.Loading.{if_ok}
@@ -14,21 +15,25 @@ use Rattle.qcow2_image.proofs.Prepare.Taken.{if_err, taken_by}
 use Rattle.qcow2_image.proofs.Prepare.Listing.{lists_since}
 use Rattle.qcow2_image.proofs.Prepare.FarEntries.{far_handed_on, far_unanswered}
 use Rattle.std.specs.Prelude.{IsSome, IsTrue}
-use Rattle.qcow2_alloc.proofs.KeptMarks.{notes_then}
+use Rattle.qcow2_alloc.proofs.KeptMarks.{notes_then, notes_for}
 use Rattle.qcow2_image.proofs.Call.BehindHeader.{behind_then}
 use Rattle.qcow2_image.proofs.Prepare.InUse.{none_lowest}
 use Rattle.qcow2_image.proofs.Prepare.Pinned.{found_pins, met_untaken, prepared_unpinned, unpinned_refused}
 use Rattle.qcow2_image.proofs.Prepare.Lacked.{hands_limit, limits_as, other_limit}
 use Rattle.qcow2_image.proofs.Prepare.LackedBehind.{data_after_table}
 use Rattle.qcow2_image.specs.LackedPlaces.{LacksData, LacksRange}
-use Rattle.qcow2_metadata.specs.Header.{cluster_size}
+use Rattle.qcow2_metadata.specs.Header.{cluster_size, HeaderView}
 use Rattle.qcow2_metadata.specs.declared.header.HeaderFields.{HeaderFields}
 use Rattle.qcow2_image.specs.L1Entries.{NeedsFarEntry}
-use Rattle.qcow2_image.specs.MetAlone.{CopiesCompressed}
-use Rattle.qcow2_image.proofs.Prepare.MetTables.{hands_alone}
-use Rattle.qcow2_image.proofs.Prepare.MetRanges.{alone_as, place_kept, place_then}
+use Rattle.qcow2_image.specs.MetAlone.{CopiesCompressed, IsMetTaking}
+use Rattle.qcow2_image.proofs.Prepare.MetRanges.{place_kept, place_then}
 use Rattle.qcow2_image.proofs.Prepare.Unannounced.{compressed_as}
-use Rattle.qcow2_image.proofs.image.Qcow2.prepare_range.Goals as goal
+use Rattle.qcow2_image.specs.PinnedTables.{own_table}
+use Rattle.qcow2_image.proofs.Prepare.LowestTables.{own_table_known, tables_lowest, tables_on}
+use Rattle.qcow2_image.specs.Backings.{HasPrepared}
+use Rattle.qcow2_image.proofs.Prepare.Met.{hands_met}
+use Rattle.qcow2_image.proofs.Prepare.MetTaking.{if_err_both, taking_as, taking_kept}
+use Rattle.qcow2_image.proofs.Grow.NoLonger.{length_then}
 
 pub returns-in_err-table-clause-readies : goal.returns-in_err-table-clause-readies
 returns-in_err-table-clause-readies g c = λ some out sound.
@@ -129,16 +134,16 @@ pub returns-in-None-clause-far : goal.returns-in-None-clause-far
 returns-in-None-clause-far g c = λ needs. absurd (far_unanswered c.table_for.result c.in_ok-table.table c.in_ok-table.was (c.table_for.ensures.far needs).0)
 
 pub returns-in_err-table-clause-notes : goal.returns-in_err-table-clause-notes
-returns-in_err-table-clause-notes g c = c.table_for.ensures.notes
+returns-in_err-table-clause-notes g c = notes_for c.table_for.ensures.notes
 
 pub returns-in_err-host-clause-notes : goal.returns-in_err-host-clause-notes
-returns-in_err-host-clause-notes g c = c.table_for.ensures.notes
+returns-in_err-host-clause-notes g c = notes_for c.table_for.ensures.notes
 
 pub returns-in-Some-clause-notes : goal.returns-in-Some-clause-notes
-returns-in-Some-clause-notes g c = c.table_for.ensures.notes
+returns-in-Some-clause-notes g c = notes_for c.table_for.ensures.notes
 
 pub returns-in-None-clause-notes : goal.returns-in-None-clause-notes
-returns-in-None-clause-notes g c = notes_then c.table_for.ensures.notes c.prepare_in.ensures.notes
+returns-in-None-clause-notes g c = notes_then (notes_for c.table_for.ensures.notes) c.prepare_in.ensures.notes
 
 pub returns-in_err-table-clause-header_cluster : goal.returns-in_err-table-clause-header_cluster
 returns-in_err-table-clause-header_cluster g c = c.table_for.ensures.header_cluster
@@ -197,28 +202,29 @@ returns-in-None-clause-limit g c = λ some out sound.
     (λ e lacks. inr (nowhere_before view old mid c.args.offset c.args.length found.0.header found.0.covers nowhere, data_after_table view c.args.offset c.args.length old mid new found.0.header found.0.covers (c.in_ok-table.ensures.freed out sound) lacks)) (c.prepare_in.ensures.limit out found.0.sound found.1 some)
 
 pub returns-in_err-table-clause-met : goal.returns-in_err-table-clause-met
-returns-in_err-table-clause-met g c = λ some out sound alone.
+returns-in_err-table-clause-met g c = λ some out sound.
     let old = c.args.self.now in
     let h = old.file.header.fields in
-    hands_alone (CopiesCompressed c.args.offset c.args.length c.args.overwrite h (known_in g.S.Storage.view old.file)) (NeedsFarEntry old c.args.offset) c.from_residual.result c.in_err-table.field-0.0 c.from_residual.ensures
-    (alone_as (λ no. absurd no) (λ far. far) c.in_err-table.field-0.0 (c.in_err-table.ensures.met out sound alone))
+    let known = known_in g.S.Storage.view old.file in
+    hands_met (IsMetTaking (HasPrepared out) (IsTaken h known c.args.offset c.args.length out) (CopiesCompressed c.args.offset c.args.length c.args.overwrite h known) (NeedsFarEntry old c.args.offset)) c.from_residual.result c.in_err-table.field-0.0 c.from_residual.ensures
+    (taking_as (λ held. held) (λ no. absurd no) (λ no. absurd no) (λ far. far) c.in_err-table.field-0.0 (c.in_err-table.ensures.met out sound))
 
 pub returns-in_err-host-clause-met : goal.returns-in_err-host-clause-met
-returns-in_err-host-clause-met g c = λ some out sound alone.
+returns-in_err-host-clause-met g c = λ some out sound.
     let mid = c.table_for.new.self in
     let found = c.in_ok-table.ensures.finds out sound in
     absurd (let no : false ≡ true = c.in_err-host.ensures.reads (pending_in g.S.Storage.view g.F.BackingDisk.backing mid out) found.0.sound.file found.1.entry in cc)
 
 pub returns-in-None-clause-met : goal.returns-in-None-clause-met
-returns-in-None-clause-met g c = λ some out sound alone.
+returns-in-None-clause-met g c = λ some out sound.
     let view = g.S.Storage.view in
     let old = c.args.self.now in
     let mid = c.table_for.new.self in
     let found = c.in_ok-table.ensures.finds out sound in
     let size : cluster_size mid.file.header.fields ≡ cluster_size old.file.header.fields = ap (λ (x : HeaderFields). cluster_size x) found.0.header in
-    if_err c.prepare_in.result
-    (alone_as (compressed_as old.file.header.fields mid.file.header.fields (known_in view old.file) (known_in view mid.file) c.args.offset c.args.length c.args.overwrite size found.0.covers) (λ no. absurd no))
-    (c.prepare_in.ensures.met out found.0.sound alone found.1 some)
+    if_err_both
+    (λ e. taking_kept (compressed_as old.file.header.fields mid.file.header.fields (known_in view old.file) (known_in view mid.file) c.args.offset c.args.length c.args.overwrite size found.0.covers) (λ no. absurd no) e)
+    c.prepare_in.result (returns-in-None-clause-taken g c some out sound) (c.prepare_in.ensures.met out found.0.sound found.1 some)
 
 pub returns-in-Some-clause-l1_place : goal.returns-in-Some-clause-l1_place
 returns-in-Some-clause-l1_place g c = c.in_ok-table.ensures.l1_place
@@ -227,3 +233,55 @@ pub returns-in-None-clause-l1_place : goal.returns-in-None-clause-l1_place
 returns-in-None-clause-l1_place g c = λ within.
     on_ok c.prepare_in.result
     (λ former. place_then c.args.self.now.file.header.fields c.table_for.new.self.file.header.fields c.prepare_in.new.self.file.header.fields (c.in_ok-table.ensures.l1_place within) (place_kept c.table_for.new.self.file.header c.prepare_in.new.self.file.header c.prepare_in.ensures.header)) c.prepare_in.ensures.former
+
+pub returns-in_err-table-clause-no_longer : goal.returns-in_err-table-clause-no_longer
+returns-in_err-table-clause-no_longer g c = c.table_for.ensures.no_longer
+
+pub returns-in_err-host-clause-no_longer : goal.returns-in_err-host-clause-no_longer
+returns-in_err-host-clause-no_longer g c = c.table_for.ensures.no_longer
+
+pub returns-in-Some-clause-no_longer : goal.returns-in-Some-clause-no_longer
+returns-in-Some-clause-no_longer g c = c.table_for.ensures.no_longer
+
+pub returns-in-None-clause-no_longer : goal.returns-in-None-clause-no_longer
+returns-in-None-clause-no_longer g c = length_then c.table_for.ensures.no_longer (ap (λ (v : HeaderView). v.fields.l1_entries) c.prepare_in.ensures.header)
+
+pub returns-in-Some-clause-freeing : goal.returns-in-Some-clause-freeing
+returns-in-Some-clause-freeing g c = λ some out sound none. c.in_ok-table.ensures.freeing out sound
+
+pub returns-in-None-clause-freeing : goal.returns-in-None-clause-freeing
+returns-in-None-clause-freeing g c = λ some out sound.
+    let view = g.S.Storage.view in
+    let old = c.args.self.now in
+    let mid = c.table_for.new.self in
+    let found = c.in_ok-table.ensures.finds out sound in
+    let p = pending_in view g.F.BackingDisk.backing mid out in
+    let nowhere = subst (IsPlaceOf mid.file.header.fields (known_in view mid.file) c.args.offset c.args.length) c.in-None.is (c.in_ok-host.ensures.place p found.0.sound.file found.1.entry some) in
+    let never = nowhere_before view old mid c.args.offset c.args.length found.0.header found.0.covers nowhere in
+    if_ok c.prepare_in.result
+    (λ q is none. let place = is.existing.0 none in absurd (never place.0 place.1)) (returns-in-None-clause-answers g c some out sound)
+
+pub returns-in-Some-clause-lowest_tables : goal.returns-in-Some-clause-lowest_tables
+returns-in-Some-clause-lowest_tables g c = λ out sound.
+    let view = g.S.Storage.view in
+    let below = g.F.BackingDisk.backing in
+    let old = c.args.self.now in
+    let mid = c.table_for.new.self in
+    let found = c.in_ok-table.ensures.finds out sound in
+    let is : own_table mid c.args.offset ≡ c.in_ok-table.table = own_table_known view below out (pending_in view below mid out) mid c.args.offset c.in_ok-table.table found.0.sound found.1.entry.place in
+    let tables = tables_lowest view c.args.offset c.in_ok-table.table old mid is (λ own. (c.in_ok-table.ensures.own own).table) (c.in_ok-table.ensures.moves out sound) (c.in_ok-table.ensures.lowest out sound) in
+    tables
+
+pub returns-in-None-clause-lowest_tables : goal.returns-in-None-clause-lowest_tables
+returns-in-None-clause-lowest_tables g c = λ out sound.
+    let view = g.S.Storage.view in
+    let below = g.F.BackingDisk.backing in
+    let old = c.args.self.now in
+    let mid = c.table_for.new.self in
+    let found = c.in_ok-table.ensures.finds out sound in
+    let is : own_table mid c.args.offset ≡ c.in_ok-table.table = own_table_known view below out (pending_in view below mid out) mid c.args.offset c.in_ok-table.table found.0.sound found.1.entry.place in
+    let tables = tables_lowest view c.args.offset c.in_ok-table.table old mid is (λ own. (c.in_ok-table.ensures.own own).table) (c.in_ok-table.ensures.moves out sound) (c.in_ok-table.ensures.lowest out sound) in
+    let new = c.prepare_in.new.self in
+    let free = (free_places view below).free mid [] out found.0.sound in
+    tables_on view c.args.offset old mid new c.prepare_in.result c.prepare_in.ensures.header c.prepare_in.ensures.former (c.prepare_in.ensures.uses (None ∷ out) 0 refl free found.1)
+    (on_ok c.prepare_in.result (λ at. at ∙ sym is) (c.prepare_in.ensures.under (None ∷ out) 0 refl free found.1)) tables

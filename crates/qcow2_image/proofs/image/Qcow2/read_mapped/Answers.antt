@@ -28,6 +28,7 @@ use Rattle.std.proofs.Common.{◌+◌, sym, subst}
 use Rattle.std.specs.Prelude.{Result}
 use Rattle.qcow2_image.specs.Found.{further_by}
 use Rattle.qcow2_image.specs.HeldMappings.{HeedsHeld}
+use Rattle.qcow2_image.proofs.Call.ToldData.{none_told_in_call}
 use Rattle.qcow2_image.proofs.image.Qcow2.read_mapped.Goals as goal
 
 pub returns-clause-sees : goal.returns-clause-sees
@@ -114,3 +115,6 @@ returns-clause-held g c = λ usable some.
 
 pub returns-then-is_empty-clause-held : goal.returns-then-is_empty-clause-held
 returns-then-is_empty-clause-held g c = λ usable some. absurd (let none : length c.args.bytes.now ≡ 0 = search rules in omega (arith, none, some))
+
+pub returns-clause-kinds : goal.returns-clause-kinds
+returns-clause-kinds g c = none_told_in_call c.begin.ensures.begun c.read_current-done.ensures.notes c.mark_failure.ensures.rest

@@ -1,4 +1,5 @@
-use Rattle.std.proofs.Common.{inl, refl}
+use Rattle.qcow2_image.proofs.image.Qcow2.replace_l2.Goals as goal
+use Rattle.std.proofs.Common.{inl, refl, ◌≢◌, subst, sym, ◌++◌, ◌∷◌, []}
 use Rattle.qcow2_image.specs.NewTables.{OwnsTable}
 use Rattle.qcow2_image.proofs.Prepare.Entering.{as_listed_after}
 use Rattle.qcow2_image.proofs.Map.Loading.{caches_moved, with_caches}
@@ -7,12 +8,22 @@ use Rattle.qcow2_alloc.proofs.KeptMarks.{notes_then, notes_of_both}
 use Rattle.qcow2_image.proofs.Call.BehindHeader.{behind_caches, behind_then}
 use Rattle.qcow2_image.proofs.Grow.Lengths.{on_ok}
 use Rattle.qcow2_image.proofs.Prepare.Listing.{some_from}
-use Rattle.qcow2_image.proofs.Prepare.Lacked.{hands_limit, limits_as, other_limit, stands_alike, hands_either}
+use Rattle.qcow2_image.proofs.Prepare.Lacked.{hands_limit, limits_as, other_limit, stands_alike}
 use Rattle.qcow2_alloc.specs.ImageFile.{contents_in}
-use Rattle.qcow2_image.proofs.Prepare.Lacking.{named_place, fault_alone}
+use Rattle.qcow2_image.proofs.Prepare.Lacking.{named_place, loads_looking}
 use Rattle.qcow2_image.proofs.Call.Unlimited.{in_use_unlimited}
 use Rattle.qcow2_image.specs.LackedPlaces.{HasNoCluster, StandsInWay}
-use Rattle.qcow2_image.proofs.image.Qcow2.replace_l2.Goals as goal
+use Rattle.qcow2_metadata.specs.Bytes.{Bytes}
+use Rattle.qcow2_metadata.specs.Entries.{count}
+use Rattle.qcow2_alloc.specs.LowestRuns.{StaysUsed}
+use Rattle.qcow2_alloc.proofs.Hints.{ok_as}
+use Rattle.qcow2_alloc.specs.ClustersToFree.{metadata_entry}
+use Rattle.qcow2_image.specs.LowestPlaces.{IsLowest, TakesLowestOf}
+use Rattle.qcow2_image.proofs.Prepare.LowestTables.{ok_then}
+use Rattle.qcow2_image.specs.Backings.{HasPrepared}
+use Rattle.qcow2_image.specs.MetAlone.{IsMetTaking}
+use Rattle.qcow2_image.proofs.Prepare.Met.{hands_met}
+use Rattle.qcow2_image.proofs.Prepare.MetTaking.{looking_taking}
 
 pub returns-in_err-l2_get_or_insert-clause-owns : goal.returns-in_err-l2_get_or_insert-clause-owns
 returns-in_err-l2_get_or_insert-clause-owns g c = λ p out sound shared.
@@ -91,17 +102,17 @@ returns-clause-limit g c = λ p out sound shared near.
     (c.swap_l2.ensures.limit p out kept.sound still
     (says_copy view below out p mid kept.sound c.args.index c.args.old still c.in-Some.held.now c.in_ok-table.table c.in-Some.ensures.shows c.in_ok-table.ensures.ok) (record { within = near.within; room = near.room }))
 
-pub returns-in_err-l2_get_or_insert-clause-fault : goal.returns-in_err-l2_get_or_insert-clause-fault
-returns-in_err-l2_get_or_insert-clause-fault g c = λ p out sound none shared near.
+pub returns-in_err-l2_get_or_insert-clause-met : goal.returns-in_err-l2_get_or_insert-clause-met
+returns-in_err-l2_get_or_insert-clause-met g c = λ p out sound shared near.
     let view = g.S.Storage.view in
     let old = c.args.self.now in
     let h = old.file.header.fields in
     let e = c.in_err-l2_get_or_insert.field-0.0 in
-    hands_either c.from_residual.result e c.from_residual.ensures
-    (inl (fault_alone view g.F.BackingDisk.backing out p old sound none e (c.in_err-l2_get_or_insert.ensures.refusals h (named_place h (contents_in view old.file) c.args.index c.args.old shared.place) p sound.file.honest sound.file.caches sound.file.named_blocks)))
+    hands_met (IsMetTaking (HasPrepared out) ⊥ ⊥ ⊥) c.from_residual.result e c.from_residual.ensures
+    (looking_taking ⊥ ⊥ ⊥ e (loads_looking view g.F.BackingDisk.backing out p old sound e (c.in_err-l2_get_or_insert.ensures.refusals h (named_place h (contents_in view old.file) c.args.index c.args.old shared.place) p sound.file.honest sound.file.caches sound.file.named_blocks)))
 
-pub returns-clause-fault : goal.returns-clause-fault
-returns-clause-fault g c = λ p out sound none shared near.
+pub returns-clause-met : goal.returns-clause-met
+returns-clause-met g c = λ p out sound shared near.
     let view = g.S.Storage.view in
     let below = g.F.BackingDisk.backing in
     let old = c.args.self.now in
@@ -109,5 +120,32 @@ returns-clause-fault g c = λ p out sound none shared near.
     let kept = caches_moved view below old out p sound c.l2_get_or_insert.new.storage c.l2_get_or_insert.new.self
     (c.l2_get_or_insert.ensures.keeps old.file.header.fields p sound.file.honest sound.file.caches) c.l2_get_or_insert.ensures.marks.room c.l2_get_or_insert.ensures.marks.pins in
     let still = shared_still view below out p old sound c.args.index mid kept refl refl c.args.old shared in
-    c.swap_l2.ensures.fault p out kept.sound none still
+    c.swap_l2.ensures.met p out kept.sound still
     (says_copy view below out p mid kept.sound c.args.index c.args.old still c.in-Some.held.now c.in_ok-table.table c.in-Some.ensures.shows c.in_ok-table.ensures.ok) (record { within = near.within; room = near.room })
+
+pub returns-clause-uses : goal.returns-clause-uses
+returns-clause-uses g c = λ p out sound shared.
+    let view = g.S.Storage.view in
+    let below = g.F.BackingDisk.backing in
+    let old = c.args.self.now in
+    let mid = with_caches view below old out p sound c.l2_get_or_insert.new.storage c.l2_get_or_insert.new.self in
+    let stay = c.l2_get_or_insert.ensures.keeps old.file.header.fields p sound.file.honest sound.file.caches in
+    let kept = caches_moved view below old out p sound c.l2_get_or_insert.new.storage c.l2_get_or_insert.new.self stay c.l2_get_or_insert.ensures.marks.room c.l2_get_or_insert.ensures.marks.pins in
+    let still = shared_still view below out p old sound c.args.index mid kept refl refl c.args.old shared in
+    let says = says_copy view below out p mid kept.sound c.args.index c.args.old still c.in-Some.held.now c.in_ok-table.table c.in-Some.ensures.shows c.in_ok-table.ensures.ok in
+    ok_as (StaysUsed view mid.file c.swap_l2.new.self.file) (StaysUsed view old.file c.swap_l2.new.self.file) c.swap_l2.result (λ then k used. then k (subst (λ (b : Bytes). count old.file.header.fields b k ≢ 0) (sym stay.known) used))
+    (c.swap_l2.ensures.uses p out kept.sound still says)
+
+pub returns-clause-lowest : goal.returns-clause-lowest
+returns-clause-lowest g c = λ p out sound shared.
+    let view = g.S.Storage.view in
+    let below = g.F.BackingDisk.backing in
+    let old = c.args.self.now in
+    let mid = with_caches view below old out p sound c.l2_get_or_insert.new.storage c.l2_get_or_insert.new.self in
+    let stay = c.l2_get_or_insert.ensures.keeps old.file.header.fields p sound.file.honest sound.file.caches in
+    let kept = caches_moved view below old out p sound c.l2_get_or_insert.new.storage c.l2_get_or_insert.new.self stay c.l2_get_or_insert.ensures.marks.room c.l2_get_or_insert.ensures.marks.pins in
+    let still = shared_still view below out p old sound c.args.index mid kept refl refl c.args.old shared in
+    let says = says_copy view below out p mid kept.sound c.args.index c.args.old still c.in-Some.held.now c.in_ok-table.table c.in-Some.ensures.shows c.in_ok-table.ensures.ok in
+    let runs = old.file.free_list ++ metadata_entry c.args.old 1 ∷ [] in
+    ok_then (λ t. TakesLowestOf view t 1 runs mid c.swap_l2.new.self) (λ t. TakesLowestOf view t 1 runs old c.swap_l2.new.self) c.swap_l2.result (λ t s. stands_alike view (IsLowest t 1) runs old mid c.swap_l2.new.self refl s)
+    (c.swap_l2.ensures.lowest p out kept.sound still says)

@@ -1,3 +1,4 @@
+use Rattle.qcow2_image.proofs.image.Qcow2.resize_grow.Goals as goal
 use Rattle.qcow2_image.proofs.Call.OnceWritten.{once_none}
 use Rattle.std.proofs.Common.{◌≡◌, ◌≤◌, ◌∙◌, inl, inr, None, Some, true, false, sym, ap, subst, refl}
 use Rattle.std.specs.Prelude.{Result}
@@ -6,7 +7,6 @@ use Rattle.qcow2_image.proofs.Clear.ClearCalls.{err_is, not_refused, refused_for
 use Rattle.qcow2_image.proofs.Sizing.GrowCalls.{grows_early, grows_nothing, grows_over}
 use Rattle.qcow2_image.proofs.Sizing.ShrinkCalls.{resize_works}
 use Rattle.qcow2_image.proofs.Prepare.Taken.{if_err}
-use Rattle.qcow2_image.proofs.image.Qcow2.resize_grow.Goals as goal
 
 pub returns-in_err-check_resize-clause-sees : goal.returns-in_err-check_resize-clause-sees
 returns-in_err-check_resize-clause-sees g c =
@@ -52,14 +52,20 @@ pub returns-clause-limit : goal.returns-clause-limit
 returns-clause-limit g c = λ none larger out sound. c.grow_disk.ensures.limit out sound
 
 pub returns-in_err-check_resize-clause-met : goal.returns-in_err-check_resize-clause-met
-returns-in_err-check_resize-clause-met g c = λ works larger out sound alone.
+returns-in_err-check_resize-clause-met g c = λ works larger out sound.
     let old = c.args.self.now in
     let e = c.in_err-check_resize.field-0.0 in
     let refuses = refused_for c.check_resize.result tt (refuses_to_resize old) e c.check_resize.ensures c.in_err-check_resize.was in
     absurd (let no : Some e ≡ None = sym refuses ∙ works in cc)
 
 pub returns-then-takes_over-clause-met : goal.returns-then-takes_over-clause-met
-returns-then-takes_over-clause-met g c = λ works larger out sound alone. inr (refl, sym c.takes_over.ensures ∙ c.if-takes_over.true)
+returns-then-takes_over-clause-met g c = λ works larger out sound. inr (refl, sym c.takes_over.ensures ∙ c.if-takes_over.true)
 
 pub returns-clause-met : goal.returns-clause-met
-returns-clause-met g c = λ works larger out sound alone. if_err c.grow_disk.result (λ e why. inl why) (c.grow_disk.ensures.met out sound alone)
+returns-clause-met g c = λ works larger out sound. if_err c.grow_disk.result (λ e why. inl why) (c.grow_disk.ensures.met out sound)
+
+pub returns-clause-kinds : goal.returns-clause-kinds
+returns-clause-kinds g c = c.grow_disk.ensures.kinds
+
+pub returns-clause-lowest : goal.returns-clause-lowest
+returns-clause-lowest g c = λ allowed larger none. c.grow_disk.ensures.lowest none

@@ -105,3 +105,6 @@ returns-clause-pinned g c = λ none smaller. (
   λ is. absurd (fault_unprepared c.shrink.result c.shrink.ensures.cause is),
   λ has. absurd (let unpinned = c.first_pinned_l2.ensures.none (sym c.is_some.ensures ∙ c.if-is_some.false) has.cluster in let some = has.pins in omega arith),
 )
+
+pub returns-clause-kinds : goal.returns-clause-kinds
+returns-clause-kinds g c = c.shrink.ensures.kinds

@@ -21,6 +21,7 @@ use Rattle.qcow2_image.proofs.Call.FaultCounts.{counted_as, counted_still}
 use Rattle.qcow2_image.specs.Faults.{TellsEachIn, TellsFault}
 use Rattle.qcow2_image.proofs.Call.OnceWritten.{call_then, changes_later, failed_part, kept_fewer, notes_part, refused_once}
 use Rattle.qcow2_image.proofs.Call.BehindHeader.{behind_by, behind_none, behind_then}
+use Rattle.qcow2_image.proofs.Call.ToldData.{none_told, none_told_by}
 use Rattle.qcow2_image.proofs.image.Qcow2.shrink.Goals as goal
 
 pub returns-in-Some-clause-sees : goal.returns-in-Some-clause-sees
@@ -176,3 +177,12 @@ returns-in-Err-clause-header_cluster g c = behind_then (behind_then c.uncover_ta
 
 pub returns-clause-header_cluster : goal.returns-clause-header_cluster
 returns-clause-header_cluster g c = behind_then c.uncover_tail-end.ensures.header_cluster c.write_size.ensures.header_cluster
+
+pub returns-in-Some-clause-kinds : goal.returns-in-Some-clause-kinds
+returns-in-Some-clause-kinds g c = none_told_by c.mark_refused.ensures.rest ∙ c.uncover_tail-end.ensures.since.kinds
+
+pub returns-in-Err-clause-kinds : goal.returns-in-Err-clause-kinds
+returns-in-Err-clause-kinds g c = none_told_by c.mark_refused-in-Err.ensures.rest ∙ none_told c.write_size.ensures.notes ∙ c.uncover_tail-end.ensures.since.kinds
+
+pub returns-clause-kinds : goal.returns-clause-kinds
+returns-clause-kinds g c = none_told c.write_size.ensures.notes ∙ c.uncover_tail-end.ensures.since.kinds

@@ -76,3 +76,8 @@ returns-clause-fault g c = λ p out sound.
     let none = HasNoPlace (IsUsed view file) file.header.fields c.allocate_data.new.self c.new.result in
     met_as (IsFaultOr none) IsFaultOrLimit c.allocate_data.result (λ e why. limit_alone none e why)
     (c.allocate_data.ensures.limit p (record { sound = record { sound = sound.file; reftable = own.reftable }; hint = own.hint }) (omega (arith, one)))
+
+pub returns-clause-uses : goal.returns-clause-uses
+returns-clause-uses g c = λ p out sound.
+    let own = subst (λ x. IfSome x (IsAllocatorOf g.S.Storage.view c.args.self.now.file)) c.in-Some.is sound.reftable in
+    c.allocate_data.ensures.uses p (record { sound = sound.file; reftable = own.reftable })

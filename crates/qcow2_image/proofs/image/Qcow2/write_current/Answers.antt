@@ -1,4 +1,5 @@
-use Rattle.std.proofs.Common.{◌≡◌, ◌+◌, ◌^◌, ◌≤◌, inl, inr, None, Err, length, refl, sym, subst, true, arith}
+use Rattle.qcow2_image.proofs.image.Qcow2.write_current.Goals as goal
+use Rattle.std.proofs.Common.{◌≡◌, ◌+◌, ◌^◌, ◌≤◌, inl, inr, None, Err, length, refl, sym, ap, ◌∙◌, subst, true, arith}
 use Rattle.image_access.specs.Contents.{overwritten}
 use Rattle.qcow2_alloc.specs.ImageFile.{view_in}
 use Rattle.qcow2_alloc.specs.declared.error.ImageError.TheVariants.{OutdatedMapping, Overflow}
@@ -12,18 +13,21 @@ use Rattle.qcow2_image.specs.CallParts.{PutsPart, IsWriteOutcome}
 use Rattle.qcow2_image.specs.ImageInvariant.{pending_in}
 use Rattle.qcow2_image.proofs.Write.PutParts.{mapped_in_place, puts_nothing, puts_refused, puts_then, puts_written}
 use Rattle.qcow2_image.proofs.Call.Called.{Quietly, quiet_sound}
-use Rattle.qcow2_alloc.proofs.KeptMarks.{notes_then}
+use Rattle.qcow2_alloc.proofs.KeptMarks.{notes_then, notes_for}
 use Rattle.qcow2_image.proofs.Call.BehindHeader.{behind_then}
 use Rattle.qcow2_image.proofs.Map.Held.{heeds_then, held_as, keeps_storage}
 use Rattle.qcow2_image.specs.HeldMappings.{HeedsHeld, IsHeldAs}
-use Rattle.std.specs.Prelude.{Result}
+use Rattle.std.specs.Prelude.{Result, OnOk}
 use Rattle.std.proofs.lemmas.Bool.{cases_lt}
 use Rattle.qcow2_alloc.specs.ImageError.{IsFault}
 use Rattle.qcow2_image.specs.MetAlone.{IsCacheHeld, IsMetPutting}
 use Rattle.qcow2_image.proofs.Prepare.Met.{hands_met, met_as, told_sum}
 use Rattle.qcow2_image.proofs.Prepare.NearPlaces.{past_existing}
 use Rattle.qcow2_image.proofs.Write.Hosted.{hosts_behind_header}
-use Rattle.qcow2_image.proofs.image.Qcow2.write_current.Goals as goal
+use Rattle.image_access.specs.Moments.{Rose}
+use Rattle.qcow2_alloc.specs.ImageStorage.{changes_of, data_changes_of}
+use Rattle.qcow2_image.specs.Noted.{TellsDataAlone}
+use Rattle.qcow2_image.proofs.Call.ToldData.{none_told}
 
 pub returns-in_err-check_in_place-clause-puts : goal.returns-in_err-check_in_place-clause-puts
 returns-in_err-check_in_place-clause-puts g c = λ some fits out k placed sound.
@@ -71,7 +75,7 @@ pub returns-in_default-clause-puts : goal.returns-in_default-clause-puts
 returns-in_default-clause-puts g c = λ some fits out k placed sound. puts_nothing g.S.Storage.view g.F.BackingDisk.backing out k c.args.prepared.now c.args.at c.args.bytes.now placed c.args.self.now Overflow sound
 
 pub returns-clause-notes : goal.returns-clause-notes
-returns-clause-notes g c = notes_then c.check_in_place.ensures.notes c.write_data.ensures.notes
+returns-clause-notes g c = notes_then (notes_for c.check_in_place.ensures.notes) c.write_data.ensures.notes
 
 pub returns-clause-mapped : goal.returns-clause-mapped
 returns-clause-mapped g c = λ none p out sound.
@@ -130,3 +134,18 @@ returns-clause-met g c = λ fits some out k placed sound.
     let behind = hosts_behind_header view below mid out (quiet_sound view below out old mid (λ _. quiet) sound) n k p c.args.at placed fits (mapped_in_place view below out k p c.args.at c.args.bytes.now placed mid mapped) 0 some in
     let host_is = c.in-Some.ensures.1 in
     met_as IsFault (IsMetPutting (IsCacheHeld c.args.self.now out) p c.args.at) c.write_data.result (λ e fault. inl fault) (c.write_data.ensures.fault (omega (arith, behind, host_is)))
+
+pub returns-in_default-clause-kinds : goal.returns-in_default-clause-kinds
+returns-in_default-clause-kinds g c = λ some. inl refl
+
+pub returns-in_err-check_in_place-clause-kinds : goal.returns-in_err-check_in_place-clause-kinds
+returns-in_err-check_in_place-clause-kinds g c = λ some. inl (ap (λ (i : Qcow2 _ _). changes_of i.file.storage) (c.check_in_place.ensures.idle some))
+
+pub returns-clause-kinds : goal.returns-clause-kinds
+returns-clause-kinds g c = λ some. subst (λ (i : Qcow2 _ _). TellsDataAlone i c.write_data.new.self) (c.check_in_place.ensures.idle some) c.write_data.ensures.kinds
+
+pub returns-clause-told : goal.returns-clause-told
+returns-clause-told g c = subst (λ n. OnOk c.write_data.result (Rose n (data_changes_of c.write_data.new.self.file.storage))) (none_told c.check_in_place.ensures.notes) c.write_data.ensures.told
+
+pub returns-clause-list : goal.returns-clause-list
+returns-clause-list g c = ap (λ (image : Qcow2 _ _). image.file.free_list) c.write_data.ensures.written.rest ∙ c.check_in_place.ensures.list

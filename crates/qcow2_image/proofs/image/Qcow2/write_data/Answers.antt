@@ -1,17 +1,17 @@
-use Rattle.qcow2_alloc.proofs.KeptNotes.{kept_told, write_kept}
-use Rattle.qcow2_alloc.proofs.KeptMarks.{notes_none, notes_of_storage}
+use Rattle.qcow2_alloc.proofs.KeptMarks.{any_told_kept, notes_none, notes_of_storage}
 use Rattle.qcow2_image.proofs.Call.BehindHeader.{behind_none, behind_guard, behind_wrote}
-use Rattle.std.proofs.Common.{ap}
+use Rattle.std.proofs.Common.{ap, inl, refl}
 use Rattle.qcow2_image.proofs.Prepare.Lacked.{hands_unlimited, hands_fault}
 use Rattle.qcow2_image.proofs.Call.Unlimited.{storage_unlimited, storage_fault}
 use Rattle.qcow2_alloc.specs.ImageError.{of_storage}
+use Rattle.qcow2_image.proofs.Call.ToldData.{data_alone_told, data_told}
 use Rattle.qcow2_image.proofs.image.Qcow2.write_data.Goals as goal
 
 pub returns-in_err-write_data-clause-notes : goal.returns-in_err-write_data-clause-notes
-returns-in_err-write_data-clause-notes g c = notes_of_storage (kept_told c.args.self.now.file.storage c.will_write.new.self c.write_data.new.self c.will_write.ensures.storage c.will_write.ensures.changed (write_kept _ _ c.write_data.result _ c.write_data.ensures.written c.write_data.ensures.calls c.write_data.ensures.noted))
+returns-in_err-write_data-clause-notes g c = notes_of_storage (any_told_kept c.args.self.now.file.storage c.will_write.new.self c.write_data.new.self c.write_data.result c.will_write.ensures.storage c.will_write.ensures.changed _ c.write_data.ensures.written c.write_data.ensures.calls c.write_data.ensures.noted)
 
 pub returns-clause-notes : goal.returns-clause-notes
-returns-clause-notes g c = notes_of_storage (kept_told c.args.self.now.file.storage c.will_write.new.self c.write_data.new.self c.will_write.ensures.storage c.will_write.ensures.changed (write_kept _ _ c.write_data.result _ c.write_data.ensures.written c.write_data.ensures.calls c.write_data.ensures.noted))
+returns-clause-notes g c = notes_of_storage (any_told_kept c.args.self.now.file.storage c.will_write.new.self c.write_data.new.self c.write_data.result c.will_write.ensures.storage c.will_write.ensures.changed _ c.write_data.ensures.written c.write_data.ensures.calls c.write_data.ensures.noted)
 
 pub returns-in_err-write_data-clause-header_cluster : goal.returns-in_err-write_data-clause-header_cluster
 returns-in_err-write_data-clause-header_cluster g c = behind_wrote c.write_data.result c.args.host c.args.bytes.now (ap g.S.Storage.view c.will_write.ensures.storage) (λ bits lies. behind_guard bits _ c.cluster_size.result c.args.host lies.header c.cluster_size.ensures.value c.if-host-cluster_size.false) c.write_data.ensures.written c.write_data.ensures.calls
@@ -30,3 +30,15 @@ returns-in_err-write_data-clause-limited g c = hands_unlimited c.from_residual.r
 
 pub returns-in_err-write_data-clause-fault : goal.returns-in_err-write_data-clause-fault
 returns-in_err-write_data-clause-fault g c = λ behind. hands_fault c.from_residual.result (of_storage c.in_err-write_data.field-0.0) c.from_residual.ensures (storage_fault c.in_err-write_data.field-0.0)
+
+pub returns-then-host-cluster_size-clause-kinds : goal.returns-then-host-cluster_size-clause-kinds
+returns-then-host-cluster_size-clause-kinds g c = inl refl
+
+pub returns-in_err-write_data-clause-kinds : goal.returns-in_err-write_data-clause-kinds
+returns-in_err-write_data-clause-kinds g c = data_alone_told c.args.self.now.file.storage c.will_write.new.self c.write_data.new.self c.will_write.ensures.changed c.will_write.ensures.kind c.write_data.result c.write_data.ensures.noted
+
+pub returns-clause-kinds : goal.returns-clause-kinds
+returns-clause-kinds g c = data_alone_told c.args.self.now.file.storage c.will_write.new.self c.write_data.new.self c.will_write.ensures.changed c.will_write.ensures.kind c.write_data.result c.write_data.ensures.noted
+
+pub returns-clause-told : goal.returns-clause-told
+returns-clause-told g c = data_told c.args.self.now.file.storage c.will_write.new.self c.write_data.new.self c.will_write.ensures.changed c.will_write.ensures.kind c.in_ok-write_data.ensures.noted.1

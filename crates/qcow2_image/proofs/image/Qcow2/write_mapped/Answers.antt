@@ -1,5 +1,6 @@
-use Rattle.std.proofs.Common.{◌≡◌, ◌+◌, ◌<◌, [], Err, true, ap, length, sym, ◌∙◌, subst, rules, arith}
-use Rattle.std.specs.Prelude.{OnOk, Result}
+use Rattle.qcow2_image.proofs.image.Qcow2.write_mapped.Goals as goal
+use Rattle.std.proofs.Common.{◌≡◌, ◌+◌, ◌<◌, [], Err, true, ap, length, sym, ◌∙◌, subst, rules, arith, inl, refl}
+use Rattle.std.specs.Prelude.{OnOk, Result, IfErr}
 use Rattle.std.proofs.lemmas.List.{nil_from_length}
 use Rattle.qcow2_image.specs.declared.image.Qcow2.{Qcow2}
 use Rattle.qcow2_image.specs.Calls.{Puts}
@@ -19,12 +20,11 @@ use Rattle.qcow2_image.proofs.Call.FaultCounts.{counted_marked}
 use Rattle.qcow2_image.proofs.Call.OnceWritten.{once_written}
 use Rattle.qcow2_image.proofs.Call.BehindHeader.{behind_call}
 use Rattle.qcow2_image.proofs.Map.Held.{heeds_on, keeps_marked}
-use Rattle.std.specs.Prelude.{Result}
 use Rattle.qcow2_image.specs.HeldMappings.{HeedsHeld}
-use Rattle.std.specs.Prelude.{IfErr}
 use Rattle.qcow2_image.proofs.Map.MetLooking.{held_since}
 use Rattle.qcow2_image.specs.MetAlone.{IsCacheHeld, IsMetPutting}
-use Rattle.qcow2_image.proofs.image.Qcow2.write_mapped.Goals as goal
+use Rattle.qcow2_image.specs.Noted.{TellsData}
+use Rattle.qcow2_image.proofs.Call.ToldData.{data_alone_in_call, data_told_in_call}
 
 pub returns-then-is_empty-clause-sees : goal.returns-then-is_empty-clause-sees
 returns-then-is_empty-clause-sees g c =
@@ -112,3 +112,28 @@ returns-clause-met g c = λ out k placed sound writable.
     let quiet : Quietly view below out old c.begin.new.self = record { keeps = c.begin.ensures.keeps (pending_in view below old out) out sound; list = c.begin.ensures.list } in
     subst (λ (r : Result _ _). IfErr r (IsMetPutting (IsCacheHeld c.args.self.now out) c.args.prepared.now c.args.at)) (sym c.mark_failure.ensures.answer)
     (held_since old c.begin.new.self out c.begin.ensures.begun (λ held. IfErr c.write_current-done.result (IsMetPutting held c.args.prepared.now c.args.at)) (c.write_current-done.ensures.met c.requires some out k placed (quiet_sound view below out old c.begin.new.self (λ _. quiet) sound)))
+
+pub returns-in_err-check_usable-clause-kinds : goal.returns-in_err-check_usable-clause-kinds
+returns-in_err-check_usable-clause-kinds g c = λ some. inl refl
+
+pub returns-then-prepared-self-clause-kinds : goal.returns-then-prepared-self-clause-kinds
+returns-then-prepared-self-clause-kinds g c = λ some. inl refl
+
+pub returns-then-is_empty-clause-kinds : goal.returns-then-is_empty-clause-kinds
+returns-then-is_empty-clause-kinds g c = λ some. inl refl
+
+pub returns-then-not-writable-clause-kinds : goal.returns-then-not-writable-clause-kinds
+returns-then-not-writable-clause-kinds g c = λ some. inl refl
+
+pub returns-clause-kinds : goal.returns-clause-kinds
+returns-clause-kinds g c = λ some. data_alone_in_call c.args.self.now c.begin.new.self c.mark_failure.new.self (record c.write_current-done.new.self { is_failed = c.mark_failure.new.self.is_failed }) c.begin.ensures.begun (c.write_current-done.ensures.kinds some) c.mark_failure.ensures.rest
+
+pub returns-then-is_empty-clause-told : goal.returns-then-is_empty-clause-told
+returns-then-is_empty-clause-told g c = λ some. absurd (let no : length c.args.bytes.now ≡ 0 = search rules in omega (arith, no, some))
+
+pub returns-clause-told : goal.returns-clause-told
+returns-clause-told g c = λ some. subst (λ (r : Result _ _). OnOk r (TellsData c.args.self.now c.mark_failure.new.self)) (sym c.mark_failure.ensures.answer)
+    (on_ok c.write_current-done.result (λ rose. data_told_in_call c.args.self.now c.begin.new.self c.mark_failure.new.self (record c.write_current-done.new.self { is_failed = c.mark_failure.new.self.is_failed }) c.begin.ensures.begun rose c.mark_failure.ensures.rest) c.write_current-done.ensures.told)
+
+pub returns-clause-freeing : goal.returns-clause-freeing
+returns-clause-freeing g c = ap (λ (image : Qcow2 _ _). image.file.free_list) c.mark_failure.ensures.rest ∙ c.write_current-done.ensures.list ∙ c.begin.ensures.list

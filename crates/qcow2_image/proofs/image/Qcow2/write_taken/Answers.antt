@@ -1,10 +1,10 @@
-use Rattle.std.proofs.Common.{refl, sym, subst, ◌<◌}
+use Rattle.qcow2_image.proofs.image.Qcow2.write_taken.Goals as goal
+use Rattle.std.proofs.Common.{refl, sym, subst, ◌<◌, ◌≡◌}
 use Rattle.qcow2_image.specs.ImageInvariant.{ImageInvariant}
 use Rattle.qcow2_image.specs.LongerTables.{with_table, NamesTable}
 use Rattle.std.specs.Prelude.{IfErr, OnOk, Result, Some}
-use Rattle.std.proofs.Common.{◌≡◌}
 use Rattle.qcow2_alloc.specs.ImageError.{IsFault}
-use Rattle.qcow2_image.proofs.image.Qcow2.write_taken.Goals as goal
+use Rattle.qcow2_alloc.specs.LowestRuns.{StaysUsed}
 
 pub returns-clause-names : goal.returns-clause-names
 returns-clause-names g c = λ p out sound noted longer.
@@ -41,3 +41,14 @@ pub returns-clause-placed : goal.returns-clause-placed
 returns-clause-placed g c =
     subst (λ (r : Result _ _). OnOk r (c.write_l1_table-done.new.self.l1_table ≡ record c.args.table { cluster = Some c.args.taken.first_cluster })) (sym c.keep_or_list.ensures.answer)
     (subst (λ n. OnOk c.write_l1_table-done.result (c.write_l1_table-done.new.self.l1_table ≡ record c.args.table { cluster = Some n })) c.cluster.ensures c.write_l1_table-done.ensures.placed)
+
+pub returns-clause-no_longer : goal.returns-clause-no_longer
+returns-clause-no_longer g c = c.write_l1_table-done.ensures.no_longer
+
+pub returns-clause-uses : goal.returns-clause-uses
+returns-clause-uses g c = λ writable p out sound longer.
+    let view = g.S.Storage.view in
+    let below = g.F.BackingDisk.backing in
+    let old = c.args.self.now in
+    subst (λ (r : Result _ _). OnOk r (StaysUsed view old.file c.write_l1_table-done.new.self.file)) (sym c.keep_or_list.ensures.answer)
+    (c.write_l1_table-done.ensures.uses writable p out (subst (λ n. ImageInvariant view below (with_table p c.args.table n) old out) (sym c.cluster.ensures) sound) longer)

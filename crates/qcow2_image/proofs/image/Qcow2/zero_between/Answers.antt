@@ -1,5 +1,6 @@
-use Rattle.qcow2_alloc.proofs.KeptMarks.{notes_then}
-use Rattle.std.proofs.Common.{◌≤◌, inl, subst, sym, arith}
+use Rattle.qcow2_image.proofs.image.Qcow2.zero_between.Goals as goal
+use Rattle.qcow2_alloc.proofs.KeptMarks.{notes_then, notes_for}
+use Rattle.std.proofs.Common.{◌≤◌, subst, sym, arith}
 use Rattle.qcow2_alloc.proofs.AllocationSteps.{handed_on}
 use Rattle.qcow2_image.specs.ImageInvariant.{abstract_of, pending_in}
 use Rattle.qcow2_image.specs.Preallocation.{FillsOrRefuses}
@@ -8,11 +9,12 @@ use Rattle.qcow2_image.proofs.Preallocate.Filled.{fills_before, fills_none, fill
 use Rattle.qcow2_image.proofs.Preallocate.Turns.{same_version, still_at}
 use Rattle.qcow2_image.proofs.Call.BehindHeader.{behind_then}
 use Rattle.qcow2_alloc.specs.ImageFile.{known_in}
-use Rattle.qcow2_image.specs.MetAlone.{HasCompressedIn, IsMetAlone}
+use Rattle.qcow2_image.specs.MetAlone.{HasCompressedIn, IsMetTaking}
 use Rattle.qcow2_image.proofs.Preallocate.Met.{entry_reached, hands_met, met_before, near_moved}
 use Rattle.qcow2_image.proofs.Prepare.MetRanges.{place_then}
 use Rattle.qcow2_image.proofs.Prepare.Taken.{if_err}
-use Rattle.qcow2_image.proofs.image.Qcow2.zero_between.Goals as goal
+use Rattle.qcow2_image.specs.Backings.{HasPrepared}
+use Rattle.qcow2_image.proofs.Prepare.MetTaking.{taking_as}
 
 pub returns-in_err-next-clause-fills : goal.returns-in_err-next-clause-fills
 returns-in_err-next-clause-fills g c = λ out sound low high whole version.
@@ -68,22 +70,22 @@ pub returns-clause-header_cluster : goal.returns-clause-header_cluster
 returns-clause-header_cluster g c = behind_then (behind_then c.zero_first.ensures.header_cluster c.fill_range.ensures.header_cluster) c.zero_range.ensures.header_cluster
 
 pub returns-in_err-next-clause-notes : goal.returns-in_err-next-clause-notes
-returns-in_err-next-clause-notes g c = c.zero_first.ensures.notes
+returns-in_err-next-clause-notes g c = notes_for c.zero_first.ensures.notes
 
 pub returns-in_err-fill_range-clause-notes : goal.returns-in_err-fill_range-clause-notes
-returns-in_err-fill_range-clause-notes g c = notes_then c.zero_first.ensures.notes c.fill_range.ensures.notes
+returns-in_err-fill_range-clause-notes g c = notes_then (notes_for c.zero_first.ensures.notes) c.fill_range.ensures.notes
 
 pub returns-clause-notes : goal.returns-clause-notes
-returns-clause-notes g c = notes_then (notes_then c.zero_first.ensures.notes c.fill_range.ensures.notes) c.zero_range.ensures.notes
+returns-clause-notes g c = notes_then (notes_then (notes_for c.zero_first.ensures.notes) c.fill_range.ensures.notes) (notes_for c.zero_range.ensures.notes)
 
 pub returns-in_err-next-clause-met : goal.returns-in_err-next-clause-met
-returns-in_err-next-clause-met g c = λ out sound alone low high whole version near.
+returns-in_err-next-clause-met g c = λ out sound low high whole version near.
     let old = c.args.self.now in
-    hands_met (IsMetAlone (HasCompressedIn c.args.old c.args.from old.file.header.fields (known_in g.S.Storage.view old.file)) ⊥) c.from_residual.result c.in_err-next.field-0.0 c.from_residual.ensures
-    (inl (c.in_err-next.ensures.met out sound alone high whole version near))
+    hands_met (IsMetTaking (HasPrepared out) (HasPrepared out) (HasCompressedIn c.args.old c.args.from old.file.header.fields (known_in g.S.Storage.view old.file)) ⊥) c.from_residual.result c.in_err-next.field-0.0 c.from_residual.ensures
+    (taking_as (λ held. held) (λ kept. kept) (λ no. absurd no) (λ no. no) c.in_err-next.field-0.0 (c.in_err-next.ensures.met out sound high whole version near))
 
 pub returns-in_err-fill_range-clause-met : goal.returns-in_err-fill_range-clause-met
-returns-in_err-fill_range-clause-met g c = λ out sound alone low high whole version near.
+returns-in_err-fill_range-clause-met g c = λ out sound low high whole version near.
     let view = g.S.Storage.view in
     let below = g.F.BackingDisk.backing in
     let a = c.args.self.now in
@@ -93,12 +95,12 @@ returns-in_err-fill_range-clause-met g c = λ out sound alone low high whole ver
     let e = c.in_err-fill_range.field-0.0 in
     let first = c.in_ok-next.ensures.fills out sound high whole version in
     let kept = c.in_ok-next.ensures.l1_place (λ lt. entry_reached view below out (pending_in view below a out) a sound c.args.from c.args.end lt near) in
-    hands_met (IsMetAlone (HasCompressedIn c.args.old c.args.from h (known_in view a.file)) ⊥) c.from_residual-in_err-fill_range.result e c.from_residual-in_err-fill_range.ensures
+    hands_met (IsMetTaking (HasPrepared out) (HasPrepared out) (HasCompressedIn c.args.old c.args.from h (known_in view a.file)) ⊥) c.from_residual-in_err-fill_range.result e c.from_residual-in_err-fill_range.ensures
     (met_before view below out 0 c.args.from c.in_ok-next.next a b first c.args.old c.args.from c.args.old c.args.from (omega arith) (omega arith) e
-    (c.in_err-fill_range.ensures.met out first.sound alone low (still_at h h' c.args.from first.header whole.0) (near_moved h h' c.args.end c.args.from first.header kept high near)))
+    (c.in_err-fill_range.ensures.met out first.sound low (still_at h h' c.args.from first.header whole.0) (near_moved h h' c.args.end c.args.from first.header kept high near)))
 
 pub returns-clause-met : goal.returns-clause-met
-returns-clause-met g c = λ out sound alone low high whole version near.
+returns-clause-met g c = λ out sound low high whole version near.
     let view = g.S.Storage.view in
     let below = g.F.BackingDisk.backing in
     let a = c.args.self.now in
@@ -115,6 +117,6 @@ returns-clause-met g c = λ out sound alone low high whole version near.
     let kept = c.in_ok-next.ensures.l1_place (λ lt. entry_reached view below out (pending_in view below a out) a sound c.args.from c.args.end lt near) in
     let still = place_then h h' h'' kept (c.in_ok-fill_range.ensures.l1_place out first.sound at (near_moved h h' c.args.end c.args.from first.header kept high near)) in
     let ends = c.in_ok-next.ensures.whole out sound whole in
-    if_err c.zero_range.result (λ e why. inl why)
-    (c.zero_range.ensures.met out both.sound alone (omega (arith, next.2, high)) (still_at h h'' c.in_ok-next.next both.header ends, still_at h h'' c.args.end both.header whole.1) (subst (λ v. 3 ≤ v) (sym (same_version h h'' both.header)) version)
+    if_err c.zero_range.result (taking_as (λ held. held) (λ kept. kept) (λ no. absurd no) (λ no. no))
+    (c.zero_range.ensures.met out both.sound (omega (arith, next.2, high)) (still_at h h'' c.in_ok-next.next both.header ends, still_at h h'' c.args.end both.header whole.1) (subst (λ v. 3 ≤ v) (sym (same_version h h'' both.header)) version)
     (near_moved h h'' c.args.end c.args.end both.header still (omega arith) near))

@@ -16,10 +16,13 @@ use Rattle.qcow2_image.proofs.Preallocate.Filled.{cleared_fills, fill_unseen, fi
 use Rattle.qcow2_image.proofs.Preallocate.Untaken.{untaken_cleared}
 use Rattle.qcow2_image.proofs.Call.MetErrors.{tables_met}
 use Rattle.qcow2_image.proofs.Call.Unlimited.{fault_unlimited}
-use Rattle.qcow2_image.proofs.Prepare.Lacked.{emptied_by_limit, hands_either}
+use Rattle.qcow2_image.proofs.Prepare.Lacked.{emptied_by_limit}
 use Rattle.qcow2_image.proofs.Call.BehindHeader.{behind_none, behind_then}
-use Rattle.qcow2_image.specs.L1Entries.{NeedsFarEntry}
-use Rattle.qcow2_image.proofs.Preallocate.Met.{met_no_more, never_far, place_same}
+use Rattle.qcow2_image.proofs.Preallocate.Met.{under_prepared, never_far, place_same}
+use Rattle.qcow2_image.specs.Backings.{HasPrepared}
+use Rattle.qcow2_image.specs.MetAlone.{IsMetTaking}
+use Rattle.qcow2_image.proofs.Prepare.Met.{hands_met}
+use Rattle.qcow2_image.proofs.Prepare.MetTaking.{taking_as}
 use Rattle.qcow2_image.proofs.image.Qcow2.zero_first.Goals as goal
 
 pub returns-then-to-from-clause-fills : goal.returns-then-to-from-clause-fills
@@ -153,7 +156,7 @@ pub returns-clause-notes : goal.returns-clause-notes
 returns-clause-notes g c = notes_then c.clear_between.ensures.notes c.free_listed.ensures.notes
 
 pub returns-in_err-clear_between-clause-met : goal.returns-in_err-clear_between-clause-met
-returns-in_err-clear_between-clause-met g c = λ out sound alone le whole version near.
+returns-in_err-clear_between-clause-met g c = λ out sound le whole version near.
     let view = g.S.Storage.view in
     let below = g.F.BackingDisk.backing in
     let old = c.args.self.now in
@@ -171,11 +174,11 @@ returns-in_err-clear_between-clause-met g c = λ out sound alone le whole versio
       within = next_within h sizes.some sizes.entries from to c.min-next.result whole.1 is high;
       version = λ _. version;
     } in
-    hands_either c.from_residual.result e c.from_residual.ensures
-    (met_no_more ⊥ (NeedsFarEntry old from) e (λ never. never) (never_far view below out (pending_in view below old out) old sound from to c.if-to-from.false near) (c.in_err-clear_between.ensures.met out sound can alone))
+    hands_met (IsMetTaking (HasPrepared out) (HasPrepared out) ⊥ ⊥) c.from_residual.result e c.from_residual.ensures
+    (taking_as (λ held. held) (under_prepared h from out) (λ no. no) (never_far view below out (pending_in view below old out) old sound from to c.if-to-from.false near) e (c.in_err-clear_between.ensures.met out sound can))
 
 pub returns-in_err-free_listed-clause-met : goal.returns-in_err-free_listed-clause-met
-returns-in_err-free_listed-clause-met g c = λ out sound alone le whole version near.
+returns-in_err-free_listed-clause-met g c = λ out sound le whole version near.
     let view = g.S.Storage.view in
     let below = g.F.BackingDisk.backing in
     let old = c.args.self.now in
@@ -195,7 +198,8 @@ returns-in_err-free_listed-clause-met g c = λ out sound alone le whole version 
       version = λ _. version;
     }) in
     let listed = subst (λ (x : Pending). ImageInvariant view below x mid out) (all_listed view below mid out) part.sound in
-    hands_either c.from_residual-in_err-free_listed.result c.in_err-free_listed.field-0.0 c.from_residual-in_err-free_listed.ensures (inl (c.in_err-free_listed.ensures.faults (beside view below mid out) out listed))
+    hands_met (IsMetTaking (HasPrepared out) (HasPrepared out) ⊥ ⊥) c.from_residual-in_err-free_listed.result c.in_err-free_listed.field-0.0 c.from_residual-in_err-free_listed.ensures
+    (inl (inl (inl (c.in_err-free_listed.ensures.faults (beside view below mid out) out listed))))
 
 pub returns-clause-l1_place : goal.returns-clause-l1_place
 returns-clause-l1_place g c = λ within.

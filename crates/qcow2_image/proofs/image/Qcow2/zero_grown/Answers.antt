@@ -10,8 +10,9 @@ use Rattle.qcow2_image.proofs.Call.BehindHeader.{behind_none}
 use Rattle.std.specs.Prelude.{IfErr}
 use Rattle.qcow2_alloc.specs.ImageFile.{known_in}
 use Rattle.qcow2_image.specs.ImageInvariant.{pending_in}
-use Rattle.qcow2_image.specs.MetAlone.{HasCompressedIn, HasNearEntries, IsMetAlone}
+use Rattle.qcow2_image.specs.MetAlone.{HasCompressedIn, HasNearEntries, IsMetTaking}
 use Rattle.qcow2_image.proofs.Preallocate.Met.{never_past}
+use Rattle.qcow2_image.specs.Backings.{HasPrepared}
 use Rattle.qcow2_image.proofs.image.Qcow2.zero_grown.Goals as goal
 
 pub returns-then-version-lt3-clause-fills : goal.returns-then-version-lt3-clause-fills
@@ -71,20 +72,20 @@ pub returns-clause-notes : goal.returns-clause-notes
 returns-clause-notes g c = c.zero_between.ensures.notes
 
 pub returns-then-version-lt3-clause-met : goal.returns-then-version-lt3-clause-met
-returns-then-version-lt3-clause-met g c = λ out sound alone le version near. absurd (let low = c.if-version-lt3.true in let is = c.version.ensures.value in omega (arith, low, is, version))
+returns-then-version-lt3-clause-met g c = λ out sound le version near. absurd (let low = c.if-version-lt3.true in let is = c.version.ensures.value in omega (arith, low, is, version))
 
 pub returns-in_default-clause-met : goal.returns-in_default-clause-met
-returns-in_default-clause-met g c = λ out sound alone le version near.
+returns-in_default-clause-met g c = λ out sound le version near.
     let old = c.args.self.now in
     absurd (never_past g.S.Storage.view g.F.BackingDisk.backing out (pending_in g.S.Storage.view g.F.BackingDisk.backing old out) old sound c.args.size c.args.old c.cluster_size-cluster_size.result le c.cluster_size-cluster_size.ensures.value near (c.in_default.ensures.none refl))
 
 pub returns-in_default-rounded_up-clause-met : goal.returns-in_default-rounded_up-clause-met
-returns-in_default-rounded_up-clause-met g c = λ out sound alone le version near.
+returns-in_default-rounded_up-clause-met g c = λ out sound le version near.
     let old = c.args.self.now in
     absurd (never_past g.S.Storage.view g.F.BackingDisk.backing out (pending_in g.S.Storage.view g.F.BackingDisk.backing old out) old sound c.args.size c.args.size c.cluster_size-cluster_size.result (omega arith) c.cluster_size-cluster_size.ensures.value near (c.in_default-rounded_up.ensures.none refl))
 
 pub returns-clause-met : goal.returns-clause-met
-returns-clause-met g c = λ out sound alone le version near.
+returns-clause-met g c = λ out sound le version near.
     let view = g.S.Storage.view in
     let below = g.F.BackingDisk.backing in
     let old = c.args.self.now in
@@ -96,6 +97,6 @@ returns-clause-met g c = λ out sound alone le version near.
     let end : c.in-Some-rounded_up.end ≡ rounded_up (cluster_size c.args.self.now.file.header.fields) c.args.size = c.in-Some-rounded_up.ensures.some ∙ ap (λ s. rounded_up s c.args.size) size in
     let least = up_least cs c.args.old some in
     let rising = up_rising cs c.args.old c.args.size some le in
-    subst (λ n. IfErr c.zero_between.result (IsMetAlone (HasCompressedIn c.args.old n h (known_in view old.file)) ⊥)) from
-    (c.zero_between.ensures.met out sound alone (omega (arith, from, least)) (omega (arith, from, end, rising)) (subst (λ n. n % cs ≡ 0) (sym from) (up_whole cs c.args.old some), subst (λ n. n % cs ≡ 0) (sym end) (up_whole cs c.args.size some)) version
+    subst (λ n. IfErr c.zero_between.result (IsMetTaking (HasPrepared out) (HasPrepared out) (HasCompressedIn c.args.old n h (known_in view old.file)) ⊥)) from
+    (c.zero_between.ensures.met out sound (omega (arith, from, least)) (omega (arith, from, end, rising)) (subst (λ n. n % cs ≡ 0) (sym from) (up_whole cs c.args.old some), subst (λ n. n % cs ≡ 0) (sym end) (up_whole cs c.args.size some)) version
     (subst (λ n. HasNearEntries n h) (sym end) near))

@@ -6,7 +6,9 @@ use Rattle.qcow2_image.proofs.Preallocate.Turns.{same_version, still_at, zeroed_
 use Rattle.qcow2_image.proofs.Call.FaultCounts.{counted_ok, counted_on, faults_then, untouched}
 use Rattle.qcow2_image.proofs.Call.BehindHeader.{behind_none, behind_then}
 use Rattle.qcow2_image.proofs.Preallocate.Met.{near_moved, place_on}
-use Rattle.qcow2_image.proofs.Prepare.Lacked.{hands_either}
+use Rattle.qcow2_image.specs.Backings.{HasPrepared}
+use Rattle.qcow2_image.specs.MetAlone.{IsMetTaking}
+use Rattle.qcow2_image.proofs.Prepare.Met.{hands_met}
 use Rattle.qcow2_image.proofs.image.Qcow2.zero_range.Goals as goal
 
 pub loop-at-init : goal.loop-at-init
@@ -75,7 +77,7 @@ pub returns-clause-notes : goal.returns-clause-notes
 returns-clause-notes g c = c.loop-at.invariant.notes
 
 pub returns-in_err-at-clause-met : goal.returns-in_err-at-clause-met
-returns-in_err-at-clause-met g c = λ out sound alone le whole version near.
+returns-in_err-at-clause-met g c = λ out sound le whole version near.
     let old = c.args.self.now in
     let now = c.loop-at.self in
     let h = old.file.header.fields in
@@ -85,6 +87,6 @@ returns-in_err-at-clause-met g c = λ out sound alone le whole version near.
     let so = c.loop-at.invariant.turns.so_far out sound le whole version in
     let file_step = so.0.header in
     let kept = c.loop-at.invariant.place out sound le whole version near in
-    hands_either c.from_residual.result c.in_err-at.field-0.0 c.from_residual.ensures
-    (c.in_err-at.ensures.met out so.0.sound alone (omega (arith, lt)) (still_at h h' c.loop-at.at file_step so.1, still_at h h' to file_step whole.1) (subst (λ v. 3 ≤ v) (sym (same_version h h' file_step)) version)
+    hands_met (IsMetTaking (HasPrepared out) (HasPrepared out) ⊥ ⊥) c.from_residual.result c.in_err-at.field-0.0 c.from_residual.ensures
+    (c.in_err-at.ensures.met out so.0.sound (omega (arith, lt)) (still_at h h' c.loop-at.at file_step so.1, still_at h h' to file_step whole.1) (subst (λ v. 3 ≤ v) (sym (same_version h h' file_step)) version)
     (near_moved h h' to to file_step kept (omega arith) near))
