@@ -1,4 +1,7 @@
 -- Why a command was refused, one call at a time.
+use Rattle.qcow2_alloc.specs.declared.error.ImageError.TheVariants as I
+use Rattle.qcow2_session.specs.declared.session.Command.TheVariants as C
+use Rattle.qcow2_session.specs.declared.session.Reply.TheVariants as R
 use Rattle.std.proofs.Common.{◌≡◌, ◌⊎◌, ◌+◌, ◌<◌, ◌≤◌, inl, inr, ℕ, Bool, true, false, not, IsTrue, List, Option, Some, None, Bor, refl, sym, ap, ◌∙◌, subst, arith}
 use Rattle.std.specs.Global.{Global}
 use Rattle.std.specs.Prelude.{Vec, length, ◌&&◌, ◌==◌, nat_lt, IfSome, IfErr, IfOk, IsSome, MatchOption, Result, Ok, Err, is_some, slice_get}
@@ -10,13 +13,12 @@ use Rattle.image_access.specs.Moments.{StorageView}
 use Rattle.qcow2_disk.specs.Calls.{Clearing}
 use Rattle.qcow2_alloc.specs.ImageFile.{known_in}
 use Rattle.qcow2_alloc.specs.declared.error.ImageError.{ImageError}
-use Rattle.qcow2_alloc.specs.declared.error.ImageError.TheVariants as I
-use Rattle.qcow2_image.specs.Backings.{HasPrepared}
 use Rattle.qcow2_image.specs.Clearing.{IsUnderMapping, from_in, to_in}
 use Rattle.qcow2_image.specs.Image.{is_external, is_failed, number_of}
 use Rattle.qcow2_image.specs.ImageInvariant.{abstract_of}
-use Rattle.qcow2_image.specs.L1Entries.{NeedsFarEntry}
-use Rattle.qcow2_image.specs.MetAlone.{CopiesCompressed, IsMetAlone, IsMetReadingRange}
+use Rattle.qcow2_image.proofs.Prepare.MetTaking.{taking_as}
+use Rattle.qcow2_image.specs.Backings.{HasPrepared}
+use Rattle.qcow2_image.specs.MetAlone.{CopiesCompressed, IsMetAlone, IsMetReadingRange, IsMetTaking}
 use Rattle.qcow2_image.specs.declared.image.Qcow2.{Qcow2}
 use Rattle.qcow2_image.specs.declared.mapping.Mapping.{Mapping}
 use Rattle.qcow2_image.specs.declared.prepared.CommitRefused.{CommitRefused}
@@ -25,14 +27,12 @@ use Rattle.qcow2_image.specs.declared.prepared.Prepared.{Prepared}
 use Rattle.qcow2_image.specs.Preallocation.{IsUnderMappingIn}
 use Rattle.qcow2_image.specs.Prepared.{IsHandedBackBy}
 use Rattle.qcow2_image.specs.Refusals.{IsMet, IsMetPreparing, passes, refuse_if, refuses_mapping, refuses_to_prepare, refuses_to_read, unusable}
-use Rattle.qcow2_session.specs.Causes.{HasNothingToDo, MeetsOnSound, IsRightlyRefused, IsUntouchedUnder, MayMeet, MeetsAlone, TellsMisuse, first_cause, refuses_clearing}
+use Rattle.qcow2_session.specs.Causes.{HasNothingToDo, MeetsOnSound, IsRightlyRefused, IsUntouchedUnder, MayMeet, TellsMisuse, first_cause, refuses_clearing, MeetsClearing, MeetsTaking}
 use Rattle.qcow2_session.specs.Commands.{reply_of_clearing}
 use Rattle.qcow2_session.specs.CountedFaults.{refusal_in}
-use Rattle.qcow2_session.specs.Sessions.{IsOfReading}
+use Rattle.qcow2_session.specs.Sessions.{IsOfReading, IsTakenToWrite, LacksPlaceToWrite, NeedsFarToWrite}
 use Rattle.qcow2_session.specs.declared.session.Command.{Command}
-use Rattle.qcow2_session.specs.declared.session.Command.TheVariants as C
 use Rattle.qcow2_session.specs.declared.session.Reply.{Reply}
-use Rattle.qcow2_session.specs.declared.session.Reply.TheVariants as R
 
 -- ---- what was refused at once
 
@@ -84,7 +84,7 @@ module _ {S F : Type 0} (view : S → StorageView) (backing : F → BackingView)
     still = λ _. same;
     early = if_some_all (first_cause old command) (λ e. (inr refl, same));
     late = λ _. tt;
-    met = λ _ _ _. tt;
+    met = λ _ _. tt;
     idle = λ _ _. refl;
     heeds = λ _ _. heeds;
   }
@@ -97,7 +97,7 @@ module _ {S F : Type 0} (view : S → StorageView) (backing : F → BackingView)
     still = λ is. absurd (never is);
     early = if_some_to (first_cause old command) (λ e no. absurd no) early;
     late = λ _. subst (λ o. IfSome o (MayMeet command)) (sym done) tt;
-    met = λ _ _ _. subst (λ o. IfSome o (MeetsAlone view old new command)) (sym done) tt;
+    met = λ _ _. subst (λ o. IfSome o (MeetsTaking view old new before command)) (sym done) tt;
     idle = λ _ _. done;
     heeds = heeds;
   }
@@ -108,7 +108,7 @@ module _ {S F : Type 0} (view : S → StorageView) (backing : F → BackingView)
 
   -- it was refused
   pub is_refused : (e : ImageError) (reply : Reply) → (reply ≡ R.Misuse → ⊥) → TellsMisuse before found command reply → refusal_in reply ≡ Some e → IfSome (first_cause old command) (λ x. (e ≡ x) × (new ≡ old))
-      → (first_cause old command ≡ None → MayMeet command e) → (first_cause old command ≡ None → (abstract_of view backing old before).is_sound → (HasPrepared before → ⊥) → MeetsAlone view old new command e)
+      → (first_cause old command ≡ None → MayMeet command e) → (first_cause old command ≡ None → (abstract_of view backing old before).is_sound → MeetsTaking view old new before command e)
       → (first_cause old command ≡ None → HasNothingToDo view backing old new before command → ⊥)
       → (first_cause old command ≡ None → (abstract_of view backing old before).is_sound → MeetsOnSound view backing old new before found command reply) → IsRightlyRefused view backing old new before found command reply
   is_refused e reply never misuse is early late met idle heeds = record {
@@ -116,7 +116,7 @@ module _ {S F : Type 0} (view : S → StorageView) (backing : F → BackingView)
     still = λ is. absurd (never is);
     early = if_some_to (first_cause old command) (λ x h. (inl (is ∙ ap Some h.0), h.1)) early;
     late = λ none. subst (λ o. IfSome o (MayMeet command)) (sym is) (late none);
-    met = λ none sound free. subst (λ o. IfSome o (MeetsAlone view old new command)) (sym is) (met none sound free);
+    met = λ none sound. subst (λ o. IfSome o (MeetsTaking view old new before command)) (sym is) (met none sound);
     idle = λ none nothing. absurd (idle none nothing);
     heeds = heeds;
   }
@@ -134,6 +134,20 @@ fits_below size offset n fits some = elim (cases_lt offset size) [
 
 -- ---- reads and writes
 
+-- what is met alone is 20 only for its cause
+far_alone : {C D : Type 0} (e : ImageError) → IsMetAlone C D e → e ≡ I.Overflow → D
+far_alone e (inl (inl (inl fault))) is = absurd cc
+far_alone e (inl (inl (inr fault))) is = absurd cc
+far_alone e (inl (inr limit)) is = absurd cc
+far_alone e (inr (inl compressed)) is = absurd (let why = compressed.0 in cc)
+far_alone e (inr (inr far)) is = far.1
+
+-- so it is of what taking clusters meets
+far_taking : {H K C D : Type 0} (e : ImageError) → IsMetTaking H K C D e → e ≡ I.Overflow → D
+far_taking e (inl alone) is = far_alone e alone is
+far_taking e (inr (inl used)) is = absurd (let why = used.0 in cc)
+far_taking e (inr (inr kept)) is = absurd (let why = kept.0 in cc)
+
 module _ {S F : Type 0} (view : S → StorageView) (backing : F → BackingView) (old new : Qcow2 S F) (before : List (Option Prepared)) {found : ℕ → Option Mapping} where
   pub read_answered : (Same : Type 0) (offset n : ℕ) (bytes : Vec ℕ Global) → IfSome (refuses_to_read old offset n) (λ x. (◌≡◌ {A = Result (Vec ℕ Global) ImageError} (Ok bytes) (Err x)) × Same) → IsRightlyRefused view backing old new before found (C.Read offset n) (R.Bytes bytes)
   read_answered Same offset n bytes early = is_answered view backing old new before (C.Read offset n) Same bytes (R.Bytes bytes) (λ is. absurd cc) (λ is. absurd cc, λ is. absurd is) refl early (λ _ _. tt)
@@ -143,19 +157,21 @@ module _ {S F : Type 0} (view : S → StorageView) (backing : F → BackingView)
       → IsRightlyRefused view backing old new before found (C.Read offset n) (R.Refused e)
   read_refused offset n e early late met =
       is_refused view backing old new before (C.Read offset n) e (R.Refused e) (λ is. absurd cc) (λ is. absurd cc, λ is. absurd is) refl (begun_with (Vec ℕ Global) (new ≡ old) e (refuses_to_read old offset n) early)
-      (λ none. (late none).0) (λ _ _ _. tt) (λ none empty. let some = (late none).1 in omega (arith, some, empty)) (λ none sound. met none before sound)
+      (λ none. (late none).0) (λ _ _. tt) (λ none empty. let some = (late none).1 in omega (arith, some, empty)) (λ none sound. met none before sound)
 
   pub write_answered : (Same : Type 0) (offset : ℕ) (bytes : Vec ℕ Global) → IfSome (refuses_to_prepare old offset (length bytes.items)) (λ x. (◌≡◌ {A = Result (Unit {0}) (ImageError × ℕ)} (Ok tt) (Err (x, 0))) × Same) → IsRightlyRefused view backing old new before found (C.Write offset bytes) R.Done
   write_answered Same offset bytes early = is_done view backing old new before (C.Write offset bytes) R.Done (λ is. absurd cc) (λ is. absurd cc, λ is. absurd is) refl
-      (if_some_to (refuses_to_prepare old offset (length bytes.items)) (λ e no. let is = no.0 in cc) early) (λ _ _ is. absurd cc)
+      (if_some_to (refuses_to_prepare old offset (length bytes.items)) (λ e no. let is = no.0 in cc) early) (λ _ _. (λ is. absurd cc, tt))
 
   pub write_refused_for : (offset : ℕ) (bytes : Vec ℕ Global) (e : ImageError) (n : ℕ) → IfSome (refuses_to_prepare old offset (length bytes.items)) (λ x. (◌≡◌ {A = Result (Unit {0}) (ImageError × ℕ)} (Err (e, n)) (Err (x, 0))) × (new ≡ old))
       → (refuses_to_prepare old offset (length bytes.items) ≡ None → IsMetPreparing e × (0 < length bytes.items))
-      → (refuses_to_prepare old offset (length bytes.items) ≡ None → (abstract_of view backing old before).is_sound → (HasPrepared before → ⊥) → IsMetAlone (CopiesCompressed offset (length bytes.items) true new.file.header.fields (known_in view new.file)) (Unit {0}) e)
+      → (refuses_to_prepare old offset (length bytes.items) ≡ None → (abstract_of view backing old before).is_sound → IsMetTaking (HasPrepared before) (IsUnderMappingIn old.file.header.fields offset (offset + length bytes.items) before) (CopiesCompressed offset (length bytes.items) true new.file.header.fields (known_in view new.file)) (NeedsFarToWrite view backing old offset bytes.items n) e)
       → (refuses_to_prepare old offset (length bytes.items) ≡ None → (abstract_of view backing old before).is_sound → e ≡ I.TablePrepared → IsUnderMappingIn old.file.header.fields offset (offset + length bytes.items) before)
+      → (refuses_to_prepare old offset (length bytes.items) ≡ None → (abstract_of view backing old before).is_sound → e ≡ I.Limit → LacksPlaceToWrite view backing old new offset bytes.items n)
+      → (refuses_to_prepare old offset (length bytes.items) ≡ None → (abstract_of view backing old before).is_sound → e ≡ I.TablePrepared → IsTakenToWrite view backing old before offset bytes.items n)
       → IsRightlyRefused view backing old new before found (C.Write offset bytes) (R.WriteRefused e n)
-  write_refused_for offset bytes e n early late met taken = is_refused view backing old new before (C.Write offset bytes) e (R.WriteRefused e n) (λ is. absurd cc) (λ is. absurd cc, λ is. absurd is) refl
-      (if_some_to (refuses_to_prepare old offset (length bytes.items)) (λ x h. (let is = h.0 in let pair : (e, n) ≡ (x, 0) = same_error is in ap (λ (p : ImageError × ℕ). p.0) pair, h.1)) early) (λ none. (late none).0) met (λ none empty. let some = (late none).1 in omega (arith, some, empty)) (λ none sound is. taken none sound (some_error is))
+  write_refused_for offset bytes e n early late met taken limit part = is_refused view backing old new before (C.Write offset bytes) e (R.WriteRefused e n) (λ is. absurd cc) (λ is. absurd cc, λ is. absurd is) refl
+      (if_some_to (refuses_to_prepare old offset (length bytes.items)) (λ x h. (let is = h.0 in let pair : (e, n) ≡ (x, 0) = same_error is in ap (λ (p : ImageError × ℕ). p.0) pair, h.1)) early) (λ none. (late none).0) (λ none sound. taking_as (λ held. held) (λ kept. kept) (λ is. is) (λ far. tt) e (met none sound)) (λ none empty. let some = (late none).1 in omega (arith, some, empty)) (λ none sound. (λ is. taken none sound (some_error is), (limit none sound, part none sound, far_taking e (met none sound))))
 
   pub size_answered : (n : ℕ) → IsRightlyRefused view backing old new before found C.Size (R.Size n)
   size_answered n = is_done view backing old new before C.Size (R.Size n) (λ is. absurd cc) (λ is. absurd cc, λ is. absurd is) refl tt (λ _ _. tt)
@@ -259,9 +275,9 @@ grow_meets e old size takes none larger (inr mode) = absurd (elim (cases_lt old 
 
 module _ {S F : Type 0} (view : S → StorageView) (backing : F → BackingView) (old new : Qcow2 S F) (before : List (Option Prepared)) {found : ℕ → Option Mapping} (offset n : ℕ) (how : Clearing) (command : Command)
     (cause : first_cause old command ≡ refuses_clearing old how offset n) (nothing : HasNothingToDo view backing old new before command → to_in old offset n ≤ from_in old offset n)
-    (may : (e : ImageError) → IsMetPreparing e → MayMeet command e) (alone : (e : ImageError) → IsMetAlone ⊥ (NeedsFarEntry old (from_in old offset n)) e → MeetsAlone view old new command e) (heed : (reply : Reply) → IsUntouchedUnder view backing old new before offset n reply → MeetsOnSound view backing old new before found command reply)
+    (may : (e : ImageError) → IsMetPreparing e → MayMeet command e) (taking : (e : ImageError) → MeetsClearing view old new before offset n e → MeetsTaking view old new before command e) (heed : (reply : Reply) → IsUntouchedUnder view backing old new before offset n reply → MeetsOnSound view backing old new before found command reply)
     (misuse : (reply : Reply) → (reply ≡ R.Misuse → ⊥) → TellsMisuse before found command reply) where
-  clears_as : (r : Result (ℕ × ℕ) ImageError) → IfSome (refuses_clearing old how offset n) (λ e. (r ≡ Err e) × (new ≡ old)) → (refuses_clearing old how offset n ≡ None → IfErr r IsMetPreparing) → (refuses_clearing old how offset n ≡ None → (abstract_of view backing old before).is_sound → (HasPrepared before → ⊥) → IfErr r (IsMetAlone ⊥ (NeedsFarEntry old (from_in old offset n))))
+  clears_as : (r : Result (ℕ × ℕ) ImageError) → IfSome (refuses_clearing old how offset n) (λ e. (r ≡ Err e) × (new ≡ old)) → (refuses_clearing old how offset n ≡ None → IfErr r IsMetPreparing) → (refuses_clearing old how offset n ≡ None → (abstract_of view backing old before).is_sound → IfErr r (MeetsClearing view old new before offset n))
       → (refuses_clearing old how offset n ≡ None → to_in old offset n ≤ from_in old offset n → (r ≡ Ok (from_in old offset n, 0)) × (new ≡ old))
       → (refuses_clearing old how offset n ≡ None → from_in old offset n < to_in old offset n → (abstract_of view backing old before).is_sound → IfErr r (λ e. e ≡ I.TablePrepared → IsUnderMapping old.file.header.fields (from_in old offset n) before) × IfOk r (λ range. ¬ IsUnderMapping old.file.header.fields (from_in old offset n) before))
       → IsRightlyRefused view backing old new before found command (reply_of_clearing r)
@@ -270,11 +286,11 @@ module _ {S F : Type 0} (view : S → StorageView) (backing : F → BackingView)
       (λ none sound. heed (R.Range range.0 range.1) (λ some is. (under (sym cause ∙ none) some sound).1 is))
   clears_as (Err e) early late met idle under =
       is_refused view backing old new before command e (R.Refused e) (λ is. absurd cc) (misuse (R.Refused e) (λ is. absurd cc)) refl (subst (λ o. IfSome o (λ x. (e ≡ x) × (new ≡ old))) (sym cause) (begun_with (ℕ × ℕ) (new ≡ old) e (refuses_clearing old how offset n) early))
-      (λ none. may e (late (sym cause ∙ none))) (λ none sound free. alone e (met (sym cause ∙ none) sound free))
+      (λ none. may e (late (sym cause ∙ none))) (λ none sound. taking e (met (sym cause ∙ none) sound))
       (λ none is. let no : (◌≡◌ {A = Result (ℕ × ℕ) ImageError} (Err e) (Ok (from_in old offset n, 0))) = (idle (sym cause ∙ none) (nothing is)).0 in absurd cc)
       (λ none sound. heed (R.Refused e) (λ some is. (under (sym cause ∙ none) some sound).0 (some_error is)))
 
-  pub clears_rightly : (r : Result (ℕ × ℕ) ImageError) (reply : Reply) → reply ≡ reply_of_clearing r → IfSome (refuses_clearing old how offset n) (λ e. (r ≡ Err e) × (new ≡ old)) → (refuses_clearing old how offset n ≡ None → IfErr r IsMetPreparing) → (refuses_clearing old how offset n ≡ None → (abstract_of view backing old before).is_sound → (HasPrepared before → ⊥) → IfErr r (IsMetAlone ⊥ (NeedsFarEntry old (from_in old offset n))))
+  pub clears_rightly : (r : Result (ℕ × ℕ) ImageError) (reply : Reply) → reply ≡ reply_of_clearing r → IfSome (refuses_clearing old how offset n) (λ e. (r ≡ Err e) × (new ≡ old)) → (refuses_clearing old how offset n ≡ None → IfErr r IsMetPreparing) → (refuses_clearing old how offset n ≡ None → (abstract_of view backing old before).is_sound → IfErr r (MeetsClearing view old new before offset n))
       → (refuses_clearing old how offset n ≡ None → to_in old offset n ≤ from_in old offset n → (r ≡ Ok (from_in old offset n, 0)) × (new ≡ old))
       → (refuses_clearing old how offset n ≡ None → from_in old offset n < to_in old offset n → (abstract_of view backing old before).is_sound → IfErr r (λ e. e ≡ I.TablePrepared → IsUnderMapping old.file.header.fields (from_in old offset n) before) × IfOk r (λ range. ¬ IsUnderMapping old.file.header.fields (from_in old offset n) before))
       → IsRightlyRefused view backing old new before found command reply

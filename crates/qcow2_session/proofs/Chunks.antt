@@ -13,7 +13,7 @@ use Rattle.qcow2_disk.specs.AbstractImages.{Setting, Abstraction, HasFreePlaces,
 use Rattle.qcow2_disk.specs.Calls.{Refusal, memory, storage, not_compressed, another, IsRefusalByFault, AnsweredEffect, RefusedEffect, IsSame, MayWrite, WritesSome, with_disk, with_slot}
 use Rattle.qcow2_disk.proofs.ForUsers.{put_given}
 use Rattle.qcow2_disk.proofs.Within.{within_is}
-use Rattle.qcow2_session.proofs.Bytes.{cut_long, cut_short, cut_part, byte_in, laid_in, laid_out, no_bytes, same_values, part_within}
+use Rattle.qcow2_session.proofs.Bytes.{byte_in, laid_in, laid_out, no_bytes, same_values, part_within}
 use Rattle.qcow2_session.proofs.Places.{enters, leaves}
 use Rattle.qcow2_disk.proofs.Compose.{shown_is}
 use Rattle.qcow2_session.proofs.Turns.{none_within, does_if, refuses_if, refuses_fault, refuses_why, does_less, does_then, refuses_then, refused_then, IsWithin}
@@ -24,9 +24,9 @@ some_is : {X : Type 0} {a b : X} → Some a ≡ Some b → a ≡ b
 some_is e = cc
 
 -- ---- one mapping, and the first bytes that are put into it
-module _ (cluster_size : ℕ) (d : Disk) (m : PreparedMapping) (offset : ℕ) (bytes chunk : List ℕ)
-    (long : length chunk ≡ min (length bytes) m.length) (short : length chunk ≤ length bytes) (part : (i : ℕ) → i < length chunk → byte_at chunk i ≡ byte_at bytes i)
-    (prepared : IsPrepared cluster_size d offset (length bytes) true m) where
+module _ (cluster_size : ℕ) (d : Disk) (m : PreparedMapping) (offset asked : ℕ) (bytes chunk : List ℕ)
+    (long : length chunk ≡ min asked m.length) (short : length chunk ≤ length bytes) (part : (i : ℕ) → i < length chunk → byte_at chunk i ≡ byte_at bytes i)
+    (prepared : IsPrepared cluster_size d offset asked true m) where
   place : m.from + 0 ≡ offset
   place = omega (arith, prepared.from)
 
@@ -129,23 +129,11 @@ shift g = record { disk = g.disk; slots = λ k. g.slots (suc k) }
 shift_slot : (g : Guest) (m : Option PreparedMapping) → shift (with_slot g 0 m) ≡ shift g
 shift_slot g m = ap (λ (f : ℕ → Option PreparedMapping). record g { slots = f }) (fun_ext (λ k. cond-false (eqb (suc k) 0) m (g.slots (suc k)) (ne_eqb (suc k) 0 (λ e. absurd (omega arith)))))
 
-module _ {D P : Type 0} (spec : Abstraction D P) (has : HasFreePlaces spec) (in_image : (d : D) → spec.data_bytes d ≡ spec.known d) (d0 d1 : D) (p : P) (out : List (Option P)) (offset n : ℕ) (bytes : List ℕ) (count : n ≡ min (length bytes) (spec.means d1 p).length) (positive : 0 < (spec.setting d0).cluster_size) (none : length bytes ≡ 0 → (spec.means d1 p).length ≡ 0) where
-  -- as many of the first bytes as the mapping has room for
-  abbrev chunk : List ℕ
-  chunk = take n bytes
-
-  long : length chunk ≡ min (length bytes) (spec.means d1 p).length
-  long = cut_long n (spec.means d1 p).length bytes count
-
-  short : length chunk ≤ length bytes
-  short = cut_short n bytes
-
-  part : (i : ℕ) → i < length chunk → byte_at chunk i ≡ byte_at bytes i
-  part = cut_part n bytes
-
+module _ {D P : Type 0} (spec : Abstraction D P) (has : HasFreePlaces spec) (in_image : (d : D) → spec.data_bytes d ≡ spec.known d) (d0 d1 : D) (p : P) (out : List (Option P)) (offset asked : ℕ) (bytes chunk : List ℕ) (long : length chunk ≡ min asked (spec.means d1 p).length) (short : length chunk ≤ length bytes) (part : (i : ℕ) → i < length chunk → byte_at chunk i ≡ byte_at bytes i)
+    (positive : 0 < (spec.setting d0).cluster_size) (none : length bytes ≡ 0 → (spec.means d1 p).length ≡ 0) (most : length bytes < (spec.means d1 p).length → asked < (spec.means d1 p).length) where
   abbrev Ready : Type 0
   Ready =
-      IsPrepared (spec.setting d0).cluster_size (guest_of (abstract_image spec d0 (None ∷ out))).disk offset (length bytes) true (spec.means d1 p)
+      IsPrepared (spec.setting d0).cluster_size (guest_of (abstract_image spec d0 (None ∷ out))).disk offset asked true (spec.means d1 p)
       × (guest_of (abstract_image spec d1 (Some p ∷ out)) ≡ with_slot (guest_of (abstract_image spec d0 (None ∷ out))) 0 (Some (spec.means d1 p)))
 
   abbrev given_bytes : List GivenBytes
@@ -160,7 +148,7 @@ module _ {D P : Type 0} (spec : Abstraction D P) (has : HasFreePlaces spec) (in_
   puts_within : Ready → IsWithin (abstract_image spec d1 (Some p ∷ out)) put_given_bytes given_bytes
   puts_within r = record {
     values = λ o w h. ⊎_elim (λ (e : w ≡ (guest_of (abstract_image spec d1 (Some p ∷ out))).disk.value o). inl (e ∙ ap (λ (d : Disk). d.value o) (shown_is (abstract_image spec d1 (Some p ∷ out)) (in_image d1)))) (λ (g : IsGiven given_bytes o w). inr g)
-        (put_within (spec.setting d0).cluster_size (guest_of (abstract_image spec d0 out)).disk (spec.means d1 p) offset bytes chunk long short part r.0 (guest_of (abstract_image spec d1 (Some p ∷ out))).disk o w h);
+        (put_within (spec.setting d0).cluster_size (guest_of (abstract_image spec d0 out)).disk (spec.means d1 p) offset asked bytes chunk long short part r.0 (guest_of (abstract_image spec d1 (Some p ∷ out))).disk o w h);
     touches = let from = r.0.from in let few = short in touches_part (spec.setting d1).cluster_size _ _ _ _ (omega (arith, from)) (omega (arith, from, few));
   }
 
@@ -213,14 +201,14 @@ module _ {D P : Type 0} (spec : Abstraction D P) (has : HasFreePlaces spec) (in_
             subst (λ (d : Disk). IsGiven (given_by_commit size d mapping2 ∷ []) o w) disk-is
             (subst (λ (m : PreparedMapping). IsGiven (given_by_commit size (guest_of (abstract_image spec d2 (Some p ∷ out))).disk m ∷ []) o w) (meaning2 h) given) in
             ⊎_elim (λ (e : w ≡ disk2.value o). inl (e ∙ ap (λ (d : Disk). d.value o) (sym disk-is ∙ shown_is (abstract_image spec d2 (Some p ∷ out)) (in_image d2)))) (λ g. inr g)
-            (commit_within (spec.setting d0).cluster_size (guest_of (abstract_image spec d0 out)).disk (spec.means d1 p) offset bytes chunk long short part h.0.0 size o w there);
+            (commit_within (spec.setting d0).cluster_size (guest_of (abstract_image spec d0 out)).disk (spec.means d1 p) offset asked bytes chunk long short part h.0.0 size o w there);
         touches =
             let prepared = h.0.0 in
             let same : (spec.setting d2).cluster_size ≡ (spec.setting d0).cluster_size = ap (λ (x : Setting). x.cluster_size) (put_done.acts.works sound).setting in
             let from_is : (spec.means d2 p).from ≡ offset = ap (λ (m : PreparedMapping). m.from) (meaning2 h) ∙ prepared.from in
             let long_is : (spec.means d2 p).length ≡ (spec.means d1 p).length = ap (λ (m : PreparedMapping). m.length) (meaning2 h) in
             commit_touches (spec.setting d2).cluster_size (subst (λ size. 0 < size) (sym same) positive) (guest_of (abstract_image spec d2 (Some p ∷ out))).disk (spec.means d2 p) (given_of offset bytes) offset (length bytes) from_is refl refl
-            (λ zero. long_is ∙ none zero) (λ past. long_is ∙ prepared.most (omega (arith, past, long_is)) ∙ ap (λ size. size - offset % size) (sym same));
+            (λ zero. long_is ∙ none zero) (λ past. long_is ∙ prepared.most (most (omega (arith, past, long_is))) ∙ ap (λ size. size - offset % size) (sym same));
       }
 
       -- all was done
@@ -232,7 +220,7 @@ module _ {D P : Type 0} (spec : Abstraction D P) (has : HasFreePlaces spec) (in_
           ap shift h.0.1 ∙ shift_slot (with_disk (guest_of (abstract_image spec d2 (Some p ∷ out))) (committed (guest_of (abstract_image spec d2 (Some p ∷ out))).disk (spec.means d2 p))) None
           ∙ ap (λ (m : PreparedMapping). with_disk (shift (guest_of (abstract_image spec d2 (Some p ∷ out)))) (committed (guest_of (abstract_image spec d2 (Some p ∷ out))).disk m)) (meaning2 put)
           ∙ ap (λ (g : Guest). with_disk g (committed g.disk mapping2)) (guest2 put)
-          ∙ ap (λ (d : Disk). with_disk (guest_of (abstract_image spec d0 out)) d) (chunk_disk (spec.setting d0).cluster_size (guest_of (abstract_image spec d0 out)).disk (spec.means d1 p) offset bytes chunk long short part put.0.0))
+          ∙ ap (λ (d : Disk). with_disk (guest_of (abstract_image spec d0 out)) d) (chunk_disk (spec.setting d0).cluster_size (guest_of (abstract_image spec d0 out)).disk (spec.means d1 p) offset asked bytes chunk long short part put.0.0))
           (does_then (λ _ _. none_within (abstract_image spec d3 (None ∷ out)) given_bytes) (does_then commits_within put_done commits) (leaves spec has d3 out))
 
       -- what was put in place may stay
@@ -241,7 +229,7 @@ module _ {D P : Type 0} (spec : Abstraction D P) (has : HasFreePlaces spec) (in_
           → RefusedEffect (abstract_image spec d0 out) (abstract_image spec d4 out) given_bytes [] e (MayWrite e (guest_of (abstract_image spec d0 out)) offset bytes 0 (guest_of (abstract_image spec d4 out)))
       ended d4 e r =
           refuses_fault (λ k. MayWrite k (guest_of (abstract_image spec d0 out)) offset bytes 0 (guest_of (abstract_image spec d4 out))) e (λ h. h.0.1.1)
-          (λ h. (omega arith, (disk2, put_some (spec.setting d0).cluster_size (guest_of (abstract_image spec d0 out)).disk (spec.means d1 p) offset bytes chunk long short part h.0.0.0.0, h.0.1.0 ∙ guest2 h.0.0)))
+          (λ h. (omega arith, (disk2, put_some (spec.setting d0).cluster_size (guest_of (abstract_image spec d0 out)).disk (spec.means d1 p) offset asked bytes chunk long short part h.0.0.0.0, h.0.1.0 ∙ guest2 h.0.0)))
           (refused_then (has.works d4 out) r (leaves spec has d4 out))
 
       -- the commit was refused, and spent the mapping

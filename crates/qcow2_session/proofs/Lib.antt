@@ -1,4 +1,5 @@
 pub mod Turns
+mod Opening
 mod Places
 mod Bytes
 mod Beyond
@@ -12,6 +13,7 @@ mod Reading
 mod Runs
 mod LookingUp
 mod Converting
+mod WrittenParts
 mod Exporting
 mod Differing
 mod Reasons

@@ -1,5 +1,7 @@
 -- What reads, lookups and writes of a sound image are refused for.
-use Rattle.std.proofs.Common.{◌≡◌, ⊎_elim, inl, inr, ℕ, zero, suc, ◌+◌, ◌-◌, ◌*◌, ◌/◌, ◌%◌, ◌^◌, ◌<◌, ◌≤◌, ◌∷◌, Bool, true, false, List, [], Option, Some, None, refl, sym, ap, ◌∙◌, subst, arith, pow_mono}
+use Rattle.qcow2_alloc.specs.declared.error.ImageError.TheVariants as I
+use Rattle.qcow2_image.specs.declared.mapping.MappingKind.TheVariants as M
+use Rattle.std.proofs.Common.{◌≡◌, inl, inr, ℕ, zero, suc, ◌+◌, ◌-◌, ◌*◌, ◌/◌, ◌%◌, ◌^◌, ◌<◌, ◌≤◌, ◌∷◌, Bool, true, false, List, [], Option, Some, None, refl, sym, ap, ◌∙◌, subst, arith, pow_mono, ⊎_elim}
 use Rattle.std.specs.Prelude.{IsNone, IsSome, is_some, slice_get, ◌&&◌}
 use Rattle.std.proofs.lemmas.Bool.{cases_lt}
 use Rattle.std.proofs.lemmas.Grind.{common_steps}
@@ -16,10 +18,8 @@ use Rattle.qcow2_disk.specs.Alike.{AreDataAt}
 use Rattle.qcow2_disk.specs.Calls.{EffectOnSound}
 use Rattle.qcow2_disk.specs.Found.{Kind, IsCompressed, IsFoundIn, eof, indirect, kind_at, raw, rest_of_table, special, zeros, IsFound as IsFoundOf}
 use Rattle.qcow2_disk.specs.UngivenCovers.{Touches}
-use Rattle.qcow2_alloc.specs.ImageError.{IsFault}
 use Rattle.qcow2_alloc.specs.ImageFile.{contents_in, known_in}
 use Rattle.qcow2_alloc.specs.declared.error.ImageError.{ImageError}
-use Rattle.qcow2_alloc.specs.declared.error.ImageError.TheVariants as I
 use Rattle.qcow2_image.proofs.HiddenBytes.{header_is}
 use Rattle.qcow2_image.proofs.Map.Looked.{compressed_there, data_found, found_upto, product_le}
 use Rattle.qcow2_image.proofs.Prepare.NearPlaces.{IsNearData, cover_near}
@@ -28,12 +28,13 @@ use Rattle.qcow2_image.specs.Backings.{HasPrepared}
 use Rattle.qcow2_image.specs.Found.{IsFoundWhole, found_kind, further_by}
 use Rattle.qcow2_image.specs.Image.{size_of}
 use Rattle.qcow2_image.specs.ImageInvariant.{ImageInvariant, IsReadyWith, abstract_of, meaning, pending_in}
-use Rattle.qcow2_image.specs.MetAlone.{CopiesCompressed, HasCompressedIn, IsCacheHeld, IsMetAlone, IsMetLooking, IsMetLookingAgain, IsMetMapped, IsMetPutting, IsMetReadingRange, IsSpecial}
+use Rattle.qcow2_image.specs.Refusals.{IsUnlimited}
+use Rattle.qcow2_image.proofs.Call.Unlimited.{fault_unlimited}
+use Rattle.qcow2_image.specs.MetAlone.{CopiesCompressed, HasCompressedIn, IsCacheHeld, IsMetLooking, IsMetMapped, IsMetPutting, IsMetReadingRange, IsSpecial, IsMetLookingAgain}
 use Rattle.qcow2_image.specs.Prepared.{guest_offset_of, length_of, offset_of, table_of}
 use Rattle.qcow2_image.specs.Preparing.{IsAnswered}
 use Rattle.qcow2_image.specs.declared.image.Qcow2.{Qcow2}
 use Rattle.qcow2_image.specs.declared.mapping.MappingKind.{MappingKind}
-use Rattle.qcow2_image.specs.declared.mapping.MappingKind.TheVariants as M
 use Rattle.qcow2_image.specs.declared.mapping.Place.TheVariants.{Image}
 use Rattle.qcow2_image.specs.declared.prepared.Prepared.{Prepared}
 use Rattle.qcow2_session.proofs.Copied.{kept_cover, same_size}
@@ -148,35 +149,25 @@ module _ {S F : Type 0} (view : S → StorageView) (backing : F → BackingView)
           (λ g. sym (kept_cover view backing old mid out sound sound' effect g tt)) from to first last low high compressed.1,
     )
 
-    -- what a refused preparation met is there behind it
-    pub met_behind : EffectOnSound (abstract_of view backing old out) (abstract_of view backing mid out) [] [] → (offset n : ℕ) (far : Type 0) (e : ImageError)
-        → IsMetAlone (CopiesCompressed offset n true old.file.header.fields (known_in view old.file)) far e → IsMetAlone (CopiesCompressed offset n true mid.file.header.fields (known_in view mid.file)) (Unit {0}) e
-    met_behind effect offset n far e (inl limit) = inl limit
-    met_behind effect offset n far e (inr (inr is)) = inr (inr (is.0, tt))
-    met_behind effect offset n far e (inr (inl compressed)) =
-        let c = compressed.1 in
+    -- what is compressed and copied is so behind a call that changes nothing
+    pub compressed_behind : EffectOnSound (abstract_of view backing old out) (abstract_of view backing mid out) [] [] → (offset n : ℕ)
+        → CopiesCompressed offset n true old.file.header.fields (known_in view old.file) → CopiesCompressed offset n true mid.file.header.fields (known_in view mid.file)
+    compressed_behind effect offset n c =
         let t = c.touched in
         let same : cluster_size mid.file.header.fields ≡ cluster_size old.file.header.fields = same_size view backing old mid out effect in
         let times : c.guest * cluster_size mid.file.header.fields ≡ c.guest * cluster_size old.file.header.fields = ap (λ k. c.guest * k) same in
-        inr (inl (
-          compressed.0,
-          record {
-            guest = c.guest;
-            touched = (t.0, omega (arith, t.1, times, same), omega (arith, t.2, times));
-            is = subst (λ (m : L2Mapping). IsCompressed m) (kept_cover view backing old mid out sound sound' effect c.guest tt) c.is;
-            at = c.at;
-            within = ap (λ k. c.at / k) same ∙ c.within;
-            left = c.left;
-          },
-        ))
+        record {
+          guest = c.guest;
+          touched = (t.0, omega (arith, t.1, times, same), omega (arith, t.2, times));
+          is = subst (λ (m : L2Mapping). IsCompressed m) (kept_cover view backing old mid out sound sound' effect c.guest tt) c.is;
+          at = c.at;
+          within = ap (λ k. c.at / k) same ∙ c.within;
+          left = c.left;
+        }
 
--- what is met in a part of a range that is written, and that begins where a cluster does, is met in the range
-pub met_in_part : (h : HeaderFields) (known : Bytes) (offset n done at m : ℕ) (e : ImageError) → at ≡ offset + done → at + m ≡ offset + n → at % cluster_size h ≡ 0
-    → IsMetAlone (CopiesCompressed at m true h known) (Unit {0}) e → IsMetAlone (CopiesCompressed offset n true h known) (Unit {0}) e
-met_in_part h known offset n done at m e there upto begins (inl limit) = inl limit
-met_in_part h known offset n done at m e there upto begins (inr (inr far)) = inr (inr far)
-met_in_part h known offset n done at m e there upto begins (inr (inl compressed)) =
-    let c = compressed.1 in
+-- what is so in a part of a range that is written, and that begins where a cluster does, is so in the range
+pub compressed_in_part : (h : HeaderFields) (known : Bytes) (offset n done at m : ℕ) → at ≡ offset + done → at + m ≡ offset + n → at % cluster_size h ≡ 0 → CopiesCompressed at m true h known → CopiesCompressed offset n true h known
+compressed_in_part h known offset n done at m there upto begins c =
     let g = c.guest in
     let t = c.touched in
     let size = cluster_size h in
@@ -184,17 +175,14 @@ met_in_part h known offset n done at m e there upto begins (inr (inl compressed)
     let behind : at ≤ g * size = whole_behind (at / size) g (omega (arith, split, begins)) t.1 in
     let place : c.at / size * size + c.at % size ≡ c.at = div-add-mod' c.at size in
     let lies : g * size ≤ c.at = let k = ap (λ x. x * size) c.within in omega (arith, place, k) in
-    inr (inl (
-      compressed.0,
-      record {
-        guest = g;
-        touched = (omega (arith, t.0, there, upto), omega (arith, t.1, there), omega (arith, t.2, upto));
-        is = c.is;
-        at = c.at;
-        within = c.within;
-        left = left_behind c.at (omega (arith, behind, lies)) c.left;
-      },
-    ))
+    record {
+      guest = g;
+      touched = (omega (arith, t.0, there, upto), omega (arith, t.1, there), omega (arith, t.2, upto));
+      is = c.is;
+      at = c.at;
+      within = c.within;
+      left = left_behind c.at (omega (arith, behind, lies)) c.left;
+    }
   where
     whole_behind : (k g : ℕ) → at ≡ k * cluster_size h → at < g * cluster_size h + cluster_size h → at ≤ g * cluster_size h
     whole_behind k g is lt = elim (cases_lt g k) [
@@ -207,21 +195,32 @@ met_in_part h known offset n done at m e there upto begins (inr (inl compressed)
 
 -- ---- a put into a mapping that was just prepared
 
--- none is prepared beside an existing one
-none_beside : (out : List (Option Prepared)) (p : Prepared) → table_of p ≡ None → (HasPrepared out → ⊥) → HasPrepared (Some p ∷ out) → ⊥
-none_beside out p existing none has = at has.place has.mapping has.there has.pins
+-- what is prepared beside an existing one was prepared before
+prepared_beside : (out : List (Option Prepared)) (p : Prepared) → table_of p ≡ None → HasPrepared (Some p ∷ out) → HasPrepared out
+prepared_beside out p existing has = at has.place has.mapping has.there has.pins
   where
-    at : (k : ℕ) (q : Prepared) → slice_get (Some p ∷ out) k ≡ Some (Some q) → IsSome (table_of q) → ⊥
-    at zero q there pins = let same : p ≡ q = cc in let no : false ≡ true = subst (λ t. IsSome t) (ap table_of (sym same) ∙ existing) pins in cc
-    at (suc k) q there pins = none (record { place = k; mapping = q; there = there; pins = pins })
+    at : (k : ℕ) (q : Prepared) → slice_get (Some p ∷ out) k ≡ Some (Some q) → IsSome (table_of q) → HasPrepared out
+    at zero q there pins = let same : p ≡ q = cc in absurd (let no : false ≡ true = subst (λ t. IsSome t) (ap table_of (sym same) ∙ existing) pins in cc)
+    at (suc k) q there pins = record { place = k; mapping = q; there = there; pins = pins }
 
--- so bytes are put but for a fault, where an existing one is found as it was prepared
-pub put_alone : (held : Type 0) (out : List (Option Prepared)) (p : Prepared) (e : ImageError) → (held → HasPrepared (Some p ∷ out)) → (HasPrepared out → ⊥) → (table_of p ≡ None → offset_of p < 2 ^ 64) → (table_of p ≡ None → e ≡ I.OutdatedMapping → ⊥)
-    → IsMetPutting held p 0 e → IsFault e
-put_alone held out p e prepared none near found (inl fault) = fault
-put_alone held out p e prepared none near found (inr again) = ⊎_elim
-    (λ (again' : IsMetLookingAgain held e). ⊎_elim (λ (looking : IsMetLooking held e). ⊎_elim (λ fault. fault) (λ used. absurd (none_beside out p again.0 none (prepared used.1))) looking) (λ outdated. absurd (found again.0 outdated)) again')
-    (λ far. absurd (let past = far.1 in let below = near again.0 in omega (arith, past, below))) again.1
+-- so bytes are put but for a fault, and where tables are held, where an existing one is found as it was prepared
+pub put_looking : (held : Type 0) (out : List (Option Prepared)) (p : Prepared) (e : ImageError) → (held → HasPrepared (Some p ∷ out)) → (table_of p ≡ None → offset_of p < 2 ^ 64) → (table_of p ≡ None → e ≡ I.OutdatedMapping → ⊥)
+    → IsMetPutting held p 0 e → IsMetLooking (HasPrepared out) e
+put_looking held out p e prepared near found (inl fault) = inl fault
+put_looking held out p e prepared near found (inr again) = elim (again.1) [
+  | inl again' ↦ elim again' [
+    | inl looking ↦ elim looking [ inl fault ↦ inl fault | inr used ↦ inr (used.0, prepared_beside out p again.0 (prepared used.1)) ]
+    | inr outdated ↦ absurd (found again.0 outdated)
+  ]
+  | inr far ↦ absurd (let past = far.1 in let below = near again.0 in omega (arith, past, below))
+]
+
+-- no limit is met by a put
+pub put_unlimited : (held : Type 0) (p : Prepared) (at : ℕ) (e : ImageError) → IsMetPutting held p at e → IsUnlimited e
+put_unlimited held p at e (inl fault) = fault_unlimited e fault
+put_unlimited held p at e (inr again) = ⊎_elim
+    (λ (again' : IsMetLookingAgain held e). ⊎_elim (λ (looking : IsMetLooking held e). ⊎_elim (λ fault. fault_unlimited e fault) (λ used. subst IsUnlimited (sym used.0) tt) looking) (λ outdated. subst IsUnlimited (sym outdated) tt) again')
+    (λ far. subst IsUnlimited (sym far.0) tt) again.1
 
 module _ {S F : Type 0} (view : S → StorageView) (backing : F → BackingView) (out : List (Option Prepared)) (old mid : Qcow2 S F) (p : Prepared) (offset n : ℕ)
     (sound : ImageInvariant view backing (pending_in view backing mid (Some p ∷ out)) mid (Some p ∷ out)) (same : cluster_size mid.file.header.fields ≡ cluster_size old.file.header.fields)

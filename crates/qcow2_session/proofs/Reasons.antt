@@ -1,4 +1,5 @@
 -- Why a range isn't written, of an image that may be read.
+use Rattle.qcow2_alloc.specs.declared.error.ImageError.TheVariants as I
 use Rattle.std.proofs.Common.{◌≡◌, ◌⊎◌, ⊎_elim, inl, inr, ℕ, ◌+◌, ◌<◌, ◌≤◌, Bool, true, false, not, List, [], Option, Some, None, refl, sym, ap, ◌∙◌, subst, arith}
 use Rattle.std.specs.Prelude.{◌&&◌, nat_lt, IfSome, IsTrue, Result, Err}
 use Rattle.std.specs.Option.{option_or}
@@ -6,15 +7,13 @@ use Rattle.std.proofs.lemmas.Bool.{cases_Bool}
 use Rattle.image_access.specs.Backing.{BackingView}
 use Rattle.image_access.specs.Moments.{StorageView}
 use Rattle.qcow2_disk.specs.Calls.{IsRefusalByFault, RefusedEffect}
-use Rattle.qcow2_alloc.specs.ImageError.{IsFault}
 use Rattle.qcow2_alloc.specs.ImageFile.{known_in}
 use Rattle.qcow2_alloc.specs.declared.error.ImageError.{ImageError}
-use Rattle.qcow2_alloc.specs.declared.error.ImageError.TheVariants as I
 use Rattle.qcow2_image.specs.Backings.{HasPrepared}
 use Rattle.qcow2_image.specs.Calls.{refusal_of}
 use Rattle.qcow2_image.specs.Image.{IsSameImage, is_failed, is_writable, size_of}
 use Rattle.qcow2_image.specs.ImageInvariant.{abstract_of}
-use Rattle.qcow2_image.specs.MetAlone.{CopiesCompressed, IsMetAlone, IsMetReadingRange}
+use Rattle.qcow2_image.specs.MetAlone.{CopiesCompressed, IsMetReadingRange, IsMetTaking}
 use Rattle.qcow2_image.specs.Preallocation.{IsUnderMappingIn}
 use Rattle.qcow2_image.specs.Refusals.{IsMet, IsMetPreparing, passes, refuse_if, refuses_to_prepare, refuses_to_read, unusable}
 use Rattle.qcow2_image.specs.declared.image.Qcow2.{Qcow2}
@@ -80,43 +79,47 @@ module _ {S F : Type 0} (old mid : Qcow2 S F) (same : IsSameImage old mid) (clus
       ⊎_elim (λ (met : IsMet e). inl met) (λ (t : e ≡ I.TablePrepared). inr (inr (t, carried at (at + n) at (at + n) (omega arith) (omega arith) out (taken free t)))) (late free).0)
       (early_or_late old mid same at n works none e k X early)
 
--- ---- what an import of a sound image meets, of which no mapping is prepared
+-- ---- what an import of a sound image meets
 
 module _ {S F : Type 0} (view : S → StorageView) (new : Qcow2 S F) where
   -- a part of a range meets what the range does
-  pub importing_within : (from to first last : ℕ) (e : ImageError) → from ≤ first → last ≤ to → IsMetImporting view first last new e → IsMetImporting view from to new e
-  importing_within from to first last e low high (inl limit) = inl limit
-  importing_within from to first last e low high (inr (inl closed)) = inr (inl closed)
-  importing_within from to first last e low high (inr (inr (inl far))) = inr (inr (inl far))
-  importing_within from to first last e low high (inr (inr (inr compressed))) =
+  pub importing_within : (out : List (Option Prepared)) (from to first last : ℕ) (e : ImageError) → from ≤ first → last ≤ to → IsMetImporting view first last new out e → IsMetImporting view from to new out e
+  importing_within out from to first last e low high (inl limit) = inl limit
+  importing_within out from to first last e low high (inr (inl closed)) = inr (inl closed)
+  importing_within out from to first last e low high (inr (inr (inl far))) = inr (inr (inl far))
+  importing_within out from to first last e low high (inr (inr (inr (inr prepared)))) = inr (inr (inr (inr prepared)))
+  importing_within out from to first last e low high (inr (inr (inr (inl compressed)))) =
       let h = new.file.header.fields in
       let known = known_in view new.file in
-      inr (inr (inr (compressed.0, compressed_within h h known known refl (λ g. refl) from to first last low high compressed.1)))
+      inr (inr (inr (inl (compressed.0, compressed_within h h known known refl (λ g. refl) from to first last low high compressed.1))))
 
   -- a read that was refused: what is compressed is so still
-  pub read_importing : {A : Type 0} (backing : F → BackingView) (old : Qcow2 S F) (out : List (Option Prepared)) (from to : ℕ) (e : ImageError) → (abstract_of view backing old out).is_sound → (HasPrepared out → ⊥)
-      → RefusedEffect (abstract_of view backing old out) (abstract_of view backing new out) [] [] (refusal_of e) A → IsMetReadingRange out from to old.file.header.fields (known_in view old.file) e → IsMetImporting view from to new e
-  read_importing backing old out from to e sound free refused (inl looking) = ⊎_elim (λ (fault : IsFault e). inl (inl fault)) (λ used. absurd (free used.1)) looking
-  read_importing {A = A} backing old out from to e sound free refused (inr compressed) =
+  pub read_importing : {A : Type 0} (backing : F → BackingView) (old : Qcow2 S F) (out : List (Option Prepared)) (from to : ℕ) (e : ImageError) → (abstract_of view backing old out).is_sound
+      → RefusedEffect (abstract_of view backing old out) (abstract_of view backing new out) [] [] (refusal_of e) A → IsMetReadingRange out from to old.file.header.fields (known_in view old.file) e → IsMetImporting view from to new out e
+  read_importing backing old out from to e sound refused (inl (inl fault)) = inl (inl fault)
+  read_importing backing old out from to e sound refused (inl (inr used)) = inr (inr (inr (inr (inl used.0, used.1))))
+  read_importing {A = A} backing old out from to e sound refused (inr compressed) =
       let effect = refused.acts.works sound in
       ⊎_elim
-      (λ (still : (abstract_of view backing new out).is_sound × A). inr (inr (inr (
+      (λ (still : (abstract_of view backing new out).is_sound × A). inr (inr (inr (inl (
         compressed.0,
         compressed_within old.file.header.fields new.file.header.fields (known_in view old.file) (known_in view new.file) (same_size view backing old new out effect) (λ g. kept_cover view backing old new out sound still.0 effect g tt)
             from to from to (omega arith) (omega arith) compressed.1,
-      ))))
+      )))))
       (λ (broke : IsRefusalByFault (refusal_of e) × IsTrue (abstract_of view backing new out).is_failed). absurd (subst (λ x. IsRefusalByFault (refusal_of x)) compressed.0 broke.0)) (refused.answer sound)
 
   -- a write that was refused
-  pub write_importing : (old mid : Qcow2 S F) → IsSameImage old mid → is_writable new ≡ is_writable mid → (at n : ℕ) → is_failed mid ≡ false → refuses_to_read old at n ≡ None → (e : ImageError) (k : ℕ) (X : Type 0)
+  pub write_importing : {Far : Type 0} (out : List (Option Prepared)) (old mid : Qcow2 S F) → IsSameImage old mid → is_writable new ≡ is_writable mid → (at n : ℕ) → is_failed mid ≡ false → refuses_to_read old at n ≡ None → (e : ImageError) (k : ℕ) (X : Type 0)
       → IfSome (refuses_to_prepare mid at n) (λ x. (◌≡◌ {A = Result (Unit {0}) (ImageError × ℕ)} (Err (e, k)) (Err (x, 0))) × X)
-      → (refuses_to_prepare mid at n ≡ None → IsMetAlone (CopiesCompressed at n true new.file.header.fields (known_in view new.file)) (Unit {0}) e) → IsMetImporting view at (at + n) new e
-  write_importing old mid same writable at n works none e k X early met = ⊎_elim
+      → (refuses_to_prepare mid at n ≡ None → IsMetTaking (HasPrepared out) (IsUnderMappingIn mid.file.header.fields at (at + n) out) (CopiesCompressed at n true new.file.header.fields (known_in view new.file)) Far e) → IsMetImporting view at (at + n) new out e
+  write_importing {Far} out old mid same writable at n works none e k X early met = ⊎_elim
       (λ (closed : (e ≡ I.ReadOnly) × (is_writable mid ≡ false)). inr (inl (closed.0, writable ∙ closed.1)))
       (λ (free : refuses_to_prepare mid at n ≡ None). met_writing (met free))
       (early_or_late old mid same at n works none e k X early)
     where
-      met_writing : IsMetAlone (CopiesCompressed at n true new.file.header.fields (known_in view new.file)) (Unit {0}) e → IsMetImporting view at (at + n) new e
-      met_writing (inl limit) = inl limit
-      met_writing (inr (inl compressed)) = let c = compressed.1 in inr (inr (inr (compressed.0, record { guest = c.guest; touched = c.touched; is = c.is })))
-      met_writing (inr (inr far)) = inr (inr (inl far.0))
+      met_writing : IsMetTaking (HasPrepared out) (IsUnderMappingIn mid.file.header.fields at (at + n) out) (CopiesCompressed at n true new.file.header.fields (known_in view new.file)) Far e → IsMetImporting view at (at + n) new out e
+      met_writing (inl (inl limit)) = inl limit
+      met_writing (inl (inr (inl compressed))) = let c = compressed.1 in inr (inr (inr (inl (compressed.0, record { guest = c.guest; touched = c.touched; is = c.is }))))
+      met_writing (inl (inr (inr far))) = inr (inr (inl far.0))
+      met_writing (inr (inl used)) = inr (inr (inr (inr (inl used.0, used.1))))
+      met_writing (inr (inr kept)) = let u = kept.1.under in inr (inr (inr (inr (inr kept.0, record { place = u.place; mapping = u.other; there = u.is_out; pins = u.keeps_table }))))

@@ -29,7 +29,7 @@ module _ (offset at count : ℕ) (bytes : List ℕ) (le : count ≤ length bytes
   after_first : at ≡ offset + length (take count bytes)
   after_first = there ∙ grind (arith, common_steps)
 
-  more_bytes : (d : Disk) (n : ℕ) → with_bytes (with_bytes d offset (take count bytes)) at (take n (drop count bytes)) ≡ with_bytes d offset (take (count + n) bytes)
+  pub more_bytes : (d : Disk) (n : ℕ) → with_bytes (with_bytes d offset (take count bytes)) at (take n (drop count bytes)) ≡ with_bytes d offset (take (count + n) bytes)
   more_bytes d n =
       ap (λ k. with_bytes (with_bytes d offset (take count bytes)) k (take n (drop count bytes))) after_first
       ∙ with_both d offset (take count bytes) (take n (drop count bytes)) ∙ ap (with_bytes d offset) (sym (take-add count n bytes))

@@ -1,4 +1,7 @@
 -- Why the commands of a run are refused: what is asked before any work, in order, and what the work meets.
+use Rattle.qcow2_alloc.specs.declared.error.ImageError.TheVariants as I
+use Rattle.qcow2_session.specs.declared.session.Command.TheVariants as C
+use Rattle.qcow2_session.specs.declared.session.Reply.TheVariants as R
 use Rattle.std.specs.Prelude.{ℕ, ◌+◌, ◌<◌, ◌≤◌, ◌≡◌, ◌↔◌, ◌⊎◌, ◌&&◌, not, nat_lt, true, false, length, List, Option, Some, None, IfSome, IsNone, MatchOption, slice_get}
 use Rattle.std.specs.Option.{option_or}
 use Rattle.image_access.specs.Backing.{BackingView}
@@ -10,14 +13,13 @@ use Rattle.qcow2_disk.specs.ClearedCovers.{needs_zeros, rounds_past}
 use Rattle.qcow2_alloc.specs.ImageError.{IsFault, IsOfTables}
 use Rattle.qcow2_alloc.specs.ImageFile.{known_in}
 use Rattle.qcow2_alloc.specs.declared.error.ImageError.{ImageError}
-use Rattle.qcow2_alloc.specs.declared.error.ImageError.TheVariants as I
 use Rattle.qcow2_image.specs.Backings.{HasPrepared}
 use Rattle.qcow2_image.specs.Clearing.{IsUnderMapping, from_in, to_in}
 use Rattle.qcow2_image.specs.Found.{IsFoundWhole, further_by}
 use Rattle.qcow2_image.specs.Image.{is_failed, is_writable, size_of}
 use Rattle.qcow2_image.specs.ImageInvariant.{abstract_of}
 use Rattle.qcow2_image.specs.L1Entries.{NeedsFarEntry}
-use Rattle.qcow2_image.specs.MetAlone.{CopiesCompressed, IsCacheHeld, IsMetAlone, IsMetFilling, IsMetLooking, IsMetMapped, IsMetPutting, IsMetReadingRange, IsMetSpecial}
+use Rattle.qcow2_image.specs.MetAlone.{CopiesCompressed, IsCacheHeld, IsMetLooking, IsMetMapped, IsMetPutting, IsMetReadingRange, IsMetSpecial, IsMetGrowing, IsMetTaking}
 use Rattle.qcow2_image.specs.Preallocation.{IsUnderMappingIn}
 use Rattle.qcow2_image.specs.Prepared.{length_of, table_of}
 use Rattle.qcow2_image.specs.Preparing.{IsTaken}
@@ -29,10 +31,9 @@ use Rattle.qcow2_image.specs.declared.mapping.MappingKind.TheVariants.{Raw}
 use Rattle.qcow2_image.specs.declared.mapping.Place.TheVariants.{Image}
 use Rattle.qcow2_image.specs.declared.prepared.Prepared.{Prepared}
 use Rattle.qcow2_session.specs.CountedFaults.{refusal_in}
+use Rattle.qcow2_session.specs.Sessions.{IsTakenToWrite, LacksPlaceToWrite, NeedsFarToWrite}
 use Rattle.qcow2_session.specs.declared.session.Command.{Command}
-use Rattle.qcow2_session.specs.declared.session.Command.TheVariants as C
 use Rattle.qcow2_session.specs.declared.session.Reply.{Reply}
-use Rattle.qcow2_session.specs.declared.session.Reply.TheVariants as R
 
 -- ---- before any work
 
@@ -105,17 +106,23 @@ MayMeet (C.ResizeShrink size) e = IsFault e ⊎ (e ≡ I.MappingPrepared)
 MayMeet C.Size e = ⊥
 MayMeet command e = IsMet e
 
-module _ {S F : Type 0} (view : S → StorageView) (old new : Qcow2 S F) where
-  -- what it may be refused for then, on a sound image of which no mapping is prepared. Of a write the compressed cluster stands there at its refusal.
-  abbrev pub MeetsAlone : Command → ImageError → Type 0
-  MeetsAlone (C.Write offset bytes) e = IsMetAlone (CopiesCompressed offset (length bytes.items) true new.file.header.fields (known_in view new.file)) (Unit {0}) e
-  MeetsAlone (C.PrepareDataMapping slot offset n overwrite) e = IsMetAlone (CopiesCompressed offset n overwrite old.file.header.fields (known_in view old.file)) (NeedsFarEntry old offset) e
-  MeetsAlone (C.EnsureZeroMapping offset n) e = IsMetAlone ⊥ (NeedsFarEntry old (from_in old offset n)) e
-  MeetsAlone (C.DiscardToZero offset n) e = IsMetAlone ⊥ (NeedsFarEntry old (from_in old offset n)) e
-  MeetsAlone (C.DiscardToAny offset n) e = IsMetAlone ⊥ (NeedsFarEntry old (from_in old offset n)) e
-  MeetsAlone (C.DiscardToBacking offset n) e = IsMetAlone ⊥ (NeedsFarEntry old (from_in old offset n)) e
-  MeetsAlone (C.ResizeGrow size mode) e = IsMetFilling mode (size_of old) (rounded_up (cluster_size old.file.header.fields) size) old.file.header.fields (known_in view old.file) e
-  MeetsAlone command e = Unit {0}
+module _ {S F : Type 0} (view : S → StorageView) (old new : Qcow2 S F) (before : List (Option Prepared)) where
+  -- Clearing a range of a sound image meets a fault or a limit, or 20. It meets 8 where a mapping is prepared that isn't existing, and 9 where one lies in the L2 table of its first offset.
+  abbrev pub MeetsClearing : (offset n : ℕ) → ImageError → Type 0
+  MeetsClearing offset n e = IsMetTaking (HasPrepared before) (IsUnderMapping old.file.header.fields (from_in old offset n) before) ⊥ (NeedsFarEntry old (from_in old offset n)) e
+
+  -- What a command that takes clusters may be refused for then, on a sound image. Of a write the compressed cluster stands there at its refusal.
+  abbrev pub MeetsTaking : Command → ImageError → Type 0
+  MeetsTaking (C.Write offset bytes) e =
+      IsMetTaking (HasPrepared before) (IsUnderMappingIn old.file.header.fields offset (offset + length bytes.items) before) (CopiesCompressed offset (length bytes.items) true new.file.header.fields (known_in view new.file)) (Unit {0}) e
+  MeetsTaking (C.PrepareDataMapping slot offset n overwrite) e =
+      IsMetTaking (HasPrepared before) (IsTaken old.file.header.fields (known_in view old.file) offset n before) (CopiesCompressed offset n overwrite old.file.header.fields (known_in view old.file)) (NeedsFarEntry old offset) e
+  MeetsTaking (C.EnsureZeroMapping offset n) e = MeetsClearing offset n e
+  MeetsTaking (C.DiscardToZero offset n) e = MeetsClearing offset n e
+  MeetsTaking (C.DiscardToAny offset n) e = MeetsClearing offset n e
+  MeetsTaking (C.DiscardToBacking offset n) e = MeetsClearing offset n e
+  MeetsTaking (C.ResizeGrow size mode) e = IsMetGrowing before mode (size_of old) (rounded_up (cluster_size old.file.header.fields) size) old.file.header.fields (known_in view old.file) e
+  MeetsTaking command e = Unit {0}
 
 module _ {S F : Type 0} (view : S → StorageView) (backing : F → BackingView) (old new : Qcow2 S F) (before : List (Option Prepared)) where
   -- there is nothing to do
@@ -168,11 +175,16 @@ module _ {S F : Type 0} (view : S → StorageView) (backing : F → BackingView)
   abbrev pub IsMetPuttingAt : (slot at : ℕ) → ImageError → Type 0
   IsMetPuttingAt slot at e = (p : Prepared) × (slice_get before slot ≡ Some (Some p)) × IsMetPutting (IsCacheHeld old before) p at e
 
+  -- A write is refused for a limit, or under a mapping, only where the rest of its range has that cause, behind the bytes that are told as written. So it is of 20.
+  abbrev pub StopsRightly : (offset : ℕ) → List ℕ → Reply → Type 0
+  StopsRightly offset bytes (R.WriteRefused e n) = (e ≡ I.Limit → LacksPlaceToWrite view backing old new offset bytes n) × (e ≡ I.TablePrepared → IsTakenToWrite view backing old before offset bytes n) × (e ≡ I.Overflow → NeedsFarToWrite view backing old offset bytes n)
+  StopsRightly offset bytes reply = Unit {0}
+
   -- What a prepared mapping refuses, and nothing else: a range of its L2 table (9), a smaller disk (17). What is put, or read as it was looked up, is refused as outdated (10) only where it is. A commit and a flush are refused for a fault alone.
   -- What is read, looked up or put is refused for a fault, and for what has a cause in the image or in what is prepared.
   abbrev pub MeetsOnSound : (found : ℕ → Option Mapping) → Command → Reply → Type 0
   MeetsOnSound found (C.Read offset n) reply = IfSome (refusal_in reply) (IsMetReadingRange before offset (offset + n) old.file.header.fields (known_in view old.file))
-  MeetsOnSound found (C.Write offset bytes) reply = refusal_in reply ≡ Some I.TablePrepared → IsUnderMappingIn old.file.header.fields offset (offset + length bytes.items) before
+  MeetsOnSound found (C.Write offset bytes) reply = (refusal_in reply ≡ Some I.TablePrepared → IsUnderMappingIn old.file.header.fields offset (offset + length bytes.items) before) × StopsRightly offset bytes.items reply
   MeetsOnSound found (C.PrepareDataMapping slot offset n overwrite) reply = IsUntakenIn offset n reply
   MeetsOnSound found (C.GetMapping slot offset max) reply = IfSome (refusal_in reply) (IsMetLooking (IsCacheHeld old before))
   MeetsOnSound found (C.ReadMapped slot at n) reply = ReadsLookedUp found slot at n reply × IfSome (refusal_in reply) (IsMetLookedUp found slot at n)
@@ -192,12 +204,12 @@ module _ {S F : Type 0} (view : S → StorageView) (backing : F → BackingView)
   -- ---- a command
 
   -- Where its slot or its range is misused, it is replied so, and nothing changes. Else the first cause that holds before any work is the reply, and nothing changes.
-  -- Where none holds, it is refused for what the work meets alone, and on a sound image of which no mapping is prepared for less. It isn't refused where there is nothing to do, and heeds what is prepared on a sound image.
+  -- Where none holds, it is refused for what the work meets alone, and on a sound image for less. It isn't refused where there is nothing to do, and heeds what is prepared on a sound image.
   pub record IsRightlyRefused (found : ℕ → Option Mapping) (command : Command) (reply : Reply) : Type 0 where
     pub misuse : TellsMisuse before found command reply
     pub still : reply ≡ R.Misuse → new ≡ old
     pub early : IfSome (first_cause old command) (λ e. ((refusal_in reply ≡ Some e) ⊎ (reply ≡ R.Misuse)) × (new ≡ old))
     pub late : first_cause old command ≡ None → IfSome (refusal_in reply) (MayMeet command)
-    pub met : first_cause old command ≡ None → (abstract_of view backing old before).is_sound → (HasPrepared before → ⊥) → IfSome (refusal_in reply) (MeetsAlone view old new command)
+    pub met : first_cause old command ≡ None → (abstract_of view backing old before).is_sound → IfSome (refusal_in reply) (MeetsTaking view old new before command)
     pub idle : first_cause old command ≡ None → HasNothingToDo command → refusal_in reply ≡ None
     pub heeds : first_cause old command ≡ None → (abstract_of view backing old before).is_sound → MeetsOnSound found command reply

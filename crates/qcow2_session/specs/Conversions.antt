@@ -11,9 +11,10 @@ use Rattle.qcow2_disk.specs.AbstractImages.{Guest, AbstractImage, guest_of, stor
 use Rattle.qcow2_disk.specs.Calls.{Refusal, IsRefusalByFault, CallEffect, AnsweredEffect, IsSame, Shows, MayWrite}
 use Rattle.qcow2_alloc.specs.ImageFile.{known_in}
 use Rattle.qcow2_alloc.specs.declared.error.ImageError.{ImageError}
-use Rattle.qcow2_alloc.specs.declared.error.ImageError.TheVariants.{Compressed, InvalidOption, Memory, Overflow, ReadOnly, Storage, TablePrepared}
+use Rattle.qcow2_alloc.specs.declared.error.ImageError.TheVariants.{Compressed, InUse, InvalidOption, Memory, Overflow, ReadOnly, Storage, TablePrepared}
 use Rattle.qcow2_image.specs.declared.image.Qcow2.{Qcow2}
 use Rattle.qcow2_image.specs.declared.prepared.Prepared.{Prepared}
+use Rattle.qcow2_image.specs.Backings.{HasPrepared}
 use Rattle.qcow2_image.specs.Calls.{refusal_of}
 use Rattle.qcow2_image.specs.Image.{is_writable, size_of}
 use Rattle.qcow2_image.specs.MetAlone.{HasCompressedIn}
@@ -43,10 +44,12 @@ IsOfImporting e = IsOfWriting e ⊎ (e ≡ InvalidOption)
 abbrev pub IsReasonNotToWrite : {S F : Type 0} → Qcow2 S F → (from to : ℕ) → List (Option Prepared) → ImageError → Type 0
 IsReasonNotToWrite image from to out e = IsMet e ⊎ (((e ≡ ReadOnly) × (is_writable image ≡ false)) ⊎ ((e ≡ TablePrepared) × IsUnderMappingIn image.file.header.fields from to out))
 
--- What making a range as a raw disk is meets, on a sound image of which no mapping is prepared: a fault or a limit. Or 1, where the image isn't to be written. Or 20. Or 7, where some guest cluster that has a byte of the range is compressed, as it stands at the refusal.
-abbrev pub IsMetImporting : {S F : Type 0} → (S → StorageView) → (from to : ℕ) → Qcow2 S F → ImageError → Type 0
-IsMetImporting view from to new e =
-    IsFaultOrLimit e ⊎ (((e ≡ ReadOnly) × (is_writable new ≡ false)) ⊎ ((e ≡ Overflow) ⊎ ((e ≡ Compressed) × HasCompressedIn from to new.file.header.fields (known_in view new.file))))
+-- What making a range as a raw disk is meets, on a sound image: a fault or a limit. Or 1, where the image isn't to be written. Or 20. Or 7, where some guest cluster that has a byte of the range is compressed, as it stands at the refusal.
+-- Or 8 or 9, where a mapping is prepared that isn't existing.
+abbrev pub IsMetImporting : {S F : Type 0} → (S → StorageView) → (from to : ℕ) → Qcow2 S F → List (Option Prepared) → ImageError → Type 0
+IsMetImporting view from to new out e =
+    IsFaultOrLimit e
+    ⊎ (((e ≡ ReadOnly) × (is_writable new ≡ false)) ⊎ ((e ≡ Overflow) ⊎ (((e ≡ Compressed) × HasCompressedIn from to new.file.header.fields (known_in view new.file)) ⊎ (((e ≡ InUse) ⊎ (e ≡ TablePrepared)) × HasPrepared out))))
 
 -- refused as not to be written, or as in an L2 table that is kept for a mapping
 abbrev pub IsKeptFromWriting : ImageError → Type 0

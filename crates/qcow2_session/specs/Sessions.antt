@@ -1,5 +1,5 @@
 -- What a session does to an image: its reads and writes, and its runs of commands.
-use Rattle.std.specs.Prelude.{ℕ, ◌%◌, ◌==◌, ◌≡◌, ◌⊎◌, IsTrue, false, List, [], ◌∷◌, length, map, take, Vec, Bool, Option, Some, None, is_some, Result, Ok, Err, slice_get, if◌then◌else◌}
+use Rattle.std.specs.Prelude.{ℕ, ◌+◌, ◌-◌, ◌%◌, ◌==◌, ◌≡◌, ◌⊎◌, IsTrue, false, List, [], ◌∷◌, length, map, take, Vec, Bool, Option, Some, None, is_some, Result, Ok, Err, slice_get, if◌then◌else◌}
 use Rattle.std.specs.Global.{Global}
 use Rattle.image_access.specs.Backing.{BackingView}
 use Rattle.image_access.specs.Moments.{StorageView}
@@ -13,12 +13,15 @@ use Rattle.qcow2_disk.specs.Found.{IsFoundIn}
 use Rattle.qcow2_disk.specs.Runs.{Command as RunCommand, Reply as RunReply, get_mapping, mapping_is, Found, State, RefinesState, RefinesCommand, RefinesWholeRun, RefinesDisk, begun}
 use Rattle.qcow2_alloc.specs.declared.error.ImageError.{ImageError}
 use Rattle.qcow2_alloc.specs.declared.error.ImageError.TheVariants.{BeyondSize, Dependency, Failed, ReadOnly, TablePrepared}
-use Rattle.qcow2_alloc.specs.ImageFile.{contents_in}
+use Rattle.qcow2_alloc.specs.ImageFile.{contents_in, known_in}
 use Rattle.qcow2_image.specs.declared.image.Qcow2.{Qcow2}
 use Rattle.qcow2_image.specs.declared.mapping.Mapping.{Mapping}
 use Rattle.qcow2_image.specs.declared.prepared.Prepared.{Prepared}
 use Rattle.qcow2_image.specs.Calls.{AnswersCall, refusal_of}
 use Rattle.qcow2_image.specs.Image.{size_of}
+use Rattle.qcow2_image.specs.L1Entries.{NeedsFarEntry}
+use Rattle.qcow2_image.specs.LackedPlaces.{LacksPlaceFor}
+use Rattle.qcow2_image.specs.Preparing.{IsTaken}
 use Rattle.qcow2_image.specs.Refusals.{passes, IsMet}
 use Rattle.qcow2_image.specs.ImageInvariant.{abstract_of, image_abstraction}
 use Rattle.qcow2_session.specs.Commands.{command_of, reply_of}
@@ -101,10 +104,30 @@ module _ {S F : Type 0} (view : S → StorageView) (backing : F → BackingView)
   abbrev pub ReadsFirst : ℕ → List ℕ → Result ℕ ImageError → Type 0
   ReadsFirst offset bytes result = AnswersCall view backing old new [] (λ n old new. Shows old.disk offset (take n bytes) × (new ≡ old)) result
 
-  -- so many of the first bytes were written
+  -- so many of the first bytes were written, and no others were given
   abbrev pub WritesFirst : ℕ → List ℕ → Result ℕ ImageError → Type 0
-  WritesFirst offset bytes (Ok n) = AnswersCall view backing old new (given_of offset bytes ∷ []) (λ n. HasWritten offset (take n bytes)) (Ok n)
+  WritesFirst offset bytes (Ok n) = Writes offset (take n bytes) (Ok tt)
   WritesFirst offset bytes (Err e) = Writes offset bytes (Err (e, 0))
+
+module _ {S F : Type 0} (view : S → StorageView) (backing : F → BackingView) (old : Qcow2 S F) where
+  -- A write was refused behind so many of its bytes. There is an image `before` that part: these bytes are written there, and nothing else changed. What refused the rest of the range is so of that image.
+  pub record StopsFor (cause : (at rest : ℕ) → Qcow2 S F → Type 0) (offset : ℕ) (bytes : List ℕ) (done : ℕ) : Type 0 where
+    pub before : Qcow2 S F
+    pub written : Writes view backing old before offset (take done bytes) (Ok tt)
+    pub refused : cause (offset + done) (length bytes - done) before
+
+  -- Why it is refused 20: an L1 entry past 64 bits has to be written for the first byte of the rest.
+  abbrev pub NeedsFarToWrite : (offset : ℕ) → List ℕ → (done : ℕ) → Type 0
+  NeedsFarToWrite = StopsFor (λ at n before. NeedsFarEntry before at)
+
+  -- Why it is refused 9: another mapping lies in the L2 table of the rest, which can't all be written where it is.
+  abbrev pub IsTakenToWrite : List (Option Prepared) → (offset : ℕ) → List ℕ → (done : ℕ) → Type 0
+  IsTakenToWrite out = StopsFor (λ at n before. IsTaken before.file.header.fields (known_in view before.file) at n out)
+
+module _ {S F : Type 0} (view : S → StorageView) (backing : F → BackingView) (old new : Qcow2 S F) where
+  -- Why a write is refused 13, behind so many bytes: the rest of its range can't be prepared from there on.
+  abbrev pub LacksPlaceToWrite : (offset : ℕ) → List ℕ → (done : ℕ) → Type 0
+  LacksPlaceToWrite = StopsFor view backing old (λ at n before. LacksPlaceFor view at n before new)
 
   -- one command is one step of each run that the image stands at with these mappings
   abbrev pub CommandSteps : Slots → Slots → Command → Reply → Type 0

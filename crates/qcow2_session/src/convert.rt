@@ -2,7 +2,6 @@
 ghost use Rattle.std.specs.Prelude.{◌≡◌, ◌≢◌, ◌⊎◌, ◌↔◌, ◌+◌, ◌<◌, List, Option, None, Err, length, replicate, IfSome, IfErr, IfOk, OnOk, IsTrue};
 ghost use Rattle.image_access.specs.Contents.{bytes_at};
 ghost use Rattle.qcow2_alloc.specs.ImageFile.{known_in};
-ghost use Rattle.qcow2_image.specs.Backings.{HasPrepared};
 ghost use Rattle.qcow2_image.specs.BehindHeader.{StaysBehindHeader};
 ghost use Rattle.qcow2_image.specs.Image.{HasNothingToFree, IsSameImage, is_writable, size_of};
 ghost use Rattle.qcow2_image.specs.ImageInvariant.{abstract_of};
@@ -14,7 +13,7 @@ ghost use Rattle.qcow2_session.specs.Sessions.{IsOfReading, IsOfWriting, cluster
 ghost use Rattle.qcow2_session.specs.CountedFaults.{ConversionCounts};
 ghost use Rattle.qcow2_session.specs.Conversions.{DiffersWhereKept, IsMetImporting, IsOfImporting, IsReasonNotToWrite, IsRefusedUnequal, IsLeft, IsUnchanged, Imports, ImportsAll, ImportsAt, ImportsAny, ImportsAnyAt, ImportsAnyOf, Fills, Exports};
 ghost use Rattle.qcow2_image.specs.Unwritten.{ReadsQuietly};
-ghost use Rattle.qcow2_session.specs.Told.{StaysUnwritten};
+ghost use Rattle.qcow2_session.specs.Told.{StaysQuiet, StaysUnwritten};
 
 use crate::session::{read_into, write};
 use image_access::{Storage, StoragePreallocate, WrappedFormat};
@@ -42,10 +41,11 @@ pub fn to_qcow2<R: Storage, S: Storage, F: WrappedFormat<S>>(
     ensures cause { IfErr result IsOfImporting }
     ensures late { refuses_to_read image.old 0 0 ≡ None → (out : List (Option Prepared)) → (abstract_of S.view F.backing image.old out).is_sound
         → IfErr result (λ e. (e ≡ InvalidOption) ⊎ IsReasonNotToWrite image.old 0 (size_of image.old) out e) }
-    ensures met { refuses_to_read image.old 0 0 ≡ None → (out : List (Option Prepared)) → (abstract_of S.view F.backing image.old out).is_sound → (HasPrepared out → ⊥)
-        → IfErr result (λ e. (e ≡ InvalidOption) ⊎ IsMetImporting S.view 0 (size_of image.old) image.new e) }
+    ensures met { refuses_to_read image.old 0 0 ≡ None → (out : List (Option Prepared)) → (abstract_of S.view F.backing image.old out).is_sound
+        → IfErr result (λ e. (e ≡ InvalidOption) ⊎ IsMetImporting S.view 0 (size_of image.old) image.new out e) }
     ensures emptied { IsTrue (is_writable image.old) → IfOk result (λ n. HasNothingToFree image.new) }
     ensures faults { ConversionCounts S.view F.backing image.old image.new (R.view raw.old).faults (R.view raw.new).faults result }
+    ensures quiet { StaysQuiet S.view image.old image.new }
     ensures header_cluster { StaysBehindHeader S.view image.old image.new }
     ensures differs { (R.view raw.old).is_honest → IfErr result (DiffersWhereKept S.view F.backing image.old 0 (R.view raw.old).contents) }
 {
@@ -79,8 +79,9 @@ fn import_all<R: Storage, S: Storage, F: WrappedFormat<S>>(
     ensures sees { (R.view raw.old).is_honest → size ≡ length (R.view raw.old).contents → ImportsAll S.view F.backing image.old image.new (R.view raw.old).contents result }
     ensures any { ImportsAnyOf S.view F.backing image.old image.new size result }
     ensures late { refuses_to_read image.old 0 0 ≡ None → size ≡ size_of image.old → (out : List (Option Prepared)) → (abstract_of S.view F.backing image.old out).is_sound → IfErr result (IsReasonNotToWrite image.old 0 size out) }
-    ensures met { refuses_to_read image.old 0 0 ≡ None → size ≡ size_of image.old → (out : List (Option Prepared)) → (abstract_of S.view F.backing image.old out).is_sound → (HasPrepared out → ⊥) → IfErr result (IsMetImporting S.view 0 size image.new) }
+    ensures met { refuses_to_read image.old 0 0 ≡ None → size ≡ size_of image.old → (out : List (Option Prepared)) → (abstract_of S.view F.backing image.old out).is_sound → IfErr result (IsMetImporting S.view 0 size image.new out) }
     ensures faults { ConversionCounts S.view F.backing image.old image.new (R.view raw.old).faults (R.view raw.new).faults result }
+    ensures quiet { StaysQuiet S.view image.old image.new }
     ensures header_cluster { StaysBehindHeader S.view image.old image.new }
     ensures differs { (R.view raw.old).is_honest → size ≡ length (R.view raw.old).contents → IfErr result (DiffersWhereKept S.view F.backing image.old 0 (R.view raw.old).contents) }
 {
@@ -108,8 +109,9 @@ fn import_at<R: Storage, S: Storage, F: WrappedFormat<S>>(
     ensures sees { (R.view raw.old).is_honest → ImportsAt S.view F.backing image.old image.new at (bytes_at (R.view raw.old).contents at (length wanted.old)) result }
     ensures any { ImportsAnyAt S.view F.backing image.old image.new at (length wanted.old) result }
     ensures late { refuses_to_read image.old at (length wanted.old) ≡ None → (out : List (Option Prepared)) → (abstract_of S.view F.backing image.old out).is_sound → IfErr result (IsReasonNotToWrite image.old at (at + length wanted.old) out) }
-    ensures met { refuses_to_read image.old at (length wanted.old) ≡ None → (out : List (Option Prepared)) → (abstract_of S.view F.backing image.old out).is_sound → (HasPrepared out → ⊥) → IfErr result (IsMetImporting S.view at (at + length wanted.old) image.new) }
+    ensures met { refuses_to_read image.old at (length wanted.old) ≡ None → (out : List (Option Prepared)) → (abstract_of S.view F.backing image.old out).is_sound → IfErr result (IsMetImporting S.view at (at + length wanted.old) image.new out) }
     ensures faults { ConversionCounts S.view F.backing image.old image.new (R.view raw.old).faults (R.view raw.new).faults result }
+    ensures quiet { StaysQuiet S.view image.old image.new }
     ensures header_cluster { StaysBehindHeader S.view image.old image.new }
     ensures differs { (R.view raw.old).is_honest → IfErr result (DiffersWhereKept S.view F.backing image.old at (bytes_at (R.view raw.old).contents at (length wanted.old))) }
 {

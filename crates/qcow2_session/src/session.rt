@@ -1,15 +1,19 @@
 //! Commands, one after the other, on one image.
-ghost use Rattle.std.specs.Prelude.{◌≡◌, ◌+◌, ◌^◌, ◌≤◌, ◌⊎◌, ◌<◌, ◌++◌, ◌∷◌, ℕ, List, [], length, vec_len, IfSome, IfErr, IfOk, IsTrue, MatchResult, OnOk, Option, None, Some, Err, true, false};
-ghost use Rattle.qcow2_alloc.specs.declared.error.ImageError.TheVariants.{Memory, OutdatedMapping, TablePrepared};
+ghost use Rattle.std.specs.Prelude.{◌≡◌, ◌+◌, ◌^◌, ◌≤◌, ◌⊎◌, ◌<◌, ◌++◌, ◌∷◌, ℕ, List, [], length, vec_len, IfSome, IfErr, IfOk, IsTrue, MatchResult, OnOk, Option, None, Some, Err, true, false, ◌-◌};
+ghost use Rattle.qcow2_alloc.specs.declared.error.ImageError.TheVariants.{Limit, Memory, OutdatedMapping, TablePrepared};
 ghost use Rattle.qcow2_alloc.specs.ImageFile.{known_in};
 ghost use Rattle.qcow2_image.specs.Backings.{HasPrepared};
 ghost use Rattle.qcow2_image.specs.BehindHeader.{StaysBehindHeader};
 ghost use Rattle.qcow2_image.specs.CallParts.{AreCopied};
-ghost use Rattle.qcow2_image.specs.Clearing.{IsUnderMapping};
 ghost use Rattle.qcow2_image.specs.Found.{IsFoundWhole, further_by};
-ghost use Rattle.qcow2_image.specs.MetAlone.{CopiesCompressed, IsCacheHeld, IsMetAlone, IsMetMapped, IsMetReadingRange};
+ghost use Rattle.qcow2_image.specs.L1Entries.{NeedsFarEntry, IsNoLonger};
+ghost use Rattle.qcow2_image.specs.LackedPlaces.{LacksPlaceFor};
+ghost use Rattle.qcow2_image.specs.ListedClusters.{ListsNoMore};
+ghost use Rattle.qcow2_image.specs.Preparing.{IsTaken};
+ghost use Rattle.qcow2_image.specs.MetAlone.{CopiesCompressed, IsCacheHeld, IsMetMapped, IsMetReadingRange, IsMetTaking};
+ghost use Rattle.qcow2_image.specs.Clearing.{IsUnderMapping};
 ghost use Rattle.qcow2_image.specs.Preallocation.{IsUnderMappingIn};
-ghost use Rattle.qcow2_image.specs.Image.{IsSameImage, is_failed, is_writable, number_of, size_of};
+ghost use Rattle.qcow2_image.specs.Image.{IsSameImage, is_failed, is_writable, number_of, size_of, KeepsWholeHeader};
 ghost use Rattle.qcow2_image.specs.Prepared.{image_of};
 ghost use Rattle.qcow2_image.specs.ImageInvariant.{abstract_of};
 ghost use Rattle.qcow2_image.specs.Calls.{Discards};
@@ -17,7 +21,7 @@ ghost use Rattle.qcow2_image.specs.Refusals.{IsMet, IsMetPreparing, unusable, re
 ghost use Rattle.qcow2_image.specs.Faults.{CountsImageFaults, NoFewerFaults, SameFaults, TellsEachBy, TellsFault};
 ghost use Rattle.qcow2_session.specs.Causes.{IsRightlyRefused};
 ghost use Rattle.qcow2_session.specs.CountedFaults.{CommandCounts, FailsAs, FailsBy, RunCounts, refusal_in};
-ghost use Rattle.qcow2_session.specs.Sessions.{IsRightlyBeyond, IsOfReading, IsOfWriting, EndsCluster, Reads, ReadsInto, ReadsFirst, Writes, WritesFirst, CommandSteps, Finds, ReleasesMappings, RunsThrough, RunRefinesDisk, LookupsFindContents, mappings_in};
+ghost use Rattle.qcow2_session.specs.Sessions.{IsRightlyBeyond, IsOfReading, IsOfWriting, IsTakenToWrite, LacksPlaceToWrite, NeedsFarToWrite, EndsCluster, Reads, ReadsInto, ReadsFirst, Writes, WritesFirst, CommandSteps, Finds, ReleasesMappings, RunsThrough, RunRefinesDisk, LookupsFindContents, mappings_in};
 ghost use Rattle.qcow2_image.specs.declared.mapping.Mapping.{Mapping};
 ghost use Rattle.qcow2_image.specs.Ranges.{ReleasesOneMapping};
 ghost use Rattle.qcow2_image.specs.Unwritten.{IsOnlyRead, IsUnmodified, ReadsQuietly};
@@ -171,6 +175,7 @@ pub fn read<S: Storage, F: WrappedFormat<S>>(
     ensures image { IsSameImage image.old image.new }
     ensures unwritten { StaysUnwritten S.view F.backing image.old image.new }
     ensures faults { CountsImageFaults S.view F.backing image.old image.new result }
+    ensures header { KeepsWholeHeader image.old image.new }
     ensures header_cluster { StaysBehindHeader S.view image.old image.new }
     ensures marks { FailsAs result (is_failed image.old) (is_failed image.new) }
     ensures early { IfSome (refuses_to_read image.old offset length) (λ e. (result ≡ Err e) × (image.new ≡ image.old)) }
@@ -213,6 +218,7 @@ pub fn read_into<S: Storage, F: WrappedFormat<S>>(
     ensures image { IsSameImage image.old image.new }
     ensures unwritten { StaysUnwritten S.view F.backing image.old image.new }
     ensures faults { CountsImageFaults S.view F.backing image.old image.new result }
+    ensures header { KeepsWholeHeader image.old image.new }
     ensures header_cluster { StaysBehindHeader S.view image.old image.new }
     ensures marks { FailsAs result (is_failed image.old) (is_failed image.new) }
     ensures early { IfSome (refuses_to_read image.old offset (length bytes.old)) (λ e. (result ≡ Err e) × (image.new ≡ image.old)) }
@@ -243,6 +249,7 @@ fn read_some<S: Storage, F: WrappedFormat<S>>(
     ensures image { IsSameImage image.old image.new }
     ensures unwritten { StaysUnwritten S.view F.backing image.old image.new }
     ensures faults { CountsImageFaults S.view F.backing image.old image.new result }
+    ensures header { KeepsWholeHeader image.old image.new }
     ensures header_cluster { StaysBehindHeader S.view image.old image.new }
     ensures marks { FailsAs result (is_failed image.old) (is_failed image.new) }
     ensures some { IfOk result (λ n. 0 < n) }
@@ -277,14 +284,20 @@ pub fn write<S: Storage, F: WrappedFormat<S>>(
     ensures image { IsSameImage image.old image.new }
     ensures unwritten { StaysUnwritten S.view F.backing image.old image.new }
     ensures faults { NoFewerFaults S.view F.backing image.old image.new × IfErr result (λ (e, n). TellsFault S.view F.backing image.old image.new e) × TellsEachBy S.view F.backing (λ refused. refused.0) image.old image.new result }
+    ensures no_longer { 0 < length bytes.now → (out : List (Option Prepared)) → (abstract_of S.view F.backing image.old out).is_sound → IsNoLonger (offset + length bytes.now - 1) image.old.file.header.fields image.new.file.header.fields }
     ensures header_cluster { StaysBehindHeader S.view image.old image.new }
     ensures marks { MatchResult result (λ done. FailsBy None (is_failed image.old) (is_failed image.new)) (λ (e, n). FailsBy (Some e) (is_failed image.old) (is_failed image.new)) }
     ensures early { IfSome (refuses_to_prepare image.old offset (length bytes.now)) (λ e. (result ≡ Err (e, 0)) × (image.new ≡ image.old)) }
     ensures late { refuses_to_prepare image.old offset (length bytes.now) ≡ None → IfErr result (λ (e, n). IsMetPreparing e × (0 < length bytes.now)) }
-    ensures met { refuses_to_prepare image.old offset (length bytes.now) ≡ None → (out : List (Option Prepared)) → (abstract_of S.view F.backing image.old out).is_sound → (HasPrepared out → ⊥)
-        → IfErr result (λ (e, n). IsMetAlone (CopiesCompressed offset (length bytes.now) true image.new.file.header.fields (known_in S.view image.new.file)) (Unit {0}) e) }
+    ensures met { refuses_to_prepare image.old offset (length bytes.now) ≡ None → (out : List (Option Prepared)) → (abstract_of S.view F.backing image.old out).is_sound
+        → IfErr result (λ (e, n). IsMetTaking (HasPrepared out) (IsUnderMappingIn image.old.file.header.fields offset (offset + length bytes.now) out) (CopiesCompressed offset (length bytes.now) true image.new.file.header.fields (known_in S.view image.new.file)) (NeedsFarToWrite S.view F.backing image.old offset bytes.now n) e) }
     ensures taken { refuses_to_prepare image.old offset (length bytes.now) ≡ None → (out : List (Option Prepared)) → (abstract_of S.view F.backing image.old out).is_sound
         → IfErr result (λ (e, n). e ≡ TablePrepared → IsUnderMappingIn image.old.file.header.fields offset (offset + length bytes.now) out) }
+    ensures taken_part { refuses_to_prepare image.old offset (length bytes.now) ≡ None → (out : List (Option Prepared)) → (abstract_of S.view F.backing image.old out).is_sound
+        → IfErr result (λ (e, n). e ≡ TablePrepared → IsTakenToWrite S.view F.backing image.old out offset bytes.now n) }
+    ensures limit { refuses_to_prepare image.old offset (length bytes.now) ≡ None → (out : List (Option Prepared)) → (abstract_of S.view F.backing image.old out).is_sound
+        → IfErr result (λ (e, n). e ≡ Limit → LacksPlaceToWrite S.view F.backing image.old image.new offset bytes.now n) }
+    ensures freeing { (out : List (Option Prepared)) → (abstract_of S.view F.backing image.old out).is_sound → OnOk result (ListsNoMore image.old image.new) }
     ensures within { IfErr result (λ (e, n). n ≤ length bytes.now) }
     ensures beyond { IfErr result (λ (e, n). IsRightlyBeyond image.old offset (length bytes.now) e) }
     ensures cause { IfErr result (λ (e, n). IsOfWriting e) }
@@ -318,14 +331,18 @@ fn write_some<S: Storage, F: WrappedFormat<S>>(
     ensures image { IsSameImage image.old image.new }
     ensures unwritten { StaysUnwritten S.view F.backing image.old image.new }
     ensures faults { CountsImageFaults S.view F.backing image.old image.new result }
+    ensures no_longer { (out : List (Option Prepared)) → (abstract_of S.view F.backing image.old out).is_sound → IsNoLonger offset image.old.file.header.fields image.new.file.header.fields }
     ensures header_cluster { StaysBehindHeader S.view image.old image.new }
     ensures marks { FailsAs result (is_failed image.old) (is_failed image.new) }
     ensures early { IfSome (refuses_to_prepare image.old offset (length bytes.now)) (λ e. (result ≡ Err e) × (image.new ≡ image.old)) }
     ensures late { refuses_to_prepare image.old offset (length bytes.now) ≡ None → IfErr result (λ e. IsMetPreparing e × (0 < length bytes.now)) }
-    ensures met { refuses_to_prepare image.old offset (length bytes.now) ≡ None → (out : List (Option Prepared)) → (abstract_of S.view F.backing image.old out).is_sound → (HasPrepared out → ⊥)
-        → IfErr result (IsMetAlone (CopiesCompressed offset (length bytes.now) true image.new.file.header.fields (known_in S.view image.new.file)) (Unit {0})) }
+    ensures met { refuses_to_prepare image.old offset (length bytes.now) ≡ None → (out : List (Option Prepared)) → (abstract_of S.view F.backing image.old out).is_sound
+        → IfErr result (IsMetTaking (HasPrepared out) (IsUnderMapping image.old.file.header.fields offset out) (CopiesCompressed offset (length bytes.now) true image.new.file.header.fields (known_in S.view image.new.file)) (NeedsFarEntry image.old offset)) }
     ensures taken { refuses_to_prepare image.old offset (length bytes.now) ≡ None → (out : List (Option Prepared)) → (abstract_of S.view F.backing image.old out).is_sound
-        → IfErr result (λ e. e ≡ TablePrepared → (0 < length bytes.now) × IsUnderMapping image.old.file.header.fields offset out) }
+        → IfErr result (λ e. e ≡ TablePrepared → (0 < length bytes.now) × IsTaken image.old.file.header.fields (known_in S.view image.old.file) offset (length bytes.now) out) }
+    ensures limit { refuses_to_prepare image.old offset (length bytes.now) ≡ None → (out : List (Option Prepared)) → (abstract_of S.view F.backing image.old out).is_sound
+        → IfErr result (λ e. e ≡ Limit → LacksPlaceFor S.view offset (length bytes.now) image.old image.new) }
+    ensures freeing { (out : List (Option Prepared)) → (abstract_of S.view F.backing image.old out).is_sound → OnOk result (ListsNoMore image.old image.new) }
     ensures some { IfOk result (λ n. 0 < length bytes.now → 0 < n) }
     ensures within { IfOk result (λ n. n ≤ length bytes.now) }
     ensures beyond { IfErr result (IsRightlyBeyond image.old offset (length bytes.now)) }
@@ -358,6 +375,7 @@ fn release<S: Storage, F: WrappedFormat<S>>(image: &mut Qcow2<S, F>, prepared: P
     ensures image { IsSameImage image.old image.new }
     ensures rest { ReleasesOneMapping S.view image.old image.new }
     ensures faults { SameFaults S.view F.backing image.old image.new }
+    ensures header { KeepsWholeHeader image.old image.new }
     ensures header_cluster { StaysBehindHeader S.view image.old image.new }
     ensures marks { is_failed image.new ≡ is_failed image.old }
     ensures sees { Discards S.view F.backing image.old image.new prepared }

@@ -19,7 +19,7 @@ returns-clause-reading g c = λ reading. clear_same c.args.image.now reading _ _
 pub returns-clause-causes : goal.returns-clause-causes
 returns-clause-causes g c = λ before found.
     clears_rightly g.S.Storage.view g.F.BackingDisk.backing c.args.image.now c.discard_to_zero_unsafe.new.self before c.args.offset c.args.length to_zero (C.DiscardToZero c.args.offset c.args.length) refl (λ le. le) (λ e met. met) (λ e met. met) (λ _ heeds. heeds) (λ _ never. (λ is. absurd (never is), λ is. absurd is))
-    c.discard_to_zero_unsafe.result c.range_reply.result c.range_reply.ensures c.discard_to_zero_unsafe.ensures.early c.discard_to_zero_unsafe.ensures.late (λ none sound free. if_err_to c.discard_to_zero_unsafe.result (λ e refused. refused.met none before sound free) c.discard_to_zero_unsafe.ensures.refused) c.discard_to_zero_unsafe.ensures.nothing (λ none some sound. c.discard_to_zero_unsafe.ensures.under none some before sound)
+    c.discard_to_zero_unsafe.result c.range_reply.result c.range_reply.ensures c.discard_to_zero_unsafe.ensures.early c.discard_to_zero_unsafe.ensures.late (λ none sound. if_err_to c.discard_to_zero_unsafe.result (λ e refused. refused.met none before sound) c.discard_to_zero_unsafe.ensures.refused) c.discard_to_zero_unsafe.ensures.nothing (λ none some sound. c.discard_to_zero_unsafe.ensures.under none some before sound)
 
 pub returns-clause-marks : goal.returns-clause-marks
 returns-clause-marks g c = clear_marks c.discard_to_zero_unsafe.result c.range_reply.result _ _ _ c.range_reply.ensures c.discard_to_zero_unsafe.ensures.marks

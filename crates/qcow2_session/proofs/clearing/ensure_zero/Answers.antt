@@ -19,7 +19,7 @@ returns-clause-reading g c = λ reading. clear_same c.args.image.now reading _ _
 pub returns-clause-causes : goal.returns-clause-causes
 returns-clause-causes g c = λ before found.
     clears_rightly g.S.Storage.view g.F.BackingDisk.backing c.args.image.now c.ensure_zero_mapping.new.self before c.args.offset c.args.length to_kept_zero (C.EnsureZeroMapping c.args.offset c.args.length) refl (λ le. le) (λ e met. met) (λ e met. met) (λ _ heeds. heeds) (λ _ never. (λ is. absurd (never is), λ is. absurd is))
-    c.ensure_zero_mapping.result c.range_reply.result c.range_reply.ensures c.ensure_zero_mapping.ensures.early c.ensure_zero_mapping.ensures.late (λ none sound free. if_err_to c.ensure_zero_mapping.result (λ e refused. refused.met none before sound free) c.ensure_zero_mapping.ensures.refused) c.ensure_zero_mapping.ensures.nothing (λ none some sound. c.ensure_zero_mapping.ensures.under none some before sound)
+    c.ensure_zero_mapping.result c.range_reply.result c.range_reply.ensures c.ensure_zero_mapping.ensures.early c.ensure_zero_mapping.ensures.late (λ none sound. if_err_to c.ensure_zero_mapping.result (λ e refused. refused.met none before sound) c.ensure_zero_mapping.ensures.refused) c.ensure_zero_mapping.ensures.nothing (λ none some sound. c.ensure_zero_mapping.ensures.under none some before sound)
 
 pub returns-clause-marks : goal.returns-clause-marks
 returns-clause-marks g c = clear_marks c.ensure_zero_mapping.result c.range_reply.result _ _ _ c.range_reply.ensures c.ensure_zero_mapping.ensures.marks

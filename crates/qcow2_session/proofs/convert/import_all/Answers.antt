@@ -1,13 +1,13 @@
+use Rattle.qcow2_session.proofs.convert.import_all.Goals as goal
 use Rattle.std.proofs.Common.{sym, ◌≡◌, ◌+◌, ◌-◌, ◌%◌, ◌<◌, ◌≤◌, ◌++◌, drop, length, take, refl, ap, ◌∙◌, subst, arith, min, ℕ}
 use Rattle.std.proofs.Math.Nat.{zero-mod, add-mod_right}
 use Rattle.std.proofs.lemmas.Grind.{common_steps}
 use Rattle.image_access.specs.Contents.{bytes_at}
 use Rattle.qcow2_disk.specs.Calls.{with_disk}
 use Rattle.qcow2_disk.specs.Disk.{with_bytes}
-use Rattle.qcow2_disk.specs.AbstractImages.{guest_of}
+use Rattle.qcow2_disk.specs.AbstractImages.{guest_of, Setting}
 use Rattle.qcow2_image.specs.ImageInvariant.{abstract_of}
 use Rattle.std.specs.Prelude.{IfErr, Ok}
-use Rattle.qcow2_disk.specs.AbstractImages.{Setting}
 use Rattle.qcow2_session.specs.Conversions.{ImportsAnyOf, IsMetImporting, IsReasonNotToWrite}
 use Rattle.qcow2_image.proofs.Call.FaultCounts.{faults_then}
 use Rattle.qcow2_session.proofs.Counting.{converted, converting_part, none_counted}
@@ -18,11 +18,13 @@ use Rattle.qcow2_session.proofs.Converting.{any_more, any_none, any_refused, imp
 use Rattle.qcow2_session.proofs.Told.{same_then}
 use Rattle.qcow2_session.proofs.Turns.{refused_is, does_if}
 use Rattle.qcow2_image.proofs.Call.BehindHeader.{behind_none, behind_then}
-use Rattle.qcow2_session.proofs.convert.import_all.Goals as goal
+use Rattle.qcow2_alloc.proofs.KeptTables.AllWritten.{written_then}
+use Rattle.qcow2_session.proofs.Quiet.{quiet_image}
 
 pub loop-at-init : goal.loop-at-init
 loop-at-init g c = record {
   behind = behind_none;
+  quiet = λ reading. quiet_image g.S.Storage.view c.args.image.now c.args.image.now refl;
   faults = none_counted g.S.Storage.view g.F.BackingDisk.backing c.args.image.now;
   counted = refl;
   within = omega arith;
@@ -45,6 +47,7 @@ loop-at-preserved g c =
     let whole : length c.loop-at.wanted ≡ length (c.import_at.new.wanted ++ drop c.min-count.result c.loop-at.wanted) = grind (arith, common_steps) in
     record {
       behind = behind_then c.loop-at.invariant.behind c.import_at.ensures.header_cluster;
+      quiet = λ reading. written_then g.S.Storage.view (c.loop-at.invariant.quiet reading) (c.import_at.ensures.quiet (c.loop-at.invariant.image.writable ∙ reading));
       faults = faults_then g.S.Storage.view g.F.BackingDisk.backing c.args.image.now c.loop-at.image c.import_at.new.image c.loop-at.invariant.faults c.in_ok-import_at.ensures.faults.told.0;
       counted = c.in_ok-import_at.ensures.faults.told.1 ∙ c.loop-at.invariant.counted;
       within = grind (arith, common_steps);
@@ -108,7 +111,7 @@ returns-in_err-import_at-clause-late g c = λ none size out sound.
     (c.in_err-import_at.ensures.late (part_of_disk c.args.image.now c.loop-at.image c.loop-at.invariant.image c.loop-at.at count (omega (arith, c.min-count.ensures, c.loop-at-test.true, long, size)) now.works none) out now))
 
 pub returns-in_err-import_at-clause-met : goal.returns-in_err-import_at-clause-met
-returns-in_err-import_at-clause-met g c = λ none size out sound free.
+returns-in_err-import_at-clause-met g c = λ none size out sound.
     let e = c.in_err-import_at.field-0.0 in
     let new = c.import_at.new.image in
     let at = c.loop-at.at in
@@ -116,9 +119,9 @@ returns-in_err-import_at-clause-met g c = λ none size out sound free.
     let long : count ≡ c.min-count.result = grind (arith, common_steps) in
     let upto : at + count ≤ c.args.size = omega (arith, c.min-count.ensures, c.loop-at-test.true, long) in
     let now = ((c.loop-at.invariant.any.2 out).answer sound).0 in
-    subst (λ r. IfErr r (IsMetImporting g.S.Storage.view 0 c.args.size c.import_at.new.image)) (sym (refused_is _ e c.from_residual.ensures))
-    (importing_within g.S.Storage.view new 0 c.args.size at (at + count) e (omega arith) upto
-    (c.in_err-import_at.ensures.met (part_of_disk c.args.image.now c.loop-at.image c.loop-at.invariant.image at count (omega (arith, upto, size)) now.works none) out now free))
+    subst (λ r. IfErr r (IsMetImporting g.S.Storage.view 0 c.args.size c.import_at.new.image out)) (sym (refused_is _ e c.from_residual.ensures))
+    (importing_within g.S.Storage.view new out 0 c.args.size at (at + count) e (omega arith) upto
+    (c.in_err-import_at.ensures.met (part_of_disk c.args.image.now c.loop-at.image c.loop-at.invariant.image at count (omega (arith, upto, size)) now.works none) out now))
 
 pub returns-in_err-import_at-clause-faults : goal.returns-in_err-import_at-clause-faults
 returns-in_err-import_at-clause-faults g c =
@@ -140,3 +143,6 @@ returns-in_err-import_at-clause-differs g c = λ honest size.
 
 pub returns-in_err-import_at-clause-header_cluster : goal.returns-in_err-import_at-clause-header_cluster
 returns-in_err-import_at-clause-header_cluster g c = behind_then c.loop-at.invariant.behind c.import_at.ensures.header_cluster
+
+pub returns-in_err-import_at-clause-quiet : goal.returns-in_err-import_at-clause-quiet
+returns-in_err-import_at-clause-quiet g c = λ reading. written_then g.S.Storage.view (c.loop-at.invariant.quiet reading) (c.import_at.ensures.quiet (c.loop-at.invariant.image.writable ∙ reading))

@@ -10,12 +10,14 @@ use Rattle.qcow2_image.specs.Image.{IsSameImage}
 use Rattle.qcow2_image.specs.ImageInvariant.{abstract_of}
 use Rattle.qcow2_image.specs.declared.prepared.Prepared.{Prepared}
 use Rattle.qcow2_session.specs.Conversions.{ImportsAnyOf, IsLeft}
+use Rattle.qcow2_session.specs.Told.{StaysQuiet}
 use Rattle.qcow2_session.proofs.convert.import_all.Given as goal
 
 abbrev pub invariant-loop-at : goal.invariant-loop-at
 invariant-loop-at g l = record {
   faults : SameFaults g.S.Storage.view g.F.BackingDisk.backing l.fn.image l.image;
   behind : StaysBehindHeader g.S.Storage.view l.fn.image l.image;
+  quiet : StaysQuiet g.S.Storage.view l.fn.image l.image;
   counted : (g.R.Storage.view l.raw).faults ≡ (g.R.Storage.view l.fn.raw).faults;
   within : l.at ≤ l.size;
   aligned : l.at < l.size → l.at % length l.wanted ≡ 0;

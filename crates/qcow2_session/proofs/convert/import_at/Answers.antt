@@ -1,3 +1,4 @@
+use Rattle.qcow2_session.proofs.convert.import_at.Goals as goal
 use Rattle.std.proofs.Common.{◌≡◌, ◌+◌, ◌∙◌, inl, length, None, true, false, refl, sym, ap, subst, arith}
 use Rattle.std.specs.Prelude.{IfErr}
 use Rattle.image_access.specs.Contents.{bytes_at}
@@ -18,7 +19,8 @@ use Rattle.qcow2_session.proofs.Differing.{other_bytes, reading_differs}
 use Rattle.qcow2_session.proofs.Converting.{does_nothing, interrupted, interrupted_here, at_refused, at_shown, at_written, at_unwritten}
 use Rattle.qcow2_session.proofs.Turns.{refused_is}
 use Rattle.qcow2_image.proofs.Call.BehindHeader.{behind_none, behind_then}
-use Rattle.qcow2_session.proofs.convert.import_at.Goals as goal
+use Rattle.qcow2_alloc.proofs.KeptTables.AllWritten.{written_then}
+use Rattle.qcow2_session.proofs.Quiet.{quiet_image}
 
 pub returns-in_err-read-clause-sees : goal.returns-in_err-read-clause-sees
 returns-in_err-read-clause-sees g c = λ honest.
@@ -100,29 +102,29 @@ returns-in-Err-clause-late g c = λ none out sound.
     (subst (λ n. refuses_to_read c.args.image.now c.args.at n ≡ None) (sym long) none) out c.in-Err.refusal _ _ c.in-Err.ensures.early c.in-Err.ensures.late (λ free t. c.in-Err.ensures.taken free out now t))
 
 pub returns-in_err-read-clause-met : goal.returns-in_err-read-clause-met
-returns-in_err-read-clause-met g c = λ none out sound free.
-    subst (λ r. IfErr r (IsMetImporting g.S.Storage.view c.args.at (c.args.at + length c.args.wanted.now) c.args.image.now)) (sym (refused_is _ (of_storage c.in_err-read.field-0.0) c.from_residual.ensures)) (inl (inl (fault_of_storage c.in_err-read.field-0.0)))
+returns-in_err-read-clause-met g c = λ none out sound.
+    subst (λ r. IfErr r (IsMetImporting g.S.Storage.view c.args.at (c.args.at + length c.args.wanted.now) c.args.image.now out)) (sym (refused_is _ (of_storage c.in_err-read.field-0.0) c.from_residual.ensures)) (inl (inl (fault_of_storage c.in_err-read.field-0.0)))
 
 pub returns-in_err-read_into-clause-met : goal.returns-in_err-read_into-clause-met
-returns-in_err-read_into-clause-met g c = λ none out sound free.
+returns-in_err-read_into-clause-met g c = λ none out sound.
     let view = g.S.Storage.view in
     let old = c.args.image.now in
     let at = c.args.at in
     let e = c.in_err-read_into.field-0.0 in
-    subst (λ r. IfErr r (IsMetImporting g.S.Storage.view c.args.at (c.args.at + length c.args.wanted.now) c.read_into.new.image)) (sym (refused_is _ e c.from_residual-in_err-read_into.ensures))
-    (read_importing view c.read_into.new.image g.F.BackingDisk.backing old out at (at + length c.args.wanted.now) e sound free (c.in_err-read_into.ensures.sees out)
+    subst (λ r. IfErr r (IsMetImporting g.S.Storage.view c.args.at (c.args.at + length c.args.wanted.now) c.read_into.new.image out)) (sym (refused_is _ e c.from_residual-in_err-read_into.ensures))
+    (read_importing view c.read_into.new.image g.F.BackingDisk.backing old out at (at + length c.args.wanted.now) e sound (c.in_err-read_into.ensures.sees out)
     (subst (λ n. IsMetReadingRange out at (at + n) old.file.header.fields (known_in view old.file) e) c.requires (c.in_err-read_into.ensures.met (subst (λ n. refuses_to_read old at n ≡ None) (sym c.requires) none) out sound)))
 
 pub returns-in-Err-clause-met : goal.returns-in-Err-clause-met
-returns-in-Err-clause-met g c = λ none out sound free.
+returns-in-Err-clause-met g c = λ none out sound.
     let old = c.args.image.now in
     let at = c.args.at in
     let e = c.in-Err.refusal in
     let now = ((c.in_ok-read_into.ensures.sees out).answer sound).0 in
     let long : length c.read.new.buf ≡ length c.args.wanted.now = grind (arith, common_steps) in
-    subst (λ n. IsMetImporting g.S.Storage.view at (at + n) c.write.new.image e) long
-    (write_importing g.S.Storage.view c.write.new.image old c.read_into.new.image c.in_ok-read_into.ensures.image c.write.ensures.image.writable at (length c.read.new.buf) now.works
-    (subst (λ n. refuses_to_read old at n ≡ None) (sym long) none) e _ _ c.in-Err.ensures.early (λ unrefused. c.in-Err.ensures.met unrefused out now free))
+    subst (λ n. IsMetImporting g.S.Storage.view at (at + n) c.write.new.image out e) long
+    (write_importing g.S.Storage.view c.write.new.image out old c.read_into.new.image c.in_ok-read_into.ensures.image c.write.ensures.image.writable at (length c.read.new.buf) now.works
+    (subst (λ n. refuses_to_read old at n ≡ None) (sym long) none) e _ _ c.in-Err.ensures.early (λ unrefused. c.in-Err.ensures.met unrefused out now))
 
 pub returns-in_err-read-clause-faults : goal.returns-in_err-read-clause-faults
 returns-in_err-read-clause-faults g c =
@@ -175,3 +177,18 @@ returns-in-Ok-clause-header_cluster g c = behind_then c.read_into.ensures.header
 
 pub returns-in-Err-clause-header_cluster : goal.returns-in-Err-clause-header_cluster
 returns-in-Err-clause-header_cluster g c = behind_then c.read_into.ensures.header_cluster c.write.ensures.header_cluster
+
+pub returns-in_err-read-clause-quiet : goal.returns-in_err-read-clause-quiet
+returns-in_err-read-clause-quiet g c = λ reading. quiet_image g.S.Storage.view c.args.image.now c.args.image.now refl
+
+pub returns-in_err-read_into-clause-quiet : goal.returns-in_err-read_into-clause-quiet
+returns-in_err-read_into-clause-quiet g c = λ reading. c.read_into.ensures.quiet
+
+pub returns-then-is_same-clause-quiet : goal.returns-then-is_same-clause-quiet
+returns-then-is_same-clause-quiet g c = λ reading. c.read_into.ensures.quiet
+
+pub returns-in-Ok-clause-quiet : goal.returns-in-Ok-clause-quiet
+returns-in-Ok-clause-quiet g c = λ reading. written_then g.S.Storage.view c.read_into.ensures.quiet (c.write.ensures.quiet (c.read_into.ensures.image.writable ∙ reading))
+
+pub returns-in-Err-clause-quiet : goal.returns-in-Err-clause-quiet
+returns-in-Err-clause-quiet g c = λ reading. written_then g.S.Storage.view c.read_into.ensures.quiet (c.write.ensures.quiet (c.read_into.ensures.image.writable ∙ reading))

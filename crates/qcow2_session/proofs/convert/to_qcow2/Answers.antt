@@ -1,3 +1,4 @@
+use Rattle.qcow2_session.proofs.convert.to_qcow2.Goals as goal
 use Rattle.std.specs.Prelude.{IfErr}
 use Rattle.image_access.specs.Moments.{HasCause}
 use Rattle.qcow2_image.specs.Image.{size_of}
@@ -16,7 +17,8 @@ use Rattle.qcow2_session.proofs.Converting.{any_nothing, imports_nothing, import
 use Rattle.qcow2_session.proofs.Marking.{refused_none}
 use Rattle.qcow2_session.proofs.Turns.{refused_is}
 use Rattle.qcow2_image.proofs.Call.BehindHeader.{behind_none, behind_then}
-use Rattle.qcow2_session.proofs.convert.to_qcow2.Goals as goal
+use Rattle.qcow2_alloc.proofs.KeptTables.AllWritten.{written_then}
+use Rattle.qcow2_session.proofs.Quiet.{quiet_image}
 
 pub returns-in_err-size-clause-sees : goal.returns-in_err-size-clause-sees
 returns-in_err-size-clause-sees g c = λ honest. imports_nothing g.S.Storage.view g.F.BackingDisk.backing c.args.image.now _ (of_storage c.in_err-size.field-0.0) _ (refused_is _ (of_storage c.in_err-size.field-0.0) c.from_residual-in_err-size.ensures)
@@ -129,32 +131,32 @@ returns-in_err-flush-clause-late g c = λ none out sound.
     subst (λ r. IfErr r (λ e. (e ≡ InvalidOption) ⊎ IsReasonNotToWrite c.args.image.now 0 (size_of c.args.image.now) out e)) (sym (refused_is _ c.in_err-flush.field-0.0 c.from_residual-in_err-flush.ensures)) (inr (inl (tables_met c.in_err-flush.field-0.0 (c.in_err-flush.ensures.late now.works))))
 
 pub returns-in_err-check_read-clause-met : goal.returns-in_err-check_read-clause-met
-returns-in_err-check_read-clause-met g c = λ none out sound free. absurd (refused_none (refuses_to_read c.args.image.now 0 0) c.in_err-check_read.field-0.0 c.in_err-check_read.ensures.refusal none)
+returns-in_err-check_read-clause-met g c = λ none out sound. absurd (refused_none (refuses_to_read c.args.image.now 0 0) c.in_err-check_read.field-0.0 c.in_err-check_read.ensures.refusal none)
 
 pub returns-in_err-size-clause-met : goal.returns-in_err-size-clause-met
-returns-in_err-size-clause-met g c = λ none out sound free.
-    subst (λ r. IfErr r (λ e. (e ≡ InvalidOption) ⊎ IsMetImporting g.S.Storage.view 0 (size_of c.args.image.now) c.args.image.now e)) (sym (refused_is _ (of_storage c.in_err-size.field-0.0) c.from_residual-in_err-size.ensures)) (inr (inl (inl (fault_of_storage c.in_err-size.field-0.0))))
+returns-in_err-size-clause-met g c = λ none out sound.
+    subst (λ r. IfErr r (λ e. (e ≡ InvalidOption) ⊎ IsMetImporting g.S.Storage.view 0 (size_of c.args.image.now) c.args.image.now out e)) (sym (refused_is _ (of_storage c.in_err-size.field-0.0) c.from_residual-in_err-size.ensures)) (inr (inl (inl (fault_of_storage c.in_err-size.field-0.0))))
 
 pub returns-then-size-clause-met : goal.returns-then-size-clause-met
-returns-then-size-clause-met g c = λ none out sound free. inl refl
+returns-then-size-clause-met g c = λ none out sound. inl refl
 
 pub returns-in_err-wanted-clause-met : goal.returns-in_err-wanted-clause-met
-returns-in_err-wanted-clause-met g c = λ none out sound free. subst (λ r. IfErr r (λ e. (e ≡ InvalidOption) ⊎ IsMetImporting g.S.Storage.view 0 (size_of c.args.image.now) c.args.image.now e)) (sym (refused_is _ Memory c.from_residual-in_err-wanted.ensures)) (inr (inl (inl (inr refl))))
+returns-in_err-wanted-clause-met g c = λ none out sound. subst (λ r. IfErr r (λ e. (e ≡ InvalidOption) ⊎ IsMetImporting g.S.Storage.view 0 (size_of c.args.image.now) c.args.image.now out e)) (sym (refused_is _ Memory c.from_residual-in_err-wanted.ensures)) (inr (inl (inl (inr refl))))
 
 pub returns-in_err-present-clause-met : goal.returns-in_err-present-clause-met
-returns-in_err-present-clause-met g c = λ none out sound free. subst (λ r. IfErr r (λ e. (e ≡ InvalidOption) ⊎ IsMetImporting g.S.Storage.view 0 (size_of c.args.image.now) c.args.image.now e)) (sym (refused_is _ Memory c.from_residual-in_err-present.ensures)) (inr (inl (inl (inr refl))))
+returns-in_err-present-clause-met g c = λ none out sound. subst (λ r. IfErr r (λ e. (e ≡ InvalidOption) ⊎ IsMetImporting g.S.Storage.view 0 (size_of c.args.image.now) c.args.image.now out e)) (sym (refused_is _ Memory c.from_residual-in_err-present.ensures)) (inr (inl (inl (inr refl))))
 
 pub returns-in_err-import_all-clause-met : goal.returns-in_err-import_all-clause-met
-returns-in_err-import_all-clause-met g c = λ none out sound free.
+returns-in_err-import_all-clause-met g c = λ none out sound.
     let e = c.in_err-import_all.field-0.0 in
     let is = c.if-size.false ∙ c.size-2.ensures.value in
-    subst (λ r. IfErr r (λ e. (e ≡ InvalidOption) ⊎ IsMetImporting g.S.Storage.view 0 (size_of c.args.image.now) c.import_all.new.image e)) (sym (refused_is _ e c.from_residual-in_err-import_all.ensures))
-    (inr (subst (λ n. IsMetImporting g.S.Storage.view 0 n c.import_all.new.image e) is (c.in_err-import_all.ensures.met none is out sound free)))
+    subst (λ r. IfErr r (λ e. (e ≡ InvalidOption) ⊎ IsMetImporting g.S.Storage.view 0 (size_of c.args.image.now) c.import_all.new.image out e)) (sym (refused_is _ e c.from_residual-in_err-import_all.ensures))
+    (inr (subst (λ n. IsMetImporting g.S.Storage.view 0 n c.import_all.new.image out e) is (c.in_err-import_all.ensures.met none is out sound)))
 
 pub returns-in_err-flush-clause-met : goal.returns-in_err-flush-clause-met
-returns-in_err-flush-clause-met g c = λ none out sound free.
+returns-in_err-flush-clause-met g c = λ none out sound.
     let now = ((c.in_ok-import_all.ensures.any.2 out).answer sound).0 in
-    subst (λ r. IfErr r (λ e. (e ≡ InvalidOption) ⊎ IsMetImporting g.S.Storage.view 0 (size_of c.args.image.now) c.flush.new.self e)) (sym (refused_is _ c.in_err-flush.field-0.0 c.from_residual-in_err-flush.ensures)) (inr (inl (inl (c.in_err-flush.ensures.fault out now))))
+    subst (λ r. IfErr r (λ e. (e ≡ InvalidOption) ⊎ IsMetImporting g.S.Storage.view 0 (size_of c.args.image.now) c.flush.new.self out e)) (sym (refused_is _ c.in_err-flush.field-0.0 c.from_residual-in_err-flush.ensures)) (inr (inl (inl (c.in_err-flush.ensures.fault out now))))
 
 pub returns-in_err-size-clause-unequal : goal.returns-in_err-size-clause-unequal
 returns-in_err-size-clause-unequal g c = λ honest differ.
@@ -256,3 +258,27 @@ returns-in_err-wanted-clause-header_cluster g c = behind_none
 
 pub returns-then-size-clause-header_cluster : goal.returns-then-size-clause-header_cluster
 returns-then-size-clause-header_cluster g c = behind_none
+
+pub returns-in_err-check_read-clause-quiet : goal.returns-in_err-check_read-clause-quiet
+returns-in_err-check_read-clause-quiet g c = λ reading. quiet_image g.S.Storage.view c.args.image.now c.args.image.now refl
+
+pub returns-in_err-size-clause-quiet : goal.returns-in_err-size-clause-quiet
+returns-in_err-size-clause-quiet g c = λ reading. quiet_image g.S.Storage.view c.args.image.now c.args.image.now refl
+
+pub returns-then-size-clause-quiet : goal.returns-then-size-clause-quiet
+returns-then-size-clause-quiet g c = λ reading. quiet_image g.S.Storage.view c.args.image.now c.args.image.now refl
+
+pub returns-in_err-wanted-clause-quiet : goal.returns-in_err-wanted-clause-quiet
+returns-in_err-wanted-clause-quiet g c = λ reading. quiet_image g.S.Storage.view c.args.image.now c.args.image.now refl
+
+pub returns-in_err-present-clause-quiet : goal.returns-in_err-present-clause-quiet
+returns-in_err-present-clause-quiet g c = λ reading. quiet_image g.S.Storage.view c.args.image.now c.args.image.now refl
+
+pub returns-in_err-import_all-clause-quiet : goal.returns-in_err-import_all-clause-quiet
+returns-in_err-import_all-clause-quiet g c = c.import_all.ensures.quiet
+
+pub returns-in_err-flush-clause-quiet : goal.returns-in_err-flush-clause-quiet
+returns-in_err-flush-clause-quiet g c = λ reading. written_then g.S.Storage.view (c.import_all.ensures.quiet reading) (c.flush.ensures.quiet (c.import_all.ensures.image.writable ∙ reading))
+
+pub returns-clause-quiet : goal.returns-clause-quiet
+returns-clause-quiet g c = λ reading. written_then g.S.Storage.view (c.import_all.ensures.quiet reading) (c.flush.ensures.quiet (c.import_all.ensures.image.writable ∙ reading))

@@ -14,6 +14,8 @@ use Rattle.qcow2_image.specs.Image.{storage_of_image}
 use Rattle.qcow2_session.specs.Commands.{command_of, reply_of}
 use Rattle.qcow2_session.specs.Opening.{bytes_below}
 use Rattle.qcow2_session.specs.Sessions.{IsUntouched}
+use Rattle.qcow2_session.proofs.Opening.{refused_consistent}
+use Rattle.qcow2_session.specs.Opening.{missing_beside}
 use Rattle.qcow2_session.proofs.headline.open_and_run.Goals as goal
 
 -- the bytes of the disk below are those that show where the image has nothing
@@ -81,3 +83,7 @@ returns-clause-faults g c = (c.in-Ok.image, c.in-Ok.ensures.over, c.in-Ok.ensure
 
 pub returns-in-Err-clause-tells : goal.returns-in-Err-clause-tells
 returns-in-Err-clause-tells g c = (c.in-Err.ensures.cause, c.in-Err.ensures.storage)
+
+pub returns-in-Err-clause-headline : goal.returns-in-Err-clause-headline
+returns-in-Err-clause-headline g c = λ honest consistent.
+    (refused_consistent (g.S.Storage.view c.args.storage).contents (missing_beside c.args.below) _ consistent (c.in-Err.ensures.cause.1 honest), c.in-Err.ensures.since honest consistent)

@@ -98,7 +98,7 @@ returns-in-Err-Spent-clause-causes g c =
     is_refused g.S.Storage.view g.F.BackingDisk.backing c.args.image.now c.commit_data_mapping.new.self c.args.slots.now.prepared.items (C.CommitDataMapping c.args.slot) c.in-Err-Spent.refusal (R.Refused c.in-Err-Spent.refusal) (λ is. absurd cc) (λ is. absurd cc, λ free. absurd (not_free c.args.slots.now.prepared.items c.args.slot c.in-Some.ensures.was free)) refl
     (where_failed _ (is_failed c.args.image.now) (λ f. absurd (not_old_tables c.in-Err-Spent.field-0-is (c.in-Err-Spent.ensures.failed own f))))
     (λ none. subst (λ r. IsOfTables (reason_of r)) c.in-Err-Spent.field-0-is (c.in-Err-Spent.ensures.late own (not_failed (is_failed c.args.image.now) none)))
-    (λ _ _ _. tt) (λ none idle. let no = (c.in-Err-Spent.ensures.existing own (not_failed (is_failed c.args.image.now) none) (subst (λ p. IsNone (table_of p)) (same_mapping c.args.slots.now.prepared.items c.args.slot c.in-Some.ensures.was idle.1) idle.2)).0 in absurd cc) (λ _ sound. fault_of c.in-Err-Spent.refusal ((subst (λ r. Commits g.S.Storage.view g.F.BackingDisk.backing c.args.image.now c.commit_data_mapping.new.self c.in-Some.prepared (Err r)) c.in-Err-Spent.field-0-is c.in-Err-Spent.ensures.sees c.args.slots.now.prepared.items c.args.slot c.in-Some.ensures.was).0 sound))
+    (λ _ _. tt) (λ none idle. let no = (c.in-Err-Spent.ensures.existing own (not_failed (is_failed c.args.image.now) none) (subst (λ p. IsNone (table_of p)) (same_mapping c.args.slots.now.prepared.items c.args.slot c.in-Some.ensures.was idle.1) idle.2)).0 in absurd cc) (λ _ sound. fault_of c.in-Err-Spent.refusal ((subst (λ r. Commits g.S.Storage.view g.F.BackingDisk.backing c.args.image.now c.commit_data_mapping.new.self c.in-Some.prepared (Err r)) c.in-Err-Spent.field-0-is c.in-Err-Spent.ensures.sees c.args.slots.now.prepared.items c.args.slot c.in-Some.ensures.was).0 sound))
 
 pub returns-in-Err-Kept-clause-causes : goal.returns-in-Err-Kept-clause-causes
 returns-in-Err-Kept-clause-causes g c =
@@ -106,7 +106,7 @@ returns-in-Err-Kept-clause-causes g c =
     is_refused g.S.Storage.view g.F.BackingDisk.backing c.args.image.now c.commit_data_mapping.new.self c.args.slots.now.prepared.items (C.CommitDataMapping c.args.slot) c.in-Err-Kept.refusal (R.Refused c.in-Err-Kept.refusal) (λ is. absurd cc) (λ is. absurd cc, λ free. absurd (not_free c.args.slots.now.prepared.items c.args.slot c.in-Some.ensures.was free)) refl
     (where_failed _ (is_failed c.args.image.now) (λ f. (kept_error c.in-Err-Kept.field-0-is (c.in-Err-Kept.ensures.failed own f).0, (c.in-Err-Kept.ensures.failed own f).1)))
     (λ none. subst (λ r. IsOfTables (reason_of r)) c.in-Err-Kept.field-0-is (c.in-Err-Kept.ensures.late own (not_failed (is_failed c.args.image.now) none)))
-    (λ _ _ _. tt) (λ none idle. let no = (c.in-Err-Kept.ensures.existing own (not_failed (is_failed c.args.image.now) none) (subst (λ p. IsNone (table_of p)) (same_mapping c.args.slots.now.prepared.items c.args.slot c.in-Some.ensures.was idle.1) idle.2)).0 in absurd cc) (λ _ sound. fault_of c.in-Err-Kept.refusal ((subst (λ r. Commits g.S.Storage.view g.F.BackingDisk.backing c.args.image.now c.commit_data_mapping.new.self c.in-Some.prepared (Err r)) c.in-Err-Kept.field-0-is c.in-Err-Kept.ensures.sees c.args.slots.now.prepared.items c.args.slot c.in-Some.ensures.was).0 sound))
+    (λ _ _. tt) (λ none idle. let no = (c.in-Err-Kept.ensures.existing own (not_failed (is_failed c.args.image.now) none) (subst (λ p. IsNone (table_of p)) (same_mapping c.args.slots.now.prepared.items c.args.slot c.in-Some.ensures.was idle.1) idle.2)).0 in absurd cc) (λ _ sound. fault_of c.in-Err-Kept.refusal ((subst (λ r. Commits g.S.Storage.view g.F.BackingDisk.backing c.args.image.now c.commit_data_mapping.new.self c.in-Some.prepared (Err r)) c.in-Err-Kept.field-0-is c.in-Err-Kept.ensures.sees c.args.slots.now.prepared.items c.args.slot c.in-Some.ensures.was).0 sound))
 
 pub returns-in_default-clause-after : goal.returns-in_default-clause-after
 returns-in_default-clause-after g c = c.put.ensures.is ∙ set_found c.args.slots.now.prepared.items c.args.slot None c.in_default.ensures.was

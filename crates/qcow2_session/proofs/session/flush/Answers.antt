@@ -25,7 +25,7 @@ returns-clause-unwritten g c = λ reading out sound clean. c.flush.ensures.unwri
 pub returns-in-Err-clause-causes : goal.returns-in-Err-clause-causes
 returns-in-Err-clause-causes g c = λ before found.
     is_refused g.S.Storage.view g.F.BackingDisk.backing c.args.image.now c.flush.new.self before C.Flush c.in-Err.refusal (R.Refused c.in-Err.refusal) (λ is. absurd cc) (λ is. absurd cc, λ is. absurd is) refl
-    (where_failed _ (is_failed c.args.image.now) (λ f. (same_error (c.in-Err.ensures.early f).0, (c.in-Err.ensures.early f).1))) (λ none. c.in-Err.ensures.late (not_failed (is_failed c.args.image.now) none)) (λ _ _ _. tt) (λ _ is. is) (λ _ sound. c.in-Err.ensures.fault before sound)
+    (where_failed _ (is_failed c.args.image.now) (λ f. (same_error (c.in-Err.ensures.early f).0, (c.in-Err.ensures.early f).1))) (λ none. c.in-Err.ensures.late (not_failed (is_failed c.args.image.now) none)) (λ _ _. tt) (λ _ is. is) (λ _ sound. c.in-Err.ensures.fault before sound)
 
 pub returns-clause-causes : goal.returns-clause-causes
 returns-clause-causes g c = λ before found.

@@ -57,7 +57,7 @@ returns-in-Err-clause-unwritten g c = λ reading sound clean existing. record { 
 pub returns-in-Err-clause-causes : goal.returns-in-Err-clause-causes
 returns-in-Err-clause-causes g c =
     is_refused g.S.Storage.view g.F.BackingDisk.backing c.args.image.now c.get_mapping.new.self c.args.slots.now.prepared.items (C.GetMapping c.args.slot c.args.offset c.args.max) c.in-Err.refusal (R.Refused c.in-Err.refusal) (λ is. absurd cc) (λ is. absurd cc, λ is. absurd is) refl
-    (begun_with _ _ _ (unusable c.args.image.now) c.in-Err.ensures.early) c.in-Err.ensures.late (λ _ _ _. tt) (λ none past. let no = (c.in-Err.ensures.past none past).0 in absurd cc) (λ _ sound. c.in-Err.ensures.met c.args.slots.now.prepared.items sound)
+    (begun_with _ _ _ (unusable c.args.image.now) c.in-Err.ensures.early) c.in-Err.ensures.late (λ _ _. tt) (λ none past. let no = (c.in-Err.ensures.past none past).0 in absurd cc) (λ _ sound. c.in-Err.ensures.met c.args.slots.now.prepared.items sound)
 
 pub returns-in-Ok-clause-causes : goal.returns-in-Ok-clause-causes
 returns-in-Ok-clause-causes g c =

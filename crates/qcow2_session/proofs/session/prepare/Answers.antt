@@ -107,8 +107,8 @@ returns-in-Err-clause-causes g c =
     let e = c.in-Err.refusal in
     is_refused g.S.Storage.view g.F.BackingDisk.backing c.args.image.now c.prepare_data_mapping.new.self c.args.slots.now.prepared.items (C.PrepareDataMapping c.args.slot c.args.offset c.args.length c.args.overwrite) e (R.Refused e) (λ is. absurd cc) (λ is. absurd cc, λ is. absurd (not_free c.args.slots.now.prepared.items c.args.slot is.1 free)) refl
     (begun_with _ _ _ (refuses_to_prepare c.args.image.now c.args.offset c.args.length) c.in-Err.ensures.early) c.in-Err.ensures.late
-    (λ none sound free. elim (cases_lt 0 c.args.length) [
-      | inl some ↦ c.in-Err.ensures.met none some c.args.slots.now.prepared.items sound free
+    (λ none sound. elim (cases_lt 0 c.args.length) [
+      | inl some ↦ c.in-Err.ensures.met none some c.args.slots.now.prepared.items sound
       | inr least ↦ absurd (let empty : c.args.length ≡ 0 = omega (arith, least) in let no = (c.in-Err.ensures.nothing (ap (λ n. refuses_to_prepare c.args.image.now c.args.offset n) (sym empty) ∙ none) empty).0 in cc)
     ])
     (λ none empty. let no = (c.in-Err.ensures.nothing (ap (λ n. refuses_to_prepare c.args.image.now c.args.offset n) (sym empty) ∙ none) empty).0 in absurd cc)

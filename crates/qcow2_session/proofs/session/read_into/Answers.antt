@@ -45,6 +45,7 @@ loop-done-preserved g c = record {
   end = grind (arith, common_steps);
   image = same_then c.loop-done.invariant.image c.read_some.ensures.image;
   works = c.in_ok-done.ensures.marks ∙ c.loop-done.invariant.works;
+  header = c.read_some.ensures.header ∙ c.loop-done.invariant.header;
   quiet = written_then g.S.Storage.view c.loop-done.invariant.quiet c.read_some.ensures.quiet;
   unwritten = λ reading out sound clean.
       let so_far = c.loop-done.invariant.unwritten reading out sound clean in
@@ -130,6 +131,7 @@ loop-done-init g c = record {
   end = grind (arith, common_steps);
   image = record { number = refl; size = refl; writable = refl; external = refl };
   works = refl;
+  header = refl;
   quiet = written_none g.S.Storage.view c.args.image.now.file.storage c.args.image.now.file.caches;
   unwritten = λ reading out sound clean. read_none g.S.Storage.view c.args.image.now clean;
   shown = λ out. does_if (λ same. (λ i lt. absurd (let none : i < length (take 0 c.args.bytes.now) = lt in grind (arith, common_steps)), same)) (does_nothing (abstract_of g.S.Storage.view g.F.BackingDisk.backing c.args.image.now out));

@@ -19,6 +19,7 @@ invariant-loop-done g l = record {
   end : l.fn.offset + length l.bytes < 2 ^ 64;
   image : IsSameImage l.fn.image l.image;
   works : is_failed l.image ≡ is_failed l.fn.image;
+  header : l.image.file.header ≡ l.fn.image.file.header;
   quiet : ReadsQuietly g.S.Storage.view l.fn.image l.image;
   unwritten : StaysUnwritten g.S.Storage.view g.F.BackingDisk.backing l.fn.image l.image;
   shown : (out : List (Option Prepared)) → let v = abstract_of g.S.Storage.view g.F.BackingDisk.backing l.fn.image out in let w = abstract_of g.S.Storage.view g.F.BackingDisk.backing l.image out in

@@ -87,7 +87,7 @@ returns-in-Err-clause-causes g c =
     let late : unusable c.args.image.now ≡ None → IsMet c.in-Err.refusal × (0 < c.args.length) = λ none. c.in-Err.ensures.late (own_mapping c.args.image.now c.in-Some.mapping.image own ∙ none) in
     is_refused g.S.Storage.view g.F.BackingDisk.backing c.args.image.now c.read_range.new.image c.args.slots.now.prepared.items (C.ReadMapped c.args.slot c.args.at c.args.length) c.in-Err.refusal (R.Refused c.in-Err.refusal) (λ is. absurd cc)
     (λ is. absurd cc, λ is. absurd (isnt_beyond c.in-Some.mapping c.args.at c.args.length (ap mapping_at (there ∙ ap Some c.in-Some.is)) within is)) refl
-    (begun_with _ _ _ (unusable c.args.image.now) c.in-Err.ensures.early) (λ none. (late none).0) (λ _ _ _. tt) (λ none empty. let some = (late none).1 in omega (arith, some, empty))
+    (begun_with _ _ _ (unusable c.args.image.now) c.in-Err.ensures.early) (λ none. (late none).0) (λ _ _. tt) (λ none empty. let some = (late none).1 in omega (arith, some, empty))
     (λ none sound. (λ is. (c.in-Some.mapping, ap mapping_at (there ∙ ap Some c.in-Some.is), c.in-Err.ensures.outdated c.args.slots.now.prepared.items sound (ap Err (some_error is))), (c.in-Some.mapping, ap mapping_at (there ∙ ap Some c.in-Some.is), c.in-Err.ensures.met (own_mapping c.args.image.now c.in-Some.mapping.image own ∙ none) c.args.slots.now.prepared.items sound)))
 
 pub returns-in_default-clause-header_cluster : goal.returns-in_default-clause-header_cluster

@@ -84,7 +84,7 @@ pub returns-in-Err-clause-tells : goal.returns-in-Err-clause-tells
 returns-in-Err-clause-tells g c = subst (λ q. TellsOfImage g.S.Storage.view g.F.BackingDisk.backing c.args.image.now c.read.new.image c.args.slots.now.prepared.items c.args.slots.now.prepared.items q (Refused c.in-Err.refusal)) (sym c.in-Read.is) tt
 
 pub returns-in-Ok-write-clause-tells : goal.returns-in-Ok-write-clause-tells
-returns-in-Ok-write-clause-tells g c = subst (λ q. TellsOfImage g.S.Storage.view g.F.BackingDisk.backing c.args.image.now c.write.new.image c.args.slots.now.prepared.items c.args.slots.now.prepared.items q Done) (sym c.in-Write.is) tt
+returns-in-Ok-write-clause-tells g c = subst (λ q. TellsOfImage g.S.Storage.view g.F.BackingDisk.backing c.args.image.now c.write.new.image c.args.slots.now.prepared.items c.args.slots.now.prepared.items q Done) (sym c.in-Write.is) (c.in-Ok-write.ensures.freeing c.args.slots.now.prepared.items)
 
 pub returns-in-Err-write-clause-tells : goal.returns-in-Err-write-clause-tells
 returns-in-Err-write-clause-tells g c = subst (λ q. TellsOfImage g.S.Storage.view g.F.BackingDisk.backing c.args.image.now c.write.new.image c.args.slots.now.prepared.items c.args.slots.now.prepared.items q (WriteRefused c.in-Err-write.refusal c.in-Err-write.done)) (sym c.in-Write.is) tt
@@ -210,7 +210,8 @@ returns-in-Ok-write-clause-causes g c = subst (λ q. IsRightlyRefused g.S.Storag
 
 pub returns-in-Err-write-clause-causes : goal.returns-in-Err-write-clause-causes
 returns-in-Err-write-clause-causes g c = subst (λ q. IsRightlyRefused g.S.Storage.view g.F.BackingDisk.backing c.args.image.now c.write.new.image c.args.slots.now.prepared.items (mappings_in c.args.slots.now.mappings.items) q (WriteRefused c.in-Err-write.refusal c.in-Err-write.done)) (sym c.in-Write.is)
-    (write_refused_for g.S.Storage.view g.F.BackingDisk.backing c.args.image.now c.write.new.image c.args.slots.now.prepared.items _ _ _ _ (rw c.deref.ensures.value at c.in-Err-write.ensures.early) (rw c.deref.ensures.value at c.in-Err-write.ensures.late) (λ none sound. (rw c.deref.ensures.value at c.in-Err-write.ensures.met) none c.args.slots.now.prepared.items sound) (λ none sound. (rw c.deref.ensures.value at c.in-Err-write.ensures.taken) none c.args.slots.now.prepared.items sound))
+    (write_refused_for g.S.Storage.view g.F.BackingDisk.backing c.args.image.now c.write.new.image c.args.slots.now.prepared.items _ _ _ _ (rw c.deref.ensures.value at c.in-Err-write.ensures.early) (rw c.deref.ensures.value at c.in-Err-write.ensures.late) (λ none sound. (rw c.deref.ensures.value at c.in-Err-write.ensures.met) none c.args.slots.now.prepared.items sound) (λ none sound. (rw c.deref.ensures.value at c.in-Err-write.ensures.taken) none c.args.slots.now.prepared.items sound)
+    (λ none sound. (rw c.deref.ensures.value at c.in-Err-write.ensures.limit) none c.args.slots.now.prepared.items sound) (λ none sound. (rw c.deref.ensures.value at c.in-Err-write.ensures.taken_part) none c.args.slots.now.prepared.items sound))
 
 pub returns-in-Size-clause-causes : goal.returns-in-Size-clause-causes
 returns-in-Size-clause-causes g c = subst (λ q. IsRightlyRefused g.S.Storage.view g.F.BackingDisk.backing c.args.image.now c.args.image.now c.args.slots.now.prepared.items (mappings_in c.args.slots.now.mappings.items) q (Size c.size.result)) (sym c.in-Size.is) (size_answered g.S.Storage.view g.F.BackingDisk.backing c.args.image.now c.args.image.now c.args.slots.now.prepared.items c.size.result)

@@ -1,5 +1,6 @@
-use Rattle.std.proofs.Common.{◌≡◌, ℕ, ◌∙◌, subst, take, drop, length, ◌<◌, ap, arith}
-use Rattle.std.specs.Prelude.{IfSome, Option, Some, None, Result, Err}
+use Rattle.qcow2_session.proofs.session.write.Goals as goal
+use Rattle.std.proofs.Common.{◌≡◌, ℕ, ◌∙◌, subst, take, drop, length, ◌<◌, ap, arith, ◌+◌, ◌≤◌, refl, ◌%◌, ◌-◌}
+use Rattle.std.specs.Prelude.{IfSome, Option, Some, None, Result, Err, Ok}
 use Rattle.std.proofs.lemmas.Grind.{common_steps}
 use Rattle.std.proofs.lemmas.List.{take_rest}
 use Rattle.qcow2_disk.specs.Calls.{another, with_disk}
@@ -7,28 +8,31 @@ use Rattle.qcow2_disk.specs.Disk.{with_bytes}
 use Rattle.qcow2_disk.specs.AbstractImages.{Setting, guest_of}
 use Rattle.qcow2_image.specs.ImageInvariant.{abstract_of}
 use Rattle.qcow2_image.specs.Calls.{refusal_of}
-use Rattle.qcow2_session.proofs.Writing.{ends_on, writes_more, write_refused}
+use Rattle.qcow2_session.proofs.Writing.{ends_on, write_refused}
+use Rattle.qcow2_session.proofs.WrittenParts.{first_given, no_more_then, stops_behind, stops_first, writes_on}
+use Rattle.qcow2_session.specs.Sessions.{Writes, cluster_size_of}
+use Rattle.qcow2_image.specs.L1Entries.{NeedsFarEntry}
+use Rattle.qcow2_image.specs.LackedPlaces.{LacksPlaceFor}
+use Rattle.qcow2_image.specs.Preparing.{IsTaken}
 use Rattle.qcow2_session.proofs.Beyond.{part_refused}
-use Rattle.qcow2_session.proofs.Turns.{does_if, refuses_here, refuses_if, nothing_refused}
+use Rattle.qcow2_session.proofs.Turns.{does_less, refuses_here, refuses_if, nothing_refused}
 use Rattle.qcow2_image.specs.Refusals.{refuses_to_prepare}
 use Rattle.qcow2_session.proofs.Told.{same_then}
 use Rattle.qcow2_image.proofs.Map.Unmodified.{read_then}
 use Rattle.qcow2_image.proofs.Call.FaultCounts.{faults_then}
-use Rattle.std.proofs.Common.{◌+◌, refl}
-use Rattle.qcow2_session.proofs.Parts.{not_failed_yet, part_prepares, part_under, prepares_usable}
+use Rattle.qcow2_session.proofs.Parts.{not_failed_yet, part_prepares, part_under, prepares_usable, under_taken}
 use Rattle.qcow2_session.proofs.Marking.{fails_behind}
 use Rattle.qcow2_image.proofs.Call.BehindHeader.{behind_then}
 use Rattle.qcow2_alloc.proofs.KeptTables.AllWritten.{written_then}
 use Rattle.qcow2_image.specs.CallParts.{AreCopied}
 use Rattle.qcow2_session.proofs.Copied.{copied_on}
 use Rattle.qcow2_alloc.specs.ImageFile.{known_in}
-use Rattle.qcow2_session.proofs.MetOnSound.{met_in_part}
-use Rattle.std.proofs.Common.{◌%◌}
-use Rattle.qcow2_session.specs.Sessions.{cluster_size_of}
-use Rattle.qcow2_session.proofs.session.write.Goals as goal
+use Rattle.qcow2_session.proofs.MetOnSound.{compressed_in_part}
+use Rattle.qcow2_image.proofs.Grow.NoLonger.{no_longer_then, no_longer_within}
+use Rattle.qcow2_image.proofs.Prepare.MetTaking.{taking_kept}
 
 pub returns-in_default-clause-sees : goal.returns-in_default-clause-sees
-returns-in_default-clause-sees g c = λ out. refuses_if (λ same. (c.loop-done.invariant.within, same)) (refuses_here (another 2) (λ is. absurd cc) (c.loop-done.invariant.written out))
+returns-in_default-clause-sees g c = λ out. refuses_if (λ same. (c.loop-done.invariant.within, same)) (refuses_here (another 2) (λ is. absurd cc) (does_less (first_given _ c.args.offset c.loop-done.done c.args.bytes.now) (c.loop-done.invariant.written out)))
 
 pub loop-done-preserved : goal.loop-done-preserved
 loop-done-preserved g c = record {
@@ -37,6 +41,11 @@ loop-done-preserved g c = record {
   works = c.in-Ok-write_some.ensures.end.0 ∙ c.loop-done.invariant.works;
   within = grind (arith, common_steps);
   image = same_then c.loop-done.invariant.image c.write_some-in-loop-done.ensures.image;
+  no_longer = λ some out sound.
+      let so_far = c.loop-done.invariant.written out in
+      let still = (so_far.answer sound).0 in
+      no_longer_then c.args.image.now.file.header.fields c.loop-done.image.file.header.fields c.write_some-in-loop-done.new.image.file.header.fields c.in-Some.at (c.args.offset + length c.args.bytes.now - 1)
+      (ap (λ (x : Setting). x.cluster_size) (so_far.acts.works sound).setting) (grind (arith, common_steps)) (c.loop-done.invariant.no_longer some out sound) (c.write_some-in-loop-done.ensures.no_longer out still);
   quiet = λ reading. written_then g.S.Storage.view (c.loop-done.invariant.quiet reading) (c.write_some-in-loop-done.ensures.quiet (c.loop-done.invariant.image.writable ∙ reading));
   unwritten = λ reading out sound clean.
       let so_far = c.loop-done.invariant.unwritten reading out sound clean in
@@ -54,18 +63,19 @@ loop-done-preserved g c = record {
       let still = ((c.loop-done.invariant.written out).answer sound).0 in
       let more : 0 < length (drop c.loop-done.done c.args.bytes.now) = grind (arith, common_steps) in
       let part = rw (take_rest c.args.bytes.now c.loop-done.done) at (c.in-Ok-write_some.ensures.sees out) in
-      copied_on view below c.loop-done.image c.write_some-in-loop-done.new.image out still (part.answer still).0 c.args.offset c.in-Some.at c.loop-done.done c.in-Ok-write_some.count (drop c.loop-done.done c.args.bytes.now) c.in-Some.ensures.1
+      copied_on view below c.loop-done.image c.write_some-in-loop-done.new.image out still (part.answer still).0 c.args.offset c.in-Some.at c.loop-done.done c.in-Ok-write_some.count (take c.in-Ok-write_some.count (drop c.loop-done.done c.args.bytes.now)) c.in-Some.ensures.1
       (part.acts.works still) (c.loop-done.invariant.copied some out sound) ((rw (take_rest c.args.bytes.now c.loop-done.done) at (c.in-Ok-write_some.ensures.copied)) more out still);
   end = c.loop-done.invariant.end;
-  written = λ out. writes_more c.args.offset c.in-Some.at c.loop-done.done c.args.bytes.now c.loop-done.invariant.within c.in-Some.ensures.1
+  freeing = λ out sound. no_more_then c.args.image.now c.loop-done.image c.write_some-in-loop-done.new.image (c.loop-done.invariant.freeing out sound) (c.in-Ok-write_some.ensures.freeing out ((c.loop-done.invariant.written out).answer sound).0);
+  written = λ out. writes_on c.args.offset c.in-Some.at c.loop-done.done c.in-Ok-write_some.count c.args.bytes.now c.loop-done.invariant.within c.in-Some.ensures.1
       (abstract_of g.S.Storage.view g.F.BackingDisk.backing c.args.image.now out) (abstract_of g.S.Storage.view g.F.BackingDisk.backing c.loop-done.image out) (abstract_of g.S.Storage.view g.F.BackingDisk.backing c.write_some-in-loop-done.new.image out)
-      (c.loop-done.invariant.written out) c.in-Ok-write_some.count (rw (take_rest c.args.bytes.now c.loop-done.done) at (c.in-Ok-write_some.ensures.sees out));
+      (c.loop-done.invariant.written out) (rw (take_rest c.args.bytes.now c.loop-done.done) at (c.in-Ok-write_some.ensures.sees out));
 }
 
 pub returns-in-Err-write_some-clause-sees : goal.returns-in-Err-write_some-clause-sees
 returns-in-Err-write_some-clause-sees g c = λ out. write_refused c.args.offset c.in-Some.at c.loop-done.done c.args.bytes.now c.loop-done.invariant.within c.in-Some.ensures.1
     (abstract_of g.S.Storage.view g.F.BackingDisk.backing c.args.image.now out) (abstract_of g.S.Storage.view g.F.BackingDisk.backing c.loop-done.image out) (abstract_of g.S.Storage.view g.F.BackingDisk.backing c.write_some-in-loop-done.new.image out)
-    (c.loop-done.invariant.written out) (refusal_of c.in-Err-write_some.refusal) (rw (take_rest c.args.bytes.now c.loop-done.done) at (c.in-Err-write_some.ensures.sees out))
+    (does_less (first_given _ c.args.offset c.loop-done.done c.args.bytes.now) (c.loop-done.invariant.written out)) (refusal_of c.in-Err-write_some.refusal) (rw (take_rest c.args.bytes.now c.loop-done.done) at (c.in-Err-write_some.ensures.sees out))
 
 pub returns-in-Err-write_some-clause-ends : goal.returns-in-Err-write_some-clause-ends
 returns-in-Err-write_some-clause-ends g c = λ out sound some. (c.loop-done-test.true, c.loop-done.invariant.ends out sound c.loop-done-test.true)
@@ -75,7 +85,7 @@ returns-clause-sees g c = λ out.
     let view = g.S.Storage.view in
     let below = g.F.BackingDisk.backing in
     let all : take c.loop-done.done c.args.bytes.now ≡ c.args.bytes.now = grind (arith, common_steps) in
-    does_if (λ e. subst (λ b. guest_of (abstract_of view below c.loop-done.image out) ≡ with_disk (guest_of (abstract_of view below c.args.image.now out)) (with_bytes (guest_of (abstract_of view below c.args.image.now out)).disk c.args.offset b)) all e) (c.loop-done.invariant.written out)
+    subst (λ b. Writes view below c.args.image.now c.loop-done.image c.args.offset b (Ok tt)) all c.loop-done.invariant.written out
 
 pub returns-in_default-clause-beyond : goal.returns-in_default-clause-beyond
 returns-in_default-clause-beyond g c = λ is. absurd (c.in_default.ensures (omega (arith, c.loop-done.invariant.end, c.loop-done-test.true)))
@@ -121,7 +131,7 @@ pub returns-in-Err-clause-taken : goal.returns-in-Err-clause-taken
 returns-in-Err-clause-taken g c = λ none out sound is.
     let under = c.in-Err.ensures.taken none out sound is in
     let h = c.args.image.now.file.header.fields in
-    part_under h h refl c.args.offset (c.args.offset + length c.args.bytes.now) c.args.offset out (omega arith) (omega (arith, under.0)) under.1
+    part_under h h refl c.args.offset (c.args.offset + length c.args.bytes.now) c.args.offset out (omega arith) (omega (arith, under.0)) (under_taken under.1)
 
 pub returns-in_default-clause-taken : goal.returns-in_default-clause-taken
 returns-in_default-clause-taken g c = λ none out sound is. absurd (c.in_default.ensures (omega (arith, c.loop-done.invariant.end, c.loop-done-test.true)))
@@ -137,7 +147,7 @@ returns-in-Err-write_some-clause-taken g c = λ none out sound is.
     let still = (so_far.answer sound).0 in
     let under = (rw (take_rest c.args.bytes.now c.loop-done.done) at c.in-Err-write_some.ensures.taken)
     (part_prepares old mid c.loop-done.invariant.image c.args.offset n c.in-Some.at rest (grind (arith, common_steps)) (grind (arith, common_steps)) still.works (omega (arith, c.loop-done-test.true)) none) out still is in
-    part_under old.file.header.fields mid.file.header.fields (ap (λ (x : Setting). x.cluster_size) (so_far.acts.works sound).setting) c.args.offset (c.args.offset + n) c.in-Some.at out (grind (arith, common_steps)) (omega (arith, under.0, long)) under.1
+    part_under old.file.header.fields mid.file.header.fields (ap (λ (x : Setting). x.cluster_size) (so_far.acts.works sound).setting) c.args.offset (c.args.offset + n) c.in-Some.at out (grind (arith, common_steps)) (omega (arith, under.0, long)) (under_taken under.1)
 
 pub returns-in_default-clause-marks : goal.returns-in_default-clause-marks
 returns-in_default-clause-marks g c = c.loop-done.invariant.works
@@ -163,13 +173,19 @@ returns-clause-copied g c = λ some out sound.
     subst (λ k. AreCopied g.S.Storage.view c.args.offset k c.loop-done.image) all (c.loop-done.invariant.copied some out sound)
 
 pub returns-in-Err-clause-met : goal.returns-in-Err-clause-met
-returns-in-Err-clause-met g c = λ none out sound free. c.in-Err.ensures.met none out sound free
+returns-in-Err-clause-met g c = λ none out sound.
+    taking_kept (λ is. is) (λ far. stops_first g.S.Storage.view g.F.BackingDisk.backing c.args.image.now (λ at n before. NeedsFarEntry before at) c.args.offset c.args.bytes.now far) c.in-Err.refusal (returns-in-Err-clause-taken g c none out sound) (c.in-Err.ensures.met none out sound)
 
 pub returns-in_default-clause-met : goal.returns-in_default-clause-met
-returns-in_default-clause-met g c = λ none out sound free. absurd (c.in_default.ensures (omega (arith, c.loop-done.invariant.end, c.loop-done-test.true)))
+returns-in_default-clause-met g c = λ none out sound. absurd (c.in_default.ensures (omega (arith, c.loop-done.invariant.end, c.loop-done-test.true)))
 
 pub returns-in-Err-write_some-clause-met : goal.returns-in-Err-write_some-clause-met
-returns-in-Err-write_some-clause-met g c = λ none out sound free.
+returns-in-Err-write_some-clause-met g c =
+    let long : c.in-Some.at + length (drop c.loop-done.done c.args.bytes.now) ≡ c.args.offset + length c.args.bytes.now = grind (arith, common_steps) in
+    let from : c.args.offset ≤ c.in-Some.at = omega (arith, c.in-Some.ensures.1) in
+    let upto : c.in-Some.at + length (drop c.loop-done.done c.args.bytes.now) ≤ c.args.offset + length c.args.bytes.now = omega (arith, long) in
+    let some : 0 < length c.args.bytes.now = omega (arith, c.loop-done-test.true) in
+    λ none out sound.
     let view = g.S.Storage.view in
     let below = g.F.BackingDisk.backing in
     let old = c.args.image.now in
@@ -177,12 +193,89 @@ returns-in-Err-write_some-clause-met g c = λ none out sound free.
     let n = length c.args.bytes.now in
     let done = c.loop-done.done in
     let rest = length (drop done c.args.bytes.now) in
+    let long : c.in-Some.at + rest ≡ c.args.offset + n = grind (arith, common_steps) in
     let so_far = c.loop-done.invariant.written out in
     let still = (so_far.answer sound).0 in
     let new = c.write_some-in-loop-done.new.image in
     let part = rw (take_rest c.args.bytes.now done) at (c.in-Err-write_some.ensures.sees out) in
     let same : cluster_size_of new ≡ cluster_size_of old = ap (λ (x : Setting). x.cluster_size) ((part.acts.works still).setting ∙ (so_far.acts.works sound).setting) in
     let begins : c.in-Some.at % cluster_size_of new ≡ 0 = ap (λ size. c.in-Some.at % size) same ∙ ap (λ o. o % cluster_size_of old) c.in-Some.ensures.1 ∙ c.loop-done.invariant.ends out sound c.loop-done-test.true in
-    met_in_part new.file.header.fields (known_in view new.file) c.args.offset n done c.in-Some.at rest c.in-Err-write_some.refusal c.in-Some.ensures.1 (grind (arith, common_steps)) begins
+    taking_kept (compressed_in_part new.file.header.fields (known_in view new.file) c.args.offset n done c.in-Some.at rest c.in-Some.ensures.1 long begins)
+    (λ far. stops_behind view below old (λ at k before. NeedsFarEntry before at) c.args.offset c.args.bytes.now done c.in-Some.at mid c.in-Some.ensures.1 c.loop-done.invariant.written far) c.in-Err-write_some.refusal (returns-in-Err-write_some-clause-taken g c none out sound)
     ((rw (take_rest c.args.bytes.now done) at c.in-Err-write_some.ensures.met)
-    (part_prepares old mid c.loop-done.invariant.image c.args.offset n c.in-Some.at rest (grind (arith, common_steps)) (grind (arith, common_steps)) still.works (omega (arith, c.loop-done-test.true)) none) out still free)
+    (part_prepares old mid c.loop-done.invariant.image c.args.offset n c.in-Some.at rest from upto still.works some none) out still)
+
+pub returns-in-Err-clause-no_longer : goal.returns-in-Err-clause-no_longer
+returns-in-Err-clause-no_longer g c = λ some out sound.
+    no_longer_within c.args.image.now.file.header.fields c.write_some.new.image.file.header.fields c.args.offset (c.args.offset + length c.args.bytes.now - 1) (omega (arith, some)) (c.write_some.ensures.no_longer out sound)
+
+pub returns-in-Err-write_some-clause-no_longer : goal.returns-in-Err-write_some-clause-no_longer
+returns-in-Err-write_some-clause-no_longer g c = λ some out sound.
+    let so_far = c.loop-done.invariant.written out in
+    let still = (so_far.answer sound).0 in
+    no_longer_then c.args.image.now.file.header.fields c.loop-done.image.file.header.fields c.write_some-in-loop-done.new.image.file.header.fields c.in-Some.at (c.args.offset + length c.args.bytes.now - 1)
+    (ap (λ (x : Setting). x.cluster_size) (so_far.acts.works sound).setting) (grind (arith, common_steps)) (c.loop-done.invariant.no_longer some out sound) (c.write_some-in-loop-done.ensures.no_longer out still)
+
+pub loop-done-init : goal.loop-done-init
+loop-done-init g c = record {
+  faults = c.in-Ok.ensures.faults.told;
+  behind = c.write_some.ensures.header_cluster;
+  works = c.in-Ok.ensures.end.0;
+  within = c.in-Ok.ensures.within;
+  image = c.write_some.ensures.image;
+  ends = λ out sound more. c.in-Ok.ensures.ends out sound more;
+  end = c.in-Ok.ensures.end.1;
+  copied = λ some out sound. c.in-Ok.ensures.copied some out sound;
+  no_longer = λ some out sound.
+      no_longer_within c.args.image.now.file.header.fields c.write_some.new.image.file.header.fields c.args.offset (c.args.offset + length c.args.bytes.now - 1) (omega (arith, some)) (c.write_some.ensures.no_longer out sound);
+  freeing = λ out sound. c.in-Ok.ensures.freeing out sound;
+  quiet = c.write_some.ensures.quiet;
+  unwritten = c.write_some.ensures.unwritten;
+  written = λ out. c.in-Ok.ensures.sees out;
+}
+
+pub returns-clause-freeing : goal.returns-clause-freeing
+returns-clause-freeing g c = λ out sound. c.loop-done.invariant.freeing out sound
+
+-- ---- the part at which it was refused
+
+pub returns-in-Err-clause-limit : goal.returns-in-Err-clause-limit
+returns-in-Err-clause-limit g c = λ none out sound is.
+    let view = g.S.Storage.view in
+    stops_first view g.F.BackingDisk.backing c.args.image.now (λ at n before. LacksPlaceFor view at n before c.write_some.new.image) c.args.offset c.args.bytes.now (c.in-Err.ensures.limit none out sound is)
+
+pub returns-in-Err-clause-taken_part : goal.returns-in-Err-clause-taken_part
+returns-in-Err-clause-taken_part g c = λ none out sound is.
+    let view = g.S.Storage.view in
+    stops_first view g.F.BackingDisk.backing c.args.image.now (λ at n before. IsTaken before.file.header.fields (known_in view before.file) at n out) c.args.offset c.args.bytes.now (c.in-Err.ensures.taken none out sound is).1
+
+pub returns-in_default-clause-limit : goal.returns-in_default-clause-limit
+returns-in_default-clause-limit g c = λ none out sound is. absurd (c.in_default.ensures (omega (arith, c.loop-done.invariant.end, c.loop-done-test.true)))
+
+pub returns-in_default-clause-taken_part : goal.returns-in_default-clause-taken_part
+returns-in_default-clause-taken_part g c = λ none out sound is. absurd (c.in_default.ensures (omega (arith, c.loop-done.invariant.end, c.loop-done-test.true)))
+
+pub returns-in-Err-write_some-clause-limit : goal.returns-in-Err-write_some-clause-limit
+returns-in-Err-write_some-clause-limit g c = λ none out sound is.
+    let view = g.S.Storage.view in
+    let old = c.args.image.now in
+    let mid = c.loop-done.image in
+    let new = c.write_some-in-loop-done.new.image in
+    let n = length c.args.bytes.now in
+    let rest = length (drop c.loop-done.done c.args.bytes.now) in
+    let still = ((c.loop-done.invariant.written out).answer sound).0 in
+    stops_behind view g.F.BackingDisk.backing old (λ at k before. LacksPlaceFor view at k before new) c.args.offset c.args.bytes.now c.loop-done.done c.in-Some.at mid c.in-Some.ensures.1 c.loop-done.invariant.written
+    ((rw (take_rest c.args.bytes.now c.loop-done.done) at c.in-Err-write_some.ensures.limit)
+    (part_prepares old mid c.loop-done.invariant.image c.args.offset n c.in-Some.at rest (grind (arith, common_steps)) (grind (arith, common_steps)) still.works (omega (arith, c.loop-done-test.true)) none) out still is)
+
+pub returns-in-Err-write_some-clause-taken_part : goal.returns-in-Err-write_some-clause-taken_part
+returns-in-Err-write_some-clause-taken_part g c = λ none out sound is.
+    let view = g.S.Storage.view in
+    let old = c.args.image.now in
+    let mid = c.loop-done.image in
+    let n = length c.args.bytes.now in
+    let rest = length (drop c.loop-done.done c.args.bytes.now) in
+    let still = ((c.loop-done.invariant.written out).answer sound).0 in
+    stops_behind view g.F.BackingDisk.backing old (λ at k before. IsTaken before.file.header.fields (known_in view before.file) at k out) c.args.offset c.args.bytes.now c.loop-done.done c.in-Some.at mid c.in-Some.ensures.1 c.loop-done.invariant.written
+    ((rw (take_rest c.args.bytes.now c.loop-done.done) at c.in-Err-write_some.ensures.taken)
+    (part_prepares old mid c.loop-done.invariant.image c.args.offset n c.in-Some.at rest (grind (arith, common_steps)) (grind (arith, common_steps)) still.works (omega (arith, c.loop-done-test.true)) none) out still is).1

@@ -1,3 +1,4 @@
+use Rattle.qcow2_session.proofs.session.write.Given as goal
 use Rattle.std.proofs.Common.{◌≡◌, ◌+◌, ◌-◌, ◌^◌, ◌<◌, ◌≤◌, length, [], ◌∷◌, take, List}
 use Rattle.std.specs.Prelude.{Option}
 use Rattle.qcow2_disk.specs.Calls.{AnsweredEffect, with_disk}
@@ -8,11 +9,12 @@ use Rattle.qcow2_image.specs.BehindHeader.{StaysBehindHeader}
 use Rattle.qcow2_image.specs.CallParts.{AreCopied}
 use Rattle.qcow2_image.specs.Image.{IsSameImage, is_failed}
 use Rattle.qcow2_image.specs.ImageInvariant.{abstract_of}
+use Rattle.qcow2_image.specs.ListedClusters.{ListsNoMore}
 use Rattle.qcow2_image.specs.declared.prepared.Prepared.{Prepared}
 use Rattle.qcow2_session.specs.Sessions.{EndsCluster}
 use Rattle.qcow2_session.specs.Told.{StaysQuiet, StaysUnwritten}
 use Rattle.qcow2_image.specs.Faults.{SameFaults}
-use Rattle.qcow2_session.proofs.session.write.Given as goal
+use Rattle.qcow2_image.specs.L1Entries.{IsNoLonger}
 
 abbrev pub invariant-loop-done : goal.invariant-loop-done
 invariant-loop-done g l = record {
@@ -24,10 +26,12 @@ invariant-loop-done g l = record {
   ends : (out : List (Option Prepared)) → (abstract_of g.S.Storage.view g.F.BackingDisk.backing l.fn.image out).is_sound → l.done < length l.bytes → EndsCluster l.fn.image (l.fn.offset + l.done);
   end : l.fn.offset + length l.bytes < 2 ^ 64;
   copied : 0 < length l.bytes → (out : List (Option Prepared)) → (abstract_of g.S.Storage.view g.F.BackingDisk.backing l.fn.image out).is_sound → AreCopied g.S.Storage.view l.fn.offset (l.fn.offset + l.done) l.image;
+  no_longer : 0 < length l.bytes → (out : List (Option Prepared)) → (abstract_of g.S.Storage.view g.F.BackingDisk.backing l.fn.image out).is_sound → IsNoLonger (l.fn.offset + length l.bytes - 1) l.fn.image.file.header.fields l.image.file.header.fields;
   quiet : StaysQuiet g.S.Storage.view l.fn.image l.image;
+  freeing : (out : List (Option Prepared)) → (abstract_of g.S.Storage.view g.F.BackingDisk.backing l.fn.image out).is_sound → ListsNoMore l.fn.image l.image;
   unwritten : StaysUnwritten g.S.Storage.view g.F.BackingDisk.backing l.fn.image l.image;
   written : (out : List (Option Prepared)) → let v = abstract_of g.S.Storage.view g.F.BackingDisk.backing l.fn.image out in let w = abstract_of g.S.Storage.view g.F.BackingDisk.backing l.image out in
-      AnsweredEffect v w (given_of l.fn.offset l.bytes ∷ []) [] (guest_of w ≡ with_disk (guest_of v) (with_bytes (guest_of v).disk l.fn.offset (take l.done l.bytes)));
+      AnsweredEffect v w (given_of l.fn.offset (take l.done l.bytes) ∷ []) [] (guest_of w ≡ with_disk (guest_of v) (with_bytes (guest_of v).disk l.fn.offset (take l.done l.bytes)));
 }
 
 abbrev pub decreases-loop-done : goal.decreases-loop-done

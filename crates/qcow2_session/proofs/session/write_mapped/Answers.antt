@@ -104,7 +104,7 @@ returns-in-Err-clause-causes g c =
       | inl some ↦ c.in-Err.ensures.late (usable ∙ first.0) (put_writes n (is_writable c.args.image.now) first.1 some)
       | inr least ↦ absurd (let no = ((rw c.deref.ensures.value at c.in-Err.ensures.nothing) (usable ∙ first.0) (omega (arith, least))).0 in cc)
     ])
-    (λ _ _ _. tt)
+    (λ _ _. tt)
     (λ none empty. let first = then_none (unusable c.args.image.now) (nat_lt 0 n && not (is_writable c.args.image.now)) ReadOnly none in let no = ((rw c.deref.ensures.value at c.in-Err.ensures.nothing) (usable ∙ first.0) empty).0 in absurd cc)
     (λ none sound. (
       λ is.

@@ -1,51 +1,54 @@
-use Rattle.std.proofs.Common.{◌≡◌, sym, subst, ap, ◌∙◌, Err, [], ◌∷◌, Some, None, min, length, refl, arith}
-use Rattle.std.specs.Prelude.{IfSome, IfOk, IsOk, Ok, Option, Result}
+use Rattle.qcow2_image.specs.Clearing.{IsUnderMapping}
+use Rattle.qcow2_session.proofs.session.write_some.Goals as goal
+use Rattle.std.proofs.Common.{◌≡◌, sym, subst, ap, ◌∙◌, Err, [], ◌∷◌, Some, None, min, length, refl, arith, ℕ, ◌+◌, ◌<◌, ◌≤◌, ⊎_elim, List, inl, inr, take, true, false}
+use Rattle.std.specs.Prelude.{IfSome, IfOk, IsOk, Ok, Option, Result, IfErr, is_some}
 use Rattle.qcow2_disk.specs.Mappings.{given_of}
 use Rattle.qcow2_disk.specs.AbstractImages.{Setting, guest_of}
-use Rattle.qcow2_image.specs.Calls.{refusal_of, Commits}
+use Rattle.qcow2_image.specs.Calls.{refusal_of, Commits, reason_of}
 use Rattle.qcow2_image.specs.Image.{is_failed, is_writable, number_of, size_of}
-use Rattle.qcow2_image.specs.Prepared.{IsHandedBackBy, image_of, length_of}
-use Rattle.qcow2_image.specs.Refusals.{refuses_mapping, refuses_to_prepare}
+use Rattle.qcow2_image.specs.Prepared.{IsHandedBackBy, image_of, length_of, guest_offset_of, offset_of, table_of}
+use Rattle.qcow2_image.specs.Refusals.{refuses_mapping, refuses_to_prepare, IsMet, IsMetPreparing, MarksRefused}
 use Rattle.qcow2_image.specs.declared.prepared.CommitRefused.TheVariants.{Kept}
 use Rattle.qcow2_image.specs.ImageInvariant.{abstract_of, image_abstraction}
 use Rattle.qcow2_session.specs.Sessions.{cluster_size_of, WritesFirst}
+use Rattle.qcow2_session.proofs.Bytes.{cut_long, cut_part, cut_short}
 use Rattle.qcow2_session.proofs.Chunks.{may_write_none, put_refused, written, commit_old_tables, commit_kept}
 use Rattle.qcow2_session.proofs.Writing.{chunk_ends}
+use Rattle.qcow2_session.proofs.WrittenParts.{no_more_then}
 use Rattle.qcow2_image.proofs.Free.{free_places}
 use Rattle.qcow2_session.proofs.Told.{none_refused}
 use Rattle.qcow2_session.proofs.Turns.{refused_is, none_within, refuses_if, refuses_less, nothing_refused}
 use Rattle.qcow2_image.proofs.Map.Unmodified.{read_same, read_then}
 use Rattle.qcow2_session.proofs.Unwritten.{nothing_prepared, prepare_same, put_same, read_release_prepared}
 use Rattle.qcow2_image.specs.declared.image.Qcow2.{Qcow2}
-use Rattle.std.proofs.Common.{ℕ, ◌+◌, ◌<◌, ◌≤◌, ⊎_elim, List, inl, inr, take, true}
-use Rattle.std.specs.Prelude.{IfErr}
-use Rattle.std.proofs.lemmas.Bool.{cases_lt}
+use Rattle.std.proofs.lemmas.Bool.{cases_Bool, cases_lt}
 use Rattle.std.proofs.lemmas.Nat.{pow_pos}
-use Rattle.qcow2_image.specs.Preparing.{IsOfNothing}
+use Rattle.qcow2_image.specs.Preparing.{IsOfNothing, IsTaken}
 use Rattle.qcow2_image.specs.declared.prepared.Prepared.{Prepared}
 use Rattle.std.proofs.lemmas.Grind.{common_steps}
 use Rattle.qcow2_alloc.specs.declared.error.ImageError.{ImageError}
-use Rattle.qcow2_alloc.specs.declared.error.ImageError.TheVariants.{TablePrepared}
-use Rattle.qcow2_image.specs.Calls.{reason_of}
-use Rattle.qcow2_image.specs.Clearing.{IsUnderMapping}
-use Rattle.qcow2_image.specs.Refusals.{IsMet, IsMetPreparing}
+use Rattle.qcow2_alloc.specs.declared.error.ImageError.TheVariants.{Limit, TablePrepared}
 use Rattle.qcow2_session.proofs.Parts.{mapping_usable, not_failed_yet, prepares_usable, prepares_within, prepares_writable, put_met, under_taken}
 use Rattle.qcow2_alloc.specs.ImageError.{IsOfTables}
 use Rattle.qcow2_image.proofs.Call.MetErrors.{tables_met}
-use Rattle.qcow2_image.specs.Refusals.{MarksRefused}
 use Rattle.qcow2_session.proofs.Marking.{fails_before, fails_behind, hands_on, refused_marks}
 use Rattle.qcow2_image.proofs.Call.BehindHeader.{behind_then}
 use Rattle.qcow2_alloc.proofs.KeptTables.AllWritten.{written_then}
 use Rattle.qcow2_session.proofs.Quiet.{quiet_commit, quiet_image, quiet_release}
-use Rattle.std.specs.Prelude.{is_some}
 use Rattle.qcow2_image.specs.CallParts.{AreCopied}
-use Rattle.qcow2_image.specs.Prepared.{guest_offset_of, offset_of, table_of}
 use Rattle.qcow2_session.proofs.Copied.{entered_copied, existing_or_not, kept_copied}
 use Rattle.qcow2_alloc.specs.ImageFile.{known_in}
+use Rattle.qcow2_image.proofs.Call.Unlimited.{fault_unlimited}
+use Rattle.qcow2_image.proofs.Prepare.Lacked.{other_limit}
 use Rattle.qcow2_image.proofs.Sizing.Shrinking.{fault_of}
-use Rattle.qcow2_image.specs.MetAlone.{CopiesCompressed, IsCacheHeld, IsMetAlone}
-use Rattle.qcow2_session.proofs.MetOnSound.{existing_found, existing_long, existing_near, met_behind, put_alone}
-use Rattle.qcow2_session.proofs.session.write_some.Goals as goal
+use Rattle.qcow2_image.specs.L1Entries.{NeedsFarEntry}
+use Rattle.qcow2_image.specs.LackedPlaces.{LacksPlaceFor}
+use Rattle.qcow2_image.specs.MetAlone.{CopiesCompressed, IsCacheHeld, IsMetTaking}
+use Rattle.qcow2_session.proofs.MetOnSound.{existing_found, existing_long, existing_near, put_unlimited, compressed_behind, put_looking}
+use Rattle.qcow2_image.proofs.Grow.NoLonger.{length_then, no_longer_told}
+use Rattle.qcow2_metadata.specs.Header.{HeaderView}
+use Rattle.qcow2_image.specs.Backings.{HasPrepared}
+use Rattle.qcow2_image.proofs.Prepare.MetTaking.{taking_as}
 
 -- what refused a call that begins another one before any work refused that one
 one_cause : {A E : Type 0} (r : Result A E) (e x : E) → r ≡ Err e → r ≡ Err x → e ≡ x
@@ -64,6 +67,13 @@ none_long old offset n new r p early nothing was zero = (subst (λ x. IfOk x IsO
     unrefused None refuses = refl
     unrefused (Some e) refuses = absurd (let no : Ok p ≡ Err e = sym was ∙ refuses.0 in cc)
 
+-- no bytes are put into a mapping where none were to be prepared, or it has none
+none_of_none : (k n m : ℕ) → k ≡ min n m → (n ≡ 0 → m ≡ 0) → k ≡ 0 → m ≡ 0
+none_of_none k n m long none zero = elim (cases_lt 0 n) [
+  | inl some ↦ omega (arith, long, some, zero)
+  | inr least ↦ none (omega (arith, least))
+]
+
 pub returns-in_err-prepared-clause-sees : goal.returns-in_err-prepared-clause-sees
 returns-in_err-prepared-clause-sees g c =
     let view = g.S.Storage.view in
@@ -80,17 +90,23 @@ returns-in-Err-clause-sees g c = λ out.
     let view = g.S.Storage.view in
     let below = g.F.BackingDisk.backing in
     let p = c.in_ok-prepared.prepared in
-    put_refused (image_abstraction view below) (free_places view below) (λ _. refl) c.args.image.now c.prepare_data_mapping.new.self p out c.args.offset c.min-count.result c.args.bytes.now
-    (c.min-count.ensures ∙ ap (λ k. min (length c.args.bytes.now) k) c.length.ensures) (pow_pos c.args.image.now.file.header.fields.cluster_bits) (none_long c.args.image.now c.args.offset (length c.args.bytes.now) c.prepare_data_mapping.new.self c.prepare_data_mapping.result p c.prepare_data_mapping.ensures.early c.prepare_data_mapping.ensures.nothing c.in_ok-prepared.was) (c.in_ok-prepared.ensures.sees (None ∷ out) 0 refl)
+    put_refused (image_abstraction view below) (free_places view below) (λ _. refl) c.args.image.now c.prepare_data_mapping.new.self p out c.args.offset (length c.args.bytes.now) c.args.bytes.now (take c.min-count.result c.args.bytes.now)
+    (cut_long c.min-count.result (length_of p) c.args.bytes.now (c.min-count.ensures ∙ ap (λ k. min (length c.args.bytes.now) k) c.length.ensures)) (cut_short c.min-count.result c.args.bytes.now) (cut_part c.min-count.result c.args.bytes.now) (pow_pos c.args.image.now.file.header.fields.cluster_bits) (none_long c.args.image.now c.args.offset (length c.args.bytes.now) c.prepare_data_mapping.new.self c.prepare_data_mapping.result p c.prepare_data_mapping.ensures.early c.prepare_data_mapping.ensures.nothing c.in_ok-prepared.was) (λ past. past) (c.in_ok-prepared.ensures.sees (None ∷ out) 0 refl)
     c.write_mapped.new.self c.release.new.image (refusal_of c.in-Err.refusal) (c.in-Err.ensures.sees (Some p ∷ out) 0 refl) (c.release.ensures.sees (Some p ∷ out) 0 refl)
 
 pub returns-in-Ok-clause-sees : goal.returns-in-Ok-clause-sees
 returns-in-Ok-clause-sees g c = λ out.
     let view = g.S.Storage.view in
     let below = g.F.BackingDisk.backing in
+    let old = c.args.image.now in
+    let mid = c.prepare_data_mapping.new.self in
     let p = c.in_ok-prepared.prepared in
-    written (image_abstraction view below) (free_places view below) (λ _. refl) c.args.image.now c.prepare_data_mapping.new.self p out c.args.offset c.min-count.result c.args.bytes.now
-    (c.min-count.ensures ∙ ap (λ k. min (length c.args.bytes.now) k) c.length.ensures) (pow_pos c.args.image.now.file.header.fields.cluster_bits) (none_long c.args.image.now c.args.offset (length c.args.bytes.now) c.prepare_data_mapping.new.self c.prepare_data_mapping.result p c.prepare_data_mapping.ensures.early c.prepare_data_mapping.ensures.nothing c.in_ok-prepared.was) (c.in_ok-prepared.ensures.sees (None ∷ out) 0 refl)
+    let n = length c.args.bytes.now in
+    let count = c.min-count.result in
+    let chunk = take count c.args.bytes.now in
+    let long : length chunk ≡ min n (length_of p) = cut_long count (length_of p) c.args.bytes.now (c.min-count.ensures ∙ ap (λ k. min n k) c.length.ensures) in
+    written (image_abstraction view below) (free_places view below) (λ _. refl) old mid p out c.args.offset n chunk chunk long (omega arith) (λ i lt. refl) (pow_pos old.file.header.fields.cluster_bits)
+    (none_of_none (length chunk) n (length_of p) long (none_long old c.args.offset n mid c.prepare_data_mapping.result p c.prepare_data_mapping.ensures.early c.prepare_data_mapping.ensures.nothing c.in_ok-prepared.was)) (λ past. omega (arith, past, long)) (c.in_ok-prepared.ensures.sees (None ∷ out) 0 refl)
     c.write_mapped.new.self (c.in_default.ensures.sees (Some p ∷ out) 0 refl) c.commit_data_mapping.new.self (c.in-Ok.ensures.sees (Some p ∷ out) 0 refl)
 
 pub returns-in-Err-Spent-clause-sees : goal.returns-in-Err-Spent-clause-sees
@@ -99,8 +115,8 @@ returns-in-Err-Spent-clause-sees g c = λ out.
     let below = g.F.BackingDisk.backing in
     let p = c.in_ok-prepared.prepared in
     let refused = subst (λ r. Commits view below c.write_mapped.new.self c.commit_data_mapping.new.self p (Err r)) c.in-Err-Spent.field-0-is c.in-Err-Spent.ensures.sees (Some p ∷ out) 0 refl in
-    commit_old_tables (image_abstraction view below) (free_places view below) (λ _. refl) c.args.image.now c.prepare_data_mapping.new.self p out c.args.offset c.min-count.result c.args.bytes.now
-    (c.min-count.ensures ∙ ap (λ k. min (length c.args.bytes.now) k) c.length.ensures) (pow_pos c.args.image.now.file.header.fields.cluster_bits) (none_long c.args.image.now c.args.offset (length c.args.bytes.now) c.prepare_data_mapping.new.self c.prepare_data_mapping.result p c.prepare_data_mapping.ensures.early c.prepare_data_mapping.ensures.nothing c.in_ok-prepared.was) (c.in_ok-prepared.ensures.sees (None ∷ out) 0 refl)
+    commit_old_tables (image_abstraction view below) (free_places view below) (λ _. refl) c.args.image.now c.prepare_data_mapping.new.self p out c.args.offset (length c.args.bytes.now) c.args.bytes.now (take c.min-count.result c.args.bytes.now)
+    (cut_long c.min-count.result (length_of p) c.args.bytes.now (c.min-count.ensures ∙ ap (λ k. min (length c.args.bytes.now) k) c.length.ensures)) (cut_short c.min-count.result c.args.bytes.now) (cut_part c.min-count.result c.args.bytes.now) (pow_pos c.args.image.now.file.header.fields.cluster_bits) (none_long c.args.image.now c.args.offset (length c.args.bytes.now) c.prepare_data_mapping.new.self c.prepare_data_mapping.result p c.prepare_data_mapping.ensures.early c.prepare_data_mapping.ensures.nothing c.in_ok-prepared.was) (λ past. past) (c.in_ok-prepared.ensures.sees (None ∷ out) 0 refl)
     c.write_mapped.new.self (c.in_default.ensures.sees (Some p ∷ out) 0 refl) c.commit_data_mapping.new.self (refusal_of c.in-Err-Spent.refusal) refused.0 refused.1
 
 pub returns-in-Err-Kept-clause-sees : goal.returns-in-Err-Kept-clause-sees
@@ -110,8 +126,8 @@ returns-in-Err-Kept-clause-sees g c = λ out.
     let p = c.in_ok-prepared.prepared in
     let same : c.in-Err-Kept.prepared ≡ p = subst (λ r. IsHandedBackBy p r) c.in-Err-Kept.field-0-is c.in-Err-Kept.ensures.kept in
     let refused = subst (λ r. Commits view below c.write_mapped.new.self c.commit_data_mapping.new.self p (Err r)) (c.in-Err-Kept.field-0-is ∙ ap (λ q. Kept c.in-Err-Kept.refusal q) same) c.in-Err-Kept.ensures.sees (Some p ∷ out) 0 refl in
-    commit_kept (image_abstraction view below) (free_places view below) (λ _. refl) c.args.image.now c.prepare_data_mapping.new.self p out c.args.offset c.min-count.result c.args.bytes.now
-    (c.min-count.ensures ∙ ap (λ k. min (length c.args.bytes.now) k) c.length.ensures) (pow_pos c.args.image.now.file.header.fields.cluster_bits) (none_long c.args.image.now c.args.offset (length c.args.bytes.now) c.prepare_data_mapping.new.self c.prepare_data_mapping.result p c.prepare_data_mapping.ensures.early c.prepare_data_mapping.ensures.nothing c.in_ok-prepared.was) (c.in_ok-prepared.ensures.sees (None ∷ out) 0 refl)
+    commit_kept (image_abstraction view below) (free_places view below) (λ _. refl) c.args.image.now c.prepare_data_mapping.new.self p out c.args.offset (length c.args.bytes.now) c.args.bytes.now (take c.min-count.result c.args.bytes.now)
+    (cut_long c.min-count.result (length_of p) c.args.bytes.now (c.min-count.ensures ∙ ap (λ k. min (length c.args.bytes.now) k) c.length.ensures)) (cut_short c.min-count.result c.args.bytes.now) (cut_part c.min-count.result c.args.bytes.now) (pow_pos c.args.image.now.file.header.fields.cluster_bits) (none_long c.args.image.now c.args.offset (length c.args.bytes.now) c.prepare_data_mapping.new.self c.prepare_data_mapping.result p c.prepare_data_mapping.ensures.early c.prepare_data_mapping.ensures.nothing c.in_ok-prepared.was) (λ past. past) (c.in_ok-prepared.ensures.sees (None ∷ out) 0 refl)
     c.write_mapped.new.self (c.in_default.ensures.sees (Some p ∷ out) 0 refl) c.commit_data_mapping.new.self c.release-in-Err-Kept.new.image (refusal_of c.in-Err-Kept.refusal) refused.0 refused.1
     (c.release-in-Err-Kept.ensures.sees (Some p ∷ out) 0 (ap (λ q. Some (Some q)) (sym same)))
 
@@ -271,13 +287,13 @@ pub returns-in_err-prepared-clause-taken : goal.returns-in_err-prepared-clause-t
 returns-in_err-prepared-clause-taken g c = λ none out sound.
     let old = c.args.image.now in
     let n = length c.args.bytes.now in
-    subst (λ r. IfErr r (λ (e : ImageError). e ≡ TablePrepared → (0 < n) × IsUnderMapping old.file.header.fields c.args.offset out)) (sym (refused_is _ c.in_err-prepared.field-0.0 c.from_residual.ensures))
+    subst (λ r. IfErr r (λ (e : ImageError). e ≡ TablePrepared → (0 < n) × IsTaken old.file.header.fields (known_in g.S.Storage.view old.file) c.args.offset n out)) (sym (refused_is _ c.in_err-prepared.field-0.0 c.from_residual.ensures))
     (λ is. (
       elim (cases_lt 0 n) [
         | inl some ↦ some
         | inr least ↦ absurd (let empty : n ≡ 0 = omega (arith, least) in let no = (c.in_err-prepared.ensures.nothing (ap (λ k. refuses_to_prepare old c.args.offset k) (sym empty) ∙ none) empty).0 in cc)
       ],
-      under_taken (c.in_err-prepared.ensures.taken none out sound is),
+      c.in_err-prepared.ensures.taken none out sound is,
     ))
 
 pub returns-in-Err-clause-taken : goal.returns-in-Err-clause-taken
@@ -430,7 +446,7 @@ returns-in-Ok-clause-copied g c = λ some out sound.
     subst (λ k. AreCopied view k (k + count) new) from_is left
 
 pub returns-in_err-prepared-clause-met : goal.returns-in_err-prepared-clause-met
-returns-in_err-prepared-clause-met g c = λ none out sound free.
+returns-in_err-prepared-clause-met g c = λ none out sound.
     let view = g.S.Storage.view in
     let below = g.F.BackingDisk.backing in
     let old = c.args.image.now in
@@ -439,11 +455,11 @@ returns-in_err-prepared-clause-met g c = λ none out sound free.
     let e = c.in_err-prepared.field-0.0 in
     let some = some_bytes n (λ empty. let no = (c.in_err-prepared.ensures.nothing (ap (λ k. refuses_to_prepare old c.args.offset k) (sym empty) ∙ none) empty).0 in absurd cc) in
     let call = c.in_err-prepared.ensures.sees out in
-    subst (λ r. IfErr r (IsMetAlone (CopiesCompressed c.args.offset n true new.file.header.fields (known_in view new.file)) (Unit {0}))) (sym (refused_is _ e c.from_residual.ensures))
-    (⊎_elim (λ still. met_behind view below out old new sound still.0 (call.acts.works sound) c.args.offset n _ e (c.in_err-prepared.ensures.met none some out sound free)) (λ failed. inl (inl (fault_of e failed.0))) (call.answer sound))
+    subst (λ r. IfErr r (IsMetTaking (HasPrepared out) (IsUnderMapping old.file.header.fields c.args.offset out) (CopiesCompressed c.args.offset n true new.file.header.fields (known_in view new.file)) (NeedsFarEntry old c.args.offset))) (sym (refused_is _ e c.from_residual.ensures))
+    (⊎_elim (λ still. taking_as (λ held. held) (λ taken. under_taken taken) (compressed_behind view below out old new sound still.0 (call.acts.works sound) c.args.offset n) (λ far. far) e (c.in_err-prepared.ensures.met none some out sound)) (λ failed. inl (inl (inl (fault_of e failed.0)))) (call.answer sound))
 
 pub returns-in-Err-clause-met : goal.returns-in-Err-clause-met
-returns-in-Err-clause-met g c = λ none out sound free.
+returns-in-Err-clause-met g c = λ none out sound.
     let view = g.S.Storage.view in
     let below = g.F.BackingDisk.backing in
     let old = c.args.image.now in
@@ -464,22 +480,22 @@ returns-in-Err-clause-met g c = λ none out sound free.
     let whole = existing_long view below out old mid p offset n prepared.0 same maps some existing in
     let count_is : count ≡ min n (length_of p) = c.min-count.ensures ∙ ap (λ k. min n k) c.length.ensures in
     chunk_long count (length_of p) c.args.bytes.now count_is ∙ (grind (arith, common_steps, count_is, whole)) in
-    inl (inl (put_alone (IsCacheHeld mid (Some p ∷ out)) out p c.in-Err.refusal (λ held. held.1) free (λ existing. existing_near view below out old mid p offset n prepared.0 same maps some existing)
+    elim (put_looking (IsCacheHeld mid (Some p ∷ out)) out p c.in-Err.refusal (λ held. held.1) (λ existing. existing_near view below out old mid p offset n prepared.0 same maps some existing)
     (λ existing outdated. c.in-Err.ensures.outdated existing (Some p ∷ out) prepared.0 (ap Err outdated) (existing_found view below out old mid p offset n prepared.0 same maps some existing fits prepared.1.0.from (length (take count c.args.bytes.now)) (long existing)))
-    (c.in-Err.ensures.met (Some p ∷ out) 0 refl prepared.0 (c.prepare_data_mapping.ensures.image.writable ∙ prepares_writable old offset n none some))))
+    (c.in-Err.ensures.met (Some p ∷ out) 0 refl prepared.0 (c.prepare_data_mapping.ensures.image.writable ∙ prepares_writable old offset n none some))) [ inl fault ↦ inl (inl (inl fault)) | inr used ↦ inr (inl used) ]
 
 pub returns-in-Err-Spent-clause-met : goal.returns-in-Err-Spent-clause-met
-returns-in-Err-Spent-clause-met g c = λ none out sound free.
+returns-in-Err-Spent-clause-met g c = λ none out sound.
     let view = g.S.Storage.view in
     let below = g.F.BackingDisk.backing in
     let p = c.in_ok-prepared.prepared in
     let prepared = (c.in_ok-prepared.ensures.sees (None ∷ out) 0 refl).answer ((free_places view below).free c.args.image.now [] out sound) in
     let ready = (c.in_default.ensures.sees (Some p ∷ out) 0 refl).answer prepared.0 in
     let refused = subst (λ r. Commits view below c.write_mapped.new.self c.commit_data_mapping.new.self p (Err r)) c.in-Err-Spent.field-0-is c.in-Err-Spent.ensures.sees (Some p ∷ out) 0 refl in
-    inl (inl (fault_of c.in-Err-Spent.refusal (refused.0 ready.0)))
+    inl (inl (inl (fault_of c.in-Err-Spent.refusal (refused.0 ready.0))))
 
 pub returns-in-Err-Kept-clause-met : goal.returns-in-Err-Kept-clause-met
-returns-in-Err-Kept-clause-met g c = λ none out sound free.
+returns-in-Err-Kept-clause-met g c = λ none out sound.
     let view = g.S.Storage.view in
     let below = g.F.BackingDisk.backing in
     let p = c.in_ok-prepared.prepared in
@@ -487,4 +503,81 @@ returns-in-Err-Kept-clause-met g c = λ none out sound free.
     let prepared = (c.in_ok-prepared.ensures.sees (None ∷ out) 0 refl).answer ((free_places view below).free c.args.image.now [] out sound) in
     let ready = (c.in_default.ensures.sees (Some p ∷ out) 0 refl).answer prepared.0 in
     let refused = subst (λ r. Commits view below c.write_mapped.new.self c.commit_data_mapping.new.self p (Err r)) (c.in-Err-Kept.field-0-is ∙ ap (λ q. Kept c.in-Err-Kept.refusal q) same) c.in-Err-Kept.ensures.sees (Some p ∷ out) 0 refl in
-    inl (inl (fault_of c.in-Err-Kept.refusal (refused.0 ready.0)))
+    inl (inl (inl (fault_of c.in-Err-Kept.refusal (refused.0 ready.0))))
+
+pub returns-in_err-prepared-clause-no_longer : goal.returns-in_err-prepared-clause-no_longer
+returns-in_err-prepared-clause-no_longer g c = λ out sound. no_longer_told g.S.Storage.view g.F.BackingDisk.backing out c.args.offset c.args.image.now c.prepare_data_mapping.new.self sound c.prepare_data_mapping.ensures.no_longer
+
+pub returns-in-Err-clause-no_longer : goal.returns-in-Err-clause-no_longer
+returns-in-Err-clause-no_longer g c = λ out sound. no_longer_told g.S.Storage.view g.F.BackingDisk.backing out c.args.offset c.args.image.now c.release.new.image sound (length_then (length_then c.prepare_data_mapping.ensures.no_longer (ap (λ (v : HeaderView). v.fields.l1_entries) c.write_mapped.ensures.header)) (ap (λ (v : HeaderView). v.fields.l1_entries) c.release.ensures.header))
+
+pub returns-in-Ok-clause-no_longer : goal.returns-in-Ok-clause-no_longer
+returns-in-Ok-clause-no_longer g c = λ out sound. no_longer_told g.S.Storage.view g.F.BackingDisk.backing out c.args.offset c.args.image.now c.commit_data_mapping.new.self sound (length_then (length_then c.prepare_data_mapping.ensures.no_longer (ap (λ (v : HeaderView). v.fields.l1_entries) c.write_mapped.ensures.header)) (ap (λ (v : HeaderView). v.fields.l1_entries) c.commit_data_mapping.ensures.header))
+
+pub returns-in-Err-Spent-clause-no_longer : goal.returns-in-Err-Spent-clause-no_longer
+returns-in-Err-Spent-clause-no_longer g c = λ out sound. no_longer_told g.S.Storage.view g.F.BackingDisk.backing out c.args.offset c.args.image.now c.commit_data_mapping.new.self sound (length_then (length_then c.prepare_data_mapping.ensures.no_longer (ap (λ (v : HeaderView). v.fields.l1_entries) c.write_mapped.ensures.header)) (ap (λ (v : HeaderView). v.fields.l1_entries) c.commit_data_mapping.ensures.header))
+
+pub returns-in-Err-Kept-clause-no_longer : goal.returns-in-Err-Kept-clause-no_longer
+returns-in-Err-Kept-clause-no_longer g c = λ out sound.
+    no_longer_told g.S.Storage.view g.F.BackingDisk.backing out c.args.offset c.args.image.now c.release-in-Err-Kept.new.image sound (length_then (length_then (length_then c.prepare_data_mapping.ensures.no_longer (ap (λ (v : HeaderView). v.fields.l1_entries) c.write_mapped.ensures.header)) (ap (λ (v : HeaderView). v.fields.l1_entries) c.commit_data_mapping.ensures.header)) (ap (λ (v : HeaderView). v.fields.l1_entries) c.release-in-Err-Kept.ensures.header))
+
+pub returns-in_err-prepared-clause-limit : goal.returns-in_err-prepared-clause-limit
+returns-in_err-prepared-clause-limit g c = λ none out sound.
+    let old = c.args.image.now in
+    let n = length c.args.bytes.now in
+    let some = some_bytes n (λ empty. let no = (c.in_err-prepared.ensures.nothing (ap (λ k. refuses_to_prepare old c.args.offset k) (sym empty) ∙ none) empty).0 in absurd cc) in
+    subst (λ r. IfErr r (λ (e : ImageError). e ≡ Limit → LacksPlaceFor g.S.Storage.view c.args.offset n old c.prepare_data_mapping.new.self)) (sym (refused_is _ c.in_err-prepared.field-0.0 c.from_residual.ensures))
+    (c.in_err-prepared.ensures.limit none some out sound)
+
+pub returns-in-Err-clause-limit : goal.returns-in-Err-clause-limit
+returns-in-Err-clause-limit g c = λ none out sound.
+    let old = c.args.image.now in
+    let p = c.in_ok-prepared.prepared in
+    let n = length c.args.bytes.now in
+    let usable = mapping_usable old c.prepare_data_mapping.new.self c.prepare_data_mapping.ensures.image (image_of p) c.in_ok-prepared.ensures.own c.in_ok-prepared.ensures.marks (prepares_usable old c.args.offset n none) in
+    let some : 0 < n = some_bytes n (λ empty. let no = (c.in-Err.ensures.nothing usable (grind (arith, common_steps))).0 in absurd cc) in
+    let prepared = (c.in_ok-prepared.ensures.sees (None ∷ out) 0 refl).answer ((free_places g.S.Storage.view g.F.BackingDisk.backing).free old [] out sound) in
+    other_limit _ c.in-Err.refusal (put_unlimited _ p 0 c.in-Err.refusal (c.in-Err.ensures.met (Some p ∷ out) 0 refl prepared.0 (c.prepare_data_mapping.ensures.image.writable ∙ prepares_writable old c.args.offset n none some)))
+
+pub returns-in-Err-Spent-clause-limit : goal.returns-in-Err-Spent-clause-limit
+returns-in-Err-Spent-clause-limit g c = λ none out sound.
+    let view = g.S.Storage.view in
+    let below = g.F.BackingDisk.backing in
+    let p = c.in_ok-prepared.prepared in
+    let prepared = (c.in_ok-prepared.ensures.sees (None ∷ out) 0 refl).answer ((free_places view below).free c.args.image.now [] out sound) in
+    let ready = (c.in_default.ensures.sees (Some p ∷ out) 0 refl).answer prepared.0 in
+    let refused = subst (λ r. Commits view below c.write_mapped.new.self c.commit_data_mapping.new.self p (Err r)) c.in-Err-Spent.field-0-is c.in-Err-Spent.ensures.sees (Some p ∷ out) 0 refl in
+    other_limit _ c.in-Err-Spent.refusal (fault_unlimited c.in-Err-Spent.refusal (fault_of c.in-Err-Spent.refusal (refused.0 ready.0)))
+
+pub returns-in-Err-Kept-clause-limit : goal.returns-in-Err-Kept-clause-limit
+returns-in-Err-Kept-clause-limit g c = λ none out sound.
+    let view = g.S.Storage.view in
+    let below = g.F.BackingDisk.backing in
+    let p = c.in_ok-prepared.prepared in
+    let same : c.in-Err-Kept.prepared ≡ p = subst (λ r. IsHandedBackBy p r) c.in-Err-Kept.field-0-is c.in-Err-Kept.ensures.kept in
+    let prepared = (c.in_ok-prepared.ensures.sees (None ∷ out) 0 refl).answer ((free_places view below).free c.args.image.now [] out sound) in
+    let ready = (c.in_default.ensures.sees (Some p ∷ out) 0 refl).answer prepared.0 in
+    let refused = subst (λ r. Commits view below c.write_mapped.new.self c.commit_data_mapping.new.self p (Err r)) (c.in-Err-Kept.field-0-is ∙ ap (λ q. Kept c.in-Err-Kept.refusal q) same) c.in-Err-Kept.ensures.sees (Some p ∷ out) 0 refl in
+    other_limit _ c.in-Err-Kept.refusal (fault_unlimited c.in-Err-Kept.refusal (fault_of c.in-Err-Kept.refusal (refused.0 ready.0)))
+
+pub returns-in-Ok-clause-freeing : goal.returns-in-Ok-clause-freeing
+returns-in-Ok-clause-freeing g c = λ out sound.
+    let view = g.S.Storage.view in
+    let below = g.F.BackingDisk.backing in
+    let old = c.args.image.now in
+    let p = c.in_ok-prepared.prepared in
+    let n = length c.args.bytes.now in
+    let prepared = (c.in_ok-prepared.ensures.sees (None ∷ out) 0 refl).answer ((free_places view below).free old [] out sound) in
+    let ready = (c.in_default.ensures.sees (Some p ∷ out) 0 refl).answer prepared.0 in
+    let own = c.in_ok-prepared.ensures.own ∙ sym (c.write_mapped.ensures.image.number ∙ c.prepare_data_mapping.ensures.image.number) in
+    existing_or_not (table_of p)
+    (λ existing.
+    let none = ap is_some existing in
+    let stays = c.in-Ok.ensures.freeing (Some p ∷ out) 0 refl ready.0 none ∙ c.write_mapped.ensures.freeing in
+    no_more_then old c.prepare_data_mapping.new.self c.commit_data_mapping.new.self (c.in_ok-prepared.ensures.freeing out sound none) (inl stays))
+    (λ table. elim (cases_Bool (is_writable old)) [
+      | inl writable ↦ inr (c.in-Ok.ensures.emptied own table (c.write_mapped.ensures.image.writable ∙ c.prepare_data_mapping.ensures.image.writable ∙ writable))
+      | inr reading ↦
+          let nothing = nothing_prepared old reading _ p c.args.offset n c.in_ok-prepared.ensures.early c.in_ok-prepared.ensures.nothing in
+          absurd (let no : false ≡ true = sym nothing.0 ∙ table in cc)
+    ])

@@ -56,8 +56,8 @@ returns-in-Err-clause-causes g c = λ before found.
     (then_early (refuses_to_resize old) (nat_lt (size_of old) c.args.size && takes_over old c.args.mode) Preallocation _ (begun_with _ _ _ (refuses_to_resize old) c.in-Err.ensures.early)
     (λ none takes. let t = takes_larger (size_of old) c.args.size (takes_over old c.args.mode) takes in let h = c.in-Err.ensures.preallocation none t.0 t.1 in (same_error h.0, h.1)))
     (λ none. grow_meets e (size_of old) c.args.size (takes_over old c.args.mode) (first none).1 (λ le. let no = (c.in-Err.ensures.no_larger (first none).0 le).0 in absurd cc) (c.in-Err.ensures.late (first none).0))
-    (λ none sound free. elim (cases_lt (size_of old) c.args.size) [
-      | inl larger ↦ grow_meets e (size_of old) c.args.size (takes_over old c.args.mode) (first none).1 (λ le. omega (arith, le, larger)) (c.in-Err.ensures.met (first none).0 larger before sound free)
+    (λ none sound. elim (cases_lt (size_of old) c.args.size) [
+      | inl larger ↦ grow_meets e (size_of old) c.args.size (takes_over old c.args.mode) (first none).1 (λ le. omega (arith, le, larger)) (c.in-Err.ensures.met (first none).0 larger before sound)
       | inr le ↦ absurd (let no = (c.in-Err.ensures.no_larger (first none).0 le).0 in cc)
     ])
     (λ none le. let no = (c.in-Err.ensures.no_larger (first none).0 le).0 in absurd cc)

@@ -47,7 +47,7 @@ returns-in-Err-clause-causes g c = λ before found.
     let old = c.args.image.now in
     let e = c.in-Err.refusal in
     is_refused g.S.Storage.view g.F.BackingDisk.backing old c.resize_shrink.new.self before (C.ResizeShrink c.args.size) e (R.Refused e) (λ is. absurd cc) (λ is. absurd cc, λ is. absurd is) refl (begun_with _ _ _ (refuses_to_resize old) c.in-Err.ensures.early)
-    (λ none. (c.in-Err.ensures.late none).cause) (λ _ _ _. tt) (λ none le. let no = (c.in-Err.ensures.no_smaller none le).0 in absurd cc)
+    (λ none. (c.in-Err.ensures.late none).cause) (λ _ _. tt) (λ none le. let no = (c.in-Err.ensures.no_smaller none le).0 in absurd cc)
     (λ none sound smaller. (λ is. (c.in-Err.ensures.late none).prepared (some_error is) before sound, λ prepared. let same = (c.in-Err.ensures.prepared none smaller before sound prepared).0 in cc))
 
 pub returns-in-Err-clause-marks : goal.returns-in-Err-clause-marks

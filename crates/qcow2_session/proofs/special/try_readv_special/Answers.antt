@@ -20,7 +20,7 @@ pub returns-in-Err-clause-causes : goal.returns-in-Err-clause-causes
 returns-in-Err-clause-causes g c = λ before found.
     is_refused g.S.Storage.view g.F.BackingDisk.backing c.args.image.now c.try_range.new.image before (C.TryReadvSpecial c.args.offset c.args.length) c.in-Err.refusal (R.Refused c.in-Err.refusal)
     (λ is. absurd cc) (λ is. absurd cc, λ is. absurd is) refl (begun_with _ _ _ (unusable c.args.image.now) c.in-Err.ensures.early)
-    (λ none. (c.in-Err.ensures.late none).0) (λ _ _ _. tt) (λ none empty. let some = (c.in-Err.ensures.late none).1 in omega (arith, some, empty)) (λ _ sound. c.in-Err.ensures.met before sound)
+    (λ none. (c.in-Err.ensures.late none).0) (λ _ _. tt) (λ none empty. let some = (c.in-Err.ensures.late none).1 in omega (arith, some, empty)) (λ _ sound. c.in-Err.ensures.met before sound)
 
 pub returns-in-Ok-clause-tells : goal.returns-in-Ok-clause-tells
 returns-in-Ok-clause-tells g c = λ before. c.in-Ok.ensures.answer
