@@ -5,3 +5,4 @@ pub mod Exported
 pub mod Texts
 pub mod Counted
 pub mod Making
+pub mod Refused

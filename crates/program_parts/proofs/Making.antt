@@ -79,6 +79,13 @@ module _ (n : ℕ) (v w : AbstractImage) (given : List GivenBytes) (opened : IsO
       passes_if (λ c. IsImageOfSize n (byte_at c)) (λ c kept. size_stays n (stored_bytes v) image below given (byte_at c) kept)
       ((acts.works opened.sound).stops m (start, subst (StopOkEverywhere below m) (sym opened.clean) start)).moments
 
+  pub once_filled : IsImageOfSize n (stored_bytes w)
+  once_filled =
+      let below = v.setting.backing in
+      let m = checkpoint_at (disk (stored_bytes v) below) (stored_bytes v) in
+      let start : StopOkEverywhere below m (stored_bytes v) = starts n (stored_bytes v) image below in
+      size_stays n (stored_bytes v) image below given (stored_bytes w) ((acts.works opened.sound).stops m (start, subst (StopOkEverywhere below m) (sym opened.clean) start)).contents
+
   pub counts_filled : count_width (header (stored_bytes w)) ≡ count_width (header (stored_bytes v))
   counts_filled =
       let below = v.setting.backing in
@@ -96,6 +103,11 @@ module _ {S F : Type 0} (view : S → StorageView) (backing : F → BackingView)
       → IsImageOfSize n (byte_at (view (storage_of_image old)).contents) → EachMomentSince (view (storage_of_image old)) (view (storage_of_image new)) (λ c. IsImageOfSize n (byte_at c))
   while_imported n result any opened image =
       while_filled n (abstract_of view backing old []) (abstract_of view backing new []) (given_of 0 any.0 ∷ []) opened (imports_acts any.0 result any.2) image
+
+  pub once_imported : (n : ℕ) (result : Result ℕ ImageError) → ImportsAny view backing old new result → IsOpened (abstract_of view backing old [])
+      → IsImageOfSize n (byte_at (view (storage_of_image old)).contents) → IsImageOfSize n (byte_at (view (storage_of_image new)).contents)
+  once_imported n result any opened image =
+      once_filled n (abstract_of view backing old []) (abstract_of view backing new []) (given_of 0 any.0 ∷ []) opened (imports_acts any.0 result any.2) image
 
   pub counts_imported : (n : ℕ) (bytes : List ℕ) (result : Result ℕ ImageError) → Imports view backing old new bytes result → IsOpened (abstract_of view backing old [])
       → IsImageOfSize n (byte_at (view (storage_of_image old)).contents) → count_width (header (byte_at (view (storage_of_image new)).contents)) ≡ count_width (header (byte_at (view (storage_of_image old)).contents))

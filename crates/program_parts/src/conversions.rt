@@ -1,17 +1,20 @@
 //! New images, images of raw disks, and raw disks of images.
 ghost use Rattle.qcow2_session.specs.CountedFaults.{ConversionCounts};
-ghost use Rattle.std.specs.Prelude.{◌≡◌, ℕ, [], length, IfErr, IfOk, IsTrue, Ok};
+ghost use Rattle.std.specs.Prelude.{◌≡◌, ◌⊎◌, ◌<◌, ℕ, [], length, Err, IfErr, IfOk, IsErrAnd, IsTrue, Ok};
 ghost use Rattle.image_access.specs.Moments.{ContentsStay, EachMomentSince};
 ghost use Rattle.qcow2_disk.specs.AbstractImages.{IsOpened};
 ghost use Rattle.qcow2_image.specs.ImageInvariant.{abstract_of};
 ghost use Rattle.qcow2_metadata.specs.Bytes.{byte_at};
 ghost use Rattle.qcow2_metadata.specs.Consistent.{IsConsistent};
-ghost use Rattle.qcow2_image.specs.Image.{HasNothingToFree, IsSameImage, is_writable, storage_of_image};
+ghost use Rattle.qcow2_image.specs.Created.{longest_disk};
+ghost use Rattle.qcow2_image.specs.Image.{HasNothingToFree, IsSameImage, is_writable, size_of, storage_of_image};
 ghost use Rattle.qcow2_image.specs.Opened.{NeedsAnother};
+ghost use Rattle.qcow2_alloc.specs.ImageError.{IsFault};
+ghost use Rattle.qcow2_alloc.specs.declared.error.ImageError.TheVariants.{InvalidOption, Limit};
 ghost use Rattle.qcow2_alloc.specs.Quiet.{IsQuiet};
 ghost use Rattle.qcow2_image.specs.Unwritten.{HoldsSame};
-ghost use Rattle.qcow2_session.specs.Conversions.{Imports, IsLeft, IsOfImporting};
-ghost use Rattle.program_parts.specs.Conversions.{CountsBoth, IsImageOf, IsImageOfSize, IsStopOfMaking, IsExport, KeepsDisk};
+ghost use Rattle.qcow2_session.specs.Conversions.{Imports, IsLeft, IsMetImporting, IsOfImporting};
+ghost use Rattle.program_parts.specs.Conversions.{CountsBoth, IsImageOf, IsImageOfSize, IsLayout, IsMetExporting, IsReasonNotToMake, IsRefusedUntouched, IsStopOfMaking, IsUnopened, IsExport, KeepsDisk, OpensToExport, asked_for};
 
 use image_access::{Storage, WrappedFormat};
 use qcow2_image::{ImageError, NoBacking, Qcow2, Qcow2CreateBuilder};
@@ -34,6 +37,9 @@ pub fn make_image<R: Storage, S: Storage>(
     ensures count { (R.view raw.old).is_honest → IfOk result.1 (λ n. n ≡ length (R.view raw.old).contents) }
     ensures raw { IsLeft (R.view raw.old) (R.view raw.new) }
     ensures stops { (R.view raw.old).is_honest → (S.view storage).is_honest → EachMomentSince (S.view storage) (S.view result.0) (λ c. IsStopOfMaking (length (R.view raw.old).contents) (byte_at c)) }
+    ensures refused { ¬ IsLayout cluster width → IsRefusedUntouched InvalidOption storage result }
+    ensures limit { (R.view raw.old).is_honest → IsLayout cluster width → longest_disk cluster < length (R.view raw.old).contents → IsRefusedUntouched Limit storage result }
+    ensures cause { (R.view raw.old).is_honest → (S.view storage).is_honest → IfErr result.1 (IsReasonNotToMake S.view (asked_for storage (length (R.view raw.old).contents) cluster width) result.0) }
     ensures faults { CountsBoth (S.view storage).faults (S.view result.0).faults (R.view raw.old).faults (R.view raw.new).faults result.1 }
 {
     let size = match raw.size() {
@@ -71,6 +77,8 @@ fn fill<R: Storage, S: Storage, F: WrappedFormat<S>>(
     ensures cause { IfErr result IsOfImporting }
     ensures stops { (n : ℕ) → IsOpened (abstract_of S.view F.backing image.old []) → IsImageOfSize n (byte_at (S.view (storage_of_image image.old)).contents)
         → EachMomentSince (S.view (storage_of_image image.old)) (S.view (storage_of_image image.new)) (λ c. IsImageOfSize n (byte_at c)) }
+    ensures stands { (n : ℕ) → IsOpened (abstract_of S.view F.backing image.old []) → IsImageOfSize n (byte_at (S.view (storage_of_image image.old)).contents) → IsImageOfSize n (byte_at (S.view (storage_of_image image.new)).contents) }
+    ensures met { (R.view raw.old).is_honest → length (R.view raw.old).contents ≡ size_of image.old → IsOpened (abstract_of S.view F.backing image.old []) → IfErr result (IsMetImporting S.view 0 (size_of image.old) image.new []) }
     ensures faults { ConversionCounts S.view F.backing image.old image.new (R.view raw.old).faults (R.view raw.new).faults result }
 {
     let count = to_qcow2(alloc, raw, image)?;
@@ -93,6 +101,8 @@ pub fn make_raw_disk<S: Storage, R: Storage>(
     ensures image { (S.view storage).is_honest → IsConsistent (byte_at (S.view storage).contents) → KeepsDisk (S.view storage) (S.view result.0) }
     ensures unwritten { (S.view storage).is_honest → IsConsistent (byte_at (S.view storage).contents) → HoldsSame (S.view storage) (S.view result.0) }
     ensures another { (S.view storage).is_honest → NeedsAnother (S.view storage).contents → ContentsStay (S.view storage) (S.view result.0) × (raw.new ≡ raw.old) }
+    ensures unreadable { (S.view storage).is_honest → ¬ OpensToExport (S.view storage).contents → IsErrAnd result.1 (IsUnopened (S.view storage).contents raw.old raw.new) }
+    ensures cause { (S.view storage).is_honest → IfErr result.1 (λ e. IsUnopened (S.view storage).contents raw.old raw.new e ⊎ IsMetExporting (S.view storage).contents e) }
     ensures quiet { (S.view storage).is_honest → IsQuiet (S.view storage) (S.view result.0) }
     ensures faults { CountsBoth (S.view storage).faults (S.view result.0).faults (R.view raw.old).faults (R.view raw.new).faults result.1 }
 {
@@ -110,6 +120,7 @@ pub fn make_raw_disk<S: Storage, R: Storage>(
 fn flushed<R: Storage>(raw: &mut R, copied: Result<u64, ImageError>) -> Result<u64, ImageError>
     ensures same { ContentsStay (R.view raw.old) (R.view raw.new) }
     ensures told { IfOk result (λ n. copied ≡ Ok n) }
+    ensures cause { IfErr result (λ e. (copied ≡ Err e) ⊎ IsFault e) }
     ensures faults { (before now raw_before : ℕ) → CountsBoth before now raw_before (R.view raw.old).faults copied → CountsBoth before now raw_before (R.view raw.new).faults result }
 {
     let count = copied?;

@@ -4,16 +4,24 @@ use Rattle.std.specs.Io.KnownBytes.{Appends}
 use Rattle.qcow2_metadata.specs.Bytes.{Bytes}
 use Rattle.qcow2_metadata.specs.Consistent.{IsConsistent}
 use Rattle.qcow2_metadata.specs.Header.{header}
-use Rattle.qcow2_check.specs.Report.{breach_lines, leak_lines}
+use Rattle.qcow2_metadata.specs.declared.error.MetadataError.{MetadataError}
+use Rattle.qcow2_alloc.specs.ImageError.{of_metadata}
+use Rattle.qcow2_check.specs.Report.{IsReasonNotToCheck, breach_lines, leak_lines}
 use Rattle.qcow2_check.specs.declared.report.Breach.{Breach}
 use Rattle.qcow2_check.specs.declared.report.Leak.{Leak}
 use Rattle.program_parts.specs.Reports.{text_of_report}
+use Rattle.qimg_tools.specs.declared.failures.Failure.{Failure}
+use Rattle.qimg_tools.specs.declared.failures.Failure.TheVariants.{Refused, Unprinted}
 
 -- the status for a report of these
 abbrev pub status_of : List Breach → List Leak → ℕ
 status_of [] [] = 0
 status_of [] (leak ∷ leaks) = 3
 status_of (breach ∷ breaches) leaks = 2
+
+-- a status is that of the lines which a report of the image in these bytes has
+abbrev pub IsStatusOfLines : Bytes → ℕ → Type 0
+IsStatusOfLines image status = status ≡ status_of (breach_lines (header image) image) (leak_lines (header image) image)
 
 -- what a status says of the image in these bytes
 pub record IsStatusOf (image : Bytes) (status : ℕ) : Type 0 where
@@ -24,3 +32,8 @@ pub record IsStatusOf (image : Bytes) (status : ℕ) : Type 0 where
 -- the report of the image in these bytes was printed
 abbrev pub IsReported : Bytes → Option (List ℕ) → Option (List ℕ) → Type 0
 IsReported image old new = Appends old new (text_of_report (breach_lines (header image) image) (leak_lines (header image) image))
+
+-- Why there is no status: what there is no report for, told by its number, or that an answer couldn't be printed.
+abbrev pub IsReasonForNoStatus : Bytes → Failure → Type 0
+IsReasonForNoStatus image (Refused e) = (reason : MetadataError) × (e ≡ of_metadata reason) × IsReasonNotToCheck (header image) image reason
+IsReasonForNoStatus image (Unprinted cause) = Unit {0}

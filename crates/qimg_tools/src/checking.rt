@@ -1,8 +1,8 @@
 //! Whether an image is consistent, and which clusters it keeps for nothing.
-ghost use Rattle.std.specs.Prelude.{◌≡◌, ◌≤◌, IfOk, OnOk};
+ghost use Rattle.std.specs.Prelude.{◌≡◌, ◌≤◌, IfErr, IfOk, OnOk};
 ghost use Rattle.image_access.specs.Moments.{ContentsStay};
 ghost use Rattle.qcow2_metadata.specs.Bytes.{byte_at};
-ghost use Rattle.qimg_tools.specs.Statuses.{status_of, IsStatusOf, IsReported};
+ghost use Rattle.qimg_tools.specs.Statuses.{status_of, IsReasonForNoStatus, IsStatusOf, IsStatusOfLines, IsReported};
 ghost use Rattle.qimg_tools.specs.declared.words.Form.TheVariants.{Text};
 
 use crate::failures::Failure;
@@ -34,6 +34,8 @@ pub fn check<S: Storage, W: Write>(
 ) -> Result<u8, Failure>
     ensures bound { IfOk result (λ status. status ≤ 3) }
     ensures status { (S.view storage.old).is_honest → IfOk result (IsStatusOf (byte_at (S.view storage.old).contents)) }
+    ensures lines { (S.view storage.old).is_honest → IfOk result (IsStatusOfLines (byte_at (S.view storage.old).contents)) }
+    ensures cause { (S.view storage.old).is_honest → IfErr result (IsReasonForNoStatus (byte_at (S.view storage.old).contents)) }
     ensures printed { (S.view storage.old).is_honest → form ≡ Text → OnOk result (IsReported (byte_at (S.view storage.old).contents) (W.contents output.old) (W.contents output.new)) }
     ensures reading { ContentsStay (S.view storage.old) (S.view storage.new) }
 {

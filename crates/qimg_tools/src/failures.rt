@@ -20,6 +20,11 @@ impl From<ImageError> for Failure {
 }
 
 impl From<io::Error> for Failure {
+    ghost use Rattle.std.specs.Prelude.{◌≡◌};
+    ghost use Rattle.qimg_tools.specs.declared.failures.Failure.TheVariants.{Unprinted};
+
+    ghost from_gives = { λ cause r. r ≡ Unprinted cause };
+
     fn from(cause: io::Error) -> Failure {
         Failure::Unprinted(cause)
     }

@@ -9,10 +9,20 @@ use Rattle.qcow2_image.specs.declared.builder.Qcow2CreateBuilder.{Qcow2CreateBui
 use Rattle.qcow2_image.specs.Image.{storage_of_image}
 use Rattle.qcow2_image.proofs.Create.NewDisks.{new_disk_consistent}
 use Rattle.program_parts.specs.Conversions.{CountsBoth, IsImageOf, IsImageOfSize, IsStopOfMaking}
-use Rattle.std.proofs.Common.{length}
+use Rattle.std.proofs.Common.{length, ◌<◌}
+use Rattle.qcow2_metadata.specs.declared.header.HeaderFields.{HeaderFields}
 use Rattle.image_access.specs.Moments.{EachMomentSince}
 use Rattle.program_parts.proofs.Imported.{of_ok, ok_both, has_image}
 use Rattle.program_parts.proofs.Making.{counts_imported, counts_opened, new_image, once_opened, then_opened, while_created, while_opened}
+use Rattle.std.proofs.Common.{inl, inr}
+use Rattle.std.specs.Prelude.{IfErr}
+use Rattle.qcow2_alloc.proofs.AllocationSteps.{fault_of_storage}
+use Rattle.qcow2_alloc.specs.ImageError.{IsFault}
+use Rattle.qcow2_alloc.specs.declared.error.ImageError.TheVariants.{InvalidOption, Limit}
+use Rattle.qcow2_image.specs.Created.{IsReasonNotToCreate, IsReasonNotToCreateOpen, longest_disk}
+use Rattle.qcow2_image.proofs.Create.Causes.{fault_reason}
+use Rattle.program_parts.specs.Conversions.{IsMetOnceCreated, IsReasonNotToMake, asked_for}
+use Rattle.program_parts.proofs.Refused.{asked_so, err_then, header_is, met_once_created, no_layout, not_refused, of_err, of_layout, opening_refused, untouched}
 use Rattle.program_parts.proofs.conversions.make_image.Goals as goal
 
 pub returns-in-Ok-open_alone-clause-image : goal.returns-in-Ok-open_alone-clause-image
@@ -153,3 +163,88 @@ returns-in-Ok-open_alone-clause-stops g c = λ raw_honest honest.
     (subst (λ n. EachMomentSince start filled (λ b. IsStopOfMaking n (byte_at b))) size_is
     (then_opened n start opened filled
     (then_opened n start made opened (while_created c.refcount_width.result.preallocate n start made (c.create-storage.ensures.stops from)) (while_opened n made opened first since)) filling)))
+
+pub returns-in-Err-clause-refused : goal.returns-in-Err-clause-refused
+returns-in-Err-clause-refused g c = λ none. (refl, inr (subst IsFault (sym c.from.ensures) (fault_of_storage c.in-Err.e)))
+
+pub returns-in-Err-clause-limit : goal.returns-in-Err-clause-limit
+returns-in-Err-clause-limit g c = λ honest layout long. (refl, inr (subst IsFault (sym c.from.ensures) (fault_of_storage c.in-Err.e)))
+
+pub returns-in-Err-created-clause-refused : goal.returns-in-Err-created-clause-refused
+returns-in-Err-created-clause-refused g c = λ none.
+    let asked = asked_so c.args.storage c.in-Ok.size c.args.cluster c.args.width c.new.result c.size-2.result c.cluster_size.result c.refcount_width.result c.new.ensures c.size-2.ensures c.cluster_size.ensures c.refcount_width.ensures in
+    untouched c.args.storage c.in-Ok.size c.args.cluster c.args.width c.refcount_width.result asked c.create-storage.result.0 c.create-storage.result.1 c.in-Err-created.e InvalidOption c.in-Err-created.is (c.create-storage.ensures.refused (no_layout c.args.storage c.in-Ok.size c.args.cluster c.args.width c.refcount_width.result asked none))
+
+pub returns-in-Err-created-clause-limit : goal.returns-in-Err-created-clause-limit
+returns-in-Err-created-clause-limit g c = λ honest layout long.
+    let asked = asked_so c.args.storage c.in-Ok.size c.args.cluster c.args.width c.new.result c.size-2.result c.cluster_size.result c.refcount_width.result c.new.ensures c.size-2.ensures c.cluster_size.ensures c.refcount_width.ensures in
+    let built = c.refcount_width.result in
+    let far : longest_disk built.cluster_size < built.size = subst (λ (b : Qcow2CreateBuilder g.row.S.Denot). longest_disk b.cluster_size < b.size) (sym asked) (subst (λ n. longest_disk c.args.cluster < n) (sym (c.in-Ok.ensures.size honest)) long) in
+    untouched c.args.storage c.in-Ok.size c.args.cluster c.args.width c.refcount_width.result asked c.create-storage.result.0 c.create-storage.result.1 c.in-Err-created.e Limit c.in-Err-created.is (c.create-storage.ensures.limit (of_layout c.args.storage c.in-Ok.size c.args.cluster c.args.width c.refcount_width.result asked layout) far)
+
+pub returns-in-Err-open_alone-clause-refused : goal.returns-in-Err-open_alone-clause-refused
+returns-in-Err-open_alone-clause-refused g c = λ none.
+    let asked = asked_so c.args.storage c.in-Ok.size c.args.cluster c.args.width c.new.result c.size-2.result c.cluster_size.result c.refcount_width.result c.new.ensures c.size-2.ensures c.cluster_size.ensures c.refcount_width.ensures in
+    not_refused c.create-storage.result.1 c.in_default.field-0 InvalidOption c.in_default.is (c.create-storage.ensures.refused (no_layout c.args.storage c.in-Ok.size c.args.cluster c.args.width c.refcount_width.result asked none))
+
+pub returns-in-Err-open_alone-clause-limit : goal.returns-in-Err-open_alone-clause-limit
+returns-in-Err-open_alone-clause-limit g c = λ honest layout long.
+    let asked = asked_so c.args.storage c.in-Ok.size c.args.cluster c.args.width c.new.result c.size-2.result c.cluster_size.result c.refcount_width.result c.new.ensures c.size-2.ensures c.cluster_size.ensures c.refcount_width.ensures in
+    let built = c.refcount_width.result in
+    let far : longest_disk built.cluster_size < built.size = subst (λ (b : Qcow2CreateBuilder g.row.S.Denot). longest_disk b.cluster_size < b.size) (sym asked) (subst (λ n. longest_disk c.args.cluster < n) (sym (c.in-Ok.ensures.size honest)) long) in
+    not_refused c.create-storage.result.1 c.in_default.field-0 Limit c.in_default.is (c.create-storage.ensures.limit (of_layout c.args.storage c.in-Ok.size c.args.cluster c.args.width c.refcount_width.result asked layout) far)
+
+pub returns-in-Ok-open_alone-clause-refused : goal.returns-in-Ok-open_alone-clause-refused
+returns-in-Ok-open_alone-clause-refused g c = λ none.
+    let asked = asked_so c.args.storage c.in-Ok.size c.args.cluster c.args.width c.new.result c.size-2.result c.cluster_size.result c.refcount_width.result c.new.ensures c.size-2.ensures c.cluster_size.ensures c.refcount_width.ensures in
+    not_refused c.create-storage.result.1 c.in_default.field-0 InvalidOption c.in_default.is (c.create-storage.ensures.refused (no_layout c.args.storage c.in-Ok.size c.args.cluster c.args.width c.refcount_width.result asked none))
+
+pub returns-in-Ok-open_alone-clause-limit : goal.returns-in-Ok-open_alone-clause-limit
+returns-in-Ok-open_alone-clause-limit g c = λ honest layout long.
+    let asked = asked_so c.args.storage c.in-Ok.size c.args.cluster c.args.width c.new.result c.size-2.result c.cluster_size.result c.refcount_width.result c.new.ensures c.size-2.ensures c.cluster_size.ensures c.refcount_width.ensures in
+    let built = c.refcount_width.result in
+    let far : longest_disk built.cluster_size < built.size = subst (λ (b : Qcow2CreateBuilder g.row.S.Denot). longest_disk b.cluster_size < b.size) (sym asked) (subst (λ n. longest_disk c.args.cluster < n) (sym (c.in-Ok.ensures.size honest)) long) in
+    not_refused c.create-storage.result.1 c.in_default.field-0 Limit c.in_default.is (c.create-storage.ensures.limit (of_layout c.args.storage c.in-Ok.size c.args.cluster c.args.width c.refcount_width.result asked layout) far)
+
+pub returns-in-Err-clause-cause : goal.returns-in-Err-clause-cause
+returns-in-Err-clause-cause g c = λ raw_honest honest.
+    inl (inl (fault_reason (asked_for c.args.storage (length (g.R.Storage.view c.args.raw.now).contents) c.args.cluster c.args.width) g.S.Storage.view c.args.storage _ (subst IsFault (sym c.from.ensures) (fault_of_storage c.in-Err.e))))
+
+pub returns-in-Err-created-clause-cause : goal.returns-in-Err-created-clause-cause
+returns-in-Err-created-clause-cause g c = λ raw_honest honest.
+    let view = g.S.Storage.view in
+    let asked = asked_so c.args.storage c.in-Ok.size c.args.cluster c.args.width c.new.result c.size-2.result c.cluster_size.result c.refcount_width.result c.new.ensures c.size-2.ensures c.cluster_size.ensures c.refcount_width.ensures ∙ ap (λ n. asked_for c.args.storage n c.args.cluster c.args.width) (c.in-Ok.ensures.size raw_honest) in
+    let from = subst (λ (b : Qcow2CreateBuilder g.row.S.Denot). (view b.image).is_honest) (sym asked) honest in
+    let e = c.in-Err-created.e in
+    inl (inl (subst (λ (b : Qcow2CreateBuilder g.row.S.Denot). IsReasonNotToCreate view b c.create-storage.result.0 e) asked
+    (of_err (IsReasonNotToCreate view c.refcount_width.result c.create-storage.result.0) c.create-storage.result.1 e c.in-Err-created.is (c.create-storage.ensures.cause from))))
+
+pub returns-in-Err-open_alone-clause-cause : goal.returns-in-Err-open_alone-clause-cause
+returns-in-Err-open_alone-clause-cause g c = λ raw_honest honest.
+    let view = g.S.Storage.view in
+    let asked = asked_so c.args.storage c.in-Ok.size c.args.cluster c.args.width c.new.result c.size-2.result c.cluster_size.result c.refcount_width.result c.new.ensures c.size-2.ensures c.cluster_size.ensures c.refcount_width.ensures ∙ ap (λ n. asked_for c.args.storage n c.args.cluster c.args.width) (c.in-Ok.ensures.size raw_honest) in
+    let from = subst (λ (b : Qcow2CreateBuilder g.row.S.Denot). (view b.image).is_honest) (sym asked) honest in
+    let made = of_ok _ c.create-storage.result.1 c.in_default.field-0 c.in_default.is (c.create-storage.ensures.created from) in
+    inl (subst (λ (b : Qcow2CreateBuilder g.row.S.Denot). IsReasonNotToCreateOpen view b (c.in-Err-open_alone.storage, c.in-Err-open_alone.e)) asked
+    (opening_refused view c.refcount_width.result c.create-storage.result.0 (c.in-Err-open_alone.storage, c.in-Err-open_alone.e) made c.in-Err-open_alone.ensures.storage c.in-Err-open_alone.ensures.cause))
+
+pub returns-in-Ok-open_alone-clause-cause : goal.returns-in-Ok-open_alone-clause-cause
+returns-in-Ok-open_alone-clause-cause g c = λ raw_honest honest.
+    let view = g.S.Storage.view in
+    let n = c.refcount_width.result.size in
+    let made = view c.create-storage.result.0 in
+    let image = c.in-Ok-open_alone.image in
+    let opened = view (storage_of_image image) in
+    let asked = asked_so c.args.storage c.in-Ok.size c.args.cluster c.args.width c.new.result c.size-2.result c.cluster_size.result c.refcount_width.result c.new.ensures c.size-2.ensures c.cluster_size.ensures c.refcount_width.ensures ∙ ap (λ n. asked_for c.args.storage n c.args.cluster c.args.width) (c.in-Ok.ensures.size raw_honest) in
+    let size_is : n ≡ length (g.R.Storage.view c.args.raw.now).contents = ap (λ (b : Qcow2CreateBuilder g.row.S.Denot). b.size) asked in
+    let from = subst (λ (b : Qcow2CreateBuilder g.row.S.Denot). (view b.image).is_honest) (sym asked) honest in
+    let created = of_ok _ c.create-storage.result.1 c.in_default.field-0 c.in_default.is (c.create-storage.ensures.created from) in
+    let first : IsImageOfSize n (byte_at made.contents) = new_image c.refcount_width.result.preallocate n _ created.new_disk in
+    let since = c.in-Ok-open_alone.ensures.since created.honest first.consistent in
+    let is = (c.in-Ok-open_alone.ensures.opens created.honest first.consistent).opened in
+    let then = once_opened n made opened first since in
+    let sized = ap (λ (h : HeaderFields). h.size) (header_is view _ image is opened.contents refl) ∙ then.size in
+    let same = c.size.ensures.same raw_honest in
+    err_then c.fill-imported.result (λ e met. inr (subst (λ k. IsMetOnceCreated view k c.into_storage.result e) size_is met))
+    (met_once_created view n image c.fill-imported.new.image c.into_storage.result c.fill-imported.result c.into_storage.ensures sized c.in-Ok-open_alone.ensures.ok.2 c.fill-imported.ensures.image (c.fill-imported.ensures.stands n is then)
+    (c.fill-imported.ensures.met (c.size.ensures.calls.honest raw_honest) (ap length same ∙ sym size_is ∙ sym sized) is))

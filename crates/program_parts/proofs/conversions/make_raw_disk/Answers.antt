@@ -9,6 +9,7 @@ use Rattle.qcow2_image.proofs.Map.Unmodified.{holds_then}
 use Rattle.program_parts.proofs.Exported.{keeps_itself, opened_quietly, opened_still, once_flushed, has_export, keeps_disk}
 use Rattle.qcow2_alloc.specs.Quiet.{IsQuiet}
 use Rattle.qcow2_alloc.proofs.KeptTables.Quiet.{quiet_then}
+use Rattle.program_parts.proofs.Refused.{may_be_read, met_disks, met_exporting}
 use Rattle.program_parts.proofs.conversions.make_raw_disk.Goals as goal
 
 pub returns-in-Ok-clause-raw : goal.returns-in-Ok-clause-raw
@@ -66,3 +67,21 @@ returns-in-Ok-clause-quiet g c = λ honest.
 pub returns-in-Err-clause-quiet : goal.returns-in-Err-clause-quiet
 returns-in-Err-clause-quiet g c = λ honest.
     opened_quietly (g.S.Storage.view c.args.storage) (g.S.Storage.view c.in-Err.storage) (c.in-Err.ensures.storage.honest honest) (c.in-Err.ensures.storage.at_once honest) (elim (c.in-Err.ensures.storage.contents honest) [ inl stay ↦ stay | inr made ↦ made.2 ])
+
+pub returns-in-Err-clause-unreadable : goal.returns-in-Err-clause-unreadable
+returns-in-Err-clause-unreadable g c = λ honest unread. (c.in-Err.ensures.cause.1 honest, refl)
+
+pub returns-in-Ok-clause-unreadable : goal.returns-in-Ok-clause-unreadable
+returns-in-Ok-clause-unreadable g c = λ honest unread. absurd (unread (c.in-Ok.ensures.cause honest))
+
+pub returns-in-Err-clause-cause : goal.returns-in-Err-clause-cause
+returns-in-Err-clause-cause g c = λ honest. inl (c.in-Err.ensures.cause.1 honest, refl)
+
+pub returns-in-Ok-clause-cause : goal.returns-in-Ok-clause-cause
+returns-in-Ok-clause-cause g c = λ honest.
+    let view = g.S.Storage.view in
+    let contents = (view c.args.storage).contents in
+    met_exporting contents c.args.raw.now _ c.to_raw-copied.result c.flushed-exported.result (c.in-Ok.ensures.cause honest) c.flushed-exported.ensures.cause c.to_raw-copied.ensures.cause
+    (λ consistent.
+    let opened = (c.in-Ok.ensures.opens honest consistent).opened in
+    met_disks view _ c.in-Ok.image opened contents (c.in-Ok.ensures.storage.contents honest).contents c.to_raw-copied.result (c.to_raw-copied.ensures.met (may_be_read view _ c.in-Ok.image opened) [] opened.sound))

@@ -1,0 +1,156 @@
+-- Why an image isn't made of a raw disk, and a raw disk not of an image.
+use Rattle.std.proofs.Common.{◌≡◌, ◌≢◌, ◌⊎◌, inl, inr, ⊎_elim, ℕ, List, [], None, Result, Ok, Err, refl, sym, ap, ◌∙◌, subst, true, false}
+use Rattle.std.specs.Prelude.{IfErr, IsErrAnd, IsTrue}
+use Rattle.std.specs.Option.{is_some, option_or}
+use Rattle.image_access.specs.Backing.{BackingView}
+use Rattle.image_access.specs.Moments.{StorageView}
+use Rattle.image_access.specs.declared.storage.PreallocateMode.TheVariants as Mode
+use Rattle.qcow2_metadata.specs.Bytes.{Bytes, byte_at}
+use Rattle.qcow2_metadata.specs.Consistent.{IsConsistent}
+use Rattle.qcow2_metadata.specs.Header.{header}
+use Rattle.qcow2_metadata.specs.declared.header.HeaderFields.{HeaderFields}
+use Rattle.qcow2_disk.specs.AbstractImages.{IsOpened}
+use Rattle.qcow2_laws.proofs.Unseen.{known_header}
+use Rattle.qcow2_alloc.specs.ImageError.{IsFault}
+use Rattle.qcow2_alloc.specs.ImageFile.{known_in, state_in}
+use Rattle.qcow2_alloc.specs.declared.error.ImageError.{ImageError}
+use Rattle.qcow2_alloc.specs.declared.error.ImageError.TheVariants as I
+use Rattle.qcow2_image.specs.Created.{IsAllowed, IsCreated, IsReasonNotToCreateOpen}
+use Rattle.qcow2_image.specs.Image.{IsSameImage, is_writable, size_of, storage_of_image}
+use Rattle.qcow2_image.specs.ImageInvariant.{abstract_of, pending_in}
+use Rattle.qcow2_image.specs.MetAlone.{HasCompressedIn, IsMetReadingRange}
+use Rattle.qcow2_image.specs.Opened.{LeavesStorage, NeedsAnother}
+use Rattle.qcow2_image.specs.Readable.{HeaderSuits, IsRefusedRightly, OpensRightly}
+use Rattle.qcow2_image.specs.Refusals.{passes, refuse_if, refuses_to_read}
+use Rattle.qcow2_image.specs.declared.builder.NoBacking.{NoBacking}
+use Rattle.qcow2_image.specs.declared.builder.Qcow2CreateBuilder.{Qcow2CreateBuilder}
+use Rattle.qcow2_image.specs.declared.image.Missing.TheVariants as M
+use Rattle.qcow2_image.specs.declared.image.Qcow2.{Qcow2}
+use Rattle.qcow2_image.proofs.Create.Causes.{faults_met, opening_reasons}
+use Rattle.qcow2_image.proofs.Create.Faults.{none_prepared}
+use Rattle.qcow2_image.proofs.Sizes.{sound_is_usable}
+use Rattle.qcow2_session.specs.Conversions.{IsMetImporting}
+use Rattle.qcow2_session.specs.Sessions.{IsOfReading}
+use Rattle.program_parts.specs.Conversions.{IsImageOfSize, IsLayout, IsMetExporting, IsMetOnceCreated, IsMetReadingDisk, IsRefusedUntouched, IsUnopened, OpensToExport, asked_for}
+
+-- what is so where a call was refused
+pub of_err : {A E : Type 0} (P : E → Type 0) (r : Result A E) (e : E) → r ≡ Err e → IfErr r P → P e
+of_err {A} {E} P r e is h = let Q : Result A E → Type 0 = λ it. IfErr it P in subst Q is h
+
+pub err_then : {A E : Type 0} {P Q : E → Type 0} (r : Result A E) → ((e : E) → P e → Q e) → IfErr r P → IfErr r Q
+err_then (Ok a) to h = tt
+err_then (Err e) to h = to e h
+
+-- ---- an image of a raw disk
+
+-- the same clusters and counts are allowed, whatever the storage is
+layout_as : {S T : Type 0} (a : Qcow2CreateBuilder S) (b : Qcow2CreateBuilder T) → b.cluster_size ≡ a.cluster_size → b.refcount_width ≡ a.refcount_width → IsAllowed a → IsAllowed b
+layout_as a b clusters counts allowed = record {
+  cluster_bits = allowed.cluster_bits;
+  refcount_order = allowed.refcount_order;
+  cluster_size_is = clusters ∙ allowed.cluster_size_is;
+  refcount_width_is = counts ∙ allowed.refcount_width_is;
+  no_smaller = allowed.no_smaller;
+  no_larger = allowed.no_larger;
+  no_wider = allowed.no_wider;
+}
+
+module _ {S : Type 0} where
+  -- the builder, as it is told one after the other
+  pub asked_so : (storage : S) (n cluster width : ℕ) (new sized clustered whole : Qcow2CreateBuilder S) → new ≡ record { image = storage; size = 0; preallocate = Mode.None; cluster_size = 65536; refcount_width = 16 }
+      → sized ≡ record new { size = n } → clustered ≡ record sized { cluster_size = cluster } → whole ≡ record clustered { refcount_width = width } → whole ≡ asked_for storage n cluster width
+  asked_so storage n cluster width new sized clustered whole first second third fourth =
+      fourth ∙ ap (λ (b : Qcow2CreateBuilder S). record b { refcount_width = width }) (third ∙ ap (λ (b : Qcow2CreateBuilder S). record b { cluster_size = cluster }) (second ∙ ap (λ (b : Qcow2CreateBuilder S). record b { size = n }) first))
+
+  module _ (storage : S) (n cluster width : ℕ) (built : Qcow2CreateBuilder S) (is : built ≡ asked_for storage n cluster width) where
+    pub no_layout : ¬ IsLayout cluster width → ¬ IsAllowed built
+    no_layout none allowed = none (layout_as built (asked_for {S = Unit {0}} tt 0 cluster width) (sym (ap (λ (b : Qcow2CreateBuilder S). b.cluster_size) is)) (sym (ap (λ (b : Qcow2CreateBuilder S). b.refcount_width) is)) allowed)
+
+    pub of_layout : IsLayout cluster width → IsAllowed built
+    of_layout layout = layout_as (asked_for {S = Unit {0}} tt 0 cluster width) built (ap (λ (b : Qcow2CreateBuilder S). b.cluster_size) is) (ap (λ (b : Qcow2CreateBuilder S). b.refcount_width) is) layout
+
+    -- the storage is as it was where the builder says so
+    pub untouched : {A : Type 0} (left : S) (r : Result A ImageError) (e reason : ImageError) → r ≡ Err e → (r ≡ Err reason) × (left ≡ built.image) → IsRefusedUntouched reason storage (left, Err e)
+    untouched {A} left r e reason was told = (told.1 ∙ ap (λ (b : Qcow2CreateBuilder S). b.image) is, inl (by (sym was ∙ told.0))) where
+      by : ◌≡◌ {A = Result A ImageError} (Err e) (Err reason) → e ≡ reason
+      by same = cc
+
+-- a call that was answered wasn't refused
+pub not_refused : {A : Type 0} {P X : Type 0} (r : Result A ImageError) (x : A) (reason : ImageError) → r ≡ Ok x → (r ≡ Err reason) × X → P
+not_refused {A} r x reason was told = absurd (by (sym was ∙ told.0)) where
+  by : ◌≡◌ {A = Result A ImageError} (Ok x) (Err reason) → ⊥
+  by same = cc
+
+-- opening that is refused for another reason than a file is refused as where none is missing
+none_missing : (contents : List ℕ) (e : ImageError) → ¬ NeedsAnother contents → IsRefusedRightly contents true M.OtherFiles e → IsRefusedRightly contents true M.Nothing e
+none_missing contents e alone = by e where
+  suits : HeaderSuits contents true M.OtherFiles → HeaderSuits contents true M.Nothing
+  suits so = record { reads = so.reads; on_clusters = so.on_clusters; needs_none = λ needs. absurd (let bad : false ≡ true = needs.needs in cc) }
+
+  by : (e : ImageError) → IsRefusedRightly contents true M.OtherFiles e → IsRefusedRightly contents true M.Nothing e
+  by I.Metadata why = ⊎_elim (λ ill. inl ill) (λ table. inr (suits table.0, table.1)) why
+  by I.Limit why = ⊎_elim (λ past. inl past) (λ table. inr (suits table.0, table.1)) why
+  by I.UnalignedTable why = why
+  by I.Dependency why = absurd (alone why.1)
+  by I.Memory why = tt
+  by I.Storage why = tt
+  by e why = absurd why
+
+-- an image that was created is refused so as it is opened
+pub opening_refused : {S F : Type 0} (view : S → StorageView) (builder : Qcow2CreateBuilder S) (storage : S) (refused : S × ImageError) → IsCreated builder (view storage) → LeavesStorage {F = F} view true (view storage) (Err refused)
+    → OpensRightly {S = S} {F = F} (view storage) true M.OtherFiles (Err refused) → IsReasonNotToCreateOpen view builder refused
+opening_refused {S} {F} view builder storage refused made left rightly =
+    let why = none_missing (view storage).contents refused.1 made.alone (rightly.1 made.honest) in
+    opening_reasons builder view storage (Err refused) made left
+    (λ is. absurd (no_truth (subst (λ (e : ImageError). IsRefusedRightly (view storage).contents true M.Nothing e) is why).1.needs), λ honest. why)
+  where
+    no_truth : false ≡ true → ⊥
+    no_truth bad = cc
+
+module _ {S F : Type 0} (view : S → StorageView) (backing : F → BackingView) (image : Qcow2 S F) (opened : IsOpened (abstract_of view backing image [])) where
+  -- an image that was opened may be read
+  pub may_be_read : refuses_to_read image 0 0 ≡ None
+  may_be_read = ap (λ r. option_or r (refuse_if (passes (size_of image) 0 0) I.BeyondSize)) (sound_is_usable view backing image [] opened.sound)
+
+  module _ (contents : List ℕ) (same : (view (storage_of_image image)).contents ≡ contents) where
+    known_is : known_in view image.file ≡ byte_at contents
+    known_is = opened.clean ∙ ap byte_at same
+
+    -- and has the header of its storage
+    pub header_is : image.file.header.fields ≡ header (byte_at contents)
+    header_is = sym (known_header (state_in view image.file (pending_in view backing image [])) opened.sound.file.caches.kept.kept.crash_invariant) ∙ ap header known_is
+
+    met_disk : (e : ImageError) → IsMetReadingRange [] 0 (size_of image) image.file.header.fields (known_in view image.file) e → IsMetReadingDisk (byte_at contents) e
+    met_disk e met =
+        let headed = subst (λ (h : HeaderFields). IsMetReadingRange [] 0 h.size h (known_in view image.file) e) header_is met in
+        let h = header (byte_at contents) in
+        ⊎_elim (λ looking. ⊎_elim (λ fault. inl fault) (λ held. absurd (none_prepared held.1)) looking) (λ some. inr some) (subst (λ (b : Bytes). IsMetReadingRange [] 0 h.size h b e) known_is headed)
+
+    pub met_disks : {A : Type 0} (r : Result A ImageError) → IfErr r (IsMetReadingRange [] 0 (size_of image) image.file.header.fields (known_in view image.file)) → IfErr r (IsMetReadingDisk (byte_at contents))
+    met_disks r met = err_then r met_disk met
+
+-- an import of a raw disk of the image's size
+pub met_importing : {A : Type 0} {n m : ℕ} (P : ImageError → Type 0) (r : Result A ImageError) (e : ImageError) → r ≡ Err e → n ≡ m → IfErr r (λ x. x ≡ I.InvalidOption → n ≢ m) → IfErr r (λ x. (x ≡ I.InvalidOption) ⊎ P x) → P e
+met_importing {A} {n} {m} P r e is same option met =
+    ⊎_elim (λ bad. absurd (of_err (λ x. x ≡ I.InvalidOption → n ≢ m) r e is option bad same)) (λ p. p) (of_err (λ x. (x ≡ I.InvalidOption) ⊎ P x) r e is met)
+
+-- the image that was created is handed back then
+pub met_once_created : {S A : Type 0} (view : S → StorageView) (n : ℕ) (old new : Qcow2 S NoBacking) (storage : S) (r : Result A ImageError) → storage ≡ storage_of_image new → size_of old ≡ n → IsTrue (is_writable old) → IsSameImage old new
+    → IsImageOfSize n (byte_at (view (storage_of_image new)).contents) → IfErr r (IsMetImporting view 0 (size_of old) new []) → IfErr r (IsMetOnceCreated view n storage)
+met_once_created view n old new storage r is size writable same stands = err_then r (λ e met. record {
+  left = new;
+  is_left = sym is;
+  writable = subst IsTrue (sym same.writable) writable;
+  stands = subst (λ s. IsImageOfSize n (byte_at (view s).contents)) (sym is) stands;
+  met = subst (λ k. IsMetImporting view 0 k new [] e) size met;
+})
+
+-- ---- a raw disk of an image
+pub met_exporting : {R A B : Type 0} (contents : List ℕ) (old new : R) (copied : Result B ImageError) (told : Result A ImageError) → OpensToExport contents → IfErr told (λ e. (copied ≡ Err e) ⊎ IsFault e) → IfErr copied IsOfReading
+    → (IsConsistent (byte_at contents) → IfErr copied (IsMetReadingDisk (byte_at contents))) → IfErr told (λ e. IsUnopened contents old new e ⊎ IsMetExporting contents e)
+met_exporting contents old new copied (Ok n) opens cause reading met = tt
+met_exporting contents old new copied (Err e) opens cause reading met = inr (record {
+  opens = opens;
+  of_reading = ⊎_elim (λ is. of_err IsOfReading copied e is reading) (λ fault. inl (faults_met {T = ℕ} (Err e) fault)) cause;
+  met = λ consistent. ⊎_elim (λ is. of_err (IsMetReadingDisk (byte_at contents)) copied e is (met consistent)) (λ fault. inl fault) cause;
+})
