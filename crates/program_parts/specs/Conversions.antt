@@ -78,11 +78,11 @@ asked_for storage n cluster width = record { image = storage; size = n; prealloc
 abbrev pub IsLayout : (cluster width : ℕ) → Type 0
 IsLayout cluster width = IsAllowed (asked_for {S = Unit {0}} tt 0 cluster width)
 
--- It is refused so, or the raw disk didn't tell its size: a fault or want of memory. The storage is handed back as it was.
+-- It is refused so, or by 14 or 15, as where the raw disk doesn't tell its size. The storage is handed back as it was.
 abbrev pub IsRefusedUntouched : {S : Type 0} → ImageError → S → S × Result ℕ ImageError → Type 0
 IsRefusedUntouched reason storage answer = (answer.0 ≡ storage) × IsErrAnd answer.1 (λ e. (e ≡ reason) ⊎ IsFault e)
 
--- The image was created, and giving it the raw disk's bytes met this. A consistent image of that many bytes is handed back then.
+-- A consistent image of that many bytes is handed back, and giving it the raw disk's bytes may meet this.
 pub record IsMetOnceCreated {S : Type 0} (view : S → StorageView) (n : ℕ) (storage : S) (e : ImageError) : Type 0 where
   pub left : Qcow2 S NoBacking
   pub is_left : storage_of_image left ≡ storage

@@ -93,7 +93,7 @@ pub record HasAlignedBlock (h : HeaderFields) (reftable : EntryTableView) (range
   pub block : ℕ
   pub names : NamesBlock h reftable range (Some block)
 
--- each of n clusters from the first one on is counted in a refblock that begins at a cluster
+-- for each of n clusters from the first one on, the reftable names a refblock that begins at a cluster
 abbrev pub AvoidsUnaligned : HeaderFields → EntryTableView → ℕ → ℕ → Type 0
 AvoidsUnaligned h reftable first n = (k : ℕ) → first ≤ k → k < first + n → HasAlignedBlock h reftable (k / counts_per_block h)
 

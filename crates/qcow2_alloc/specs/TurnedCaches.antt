@@ -10,7 +10,7 @@ use Rattle.qcow2_alloc.specs.declared.cache.MetadataCaches.{MetadataCaches}
 use Rattle.qcow2_alloc.specs.declared.error.ImageError.{ImageError}
 use Rattle.qcow2_alloc.specs.declared.image_file.ImageFile.{ImageFile}
 
--- The caches aren't turned, since L2 tables were written before refblocks up to then, and writing them now is refused.
+-- L2 tables were written before refblocks up to then, and turning that is refused, by a number that tables may meet.
 abbrev pub IsOfTurning : {S : Type 0} → MetadataCaches S → ImageError → Type 0
 IsOfTurning caches e = (order_of caches ≡ RbDependsOnL2) × IsOfTables e
 

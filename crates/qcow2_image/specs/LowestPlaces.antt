@@ -56,7 +56,7 @@ module _ {S F : Type 0} (view : S → StorageView) where
     pub gone : GaveWayMeanwhile went old new
     pub lowest : IsLowestRun (λ k. IsUsed view old.file k ⊎ (IsUsed view new.file k ⊎ IsListed went k)) first n
 
-  -- The L1 table of a larger disk lies in the lowest run for it, judged as the call returns.
+  -- No lower run that is long enough for the L1 table of a larger disk was free all along, judged as the call returns.
   abbrev pub GrowsFromLowest : Qcow2 S F → Qcow2 S F → Type 0
   GrowsFromLowest old new = TakesLowestRun (new.file.header.fields.l1_offset / cluster_size old.file.header.fields) (l1_clusters old.file.header.fields new.file.header.fields.l1_entries) old new
 

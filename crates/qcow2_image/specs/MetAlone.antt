@@ -112,7 +112,7 @@ IsMetPutting held p at e = IsFault e ⊎ ((table_of p ≡ None) × (IsMetLooking
 
 -- ---- taking clusters, on a sound image, whatever is prepared
 
--- A call that takes clusters meets what it does where no mapping is prepared. Or 8, where the cache is full of L2 tables that can't leave it. Or 9, where an L2 table is kept as it is for a prepared mapping.
+-- A call that takes clusters meets what it does where no mapping is prepared. Or it meets 8 or 9, each where its own cause holds.
 abbrev pub IsMetTaking : (held kept compressed far : Type 0) → ImageError → Type 0
 IsMetTaking held kept compressed far e = IsMetAlone compressed far e ⊎ (((e ≡ I.InUse) × held) ⊎ ((e ≡ I.TablePrepared) × kept))
 

@@ -33,7 +33,7 @@ module _ {S F : Type 0} where
   abbrev pub TellsData : Qcow2 S F → Qcow2 S F → Type 0
   TellsData old new = Rose (data_changes_of old.file.storage) (data_changes_of new.file.storage)
 
-  -- what was changed on the storage, if anything, was told as data
+  -- no change of the storage was counted, or at least one was told as data
   abbrev pub TellsDataAlone : Qcow2 S F → Qcow2 S F → Type 0
   TellsDataAlone old new = (changes_of new.file.storage ≡ changes_of old.file.storage) ⊎ TellsData old new
 

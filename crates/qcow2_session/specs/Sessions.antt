@@ -110,7 +110,7 @@ module _ {S F : Type 0} (view : S → StorageView) (backing : F → BackingView)
   WritesFirst offset bytes (Err e) = Writes offset bytes (Err (e, 0))
 
 module _ {S F : Type 0} (view : S → StorageView) (backing : F → BackingView) (old : Qcow2 S F) where
-  -- A write was refused behind so many of its bytes. There is an image `before` that part: these bytes are written there, and nothing else changed. What refused the rest of the range is so of that image.
+  -- A write was refused behind so many of its bytes. There is an image `before` that part: these bytes are written there, and nothing else of the disk changed. What refused the rest of the range is so of that image.
   pub record StopsFor (cause : (at rest : ℕ) → Qcow2 S F → Type 0) (offset : ℕ) (bytes : List ℕ) (done : ℕ) : Type 0 where
     pub before : Qcow2 S F
     pub written : Writes view backing old before offset (take done bytes) (Ok tt)

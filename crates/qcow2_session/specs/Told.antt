@@ -102,7 +102,7 @@ module _ {S F : Type 0} (view : S → StorageView) (backing : F → BackingView)
     TellsRange offset n reply = Unit {0}
 
     -- A mapping is looked up so, and a range cleared so. A range that isn't compressed begins at its own offset, and is named if it has bytes. A size that isn't smaller leaves the old one.
-    -- The size is the one that the header in memory has, also on a failed image. In the slot of a range that was prepared stands such a mapping. A write of a sound image leaves to be freed what was, or nothing.
+    -- The size is the one that the header in memory has, also on a failed image. In the slot of a range that was prepared stands such a mapping. An answered write of a sound image leaves to be freed what was, or nothing. A refused one tells how many bytes it wrote.
     abbrev pub TellsOfImage : (before after : List (Option Prepared)) → Command → Reply → Type 0
     TellsOfImage before after (C.GetMapping slot offset max) (R.Mapping m) = IsLookup offset max m
     TellsOfImage before after (C.EnsureZeroMapping offset n) reply = TellsRange offset n reply
@@ -114,6 +114,7 @@ module _ {S F : Type 0} (view : S → StorageView) (backing : F → BackingView)
     TellsOfImage before after C.Size (R.Size n) = n ≡ size_of new
     TellsOfImage before after (C.PrepareDataMapping slot offset n overwrite) (R.Prepared host count existing) =
         (abstract_of view backing old before).is_sound → (p : Prepared) × (slice_get after slot ≡ Some (Some p)) × IsMappingFor offset n p
+    TellsOfImage before after (C.Write offset bytes) (R.Refused e) = ⊥
     TellsOfImage before after (C.Write offset bytes) R.Done = (abstract_of view backing old before).is_sound → ListsNoMore old new
     TellsOfImage before after command reply = Unit {0}
 

@@ -33,7 +33,7 @@ pub record IsStatusOf (image : Bytes) (status : ℕ) : Type 0 where
 abbrev pub IsReported : Bytes → Option (List ℕ) → Option (List ℕ) → Type 0
 IsReported image old new = Appends old new (text_of_report (breach_lines (header image) image) (leak_lines (header image) image))
 
--- Why there is no status: what there is no report for, told by its number, or that an answer couldn't be printed.
+-- Why there is no status: a number, with its cause for no report, where it has one; or that an answer couldn't be printed.
 abbrev pub IsReasonForNoStatus : Bytes → Failure → Type 0
 IsReasonForNoStatus image (Refused e) = (reason : MetadataError) × (e ≡ of_metadata reason) × IsReasonNotToCheck (header image) image reason
 IsReasonForNoStatus image (Unprinted cause) = Unit {0}
