@@ -57,8 +57,8 @@ def a_first_range_without_a_refblock(cluster, width):
     equal(contents("disk"), before, "the contents")
 
 
-def one_full_refblock_many_times(cluster, width, count):
-    """The reftable names it from its first entry on. Where it names all places of a file, none is free; else what is free lies far behind, and the write may be a fault, which ends the run. The checker would tell of each cluster that is counted, so only the run is tried."""
+def one_full_refblock_many_times(cluster, width, count, told):
+    """The reftable names it from its first entry on. Where it names all places of a file, none is free (13); else what is free lies far behind, and the write may be a fault, which ends the run. The checker would tell of each cluster that is counted, so only the run is tried."""
     create("disk", 1 << 20, cluster, width)
     clusters = -(-8 * count // cluster)
     put("disk", 48, cluster.to_bytes(8, "big") + clusters.to_bytes(4, "big"))
@@ -67,7 +67,7 @@ def one_full_refblock_many_times(cluster, width, count):
     put("disk", (clusters + 1) * cluster, b"\xff" * cluster)
     put("disk", (clusters + 3) * cluster - 1, bytes(1))
     status, text = ran("run", "disk", input=b"fill 0 512 11\n", stdout=subprocess.PIPE, stderr=subprocess.DEVNULL, timeout=60)
-    if status not in (0, 1) or not re.fullmatch(r"ok\n|refused \d+ .*\n(refused 16 failed\n)?", text):
+    if status not in (0, 1) or not re.fullmatch(told, text):
         raise AssertionError(f"status {status} and {shown(text)}")
 
 
@@ -138,8 +138,9 @@ def main():
         checks.run(check.__name__, check)
     for cluster, width in ((512, 16), (512, 64), (65536, 16), (2 << 20, 1)):
         checks.run(f"a first range without a refblock, {cluster} {width}", a_first_range_without_a_refblock, cluster, width)
-    for cluster, width, count in ((65536, 1, 4000), (65536, 16, 1 << 20), (65536, 2, 1 << 18), (2 << 20, 2, 4096)):
-        checks.run(f"one full refblock {count} times, {cluster} {width}", one_full_refblock_many_times, cluster, width, count)
+    none_free, any_answer = r"refused 13 limit\n", r"ok\n|refused \d+ .*\n(refused 16 failed\n)?"
+    for cluster, width, count, told in ((65536, 1, 4000, any_answer), (65536, 16, 1 << 20, none_free), (65536, 2, 1 << 18, any_answer), (2 << 20, 2, 4096, none_free)):
+        checks.run(f"one full refblock {count} times, {cluster} {width}", one_full_refblock_many_times, cluster, width, count, told)
     checks.run("a reftable at offset 0 without clusters", a_reftable_at_offset_0)
     for needs in (needs_a_data_file, names_a_data_file, names_a_backing_file):
         checks.run(f"an image that {needs.__name__}", an_image_with_a_bitmap, needs, "refused 12 dependency", b"\xff" * 8, 1)
