@@ -29,16 +29,15 @@ def kept_alone(text, at, name):
     there are several. None where clauses have no name, or none has this one."""
     lines = text.split("\n")
     found = promises(lines, contract_of(lines, at))
-    if not found or name not in [it for _, it in found] or any(not re.fullmatch(r"\w+", it) for _, it in found) or "◌≡◌" not in text:
+    if not found or name not in [it for _, it in found] or any(not re.fullmatch(r"\w+", it) for _, it in found):
         return None
     word = next((it for it in LEFT if any(it in lines[i] for where, _ in found for i in where)), None)
-    if word is None:
-        return None
+    empty = f"{word} ≡ {word}" if word and "◌≡◌" in text else "⊥ → ⊥"
     other = next((it for _, it in found if it != name), None)
     for where, it in found:
         if it != name:
             indent = CLAUSE.match(lines[where.start])[1]
-            lines[where.start : where.stop] = [f"{indent}ensures {it} {{ {word} ≡ {word} }}" if it == other else "", *[""] * (len(where) - 1)]
+            lines[where.start : where.stop] = [f"{indent}ensures {it} {{ {empty} }}" if it == other else "", *[""] * (len(where) - 1)]
     return "\n".join(lines), other
 
 

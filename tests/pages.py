@@ -479,7 +479,7 @@ PLANTED = [
     (missing_names, "README.md", "`make tools`", "`make tool`"),
     (misplaced_names, "docs/PROOFS.md", "`named` of [Named.antt]", "`disk` of [Named.antt]"),
     (misplaced_names, "docs/PROOFS.md", "`surplus` of `Abstraction`", "`pending` of `Abstraction`"),
-    (missing_clauses, "crates/qcow2_alloc/README.md", "", "\n- `allocate_meta` is so (`quiet`).\n"),
+    (missing_clauses, "crates/qcow2_alloc/README.md", "", "\n- `allocate_meta` is so (`headline`).\n"),
     (missing_clauses, "crates/qcow2_alloc/README.md", "", "\n- `why` and `quiet` of `Allocator::new`.\n"),
     (missing_clauses, "crates/qcow2_metadata/README.md", "`old_data`, `same` of `L2Table`", "`old_data`, `counted` of `L2Table`"),
     (missing_clauses, "docs/PROOFS.md", "| `keeps`, `ordered` |", "| `keeps`, `headline` |"),

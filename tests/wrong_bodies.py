@@ -26,7 +26,7 @@ from promises import read, take_promises
 
 ROOT = os.path.dirname(os.path.dirname(os.path.abspath(__file__)))
 HOW_MANY_LINES = 8
-MOST_IN_A_CHECK = 110
+MOST_IN_A_CHECK = 170
 LEAST_IN_A_CHECK = 25
 SECONDS_TO_LOOK_AGAIN = 5
 MISSING_NAME = re.compile(r": error: module `|has no field|is not in scope|has no `|was not admitted|is no name")

@@ -72,7 +72,7 @@ module _ {S F : Type 0} (view : S → StorageView) (backing : F → BackingView)
       no_fewer = told.no_fewer.storage;
       raw = told.raw;
       rose = λ is. elim (told.rose (cc is)) [
-        | inl one ↦ elim one [ inl rose ↦ inl rose | inr rose ↦ absurd (omega (arith, rose, below old.backing, below new.backing)) ]
+        | inl one ↦ elim one.0 [ inl rose ↦ inl rose | inr rose ↦ absurd (omega (arith, rose, below old.backing, below new.backing)) ]
         | inr rose ↦ inr rose
       ];
       told = λ other. let all = told.told other in (all.0.storage, all.1);

@@ -1,5 +1,5 @@
 -- The clusters that are listed to be freed.
-use Rattle.std.specs.Prelude.{◌≡◌, ◌⊎◌, ℕ, ◌+◌, ◌-◌, ◌*◌, ◌/◌, ◌^◌, ◌<◌, ◌++◌, Some, Result, Ok, Err, Bool, true, false, List, [], ◌∷◌, if◌then◌else◌}
+use Rattle.std.specs.Prelude.{◌≡◌, ◌⊎◌, ℕ, ◌+◌, ◌-◌, ◌*◌, ◌/◌, ◌%◌, ◌^◌, ◌<◌, ◌≤◌, ◌++◌, length, Some, IfSome, Result, Ok, Err, Bool, true, false, List, [], ◌∷◌, if◌then◌else◌}
 use Rattle.qcow2_metadata.specs.EntryTable.{EntryTableView, entry_count}
 use Rattle.qcow2_laws.specs.CrashInvariant.{Pending}
 use Rattle.qcow2_alloc.specs.declared.clusters_to_free.ClusterKind.{ClusterKind}
@@ -68,10 +68,19 @@ pub record IsRunOfTable (t : EntryTableView) (e : ClustersToFreeEntry) : Type 0 
   pub placed : t.cluster ≡ Some cluster
   pub run : e ≡ metadata_entry cluster ((8 * entry_count t + 2 ^ t.cluster_bits - 1) / 2 ^ t.cluster_bits)
 
--- One reftable after the other gave way to a longer one, whose clusters are of the same size. These entries are for the clusters of those that went.
+-- the entries of a reftable fill whole clusters, which lie behind the header's
+pub record FillsClusters (t : EntryTableView) : Type 0 where
+  pub whole : entry_count t % (2 ^ t.cluster_bits / 8) ≡ 0
+  pub elsewhere : IfSome t.cluster (λ c. 0 < c)
+
+-- One reftable after the other gave way to a longer one, which fills whole clusters of the same size. These entries are for the clusters of those that went.
 abbrev pub GaveWay : EntryTableView → List ClustersToFreeEntry → EntryTableView → Type 0
 GaveWay old [] new = SamePlace old new
-GaveWay old (e ∷ es) new = IsRunOfTable old e × (next : EntryTableView) × (entry_count old < entry_count next) × (next.cluster_bits ≡ old.cluster_bits) × GaveWay next es new
+GaveWay old (e ∷ es) new = IsRunOfTable old e × (next : EntryTableView) × (entry_count old < entry_count next) × (next.cluster_bits ≡ old.cluster_bits) × FillsClusters next × GaveWay next es new
+
+-- Where a reftable becomes longer by no more entries than one cluster holds, it gave way once at most.
+abbrev pub GivesWayOnce : Type 0
+GivesWayOnce = (old new : EntryTableView) (es : List ClustersToFreeEntry) → GaveWay old es new → entry_count new ≤ entry_count old + 2 ^ old.cluster_bits / 8 → length es ≤ 1
 
 -- What is listed behind what was listed are the clusters of former reftables, and nothing else. No refblock comes to lie in cluster 0, and each range that has one keeps it.
 pub record ListsReftables (old new : EntryTableView) (list list' : List ClustersToFreeEntry) : Type 0 where
@@ -81,7 +90,7 @@ pub record ListsReftables (old new : EntryTableView) (list list' : List Clusters
   pub behind : NamesBehindHeader old new
   pub ranges : KeepsRefblocks old new
 
--- a reftable gave way to another one, which has its refblocks, and just its clusters were listed; refused, it stays, and so does the list
+-- a reftable gave way to another one, which fills whole clusters and has its refblocks, and just its clusters were listed; refused, it stays, and so does the list
 abbrev pub GivesWay : EntryTableView → EntryTableView → List ClustersToFreeEntry → List ClustersToFreeEntry → Result (Unit {0}) ImageError → Type 0
-GivesWay old new list list' (Ok _) = (e : ClustersToFreeEntry) × IsRunOfTable old e × (list' ≡ list ++ e ∷ []) × NamesBehindHeader old new × KeepsRefblocks old new
+GivesWay old new list list' (Ok _) = (e : ClustersToFreeEntry) × IsRunOfTable old e × (list' ≡ list ++ e ∷ []) × FillsClusters new × NamesBehindHeader old new × KeepsRefblocks old new
 GivesWay old new list list' (Err _) = (new ≡ old) × (list' ≡ list)

@@ -24,6 +24,7 @@ pub mod ImageFile
 pub mod Allocation
 pub mod LowestRuns
 pub mod UsedCounts
+pub mod QuietSearches
 pub mod KeptAllocators
 pub mod SoundAllocators
 pub mod FreeList

@@ -1,10 +1,13 @@
 -- Clusters that a call takes into use: those that it was asked for, and those of refblocks and reftables that it makes on the way.
-use Rattle.std.specs.Prelude.{ℕ, ◌+◌, ◌-◌, ◌*◌, ◌/◌, ◌^◌, ◌<◌, ◌≡◌, ◌⊎◌, List, [], ◌∷◌, Option, Some, None, Result, Ok, Err}
+use Rattle.std.specs.Prelude.{ℕ, ◌+◌, ◌-◌, ◌*◌, ◌/◌, ◌^◌, ◌<◌, ◌≤◌, ◌≡◌, ◌⊎◌, List, [], ◌∷◌, Option, Some, None, Result, Ok, Err}
 use Rattle.image_access.specs.Moments.{StorageView}
 use Rattle.qcow2_metadata.specs.declared.header.HeaderFields.{HeaderFields}
+use Rattle.qcow2_metadata.specs.Entries.{count}
 use Rattle.qcow2_metadata.specs.EntryTable.{EntryTableView, entry_count}
 use Rattle.qcow2_alloc.specs.Allocation.{run_at, NamesBlock}
 use Rattle.qcow2_alloc.specs.FreeList.{run_of}
+use Rattle.qcow2_alloc.specs.GrownTables.{reftable_at}
+use Rattle.qcow2_alloc.specs.ImageFile.{known_in}
 use Rattle.qcow2_alloc.specs.LowestRuns.{IsUsed, BrokeOff}
 use Rattle.qcow2_alloc.specs.declared.clusters_to_free.ClustersToFreeEntry.{ClustersToFreeEntry}
 use Rattle.qcow2_alloc.specs.declared.error.ImageError.{ImageError}
@@ -51,7 +54,11 @@ module _ {S : Type 0} (view : S → StorageView) where
   abbrev pub ListsUsed : ImageFile S → ImageFile S → Type 0
   ListsUsed old new = (k : ℕ) → IsListedSince old.free_list new.free_list k → IsUsed view old k
 
-  -- What is in use was in use before, or was taken by the call's answer, or was made on the way. It may be otherwise where the call broke off.
+  -- Each cluster is counted as many times more, at least, as it is listed more; one of the reftable of before once less. So what is listed was taken in the call, or that reftable stood there.
+  abbrev pub CountsListed : ImageFile S → ImageFile S → Type 0
+  CountsListed old new = (k : ℕ) → count old.header.fields (known_in view old) k + listed_at new.free_list k ≤ count new.header.fields (known_in view new) k + listed_at old.free_list k + reftable_at old.header.fields k
+
+  -- What is in use was in use before, or was taken by the call's answer, or was made on the way, and what is listed is counted. It may be otherwise where the call broke off.
   abbrev pub TakesAlone : {A : Type 0} → (A → ℕ → ℕ) → (ℕ → Type 0) → ImageFile S → ImageFile S → Result A ImageError → Type 0
-  TakesAlone taken Made old new (Ok answer) = (k : ℕ) → IsUsed view new k → IsUsed view old k ⊎ (0 < taken answer k) ⊎ Made k
-  TakesAlone taken Made old new (Err e) = ((k : ℕ) → IsUsed view new k → IsUsed view old k ⊎ Made k) ⊎ BrokeOff new e
+  TakesAlone taken Made old new (Ok answer) = ((k : ℕ) → IsUsed view new k → IsUsed view old k ⊎ (0 < taken answer k) ⊎ Made k) × CountsListed old new
+  TakesAlone taken Made old new (Err e) = (((k : ℕ) → IsUsed view new k → IsUsed view old k ⊎ Made k) × CountsListed old new) ⊎ BrokeOff new e

@@ -12,6 +12,7 @@ ghost use Rattle.qcow2_alloc.specs.KeptNotes.{KeepsNotes, NoData};
 ghost use Rattle.qcow2_alloc.specs.CachePins.{KeepsPinsAndNotes};
 ghost use Rattle.qcow2_alloc.specs.Faults.{CountsFaults};
 ghost use Rattle.qcow2_alloc.specs.SparedHeaders.{AreBehindHeader, StandsBehindHeader, SparesHeaderButPointer};
+ghost use Rattle.qcow2_alloc.specs.QuietSearches.{CountsOrMakes, CountsRunOrMakes, SearchesQuietly};
 ghost use Rattle.qcow2_alloc.specs.Limits.{IsFaultOr, IsOfTaking, EndsAtFirst, IsOfSearch, HasNoPlace, CantCount, CantCountRun, nameable_clusters};
 ghost use Rattle.qcow2_alloc.specs.SoundAllocators.{SoundAllocator};
 ghost use Rattle.qcow2_alloc.specs.LowestRuns.{NoFreeBelowHint, IsLowestRun, IsUsed, KeepsNoFreeBelowHint, KeepsUsed, StaysUsed};
@@ -86,7 +87,8 @@ impl Allocator {
         HostCluster::new(self.first_free_cluster)
     }
 
-    /// Takes the lowest run of so many free clusters for metadata; the count is to be 1 at least.
+    /// Takes the lowest run of so many free clusters for metadata; the count is to be 1 at least. For one
+    /// cluster, passing clusters in use writes nothing where no cached table is modified.
     /// Refused 13 (limit) where there is no such run up to the greatest host offset, for no clusters, or where a refblock or a longer
     /// reftable has no place. Refused 4 (unaligned table) where a refblock that is needed isn't on a cluster. Refused
     /// 8 (everything is in use) by a cache without room for a refblock. Where the work meets them: 14 (memory), 15 (storage).
@@ -114,6 +116,7 @@ impl Allocator {
         ensures lowest { (p : Pending) → SoundAllocator S.view self.old p file.old → IfOk result (λ run. IsLowestRun (IsUsed S.view file.new) run.first_cluster count) }
         ensures uses { (p : Pending) → AllocatorInvariant S.view self.old p file.old → OnOk result (StaysUsed S.view file.old file.new) }
         ensures hint { (p : Pending) → SoundAllocator S.view self.old p file.old → KeepsNoFreeBelowHint S.view self.new file.new result }
+        ensures quiet { count ≤ 1 → OnOk result (SearchesQuietly S.view file.old file.new self.old.reftable self.new.reftable) }
         ensures header_cluster { SparesHeaderButPointer S.view self.old.reftable file.old self.new.reftable file.new }
     {
         self.allocate(file, count, ClusterKind::Metadata)
@@ -147,6 +150,7 @@ impl Allocator {
         ensures lowest { (p : Pending) → SoundAllocator S.view self.old p file.old → IfOk result (λ run. IsLowestRun (IsUsed S.view file.new) run.first_cluster count) }
         ensures uses { (p : Pending) → AllocatorInvariant S.view self.old p file.old → OnOk result (StaysUsed S.view file.old file.new) }
         ensures hint { (p : Pending) → SoundAllocator S.view self.old p file.old → KeepsNoFreeBelowHint S.view self.new file.new result }
+        ensures quiet { count ≤ 1 → OnOk result (SearchesQuietly S.view file.old file.new self.old.reftable self.new.reftable) }
         ensures header_cluster { SparesHeaderButPointer S.view self.old.reftable file.old self.new.reftable file.new }
     {
         file.caches.l2_depends_on_rb(&mut file.storage)?;
@@ -185,6 +189,7 @@ impl Allocator {
             ⊎ (IsUsed S.view file.new cluster × (IsUsed S.view file.old cluster ⊎ IsMadeOnTheWay file.old.header.fields self.old.reftable self.new.reftable cluster))) }
         ensures uses { (p : Pending) → AllocatorInvariant S.view self.old p file.old → OnOk result (StaysUsed S.view file.old file.new) }
         ensures hint { (p : Pending) → SoundAllocator S.view self.old p file.old → KeepsNoFreeBelowHint S.view self.new file.new result }
+        ensures quiet { OnOk result (SearchesQuietly S.view file.old file.new self.old.reftable self.new.reftable) }
         ensures header_cluster { SparesHeaderButPointer S.view self.old.reftable file.old self.new.reftable file.new }
     {
         file.caches.l2_depends_on_rb(&mut file.storage)?;
@@ -237,6 +242,7 @@ impl Allocator {
         ensures lowest { (p : Pending) → AllocatorInvariant S.view self.old p file.old → MayTake (is_data kind) file.old → NoFreeBelowHint S.view self.old file.old → IfOk result (λ run. IsLowestRun (IsUsed S.view file.new) run.first_cluster count) }
         ensures uses { (p : Pending) → AllocatorInvariant S.view self.old p file.old → MayTake (is_data kind) file.old → OnOk result (StaysUsed S.view file.old file.new) }
         ensures hint { (p : Pending) → AllocatorInvariant S.view self.old p file.old → MayTake (is_data kind) file.old → NoFreeBelowHint S.view self.old file.old → KeepsNoFreeBelowHint S.view self.new file.new result }
+        ensures quiet { count ≤ 1 → OnOk result (SearchesQuietly S.view file.old file.new self.old.reftable self.new.reftable) }
         ensures header_cluster { SparesHeaderButPointer S.view self.old.reftable file.old self.new.reftable file.new }
     {
         let entry = ClustersToFreeEntry {
@@ -276,6 +282,7 @@ impl Allocator {
         ensures lowest { (p : Pending) (is_data : Bool) → AllocatorInvariant S.view self.old p file.old → MayTake is_data file.old → NoFreeBelowHint S.view self.old file.old → IfOk result (λ first. IsLowestRun (IsUsed S.view file.new) first n) }
         ensures uses { (p : Pending) (is_data : Bool) → AllocatorInvariant S.view self.old p file.old → MayTake is_data file.old → OnOk result (StaysUsed S.view file.old file.new) }
         ensures hint { (p : Pending) (is_data : Bool) → AllocatorInvariant S.view self.old p file.old → MayTake is_data file.old → NoFreeBelowHint S.view self.old file.old → KeepsNoFreeBelowHint S.view self.new file.new result }
+        ensures quiet { n ≤ 1 → OnOk result (SearchesQuietly S.view file.old file.new self.old.reftable self.new.reftable) }
         ensures header_cluster { SparesHeaderButPointer S.view self.old.reftable file.old self.new.reftable file.new }
     {
         let limit = (MAX_HOST_OFFSET >> file.header.cluster_bits()) + 1;
@@ -298,7 +305,8 @@ impl Allocator {
         first: u64,
         n: u64,
     ) -> Result<u64, ImageError>
-        requires { first + n < 2 ^ 63 }
+        requires near { first + n < 2 ^ 63 }
+        requires above { 0 < first }
         ensures marks { KeepsMarks S.view file.old file.new }
         ensures noted { IfOk result (λ taken. taken ≡ n → 0 < n → IsTrue file.new.caches.is_changed) }
         ensures sound { (p : Pending) (is_data : Bool) → AllocatorInvariant S.view self.old p file.old → MayTake is_data file.old → TakesRun S.view p file.old self.new file.new (pending_then p file.old.free_list file.new.free_list) is_data first n result }
@@ -315,6 +323,7 @@ impl Allocator {
         ensures used { (p : Pending) (is_data : Bool) → AllocatorInvariant S.view self.old p file.old → MayTake is_data file.old → IfOk result (λ taken. taken ≢ n → IsUsed S.view file.new (first + taken)) }
         ensures hint { (p : Pending) (is_data : Bool) → AllocatorInvariant S.view self.old p file.old → MayTake is_data file.old → NoFreeBelowHint S.view self.old file.old → KeepsNoFreeBelowHint S.view self.new file.new result }
         ensures uses { (p : Pending) (is_data : Bool) → AllocatorInvariant S.view self.old p file.old → MayTake is_data file.old → KeepsUsed S.view file.old file.new result }
+        ensures quiet { n ≤ 1 → IfOk result (CountsRunOrMakes S.view file.old file.new self.old.reftable self.new.reftable n) }
         ensures header_cluster { SparesHeaderButPointer S.view self.old.reftable file.old self.new.reftable file.new }
     {
         'taking: for taken in 0..n {
@@ -341,7 +350,8 @@ impl Allocator {
         file: &mut ImageFile<S>,
         cluster: u64,
     ) -> Result<bool, ImageError>
-        requires { cluster < 2 ^ 63 }
+        requires near { cluster < 2 ^ 63 }
+        requires above { 0 < cluster }
         ensures marks { KeepsMarks S.view file.old file.new }
         ensures noted { IfOk result (λ taken. IsTrue taken → IsTrue file.new.caches.is_changed) }
         ensures sound { (p : Pending) (is_data : Bool) → AllocatorInvariant S.view self.old p file.old → MayTake is_data file.old → TakesCluster S.view p file.old self.new file.new (pending_then p file.old.free_list file.new.free_list) is_data cluster result }
@@ -360,6 +370,7 @@ impl Allocator {
         ensures hint { (p : Pending) (is_data : Bool) → AllocatorInvariant S.view self.old p file.old → MayTake is_data file.old → NoFreeBelowHint S.view self.old file.old → KeepsNoFreeBelowHint S.view self.new file.new result }
         ensures uses { (p : Pending) (is_data : Bool) → AllocatorInvariant S.view self.old p file.old → MayTake is_data file.old → KeepsUsed S.view file.old file.new result }
         ensures free { (p : Pending) → AllocatorInvariant S.view self.old p file.old → IfOk result (λ taken. IsTrue taken → ¬ IsUsed S.view file.old cluster) }
+        ensures quiet { IfOk result (CountsOrMakes S.view file.old file.new self.old.reftable self.new.reftable) }
         ensures header_cluster { SparesHeaderButPointer S.view self.old.reftable file.old self.new.reftable file.new }
     {
         self.reach_block(file, cluster)?;

@@ -154,6 +154,7 @@ impl<S: Storage> MetadataCaches<S> {
         ensures ordered { WritesInOrder S.view storage.old self.old storage.new }
         ensures blocks { self.new.rb ≡ self.old.rb }
         ensures quiet { BlocksMayGo (order_of self.old) (l2_tables self.old) → WritesNothing S.view storage.old storage.new }
+        ensures all_written { KeepAllWritten S.view storage.old self.old storage.new self.new }
         ensures header_cluster { CachesSpareHeader S.view storage.old self.old storage.new self.new }
     {
         match self.direction {
@@ -292,6 +293,7 @@ impl<S: Storage> MetadataCaches<S> {
         ensures ordered { WritesInOrder S.view storage.old self.old storage.new }
         ensures quiet { BlocksMayGo (order_of self.old) (l2_tables self.old) → WritesNothing S.view storage.old storage.new }
         ensures tables_stay { order_of self.old ≢ RbDependsOnL2 → self.new.l2 ≡ self.old.l2 }
+        ensures all_written { KeepAllWritten S.view storage.old self.old storage.new self.new }
         ensures header_cluster { CachesSpareHeader S.view storage.old self.old storage.new self.new }
     {
         match self.direction {
@@ -353,6 +355,7 @@ impl<S: Storage> MetadataCaches<S> {
         ensures quiet { GetsBlockQuietly self.old cluster → WritesNothing S.view storage.old storage.new }
         ensures blocks_stay { OtherBlocksStay self.old self.new cluster }
         ensures tables_stay { order_of self.old ≢ RbDependsOnL2 → self.new.l2 ≡ self.old.l2 }
+        ensures all_written { KeepAllWritten S.view storage.old self.old storage.new self.new }
         ensures header_cluster { 0 < cluster → CachesSpareHeader S.view storage.old self.old storage.new self.new }
     {
         if self.rb.get_or_insert(storage, cluster, false)? {

@@ -87,6 +87,7 @@ impl Allocator {
         clusters: u64,
         end: u64,
     ) -> Result<Reach, ImageError>
+        requires above { 0 < first }
         requires below { first < end }
         requires few { clusters ≤ 2 ^ 32 }
         requires near { end ≤ 2 ^ 60 }
@@ -128,6 +129,7 @@ impl Allocator {
     ) -> Result<bool, ImageError>
         requires counts { counts_per_block file.old.header.fields ≡ 2 ^ bits }
         requires few { bits < 64 }
+        requires above { 0 < cluster }
         ensures marks { KeepsMarks S.view file.old file.new }
         ensures same { self.new ≡ self.old }
         ensures sound { (p : Pending) → AllocatorInvariant S.view self.old p file.old → TakesFree S.view p file.old self.new file.new self.old.reftable cluster result }

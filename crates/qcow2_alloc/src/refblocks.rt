@@ -8,6 +8,7 @@ ghost use Rattle.qcow2_alloc.specs.KeptMarks.{KeepsMarks};
 ghost use Rattle.qcow2_alloc.specs.CachePins.{LeavesPinned};
 ghost use Rattle.qcow2_alloc.specs.Faults.{CountsFaults};
 ghost use Rattle.qcow2_alloc.specs.SparedHeaders.{KeepBehindHeader, SparesHeader, SparesHeaderButPointer};
+ghost use Rattle.qcow2_alloc.specs.QuietSearches.{CountsQuietly, LooksOrMakes, LooksQuietly};
 ghost use Rattle.qcow2_alloc.specs.Limits.{IsFaultOr, CantCount};
 ghost use Rattle.qcow2_alloc.specs.LowestRuns.{NoFreeBelowHint, IsUsed, KeepsNoFreeBelowHint, KeepsUsed};
 ghost use Rattle.qcow2_alloc.specs.ImageError.{IsOfTables, IsFault};
@@ -114,6 +115,7 @@ impl Allocator {
         ensures held { IfOk result (λ block. IfSome block (λ block. IsSome (rb_at file.new.caches block))) }
         ensures none { HasNone self.now.reftable range → (result ≡ Ok None) × (file.new ≡ file.old) }
         ensures storage_faults { CountsFaults S.view file.old.storage file.new.storage result }
+        ensures quiet { LooksQuietly S.view file.old file.new }
         ensures header_cluster { SparesHeader S.view self.now.reftable file.old self.now.reftable file.new }
     {
         let Some(offset) = self.reftable.get(range as usize) else {
@@ -126,12 +128,13 @@ impl Allocator {
         Ok(Some(cluster))
     }
 
-    // Counts a cluster whose count is 0: false where it isn't.
+    // Counts a cluster whose count is 0: false where it isn't. Cluster 0 is the header's, and is never counted here.
     pub(crate) fn raise<S: Storage>(
         &mut self,
         file: &mut ImageFile<S>,
         cluster: u64,
     ) -> Result<bool, ImageError>
+        requires above { 0 < cluster }
         ensures marks { KeepsMarks S.view file.old file.new }
         ensures noted { IfOk result (λ taken. IsTrue taken → IsTrue file.new.caches.is_changed) }
         ensures same { self.new ≡ self.old }
@@ -145,6 +148,7 @@ impl Allocator {
         ensures free { (p : Pending) → AllocatorInvariant S.view self.old p file.old → IfOk result (λ taken. IsTrue taken → ¬ IsUsed S.view file.old cluster) }
         ensures unaligned { IsUnaligned file.old.header.fields self.old.reftable (cluster / counts_per_block file.old.header.fields) → IsErrOf result ImageError.UnalignedTable × (file.new ≡ file.old) }
         ensures aligned { IfOk result (λ taken. IsTrue taken → HasAlignedBlock file.old.header.fields self.old.reftable (cluster / counts_per_block file.old.header.fields)) }
+        ensures quiet { IfOk result (CountsQuietly S.view file.old file.new) }
         ensures header_cluster { SparesHeader S.view self.old.reftable file.old self.new.reftable file.new }
     {
         let bits = file.header.rb_bits();
@@ -178,6 +182,7 @@ impl Allocator {
         ensures named { cluster / counts_per_block file.old.header.fields < entry_count self.old.reftable → KeepsNamed self.old.reftable self.new.reftable }
         ensures hint { (p : Pending) → AllocatorInvariant S.view self.old p file.old → NoFreeBelowHint S.view self.old file.old → KeepsNoFreeBelowHint S.view self.new file.new result }
         ensures uses { (p : Pending) → AllocatorInvariant S.view self.old p file.old → KeepsUsed S.view file.old file.new result }
+        ensures quiet { OnOk result (LooksOrMakes S.view file.old file.new self.old.reftable self.new.reftable) }
         ensures header_cluster { SparesHeaderButPointer S.view self.old.reftable file.old self.new.reftable file.new }
     {
         let range = (cluster >> file.header.rb_bits()) as usize;
@@ -208,6 +213,7 @@ impl Allocator {
         ensures fault { (p : Pending) → AllocatorInvariant S.view self.old p file.old → cluster / counts_per_block file.old.header.fields < entry_count self.old.reftable → IsHostCluster file.old.header.fields.cluster_bits cluster → IfErr result IsFault }
         ensures has { OnOk result (HasNone self.new.reftable (cluster / counts_per_block file.old.header.fields) → ⊥) }
         ensures hint { (p : Pending) → AllocatorInvariant S.view self.old p file.old → NoFreeBelowHint S.view self.old file.old → KeepsNoFreeBelowHint S.view self.new file.new result }
+        ensures quiet { OnOk result (LooksOrMakes S.view file.old file.new self.old.reftable self.new.reftable) }
         ensures header_cluster { SparesHeader S.view self.old.reftable file.old self.new.reftable file.new }
     {
         let bits = file.header.rb_bits();

@@ -10,7 +10,7 @@ ghost use Rattle.qcow2_alloc.specs.Faults.{CountsFaults};
 ghost use Rattle.qcow2_alloc.specs.SparedHeaders.{SparesHeaderButPointer};
 ghost use Rattle.qcow2_alloc.specs.ClustersToFree.{metadata_entry};
 ghost use Rattle.qcow2_alloc.specs.declared.clusters_to_free.ClusterKind.TheVariants.{Metadata};
-ghost use Rattle.qcow2_alloc.specs.FreeList.{pending_then, ListsTables, IsRunOfTable, GivesWay};
+ghost use Rattle.qcow2_alloc.specs.FreeList.{pending_then, ListsTables, IsRunOfTable, FillsClusters, GivesWay};
 ghost use Rattle.qcow2_alloc.specs.GrownTables.{EntersReftable};
 ghost use Rattle.qcow2_alloc.specs.Growing.{IsLongEnough, IsLeastLength, IsCloneOf};
 ghost use Rattle.qcow2_alloc.specs.MadeClusters.{IsMadeOnTheWay, TakesAlone};
@@ -134,7 +134,7 @@ impl Allocator {
         ensures table { OnOk result (entry_count self.new.reftable ≡ entry_count table) }
         ensures lacking { OnOk result (NamesLacking self.old.reftable table self.new.reftable) }
         ensures first { self.new.first_free_cluster ≡ self.old.first_free_cluster }
-        ensures elsewhere { OnOk result (IfSome self.new.reftable.cluster (λ c. 0 < c)) }
+        ensures fills { entry_count table % entries_per_cluster file.old.header.fields ≡ 0 → OnOk result (FillsClusters self.new.reftable) }
         ensures cause { IfErr result IsOfTables }
         ensures kept { OnErr result (self.new.reftable ≡ self.old.reftable) }
         ensures storage_faults { CountsFaults S.view file.old.storage file.new.storage result }

@@ -9,6 +9,7 @@ ghost use Rattle.qcow2_alloc.specs.SparedHeaders.{SparesHeader};
 ghost use Rattle.qcow2_alloc.specs.ImageError.{IsOfTables};
 ghost use Rattle.qcow2_alloc.specs.ImageFile.{AllocatorInvariant};
 ghost use Rattle.qcow2_alloc.specs.LowestRuns.{NoFreeBelowHint, KeepsNoFreeBelowHint};
+ghost use Rattle.qcow2_alloc.specs.QuietSearches.{LooksQuietly};
 ghost use Rattle.qcow2_alloc.specs.UsedCounts.{passed_hint, PassesUsed, GoesFar};
 
 use crate::{Allocator, ImageError, ImageFile};
@@ -34,6 +35,7 @@ impl Allocator {
         ensures far { IfOk result (GoesFar file.old.header.fields self.old.reftable file.new.caches cluster) }
         ensures hint { (p : Pending) → AllocatorInvariant S.view self.old p file.old → NoFreeBelowHint S.view self.old file.old → KeepsNoFreeBelowHint S.view self.new file.new result }
         ensures unaligned { IsUnaligned file.old.header.fields self.old.reftable (cluster / counts_per_block file.old.header.fields) → IsErrOf result ImageError.UnalignedTable × (file.new ≡ file.old) }
+        ensures quiet { LooksQuietly S.view file.old file.new }
         ensures header_cluster { SparesHeader S.view self.old.reftable file.old self.new.reftable file.new }
     {
         let next = self.behind_used(file, cluster)?;
@@ -59,6 +61,7 @@ impl Allocator {
         ensures behind { IfOk result (λ next. cluster ≤ next) }
         ensures far { IfOk result (GoesFar file.old.header.fields self.now.reftable file.new.caches cluster) }
         ensures unaligned { IsUnaligned file.old.header.fields self.now.reftable (cluster / counts_per_block file.old.header.fields) → IsErrOf result ImageError.UnalignedTable × (file.new ≡ file.old) }
+        ensures quiet { LooksQuietly S.view file.old file.new }
         ensures header_cluster { SparesHeader S.view self.now.reftable file.old self.now.reftable file.new }
     {
         let bits = file.header.rb_bits();

@@ -32,3 +32,4 @@ pub mod InUse
 pub mod LowestTables
 pub mod Pinned
 pub mod Met
+pub mod MarkedPlaces

@@ -11,3 +11,5 @@ pub mod GrowCalls
 pub mod GrownTables
 pub mod CountedTurns
 pub mod LackedTables
+pub mod NeededLengths
+pub mod LowestTail

@@ -13,6 +13,7 @@ use Rattle.qcow2_image.specs.declared.prepared.Prepared.{Prepared}
 use Rattle.qcow2_image.specs.Found.{l1_index_of}
 use Rattle.qcow2_image.specs.Image.{HasNothingToFree, IsBegun}
 use Rattle.qcow2_image.specs.ImageInvariant.{ImageInvariant, abstract_of, pending_in}
+use Rattle.qcow2_image.specs.MetAlone.{KeepsL1Place}
 use Rattle.qcow2_image.specs.UnseenSteps.{NamesOwn}
 
 -- The L1 table has the entries that it had, and those up to that of an offset, and not one more.
@@ -23,9 +24,17 @@ ReachesOffset offset h h' = h'.l1_entries ≡ max h.l1_entries (l1_index_of h of
 abbrev pub IsNoLonger : ℕ → HeaderFields → HeaderFields → Type 0
 IsNoLonger offset h h' = h'.l1_entries ≤ max h.l1_entries (l1_index_of h offset + 1)
 
--- An L1 table that has an entry for the last byte before an offset stays as long as it is.
+-- The L1 table isn't shorter than it was, and longer only as far as an offset needs it.
+abbrev pub IsLongerByNeed : ℕ → HeaderFields → HeaderFields → Type 0
+IsLongerByNeed offset h h' = (h.l1_entries ≤ h'.l1_entries) × IsNoLonger offset h h'
+
+-- An L1 table that has an entry for the last byte before an offset keeps its length.
 abbrev pub StaysAsLong : ℕ → HeaderFields → HeaderFields → Type 0
 StaysAsLong to h h' = l1_index_of h (to - 1) < h.l1_entries → h'.l1_entries ≡ h.l1_entries
+
+-- An L1 table that has an entry for the last byte before an offset stays where it is, and as long.
+abbrev pub ReachingStays : ℕ → HeaderFields → HeaderFields → Type 0
+ReachingStays to h h' = l1_index_of h (to - 1) < h.l1_entries → KeepsL1Place h h'
 
 module _ {S F : Type 0} where
   -- by the header in memory the L1 table is as long as it was, or has so many entries

@@ -34,3 +34,4 @@ pub mod LackedPlaces
 pub mod LackedTables
 pub mod Noted
 pub mod BehindHeader
+pub mod PreparedPlaces

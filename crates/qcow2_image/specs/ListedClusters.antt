@@ -48,6 +48,10 @@ module _ {S F : Type 0} where
   abbrev pub SomeGaveWay : Qcow2 S F → Qcow2 S F → Type 0
   SomeGaveWay old new = (went : List ClustersToFreeEntry) × GaveWayMeanwhile went old new
 
+  -- Where the image had an allocator, reftables may have given way, and some entries are for their clusters.
+  abbrev pub MayGiveWay : Qcow2 S F → Qcow2 S F → Type 0
+  MayGiveWay old new = (before : Allocator) → old.allocator ≡ Some before → SomeGaveWay old new
+
   -- What is listed once the L2 table of an offset was needed. Where the image had that table as its own, the list is as before; else all that was listed is freed, and so are the clusters of the reftables that gave way by then.
   -- Behind that are the clusters of the reftables that gave way since, and nothing else.
   pub record ListsSinceTable (offset : ℕ) (old new : Qcow2 S F) : Type 0 where

@@ -11,7 +11,7 @@ use Rattle.qcow2_image.specs.declared.image.Qcow2.{Qcow2}
 use Rattle.qcow2_image.specs.declared.prepared.Prepared.{Prepared}
 use Rattle.qcow2_image.specs.declared.prepared.Share.TheVariants.{New}
 use Rattle.qcow2_image.specs.LackedPlaces.{IsListed, StandsInWay, l1_clusters}
-use Rattle.qcow2_image.specs.ListedClusters.{GaveWayMeanwhile}
+use Rattle.qcow2_image.specs.ListedClusters.{GaveWayMeanwhile, SomeGaveWay}
 use Rattle.qcow2_image.specs.LongerTables.{listed, run_of_table}
 use Rattle.qcow2_image.specs.PinnedTables.{own_table}
 use Rattle.qcow2_image.specs.Prepared.{offset_of}
@@ -56,7 +56,7 @@ module _ {S F : Type 0} (view : S → StorageView) where
     pub gone : GaveWayMeanwhile went old new
     pub lowest : IsLowestRun (λ k. IsUsed view old.file k ⊎ (IsUsed view new.file k ⊎ IsListed went k)) first n
 
-  -- No lower run that is long enough for the L1 table of a larger disk was free all along, judged as the call returns.
+  -- No lower run that is long enough for the L1 table of a larger disk was free all along, judged as the call returns. What the call itself took, also for data, counts as in use.
   abbrev pub GrowsFromLowest : Qcow2 S F → Qcow2 S F → Type 0
   GrowsFromLowest old new = TakesLowestRun (new.file.header.fields.l1_offset / cluster_size old.file.header.fields) (l1_clusters old.file.header.fields new.file.header.fields.l1_entries) old new
 
@@ -73,6 +73,7 @@ module _ {S F : Type 0} (view : S → StorageView) where
   abbrev pub TakesLowestTables : ℕ → Qcow2 S F → Qcow2 S F → Type 0
   TakesLowestTables offset old new = OfMadeTables (λ first n. TakesLowestRun first n old new) offset old new
 
-  -- so they do, where clusters are to be freed still
-  abbrev pub LeavesLowestTables : ℕ → Qcow2 S F → Qcow2 S F → Type 0
-  LeavesLowestTables offset old new = OfMadeTables (λ first n. TakesLowestLeaving first n old new) offset old new
+  -- so they do, where clusters are to be freed still, and reftables may have given way
+  pub record LeavesLowestTables (offset : ℕ) (old new : Qcow2 S F) : Type 0 where
+    pub gave : SomeGaveWay old new
+    pub tables : OfMadeTables (λ first n. TakesLowestLeaving first n old new) offset old new

@@ -1,15 +1,20 @@
 -- What want of memory leaves of an image, and what a call counts of changes.
-use Rattle.std.specs.Prelude.{◌≡◌, ◌⊎◌, ◌<◌, ◌≤◌, Result, IfErr, IsErrOf, IsTrue}
-use Rattle.image_access.specs.Moments.{StorageView, ContentsStay, Rose}
+use Rattle.std.specs.Prelude.{◌≡◌, ◌⊎◌, ℕ, ◌+◌, ◌<◌, ◌≤◌, List, Result, Ok, Err, IfErr, IsErrOf, IsSome, IsTrue}
+use Rattle.image_access.specs.Contents.{overwritten}
+use Rattle.image_access.specs.Moments.{StorageView, ContentsStay, EachMomentSince, Rose}
 use Rattle.qcow2_alloc.specs.declared.error.ImageError.{ImageError}
 use Rattle.qcow2_alloc.specs.declared.error.ImageError.TheVariants.{Memory}
 use Rattle.qcow2_alloc.specs.ImageFile.{view_in}
 use Rattle.qcow2_image.specs.declared.image.Qcow2.{Qcow2}
 use Rattle.qcow2_image.specs.declared.prepared.CommitRefused.{CommitRefused}
+use Rattle.qcow2_image.specs.declared.prepared.Prepared.{Prepared}
+use Rattle.qcow2_image.specs.CallParts.{IsWriteOutcome}
 use Rattle.qcow2_image.specs.Calls.{reason_of}
+use Rattle.qcow2_image.specs.Prepared.{offset_of, table_of}
 use Rattle.qcow2_alloc.specs.ImageStorage.{changes_of, data_changes_of}
 use Rattle.qcow2_alloc.specs.KeptMarks.{HaveRisen, changes_in}
-use Rattle.qcow2_image.specs.Image.{has_noted_change, is_failed}
+use Rattle.qcow2_alloc.specs.KeptNotes.{AlsoData}
+use Rattle.qcow2_image.specs.Image.{has_noted_change, is_failed, storage_of_image}
 
 module _ {S F : Type 0} where
   -- a change of the storage, of a table or of a count was counted: one of their numbers rose, or stood at the greatest u64
@@ -37,18 +42,33 @@ module _ {S F : Type 0} where
   abbrev pub TellsDataAlone : Qcow2 S F → Qcow2 S F → Type 0
   TellsDataAlone old new = (changes_of new.file.storage ≡ changes_of old.file.storage) ⊎ TellsData old new
 
+-- what preparing may tell as data: nothing, where it answers an existing mapping
+abbrev pub DataUnlessExisting : Result Prepared ImageError → Type 0
+DataUnlessExisting (Ok p) = IsSome (table_of p)
+DataUnlessExisting (Err e) = AlsoData
+
 -- What a call leaves that want of memory refused. While the image hasn't failed, the contents stayed. It failed by this call only where a change was counted in it, and wherever one was.
 pub record MarksOnceChanged {S F : Type 0} (view : S → StorageView) (old new : Qcow2 S F) : Type 0 where
   pub contents : ¬ IsTrue (is_failed new) → ContentsStay (view_in view old.file) (view_in view new.file)
   pub changed : IsTrue (is_failed new) → IsTrue (is_failed old) ⊎ ChangesRose old new
   pub marked : HasMoreChanges old new → IsTrue (is_failed new)
 
-abbrev pub FailsOnceWritten : {S F A : Type 0} → (S → StorageView) → Qcow2 S F → Qcow2 S F → Result A ImageError → Type 0
-FailsOnceWritten view old new result = IsErrOf result Memory → MarksOnceChanged view old new
+module _ {S F : Type 0} (view : S → StorageView) (old new : Qcow2 S F) where
+  -- A call whose storage has other contents behind it counted a change, whatever it answers. It lowers no number of changes, and an honest storage stays honest.
+  pub record CountsImageChanges : Type 0 where
+    pub no_fewer : NoFewerChanges old new
+    pub honest : (view_in view old.file).is_honest → (view_in view new.file).is_honest
+    pub contents : ¬ ChangesRose old new → ContentsStay (view_in view old.file) (view_in view new.file)
 
--- so it is of a commit, whatever becomes of its mapping
-abbrev pub CommitFailsOnceWritten : {S F A : Type 0} → (S → StorageView) → Qcow2 S F → Qcow2 S F → Result A CommitRefused → Type 0
-CommitFailsOnceWritten view old new result = IfErr result (λ refused. reason_of refused ≡ Memory → MarksOnceChanged view old new)
+  -- so does one that want of memory may refuse, which fails the image just where a change was counted
+  pub record FailsOnceWritten {A : Type 0} (result : Result A ImageError) : Type 0 where
+    pub counts : CountsImageChanges
+    pub memory : IsErrOf result Memory → MarksOnceChanged view old new
+
+  -- so it is of a commit, whatever becomes of its mapping
+  pub record CommitFailsOnceWritten {A : Type 0} (result : Result A CommitRefused) : Type 0 where
+    pub counts : CountsImageChanges
+    pub memory : IfErr result (λ refused. reason_of refused ≡ Memory → MarksOnceChanged view old new)
 
 module _ {S F : Type 0} (view : S → StorageView) (old new : Qcow2 S F) where
   -- A call notes and counts what it changes: an honest storage stays honest, what is noted in it was counted, and where nothing was counted the contents stayed. It tells nothing as data.
@@ -66,3 +86,14 @@ module _ {S F : Type 0} (view : S → StorageView) (old new : Qcow2 S F) where
     pub why : IsTrue (has_noted_change new) → IsTrue (has_noted_change old) ⊎ ChangesRose old new
     pub contents : ¬ IsTrue (has_noted_change old) → ¬ ChangesRose old new → ContentsStay (view_in view old.file) (view_in view new.file)
     pub kinds : TellsNoData old new
+
+-- There is an image `before`, up to which no write was told as data. From there on the put's bytes are written at once, at their place in the mapping.
+-- Into a mapping that isn't existing nothing else is written.
+pub record TellsPut {S F : Type 0} (view : S → StorageView) (p : Prepared) (at : ℕ) (bytes : List ℕ) (old new : Qcow2 S F) (result : Result (Unit {0}) ImageError) : Type 0 where
+  pub before : Qcow2 S F
+  pub honest : (view_in view old.file).is_honest → (view_in view before.file).is_honest
+  pub earlier : TellsNoData old before
+  pub idle : IsSome (table_of p) → (storage_of_image before ≡ storage_of_image old) × (changes_of before.file.storage ≡ changes_of old.file.storage)
+  pub alone : TellsDataAlone before new
+  pub time : (view_in view before.file).is_honest → EachMomentSince (view_in view before.file) (view_in view new.file) (λ c. c ≡ (view_in view new.file).contents)
+  pub written : (view_in view before.file).is_honest → IsWriteOutcome result (view_in view before.file).contents (overwritten (view_in view before.file).contents (offset_of p + at) bytes) (view_in view new.file).contents

@@ -25,8 +25,9 @@ use Rattle.qcow2_image.specs.CallParts.{AreCopied, StaysBeside}
 use Rattle.qcow2_image.specs.Clearing.{IsUnderMapping, setting_of}
 use Rattle.qcow2_image.specs.Image.{HasNothingToFree, size_of, has_noted_change}
 use Rattle.qcow2_image.specs.ImageInvariant.{ImageInvariant, abstract_of, disk_of, meaning, pending_in}
-use Rattle.qcow2_image.specs.L1Entries.{StaysAsLong}
+use Rattle.qcow2_image.specs.L1Entries.{ReachingStays, StaysAsLong}
 use Rattle.qcow2_image.specs.LackedPlaces.{LacksPlaceFor, LacksTableFor}
+use Rattle.qcow2_image.specs.ListedClusters.{MayGiveWay}
 use Rattle.qcow2_image.specs.MovedTables.{CoversStay, MovesTables}
 use Rattle.qcow2_alloc.specs.ImageFile.{known_in}
 
@@ -82,7 +83,8 @@ module _ {S F : Type 0} (view : S → StorageView) (backing : F → BackingView)
     pub sound : ImageInvariant view backing (pending_in view backing new out) new out
     pub shows : guest_of (abstract_of view backing new out) ≡ with_disk (guest_of (abstract_of view backing old out)) (zeroed_between (disk_of view backing old) from to)
     pub header : MovesTables old.file.header.fields new.file.header.fields
-    pub length : StaysAsLong to old.file.header.fields new.file.header.fields
+    pub l1_table : ReachingStays to old.file.header.fields new.file.header.fields
+    pub reftables : MayGiveWay old new
     pub covers : FilledCovers (cluster_size old.file.header.fields) first from to old.file.header.fields (known_in view old.file) new.file.header.fields (known_in view new.file)
     pub free : ChangesFree (cluster_size old.file.header.fields) first from to old.file.header.fields (known_in view old.file) out
 
@@ -115,11 +117,12 @@ module _ {S F : Type 0} (view : S → StorageView) (backing : F → BackingView)
     pub zeros : first ≤ offset → LacksTableFor view offset mid new
     pub emptied : HasNothingToFree new
 
-  -- A refused part: one or the other. That a table is prepared refuses it only where one of the range is, and a limit only where a place lacks for it.
+  -- A refused part: one or the other. That a table is prepared refuses it only where one of the range is, and a limit only where a place lacks for it. An L1 table that reaches the range stays as long.
   pub record RefusedFill (first from to : ℕ) (old new : Qcow2 S F) (out : List (Option Prepared)) (e : ImageError) : Type 0 where
     pub left : FillsSome from to old new out ⊎ InterruptedGiving (given_by_zeros from to ∷ []) old new out e
     pub taken : e ≡ I.TablePrepared → IsUnderMappingIn old.file.header.fields from to out
     pub limit : e ≡ I.Limit → LacksPlaceOnWay first from to old new out
+    pub length : StaysAsLong to old.file.header.fields new.file.header.fields
 
   abbrev pub FillsOrRefuses : (first from to : ℕ) → Qcow2 S F → Qcow2 S F → List (Option Prepared) → Result (Unit {0}) ImageError → Type 0
   FillsOrRefuses first from to old new out (Ok _) = FillsPart first from to old new out
@@ -138,6 +141,7 @@ module _ {S F : Type 0} (view : S → StorageView) (backing : F → BackingView)
     pub beside : StaysBeside view p.guest (p.guest + p.length) old new
     pub copied : IsSome p.table → AreCopied view p.guest (p.guest + p.length) new
     pub still : p.table ≡ None → CoversStay old.file.header.fields (known_in view old.file) new.file.header.fields (known_in view new.file)
+    pub allocator : new.allocator ≡ old.allocator
 
   -- ---- behind the end of a disk that grows
 
@@ -150,7 +154,8 @@ module _ {S F : Type 0} (view : S → StorageView) (backing : F → BackingView)
     pub sound : ImageInvariant view backing (pending_in view backing new out) new out
     pub shows : guest_of (abstract_of view backing new out) ≡ with_disk (guest_of (abstract_of view backing old out)) (filled_to (cluster_size old.file.header.fields) (disk_of view backing old) size mode)
     pub header : MovesTables old.file.header.fields new.file.header.fields
-    pub length : StaysAsLong (rounded_up (cluster_size old.file.header.fields) size) old.file.header.fields new.file.header.fields
+    pub l1_table : ReachingStays (rounded_up (cluster_size old.file.header.fields) size) old.file.header.fields new.file.header.fields
+    pub reftables : MayGiveWay old new
     pub covers : GrownCovers mode (size_of old) size old.file.header.fields (known_in view old.file) new.file.header.fields (known_in view new.file)
     pub free : GrownFree mode (size_of old) size old.file.header.fields (known_in view old.file) out
 
@@ -163,10 +168,12 @@ module _ {S F : Type 0} (view : S → StorageView) (backing : F → BackingView)
     pub shows : guest_of (abstract_of view backing new out) ≡ with_disk (guest_of (abstract_of view backing old out)) now
 
   -- Or it broke off. That a table is prepared refuses it only where zeros are asked for, and one of the range behind the end is; a limit only where a place lacks for that.
+  -- An L1 table that reaches the larger size stays as long.
   pub record RefusedGrown (size : ℕ) (mode : PreallocateMode) (old new : Qcow2 S F) (out : List (Option Prepared)) (e : ImageError) : Type 0 where
     pub left : FillsGrownInPart size mode old new out ⊎ InterruptedGiving (all_given_by_growing old size mode) old new out e
     pub taken : e ≡ I.TablePrepared → (shows_old mode ≡ false) × IsUnderMappingIn old.file.header.fields (disk_of view backing old).size (rounded_up (cluster_size old.file.header.fields) size) out
     pub limit : e ≡ I.Limit → LacksPlaceOnWay (first_zeros (cluster_size old.file.header.fields) (size_of old) size mode) (size_of old) (rounded_up (cluster_size old.file.header.fields) size) old new out
+    pub length : StaysAsLong (rounded_up (cluster_size old.file.header.fields) size) old.file.header.fields new.file.header.fields
 
   abbrev pub FillsGrownOrRefuses : ℕ → PreallocateMode → Qcow2 S F → Qcow2 S F → List (Option Prepared) → Result (Unit {0}) ImageError → Type 0
   FillsGrownOrRefuses size mode old new out (Ok _) = FillsGrown size mode old new out

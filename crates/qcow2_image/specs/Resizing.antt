@@ -20,15 +20,16 @@ use Rattle.qcow2_alloc.specs.declared.error.ImageError.TheVariants as I
 use Rattle.qcow2_image.specs.Backings.{HasPrepared}
 use Rattle.qcow2_image.specs.CallParts.{UnseenCall}
 use Rattle.qcow2_image.specs.Calls.{refusal_of}
-use Rattle.qcow2_image.specs.Clearing.{ClearsImageCovers, RefusesUngiven, given_bytes_between, setting_of}
+use Rattle.qcow2_image.specs.Clearing.{ClearsImageCovers, RefusesUngiven, given_bytes_between, setting_of, to_in}
 use Rattle.qcow2_image.specs.declared.discarding.Clearance.TheVariants.{Uncovered}
 use Rattle.qcow2_image.specs.declared.image.Qcow2.{Qcow2}
 use Rattle.qcow2_image.specs.declared.prepared.Prepared.{Prepared}
 use Rattle.qcow2_image.specs.Growing.{ReachesSize, SameFormat}
 use Rattle.qcow2_image.specs.Image.{HasNothingToFree, is_external, is_failed, is_writable, number_of, size_of}
 use Rattle.qcow2_image.specs.ImageInvariant.{ImageInvariant, abstract_of, disk_of, pending_in}
-use Rattle.qcow2_image.specs.L1Entries.{ReachesOffset}
+use Rattle.qcow2_image.specs.L1Entries.{IsLongerByNeed, ReachesOffset}
 use Rattle.qcow2_image.specs.LackedTables.{LacksTableReaching}
+use Rattle.qcow2_image.specs.LowestPlaces.{TakesLowestTables}
 use Rattle.qcow2_image.specs.MovedTables.{CoversStay}
 use Rattle.qcow2_image.specs.NewTables.{LacksTable}
 use Rattle.qcow2_image.specs.Preallocation.{GrownFree, IsUnderMappingIn}
@@ -65,6 +66,10 @@ module _ {S F : Type 0} where
   abbrev pub boundary_in : Qcow2 S F → ℕ → ℕ
   boundary_in image offset = rounded_up (cluster_size image.file.header.fields) offset
 
+  -- one L2 table covers all whole clusters from an offset on
+  abbrev pub IsUnderOneTable : Qcow2 S F → ℕ → Type 0
+  IsUnderOneTable image at = to_in image at (size_of image - at) ≡ boundary_in image (size_of image)
+
 -- What a turn from an offset on leaves on the list. Nothing, where it was empty before or a whole cluster was uncovered, nor where the turn was refused, but after a fault.
 abbrev pub FreesTurn : {S F : Type 0} → Qcow2 S F → Qcow2 S F → ℕ → Result ℕ ImageError → Type 0
 FreesTurn old new at (Ok next) = (boundary_in old at < size_of old) ⊎ HasNothingToFree old → HasNothingToFree new
@@ -83,6 +88,10 @@ pub record IsTurnEnd (cluster_size end at next : ℕ) : Type 0 where
   pub whole : (next ≡ end) ⊎ ((rounded_up cluster_size next ≡ next) × (rounded_up cluster_size at < next))
 
 module _ {S F : Type 0} (view : S → StorageView) where
+  -- where one L2 table covers all whole clusters behind an offset, and there is one, the tables that a call made for them lie lowest
+  abbrev pub TakesLowestBehind : ℕ → Qcow2 S F → Qcow2 S F → Type 0
+  TakesLowestBehind at old new = boundary_in old at < size_of old → IsUnderOneTable old at → TakesLowestTables view (boundary_in old at) old new
+
   -- Why the tail isn't uncovered from an offset on. The disk's end, rounded up, passes 64 bits; or the first whole cluster has no L2 table of its own.
   abbrev pub CantUncover : (end : ℕ) → Qcow2 S F → ℕ → Type 0
   CantUncover end image offset = (2 ^ 64 ≤ boundary_in image end) ⊎ LacksTable view image (boundary_in image offset)
@@ -91,8 +100,9 @@ module _ {S F : Type 0} (view : S → StorageView) where
   abbrev pub IsFaultOrCantUncover : (end : ℕ) → Qcow2 S F → ℕ → ImageError → Type 0
   IsFaultOrCantUncover end image offset e = IsFaultOfTables e ⊎ CantUncover end image offset
 
-  -- Why the tail is uncovered up to an answer alone, and that no cluster is left to be freed where a whole one lay behind the new end.
+  -- Why the tail is uncovered up to an answer alone, and that no cluster is left to be freed where a whole one lay behind the new end. Where the answer is the old size, and one L2 table covers the tail, the tables that this took lie lowest.
   pub record EndsTail (old new : Qcow2 S F) (size answer : ℕ) : Type 0 where
+    pub tables : answer ≡ size_of old → TakesLowestBehind size old new
     pub stops : answer < size_of old → CantUncover (size_of old) new answer
     pub emptied : boundary_in old size < size_of old → HasNothingToFree new
 
@@ -148,10 +158,12 @@ module _ {S F : Type 0} (view : S → StorageView) (backing : F → BackingView)
 
   -- A prepared L2 table refuses it only where zeros are asked for, and one of the range behind the old end is.
   -- With `Zero`, where no entry can say that a cluster is zeros, no byte changes. Then it is refused for the version, but for a fault, and where an L1 table that is long enough lacks.
+  -- The L1 table isn't shorter than it was, and longer only as far as the larger size needs it.
   pub record RefusesTables (mode : PreallocateMode) (size : ℕ) (old new : Qcow2 S F) (out : List (Option Prepared)) (e : ImageError) : Type 0 where
     pub taken : e ≡ I.TablePrepared → (shows_old mode ≡ false) × IsUnderMappingIn old.file.header.fields (size_of old) (boundary_in old size) out
     pub zeros : mode ≡ Mode.Zero → LacksZeros old → RefusesUnchanged old new out e
     pub version : mode ≡ Mode.Zero → LacksZeros old → (e ≡ I.Version) ⊎ IsFaultOr (LacksTableReaching view (size - 1) old new) e
+    pub length : IsLongerByNeed (size - 1) old.file.header.fields new.file.header.fields
 
   -- one or the other
   abbrev pub GrowsTables : Qcow2 S F → Qcow2 S F → ℕ → PreallocateMode → List (Option Prepared) → Result (Unit {0}) ImageError → Type 0
@@ -171,10 +183,10 @@ module _ {S F : Type 0} (view : S → StorageView) (backing : F → BackingView)
     pub shows : ShowsBelow at next old new out
     pub covers : UncoversClusters view at next old new
 
-  -- one turn of that
+  -- one turn of that, which goes up to the end where one L2 table covers the rest
   abbrev pub UncoversNext : Qcow2 S F → Qcow2 S F → ℕ → Result ℕ ImageError → Type 0
   UncoversNext old new at (Ok next) = (out : List (Option Prepared)) → ImageInvariant view backing (pending_in view backing old out) old out
-      → UncoversPart at next old new out × IsTurnEnd (cluster_size old.file.header.fields) (size_of old) at next
+      → UncoversPart at next old new out × IsTurnEnd (cluster_size old.file.header.fields) (size_of old) at next × (boundary_in old at < size_of old → IsUnderOneTable old at → next ≡ size_of old) × TakesLowestBehind view at old new
   UncoversNext old new at (Err e) =
       ((out : List (Option Prepared)) → let v = abstract_of view backing old out in let w = abstract_of view backing new out in
       RefusedEffect v w (given_bytes_between view backing old Uncovered (boundary_in old at) (boundary_in old (size_of old))) [] (refusal_of e) (IsSame v w))
@@ -182,7 +194,7 @@ module _ {S F : Type 0} (view : S → StorageView) (backing : F → BackingView)
 
   -- All turns: up to an offset the tail is uncovered. A fault ended them, and the image failed then, unless memory was refused before the last turn changed anything.
   abbrev pub UncoversTail : Qcow2 S F → Qcow2 S F → (size at : ℕ) → Option ImageError → List (Option Prepared) → Type 0
-  UncoversTail old new size at None out = UncoversPart size at old new out × IsShrinkEnd (cluster_size old.file.header.fields) (size_of old) size at
+  UncoversTail old new size at None out = UncoversPart size at old new out × IsShrinkEnd (cluster_size old.file.header.fields) (size_of old) size at × (at ≡ size_of old → TakesLowestBehind view size old new)
   UncoversTail old new size at (Some e) out =
       EffectOnSound (abstract_of view backing old out) (abstract_of view backing new out) (given_bytes_between view backing old Uncovered (boundary_in old size) (boundary_in old (size_of old))) []
       × ((ImageInvariant view backing (pending_in view backing new out) new out × ShowsBelow size at old new out × IsShrinkEnd (cluster_size old.file.header.fields) (size_of old) size at) ⊎ IsTrue (is_failed new))

@@ -3,6 +3,7 @@ ghost use Rattle.qcow2_alloc.specs.LowestRuns.{StaysUsed};
 ghost use Rattle.qcow2_image.specs.LackedPlaces.{IsLimitedByCluster, IsLimitedByFirst, first_of_range};
 ghost use Rattle.qcow2_metadata.specs.TableBytes.{HasPlace};
 ghost use Rattle.qcow2_image.specs.BehindHeader.{StaysBehindHeader};
+ghost use Rattle.qcow2_image.specs.PreparedPlaces.{MarkedIsBehind};
 ghost use Rattle.qcow2_alloc.specs.KeptMarks.{KeepsFileNotes};
 ghost use Rattle.qcow2_alloc.specs.KeptNotes.{AlsoData, NoData};
 ghost use Rattle.std.specs.Prelude.{List, Option, ◌≡◌, ◌+◌, ◌-◌, ◌/◌, ◌%◌, ◌^◌, ◌<◌, ◌≤◌, true, false, Some, [], ◌∷◌, vec_capacity, IfOk, IfErr, IsSome, IsTrue, OnOk};
@@ -73,6 +74,7 @@ impl<S: Storage, F: WrappedFormat<S>> Qcow2<S, F> {
         ensures readies { (out : List (Option Prepared)) → ImageInvariant S.view F.backing (pending_in S.view F.backing self.old out) self.old out
             → HoldsTable S.view F.backing self.old offset table → Readies S.view F.backing self.old self.new out offset length overwrite result }
         ensures first { IfOk result (IsFirst self.old.file.header.fields offset table) }
+        ensures behind { IfOk result (λ p. cluster_size self.old.file.header.fields ≤ offset_of p) }
         ensures room { IfOk result (HasRoomForRange self.old.file.header.fields length) }
         ensures kept { (out : List (Option Prepared)) → ImageInvariant S.view F.backing (pending_in S.view F.backing self.old out) self.old out
             → HoldsTable S.view F.backing self.old offset table → IfOk result (BeginsInKept self.old.file.header.fields offset (cover self.old.file.header.fields (known_in S.view self.old.file) (offset / cluster_size self.old.file.header.fields))) }
@@ -106,6 +108,7 @@ impl<S: Storage, F: WrappedFormat<S>> Qcow2<S, F> {
         requires writable { IsTrue (is_writable self.old) }
         requires reach { IsInReach old.now }
         requires other { is_copied_data old.now ≡ false }
+        requires behind { MarkedIsBehind (cluster_size self.old.file.header.fields) old.now }
         requires empty { room.items ≡ [] }
         requires room { 0 < vec_capacity room }
         ensures stays { ImageStays self.old self.new }
@@ -116,6 +119,7 @@ impl<S: Storage, F: WrappedFormat<S>> Qcow2<S, F> {
         ensures limit { (out : List (Option Prepared)) → ImageInvariant S.view F.backing (pending_in S.view F.backing self.old out) self.old out → HoldsTable S.view F.backing self.old offset table → IfErr result (IsLimitedByFirst S.view old.now self.old self.new) }
         ensures own { IfOk result (λ p. image_of p ≡ number_of self.old) }
         ensures first { IfOk result (IsFirst self.old.file.header.fields offset table) }
+        ensures behind { IfOk result (λ p. cluster_size self.old.file.header.fields ≤ offset_of p) }
         ensures room { IfOk result (λ p. vec_capacity p.shares ≡ vec_capacity room) }
         ensures kept { IfOk result (BeginsInKept self.old.file.header.fields offset old.now) }
         ensures readies { (out : List (Option Prepared)) → ImageInvariant S.view F.backing (pending_in S.view F.backing self.old out) self.old out
@@ -144,6 +148,7 @@ impl<S: Storage, F: WrappedFormat<S>> Qcow2<S, F> {
         room: Vec<Share>,
     ) -> Result<Prepared, ImageError>
         requires reach { host ≤ greatest_offset }
+        requires behind { cluster_size self.old.file.header.fields ≤ host }
         requires empty { room.items ≡ [] }
         requires room { 0 < vec_capacity room }
         ensures stays { ImageStays self.old self.new }
@@ -154,6 +159,7 @@ impl<S: Storage, F: WrappedFormat<S>> Qcow2<S, F> {
         ensures limited { IfErr result IsUnlimited }
         ensures own { IfOk result (λ p. image_of p ≡ number_of self.old) }
         ensures first { IfOk result (IsFirst self.old.file.header.fields offset table) }
+        ensures behind { IfOk result (λ p. cluster_size self.old.file.header.fields ≤ offset_of p) }
         ensures room { IfOk result (λ p. vec_capacity p.shares ≡ vec_capacity room) }
         ensures place { IfOk result (λ p. offset_of p ≡ host + offset % cluster_size self.old.file.header.fields) }
         ensures readies { (out : List (Option Prepared)) → ImageInvariant S.view F.backing (pending_in S.view F.backing self.old out) self.old out
@@ -193,6 +199,7 @@ impl<S: Storage, F: WrappedFormat<S>> Qcow2<S, F> {
         ensures limit { (out : List (Option Prepared)) → ImageInvariant S.view F.backing (pending_in S.view F.backing self.old out) self.old out → HoldsTable S.view F.backing self.old offset table → IfErr result (IsLimitedByCluster S.view self.old self.new) }
         ensures own { IfOk result (λ p. image_of p ≡ number_of self.old) }
         ensures first { IfOk result (IsFirst self.old.file.header.fields offset table) }
+        ensures behind { IfOk result (λ p. cluster_size self.old.file.header.fields ≤ offset_of p) }
         ensures room { IfOk result (λ p. vec_capacity p.shares ≡ vec_capacity room) }
         ensures readies { (out : List (Option Prepared)) → ImageInvariant S.view F.backing (pending_in S.view F.backing self.old out) self.old out
             → HoldsTable S.view F.backing self.old offset table → l2_pins self.old.file.caches table ≡ 0 → cover self.old.file.header.fields (known_in S.view self.old.file) (offset / cluster_size self.old.file.header.fields) ≡ old.now
@@ -295,6 +302,7 @@ impl<S: Storage, F: WrappedFormat<S>> Qcow2<S, F> {
         requires writable { IsTrue (is_writable self.old) }
         requires reach { IsInReach old.now }
         ensures nameable { IfOk result (λ p. IsHostCluster self.old.file.header.fields.cluster_bits p.first_cluster) }
+        ensures elsewhere { IfOk result (λ p. 0 < p.first_cluster) }
         ensures header { KeepsHeader self.old.file.header self.new.file.header }
         ensures stays { ImageStays self.old self.new }
         ensures notes { KeepsFileNotes S.view AlsoData self.old.file self.new.file }
@@ -322,6 +330,7 @@ impl<S: Storage, F: WrappedFormat<S>> Qcow2<S, F> {
     fn take_data(&mut self) -> Result<PendingClusters, ImageError>
         requires writable { IsTrue (is_writable self.old) }
         ensures nameable { IfOk result (λ p. IsHostCluster self.old.file.header.fields.cluster_bits p.first_cluster) }
+        ensures elsewhere { IfOk result (λ p. 0 < p.first_cluster) }
         ensures header { KeepsHeader self.old.file.header self.new.file.header }
         ensures list { ListGrows self.old self.new }
         ensures stays { ImageStays self.old self.new }

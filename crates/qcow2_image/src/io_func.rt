@@ -25,7 +25,7 @@ ghost use Rattle.qcow2_image.specs.Unwritten.{OnlyReadsImage, ReadsQuietly};
 ghost use Rattle.qcow2_alloc.specs.declared.error.ImageError.TheVariants.{Compressed, NotCompressed, OutdatedMapping, ReadOnly};
 ghost use Rattle.qcow2_alloc.specs.KeptMarks.{KeepsFileNotes};
 ghost use Rattle.qcow2_alloc.specs.KeptNotes.{AlsoData, NoData};
-ghost use Rattle.qcow2_image.specs.Noted.{FailsOnceWritten, TellsData, TellsDataAlone, TellsNoData};
+ghost use Rattle.qcow2_image.specs.Noted.{FailsOnceWritten, TellsData, TellsDataAlone, TellsNoData, TellsPut};
 ghost use Rattle.qcow2_alloc.specs.ImageFile.{known_in};
 
 use crate::mappings::passes;
@@ -324,7 +324,8 @@ impl<S: Storage, F: WrappedFormat<S>> Qcow2<S, F> {
         Ok(Some(offset))
     }
 
-    /// Writes bytes into a prepared mapping, from `at` bytes within it on. They have to lie within its length.
+    /// Writes bytes into a prepared mapping, from `at` bytes within it on. They have to lie within its length. They
+    /// are told to the storage as a guest's data.
     /// Refused in this order: 16 (failed), 12 (dependency), 11 (foreign state) for a mapping of another image. Of no bytes it is Ok then.
     /// Else 1 (read-only), and 10 (outdated mapping) for an existing mapping that is no longer copied data at its place. Where the work
     /// meets them: 14 (memory), 15 (storage), and of an existing mapping 4 (unaligned table), 8 (everything is in use), and 20 (overflow)
@@ -355,7 +356,7 @@ impl<S: Storage, F: WrappedFormat<S>> Qcow2<S, F> {
         ensures held { refuses_mapping self.old (image_of prepared.now) ≡ None → table_of prepared.now ≡ None → 0 < length bytes.now → HeedsHeld self.new (prepared.now.guest + at) (Raw Image (prepared.now.offset + at) true) (length bytes.now) result }
         ensures freeing { ListStays self.old self.new }
         ensures header_cluster { StaysBehindHeader S.view self.old self.new }
-        ensures kinds { IsSome (table_of prepared.now) → TellsDataAlone self.old self.new }
+        ensures kinds { TellsPut S.view prepared.now at bytes.now self.old self.new result }
         ensures told { 0 < length bytes.now → OnOk result (TellsData self.old self.new) }
     {
         self.check_usable()?;
@@ -395,7 +396,7 @@ impl<S: Storage, F: WrappedFormat<S>> Qcow2<S, F> {
         ensures list { ListStays self.old self.new }
         ensures held { table_of prepared.now ≡ None → 0 < length bytes.now → HeedsHeld self.new (prepared.now.guest + at) (Raw Image (prepared.now.offset + at) true) (length bytes.now) result }
         ensures header_cluster { StaysBehindHeader S.view self.old self.new }
-        ensures kinds { IsSome (table_of prepared.now) → TellsDataAlone self.old self.new }
+        ensures kinds { TellsPut S.view prepared.now at bytes.now self.old self.new result }
         ensures told { OnOk result (TellsData self.old self.new) }
     {
         let Some(host) = prepared.offset.checked_add(at) else {

@@ -3,6 +3,7 @@ ghost use Rattle.qcow2_alloc.specs.LowestRuns.{StaysUsed};
 ghost use Rattle.qcow2_disk.specs.Alike.{AreDataAt};
 ghost use Rattle.qcow2_image.specs.LackedPlaces.{FreesJustListed, LacksData, LacksPlaceFor, LacksRange};
 ghost use Rattle.qcow2_image.specs.BehindHeader.{StaysBehindHeader};
+ghost use Rattle.qcow2_image.specs.PreparedPlaces.{HasBytesBehind, MarkedIsBehind};
 ghost use Rattle.std.specs.Prelude.{◌↔◌, ℕ, List, Option, ◌≡◌, ◌⊎◌, ◌≢◌, ◌+◌, ◌*◌, ◌-◌, ◌/◌, ◌%◌, true, Some, ◌^◌, ◌<◌, ◌≤◌, [], ◌∷◌, ◌++◌, length, slice_get, IfOk, IfErr, IfSome, IsErrAnd, OnOk, IsOk, IsNone, IsSome, IsTrue, IsFalse, MatchOption, MatchResult, Ok, Err, None, false};
 ghost use Rattle.qcow2_metadata.specs.EntryTable.{entry_count};
 ghost use Rattle.qcow2_image.specs.Backings.{HasPrepared};
@@ -16,8 +17,8 @@ ghost use Rattle.qcow2_image.specs.Ranges.{ReleasesOneMapping, Reaches};
 ghost use Rattle.qcow2_laws.specs.CrashInvariant.{Pending};
 ghost use Rattle.qcow2_alloc.specs.MetadataCaches.{IsEntryAt, l2_at};
 ghost use Rattle.qcow2_alloc.specs.KeptMarks.{KeepsFileNotes};
-ghost use Rattle.qcow2_alloc.specs.KeptNotes.{AlsoData, NoData};
-ghost use Rattle.qcow2_image.specs.Noted.{CommitFailsOnceWritten, FailsOnceWritten, TellsNoData};
+ghost use Rattle.qcow2_alloc.specs.KeptNotes.{NoData};
+ghost use Rattle.qcow2_image.specs.Noted.{CommitFailsOnceWritten, FailsOnceWritten, TellsNoData, DataUnlessExisting};
 ghost use Rattle.qcow2_alloc.specs.ImageFile.{known_in, FileInvariant, KeepsHeader};
 ghost use Rattle.qcow2_image.specs.L1Entries.{HasOwnTable, IsRefusedAsFar, NeedsFarEntry, RefusesFarEntryFreeing, ReachesAtMost};
 ghost use Rattle.qcow2_image.specs.LowestPlaces.{BeginsLowest, TakesLowestTables};
@@ -34,7 +35,7 @@ ghost use Rattle.qcow2_image.specs.declared.image.Qcow2.{Qcow2};
 ghost use Rattle.qcow2_image.specs.Found.{l1_index_of, l2_index_of};
 ghost use Rattle.qcow2_image.specs.UnseenSteps.{DropsNothing, HoldsTable, EntersCluster, EntersShare, FreesLater, Unpins, old_data_by, freed_by};
 ghost use Rattle.qcow2_image.specs.ImageInvariant.{ImageInvariant, listed_run, meaning, pending_in, abstract_of};
-ghost use Rattle.qcow2_metadata.specs.Header.{entries_per_cluster};
+ghost use Rattle.qcow2_metadata.specs.Header.{entries_per_cluster, cluster_size};
 ghost use Rattle.qcow2_metadata.specs.Cover.{cover};
 ghost use Rattle.qcow2_image.specs.declared.mapping.Place.TheVariants.{Image};
 ghost use Rattle.qcow2_image.specs.Refusals.{FreesRefused, refuses_to_prepare, passes as passes_size, IsMet, IsUnlimited, IsMetPreparing, MarksFailed, MarksRefused};
@@ -114,6 +115,27 @@ pub(crate) fn kept_place(mapping: &L2Mapping) -> Option<u64>
     }
 }
 
+// Whether a host cluster that is marked copied lies behind cluster 0, which is the header's and has so many bytes.
+fn is_behind_header(mapping: &L2Mapping, size: u64) -> bool
+    ensures { IsTrue result ↔ MarkedIsBehind size mapping.now }
+{
+    match mapping.host() {
+        Some(host) => !mapping.is_marked_copied() || host.value() >= size,
+        None => true,
+    }
+}
+
+// A place in the file, but none in cluster 0, which is the header's and has so many bytes.
+fn behind_header(place: Option<u64>, size: u64) -> Option<u64>
+    ensures behind { IfSome result (λ host. size ≤ host) }
+    ensures same { IfSome place (λ host. size ≤ host) → result ≡ place }
+{
+    match place {
+        Some(host) => { if host >= size { Some(host) } else { None } }
+        None => None,
+    }
+}
+
 // Whether a zero entry keeps the host cluster at a place, marked copied.
 pub(crate) fn keeps(mapping: &L2Mapping, place: u64) -> bool
     requires { IsInReach mapping.now }
@@ -127,6 +149,7 @@ pub(crate) fn keeps(mapping: &L2Mapping, place: u64) -> bool
 impl<S: Storage, F: WrappedFormat<S>> Qcow2<S, F> {
     /// Makes a range ready to be written at one place. Of what is announced as overwritten nothing is copied. The mapping may be shorter
     /// than the range, and has to be committed or discarded. One that isn't existing has the rest of its first cluster at least.
+    /// None of its bytes lies in cluster 0, which is the header's.
     /// Refused in this order: 16 (failed), 12 (dependency), 2 (beyond size), 1 (read-only). A length of 0 is answered before 1. Then
     /// comes 9 (table prepared), where another mapping that isn't existing is prepared in its L2 table. Where the work meets them:
     /// 4 (unaligned table), 7 (compressed) where a compressed cluster isn't announced as a whole, 8 (everything is in use), 13 (limit),
@@ -147,6 +170,7 @@ impl<S: Storage, F: WrappedFormat<S>> Qcow2<S, F> {
         ensures taken { refuses_to_prepare self.old offset length ≡ None → (out : List (Option Prepared)) → (abstract_of S.view F.backing self.old out).is_sound → IfErr result (λ e. e ≡ TablePrepared → IsTaken self.old.file.header.fields (known_in S.view self.old.file) offset length out) }
         ensures own { IfOk result (λ p. image_of p ≡ number_of self.old) }
         ensures some { IfOk result (λ p. 0 < length → 0 < length_of p) }
+        ensures behind { IfOk result (λ p. 0 < length → cluster_size self.new.file.header.fields ≤ offset_of p) }
         ensures end { IfOk result (λ p. offset + length < 2 ^ 64) }
         ensures sees { Prepares S.view F.backing self.old self.new offset length overwrite result }
         ensures listed { refuses_to_prepare self.old offset length ≡ None → 0 < length → (out : List (Option Prepared)) → (abstract_of S.view F.backing self.old out).is_sound → PreparesList offset self.old self.new result }
@@ -158,6 +182,7 @@ impl<S: Storage, F: WrappedFormat<S>> Qcow2<S, F> {
         ensures far_refused { 0 < length → refuses_to_prepare self.old offset length ≡ None → NeedsFarEntry self.old offset → IsErrAnd result (λ e. (e ≡ ImageError.Overflow) ⊎ IsOfTables e) }
         ensures pinned { 0 < length → refuses_to_prepare self.old offset length ≡ None → HasOwnTable self.old offset → PreparesUnpinned self.old offset result }
         ensures once_written { FailsOnceWritten S.view self.old self.new result }
+        ensures kinds { IfOk result (λ p. table_of p ≡ None → TellsNoData self.old self.new) }
         ensures no_longer { ReachesAtMost offset self.old self.new }
         ensures header_cluster { StaysBehindHeader S.view self.old self.new }
         ensures faults { CountsImageFaults S.view F.backing self.old self.new result }
@@ -214,7 +239,7 @@ impl<S: Storage, F: WrappedFormat<S>> Qcow2<S, F> {
     ) -> Result<Prepared, ImageError>
         requires writable { IsTrue (is_writable self.old) }
         ensures stays { ImageStays self.old self.new }
-        ensures notes { KeepsFileNotes S.view AlsoData self.old.file self.new.file }
+        ensures notes { KeepsFileNotes S.view (DataUnlessExisting result) self.old.file self.new.file }
         ensures no_longer { ReachesAtMost offset self.old self.new }
         ensures header_cluster { StaysBehindHeader S.view self.old self.new }
         ensures cause { IfErr result IsMetPreparing }
@@ -223,7 +248,7 @@ impl<S: Storage, F: WrappedFormat<S>> Qcow2<S, F> {
         ensures limit { 0 < length → (out : List (Option Prepared)) → ImageInvariant S.view F.backing (pending_in S.view F.backing self.old out) self.old out → IfErr result (λ e. e ≡ Limit → LacksPlaceFor S.view offset length self.old self.new) }
         ensures taken { 0 < length → (out : List (Option Prepared)) → ImageInvariant S.view F.backing (pending_in S.view F.backing self.old out) self.old out → IfErr result (λ e. e ≡ TablePrepared → IsTaken self.old.file.header.fields (known_in S.view self.old.file) offset length out) }
         ensures own { IfOk result (λ p. image_of p ≡ number_of self.old) }
-        ensures some { IfOk result (λ p. 0 < length → 0 < length_of p) }
+        ensures some { IfOk result (λ p. 0 < length → HasBytesBehind self.new.file.header.fields p) }
         ensures readies { 0 < length → (out : List (Option Prepared)) → ImageInvariant S.view F.backing (pending_in S.view F.backing self.old out) self.old out → PreparesRange S.view F.backing self.old self.new out offset length overwrite result }
         ensures answers { 0 < length → (out : List (Option Prepared)) → ImageInvariant S.view F.backing (pending_in S.view F.backing self.old out) self.old out → IfOk result (λ q. IsAnswered self.old.file.header.fields (known_in S.view self.old.file) offset length self.new.file.header.fields (known_in S.view self.new.file) q (meaning S.view F.backing self.new q)) }
         ensures lowest { (out : List (Option Prepared)) → ImageInvariant S.view F.backing (pending_in S.view F.backing self.old out) self.old out → IfOk result (BeginsLowest S.view self.new) }
@@ -250,7 +275,7 @@ impl<S: Storage, F: WrappedFormat<S>> Qcow2<S, F> {
     ) -> Result<Prepared, ImageError>
         requires writable { IsTrue (is_writable self.old) }
         ensures stays { ImageStays self.old self.new }
-        ensures notes { KeepsFileNotes S.view AlsoData self.old.file self.new.file }
+        ensures notes { KeepsFileNotes S.view (DataUnlessExisting result) self.old.file self.new.file }
         ensures no_longer { ReachesAtMost offset self.old self.new }
         ensures header_cluster { StaysBehindHeader S.view self.old self.new }
         ensures cause { IfErr result IsMetPreparing }
@@ -259,7 +284,7 @@ impl<S: Storage, F: WrappedFormat<S>> Qcow2<S, F> {
         ensures limit { 0 < length → (out : List (Option Prepared)) → ImageInvariant S.view F.backing (pending_in S.view F.backing self.old out) self.old out → IfErr result (λ e. e ≡ Limit → LacksRange S.view offset length self.old self.new) }
         ensures taken { 0 < length → (out : List (Option Prepared)) → ImageInvariant S.view F.backing (pending_in S.view F.backing self.old out) self.old out → IfErr result (λ e. e ≡ TablePrepared → IsTaken self.old.file.header.fields (known_in S.view self.old.file) offset length out) }
         ensures own { IfOk result (λ p. image_of p ≡ number_of self.old) }
-        ensures some { IfOk result (λ p. 0 < length → 0 < length_of p) }
+        ensures some { IfOk result (λ p. 0 < length → HasBytesBehind self.new.file.header.fields p) }
         ensures readies { 0 < length → (out : List (Option Prepared)) → ImageInvariant S.view F.backing (pending_in S.view F.backing self.old out) self.old out → PreparesRange S.view F.backing self.old self.new out offset length overwrite result }
         ensures answers { 0 < length → (out : List (Option Prepared)) → ImageInvariant S.view F.backing (pending_in S.view F.backing self.old out) self.old out → IfOk result (λ q. IsAnswered self.old.file.header.fields (known_in S.view self.old.file) offset length self.new.file.header.fields (known_in S.view self.new.file) q (meaning S.view F.backing self.new q)) }
         ensures lowest { (out : List (Option Prepared)) → ImageInvariant S.view F.backing (pending_in S.view F.backing self.old out) self.old out → IfOk result (BeginsLowest S.view self.new) }
@@ -318,6 +343,7 @@ impl<S: Storage, F: WrappedFormat<S>> Qcow2<S, F> {
         ensures place { (p : Pending) → FileInvariant S.view p self.now.file
             → IsEntryAt self.now.file.header.fields (known_in S.view self.now.file) (l1_index_of self.now.file.header.fields offset) table (l2_index_of self.now.file.header.fields offset)
             → 0 < length → IfOk result (IsPlaceOf self.now.file.header.fields (known_in S.view self.now.file) offset length) }
+        ensures behind { IfOk result (λ place. IfSome place (λ host. cluster_size self.now.file.header.fields ≤ host)) }
         ensures faults { IfErr result IsNotOfStorage }
     {
         let max = length.min(self.rest_of_table(offset));
@@ -325,7 +351,7 @@ impl<S: Storage, F: WrappedFormat<S>> Qcow2<S, F> {
         if found < length {
             return Ok(None);
         }
-        Ok(kind.writable_place())
+        Ok(behind_header(kind.writable_place(), self.file.header.cluster_size()))
     }
 
     // Makes a range ready in a held table that no other mapping needs as it is: its first cluster, and those behind it that can stand behind it.
@@ -338,7 +364,7 @@ impl<S: Storage, F: WrappedFormat<S>> Qcow2<S, F> {
     ) -> Result<Prepared, ImageError>
         requires writable { IsTrue (is_writable self.old) }
         ensures stays { ImageStays self.old self.new }
-        ensures notes { KeepsFileNotes S.view AlsoData self.old.file self.new.file }
+        ensures notes { KeepsFileNotes S.view (DataUnlessExisting result) self.old.file self.new.file }
         ensures header_cluster { 0 < table → StaysBehindHeader S.view self.old self.new }
         ensures cause { IfErr result IsMetPreparing }
         ensures met { (out : List (Option Prepared)) → ImageInvariant S.view F.backing (pending_in S.view F.backing self.old out) self.old out → HoldsTable S.view F.backing self.old offset table → 0 < length → IfErr result (IsMetTaking (HasPrepared out) (0 < l2_pins self.old.file.caches table) (CopiesCompressed offset length overwrite self.old.file.header.fields (known_in S.view self.old.file)) ⊥) }
@@ -346,7 +372,7 @@ impl<S: Storage, F: WrappedFormat<S>> Qcow2<S, F> {
         ensures taken { IfErr result (λ e. e ≡ TablePrepared → 0 < l2_pins self.old.file.caches table) }
         ensures unpinned { OnOk result (l2_pins self.old.file.caches table ≡ 0) }
         ensures own { IfOk result (λ p. image_of p ≡ number_of self.old) }
-        ensures some { IfOk result (λ p. 0 < length_of p) }
+        ensures some { IfOk result (HasBytesBehind self.new.file.header.fields) }
         ensures readies { (out : List (Option Prepared)) → ImageInvariant S.view F.backing (pending_in S.view F.backing self.old out) self.old out → HoldsTable S.view F.backing self.old offset table → PreparesRange S.view F.backing self.old self.new out offset length overwrite result }
         ensures reaches { (out : List (Option Prepared)) (k : ℕ) → slice_get out k ≡ Some None → ImageInvariant S.view F.backing (pending_in S.view F.backing self.old out) self.old out
             → HoldsTable S.view F.backing self.old offset table → IfOk result (Reaches S.view self.new offset length) }
@@ -368,7 +394,7 @@ impl<S: Storage, F: WrappedFormat<S>> Qcow2<S, F> {
         }
     }
 
-    // What a held table says of a guest cluster.
+    // What a held table says of a guest cluster. An entry that is marked copied in cluster 0 is refused 19 (metadata).
     #[tactic(auto, using(crate::proofs::Call::MetErrors::tables_met, crate::proofs::Call::MetErrors::storage_met, crate::proofs::Call::MetErrors::metadata_met, crate::proofs::Call::MetErrors::metadata_of_tables, crate::proofs::Call::Unlimited::unaligned_unlimited))]
     pub(crate) fn cover_in(
         &self,
@@ -376,6 +402,7 @@ impl<S: Storage, F: WrappedFormat<S>> Qcow2<S, F> {
         cluster: GuestCluster,
     ) -> Result<L2Mapping, ImageError>
         ensures reach { IfOk result IsInReach }
+        ensures behind { IfOk result (MarkedIsBehind (cluster_size self.now.file.header.fields)) }
         ensures cause { IfErr result IsMet }
         ensures limited { IfErr result IsUnlimited }
         ensures reads { (p : Pending) (i : ℕ) → FileInvariant S.view p self.now.file → IsEntryAt self.now.file.header.fields (known_in S.view self.now.file) i table (cluster % entries_per_cluster self.now.file.header.fields)
@@ -387,7 +414,11 @@ impl<S: Storage, F: WrappedFormat<S>> Qcow2<S, F> {
         let Some(held) = self.file.caches.l2_peek(table) else {
             return Err(ImageError::InUse);
         };
-        Ok(held.get_mapping(cluster)?)
+        let mapping = held.get_mapping(cluster)?;
+        if !is_behind_header(&mapping, self.file.header.cluster_size()) {
+            return Err(ImageError::Metadata);
+        }
+        Ok(mapping)
     }
 
     // What isn't named any more where a mapping goes: its host clusters, as those to be freed.
@@ -464,10 +495,10 @@ impl<S: Storage, F: WrappedFormat<S>> Qcow2<S, F> {
         ensures stays { ImageStays self.old self.new }
         ensures none { IsFalse result → (self.new ≡ self.old) × (prepared.new ≡ prepared.old) }
         ensures enters { EntersAll S.view F.backing self.old self.new prepared.old prepared.new result }
-        ensures header { self.new.file.header ≡ self.old.file.header }
         ensures in_place { IsEntered prepared.old prepared.new }
         ensures left { freed_by prepared.new.shares.items ≡ [] }
-        ensures storage { self.new.file.storage ≡ self.old.file.storage }
+        ensures header { self.new.file.header ≡ self.old.file.header }
+        ensures rest { self.new ≡ record self.old { file = record self.old.file { caches = self.new.file.caches; free_list = self.new.file.free_list } } }
         ensures notes { KeepsFileNotes S.view NoData self.old.file self.new.file }
         ensures quiet { DropsNothing prepared.old → self.new.file.free_list ≡ self.old.file.free_list }
         ensures header_cluster { StaysBehindHeader S.view self.old self.new }

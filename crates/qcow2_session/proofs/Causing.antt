@@ -30,7 +30,7 @@ use Rattle.qcow2_image.specs.Refusals.{IsMet, IsMetPreparing, passes, refuse_if,
 use Rattle.qcow2_session.specs.Causes.{HasNothingToDo, MeetsOnSound, IsRightlyRefused, IsUntouchedUnder, MayMeet, TellsMisuse, first_cause, refuses_clearing, MeetsClearing, MeetsTaking}
 use Rattle.qcow2_session.specs.Commands.{reply_of_clearing}
 use Rattle.qcow2_session.specs.CountedFaults.{refusal_in}
-use Rattle.qcow2_session.specs.Sessions.{IsOfReading, IsTakenToWrite, LacksPlaceToWrite, NeedsFarToWrite}
+use Rattle.qcow2_session.specs.Sessions.{HeedsMappings, IsOfReading, LacksPlaceToWrite, NeedsFarToWrite}
 use Rattle.qcow2_session.specs.declared.session.Command.{Command}
 use Rattle.qcow2_session.specs.declared.session.Reply.{Reply}
 
@@ -159,16 +159,17 @@ module _ {S F : Type 0} (view : S → StorageView) (backing : F → BackingView)
       is_refused view backing old new before (C.Read offset n) e (R.Refused e) (λ is. absurd cc) (λ is. absurd cc, λ is. absurd is) refl (begun_with (Vec ℕ Global) (new ≡ old) e (refuses_to_read old offset n) early)
       (λ none. (late none).0) (λ _ _. tt) (λ none empty. let some = (late none).1 in omega (arith, some, empty)) (λ none sound. met none before sound)
 
-  pub write_answered : (Same : Type 0) (offset : ℕ) (bytes : Vec ℕ Global) → IfSome (refuses_to_prepare old offset (length bytes.items)) (λ x. (◌≡◌ {A = Result (Unit {0}) (ImageError × ℕ)} (Ok tt) (Err (x, 0))) × Same) → IsRightlyRefused view backing old new before found (C.Write offset bytes) R.Done
-  write_answered Same offset bytes early = is_done view backing old new before (C.Write offset bytes) R.Done (λ is. absurd cc) (λ is. absurd cc, λ is. absurd is) refl
-      (if_some_to (refuses_to_prepare old offset (length bytes.items)) (λ e no. let is = no.0 in cc) early) (λ _ _. (λ is. absurd cc, tt))
+  pub write_answered : (Same : Type 0) (offset : ℕ) (bytes : Vec ℕ Global) → IfSome (refuses_to_prepare old offset (length bytes.items)) (λ x. (◌≡◌ {A = Result (Unit {0}) (ImageError × ℕ)} (Ok tt) (Err (x, 0))) × Same)
+      → (refuses_to_prepare old offset (length bytes.items) ≡ None → (abstract_of view backing old before).is_sound → HeedsMappings view backing old before offset bytes.items (Ok tt)) → IsRightlyRefused view backing old new before found (C.Write offset bytes) R.Done
+  write_answered Same offset bytes early part = is_done view backing old new before (C.Write offset bytes) R.Done (λ is. absurd cc) (λ is. absurd cc, λ is. absurd is) refl
+      (if_some_to (refuses_to_prepare old offset (length bytes.items)) (λ e no. let is = no.0 in cc) early) (λ none sound. (λ is. absurd cc, part none sound))
 
   pub write_refused_for : (offset : ℕ) (bytes : Vec ℕ Global) (e : ImageError) (n : ℕ) → IfSome (refuses_to_prepare old offset (length bytes.items)) (λ x. (◌≡◌ {A = Result (Unit {0}) (ImageError × ℕ)} (Err (e, n)) (Err (x, 0))) × (new ≡ old))
       → (refuses_to_prepare old offset (length bytes.items) ≡ None → IsMetPreparing e × (0 < length bytes.items))
       → (refuses_to_prepare old offset (length bytes.items) ≡ None → (abstract_of view backing old before).is_sound → IsMetTaking (HasPrepared before) (IsUnderMappingIn old.file.header.fields offset (offset + length bytes.items) before) (CopiesCompressed offset (length bytes.items) true new.file.header.fields (known_in view new.file)) (NeedsFarToWrite view backing old offset bytes.items n) e)
       → (refuses_to_prepare old offset (length bytes.items) ≡ None → (abstract_of view backing old before).is_sound → e ≡ I.TablePrepared → IsUnderMappingIn old.file.header.fields offset (offset + length bytes.items) before)
       → (refuses_to_prepare old offset (length bytes.items) ≡ None → (abstract_of view backing old before).is_sound → e ≡ I.Limit → LacksPlaceToWrite view backing old new offset bytes.items n)
-      → (refuses_to_prepare old offset (length bytes.items) ≡ None → (abstract_of view backing old before).is_sound → e ≡ I.TablePrepared → IsTakenToWrite view backing old before offset bytes.items n)
+      → (refuses_to_prepare old offset (length bytes.items) ≡ None → (abstract_of view backing old before).is_sound → HeedsMappings view backing old before offset bytes.items (Err (e, n)))
       → IsRightlyRefused view backing old new before found (C.Write offset bytes) (R.WriteRefused e n)
   write_refused_for offset bytes e n early late met taken limit part = is_refused view backing old new before (C.Write offset bytes) e (R.WriteRefused e n) (λ is. absurd cc) (λ is. absurd cc, λ is. absurd is) refl
       (if_some_to (refuses_to_prepare old offset (length bytes.items)) (λ x h. (let is = h.0 in let pair : (e, n) ≡ (x, 0) = same_error is in ap (λ (p : ImageError × ℕ). p.0) pair, h.1)) early) (λ none. (late none).0) (λ none sound. taking_as (λ held. held) (λ kept. kept) (λ is. is) (λ far. tt) e (met none sound)) (λ none empty. let some = (late none).1 in omega (arith, some, empty)) (λ none sound. (λ is. taken none sound (some_error is), (limit none sound, part none sound, far_taking e (met none sound))))

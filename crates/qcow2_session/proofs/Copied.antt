@@ -1,6 +1,7 @@
 -- What a write leaves: copied data, in the image's own file.
-use Rattle.std.proofs.Common.{◌≡◌, ⊎_elim, inl, inr, ℕ, ◌+◌, ◌-◌, ◌*◌, ◌/◌, ◌%◌, ◌^◌, ◌<◌, ◌≤◌, Bool, true, false, Option, Some, None, List, [], ◌∷◌, length, is_some, refl, sym, ap, ◌∙◌, subst, arith}
-use Rattle.std.specs.Prelude.{IsSome}
+use Rattle.std.proofs.Common.{◌≡◌, ⊎_elim, inl, inr, ℕ, ◌+◌, ◌-◌, ◌*◌, ◌/◌, ◌%◌, ◌^◌, ◌<◌, ◌≤◌, Bool, true, false, Option, Some, None, List, [], ◌∷◌, drop, length, take, is_some, refl, sym, ap, ◌∙◌, subst, arith}
+use Rattle.std.specs.Prelude.{IsSome, Ok, not}
+use Rattle.std.proofs.lemmas.Grind.{common_steps}
 use Rattle.std.proofs.Math.Nat.{div-div-eq-div-mul}
 use Rattle.std.proofs.lemmas.Bool.{cases_lt, cond-false, le-ltb}
 use Rattle.std.proofs.lemmas.Nat.{div-add-mod', div-mul-add, mod_below, pow_pos}
@@ -30,30 +31,50 @@ use Rattle.qcow2_image.proofs.Map.Looked.{cached_says}
 use Rattle.qcow2_image.specs.CallParts.{AreCopied}
 use Rattle.qcow2_image.specs.Found.{l1_index_of, mapping_of}
 use Rattle.qcow2_image.specs.HeldMappings.{IsHeldAs, IsMappedByNamed, named_place}
-use Rattle.qcow2_image.specs.ImageInvariant.{abstract_of, pending_in, ImageInvariant}
+use Rattle.qcow2_image.specs.ImageInvariant.{abstract_of, meaning, pending_in, ImageInvariant}
+use Rattle.qcow2_image.specs.Prepared.{guest_offset_of, length_of, offset_of}
+use Rattle.qcow2_image.specs.Preparing.{IsAnswered}
+use Rattle.qcow2_image.proofs.Preallocate.Grown.{up_least}
+use Rattle.qcow2_image.specs.Calls.{Prepares}
+use Rattle.qcow2_image.specs.LowestPlaces.{BeginsLowest, TakesLowestTables}
+use Rattle.qcow2_session.specs.Sessions.{StandsByPart, LeavesCopied, Writes}
+use Rattle.qcow2_session.proofs.WrittenParts.{writes_none, writes_on}
 use Rattle.qcow2_image.specs.Ranges.{ReleasesOneMapping}
 use Rattle.qcow2_image.specs.declared.image.Qcow2.{Qcow2}
 use Rattle.qcow2_image.specs.declared.mapping.MappingKind.TheVariants.{Raw}
 use Rattle.qcow2_image.specs.declared.mapping.Place.TheVariants.{Image}
 use Rattle.qcow2_image.specs.declared.prepared.Prepared.{Prepared}
 
--- what is told as writable stands as copied data
-raw_copied : (h : HeaderFields) (is_backed : Bool) (offset place : ℕ) (m : L2Mapping) → raw false place true ≡ kind_at h is_backed offset m → is_copied_data m ≡ true
-raw_copied h is_backed offset place (Data host copied) is = cc
+-- what is told as writable stands there as copied data
+record IsCopiedFrom (h : HeaderFields) (offset place : ℕ) (m : L2Mapping) : Type 0 where
+  host : ℕ
+  is : m ≡ Data host true
+  place_is : host + offset % cluster_size h ≡ place
+
+raw_copied : (h : HeaderFields) (is_backed : Bool) (offset place : ℕ) (m : L2Mapping) → raw false place true ≡ kind_at h is_backed offset m → IsCopiedFrom h offset place m
+raw_copied h is_backed offset place (Data host copied) is =
+    let marked : true ≡ copied = cc in
+    let there : place ≡ host + offset % cluster_size h = cc in
+    record { host = host; is = ap (Data host) (sym marked); place_is = sym there }
 raw_copied h is_backed offset place (Zero kept) is = absurd cc
 raw_copied h is_backed offset place (Compressed host sectors) is = absurd cc
 raw_copied h true offset place Uncovered is = absurd cc
 raw_copied h false offset place Uncovered is = absurd cc
 
+same_host : (host other : ℕ) (copied : Bool) → Data host copied ≡ Data other true → (host ≡ other) × (copied ≡ true)
+same_host host other copied is = (cc, cc)
+
 -- so does what is mapped like it
-alike_copied : (distance : ℕ) (a b : L2Mapping) → IsAlike distance a b → is_copied_data a ≡ true → is_copied_data b ≡ true
-alike_copied distance (Data host copied) (Data next marked) alike is = alike.1 ∙ is
-alike_copied distance (Data host copied) (Zero kept) alike is = absurd alike
-alike_copied distance (Data host copied) (Compressed next sectors) alike is = absurd alike
-alike_copied distance (Data host copied) Uncovered alike is = absurd alike
-alike_copied distance (Zero kept) b alike is = absurd (let no : false ≡ true = is in cc)
-alike_copied distance (Compressed host sectors) b alike is = absurd (let no : false ≡ true = is in cc)
-alike_copied distance Uncovered b alike is = absurd (let no : false ≡ true = is in cc)
+alike_copied : (distance host : ℕ) (a b : L2Mapping) → IsAlike distance a b → a ≡ Data host true → b ≡ Data (host + distance) true
+alike_copied distance host (Data first copied) (Data next marked) alike is =
+    let same = same_host first host copied is in
+    ap (λ n. Data n marked) (alike.0 ∙ ap (λ n. n + distance) same.0) ∙ ap (Data (host + distance)) (alike.1 ∙ same.1)
+alike_copied distance host (Data first copied) (Zero kept) alike is = absurd alike
+alike_copied distance host (Data first copied) (Compressed next sectors) alike is = absurd alike
+alike_copied distance host (Data first copied) Uncovered alike is = absurd alike
+alike_copied distance host (Zero kept) b alike is = absurd (let no : false ≡ true = ap is_copied_data is in cc)
+alike_copied distance host (Compressed place sectors) b alike is = absurd (let no : false ≡ true = ap is_copied_data is in cc)
+alike_copied distance host Uncovered b alike is = absurd (let no : false ≡ true = ap is_copied_data is in cc)
 
 -- so it is of guest byte o
 abbrev pub IsCopiedAt : HeaderFields → Bytes → ℕ → Type 0
@@ -68,7 +89,7 @@ is_below : (h : HeaderFields) (b : Bytes) (i : ℕ) → (host_offset (l1_entry h
 is_below h b i real = elim (cases_lt i h.l1_entries) [ inl lt ↦ lt | inr past ↦ absurd (real (ap host_offset (entry_none h b i past))) ]
 
 -- what lies within the reach of an offset's L2 table has the same L1 entry
-same_index : (h : HeaderFields) (offset i : ℕ) → i < rest_of_table h offset → l1_index_of h (offset + i) ≡ l1_index_of h offset
+pub same_index : (h : HeaderFields) (offset i : ℕ) → i < rest_of_table h offset → l1_index_of h (offset + i) ≡ l1_index_of h offset
 same_index h offset i lt =
     let whole = cluster_size h * entries_per_cluster h in
     let split : offset / whole * whole + offset % whole ≡ offset = div-add-mod' offset whole in
@@ -138,13 +159,13 @@ module _ {S F : Type 0} (view : S → StorageView) where
           let split = div-add-mod' place (cluster_size h) in
           record { real = λ none. named (sym named_known ∙ none); place = named_known ∙ omega (arith, split, aligned); within = lt }
 
-    -- a byte of a range that the tables in memory map as copied data is copied data as it is known
-    pub held_copied : (offset place n i : ℕ) → IsHeldAs image offset (Raw Image place true) n → i < n → IsCopiedAt h known (offset + i)
-    held_copied offset place n i held lt = ⊎_elim
-        (λ none. absurd (let no : false ≡ true = raw_copied h (is_some image.backing) offset place Uncovered none.kind_is in cc)) (λ by. by_table by)
+    -- a byte of a range that the tables in memory map as copied data stands there as it is known
+    held_data : (offset place n i : ℕ) → IsHeldAs image offset (Raw Image place true) n → i < n → IsDataAt h known true (offset + i) (place + i)
+    held_data offset place n i held lt = ⊎_elim
+        (λ none. absurd (let no : false ≡ true = ap is_copied_data (raw_copied h (is_some image.backing) offset place Uncovered none.kind_is).is in cc)) (λ by. by_table by)
         held.mapped
       where
-        by_table : IsMappedByNamed h (is_some image.backing) image.l1_table image.file.caches offset (Raw Image place true) n → IsCopiedAt h known (offset + i)
+        by_table : IsMappedByNamed h (is_some image.backing) image.l1_table image.file.caches offset (Raw Image place true) n → IsDataAt h known true (offset + i) (place + i)
         by_table by =
             let t = by.table in
             let size = cluster_size h in
@@ -154,35 +175,37 @@ module _ {S F : Type 0} (view : S → StorageView) where
             let at = λ (g : ℕ). named_at offset by.named (g % entries_per_cluster h) (mod_below g (entries_per_cluster h) (has_entries h offset i reach)) in
             let bits = (shows h (pending_in view backing image out) (contents_in view image.file) (l1_index_of h offset) (offset / size % entries_per_cluster h) sound.file.caches (at (offset / size))).format.bits in
             let says = λ (g : ℕ) (here : g / entries_per_cluster h ≡ l1_index_of h offset). cached_says view image.file (pending_in view backing image out) t (named_place h image.l1_table offset / size) (l1_index_of h offset) g sound.file shows (at g) here in
-            let first : is_copied_data (mapping_of t (offset / size)) ≡ true = raw_copied h (is_some image.backing) offset place (mapping_of t (offset / size)) by.mapped.first in
+            let first = raw_copied h (is_some image.backing) offset place (mapping_of t (offset / size)) by.mapped.first in
+            let there = first.place_is in
             let begins = div-add-mod' offset size in
             let ends = div-add-mod' (offset + i) size in
             let behind : offset / size ≤ (offset + i) / size = shr_mono h.cluster_bits (omega arith) in
-            let copied : is_copied_data (mapping_of t ((offset + i) / size)) ≡ true =
             elim (cases_lt (offset / size) ((offset + i) / size)) [
               | inl after ↦
                   let k = (offset + i) / size - offset / size - 1 in
                   let is : (offset + i) / size ≡ offset / size + (k + 1) = omega (arith, after) in
                   let far : (offset + i) / size * size ≡ offset / size * size + k * size + size = ap (λ q. q * size) is ∙ omega arith in
                   let bytes : k * 2 ^ t.cluster_bits ≡ k * size = ap (λ b. k * 2 ^ b) bits in
+                  let one : 2 ^ t.cluster_bits ≡ size = ap (λ b. 2 ^ b) bits in
                   let short : size - offset % size + k * 2 ^ t.cluster_bits < n = omega (arith, begins, ends, far, bytes, lt) in
-                  subst (λ q. is_copied_data (mapping_of t q) ≡ true) (sym is) (alike_copied ((k + 1) * 2 ^ t.cluster_bits) (mapping_of t (offset / size)) (mapping_of t (offset / size + (k + 1))) (by.mapped.alike k short) first)
+                  let distance = (k + 1) * 2 ^ t.cluster_bits in
+                  let stood : mapping_of t ((offset + i) / size) ≡ Data (first.host + distance) true =
+                  ap (mapping_of t) is ∙ alike_copied distance first.host (mapping_of t (offset / size)) (mapping_of t (offset / size + (k + 1))) (by.mapped.alike k short) first.is in
+                  (first.host + distance, sym (says ((offset + i) / size) (same_index h offset i reach)) ∙ stood, omega (arith, begins, ends, far, bytes, one, there))
               | inr same ↦
                   let is : offset / size ≡ (offset + i) / size = omega (arith, same, behind) in
-                  subst (λ q. is_copied_data (mapping_of t q) ≡ true) is first
-            ] in
-            subst (λ (m : L2Mapping). is_copied_data m ≡ true) (says ((offset + i) / size) (same_index h offset i reach)) copied
+                  let whole : offset / size * size ≡ (offset + i) / size * size = ap (λ q. q * size) is in
+                  (first.host, sym (says ((offset + i) / size) (same_index h offset i reach)) ∙ ap (mapping_of t) (sym is) ∙ first.is, omega (arith, begins, ends, whole, there))
+            ]
 
-    -- so are all clusters of the range that was put at the begin of a mapping, once that was let go
-    pub kept_copied : (new : Qcow2 S F) (offset place m n : ℕ) → m ≡ n → 0 < n → ReleasesOneMapping view image new → IsHeldAs image (offset + 0) (Raw Image (place + 0) true) m → AreCopied view offset (offset + n) new
-    kept_copied new offset place m n long some released held = clusters_copied new offset n some (λ i lt.
-        subst (λ (f : HeaderFields). IsCopiedAt f (known_in view new.file) (offset + i)) (sym (ap (λ (q : Qcow2 S F). q.file.header.fields) released.rest))
-        (subst (λ (b : Bytes). IsCopiedAt h b (offset + i)) (sym released.known)
-        (let begin : offset + 0 + i ≡ offset + i = omega arith in subst (IsCopiedAt h known) begin (held_copied (offset + 0) (place + 0) m i held (omega (arith, lt, long))))))
-
-  -- what was entered is copied data, and the first bytes of it are
-  pub entered_copied : (new : Qcow2 S F) (offset place length n : ℕ) → 0 < n → n ≤ length → AreDataAt new.file.header.fields (known_in view new.file) true offset place length → AreCopied view offset (offset + n) new
-  entered_copied new offset place length n some le each = clusters_copied new offset n some (λ i lt. data_copied new.file.header.fields (known_in view new.file) (offset + i) (place + i) (each i (omega (arith, lt, le))))
+    -- so does the range that was put at the begin of a mapping, once that was let go
+    pub kept_data : (new : Qcow2 S F) (offset place m n : ℕ) → m ≡ n → ReleasesOneMapping view image new → IsHeldAs image (offset + 0) (Raw Image (place + 0) true) m → AreDataAt new.file.header.fields (known_in view new.file) true offset place n
+    kept_data new offset place m n long released held i lt =
+        let begin : offset + 0 + i ≡ offset + i = omega arith in
+        let at : place + 0 + i ≡ place + i = omega arith in
+        subst (λ (f : HeaderFields). IsDataAt f (known_in view new.file) true (offset + i) (place + i)) (sym (ap (λ (q : Qcow2 S F). q.file.header.fields) released.rest))
+        (subst (λ (b : Bytes). IsDataAt h b true (offset + i) (place + i)) (sym released.known)
+        (subst (λ o. IsDataAt h known true o (place + i)) begin (subst (IsDataAt h known true (offset + 0 + i)) at (held_data (offset + 0) (place + 0) m i held (omega (arith, lt, long))))))
 
 -- a mapping is existing, or it isn't
 pub existing_or_not : {X : Type 0} (table : Option ℕ) → (table ≡ None → X) → (IsSome table → X) → X
@@ -206,9 +229,9 @@ module _ {S F : Type 0} (view : S → StorageView) (backing : F → BackingView)
 module _ {S F : Type 0} (view : S → StorageView) (backing : F → BackingView) (old new : Qcow2 S F) (out : List (Option Prepared))
     (sound : ImageInvariant view backing (pending_in view backing old out) old out) (sound' : ImageInvariant view backing (pending_in view backing new out) new out) where
   -- what a part of a write leaves is copied data still behind the next part
-  pub copied_on : (offset at done count : ℕ) (bytes : List ℕ) → at ≡ offset + done → EffectOnSound (abstract_of view backing old out) (abstract_of view backing new out) (given_of at bytes ∷ []) []
+  range_on : (offset at done count : ℕ) (bytes : List ℕ) → at ≡ offset + done → EffectOnSound (abstract_of view backing old out) (abstract_of view backing new out) (given_of at bytes ∷ []) []
       → AreCopied view offset (offset + done) old → AreCopied view at (at + count) new → AreCopied view offset (offset + (done + count)) new
-  copied_on offset at done count bytes there effect before next g first last =
+  range_on offset at done count bytes there effect before next g first last =
       let size = cluster_size new.file.header.fields in
       let same : size ≡ cluster_size old.file.header.fields = same_size view backing old new out effect in
       elim (cases_lt at (g * size + size)) [
@@ -221,6 +244,147 @@ module _ {S F : Type 0} (view : S → StorageView) (backing : F → BackingView)
     where
       cluster_some : 0 < cluster_size old.file.header.fields
       cluster_some = pow_pos old.file.header.fields.cluster_bits
+
+  -- all copied data stand where they stood, where those that a part touches do
+  stay_beside : (offset : ℕ) (bytes : List ℕ) → EffectOnSound (abstract_of view backing old out) (abstract_of view backing new out) (given_of offset bytes ∷ []) []
+      → ((g host : ℕ) → Touches (cluster_size old.file.header.fields) offset (offset + length bytes) g → cover old.file.header.fields (known_in view old.file) g ≡ Data host true → cover new.file.header.fields (known_in view new.file) g ≡ Data host true)
+      → (g host : ℕ) → cover old.file.header.fields (known_in view old.file) g ≡ Data host true → cover new.file.header.fields (known_in view new.file) g ≡ Data host true
+  stay_beside offset bytes effect touched g host is =
+      let size = cluster_size old.file.header.fields in
+      let beside : (Touches size offset (offset + length bytes) g → ⊥) → cover new.file.header.fields (known_in view new.file) g ≡ Data host true = λ never. sym (kept_cover view backing old new out sound sound' effect g (never, tt)) ∙ is in
+      elim (cases_lt offset (offset + length bytes)) [
+        | inr none ↦ beside (λ t. let some = t.0 in omega (arith, some, none))
+        | inl some ↦ elim (cases_lt offset (g * size + size)) [
+          | inr past ↦ beside (λ t. let low = t.1 in omega (arith, low, past))
+          | inl low ↦ elim (cases_lt (g * size) (offset + length bytes)) [ inl high ↦ touched g host (some, low, high) is | inr before ↦ beside (λ t. let high = t.2 in omega (arith, high, before)) ]
+        ]
+      ]
+
+-- a byte of a cluster that a range touches
+byte_of : (h : HeaderFields) (offset n g : ℕ) → Touches (cluster_size h) offset (offset + n) g → (i : ℕ) × (i < n) × ((offset + i) / cluster_size h ≡ g)
+byte_of h offset n g touched =
+    let size = cluster_size h in
+    let some = touched.0 in
+    let low = touched.1 in
+    let high = touched.2 in
+    elim (cases_lt offset (g * size)) [
+      | inl behind ↦
+          let whole : offset + (g * size - offset) ≡ g * size + 0 = omega (arith, behind) in
+          (g * size - offset, omega (arith, behind, high), ap (λ o. o / size) whole ∙ div-mul-add g size 0 (pow_pos h.cluster_bits))
+      | inr within ↦
+          let split : offset + 0 ≡ g * size + (offset - g * size) = omega (arith, within) in
+          (0, omega (arith, some), ap (λ o. o / size) split ∙ div-mul-add g size (offset - g * size) (omega (arith, low, within)))
+    ]
+
+-- a cluster of which a byte is data at one place, before and then, stands where it stood
+byte_stays : (h h' : HeaderFields) (known known' : Bytes) (g host o place : ℕ) → cluster_size h' ≡ cluster_size h → o / cluster_size h ≡ g → cover h known g ≡ Data host true → IsDataAt h known true o place → IsDataAt h' known' true o place → cover h' known' g ≡ Data host true
+byte_stays h h' known known' g host o place size here is was now =
+    let before = same_host was.0 host true (sym was.1 ∙ ap (cover h known) here ∙ is) in
+    let there : o / cluster_size h' ≡ g = ap (λ s. o / s) size ∙ here in
+    let rest : o % cluster_size h' ≡ o % cluster_size h = ap (λ s. o % s) size in
+    let first = before.0 in
+    let a = was.2 in
+    let b = now.2 in
+    let same : now.0 ≡ host = omega (arith, first, a, b, rest) in
+    ap (cover h' known') (sym there) ∙ now.1 ∙ ap (λ n. Data n true) same
+
+module _ {S F : Type 0} (view : S → StorageView) (backing : F → BackingView) (old mid new : Qcow2 S F) (out : List (Option Prepared))
+    (sound : ImageInvariant view backing (pending_in view backing old out) old out) (sound' : ImageInvariant view backing (pending_in view backing new out) new out) where
+  -- the first part of a write: a mapping was prepared and put, and its first bytes are copied data where it stands
+  pub part_copied : (offset : ℕ) (p : Prepared) (bytes chunk : List ℕ) → 0 < length chunk → length chunk ≤ length_of p → guest_offset_of p ≡ offset
+      → IsAnswered old.file.header.fields (known_in view old.file) offset (length bytes) mid.file.header.fields (known_in view mid.file) p (meaning view backing mid p)
+      → Prepares view backing old mid offset (length bytes) true (Ok p) → BeginsLowest view mid p → TakesLowestTables view offset old mid → EffectOnSound (abstract_of view backing old out) (abstract_of view backing new out) (given_of offset chunk ∷ []) []
+      → AreDataAt new.file.header.fields (known_in view new.file) true offset (offset_of p) (length chunk) → LeavesCopied view backing old new offset bytes (length chunk)
+  part_copied offset p bytes chunk some fits begins answered prepares lowest tables effect stood =
+      let here : offset ≡ offset + 0 = omega arith in
+      let all : length bytes ≡ length bytes - 0 = omega arith in
+      record {
+        range = clusters_copied view new offset (length chunk) some (λ i lt. data_copied new.file.header.fields (known_in view new.file) (offset + i) (offset_of p + i) (stood i lt));
+        placed = λ i lt. record {
+          done = 0;
+          mapping = p;
+          part = record {
+            before = old;
+            written = λ out. writes_none (abstract_of view backing old out) offset bytes;
+            begun = λ none. refl;
+            ready = mid;
+            prepares = subst (λ o. Prepares view backing old mid o (length bytes - 0) true (Ok p)) here (subst (λ k. Prepares view backing old mid offset k true (Ok p)) all prepares);
+            lowest = lowest;
+            tables = subst (λ o. TakesLowestTables view o old mid) here tables;
+          };
+          from = omega arith;
+          to = omega (arith, lt, fits);
+          stands = let at : i ≡ i - 0 = omega arith in subst (λ k. IsDataAt new.file.header.fields (known_in view new.file) true (offset + i) (offset_of p + k)) at (stood i lt);
+        };
+        stay = stay_beside view backing old new out sound sound' offset chunk effect (λ g host touched is.
+            let h = old.file.header.fields in
+            let size = cluster_size h in
+            let known = known_in view old.file in
+            let m = meaning view backing mid p in
+            let at = byte_of h offset (length chunk) g touched in
+            let lt = at.1 in
+            let copied : is_copied_data (cover h known ((offset + at.0) / size)) ≡ true = ap (λ k. is_copied_data (cover h known k)) at.2 ∙ ap is_copied_data is in
+            let down = div-add-mod' (guest_offset_of p) size in
+            let up = up_least size (guest_offset_of p + length_of p) (pow_pos h.cluster_bits) in
+            let visible : m.is_private (offset + at.0) ≡ false = answered.private (offset + at.0) (omega (arith, down, begins)) (omega (arith, up, begins, lt, fits)) ∙ ap not copied in
+            byte_stays h new.file.header.fields known (known_in view new.file) g host (offset + at.0) (offset_of p + at.0) (same_size view backing old new out effect) at.2 is (answered.in_place at.0 (omega (arith, lt, fits)) visible) (stood at.0 lt));
+      }
+
+module _ {S F : Type 0} (view : S → StorageView) (backing : F → BackingView) (begin old new : Qcow2 S F) (out : List (Option Prepared))
+    (sound : ImageInvariant view backing (pending_in view backing old out) old out) (sound' : ImageInvariant view backing (pending_in view backing new out) new out) where
+  -- one part behind others
+  pub copied_on : (offset at done count : ℕ) (bytes : List ℕ) → done ≤ length bytes → at ≡ offset + done → Writes view backing begin old offset (take done bytes) (Ok tt) → 0 < done
+      → EffectOnSound (abstract_of view backing old out) (abstract_of view backing new out) (given_of at (take count (drop done bytes)) ∷ []) []
+      → LeavesCopied view backing begin old offset bytes done → LeavesCopied view backing old new at (drop done bytes) count → LeavesCopied view backing begin new offset bytes (done + count)
+  copied_on offset at done count bytes le there so_far later effect before next = record {
+    range = range_on view backing old new out sound sound' offset at done count (take count (drop done bytes)) there effect before.range next.range;
+    placed = λ i lt. elim (cases_lt i done) [ inl first ↦ placed_before i (before.placed i first) | inr behind ↦ placed_behind i behind (next.placed (i - done) (omega (arith, lt, behind))) ];
+    stay = λ g host is. next.stay g host (before.stay g host is);
+  }
+    where
+      size : cluster_size new.file.header.fields ≡ cluster_size old.file.header.fields
+      size = same_size view backing old new out effect
+
+      placed_before : (i : ℕ) → StandsByPart view backing begin old offset bytes i → StandsByPart view backing begin new offset bytes i
+      placed_before i is = record {
+        done = is.done;
+        mapping = is.mapping;
+        part = is.part;
+        from = is.from;
+        to = is.to;
+        stands = (
+          is.stands.0,
+          ap (λ s. cover new.file.header.fields (known_in view new.file) ((offset + i) / s)) size ∙ next.stay ((offset + i) / cluster_size old.file.header.fields) is.stands.0 is.stands.1,
+          ap (λ s. is.stands.0 + (offset + i) % s) size ∙ is.stands.2,
+        );
+      }
+
+      placed_behind : (i : ℕ) → done ≤ i → StandsByPart view backing old new at (drop done bytes) (i - done) → StandsByPart view backing begin new offset bytes i
+      placed_behind i behind is =
+          let low = is.from in
+          let high = is.to in
+          let long : length (drop done bytes) ≡ length bytes - done = grind (arith, common_steps) in
+          let from : at + is.done ≡ offset + (done + is.done) = omega (arith, there) in
+          let rest : length (drop done bytes) - is.done ≡ length bytes - (done + is.done) = omega (arith, long) in
+          let byte : at + (i - done) ≡ offset + i = omega (arith, there, behind) in
+          let place : i - done - is.done ≡ i - (done + is.done) = omega arith in
+          let part = is.part in record {
+            done = done + is.done;
+            mapping = is.mapping;
+            part = record {
+              before = part.before;
+              begun = λ none. absurd (omega (arith, none, later));
+              written = λ out. writes_on offset at done is.done bytes le there (abstract_of view backing begin out) (abstract_of view backing old out) (abstract_of view backing part.before out) (so_far out) (part.written out);
+              ready = part.ready;
+              prepares = subst (λ o. Prepares view backing part.before part.ready o (length bytes - (done + is.done)) true (Ok is.mapping)) from (subst (λ k. Prepares view backing part.before part.ready (at + is.done) k true (Ok is.mapping)) rest part.prepares);
+              lowest = part.lowest;
+              tables = subst (λ o. TakesLowestTables view o part.before part.ready) from part.tables;
+            };
+            from = omega (arith, low, behind);
+            to = omega (arith, high, behind);
+            stands = subst (λ o. IsDataAt new.file.header.fields (known_in view new.file) true o (offset_of is.mapping + (i - (done + is.done)))) byte
+                (subst (λ k. IsDataAt new.file.header.fields (known_in view new.file) true (at + (i - done)) (offset_of is.mapping + k)) place is.stands);
+          }
 
 -- so a run is told, by the header that the known bytes hold
 pub rightly_written : {S F : Type 0} (view : S → StorageView) (backing : F → BackingView) (image : Qcow2 S F) (out : List (Option Prepared)) → ImageInvariant view backing (pending_in view backing image out) image out → (offset n : ℕ)

@@ -11,12 +11,14 @@ mod Chunks
 mod Writing
 mod Reading
 mod Runs
+mod Heeding
 mod LookingUp
 mod Converting
 mod WrittenParts
 mod Exporting
 mod Differing
 mod Reasons
+mod ImportLimits
 mod Cleared
 mod Resized
 mod SpecialReads

@@ -1,13 +1,21 @@
 -- When commands fail an image, one call after the other.
-use Rattle.std.proofs.Common.{◌≡◌, ◌∙◌, ℕ, Bool, true, false, IsTrue, Option, Some, None, refl, sym, ap, subst}
+use Rattle.std.proofs.Common.{◌≡◌, ◌≢◌, ◌∙◌, inl, inr, ℕ, Bool, true, false, IsTrue, Option, Some, None, refl, sym, ap, subst}
 use Rattle.std.specs.Option.{option_or}
 use Rattle.std.specs.Prelude.{◌||◌, MatchOption, OnOk, Result, Ok, Err}
+use Rattle.image_access.specs.Moments.{StorageView}
 use Rattle.qcow2_alloc.specs.declared.error.ImageError.{ImageError}
 use Rattle.qcow2_alloc.specs.declared.error.ImageError.TheVariants as I
 use Rattle.qcow2_image.specs.Faults.{IsNotOfStorage}
-use Rattle.qcow2_image.specs.Refusals.{failed_after, failed_by}
+use Rattle.qcow2_image.specs.Calls.{reason_of}
+use Rattle.qcow2_image.specs.Image.{is_failed}
+use Rattle.qcow2_image.specs.Noted.{CommitFailsOnceWritten, CountsImageChanges, FailsOnceWritten}
+use Rattle.qcow2_image.specs.Refusals.{MarksFailed, MarksRefused, failed_after}
+use Rattle.qcow2_image.specs.declared.image.Qcow2.{Qcow2}
+use Rattle.qcow2_image.specs.declared.prepared.CommitRefused.{CommitRefused}
+use Rattle.qcow2_image.proofs.Call.OnceWritten.{changes_before, changes_later, counts_on, counts_still, once_none}
 use Rattle.qcow2_session.specs.Commands.{reply_of_clearing}
-use Rattle.qcow2_session.specs.CountedFaults.{FailsAs, FailsBy, refusal_in}
+use Rattle.qcow2_session.specs.CountedFaults.{refusal_in}
+use Rattle.qcow2_session.specs.Marks.{FailsBy, MarksAtOnce, MarksInParts, reason_in}
 use Rattle.qcow2_session.specs.declared.session.Reply.{Reply}
 
 stays_marked : (before noted now : Bool) → now ≡ (before || noted) → IsTrue before → IsTrue now
@@ -26,29 +34,80 @@ unmarked I.Storage before now never same = absurd (never refl)
 unmarked I.Memory before now never same = λ failed. subst (λ (b : Bool). IsTrue b) (sym same) failed
 unmarked e before now never same = same
 
--- behind calls that mark nothing, and before such
-pub fails_behind : (reason : Option ImageError) (old mid new : Bool) → mid ≡ old → FailsBy reason mid new → FailsBy reason old new
-fails_behind reason old mid new same fails = subst (λ (b : Bool). FailsBy reason b new) same fails
+module _ {S F : Type 0} (view : S → StorageView) where
+  -- ---- one call
 
-pub fails_before : (reason : Option ImageError) (old mid new : Bool) → new ≡ mid → FailsBy reason old mid → FailsBy reason old new
-fails_before reason old mid new same fails = subst (λ (b : Bool). FailsBy reason old b) (sym same) fails
+  -- where nothing was called
+  pub at_rest : (reason : Option ImageError) (image : Qcow2 S F) → FailsBy reason (is_failed image) (is_failed image) → MarksAtOnce view reason image image
+  at_rest reason image fails = record { fails = fails; counts = counts_still view image; memory = λ memory. once_none view image }
 
--- a refusal that is handed on
-pub hands_on : {A : Type 0} (r : Result A ImageError) (e : ImageError) (before now : Bool) → r ≡ Err e → FailsBy (Some e) before now → FailsAs r before now
-hands_on {A = A} r e before now is fails = subst (λ (q : Result A ImageError). FailsAs q before now) (sym is) fails
+  -- what was answered, and what was refused
+  pub answered_at_once : {A : Type 0} {x : A} (old new : Qcow2 S F) → FailsOnceWritten view old new (Ok x) → is_failed new ≡ is_failed old → MarksAtOnce view None old new
+  answered_at_once old new once same = record { fails = same; counts = once.counts; memory = λ bad. absurd (cc) }
 
--- a call that is handed on
-pub call_marks : {A : Type 0} (r : Result A ImageError) (before noted now : Bool) → failed_by r before noted now → FailsAs r before now
-call_marks (Ok a) before noted now is = is
-call_marks (Err e) before noted now is = refused_marks e before noted now is
+  pub refused_at_once : {A : Type 0} (old new : Qcow2 S F) (e : ImageError) → FailsOnceWritten view old new {A = A} (Err e) → MarksRefused old new e → MarksAtOnce view (Some e) old new
+  refused_at_once old new e once marks = record { fails = refused_marks e _ _ _ marks; counts = once.counts; memory = λ is. once.memory (let same : e ≡ I.Memory = cc in ap Err same) }
 
--- a range was cleared
-pub clear_marks : (r : Result (ℕ × ℕ) ImageError) (reply : Reply) (before noted now : Bool) → reply ≡ reply_of_clearing r → failed_by r before noted now → FailsBy (refusal_in reply) before now
-clear_marks r reply before noted now is marks = subst (λ q. FailsBy (refusal_in q) before now) (sym is) (by r marks)
-  where
-    by : (q : Result (ℕ × ℕ) ImageError) → failed_by q before noted now → FailsBy (refusal_in (reply_of_clearing q)) before now
-    by (Ok range) same = same
-    by (Err e) marks = refused_marks e before noted now marks
+  pub call_at_once : {A : Type 0} (old new : Qcow2 S F) (r : Result A ImageError) → FailsOnceWritten view old new r → MarksFailed old new r → MarksAtOnce view (reason_in r) old new
+  call_at_once old new (Ok x) once marks = answered_at_once old new once marks
+  call_at_once old new (Err e) once marks = refused_at_once old new e once marks
+
+  pub commit_at_once : {A : Type 0} (old new : Qcow2 S F) (refused : CommitRefused) → CommitFailsOnceWritten view old new {A = A} (Err refused) → MarksRefused old new (reason_of refused) → MarksAtOnce view (Some (reason_of refused)) old new
+  commit_at_once old new refused once marks = record { fails = refused_marks (reason_of refused) _ _ _ marks; counts = once.counts; memory = λ is. once.memory (let same : reason_of refused ≡ I.Memory = cc in same) }
+
+  -- a range was cleared
+  pub cleared_at_once : (old new : Qcow2 S F) (r : Result (ℕ × ℕ) ImageError) (reply : Reply) → reply ≡ reply_of_clearing r → FailsOnceWritten view old new r → MarksFailed old new r → MarksAtOnce view (refusal_in reply) old new
+  cleared_at_once old new r reply is once marks = subst (λ q. MarksAtOnce view (refusal_in q) old new) (sym is) (by r once marks)
+    where
+      by : (q : Result (ℕ × ℕ) ImageError) → FailsOnceWritten view old new q → MarksFailed old new q → MarksAtOnce view (refusal_in (reply_of_clearing q)) old new
+      by (Ok range) once marks = answered_at_once old new once marks
+      by (Err e) once marks = refused_at_once old new e once marks
+
+  -- a refusal that is handed on
+  pub once_handed : {A : Type 0} (r : Result A ImageError) (e : ImageError) (old new : Qcow2 S F) → r ≡ Err e → MarksAtOnce view (Some e) old new → MarksAtOnce view (reason_in r) old new
+  once_handed {A = A} r e old new is marks = subst (λ (q : Result A ImageError). MarksAtOnce view (reason_in q) old new) (sym is) marks
+
+  pub parts_handed : {A : Type 0} (r : Result A ImageError) (e : ImageError) (old new : Qcow2 S F) → r ≡ Err e → MarksInParts view (Some e) old new → MarksInParts view (reason_in r) old new
+  parts_handed {A = A} r e old new is marks = subst (λ (q : Result A ImageError). MarksInParts view (reason_in q) old new) (sym is) marks
+
+  -- ---- several calls
+
+  pub in_parts : {reason : Option ImageError} {old new : Qcow2 S F} → MarksAtOnce view reason old new → MarksInParts view reason old new
+  in_parts marks = record { fails = marks.fails; counts = marks.counts; memory = λ is. (marks.memory is).changed }
+
+  -- all were answered, or what isn't called is refused behind them
+  pub parts_answered : (old new : Qcow2 S F) → is_failed new ≡ is_failed old → CountsImageChanges view old new → MarksInParts view None old new
+  parts_answered old new same counts = record { fails = same; counts = counts; memory = λ bad. absurd (cc) }
+
+  pub parts_beyond : (old new : Qcow2 S F) → is_failed new ≡ is_failed old → CountsImageChanges view old new → MarksInParts view (Some I.BeyondSize) old new
+  parts_beyond old new same counts = record { fails = same; counts = counts; memory = λ bad. absurd (cc) }
+
+  -- behind calls that mark nothing, and before such
+  pub parts_behind : (reason : Option ImageError) (old mid new : Qcow2 S F) → is_failed mid ≡ is_failed old → CountsImageChanges view old mid → MarksInParts view reason mid new → MarksInParts view reason old new
+  parts_behind reason old mid new same first last = record {
+    fails = subst (λ (b : Bool). FailsBy reason b (is_failed new)) same last.fails;
+    counts = counts_on view old mid new first last.counts;
+    memory = λ is failed. elim (last.memory is failed) [ inl was ↦ inl (sym same ∙ was) | inr rose ↦ inr (changes_before old mid new first.no_fewer rose) ];
+  }
+
+  pub parts_before : (reason : Option ImageError) (old mid new : Qcow2 S F) → is_failed new ≡ is_failed mid → CountsImageChanges view mid new → MarksInParts view reason old mid → MarksInParts view reason old new
+  parts_before reason old mid new same last first = record {
+    fails = subst (λ (b : Bool). FailsBy reason (is_failed old) b) (sym same) first.fails;
+    counts = counts_on view old mid new first.counts last;
+    memory = λ is failed. elim (first.memory is (sym same ∙ failed)) [ inl was ↦ inl was | inr rose ↦ inr (changes_later old mid new last.no_fewer rose) ];
+  }
+
+-- a failed image stays so
+pub stays_failed : (reason : Option ImageError) (before now : Bool) → FailsBy reason before now → IsTrue before → IsTrue now
+stays_failed (Some I.Storage) before now is failed = is
+stays_failed (Some I.Memory) before now is failed = is failed
+stays_failed reason before now is failed = is ∙ failed
+
+-- neither memory nor a storage refused it
+pub fails_no_more : (e : ImageError) (before now : Bool) → FailsBy (Some e) before now → e ≢ I.Memory → e ≢ I.Storage → now ≡ before
+fails_no_more I.Storage before now is other unfailed = absurd (unfailed refl)
+fails_no_more I.Memory before now is other unfailed = absurd (other refl)
+fails_no_more e before now is other unfailed = is
 
 -- what nothing refuses before any work isn't refused so
 pub refused_none : (o : Option ImageError) (e : ImageError) → MatchOption o (◌≡◌ {A = Result (Unit {0}) ImageError} (Err e) (Ok tt)) (λ x. ◌≡◌ {A = Result (Unit {0}) ImageError} (Err e) (Err x)) → o ≡ None → ⊥

@@ -1,5 +1,5 @@
 -- What was prepared lies in no L2 table that another mapping needs as it is, unless it is existing.
-use Rattle.std.proofs.Common.{◌≡◌, ◌+◌, ◌*◌, ◌/◌, ◌%◌, ◌<◌, ◌∙◌, inl, inr, ℕ, false, true, List, Option, Some, None, refl, sym, ap, subst, arith}
+use Rattle.std.proofs.Common.{◌≡◌, ◌+◌, ◌*◌, ◌/◌, ◌%◌, ◌<◌, ◌∙◌, ◌∷◌, inl, inr, ℕ, suc, false, true, List, Option, Some, None, refl, sym, ap, subst, arith}
 use Rattle.std.specs.Prelude.{IsNone, IsSome, slice_get, slice_set}
 use Rattle.std.proofs.lemmas.Bool.{cases_lt}
 use Rattle.std.proofs.lemmas.Nat.{div-mul-add, pow_pos}
@@ -62,3 +62,12 @@ module _ {S F : Type 0} (view : S → StorageView) (backing : F → BackingView)
     | inl some ↦ with_tables p.table taken.other.table taken some refl refl
     | inr none ↦ taken.never 0 (omega (arith, none), λ i lt. absurd (omega (arith, none, lt)))
   ]
+
+-- what is taken is so beside an empty slot in front
+taken_beside : {h : HeaderFields} {known : Bytes} {offset n : ℕ} {out : List (Option Prepared)} → IsTaken h known offset n out → IsTaken h known offset n (None ∷ out)
+taken_beside taken = record { place = suc taken.place; other = taken.other; is_out = taken.is_out; keeps_table = taken.keeps_table; same_table = taken.same_table; never = taken.never }
+
+-- a mapping that was prepared in that slot
+pub untaken_beside : {S F : Type 0} (view : S → StorageView) (backing : F → BackingView) (h : HeaderFields) (known : Bytes) (new : Qcow2 S F) (out : List (Option Prepared)) (p : Prepared) (m : PreparedMapping) (offset n : ℕ)
+    → (abstract_of view backing new (Some p ∷ out)).is_sound → cluster_size new.file.header.fields ≡ cluster_size h → p.guest ≡ offset → IsAnswered h known offset n new.file.header.fields (known_in view new.file) p m → ¬ IsTaken h known offset n out
+untaken_beside view backing h known new out p m offset n sound size guest is taken = prepared_untaken view backing h known new (None ∷ out) 0 p m offset n refl sound size guest (λ some. is) (taken_beside taken)

@@ -1,5 +1,5 @@
 -- What a session's write has done so far: the bytes of its answered parts are written, and no others were given.
-use Rattle.std.proofs.Common.{◌≡◌, ⊎_elim, inl, inr, ℕ, ◌+◌, ◌-◌, ◌<◌, ◌≤◌, List, [], ◌∷◌, take, drop, length, sym, ap, ◌∙◌, subst, arith}
+use Rattle.std.proofs.Common.{◌≡◌, ⊎_elim, inl, inr, ℕ, ◌+◌, ◌-◌, ◌<◌, ◌≤◌, List, [], ◌∷◌, take, drop, length, refl, sym, ap, ◌∙◌, subst, arith}
 use Rattle.std.specs.Prelude.{Ok}
 use Rattle.std.proofs.lemmas.Grind.{common_steps}
 use Rattle.std.proofs.lemmas.List.{take-take}
@@ -62,21 +62,26 @@ writes_none v offset bytes =
     does_if (λ same. sym (ap (λ (d : Disk). with_disk (guest_of v) d) none)) (does_less (none_within v (given_of offset (take 0 bytes) ∷ [])) (does_nothing v))
 
 -- ---- where a write is refused
+-- a part behind others isn't the first
+pub never_first : {X : Type 0} (done : ℕ) → 0 < done → done ≡ 0 → X
+never_first done later first = absurd (omega (arith, later, first))
+
 module _ {S F : Type 0} (view : S → StorageView) (backing : F → BackingView) (old : Qcow2 S F) (cause : (at rest : ℕ) → Qcow2 S F → Type 0) (offset : ℕ) (bytes : List ℕ) where
   rest_is : (done : ℕ) → length (drop done bytes) ≡ length bytes - done
   rest_is done = grind (arith, common_steps)
 
   -- behind the parts that were answered
-  pub stops_behind : (done at : ℕ) (before : Qcow2 S F) → at ≡ offset + done → Writes view backing old before offset (take done bytes) (Ok tt) → cause at (length (drop done bytes)) before → StopsFor view backing old cause offset bytes done
-  stops_behind done at before there written refused = record {
+  pub stops_behind : (done at : ℕ) (before : Qcow2 S F) → at ≡ offset + done → Writes view backing old before offset (take done bytes) (Ok tt) → (done ≡ 0 → before ≡ old) → cause at (length (drop done bytes)) before → StopsFor view backing old cause offset bytes done
+  stops_behind done at before there written begun refused = record {
     before = before;
     written = written;
+    begun = begun;
     refused = subst (λ k. cause k (length bytes - done) before) there (subst (λ n. cause at n before) (rest_is done) refused);
   }
 
   -- at its first part
   pub stops_first : cause offset (length bytes) old → StopsFor view backing old cause offset bytes 0
-  stops_first refused = stops_behind 0 offset old (omega arith) (λ out. writes_none _ offset bytes) refused
+  stops_first refused = stops_behind 0 offset old (omega arith) (λ out. writes_none _ offset bytes) (λ none. refl) refused
 
 -- ---- what is to be freed
 pub no_more_then : {S F : Type 0} (old mid new : Qcow2 S F) → ListsNoMore old mid → ListsNoMore mid new → ListsNoMore old new

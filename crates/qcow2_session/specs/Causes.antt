@@ -2,7 +2,7 @@
 use Rattle.qcow2_alloc.specs.declared.error.ImageError.TheVariants as I
 use Rattle.qcow2_session.specs.declared.session.Command.TheVariants as C
 use Rattle.qcow2_session.specs.declared.session.Reply.TheVariants as R
-use Rattle.std.specs.Prelude.{ℕ, ◌+◌, ◌<◌, ◌≤◌, ◌≡◌, ◌↔◌, ◌⊎◌, ◌&&◌, not, nat_lt, true, false, length, List, Option, Some, None, IfSome, IsNone, MatchOption, slice_get}
+use Rattle.std.specs.Prelude.{ℕ, ◌+◌, ◌<◌, ◌≤◌, ◌≡◌, ◌↔◌, ◌⊎◌, ◌&&◌, not, nat_lt, true, false, length, List, Option, Some, None, Ok, Err, IfSome, IsNone, MatchOption, slice_get}
 use Rattle.std.specs.Option.{option_or}
 use Rattle.image_access.specs.Backing.{BackingView}
 use Rattle.image_access.specs.Moments.{StorageView}
@@ -31,7 +31,7 @@ use Rattle.qcow2_image.specs.declared.mapping.MappingKind.TheVariants.{Raw}
 use Rattle.qcow2_image.specs.declared.mapping.Place.TheVariants.{Image}
 use Rattle.qcow2_image.specs.declared.prepared.Prepared.{Prepared}
 use Rattle.qcow2_session.specs.CountedFaults.{refusal_in}
-use Rattle.qcow2_session.specs.Sessions.{IsTakenToWrite, LacksPlaceToWrite, NeedsFarToWrite}
+use Rattle.qcow2_session.specs.Sessions.{HeedsMappings, LacksPlaceToWrite, NeedsFarToWrite}
 use Rattle.qcow2_session.specs.declared.session.Command.{Command}
 use Rattle.qcow2_session.specs.declared.session.Reply.{Reply}
 
@@ -175,9 +175,10 @@ module _ {S F : Type 0} (view : S → StorageView) (backing : F → BackingView)
   abbrev pub IsMetPuttingAt : (slot at : ℕ) → ImageError → Type 0
   IsMetPuttingAt slot at e = (p : Prepared) × (slice_get before slot ≡ Some (Some p)) × IsMetPutting (IsCacheHeld old before) p at e
 
-  -- A write is refused for a limit, or under a mapping, only where the rest of its range has that cause, behind the bytes that are told as written. So it is of 20.
+  -- A write is refused for a limit only where the rest of its range has that cause, behind the bytes that are told as written. So it is of 20. What is prepared is heeded by each of its parts.
   abbrev pub StopsRightly : (offset : ℕ) → List ℕ → Reply → Type 0
-  StopsRightly offset bytes (R.WriteRefused e n) = (e ≡ I.Limit → LacksPlaceToWrite view backing old new offset bytes n) × (e ≡ I.TablePrepared → IsTakenToWrite view backing old before offset bytes n) × (e ≡ I.Overflow → NeedsFarToWrite view backing old offset bytes n)
+  StopsRightly offset bytes (R.WriteRefused e n) = (e ≡ I.Limit → LacksPlaceToWrite view backing old new offset bytes n) × HeedsMappings view backing old before offset bytes (Err (e, n)) × (e ≡ I.Overflow → NeedsFarToWrite view backing old offset bytes n)
+  StopsRightly offset bytes R.Done = HeedsMappings view backing old before offset bytes (Ok tt)
   StopsRightly offset bytes reply = Unit {0}
 
   -- What a prepared mapping refuses, and nothing else: a range of its L2 table (9), a smaller disk (17). What is put, or read as it was looked up, is refused as outdated (10) only where it is. A commit and a flush are refused for a fault alone.

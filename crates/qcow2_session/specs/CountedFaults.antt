@@ -1,11 +1,13 @@
--- What the replies to commands, and the answers of conversions, tell of failures of the storage and of the disk below, and when a command fails its image.
-use Rattle.std.specs.Prelude.{ℕ, ◌≡◌, ◌⊎◌, ◌≤◌, Bool, IsTrue, List, [], ◌∷◌, Option, Some, None, IfSome, Result, Ok, Err, IfErr}
+-- What the replies to commands, and the answers of conversions, tell of failures of the storage and of the disk below.
+use Rattle.std.specs.Prelude.{ℕ, ◌≡◌, ◌⊎◌, ◌≤◌, List, [], ◌∷◌, Option, Some, None, IfSome, IsTrue, Result, IfErr}
 use Rattle.image_access.specs.Backing.{BackingView}
 use Rattle.image_access.specs.Moments.{StorageView, Rose, UnlessErr}
 use Rattle.qcow2_alloc.specs.declared.error.ImageError.{ImageError}
-use Rattle.qcow2_alloc.specs.declared.error.ImageError.TheVariants.{Memory, Storage}
+use Rattle.qcow2_alloc.specs.declared.error.ImageError.TheVariants.{Storage}
 use Rattle.qcow2_image.specs.declared.image.Qcow2.{Qcow2}
+use Rattle.qcow2_image.specs.Image.{is_failed}
 use Rattle.qcow2_image.specs.Faults.{NoFewerFaults, OneRose, SameFaults, TellsEachIn, TellsFault}
+use Rattle.qcow2_session.specs.Marks.{MarksConversion}
 use Rattle.qcow2_session.specs.declared.session.Reply.{Reply}
 use Rattle.qcow2_session.specs.declared.session.Reply.TheVariants as R
 
@@ -14,17 +16,6 @@ abbrev pub refusal_in : Reply → Option ImageError
 refusal_in (R.Refused e) = Some e
 refusal_in (R.WriteRefused e n) = Some e
 refusal_in reply = None
-
--- A failure of the storage fails an image. Want of memory may, and nothing else does; a mark stays.
-abbrev pub FailsBy : Option ImageError → (before now : Bool) → Type 0
-FailsBy (Some Storage) before now = IsTrue now
-FailsBy (Some Memory) before now = IsTrue before → IsTrue now
-FailsBy reason before now = now ≡ before
-
--- so does a call that was answered, or refused
-abbrev pub FailsAs : {A : Type 0} → Result A ImageError → (before now : Bool) → Type 0
-FailsAs (Ok answer) before now = FailsBy None before now
-FailsAs (Err e) before now = FailsBy (Some e) before now
 
 module _ {S F : Type 0} (view : S → StorageView) (backing : F → BackingView) where
   -- A command lowers neither number of faults. Where it is refused as the storage's failure, one of the two rose, or stood at the greatest u64. Where it isn't, both stay: each failure is told.
@@ -40,13 +31,14 @@ module _ {S F : Type 0} (view : S → StorageView) (backing : F → BackingView)
 
   -- ---- conversions, with the numbers of a raw disk's faults
 
-  -- a refusal says that a storage failed only where one of the image's two did, or the raw disk
+  -- a refusal says that a storage failed only where one of the image's two did, which fails the image, or the raw disk
   abbrev pub TellsConversion : (old new : Qcow2 S F) (before now : ℕ) → ImageError → Type 0
-  TellsConversion old new before now e = e ≡ Storage → OneRose view backing old new ⊎ Rose before now
+  TellsConversion old new before now e = e ≡ Storage → (OneRose view backing old new × IsTrue (is_failed new)) ⊎ Rose before now
 
-  -- A conversion lowers none of the numbers of faults. Where it is refused as a storage's failure, one of the three rose, or stood at the greatest u64. Where it isn't, all three stay.
+  -- A conversion lowers none of the numbers of faults. Where it is refused as a storage's failure, one of the three rose, or stood at the greatest u64. Where it isn't, all three stay. When it fails the image is said by `MarksConversion`.
   pub record ConversionCounts {T : Type 0} (old new : Qcow2 S F) (before now : ℕ) (result : Result T ImageError) : Type 0 where
     pub no_fewer : NoFewerFaults view backing old new
     pub raw : before ≤ now
     pub rose : IfErr result (TellsConversion old new before now)
     pub told : UnlessErr result Storage (SameFaults view backing old new × (now ≡ before))
+    pub marks : MarksConversion view old new result

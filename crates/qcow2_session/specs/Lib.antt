@@ -6,3 +6,4 @@ pub mod Causes
 pub mod Told
 pub mod Opening
 pub mod Boxes
+pub mod Marks

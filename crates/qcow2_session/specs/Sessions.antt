@@ -1,15 +1,18 @@
 -- What a session does to an image: its reads and writes, and its runs of commands.
-use Rattle.std.specs.Prelude.{ℕ, ◌+◌, ◌-◌, ◌%◌, ◌==◌, ◌≡◌, ◌⊎◌, IsTrue, false, List, [], ◌∷◌, length, map, take, Vec, Bool, Option, Some, None, is_some, Result, Ok, Err, slice_get, if◌then◌else◌}
+use Rattle.std.specs.Prelude.{ℕ, ◌+◌, ◌-◌, ◌%◌, ◌<◌, ◌≤◌, ◌==◌, ◌≡◌, ◌⊎◌, IsTrue, true, false, List, [], ◌∷◌, length, map, take, Vec, Bool, Option, Some, None, is_some, Result, Ok, Err, slice_get, if◌then◌else◌}
 use Rattle.std.specs.Global.{Global}
 use Rattle.image_access.specs.Backing.{BackingView}
 use Rattle.image_access.specs.Moments.{StorageView}
 use Rattle.qcow2_metadata.specs.Bytes.{Bytes}
+use Rattle.qcow2_metadata.specs.Cover.{cover}
 use Rattle.qcow2_metadata.specs.Header.{cluster_size}
+use Rattle.qcow2_metadata.specs.declared.l2_mapping.L2Mapping.TheVariants.{Data}
+use Rattle.qcow2_disk.specs.Alike.{IsDataAt}
 use Rattle.qcow2_disk.specs.Disk.{with_bytes}
 use Rattle.qcow2_disk.specs.Mappings.{given_of}
 use Rattle.qcow2_disk.specs.AbstractImages.{Setting, Guest, guest_of, IsOpened}
 use Rattle.qcow2_disk.specs.Calls.{AnsweredEffect, RefusedEffect, Shows, with_disk, MayWrite}
-use Rattle.qcow2_disk.specs.Found.{IsFoundIn}
+use Rattle.qcow2_disk.specs.Found.{IsFoundIn, rest_of_table}
 use Rattle.qcow2_disk.specs.Runs.{Command as RunCommand, Reply as RunReply, get_mapping, mapping_is, Found, State, RefinesState, RefinesCommand, RefinesWholeRun, RefinesDisk, begun}
 use Rattle.qcow2_alloc.specs.declared.error.ImageError.{ImageError}
 use Rattle.qcow2_alloc.specs.declared.error.ImageError.TheVariants.{BeyondSize, Dependency, Failed, ReadOnly, TablePrepared}
@@ -17,10 +20,14 @@ use Rattle.qcow2_alloc.specs.ImageFile.{contents_in, known_in}
 use Rattle.qcow2_image.specs.declared.image.Qcow2.{Qcow2}
 use Rattle.qcow2_image.specs.declared.mapping.Mapping.{Mapping}
 use Rattle.qcow2_image.specs.declared.prepared.Prepared.{Prepared}
-use Rattle.qcow2_image.specs.Calls.{AnswersCall, refusal_of}
+use Rattle.qcow2_image.specs.Calls.{AnswersCall, Prepares, refusal_of}
+use Rattle.qcow2_image.specs.CallParts.{AreCopied}
+use Rattle.qcow2_image.specs.Found.{l1_index_of}
 use Rattle.qcow2_image.specs.Image.{size_of}
 use Rattle.qcow2_image.specs.L1Entries.{NeedsFarEntry}
 use Rattle.qcow2_image.specs.LackedPlaces.{LacksPlaceFor}
+use Rattle.qcow2_image.specs.LowestPlaces.{BeginsLowest, TakesLowestTables}
+use Rattle.qcow2_image.specs.Prepared.{length_of, offset_of}
 use Rattle.qcow2_image.specs.Preparing.{IsTaken}
 use Rattle.qcow2_image.specs.Refusals.{passes, IsMet}
 use Rattle.qcow2_image.specs.ImageInvariant.{abstract_of, image_abstraction}
@@ -111,9 +118,11 @@ module _ {S F : Type 0} (view : S → StorageView) (backing : F → BackingView)
 
 module _ {S F : Type 0} (view : S → StorageView) (backing : F → BackingView) (old : Qcow2 S F) where
   -- A write was refused behind so many of its bytes. There is an image `before` that part: these bytes are written there, and nothing else of the disk changed. What refused the rest of the range is so of that image.
+  -- Where none were written, it is the image that the write began with.
   pub record StopsFor (cause : (at rest : ℕ) → Qcow2 S F → Type 0) (offset : ℕ) (bytes : List ℕ) (done : ℕ) : Type 0 where
     pub before : Qcow2 S F
     pub written : Writes view backing old before offset (take done bytes) (Ok tt)
+    pub begun : done ≡ 0 → before ≡ old
     pub refused : cause (offset + done) (length bytes - done) before
 
   -- Why it is refused 20: an L1 entry past 64 bits has to be written for the first byte of the rest.
@@ -123,6 +132,29 @@ module _ {S F : Type 0} (view : S → StorageView) (backing : F → BackingView)
   -- Why it is refused 9: another mapping lies in the L2 table of the rest, which can't all be written where it is.
   abbrev pub IsTakenToWrite : List (Option Prepared) → (offset : ℕ) → List ℕ → (done : ℕ) → Type 0
   IsTakenToWrite out = StopsFor (λ at n before. IsTaken before.file.header.fields (known_in view before.file) at n out)
+
+  -- For a byte of a write there is a place where a part begins, at the byte or in front of it, under the same L2 table. There is an image `before` that part: the bytes in front of it are written there, and nothing else of the disk changed.
+  -- Where the part is the first, it is the image that the write began with.
+  -- No other mapping kept that table then, unless the rest could all be written where it is. No L1 entry past 64 bits had to be written.
+  pub record IsHeededAt (out : List (Option Prepared)) (offset : ℕ) (bytes : List ℕ) (i : ℕ) : Type 0 where
+    pub from : ℕ
+    pub low : from ≤ i
+    pub same_table : l1_index_of old.file.header.fields (offset + i) ≡ l1_index_of old.file.header.fields (offset + from)
+    pub before : Qcow2 S F
+    pub written : Writes view backing old before offset (take from bytes) (Ok tt)
+    pub begun : from ≡ 0 → before ≡ old
+    pub untaken : ¬ IsTaken before.file.header.fields (known_in view before.file) (offset + from) (length bytes - from) out
+    pub near : ¬ NeedsFarEntry before (offset + from)
+
+  -- Each byte that is told as written was written so. A write is refused 9 only where another mapping refuses the rest.
+  abbrev pub HeedsMappings : List (Option Prepared) → (offset : ℕ) → List ℕ → Result (Unit {0}) (ImageError × ℕ) → Type 0
+  HeedsMappings out offset bytes (Ok done) = (i : ℕ) → i < length bytes → IsHeededAt out offset bytes i
+  HeedsMappings out offset bytes (Err r) = (r.0 ≡ TablePrepared → IsTakenToWrite out offset bytes r.1) × ((i : ℕ) → i < r.1 → IsHeededAt out offset bytes i)
+
+  -- so it is of the first part, which lies under one L2 table
+  abbrev pub HeedsFirst : List (Option Prepared) → (offset n : ℕ) → Result ℕ ImageError → Type 0
+  HeedsFirst out offset n (Ok count) = 0 < n → (count ≤ rest_of_table old.file.header.fields offset) × (¬ IsTaken old.file.header.fields (known_in view old.file) offset n out) × (¬ NeedsFarEntry old offset)
+  HeedsFirst out offset n (Err e) = e ≡ TablePrepared → (0 < n) × IsTaken old.file.header.fields (known_in view old.file) offset n out
 
 module _ {S F : Type 0} (view : S → StorageView) (backing : F → BackingView) (old new : Qcow2 S F) where
   -- Why a write is refused 13, behind so many bytes: the rest of its range can't be prepared from there on.
@@ -154,6 +186,34 @@ module _ {S F : Type 0} (view : S → StorageView) (backing : F → BackingView)
   -- of an image that was just opened they mean the disk
   abbrev pub RunRefinesDisk : List Command → List Reply → Type 0
   RunRefinesDisk commands replies = IsOpened (abstract_of view backing old []) → IsUntouched replies ⊎ RefinesDisk (image_abstraction view backing) old new (map command_of commands) (map reply_of replies)
+
+-- A part of a write, behind so many bytes. There is an image `before` it: these bytes are written there, and nothing else of the disk changed. On that image the rest of the range was prepared.
+-- Where the part is the first, it is the image that the write began with.
+-- The tables that this made lie lowest, and so does the mapping's first cluster, where that is a new one.
+pub record PlacesPart {S F : Type 0} (view : S → StorageView) (backing : F → BackingView) (old : Qcow2 S F) (offset : ℕ) (bytes : List ℕ) (done : ℕ) (p : Prepared) : Type 0 where
+  pub before : Qcow2 S F
+  pub written : Writes view backing old before offset (take done bytes) (Ok tt)
+  pub begun : done ≡ 0 → before ≡ old
+  pub ready : Qcow2 S F
+  pub prepares : Prepares view backing before ready (offset + done) (length bytes - done) true (Ok p)
+  pub lowest : BeginsLowest view ready p
+  pub tables : TakesLowestTables view (offset + done) before ready
+
+module _ {S F : Type 0} (view : S → StorageView) (backing : F → BackingView) (old new : Qcow2 S F) (offset : ℕ) (bytes : List ℕ) where
+  -- a byte of a write stands as copied data at its place in the mapping of a part
+  pub record StandsByPart (i : ℕ) : Type 0 where
+    pub done : ℕ
+    pub mapping : Prepared
+    pub part : PlacesPart view backing old offset bytes done mapping
+    pub from : done ≤ i
+    pub to : i < done + length_of mapping
+    pub stands : IsDataAt new.file.header.fields (known_in view new.file) true (offset + i) (offset_of mapping + (i - done))
+
+  -- So many of its bytes were written: each guest cluster that they touch is copied data, and each byte stands where a part put it. All that were copied data before stand where they stood.
+  pub record LeavesCopied (count : ℕ) : Type 0 where
+    pub range : AreCopied view offset (offset + count) new
+    pub placed : (i : ℕ) → i < count → StandsByPart i
+    pub stay : (g host : ℕ) → cover old.file.header.fields (known_in view old.file) g ≡ Data host true → cover new.file.header.fields (known_in view new.file) g ≡ Data host true
 
 -- the mappings that were looked up are those before, and what a command is told
 abbrev pub Finds : Slots → Slots → Command → Reply → Type 0

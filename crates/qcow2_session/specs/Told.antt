@@ -20,7 +20,8 @@ use Rattle.qcow2_image.specs.Preparing.{IsAnswered, IsOfNothing}
 use Rattle.qcow2_image.specs.Unwritten.{HoldsSame, IsOnlyRead, IsUnmodified, ReadsQuietly}
 use Rattle.qcow2_session.specs.Causes.{IsRightlyRefused}
 use Rattle.qcow2_session.specs.Commands.{command_of, reply_of}
-use Rattle.qcow2_session.specs.CountedFaults.{CommandCounts, FailsBy, refusal_in}
+use Rattle.qcow2_session.specs.CountedFaults.{CommandCounts, refusal_in}
+use Rattle.qcow2_session.specs.Marks.{MarksBy}
 use Rattle.qcow2_session.specs.Sessions.{IsUntouched, ReleasesMappings, looked_up_after}
 use Rattle.qcow2_session.specs.declared.session.Command.{Command}
 use Rattle.qcow2_session.specs.declared.session.Command.TheVariants as C
@@ -140,7 +141,7 @@ module _ {S F : Type 0} (view : S → StorageView) (backing : F → BackingView)
     pub causes : IsRightlyRefused view backing from.image to.image from.prepared from.found command reply
     pub finds : (slot : ℕ) → to.found slot ≡ looked_up_after from.found command reply slot
     pub counts : CommandCounts view backing from.image to.image reply
-    pub failed : FailsBy (refusal_in reply) (is_failed from.image) (is_failed to.image)
+    pub failed : MarksBy view from.image to.image command (refusal_in reply)
     pub size : IsTrue (is_failed from.image) → size_of to.image ≡ size_of from.image
     pub unwritten : LeavesUnwritten from.image from.prepared to.image to.prepared
     pub quiet : LeavesQuietly view from.image from.prepared to.image to.prepared

@@ -2,10 +2,11 @@
 ghost use Rattle.std.specs.Prelude.{ℕ, ◌≡◌, false, List, Option};
 ghost use Rattle.qcow2_image.specs.BehindHeader.{StaysBehindHeader};
 ghost use Rattle.qcow2_image.specs.declared.mapping.Mapping.{Mapping};
-ghost use Rattle.qcow2_image.specs.Image.{number_of, IsSameImage, is_failed, is_writable};
+ghost use Rattle.qcow2_image.specs.Image.{number_of, IsSameImage, is_writable};
 ghost use Rattle.qcow2_image.specs.declared.prepared.Prepared.{Prepared};
 ghost use Rattle.qcow2_session.specs.Causes.{IsRightlyRefused};
-ghost use Rattle.qcow2_session.specs.CountedFaults.{CommandCounts, FailsBy, refusal_in};
+ghost use Rattle.qcow2_session.specs.CountedFaults.{CommandCounts, refusal_in};
+ghost use Rattle.qcow2_session.specs.Marks.{MarksAtOnce};
 ghost use Rattle.qcow2_session.specs.Commands.{reply_of_clearing};
 ghost use Rattle.qcow2_session.specs.Sessions.{CommandSteps, Finds};
 ghost use Rattle.qcow2_session.specs.Told.{TellsOfImage};
@@ -26,7 +27,7 @@ pub(crate) fn ensure_zero<S: Storage, F: WrappedFormat<S>>(
     ensures reading { is_writable image.old ≡ false → image.new ≡ image.old }
     ensures faults { CommandCounts S.view F.backing image.old image.new result }
     ensures header_cluster { StaysBehindHeader S.view image.old image.new }
-    ensures marks { FailsBy (refusal_in result) (is_failed image.old) (is_failed image.new) }
+    ensures marks { MarksAtOnce S.view (refusal_in result) image.old image.new }
     ensures tells { (before : List (Option Prepared)) → TellsOfImage S.view F.backing image.old image.new before before (EnsureZeroMapping offset length) result }
     ensures causes { (before : List (Option Prepared)) (found : ℕ → Option Mapping) → IsRightlyRefused S.view F.backing image.old image.new before found (EnsureZeroMapping offset length) result }
     ensures command_step { (slots : Slots) → CommandSteps S.view F.backing image.old image.new slots slots (EnsureZeroMapping offset length) result }
@@ -45,7 +46,7 @@ pub(crate) fn discard_to_zero<S: Storage, F: WrappedFormat<S>>(
     ensures reading { is_writable image.old ≡ false → image.new ≡ image.old }
     ensures faults { CommandCounts S.view F.backing image.old image.new result }
     ensures header_cluster { StaysBehindHeader S.view image.old image.new }
-    ensures marks { FailsBy (refusal_in result) (is_failed image.old) (is_failed image.new) }
+    ensures marks { MarksAtOnce S.view (refusal_in result) image.old image.new }
     ensures tells { (before : List (Option Prepared)) → TellsOfImage S.view F.backing image.old image.new before before (DiscardToZero offset length) result }
     ensures causes { (before : List (Option Prepared)) (found : ℕ → Option Mapping) → IsRightlyRefused S.view F.backing image.old image.new before found (DiscardToZero offset length) result }
     ensures command_step { (slots : Slots) → CommandSteps S.view F.backing image.old image.new slots slots (DiscardToZero offset length) result }
@@ -64,7 +65,7 @@ pub(crate) fn discard_to_any<S: Storage, F: WrappedFormat<S>>(
     ensures reading { is_writable image.old ≡ false → image.new ≡ image.old }
     ensures faults { CommandCounts S.view F.backing image.old image.new result }
     ensures header_cluster { StaysBehindHeader S.view image.old image.new }
-    ensures marks { FailsBy (refusal_in result) (is_failed image.old) (is_failed image.new) }
+    ensures marks { MarksAtOnce S.view (refusal_in result) image.old image.new }
     ensures tells { (before : List (Option Prepared)) → TellsOfImage S.view F.backing image.old image.new before before (DiscardToAny offset length) result }
     ensures causes { (before : List (Option Prepared)) (found : ℕ → Option Mapping) → IsRightlyRefused S.view F.backing image.old image.new before found (DiscardToAny offset length) result }
     ensures command_step { (slots : Slots) → CommandSteps S.view F.backing image.old image.new slots slots (DiscardToAny offset length) result }
@@ -83,7 +84,7 @@ pub(crate) fn discard_to_backing<S: Storage, F: WrappedFormat<S>>(
     ensures reading { is_writable image.old ≡ false → image.new ≡ image.old }
     ensures faults { CommandCounts S.view F.backing image.old image.new result }
     ensures header_cluster { StaysBehindHeader S.view image.old image.new }
-    ensures marks { FailsBy (refusal_in result) (is_failed image.old) (is_failed image.new) }
+    ensures marks { MarksAtOnce S.view (refusal_in result) image.old image.new }
     ensures tells { (before : List (Option Prepared)) → TellsOfImage S.view F.backing image.old image.new before before (DiscardToBacking offset length) result }
     ensures causes { (before : List (Option Prepared)) (found : ℕ → Option Mapping) → IsRightlyRefused S.view F.backing image.old image.new before found (DiscardToBacking offset length) result }
     ensures command_step { (slots : Slots) → CommandSteps S.view F.backing image.old image.new slots slots (DiscardToBacking offset length) result }

@@ -4,12 +4,10 @@ ghost use Rattle.qcow2_alloc.specs.declared.error.ImageError.TheVariants.{Limit,
 ghost use Rattle.qcow2_alloc.specs.ImageFile.{known_in};
 ghost use Rattle.qcow2_image.specs.Backings.{HasPrepared};
 ghost use Rattle.qcow2_image.specs.BehindHeader.{StaysBehindHeader};
-ghost use Rattle.qcow2_image.specs.CallParts.{AreCopied};
 ghost use Rattle.qcow2_image.specs.Found.{IsFoundWhole, further_by};
 ghost use Rattle.qcow2_image.specs.L1Entries.{NeedsFarEntry, IsNoLonger};
 ghost use Rattle.qcow2_image.specs.LackedPlaces.{LacksPlaceFor};
 ghost use Rattle.qcow2_image.specs.ListedClusters.{ListsNoMore};
-ghost use Rattle.qcow2_image.specs.Preparing.{IsTaken};
 ghost use Rattle.qcow2_image.specs.MetAlone.{CopiesCompressed, IsCacheHeld, IsMetMapped, IsMetReadingRange, IsMetTaking};
 ghost use Rattle.qcow2_image.specs.Clearing.{IsUnderMapping};
 ghost use Rattle.qcow2_image.specs.Preallocation.{IsUnderMappingIn};
@@ -20,8 +18,9 @@ ghost use Rattle.qcow2_image.specs.Calls.{Discards};
 ghost use Rattle.qcow2_image.specs.Refusals.{IsMet, IsMetPreparing, unusable, refuses_mapping, refuses_to_read, refuses_to_prepare};
 ghost use Rattle.qcow2_image.specs.Faults.{CountsImageFaults, NoFewerFaults, SameFaults, TellsEachBy, TellsFault};
 ghost use Rattle.qcow2_session.specs.Causes.{IsRightlyRefused};
-ghost use Rattle.qcow2_session.specs.CountedFaults.{CommandCounts, FailsAs, FailsBy, RunCounts, refusal_in};
-ghost use Rattle.qcow2_session.specs.Sessions.{IsRightlyBeyond, IsOfReading, IsOfWriting, IsTakenToWrite, LacksPlaceToWrite, NeedsFarToWrite, EndsCluster, Reads, ReadsInto, ReadsFirst, Writes, WritesFirst, CommandSteps, Finds, ReleasesMappings, RunsThrough, RunRefinesDisk, LookupsFindContents, mappings_in};
+ghost use Rattle.qcow2_session.specs.CountedFaults.{CommandCounts, RunCounts, refusal_in};
+ghost use Rattle.qcow2_session.specs.Marks.{MarksAtOnce, MarksBy, MarksInParts, reason_in};
+ghost use Rattle.qcow2_session.specs.Sessions.{IsRightlyBeyond, IsOfReading, IsOfWriting, LacksPlaceToWrite, LeavesCopied, NeedsFarToWrite, EndsCluster, Reads, ReadsInto, ReadsFirst, Writes, WritesFirst, CommandSteps, Finds, ReleasesMappings, RunsThrough, RunRefinesDisk, LookupsFindContents, mappings_in, HeedsFirst, HeedsMappings};
 ghost use Rattle.qcow2_image.specs.declared.mapping.Mapping.{Mapping};
 ghost use Rattle.qcow2_image.specs.Ranges.{ReleasesOneMapping};
 ghost use Rattle.qcow2_image.specs.Unwritten.{IsOnlyRead, IsUnmodified, ReadsQuietly};
@@ -177,7 +176,7 @@ pub fn read<S: Storage, F: WrappedFormat<S>>(
     ensures faults { CountsImageFaults S.view F.backing image.old image.new result }
     ensures header { KeepsWholeHeader image.old image.new }
     ensures header_cluster { StaysBehindHeader S.view image.old image.new }
-    ensures marks { FailsAs result (is_failed image.old) (is_failed image.new) }
+    ensures marks { MarksInParts S.view (reason_in result) image.old image.new }
     ensures early { IfSome (refuses_to_read image.old offset length) (λ e. (result ≡ Err e) × (image.new ≡ image.old)) }
     ensures late { refuses_to_read image.old offset length ≡ None → IfErr result (λ e. IsMet e × (0 < length)) }
     ensures met { refuses_to_read image.old offset length ≡ None → (out : List (Option Prepared)) → (abstract_of S.view F.backing image.old out).is_sound → IfErr result (IsMetReadingRange out offset (offset + length) image.old.file.header.fields (known_in S.view image.old.file)) }
@@ -220,7 +219,7 @@ pub fn read_into<S: Storage, F: WrappedFormat<S>>(
     ensures faults { CountsImageFaults S.view F.backing image.old image.new result }
     ensures header { KeepsWholeHeader image.old image.new }
     ensures header_cluster { StaysBehindHeader S.view image.old image.new }
-    ensures marks { FailsAs result (is_failed image.old) (is_failed image.new) }
+    ensures marks { MarksInParts S.view (reason_in result) image.old image.new }
     ensures early { IfSome (refuses_to_read image.old offset (length bytes.old)) (λ e. (result ≡ Err e) × (image.new ≡ image.old)) }
     ensures late { refuses_to_read image.old offset (length bytes.old) ≡ None → IfErr result (λ e. IsMet e × (0 < length bytes.old)) }
     ensures met { refuses_to_read image.old offset (length bytes.old) ≡ None → (out : List (Option Prepared)) → (abstract_of S.view F.backing image.old out).is_sound → IfErr result (IsMetReadingRange out offset (offset + length bytes.old) image.old.file.header.fields (known_in S.view image.old.file)) }
@@ -251,7 +250,7 @@ fn read_some<S: Storage, F: WrappedFormat<S>>(
     ensures faults { CountsImageFaults S.view F.backing image.old image.new result }
     ensures header { KeepsWholeHeader image.old image.new }
     ensures header_cluster { StaysBehindHeader S.view image.old image.new }
-    ensures marks { FailsAs result (is_failed image.old) (is_failed image.new) }
+    ensures marks { MarksInParts S.view (reason_in result) image.old image.new }
     ensures some { IfOk result (λ n. 0 < n) }
     ensures within { IfOk result (λ n. n ≤ length bytes.old) }
     ensures late { refuses_to_read image.old offset (length bytes.old) ≡ None → 0 < length bytes.old → IfErr result IsMet }
@@ -286,7 +285,7 @@ pub fn write<S: Storage, F: WrappedFormat<S>>(
     ensures faults { NoFewerFaults S.view F.backing image.old image.new × IfErr result (λ (e, n). TellsFault S.view F.backing image.old image.new e) × TellsEachBy S.view F.backing (λ refused. refused.0) image.old image.new result }
     ensures no_longer { 0 < length bytes.now → (out : List (Option Prepared)) → (abstract_of S.view F.backing image.old out).is_sound → IsNoLonger (offset + length bytes.now - 1) image.old.file.header.fields image.new.file.header.fields }
     ensures header_cluster { StaysBehindHeader S.view image.old image.new }
-    ensures marks { MatchResult result (λ done. FailsBy None (is_failed image.old) (is_failed image.new)) (λ (e, n). FailsBy (Some e) (is_failed image.old) (is_failed image.new)) }
+    ensures marks { MatchResult result (λ done. MarksInParts S.view None image.old image.new) (λ (e, n). MarksInParts S.view (Some e) image.old image.new) }
     ensures early { IfSome (refuses_to_prepare image.old offset (length bytes.now)) (λ e. (result ≡ Err (e, 0)) × (image.new ≡ image.old)) }
     ensures late { refuses_to_prepare image.old offset (length bytes.now) ≡ None → IfErr result (λ (e, n). IsMetPreparing e × (0 < length bytes.now)) }
     ensures met { refuses_to_prepare image.old offset (length bytes.now) ≡ None → (out : List (Option Prepared)) → (abstract_of S.view F.backing image.old out).is_sound
@@ -294,7 +293,7 @@ pub fn write<S: Storage, F: WrappedFormat<S>>(
     ensures taken { refuses_to_prepare image.old offset (length bytes.now) ≡ None → (out : List (Option Prepared)) → (abstract_of S.view F.backing image.old out).is_sound
         → IfErr result (λ (e, n). e ≡ TablePrepared → IsUnderMappingIn image.old.file.header.fields offset (offset + length bytes.now) out) }
     ensures taken_part { refuses_to_prepare image.old offset (length bytes.now) ≡ None → (out : List (Option Prepared)) → (abstract_of S.view F.backing image.old out).is_sound
-        → IfErr result (λ (e, n). e ≡ TablePrepared → IsTakenToWrite S.view F.backing image.old out offset bytes.now n) }
+        → HeedsMappings S.view F.backing image.old out offset bytes.now result }
     ensures limit { refuses_to_prepare image.old offset (length bytes.now) ≡ None → (out : List (Option Prepared)) → (abstract_of S.view F.backing image.old out).is_sound
         → IfErr result (λ (e, n). e ≡ Limit → LacksPlaceToWrite S.view F.backing image.old image.new offset bytes.now n) }
     ensures freeing { (out : List (Option Prepared)) → (abstract_of S.view F.backing image.old out).is_sound → OnOk result (ListsNoMore image.old image.new) }
@@ -303,7 +302,7 @@ pub fn write<S: Storage, F: WrappedFormat<S>>(
     ensures cause { IfErr result (λ (e, n). IsOfWriting e) }
     ensures ends { (out : List (Option Prepared)) → (abstract_of S.view F.backing image.old out).is_sound → IfErr result (λ (e, n). 0 < n → (n < length bytes.now) × EndsCluster image.old (offset + n)) }
     ensures sees { Writes S.view F.backing image.old image.new offset bytes.now result }
-    ensures copied { 0 < length bytes.now → (out : List (Option Prepared)) → (abstract_of S.view F.backing image.old out).is_sound → OnOk result (AreCopied S.view offset (offset + length bytes.now) image.new) }
+    ensures copied { 0 < length bytes.now → (out : List (Option Prepared)) → (abstract_of S.view F.backing image.old out).is_sound → OnOk result (LeavesCopied S.view F.backing image.old image.new offset bytes.now (length bytes.now)) }
     ensures quiet { StaysQuiet S.view image.old image.new }
 {
     let mut done = match write_some(image, offset, bytes) {
@@ -333,13 +332,13 @@ fn write_some<S: Storage, F: WrappedFormat<S>>(
     ensures faults { CountsImageFaults S.view F.backing image.old image.new result }
     ensures no_longer { (out : List (Option Prepared)) → (abstract_of S.view F.backing image.old out).is_sound → IsNoLonger offset image.old.file.header.fields image.new.file.header.fields }
     ensures header_cluster { StaysBehindHeader S.view image.old image.new }
-    ensures marks { FailsAs result (is_failed image.old) (is_failed image.new) }
+    ensures marks { MarksInParts S.view (reason_in result) image.old image.new }
     ensures early { IfSome (refuses_to_prepare image.old offset (length bytes.now)) (λ e. (result ≡ Err e) × (image.new ≡ image.old)) }
     ensures late { refuses_to_prepare image.old offset (length bytes.now) ≡ None → IfErr result (λ e. IsMetPreparing e × (0 < length bytes.now)) }
     ensures met { refuses_to_prepare image.old offset (length bytes.now) ≡ None → (out : List (Option Prepared)) → (abstract_of S.view F.backing image.old out).is_sound
         → IfErr result (IsMetTaking (HasPrepared out) (IsUnderMapping image.old.file.header.fields offset out) (CopiesCompressed offset (length bytes.now) true image.new.file.header.fields (known_in S.view image.new.file)) (NeedsFarEntry image.old offset)) }
     ensures taken { refuses_to_prepare image.old offset (length bytes.now) ≡ None → (out : List (Option Prepared)) → (abstract_of S.view F.backing image.old out).is_sound
-        → IfErr result (λ e. e ≡ TablePrepared → (0 < length bytes.now) × IsTaken image.old.file.header.fields (known_in S.view image.old.file) offset (length bytes.now) out) }
+        → HeedsFirst S.view F.backing image.old out offset (length bytes.now) result }
     ensures limit { refuses_to_prepare image.old offset (length bytes.now) ≡ None → (out : List (Option Prepared)) → (abstract_of S.view F.backing image.old out).is_sound
         → IfErr result (λ e. e ≡ Limit → LacksPlaceFor S.view offset (length bytes.now) image.old image.new) }
     ensures freeing { (out : List (Option Prepared)) → (abstract_of S.view F.backing image.old out).is_sound → OnOk result (ListsNoMore image.old image.new) }
@@ -350,7 +349,7 @@ fn write_some<S: Storage, F: WrappedFormat<S>>(
     ensures end { IfOk result (λ n. (is_failed image.new ≡ is_failed image.old) × (offset + length bytes.now < 2 ^ 64)) }
     ensures ends { (out : List (Option Prepared)) → (abstract_of S.view F.backing image.old out).is_sound → IfOk result (λ n. n < length bytes.now → EndsCluster image.old (offset + n)) }
     ensures sees { WritesFirst S.view F.backing image.old image.new offset bytes.now result }
-    ensures copied { 0 < length bytes.now → (out : List (Option Prepared)) → (abstract_of S.view F.backing image.old out).is_sound → IfOk result (λ n. AreCopied S.view offset (offset + n) image.new) }
+    ensures copied { 0 < length bytes.now → (out : List (Option Prepared)) → (abstract_of S.view F.backing image.old out).is_sound → IfOk result (LeavesCopied S.view F.backing image.old image.new offset bytes.now) }
     ensures quiet { StaysQuiet S.view image.old image.new }
 {
     let prepared = image.prepare_data_mapping(offset, bytes.len() as u64, true)?;
@@ -429,7 +428,7 @@ fn step<S: Storage, F: WrappedFormat<S>>(
     ensures keeps { KeepsItself image.old image.new }
     ensures faults { CommandCounts S.view F.backing image.old image.new result }
     ensures header_cluster { StaysBehindHeader S.view image.old image.new }
-    ensures marks { FailsBy (refusal_in result) (is_failed image.old) (is_failed image.new) }
+    ensures marks { MarksBy S.view image.old image.new command.now (refusal_in result) }
     ensures slots { slots.new.image ≡ slots.old.image }
     ensures command_step { CommandSteps S.view F.backing image.old image.new slots.old slots.new command.now result }
     ensures finds { Finds slots.old slots.new command.now result }
@@ -490,7 +489,7 @@ fn get_mapping<S: Storage, F: WrappedFormat<S>>(
     ensures image { IsSameImage image.old image.new }
     ensures faults { CommandCounts S.view F.backing image.old image.new result }
     ensures header_cluster { StaysBehindHeader S.view image.old image.new }
-    ensures marks { FailsBy (refusal_in result) (is_failed image.old) (is_failed image.new) }
+    ensures marks { MarksAtOnce S.view (refusal_in result) image.old image.new }
     ensures causes { IsRightlyRefused S.view F.backing image.old image.new slots.old.prepared.items (mappings_in slots.old.mappings.items) (Command.GetMapping slot offset max) result }
     ensures slots { slots.new.image ≡ slots.old.image }
     ensures command_step { CommandSteps S.view F.backing image.old image.new slots.old slots.new (Command.GetMapping slot offset max) result }
@@ -522,7 +521,7 @@ fn read_mapped<S: Storage, F: WrappedFormat<S>>(
     ensures unwritten { StaysUnwritten S.view F.backing image.old image.new }
     ensures faults { CommandCounts S.view F.backing image.old image.new result }
     ensures header_cluster { StaysBehindHeader S.view image.old image.new }
-    ensures marks { FailsBy (refusal_in result) (is_failed image.old) (is_failed image.new) }
+    ensures marks { MarksAtOnce S.view (refusal_in result) image.old image.new }
     ensures causes { IsRightlyRefused S.view F.backing image.old image.new slots.now.prepared.items (mappings_in slots.now.mappings.items) (Command.ReadMapped slot at length) result }
     ensures command_step { CommandSteps S.view F.backing image.old image.new slots.now slots.now (Command.ReadMapped slot at length) result }
     ensures finds { Finds slots.now slots.now (Command.ReadMapped slot at length) result }
@@ -553,7 +552,7 @@ fn read_range<S: Storage, F: WrappedFormat<S>>(
     ensures unwritten { StaysUnwritten S.view F.backing image.old image.new }
     ensures faults { CountsImageFaults S.view F.backing image.old image.new result }
     ensures header_cluster { StaysBehindHeader S.view image.old image.new }
-    ensures marks { FailsAs result (is_failed image.old) (is_failed image.new) }
+    ensures marks { MarksAtOnce S.view (reason_in result) image.old image.new }
     ensures early { IfSome (unusable image.old) (λ e. (result ≡ Err e) × (image.new ≡ image.old)) }
     ensures late { refuses_mapping image.old mapping.now.image ≡ None → IfErr result (λ e. IsMet e × (0 < length)) }
     ensures met { refuses_mapping image.old mapping.now.image ≡ None → (out : List (Option Prepared)) → (abstract_of S.view F.backing image.old out).is_sound → IfErr result (IsMetMapped (IsCacheHeld image.old out) (further_by at mapping.now.kind) (IsFoundWhole S.view image.old (mapping.now.offset + at) (further_by at mapping.now.kind) length)) }
@@ -581,7 +580,7 @@ fn prepare<S: Storage, F: WrappedFormat<S>>(
     ensures image { IsSameImage image.old image.new }
     ensures faults { CommandCounts S.view F.backing image.old image.new result }
     ensures header_cluster { StaysBehindHeader S.view image.old image.new }
-    ensures marks { FailsBy (refusal_in result) (is_failed image.old) (is_failed image.new) }
+    ensures marks { MarksAtOnce S.view (refusal_in result) image.old image.new }
     ensures causes { IsRightlyRefused S.view F.backing image.old image.new slots.old.prepared.items (mappings_in slots.old.mappings.items) (Command.PrepareDataMapping slot offset length overwrite) result }
     ensures slots { slots.new.image ≡ slots.old.image }
     ensures command_step { CommandSteps S.view F.backing image.old image.new slots.old slots.new (Command.PrepareDataMapping slot offset length overwrite) result }
@@ -620,7 +619,7 @@ fn write_mapped<S: Storage, F: WrappedFormat<S>>(
     ensures reading { is_writable image.old ≡ false → image.new ≡ image.old }
     ensures faults { CommandCounts S.view F.backing image.old image.new result }
     ensures header_cluster { StaysBehindHeader S.view image.old image.new }
-    ensures marks { FailsBy (refusal_in result) (is_failed image.old) (is_failed image.new) }
+    ensures marks { MarksAtOnce S.view (refusal_in result) image.old image.new }
     ensures causes { IsRightlyRefused S.view F.backing image.old image.new slots.now.prepared.items (mappings_in slots.now.mappings.items) (Command.WriteMapped slot at bytes.now) result }
     ensures command_step { CommandSteps S.view F.backing image.old image.new slots.now slots.now (Command.WriteMapped slot at bytes.now) result }
     ensures finds { Finds slots.now slots.now (Command.WriteMapped slot at bytes.now) result }
@@ -647,7 +646,7 @@ fn commit<S: Storage, F: WrappedFormat<S>>(
     ensures image { IsSameImage image.old image.new }
     ensures faults { CommandCounts S.view F.backing image.old image.new result }
     ensures header_cluster { StaysBehindHeader S.view image.old image.new }
-    ensures marks { FailsBy (refusal_in result) (is_failed image.old) (is_failed image.new) }
+    ensures marks { MarksAtOnce S.view (refusal_in result) image.old image.new }
     ensures causes { IsRightlyRefused S.view F.backing image.old image.new slots.old.prepared.items (mappings_in slots.old.mappings.items) (Command.CommitDataMapping slot) result }
     ensures slots { slots.new.image ≡ slots.old.image }
     ensures command_step { CommandSteps S.view F.backing image.old image.new slots.old slots.new (Command.CommitDataMapping slot) result }
@@ -678,7 +677,7 @@ fn discard<S: Storage, F: WrappedFormat<S>>(
     ensures image { IsSameImage image.old image.new }
     ensures faults { CommandCounts S.view F.backing image.old image.new result }
     ensures header_cluster { StaysBehindHeader S.view image.old image.new }
-    ensures marks { FailsBy (refusal_in result) (is_failed image.old) (is_failed image.new) }
+    ensures marks { MarksAtOnce S.view (refusal_in result) image.old image.new }
     ensures causes { IsRightlyRefused S.view F.backing image.old image.new slots.old.prepared.items (mappings_in slots.old.mappings.items) (Command.DiscardDataMapping slot) result }
     ensures slots { slots.new.image ≡ slots.old.image }
     ensures command_step { CommandSteps S.view F.backing image.old image.new slots.old slots.new (Command.DiscardDataMapping slot) result }
@@ -701,7 +700,7 @@ fn flush<S: Storage, F: WrappedFormat<S>>(image: &mut Qcow2<S, F>) -> Reply
     ensures unwritten { StaysUnwritten S.view F.backing image.old image.new }
     ensures faults { CommandCounts S.view F.backing image.old image.new result }
     ensures header_cluster { StaysBehindHeader S.view image.old image.new }
-    ensures marks { FailsBy (refusal_in result) (is_failed image.old) (is_failed image.new) }
+    ensures marks { MarksAtOnce S.view (refusal_in result) image.old image.new }
     ensures causes { (before : List (Option Prepared)) (found : ℕ → Option Mapping) → IsRightlyRefused S.view F.backing image.old image.new before found Command.Flush result }
     ensures command_step { (slots : Slots) → CommandSteps S.view F.backing image.old image.new slots slots Command.Flush result }
     ensures finds { (slots : Slots) → Finds slots slots Command.Flush result }

@@ -5,7 +5,8 @@ ghost use Rattle.qcow2_image.specs.declared.mapping.Mapping.{Mapping};
 ghost use Rattle.qcow2_image.specs.Image.{is_failed, is_writable, size_of};
 ghost use Rattle.qcow2_image.specs.declared.prepared.Prepared.{Prepared};
 ghost use Rattle.qcow2_session.specs.Causes.{IsRightlyRefused};
-ghost use Rattle.qcow2_session.specs.CountedFaults.{CommandCounts, FailsBy, refusal_in};
+ghost use Rattle.qcow2_session.specs.CountedFaults.{CommandCounts, refusal_in};
+ghost use Rattle.qcow2_session.specs.Marks.{MarksAtOnce};
 ghost use Rattle.qcow2_session.specs.Sessions.{CommandSteps, Finds};
 ghost use Rattle.qcow2_session.specs.Told.{KeepsItself, TellsOfImage};
 ghost use Rattle.qcow2_session.specs.declared.session.Command.TheVariants.{ResizeGrow, ResizeShrink};
@@ -26,7 +27,7 @@ pub(crate) fn grow<S: Storage, F: WrappedFormat<S>>(
     ensures size { IsTrue (is_failed image.old) → size_of image.new ≡ size_of image.old }
     ensures faults { CommandCounts S.view F.backing image.old image.new result }
     ensures header_cluster { StaysBehindHeader S.view image.old image.new }
-    ensures marks { FailsBy (refusal_in result) (is_failed image.old) (is_failed image.new) }
+    ensures marks { MarksAtOnce S.view (refusal_in result) image.old image.new }
     ensures causes { (before : List (Option Prepared)) (found : ℕ → Option Mapping) → IsRightlyRefused S.view F.backing image.old image.new before found (ResizeGrow size mode) result }
     ensures command_step { (slots : Slots) → CommandSteps S.view F.backing image.old image.new slots slots (ResizeGrow size mode) result }
     ensures finds { (slots : Slots) → Finds slots slots (ResizeGrow size mode) result }
@@ -44,7 +45,7 @@ pub(crate) fn shrink<S: Storage, F: WrappedFormat<S>>(image: &mut Qcow2<S, F>, s
     ensures size { IsTrue (is_failed image.old) → size_of image.new ≡ size_of image.old }
     ensures faults { CommandCounts S.view F.backing image.old image.new result }
     ensures header_cluster { StaysBehindHeader S.view image.old image.new }
-    ensures marks { FailsBy (refusal_in result) (is_failed image.old) (is_failed image.new) }
+    ensures marks { MarksAtOnce S.view (refusal_in result) image.old image.new }
     ensures tells { (before : List (Option Prepared)) → TellsOfImage S.view F.backing image.old image.new before before (ResizeShrink size) result }
     ensures causes { (before : List (Option Prepared)) (found : ℕ → Option Mapping) → IsRightlyRefused S.view F.backing image.old image.new before found (ResizeShrink size) result }
     ensures command_step { (slots : Slots) → CommandSteps S.view F.backing image.old image.new slots slots (ResizeShrink size) result }

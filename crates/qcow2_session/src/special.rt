@@ -4,7 +4,7 @@ ghost use Rattle.qcow2_alloc.specs.ImageFile.{known_in};
 ghost use Rattle.qcow2_image.specs.BehindHeader.{StaysBehindHeader};
 ghost use Rattle.qcow2_image.specs.declared.mapping.Mapping.{Mapping};
 ghost use Rattle.qcow2_image.specs.Calls.{AnswersCall};
-ghost use Rattle.qcow2_image.specs.Image.{IsSameImage, is_failed};
+ghost use Rattle.qcow2_image.specs.Image.{IsSameImage};
 ghost use Rattle.qcow2_image.specs.MetAlone.{IsCacheHeld, IsMetLooking, IsMetSpecial};
 ghost use Rattle.qcow2_image.specs.Refusals.{IsMet, unusable};
 ghost use Rattle.qcow2_alloc.specs.declared.error.ImageError.TheVariants.{Compressed, NotCompressed};
@@ -12,7 +12,8 @@ ghost use Rattle.qcow2_image.specs.ImageInvariant.{abstract_of};
 ghost use Rattle.qcow2_image.specs.declared.prepared.Prepared.{Prepared};
 ghost use Rattle.qcow2_image.specs.Faults.{CountsImageFaults};
 ghost use Rattle.qcow2_session.specs.Causes.{IsRightlyRefused};
-ghost use Rattle.qcow2_session.specs.CountedFaults.{CommandCounts, FailsAs, FailsBy, refusal_in};
+ghost use Rattle.qcow2_session.specs.CountedFaults.{CommandCounts, refusal_in};
+ghost use Rattle.qcow2_session.specs.Marks.{MarksAtOnce, reason_in};
 ghost use Rattle.qcow2_session.specs.Commands.{IsOwnOffset, TellsPlain, TellsSpecial};
 ghost use Rattle.qcow2_session.specs.Sessions.{CommandSteps, Finds};
 ghost use Rattle.qcow2_image.specs.Unwritten.{ReadsQuietly};
@@ -36,7 +37,7 @@ pub(crate) fn readv_special<S: Storage, F: WrappedFormat<S>>(
     ensures unwritten { StaysUnwritten S.view F.backing image.old image.new }
     ensures faults { CommandCounts S.view F.backing image.old image.new result }
     ensures header_cluster { StaysBehindHeader S.view image.old image.new }
-    ensures marks { FailsBy (refusal_in result) (is_failed image.old) (is_failed image.new) }
+    ensures marks { MarksAtOnce S.view (refusal_in result) image.old image.new }
     ensures causes { (before : List (Option Prepared)) (found : ℕ → Option Mapping) → IsRightlyRefused S.view F.backing image.old image.new before found (ReadvSpecial offset length) result }
     ensures command_step { (slots : Slots) → CommandSteps S.view F.backing image.old image.new slots slots (ReadvSpecial offset length) result }
     ensures finds { (slots : Slots) → Finds slots slots (ReadvSpecial offset length) result }
@@ -59,7 +60,7 @@ pub(crate) fn try_readv_special<S: Storage, F: WrappedFormat<S>>(
     ensures unwritten { StaysUnwritten S.view F.backing image.old image.new }
     ensures faults { CommandCounts S.view F.backing image.old image.new result }
     ensures header_cluster { StaysBehindHeader S.view image.old image.new }
-    ensures marks { FailsBy (refusal_in result) (is_failed image.old) (is_failed image.new) }
+    ensures marks { MarksAtOnce S.view (refusal_in result) image.old image.new }
     ensures tells { (before : List (Option Prepared)) → TellsOfImage S.view F.backing image.old image.new before before (TryReadvSpecial offset length) result }
     ensures causes { (before : List (Option Prepared)) (found : ℕ → Option Mapping) → IsRightlyRefused S.view F.backing image.old image.new before found (TryReadvSpecial offset length) result }
     ensures command_step { (slots : Slots) → CommandSteps S.view F.backing image.old image.new slots slots (TryReadvSpecial offset length) result }
@@ -82,7 +83,7 @@ fn read_range<S: Storage, F: WrappedFormat<S>>(
     ensures unwritten { StaysUnwritten S.view F.backing image.old image.new }
     ensures faults { CountsImageFaults S.view F.backing image.old image.new result }
     ensures header_cluster { StaysBehindHeader S.view image.old image.new }
-    ensures marks { FailsAs result (is_failed image.old) (is_failed image.new) }
+    ensures marks { MarksAtOnce S.view (reason_in result) image.old image.new }
     ensures early { IfSome (unusable image.old) (λ e. (result ≡ Err e) × (image.new ≡ image.old)) }
     ensures late { unusable image.old ≡ None → IfErr result (λ e. (IsMet e ⊎ (e ≡ NotCompressed offset)) × (0 < length)) }
     ensures met { (out : List (Option Prepared)) → (abstract_of S.view F.backing image.old out).is_sound → IfErr result (IsMetSpecial (IsCacheHeld image.old out) offset) }
@@ -107,7 +108,7 @@ fn try_range<S: Storage, F: WrappedFormat<S>>(
     ensures unwritten { StaysUnwritten S.view F.backing image.old image.new }
     ensures faults { CountsImageFaults S.view F.backing image.old image.new result }
     ensures header_cluster { StaysBehindHeader S.view image.old image.new }
-    ensures marks { FailsAs result (is_failed image.old) (is_failed image.new) }
+    ensures marks { MarksAtOnce S.view (reason_in result) image.old image.new }
     ensures early { IfSome (unusable image.old) (λ e. (result ≡ Err e) × (image.new ≡ image.old)) }
     ensures late { unusable image.old ≡ None → IfErr result (λ e. IsMet e × (0 < length)) }
     ensures met { (out : List (Option Prepared)) → (abstract_of S.view F.backing image.old out).is_sound → IfErr result (λ e. IsMetLooking (IsCacheHeld image.old out) e ⊎ (e ≡ Compressed)) }

@@ -10,6 +10,7 @@ use Rattle.qcow2_metadata.specs.RefBlock.{RefBlockView}
 use Rattle.qcow2_alloc.specs.declared.async_lru_cache.error.CacheError.{CacheError}
 use Rattle.qcow2_alloc.specs.declared.cache.backends.L2CacheBackend.{L2CacheBackend}
 use Rattle.qcow2_alloc.specs.declared.cache.backends.RefBlockCacheBackend.{RefBlockCacheBackend}
+use Rattle.qcow2_alloc.specs.declared.cache.Direction.{Direction}
 use Rattle.qcow2_alloc.specs.declared.cache.MetadataCaches.{MetadataCaches}
 use Rattle.qcow2_alloc.specs.declared.image_storage.ImageStorage.{ImageStorage}
 use Rattle.qcow2_alloc.specs.AsyncLruCache.{Cache}
@@ -18,7 +19,7 @@ use Rattle.qcow2_alloc.specs.ImageStorage.{storage_of}
 use Rattle.qcow2_alloc.specs.TableCaches.{l2_steps, rb_steps}
 use Rattle.qcow2_alloc.specs.Quiet.{KeepAllWritten}
 use Rattle.qcow2_alloc.proofs.KeptTables.Clean.{clean_as, clean_next, flush_clean, get_clean}
-use Rattle.qcow2_alloc.proofs.KeptTables.Quiet.{quiet_none, quiet_then, tables_quiet, blocks_quiet, table_got_quietly}
+use Rattle.qcow2_alloc.proofs.KeptTables.Quiet.{quiet_none, quiet_then, tables_quiet, blocks_quiet, block_got_quietly, table_got_quietly}
 
 module _ {S : Type 0} (view : S → StorageView) where
   -- no call at all, and one call after another
@@ -70,3 +71,21 @@ module _ {S : Type 0} (view : S → StorageView) where
       );
       quiet = λ all. table_got_quietly view old new caches may_flush key l2 answer hit miss (λ may. clean_next _ (λ (t : L2TableView). t.bytes) (λ t. t.is_modified) caches.l2.entries all.0);
     }
+
+    -- a load of a refblock
+    pub block_got_written : (may_flush : Bool) (key : ℕ) (rb : Cache (RefBlockCacheBackend S) ℕ RefBlockView) (answer : Result Bool (CacheError ℕ MetadataError))
+        → (IsSome (lookup (eqb key) caches.rb.entries) → (answer ≡ Ok true) × (rb.entries ≡ promoted (eqb key) caches.rb.entries) × (new ≡ old))
+        → (IsNone (lookup (eqb key) caches.rb.entries) → GetsNew (rb_steps (λ s. view (storage_of s)) caches.rb.backend.header.fields) eqb caches.rb.size may_flush key old caches.rb.entries answer new rb.entries)
+        → KeepAllWritten view old caches new (record caches { rb = rb })
+    block_got_written may_flush key rb answer hit miss = record {
+      tables = λ all. (
+        all.0,
+        get_clean (rb_steps (λ s. view (storage_of s)) caches.rb.backend.header.fields) rb.backend.header.fields.cluster_bits (λ (b : RefBlockView). b.bytes) (λ b. b.is_modified) (λ s t k v h. h.unmodified) caches.rb.size may_flush key old new
+            caches.rb.entries rb.entries (clean_as _ _ (λ (b : RefBlockView). b.bytes) (λ b. b.is_modified) caches.rb.entries all.1) answer hit miss,
+      );
+      quiet = λ all. block_got_quietly view old new caches may_flush key rb answer hit miss (λ may. clean_next _ (λ (b : RefBlockView). b.bytes) (λ b. b.is_modified) caches.rb.entries all.1);
+    }
+
+-- so are those whose direction is turned
+pub written_turned : {S : Type 0} {view : S → StorageView} {a b : ImageStorage S} {x y : MetadataCaches S} (d : Direction) → KeepAllWritten view a x b y → KeepAllWritten view a x b (record y { direction = d })
+written_turned d kept = record { tables = kept.tables; quiet = kept.quiet }

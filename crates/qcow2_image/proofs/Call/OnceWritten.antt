@@ -1,5 +1,5 @@
 -- A call begins with no note, does parts that keep the notes, and marks a failure: want of memory fails the image just where a change was counted.
-use Rattle.std.proofs.Common.{◌≡◌, ◌⊎◌, ℕ, ◌<◌, ◌≤◌, Bool, true, false, Err, inl, inr, refl, sym, ap, ◌∙◌, subst, arith}
+use Rattle.std.proofs.Common.{◌≡◌, ◌⊎◌, ℕ, ◌<◌, ◌≤◌, Bool, true, false, Ok, Err, inl, inr, refl, sym, ap, ◌∙◌, subst, arith}
 use Rattle.std.specs.Prelude.{IsTrue, Result, ◌||◌}
 use Rattle.std.proofs.lemmas.Bool.{or_cases, or_left, or_right}
 use Rattle.std.proofs.Math.Nat.{le_refl, le_trans}
@@ -13,9 +13,12 @@ use Rattle.qcow2_alloc.specs.declared.cache.MetadataCaches.{MetadataCaches}
 use Rattle.qcow2_alloc.specs.declared.error.ImageError.{ImageError}
 use Rattle.qcow2_alloc.specs.declared.error.ImageError.TheVariants.{Memory}
 use Rattle.qcow2_alloc.specs.declared.image_file.ImageFile.{ImageFile}
+use Rattle.qcow2_alloc.specs.declared.image_storage.ImageStorage.{ImageStorage}
 use Rattle.qcow2_image.specs.declared.image.Qcow2.{Qcow2}
 use Rattle.qcow2_image.specs.Image.{IsBegun, has_noted_change, is_failed, with_marks}
-use Rattle.qcow2_image.specs.Noted.{ChangesRose, HasMoreChanges, MarksOnceChanged, NoFewerChanges, NotesChanges, NotesPart}
+use Rattle.qcow2_image.specs.Noted.{ChangesRose, CommitFailsOnceWritten, CountsImageChanges, FailsOnceWritten, HasMoreChanges, MarksOnceChanged, NoFewerChanges, NotesChanges, NotesPart}
+use Rattle.qcow2_image.specs.Ranges.{ReleasesOneMapping}
+use Rattle.qcow2_image.specs.declared.prepared.CommitRefused.{CommitRefused}
 use Rattle.qcow2_image.specs.Refusals.{MarksFailed}
 use Rattle.qcow2_image.proofs.Call.ToldData.{none_told}
 
@@ -61,6 +64,40 @@ module _ {S F : Type 0} (view : S → StorageView) where
     changed = λ failed. inl failed;
     marked = λ more. absurd (elim more [ inl lt ↦ omega (arith, lt) | inr lt ↦ omega (arith, lt) ]);
   }
+
+  pub counts_still : (image : Qcow2 S F) → CountsImageChanges view image image
+  counts_still image = record { no_fewer = fewer_none image; honest = λ h. h; contents = λ few honest. refl }
+
+  pub fails_none : {A : Type 0} (image : Qcow2 S F) (result : Result A ImageError) → FailsOnceWritten view image image result
+  fails_none image result = record { counts = counts_still image; memory = λ memory. once_none image }
+
+  pub commit_fails_none : {A : Type 0} (image : Qcow2 S F) (result : Result A CommitRefused) → CommitFailsOnceWritten view image image result
+  commit_fails_none image (Ok done) = record { counts = counts_still image; memory = tt }
+  commit_fails_none image (Err refused) = record { counts = counts_still image; memory = λ memory. once_none image }
+
+  -- ---- one call behind another, and one that was answered
+  pub counts_on : (a b c : Qcow2 S F) → CountsImageChanges view a b → CountsImageChanges view b c → CountsImageChanges view a c
+  counts_on a b c first next = record {
+    no_fewer = fewer_then a b c first.no_fewer next.no_fewer;
+    honest = λ h. next.honest (first.honest h);
+    contents = λ few honest. next.contents (λ rose. few (changes_before a b c first.no_fewer rose)) (first.honest honest) ∙ first.contents (λ rose. few (changes_later a b c next.no_fewer rose)) honest;
+  }
+
+  pub answered_counts : {A : Type 0} (old new : Qcow2 S F) (x : A) → CountsImageChanges view old new → FailsOnceWritten view old new (Ok x)
+  answered_counts old new x counts = record { counts = counts; memory = λ bad. absurd (cc) }
+
+  pub counts_noted : (old new : Qcow2 S F) → NotesChanges view old new → CountsImageChanges view old new
+  counts_noted old new notes = record { no_fewer = notes.no_fewer; honest = notes.honest; contents = notes.contents }
+
+  -- a mapping was let go
+  pub counts_released : (old new : Qcow2 S F) → ReleasesOneMapping view old new → CountsImageChanges view old new
+  counts_released old new released =
+      let storage : new.file.storage ≡ old.file.storage = ap (λ (i : Qcow2 S F). i.file.storage) released.rest in
+      record {
+        no_fewer = record { storage = subst (λ (s : ImageStorage S). changes_of old.file.storage ≤ changes_of s) (sym storage) (le_refl (changes_of old.file.storage)); tables = subst (λ n. old.file.caches.changes ≤ n) (sym released.counted) (le_refl old.file.caches.changes) };
+        honest = λ h. subst (λ (s : ImageStorage S). (view (storage_of s)).is_honest) (sym storage) h;
+        contents = λ few honest. ap (λ (s : ImageStorage S). (view (storage_of s)).contents) storage;
+      }
 
   -- ---- a part that keeps the notes
   module _ {MayTellData : Type 0} (old new : Qcow2 S F) (kept : KeepsFileNotes view MayTellData old.file new.file) where
@@ -177,6 +214,17 @@ module _ {S F : Type 0} (view : S → StorageView) where
     pub notes_since : (new : Qcow2 S F) → KeepsFileNotes view NoData begun.file new.file → NotesPart view old new
     notes_since new kept = part_of_call new (notes_begun new (notes_part begun new kept))
 
+    pub counts_begun : {MayTellData : Type 0} (new : Qcow2 S F) → KeepsFileNotes view MayTellData begun.file new.file → CountsImageChanges view old new
+    counts_begun new kept = record {
+      no_fewer = record {
+        storage = subst (λ n. n ≤ changes_of new.file.storage) begins.counts (kept_fewer begun new kept).storage;
+        tables = subst (λ n. n ≤ new.file.caches.changes) tables_same (kept_fewer begun new kept).tables;
+      };
+      honest = λ h. kept.storage.honest (subst (λ (s : S). (view s).is_honest) (sym begins.storage) h);
+      contents = λ few. subst (λ (s : S). ContentsStay (view s) (view_in view new.file)) begins.storage
+          (kept_contents begun new kept (λ noted. elim (kept_why begun new kept noted) [ inl was ↦ nothing_noted was | inr rose ↦ few (rose_begun new rose) ]));
+    }
+
     -- where it is marked at its end, and wasn't before
     pub once_marked : {MayTellData A : Type 0} (mid new : Qcow2 S F) (done : Result A ImageError) → KeepsFileNotes view MayTellData begun.file new.file → is_failed mid ≡ is_failed old → MarksFailed mid new done → done ≡ Err Memory → MarksOnceChanged view old new
     once_marked {A} mid new done kept same marks is =
@@ -190,16 +238,24 @@ module _ {S F : Type 0} (view : S → StorageView) where
           marked = λ more. mark ∙ or_right (is_failed mid) (has_noted_change new) (kept_counted begun new kept (more_begun new more));
         }
 
-    pub once_written : {MayTellData A : Type 0} (last new : Qcow2 S F) (done : Result A ImageError) → KeepsFileNotes view MayTellData begun.file last.file → is_failed last ≡ is_failed old → MarksFailed last new done → new ≡ record last { is_failed = new.is_failed } → done ≡ Err Memory
-        → MarksOnceChanged view old new
-    once_written {MayTellData} last new done kept same marks rest =
-        once_marked last new done (subst (λ (f : ImageFile S). KeepsFileNotes view MayTellData begun.file f) (sym (ap (λ (i : Qcow2 S F). i.file) rest)) kept) same marks
+    pub fails_marked : {MayTellData A B : Type 0} (mid new : Qcow2 S F) (done : Result A ImageError) → KeepsFileNotes view MayTellData begun.file new.file → is_failed mid ≡ is_failed old → MarksFailed mid new done → (result : Result B ImageError) → (result ≡ Err Memory → done ≡ Err Memory)
+        → FailsOnceWritten view old new result
+    fails_marked mid new done kept same marks result from = record { counts = counts_begun new kept; memory = λ memory. once_marked mid new done kept same marks (from memory) }
+
+    pub fails_once : {MayTellData A B : Type 0} (last new : Qcow2 S F) (done : Result A ImageError) → KeepsFileNotes view MayTellData begun.file last.file → is_failed last ≡ is_failed old → MarksFailed last new done → new ≡ record last { is_failed = new.is_failed } → (result : Result B ImageError)
+        → (result ≡ Err Memory → done ≡ Err Memory) → FailsOnceWritten view old new result
+    fails_once {MayTellData} last new done kept same marks rest result from =
+        fails_marked last new done (subst (λ (f : ImageFile S). KeepsFileNotes view MayTellData begun.file f) (sym (ap (λ (i : Qcow2 S F). i.file) rest)) kept) same marks result from
+
+    -- what was answered is marked by nothing
+    pub answered_once : {MayTellData B : Type 0} (last new : Qcow2 S F) → KeepsFileNotes view MayTellData begun.file last.file → new ≡ record last { is_failed = new.is_failed } → (x : B) → FailsOnceWritten view old new (Ok x)
+    answered_once {MayTellData} last new kept rest x = answered_counts old new x (counts_begun new (subst (λ (f : ImageFile S). KeepsFileNotes view MayTellData begun.file f) (sym (ap (λ (i : Qcow2 S F). i.file) rest)) kept))
 
   -- Where all was done before it is marked, and it is noted whether anything was counted since the call began.
-  pub refused_once : {A : Type 0} (old last new : Qcow2 S F) (done : Result A ImageError) → NotesChanges view old last → (done ≡ Err Memory → IsTrue (is_failed last) → IsTrue (is_failed old) ⊎ ChangesRose old last)
+  marks_refused : {A : Type 0} (old last new : Qcow2 S F) (done : Result A ImageError) → NotesChanges view old last → (done ≡ Err Memory → IsTrue (is_failed last) → IsTrue (is_failed old) ⊎ ChangesRose old last)
       → new ≡ with_marks last (is_changed_of new.file.storage) (is_failed new) → (ChangesRose old last → IsTrue (has_noted_change new)) → (IsTrue (has_noted_change new) → IsTrue (has_noted_change last) ⊎ ChangesRose old last)
       → MarksFailed last new done → done ≡ Err Memory → MarksOnceChanged view old new
-  refused_once {A} old last new done notes failed_last rest noted why marks is =
+  marks_refused {A} old last new done notes failed_last rest noted why marks is =
       let mark : is_failed new ≡ (is_failed last || has_noted_change new) = subst (λ (r : Result A ImageError). MarksFailed last new r) is marks in
       let marked : ChangesRose old last → IsTrue (is_failed new) = λ rose. mark ∙ or_right (is_failed last) (has_noted_change new) (noted rose) in
       record {
@@ -213,6 +269,14 @@ module _ {S F : Type 0} (view : S → StorageView) where
     where
       more_rose : (a b : Qcow2 S F) → HasMoreChanges a b → ChangesRose a b
       more_rose a b more = elim more [ inl lt ↦ inl (omega (arith, lt)) | inr lt ↦ inr (omega (arith, lt)) ]
+
+  pub refused_once : {A : Type 0} (old last new : Qcow2 S F) (done : Result A ImageError) → NotesChanges view old last → (done ≡ Err Memory → IsTrue (is_failed last) → IsTrue (is_failed old) ⊎ ChangesRose old last)
+      → new ≡ with_marks last (is_changed_of new.file.storage) (is_failed new) → (ChangesRose old last → IsTrue (has_noted_change new)) → (IsTrue (has_noted_change new) → IsTrue (has_noted_change last) ⊎ ChangesRose old last)
+      → MarksFailed last new done → FailsOnceWritten view old new done
+  refused_once old last new done notes failed_last rest noted why marks = record {
+    counts = subst (λ (i : Qcow2 S F). CountsImageChanges view old i) (sym rest) (record { no_fewer = record { storage = notes.no_fewer.storage; tables = notes.no_fewer.tables }; honest = notes.honest; contents = notes.contents });
+    memory = marks_refused old last new done notes failed_last rest noted why marks;
+  }
 
 -- what a refused part of a call marked
 pub failed_part : {S F A : Type 0} (old new : Qcow2 S F) (done : Result A ImageError) → (IsTrue (has_noted_change new) → ChangesRose old new) → MarksFailed old new done → done ≡ Err Memory → IsTrue (is_failed new) → IsTrue (is_failed old) ⊎ ChangesRose old new

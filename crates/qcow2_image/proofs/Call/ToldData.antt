@@ -1,8 +1,13 @@
--- What calls tell as data: a write, parts that tell nothing so, and a call that begins, does a part, and is marked.
-use Rattle.std.proofs.Common.{◌≡◌, ◌⊎◌, Result, Ok, Err, inl, inr, sym, ap, ◌∙◌, subst}
+-- What calls tell as data: a write, parts that tell nothing so, a call that begins, does a part, and is marked, and a put.
+use Rattle.std.proofs.Common.{◌≡◌, ◌⊎◌, ℕ, ◌+◌, Bool, true, false, List, [], Option, Some, None, IsSome, Result, Ok, Err, inl, inr, refl, sym, ap, ◌∙◌, subst}
+use Rattle.image_access.specs.Contents.{overwritten}
 use Rattle.image_access.specs.Moments.{StorageView, Rose}
 use Rattle.image_access.specs.declared.error.StorageError.{StorageError}
 use Rattle.image_access.specs.declared.error.StorageError.TheVariants.{Fault, Memory}
+use Rattle.image_access.proofs.EachMomentSince.{passes_none}
+use Rattle.qcow2_alloc.specs.declared.error.ImageError.{ImageError}
+use Rattle.qcow2_alloc.specs.declared.error.ImageError.TheVariants as I
+use Rattle.qcow2_alloc.specs.ImageFile.{view_in}
 use Rattle.qcow2_alloc.specs.ImageStorage.{kind_of, changes_of, data_changes_of, CountsKind, NotesWrite, SameNotes}
 use Rattle.qcow2_alloc.specs.KeptMarks.{KeepNotes}
 use Rattle.qcow2_alloc.specs.KeptNotes.{NoData}
@@ -10,13 +15,28 @@ use Rattle.qcow2_alloc.specs.declared.cache.MetadataCaches.{MetadataCaches}
 use Rattle.qcow2_alloc.specs.declared.image_storage.ImageStorage.{ImageStorage}
 use Rattle.qcow2_alloc.specs.declared.image_storage.WriteKind.TheVariants.{Data}
 use Rattle.qcow2_image.specs.declared.image.Qcow2.{Qcow2}
-use Rattle.qcow2_image.specs.Image.{IsBegun}
-use Rattle.qcow2_image.specs.Noted.{TellsData, TellsDataAlone, TellsNoData}
+use Rattle.qcow2_image.specs.declared.prepared.Prepared.{Prepared}
+use Rattle.qcow2_image.specs.CallParts.{IsWriteOutcome}
+use Rattle.qcow2_image.specs.Image.{IsBegun, storage_of_image}
+use Rattle.std.specs.Prelude.{IfOk}
+use Rattle.qcow2_image.specs.Noted.{DataUnlessExisting, TellsData, TellsNoData, TellsPut}
+use Rattle.qcow2_image.specs.Prepared.{offset_of, table_of}
 
 module _ {S : Type 0} {view : S → StorageView} where
   -- a part that tells nothing as data
   pub none_told : {r s : ImageStorage S} {a b : MetadataCaches S} → KeepNotes view NoData r a s b → data_changes_of s ≡ data_changes_of r
   none_told kept = elim kept.storage.kinds [ inl none ↦ absurd none | inr same ↦ same ]
+
+  -- what may tell data for one reason may for another
+  pub notes_if : {May MayToo : Type 0} {r s : ImageStorage S} {a b : MetadataCaches S} → (May → MayToo) → KeepNotes view May r a s b → KeepNotes view MayToo r a s b
+  notes_if may kept = record {
+    storage = record { honest = kept.storage.honest; changes = kept.storage.changes; contents = kept.storage.contents; no_fewer_data = kept.storage.no_fewer_data; kinds = elim kept.storage.kinds [ inl does ↦ inl (may does) | inr same ↦ inr same ] };
+    tables = kept.tables;
+  }
+
+-- a mapping under a table isn't existing
+pub some_under : (p : Prepared) {table : ℕ} → p.table ≡ Some table → IsSome (table_of p)
+some_under p under = subst (λ (t : Option ℕ). IsSome t) (sym under) refl
 
 -- a write that the storage was told of before as data
 module _ {S : Type 0} (before mid now : ImageStorage S) (noted : SameNotes before mid) (told : kind_of mid ≡ Data) where
@@ -44,8 +64,81 @@ module _ {S F : Type 0} where
   data_told_in_call old begun new is begins rose marked =
       subst (λ (i : Qcow2 S F). TellsData old i) (sym marked) (subst (λ n. Rose n (data_changes_of is.file.storage)) begins.kinds rose)
 
-  pub data_alone_in_call : (old begun new is : Qcow2 S F) → IsBegun old begun → TellsDataAlone begun is → new ≡ is → TellsDataAlone old new
-  data_alone_in_call old begun new is begins alone marked = elim alone [
-    | inl same ↦ inl (ap (λ (i : Qcow2 S F). changes_of i.file.storage) marked ∙ same ∙ begins.counts)
-    | inr rose ↦ inr (data_told_in_call old begun new is begins rose marked)
+is_both : {A : Type 0} (o : Option A) → IsSome o → o ≡ None → ⊥
+is_both None some none = absurd (let no : false ≡ true = some in cc)
+is_both (Some a) some none = absurd (let no : Some a ≡ None = none in cc)
+
+-- a call of one part that prepares: where it answers an existing mapping nothing is told
+module _ {S F : Type 0} (view : S → StorageView) (old begun is new : Qcow2 S F) where
+  pub existing_in_call : (r : Result Prepared ImageError) → IsBegun old begun → KeepNotes view (DataUnlessExisting r) begun.file.storage begun.file.caches is.file.storage is.file.caches → {failed : Bool} → new ≡ record is { is_failed = failed }
+      → IfOk r (λ p. table_of p ≡ None → TellsNoData old new)
+  existing_in_call (Ok p) begins kept marked = λ none. elim kept.storage.kinds [
+    | inl some ↦ absurd (is_both (table_of p) some none)
+    | inr same ↦ none_told_by marked ∙ same ∙ begins.kinds
   ]
+  existing_in_call (Err e) begins kept marked = tt
+
+-- a refused write of which nothing is there
+outcome_none : (e : ImageError) (old changed : List ℕ) → IsWriteOutcome (Err e) old changed old
+outcome_none I.ReadOnly old changed = refl
+outcome_none I.BeyondSize old changed = refl
+outcome_none I.Version old changed = refl
+outcome_none I.UnalignedTable old changed = refl
+outcome_none I.InvalidOption old changed = refl
+outcome_none I.Preallocation old changed = refl
+outcome_none I.Compressed old changed = refl
+outcome_none I.InUse old changed = refl
+outcome_none I.TablePrepared old changed = refl
+outcome_none I.OutdatedMapping old changed = refl
+outcome_none I.ForeignState old changed = refl
+outcome_none I.Dependency old changed = refl
+outcome_none I.Limit old changed = refl
+outcome_none I.Memory old changed = refl
+outcome_none I.Storage old changed = inl refl
+outcome_none I.Failed old changed = refl
+outcome_none I.MappingPrepared old changed = refl
+outcome_none (I.NotCompressed offset) old changed = refl
+outcome_none I.Metadata old changed = refl
+outcome_none I.Overflow old changed = refl
+outcome_none (I.StillInUse tables) old changed = refl
+
+module _ {S F : Type 0} (view : S → StorageView) (p : Prepared) (at : ℕ) (bytes : List ℕ) where
+  -- a put that is refused before its bytes are written, and one of no bytes
+  pub put_unwritten : (old now : Qcow2 S F) (e : ImageError) → ((view_in view old.file).is_honest → (view_in view now.file).is_honest) → TellsNoData old now → (IsSome (table_of p) → now ≡ old) → TellsPut view p at bytes old now (Err e)
+  put_unwritten old now e honest none idle = record {
+    before = now;
+    honest = honest;
+    earlier = none;
+    idle = λ some. (ap (λ (i : Qcow2 S F). storage_of_image i) (idle some), ap (λ (i : Qcow2 S F). changes_of i.file.storage) (idle some));
+    alone = inl refl;
+    time = λ _. passes_none (view_in view now.file) _;
+    written = λ _. outcome_none e _ _;
+  }
+
+  pub put_refused : (old : Qcow2 S F) (e : ImageError) → TellsPut view p at bytes old old (Err e)
+  put_refused old e = put_unwritten old old e (λ h. h) refl (λ _. refl)
+
+  pub put_nothing : (old : Qcow2 S F) → bytes ≡ [] → TellsPut view p at bytes old old (Ok tt)
+  unfolding overwritten
+  put_nothing old empty = record {
+    before = old;
+    honest = λ h. h;
+    earlier = refl;
+    idle = λ _. (refl, refl);
+    alone = inl refl;
+    time = λ _. passes_none (view_in view old.file) _;
+    written = λ _. subst (λ (b : List ℕ). (view_in view old.file).contents ≡ overwritten (view_in view old.file).contents (offset_of p + at) b) (sym empty) refl;
+  }
+
+  -- a call of one part that puts them, whose end is marked
+  pub put_in_call : (old begun is new : Qcow2 S F) (r : Result (Unit {0}) ImageError) → IsBegun old begun → TellsPut view p at bytes begun is r → (failed : Bool) → new ≡ record is { is_failed = failed } → TellsPut view p at bytes old new r
+  put_in_call old begun is new r begins puts failed marked =
+      subst (λ (i : Qcow2 S F). TellsPut view p at bytes old i r) (sym marked) (record {
+        before = puts.before;
+        honest = λ h. puts.honest (subst (λ (s : S). (view s).is_honest) (sym begins.storage) h);
+        earlier = puts.earlier ∙ begins.kinds;
+        idle = λ some. ((puts.idle some).0 ∙ begins.storage, (puts.idle some).1 ∙ begins.counts);
+        alone = puts.alone;
+        time = puts.time;
+        written = puts.written;
+      })

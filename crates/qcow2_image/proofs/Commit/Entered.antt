@@ -28,6 +28,7 @@ use Rattle.qcow2_alloc.specs.declared.cache.MetadataCaches.{MetadataCaches}
 use Rattle.qcow2_alloc.specs.declared.async_lru_cache.slot.Slot.{Slot}
 use Rattle.qcow2_alloc.specs.MetadataCaches.{MapsCachedEntry, l2_at}
 use Rattle.qcow2_alloc.specs.ImageFile.{contents_in, known_in}
+use Rattle.qcow2_alloc.specs.declared.clusters_to_free.ClustersToFreeEntry.{ClustersToFreeEntry}
 use Rattle.qcow2_image.specs.BehindHeader.{StaysBehindHeader}
 use Rattle.qcow2_image.proofs.Call.BehindHeader.{behind_by, behind_none, behind_tables, behind_then}
 use Rattle.qcow2_image.specs.declared.image.Qcow2.{Qcow2}
@@ -229,10 +230,18 @@ all_in_place view backing image p each o = by_test (is_private view backing imag
       absurd (let f : true ≡ false = sym shared.entered ∙ ap is_entered same in cc)
 
 -- ---- the first shares are entered
+-- a cached table and what is to be freed change, as they may have before
+rest_entered : {S F : Type 0} (old now mid new : Qcow2 S F) (more : List ClustersToFreeEntry) → now ≡ record old { file = record old.file { caches = now.file.caches; free_list = now.file.free_list } } → mid ≡ record now { file = record now.file { caches = mid.file.caches } }
+    → new ≡ record mid { file = record mid.file { free_list = mid.file.free_list ++ more } } → new ≡ record old { file = record old.file { caches = new.file.caches; free_list = new.file.free_list } }
+rest_entered {S} {F} old now mid new more first next last =
+    let list = mid.file.free_list ++ more in
+    last ∙ ap (λ (m : Qcow2 S F). record m { file = record m.file { caches = mid.file.caches; free_list = list } }) next ∙ ap (λ (m : Qcow2 S F). record m { file = record m.file { caches = mid.file.caches; free_list = list } }) first
+    ∙ ap (λ (m : Qcow2 S F). record old { file = record old.file { caches = m.file.caches; free_list = m.file.free_list } }) (sym last)
+
 module _ {S F : Type 0} (view : S → StorageView) (backing : F → BackingView) where
   pub record EntersFirst (old now : Qcow2 S F) (p q : Prepared) (n : ℕ) (entered : Bool) : Type 0 where
     pub stays : ImageStays old now
-    pub header : now.file.header ≡ old.file.header
+    pub rest : now ≡ record old { file = record old.file { caches = now.file.caches; free_list = now.file.free_list } }
     pub none : entered ≡ false → (now ≡ old) × (q ≡ p)
     pub mapping : q ≡ record p { shares = q.shares }
     pub table : q.table ≡ p.table
@@ -240,25 +249,21 @@ module _ {S F : Type 0} (view : S → StorageView) (backing : F → BackingView)
     pub in_place : (j : ℕ) → j < n → slice_get q.shares.items j ≡ Some InPlace
     pub parts : (out : List (Option Prepared)) (k : ℕ) → slice_get out k ≡ Some (Some p) → IsSome p.table → ImageInvariant view backing (pending_in view backing old out) old out
         → CommitsPart view backing old now out k p q × (IsTrue entered → IsTrue now.file.caches.is_changed)
-    pub storage : now.file.storage ≡ old.file.storage
     pub notes : KeepsFileNotes view NoData old.file now.file
-    pub below : now.backing ≡ old.backing
     pub quiet : DropsNothing p → DropsNothing q × (now.file.free_list ≡ old.file.free_list)
     pub behind : StaysBehindHeader view old now
 
   pub first_none : (old : Qcow2 S F) (p : Prepared) → EntersFirst old old p p 0 false
   first_none old p = record {
     stays = record { image = record { number = refl; size = refl; writable = refl; external = refl }; failed = refl };
-    header = refl;
+    rest = refl;
     none = λ _. (refl, refl);
     mapping = refl;
     table = refl;
     count = refl;
     in_place = λ j lt. absurd (omega arith);
     parts = λ out k placed some sound. (parts_none view backing out k old p placed sound, λ never. absurd (let e : false ≡ true = never in cc));
-    storage = refl;
     notes = notes_none;
-    below = refl;
     quiet = λ none. (none, refl);
     behind = behind_none;
   }
@@ -270,7 +275,7 @@ module _ {S F : Type 0} (view : S → StorageView) (backing : F → BackingView)
         subst (λ (x : Qcow2 S F). EntersFirst old x p r (n + 1) entered) (sym same.0) (subst (λ (x : Prepared). EntersFirst old now p x (n + 1) entered) (sym same.1)
         (record {
           stays = first.stays;
-          header = first.header;
+          rest = first.rest;
           none = first.none;
           mapping = first.mapping;
           table = first.table;
@@ -280,9 +285,7 @@ module _ {S F : Type 0} (view : S → StorageView) (backing : F → BackingView)
             | inr other ↦ first.in_place j (omega arith)
           ];
           parts = first.parts;
-          storage = first.storage;
           notes = first.notes;
-          below = first.below;
           quiet = first.quiet;
           behind = first.behind;
         }))
@@ -307,7 +310,7 @@ module _ {S F : Type 0} (view : S → StorageView) (backing : F → BackingView)
             image = record { number = stays.image.number ∙ first.stays.image.number; size = stays.image.size ∙ first.stays.image.size; writable = stays.image.writable ∙ first.stays.image.writable; external = stays.image.external ∙ first.stays.image.external };
             failed = stays.failed ∙ first.stays.failed;
           };
-          header = ap (λ (m : Qcow2 S F). m.file.header) enters.lists ∙ ap (λ (m : Qcow2 S F). m.file.header) enters.enters.rest ∙ first.header;
+          rest = rest_entered old now enters.mid new (old_data_by enters.share) first.rest enters.enters.rest enters.lists;
           none = λ never. absurd (let e : true ≡ false = never in cc);
           mapping = enters.mapping ∙ ap (λ (x : Prepared). record x { shares = r.shares }) first.mapping;
           table = table ∙ first.table;
@@ -323,9 +326,7 @@ module _ {S F : Type 0} (view : S → StorageView) (backing : F → BackingView)
                 parts_then view backing out k old now new p q r before (entered_part view backing now new n q r enters (slice_set out k (Some q)) k at there.0 there.1 before.sound),
                 λ _. entered_noted view backing now new n q r enters (slice_set out k (Some q)) k at there.0 there.1 before.sound,
               );
-          storage = ap (λ (m : Qcow2 S F). m.file.storage) enters.lists ∙ ap (λ (m : Qcow2 S F). m.file.storage) enters.enters.rest ∙ first.storage;
           notes = notes_then first.notes (notes_then (table_kept now enters.mid (ap (λ (m : Qcow2 S F). m.file.storage) enters.enters.rest) enters.enters.marks) (same_kept enters.mid new (ap (λ (m : Qcow2 S F). m.file.storage) enters.lists) (ap (λ (m : Qcow2 S F). m.file.caches) enters.lists)));
-          below = ap (λ (m : Qcow2 S F). m.backing) enters.lists ∙ ap (λ (m : Qcow2 S F). m.backing) enters.enters.rest ∙ first.below;
           quiet = λ none.
               let before = first.quiet none in
               let last : new.file.free_list ≡ enters.mid.file.free_list ++ old_data_by enters.share = ap (λ (m : Qcow2 S F). m.file.free_list) enters.lists in

@@ -21,7 +21,8 @@ use Rattle.qcow2_image.specs.declared.prepared.Prepared.{Prepared}
 use Rattle.qcow2_image.specs.Found.{l1_index_of}
 use Rattle.qcow2_image.specs.Growing.{FitsSize}
 use Rattle.qcow2_image.specs.ImageInvariant.{ImageInvariant}
-use Rattle.qcow2_image.specs.L1Entries.{ReachesOffset, StaysAsLong, HasOwnTable}
+use Rattle.qcow2_image.specs.L1Entries.{ReachesOffset, ReachingStays, StaysAsLong, HasOwnTable}
+use Rattle.qcow2_image.specs.MetAlone.{KeepsL1Place}
 use Rattle.qcow2_image.specs.MovedTables.{MovesTables}
 use Rattle.qcow2_image.specs.UnseenSteps.{NamesOwn}
 
@@ -36,6 +37,10 @@ kept_length v v' keeps = ap (λ (x : HeaderView). x.fields.l1_entries) keeps
 
 pub same_length : (v v' : HeaderView) → v' ≡ v → v'.fields.l1_entries ≡ v.fields.l1_entries
 same_length v v' same = ap (λ (x : HeaderView). x.fields.l1_entries) same
+
+-- a table that stays where it is does so where a header is the same
+pub place_same : (h : HeaderFields) (v v' : HeaderView) → v' ≡ v → KeepsL1Place h v.fields → KeepsL1Place h v'.fields
+place_same h v v' same kept = subst (λ (x : HeaderView). KeepsL1Place h x.fields) (sym same) kept
 
 -- ---- offsets
 pub index_moved : (h h' : HeaderFields) (offset : ℕ) → MovesTables h h' → l1_index_of h' offset ≡ l1_index_of h offset
@@ -86,22 +91,42 @@ stays_long_shorter h h' mid to le stays within =
     let rising = index_rising h (mid - 1) (to - 1) (omega (arith, le)) in
     stays (omega (arith, within, rising))
 
--- a call that reaches an offset leaves an L1 table that reached further
-pub reaches_stays : (h h' : HeaderFields) (offset to : ℕ) → offset < to → ReachesOffset offset h h' → StaysAsLong to h h'
-reaches_stays h h' offset to lt is within =
+-- one that stays where it is stays as long
+pub stays_long : (h h' : HeaderFields) (to : ℕ) → ReachingStays to h h' → StaysAsLong to h h'
+stays_long h h' to stays within = (stays within).1
+
+pub reaching_stays_then : (h h' h'' : HeaderFields) (to : ℕ) → MovesTables h h' → ReachingStays to h h' → ReachingStays to h' h'' → ReachingStays to h h''
+reaching_stays_then h h' h'' to file_step first then within =
+    let same = first within in
+    let entries = same.1 in
+    let index = index_moved h h' (to - 1) file_step in
+    let is = then (omega (arith, within, entries, index)) in
+    (is.0 ∙ same.0, is.1 ∙ entries)
+
+pub reaching_stays_shorter : (h h' : HeaderFields) (mid to : ℕ) → mid ≤ to → ReachingStays mid h h' → ReachingStays to h h'
+reaching_stays_shorter h h' mid to le stays within =
+    let rising = index_rising h (mid - 1) (to - 1) (omega (arith, le)) in
+    stays (omega (arith, within, rising))
+
+-- one that reaches an offset and stays does so where it reached further
+pub reaching_stays : (h h' : HeaderFields) (offset to entries : ℕ) → offset < to → entries ≡ h.l1_entries → (l1_index_of h offset < entries → KeepsL1Place h h') → ReachingStays to h h'
+reaching_stays h h' offset to entries lt count stays within =
     let rising = index_rising h offset (to - 1) (omega (arith, lt)) in
-    omega (arith, is, within, rising)
+    stays (omega (arith, count, within, rising))
 
 -- where a call began, only the reftable may have moved
 pub reaches_begun : (h h' h'' : HeaderFields) (offset : ℕ) → KeepsFormat h h' → ReachesOffset offset h' h'' → ReachesOffset offset h h''
 reaches_begun h h' h'' offset keeps is = is ∙ ap (λ (x : HeaderFields). max x.l1_entries (l1_index_of x offset + 1)) keeps
 
 -- one that reaches the last byte of a size reaches that of its last cluster, and stays
-pub reaches_on : (h h' h'' : HeaderFields) (size : ℕ) → 0 < size → MovesTables h h' → ReachesOffset (size - 1) h h' → StaysAsLong (rounded_up (cluster_size h') size) h' h'' → ReachesOffset (size - 1) h h''
-reaches_on h h' h'' size any file_step is stays =
+pub reaches_end : (h h' : HeaderFields) (size : ℕ) → 0 < size → MovesTables h h' → ReachesOffset (size - 1) h h' → l1_index_of h' (rounded_up (cluster_size h') size - 1) < h'.l1_entries
+reaches_end h h' size any file_step is =
     let index = index_moved h h' (size - 1) file_step in
     let last : l1_index_of h' (rounded_up (cluster_size h') size - 1) ≡ l1_index_of h' (size - 1) = ap (λ x. x / entries_per_cluster h') (last_cluster (cluster_size h') size (pow_pos h'.cluster_bits) any) in
-    stays (omega (arith, is, index, last)) ∙ is
+    omega (arith, is, index, last)
+
+pub reaches_on : (h h' h'' : HeaderFields) (size : ℕ) → 0 < size → MovesTables h h' → ReachesOffset (size - 1) h h' → StaysAsLong (rounded_up (cluster_size h') size) h' h'' → ReachesOffset (size - 1) h h''
+reaches_on h h' h'' size any file_step is stays = stays (reaches_end h h' size any file_step is) ∙ is
 
 module _ {S F : Type 0} (view : S → StorageView) (backing : F → BackingView) (out : List (Option Prepared)) where
   -- what the L1 tables in memory have, the headers tell

@@ -23,17 +23,20 @@ use Rattle.qcow2_image.specs.declared.discarding.Clearance.TheVariants.{KeptZero
 use Rattle.qcow2_image.specs.declared.image.Qcow2.{Qcow2}
 use Rattle.qcow2_image.specs.declared.prepared.Prepared.{Prepared}
 use Rattle.qcow2_image.specs.ImageInvariant.{ImageInvariant, abstract_of, disk_of, pending_in}
-use Rattle.qcow2_image.specs.L1Entries.{ReachesOffset}
+use Rattle.qcow2_image.specs.Found.{l1_index_of}
 use Rattle.qcow2_image.specs.LackedPlaces.{LacksPlaceFor, LacksTableFor}
+use Rattle.qcow2_image.specs.ListedClusters.{KeepsReftable, SomeGaveWay}
+use Rattle.qcow2_image.specs.MetAlone.{KeepsL1Place}
 use Rattle.qcow2_image.specs.MovedTables.{MovesTables}
 use Rattle.qcow2_image.specs.Preallocation.{ChangesFree, FilledCovers, FillsOrRefuses, FillsPart, FillsSome, InterruptedGiving, IsUnderMappingIn, LacksPlaceOnWay, MayBeZero, RefusedFill, given_by_zeros}
 use Rattle.qcow2_image.specs.Refusals.{IsMet, IsUnlimited}
 use Rattle.qcow2_image.proofs.Call.Called.{works_none}
 use Rattle.qcow2_image.proofs.Clear.ClearCalls.{under_before}
 use Rattle.qcow2_image.proofs.Clear.Ranges.{table_end, table_whole}
-use Rattle.qcow2_image.proofs.Grow.Lengths.{reaches_stays, same_length, stays_long_shorter, stays_long_then}
+use Rattle.qcow2_image.proofs.Grow.Lengths.{place_same, reaching_stays, reaching_stays_shorter, reaching_stays_then, same_length, stays_long, stays_long_shorter, stays_long_then}
 use Rattle.qcow2_image.proofs.Moved.{file_step_then}
 use Rattle.qcow2_image.proofs.Prepare.Lacked.{other_limit}
+use Rattle.qcow2_image.proofs.Prepare.Listing.{giving_kept, giving_none, giving_then}
 use Rattle.std.proofs.lemmas.Nat.{pow_pos}
 use Rattle.qcow2_image.proofs.Preallocate.Covers.{covers_before, covers_cleared, covers_from, covers_none, covers_stay, covers_then}
 use Rattle.qcow2_image.proofs.Preallocate.Pieces.{none_of}
@@ -102,7 +105,8 @@ module _ {S F : Type 0} (view : S → StorageView) (backing : F → BackingView)
     sound = sound;
     shows = ap (λ (d : Disk). with_disk (guest_of (abstract_of view backing image out)) d) (sym (zeroed_none (disk_of view backing image) from from (omega arith)));
     header = refl;
-    length = λ within. refl;
+    l1_table = λ within. (refl, refl);
+    reftables = giving_none image;
     covers = covers_none (cluster_size image.file.header.fields) (pow_pos image.file.header.fields.cluster_bits) first from image.file.header.fields (known_in view image.file);
     free = untaken_none (cluster_size image.file.header.fields) (pow_pos image.file.header.fields.cluster_bits) out first from image.file.header.fields (known_in view image.file);
   }
@@ -131,7 +135,7 @@ module _ {S F : Type 0} (view : S → StorageView) (backing : F → BackingView)
   -- refused before anything was done
   pub refused_here : (image : Qcow2 S F) (first from to : ℕ) (e : ImageError) → (e ≡ I.TablePrepared → ⊥) → (e ≡ I.Limit → ⊥) → ImageInvariant view backing (pending_in view backing image out) image out
       → RefusedFill view backing first from to image image out e
-  refused_here image first from to e other unlimited sound = record { left = inl (some_none image from to sound); taken = λ is. absurd (other is); limit = λ is. absurd (unlimited is) }
+  refused_here image first from to e other unlimited sound = record { left = inl (some_none image from to sound); taken = λ is. absurd (other is); limit = λ is. absurd (unlimited is); length = λ within. refl }
 
   -- the first bytes of a range lack a place
   pub lacks_here : (old new : Qcow2 S F) (first from to n : ℕ) → ImageInvariant view backing (pending_in view backing old out) old out → 0 < n → from + n ≤ to → LacksPlaceFor view from n old new
@@ -167,7 +171,8 @@ module _ {S F : Type 0} (view : S → StorageView) (backing : F → BackingView)
       sound = then.sound;
       shows = then.shows ∙ ap (λ (g : Guest). with_disk g (zeroed_between g.disk mid to)) first.shows ∙ ap (λ (d : Disk). with_disk (guest_of (abstract_of view backing a out)) d) (zeroed_then (disk_of view backing a) from mid to low high);
       header = file_step_then a.file.header.fields b.file.header.fields c.file.header.fields first.header then.header;
-      length = stays_long_then a.file.header.fields b.file.header.fields c.file.header.fields to first.header (stays_long_shorter a.file.header.fields b.file.header.fields mid to high first.length) then.length;
+      reftables = giving_then a b c first.reftables then.reftables;
+      l1_table = reaching_stays_then a.file.header.fields b.file.header.fields c.file.header.fields to first.header (reaching_stays_shorter a.file.header.fields b.file.header.fields mid to high first.l1_table) then.l1_table;
       covers = covers_then (cluster_size a.file.header.fields) (pow_pos a.file.header.fields.cluster_bits) zeros a.file.header.fields (known_in view a.file) b.file.header.fields (known_in view b.file) c.file.header.fields (known_in view c.file) from mid to low high first.covers
           (as_large mid to first.header then.covers);
       free = untaken_then (cluster_size a.file.header.fields) (pow_pos a.file.header.fields.cluster_bits) out zeros a.file.header.fields (known_in view a.file) b.file.header.fields (known_in view b.file)
@@ -181,7 +186,8 @@ module _ {S F : Type 0} (view : S → StorageView) (backing : F → BackingView)
       sound = then.sound;
       shows = then.shows ∙ ap (λ (g : Guest). with_disk g (zeroed_between g.disk from mid)) first.shows ∙ ap (λ (d : Disk). with_disk (guest_of (abstract_of view backing a out)) d) (zeroed_before (disk_of view backing a) from mid to low high);
       header = file_step_then a.file.header.fields b.file.header.fields c.file.header.fields first.header then.header;
-      length = stays_long_then a.file.header.fields b.file.header.fields c.file.header.fields to first.header first.length (stays_long_shorter b.file.header.fields c.file.header.fields mid to high then.length);
+      reftables = giving_then a b c first.reftables then.reftables;
+      l1_table = reaching_stays_then a.file.header.fields b.file.header.fields c.file.header.fields to first.header first.l1_table (reaching_stays_shorter b.file.header.fields c.file.header.fields mid to high then.l1_table);
       covers = covers_before (cluster_size a.file.header.fields) (pow_pos a.file.header.fields.cluster_bits) zeros a.file.header.fields (known_in view a.file) b.file.header.fields (known_in view b.file) c.file.header.fields (known_in view c.file) from mid to low high first.covers
           (as_large from mid first.header then.covers);
       free = untaken_before (cluster_size a.file.header.fields) (pow_pos a.file.header.fields.cluster_bits) out zeros a.file.header.fields (known_in view a.file) b.file.header.fields (known_in view b.file)
@@ -234,38 +240,42 @@ module _ {S F : Type 0} (view : S → StorageView) (backing : F → BackingView)
       left = left_after a b c zeros from to x y x' y' low high low' high' first e then.left;
       taken = λ is. taken_wider a.file.header.fields b.file.header.fields x' y' from to out first.header low' high' (then.taken is);
       limit = λ is. lacks_after (then.limit is);
+      length = stays_long_then a.file.header.fields b.file.header.fields c.file.header.fields to first.header (stays_long_shorter a.file.header.fields b.file.header.fields y to high (stays_long a.file.header.fields b.file.header.fields y first.l1_table)) (stays_long_shorter b.file.header.fields c.file.header.fields y' to high' then.length);
     }
 
-  -- a part, and then a step that no guest sees
+  -- a part, and then clusters are freed, which no guest sees
   module _ (a b c : Qcow2 S F) (zeros from to : ℕ) (first : FillsPart view backing zeros from to a b out) where
-    pub fills_stays : UnseenCall view backing b c out → c.file.header ≡ b.file.header → FillsPart view backing zeros from to a c out
-    fills_stays then same = record {
+    pub fills_stays : UnseenCall view backing b c out → c.file.header ≡ b.file.header → KeepsReftable b c → FillsPart view backing zeros from to a c out
+    fills_stays then same keeps = record {
       works = works_then (abstract_of view backing a out) (abstract_of view backing b out) (abstract_of view backing c out) (given_by_zeros from to ∷ []) [] first.sound first.works (none_of _ _ (given_by_zeros from to ∷ []) then.works);
       sound = then.sound;
       shows = then.same ∙ first.shows;
       header = file_step_then a.file.header.fields b.file.header.fields c.file.header.fields first.header then.header;
-      length = λ within. same_length b.file.header c.file.header same ∙ first.length within;
+      l1_table = λ within. place_same a.file.header.fields b.file.header c.file.header same (first.l1_table within);
+      reftables = giving_kept a b c first.reftables keeps;
       covers = covers_stay (cluster_size a.file.header.fields) (pow_pos a.file.header.fields.cluster_bits) zeros a.file.header.fields (known_in view a.file) b.file.header.fields (known_in view b.file) c.file.header.fields (known_in view c.file) from to first.covers then.covers;
       free = first.free;
     }
 
     -- that is refused
-    pub fills_refused : (to' : ℕ) (e : ImageError) → to ≤ to' → IsMet e → IsUnlimited e → RefusedCall view backing b c out e → RefusedFill view backing zeros from to' a c out e
-    fills_refused to' e high met unlimited then = record {
+    pub fills_refused : (to' : ℕ) (e : ImageError) → to ≤ to' → IsMet e → IsUnlimited e → RefusedCall view backing b c out e → c.file.header ≡ b.file.header → RefusedFill view backing zeros from to' a c out e
+    fills_refused to' e high met unlimited then same = record {
       left = left_after a b c zeros from to' from to from to' (omega arith) high (omega arith) (omega arith) first e (fill_unseen b c from to' e then);
       taken = met_taken e met;
       limit = other_limit (LacksPlaceOnWay view backing zeros from to' a c out) e unlimited;
+      length = λ within. same_length b.file.header c.file.header same ∙ stays_long_shorter a.file.header.fields b.file.header.fields to to' high (stays_long a.file.header.fields b.file.header.fields to first.l1_table) within;
     }
 
   -- whole clusters are cleared
-  pub cleared_fills : (old new : Qcow2 S F) (from to : ℕ) → from < to → ReachesOffset from old.file.header.fields new.file.header.fields → from % cluster_size old.file.header.fields ≡ 0 → ClearsPart view backing KeptZeros from to old new out
+  pub cleared_fills : (old new : Qcow2 S F) (from to : ℕ) → from < to → (entries : ℕ) → entries ≡ old.file.header.fields.l1_entries → (l1_index_of old.file.header.fields from < entries → KeepsL1Place old.file.header.fields new.file.header.fields) → SomeGaveWay old new → from % cluster_size old.file.header.fields ≡ 0 → ClearsPart view backing KeptZeros from to old new out
       → ChangesFree (cluster_size old.file.header.fields) 0 from to old.file.header.fields (known_in view old.file) out → FillsPart view backing 0 from to old new out
-  cleared_fills old new from to lt reaches whole part free = record {
+  cleared_fills old new from to lt entries count stays gave whole part free = record {
     works = works_less (abstract_of view backing old out) (abstract_of view backing new out) _ (given_by_zeros from to ∷ []) [] (λ o w given. inr (shown_zeros (disk_of view backing old) from to o w given)) (touches_part (cluster_size old.file.header.fields) _ _ _ _ (omega arith) (omega arith)) part.works;
     sound = part.sound;
     shows = part.shows;
     header = part.header;
-    length = reaches_stays old.file.header.fields new.file.header.fields from to lt reaches;
+    l1_table = reaching_stays old.file.header.fields new.file.header.fields from to entries lt count stays;
+    reftables = λ before is. gave;
     covers = covers_cleared old.file.header.fields new.file.header.fields (known_in view old.file) (known_in view new.file) from to whole part.covers;
     free = free;
   }
@@ -277,7 +287,8 @@ module _ {S F : Type 0} (view : S → StorageView) (backing : F → BackingView)
     sound = part.sound;
     shows = part.shows;
     header = part.header;
-    length = part.length;
+    l1_table = part.l1_table;
+    reftables = part.reftables;
     covers = covers_from (cluster_size old.file.header.fields) (pow_pos old.file.header.fields.cluster_bits) from to old.file.header.fields (known_in view old.file) new.file.header.fields (known_in view new.file) whole part.covers;
     free = untaken_zeros (cluster_size old.file.header.fields) (pow_pos old.file.header.fields.cluster_bits) out from from to old.file.header.fields (known_in view old.file) part.free;
   }
@@ -291,7 +302,8 @@ module _ {S F : Type 0} (view : S → StorageView) (backing : F → BackingView)
         sound = part.sound;
         shows = part.shows;
         header = part.header;
-        length = part.length;
+        l1_table = part.l1_table;
+        reftables = part.reftables;
         covers = record {
           beside = part.covers.beside;
           zeros = λ g t at. part.covers.zeros g t (omega arith);

@@ -29,6 +29,7 @@ use Rattle.qcow2_image.proofs.Preallocate.Covers.{boundary}
 use Rattle.qcow2_image.proofs.Preallocate.Pieces.{none_of}
 use Rattle.qcow2_image.proofs.Preallocate.Zeros.{zeros_shown}
 use Rattle.qcow2_image.proofs.Prepare.Lacked.{limited_not}
+use Rattle.qcow2_image.proofs.Prepare.Listing.{giving_none}
 use Rattle.qcow2_image.proofs.Sizes.{disk_size}
 use Rattle.qcow2_image.proofs.UngivenCovers.{touches_part}
 
@@ -79,7 +80,8 @@ module _ {S F : Type 0} (view : S → StorageView) (backing : F → BackingView)
     sound = sound;
     shows = ap (λ (e : Disk). with_disk (guest_of (abstract_of view backing old out)) e) (subst (λ (x : PreallocateMode). d ≡ filled_to (cluster_size old.file.header.fields) d size x) (sym none) refl);
     header = refl;
-    length = λ within. refl;
+    l1_table = λ within. (refl, refl);
+    reftables = giving_none old;
     covers = record { filled = λ hides. absurd (let no : true ≡ false = sym (ap shows_old none) ∙ hides in cc); same = λ _ g. refl };
     free = λ hides. absurd (let no : true ≡ false = sym (ap shows_old none) ∙ hides in cc);
   }
@@ -102,7 +104,8 @@ module _ {S F : Type 0} (view : S → StorageView) (backing : F → BackingView)
         sound = part.sound;
         shows = part.shows ∙ ap (λ (e : Disk). with_disk (guest_of (abstract_of view backing old out)) e) (ap (λ n. zeroed_between d n end) size_is ∙ sym (cond-false (shows_old mode) d (zeroed_between d d.size end) hides));
         header = part.header;
-        length = part.length;
+        l1_table = part.l1_table;
+        reftables = part.reftables;
         covers = record {
           filled = λ _. subst (λ f. FilledCovers (cluster_size old.file.header.fields) f (size_of old) end old.file.header.fields (known_in view old.file) new.file.header.fields (known_in view new.file)) begins part.covers;
           same = λ shows. absurd (let no : true ≡ false = sym shows ∙ hides in cc);
@@ -136,6 +139,7 @@ module _ {S F : Type 0} (view : S → StorageView) (backing : F → BackingView)
         left = ⊎_elim (λ (part : FillsSome view backing (size_of old) end old new out). inl (in_part part)) (λ (interrupted : InterruptedGiving view backing (given_by_zeros (size_of old) end ∷ []) old new out e). inr (broken e interrupted)) refused.left;
         taken = λ is. (hides, subst (λ n. IsUnderMappingIn old.file.header.fields n end out) size_is (refused.taken is));
         limit = λ is. subst (λ f. LacksPlaceOnWay view backing f (size_of old) end old new out) begins (refused.limit is);
+        length = refused.length;
       }
 
       pub grown_or_refused : (first from : ℕ) → first ≡ first_zeros (cluster_size old.file.header.fields) from size mode → from ≡ size_of old → (r : Result (Unit {0}) ImageError) → FillsOrRefuses view backing first from end old new out r → FillsGrownOrRefuses view backing size mode old new out r

@@ -10,7 +10,7 @@ use Rattle.image_access.specs.declared.storage.PreallocateMode.{PreallocateMode}
 use Rattle.qcow2_metadata.specs.Bytes.{Bytes}
 use Rattle.qcow2_metadata.specs.Cover.{cover}
 use Rattle.qcow2_metadata.specs.EntryTable.{HasRoomIfPlaced, entry_count}
-use Rattle.qcow2_metadata.specs.Header.{HeaderView, cluster_size, entries_per_cluster, rounded_up}
+use Rattle.qcow2_metadata.specs.Header.{cluster_size, entries_per_cluster, rounded_up}
 use Rattle.qcow2_metadata.specs.L2Table.{copied_host, zero_cover}
 use Rattle.qcow2_metadata.specs.declared.header.HeaderFields.{HeaderFields}
 use Rattle.qcow2_metadata.specs.declared.l2_mapping.L2Mapping.{L2Mapping}
@@ -102,11 +102,7 @@ compressed_moved h h' known known' from to file_step was has = record {
 
 -- ---- where the L1 entries lie
 
--- the table stays where it is, also where a header is the same
-pub place_same : (h : HeaderFields) (v v' : HeaderView) → v' ≡ v → KeepsL1Place h v.fields → KeepsL1Place h v'.fields
-place_same h v v' same kept = subst (λ (x : HeaderView). KeepsL1Place h x.fields) (sym same) kept
-
--- so the entries are near still
+-- the entries of a table that stays where it is are near still
 pub near_moved : (h h' : HeaderFields) (to to' : ℕ) → MovesTables h h' → KeepsL1Place h h' → to' ≤ to → HasNearEntries to h → HasNearEntries to' h'
 near_moved h h' to to' file_step kept le near =
     let rising = index_rising h (to' - 1) (to - 1) (omega (arith, le)) in

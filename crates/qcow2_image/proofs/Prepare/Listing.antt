@@ -11,7 +11,7 @@ use Rattle.qcow2_alloc.proofs.FormerReftables.{former_none, former_still, former
 use Rattle.qcow2_image.specs.declared.image.Qcow2.{Qcow2}
 use Rattle.qcow2_image.specs.Image.{is_writable}
 use Rattle.qcow2_image.specs.L1Entries.{HasOwnTable}
-use Rattle.qcow2_image.specs.ListedClusters.{GaveWayMeanwhile, KeepsList, KeepsReftable, ListsFormer, ListsSinceTable, SomeGaveWay}
+use Rattle.qcow2_image.specs.ListedClusters.{GaveWayMeanwhile, KeepsList, KeepsReftable, ListsFormer, ListsSinceTable, MayGiveWay, SomeGaveWay}
 
 -- an option that is there has a value
 record Has {A : Type 0} (o : Option A) : Type 0 where
@@ -114,6 +114,19 @@ module _ {S F : Type 0} where
 
   pub some_then : (old mid new : Qcow2 S F) → SomeGaveWay old mid → SomeGaveWay mid new → SomeGaveWay old new
   some_then old mid new first then = (first.0 ++ then.0, gave_then first.0 then.0 old mid new first.1 then.1)
+
+  -- ---- so it is where there was a reftable
+  pub giving_none : (image : Qcow2 S F) → MayGiveWay image image
+  giving_none image before is = ([], record { before = before; after = before; was = is; is = is; gone = former_none before.reftable [] })
+
+  pub giving_then : (old mid new : Qcow2 S F) → MayGiveWay old mid → MayGiveWay mid new → MayGiveWay old new
+  giving_then old mid new first then before is = let gave = first before is in some_then old mid new gave (then gave.1.after gave.1.is)
+
+  pub giving_still : (old mid new : Qcow2 S F) → MayGiveWay old mid → new.allocator ≡ mid.allocator → MayGiveWay old new
+  giving_still old mid new first same before is = some_still old mid new (first before is) same
+
+  pub giving_kept : (old mid new : Qcow2 S F) → MayGiveWay old mid → KeepsReftable mid new → MayGiveWay old new
+  giving_kept old mid new first keeps before is = some_kept old mid new (first before is) keeps
 
   -- ---- what is listed once the L2 table of an offset was needed
   -- it was the image's own

@@ -40,10 +40,10 @@ use Rattle.qcow2_image.specs.declared.image.Qcow2.{Qcow2}
 use Rattle.qcow2_image.specs.LackedPlaces.{FreesJustListed, IsListed, l1_clusters, listed_or_l1}
 use Rattle.qcow2_image.specs.PinnedTables.{own_table}
 use Rattle.qcow2_alloc.specs.ClustersToFree.{metadata_entry}
-use Rattle.qcow2_image.specs.ListedClusters.{GaveWayMeanwhile, ListsFormer}
-use Rattle.qcow2_image.specs.LowestPlaces.{GrowsFromLowest, IsL1InUse, IsLowest, LeavesLowestTables, LiesLowestForL1, MovesLowest, TakesLowestLeaving, TakesLowestOf, TakesLowestRun, TakesLowestTables}
+use Rattle.qcow2_image.specs.ListedClusters.{GaveWayMeanwhile, ListsFormer, SomeGaveWay}
+use Rattle.qcow2_image.specs.LowestPlaces.{GrowsFromLowest, IsL1InUse, IsLowest, LeavesLowestTables, LiesLowestForL1, MovesLowest, OfMadeTables, TakesLowestLeaving, TakesLowestOf, TakesLowestRun, TakesLowestTables}
 use Rattle.qcow2_image.proofs.Prepare.Lacked.{IsKeptByMore, listed_behind, listed_either, listed_first, listed_wider, stands_after, stands_then, stands_untaken, of_both}
-use Rattle.qcow2_image.proofs.Prepare.Listing.{gave_kept, gave_still, gave_then, same_value, gave_former}
+use Rattle.qcow2_image.proofs.Prepare.Listing.{gave_kept, gave_still, gave_then, same_value, gave_former, some_still}
 
 -- what a call that makes tables for an offset may free beside reftables: what was listed as it began, and the clusters of the L1 table and of the L2 table
 abbrev pub listed_or_tables : {S F : Type 0} → ℕ → Qcow2 S F → List ClustersToFreeEntry
@@ -181,13 +181,19 @@ module _ {S F : Type 0} (view : S → StorageView) where
     λ k at. elim (listed_either runs s.went k (s.left k at)) [ inl ours ↦ inl (used k ours) | inr behind ↦ inr behind ],
   )
 
-  -- another part comes then, in which what was in use is in use
-  pub run_on : (first n : ℕ) (went : List ClustersToFreeEntry) (old mid new : Qcow2 S F) → GaveWayMeanwhile went mid new → StaysUsed view mid.file new.file → TakesLowestRun view first n old mid → TakesLowestRun view first n old new
+  -- another part comes then, in which what was in use is in use, or was so before, or was of a reftable
+  pub run_on : (first n : ℕ) (went : List ClustersToFreeEntry) (old mid new : Qcow2 S F) → GaveWayMeanwhile went mid new → ((k : ℕ) → IsUsed view mid.file k → IsUsed view old.file k ⊎ (IsUsed view new.file k ⊎ IsListed went k)) → TakesLowestRun view first n old mid → TakesLowestRun view first n old new
   run_on first n went old mid new gave uses s = record {
     went = s.went ++ went;
     gone = gave_then s.went went old mid new s.gone gave;
     lowest = lowest_more (λ k. IsUsed view old.file k ⊎ (IsUsed view mid.file k ⊎ IsListed s.went k)) (λ k. IsUsed view old.file k ⊎ (IsUsed view new.file k ⊎ IsListed (s.went ++ went) k)) first n
-        (λ k was. elim was [ inl before ↦ inl before | inr then ↦ elim then [ inl used ↦ inr (inl (uses k used)) | inr at ↦ inr (inr (listed_first s.went went k at)) ] ]) s.lowest;
+        (λ k was. elim was [
+          | inl before ↦ inl before
+          | inr then ↦ elim then [
+            | inl used ↦ elim (uses k used) [ inl before ↦ inl before | inr since ↦ elim since [ inl now ↦ inr (inl now) | inr at ↦ inr (inr (listed_behind s.went went k at)) ] ]
+            | inr at ↦ inr (inr (listed_first s.went went k at))
+          ]
+        ]) s.lowest;
   }
 
   -- the tables of an offset, where its L2 table lies in a cluster
@@ -205,12 +211,13 @@ module _ {S F : Type 0} (view : S → StorageView) where
       let h = old.file.header.fields in
       let at : new.file.header.fields.l1_offset ≡ mid.file.header.fields.l1_offset = ap (λ (v : HeaderView). v.fields.l1_offset) header in
       let entries : new.file.header.fields.l1_entries ≡ mid.file.header.fields.l1_entries = ap (λ (v : HeaderView). v.fields.l1_entries) header in
-      let gave = gave_former mid new lists in record {
+      let gave = gave_former mid new lists in
+      let still : (k : ℕ) → IsUsed view mid.file k → IsUsed view old.file k ⊎ (IsUsed view new.file k ⊎ IsListed lists.behind.more k) = λ k used. inr (inl (uses k used)) in record {
         l1_table = λ moved.
             subst (λ o. TakesLowestRun view (o / cluster_size h) (l1_clusters h new.file.header.fields.l1_entries) old new) (sym at)
             (subst (λ m. TakesLowestRun view (mid.file.header.fields.l1_offset / cluster_size h) (l1_clusters h m) old new) (sym entries)
-            (run_on (mid.file.header.fields.l1_offset / cluster_size h) (l1_clusters h mid.file.header.fields.l1_entries) lists.behind.more old mid new gave uses (lowest.l1_table (λ stays. moved (at ∙ stays)))));
-        l2_table = λ other. subst (λ t. TakesLowestRun view t 1 old new) (sym same) (run_on (own_table mid offset) 1 lists.behind.more old mid new gave uses (lowest.l2_table (λ stays. other (same ∙ stays))));
+            (run_on (mid.file.header.fields.l1_offset / cluster_size h) (l1_clusters h mid.file.header.fields.l1_entries) lists.behind.more old mid new gave still (lowest.l1_table (λ stays. moved (at ∙ stays)))));
+        l2_table = λ other. subst (λ t. TakesLowestRun view t 1 old new) (sym same) (run_on (own_table mid offset) 1 lists.behind.more old mid new gave still (lowest.l2_table (λ stays. other (same ∙ stays))));
       }
   tables_on offset old mid new (Err e) header lists uses same lowest = tt
 
@@ -263,15 +270,17 @@ module _ {S F : Type 0} (view : S → StorageView) where
       ap (λ (t : EntryTableView). host_offset (entry_at t.bytes (l1_index_of new.file.header.fields offset)) / cluster_size new.file.header.fields) table
       ∙ ap (λ (v : HeaderView). host_offset (entry_at mid.l1_table.bytes (l1_index_of v.fields offset)) / cluster_size v.fields) header
 
-  pub tables_listing : (offset table : ℕ) (old mid new : Qcow2 S F) → own_table mid offset ≡ table → (HasOwnTable old offset → table ≡ own_table old offset) → new.file.header ≡ mid.file.header → new.l1_table ≡ mid.l1_table → new.allocator ≡ mid.allocator → StaysUsed view mid.file new.file
+  pub tables_listing : (offset table : ℕ) (old mid new : Qcow2 S F) → SomeGaveWay old mid → own_table mid offset ≡ table → (HasOwnTable old offset → table ≡ own_table old offset) → new.file.header ≡ mid.file.header → new.l1_table ≡ mid.l1_table → new.allocator ≡ mid.allocator → StaysUsed view mid.file new.file
       → ((k : ℕ) → IsListed new.file.free_list k → IsListed mid.file.free_list k ⊎ IsUsed view old.file k) → MovesLowest view old mid → (¬ HasOwnTable old offset → TakesLowestLeaving view table 1 old mid) → LeavesLowestTables view offset old new
-  tables_listing offset table old mid new is own header same_table same uses lists moves low =
+  tables_listing offset table old mid new gave is own header same_table same uses lists moves low =
       let here : own_table new offset ≡ table = own_still offset mid new header same_table ∙ is in
-      let h = old.file.header.fields in record {
+      let h = old.file.header.fields in
+      let made : OfMadeTables (λ first n. TakesLowestLeaving view first n old new) offset old new = record {
         l1_table = λ moved. subst (λ (v : HeaderView). TakesLowestLeaving view (v.fields.l1_offset / cluster_size h) (l1_clusters h v.fields.l1_entries) old new) (sym header)
             (leaving_on (mid.file.header.fields.l1_offset / cluster_size h) (l1_clusters h mid.file.header.fields.l1_entries) old mid new same uses lists (moves (λ stays. moved (ap (λ (v : HeaderView). v.fields.l1_offset) header ∙ stays))));
         l2_table = λ other. subst (λ t. TakesLowestLeaving view t 1 old new) (sym here) (leaving_on table 1 old mid new same uses lists (low (λ has. other (here ∙ own has))));
-      }
+      } in
+      record { gave = some_still old mid new gave same; tables = made }
 
   pub run_freed : (first n : ℕ) (old mid new : Qcow2 S F) → FreesJustListed view mid new → TakesLowestLeaving view first n old mid → TakesLowestRun view first n old new
   run_freed first n old mid new just s = record {
@@ -292,8 +301,8 @@ module _ {S F : Type 0} (view : S → StorageView) where
       let here = own_still offset mid new header table in
       let h = old.file.header.fields in record {
         l1_table = λ moved. subst (λ (v : HeaderView). TakesLowestRun view (v.fields.l1_offset / cluster_size h) (l1_clusters h v.fields.l1_entries) old new) (sym header)
-            (run_freed (mid.file.header.fields.l1_offset / cluster_size h) (l1_clusters h mid.file.header.fields.l1_entries) old mid new just (s.l1_table (λ stays. moved (ap (λ (v : HeaderView). v.fields.l1_offset) header ∙ stays))));
-        l2_table = λ other. subst (λ t. TakesLowestRun view t 1 old new) (sym here) (run_freed (own_table mid offset) 1 old mid new just (s.l2_table (λ stays. other (here ∙ stays))));
+            (run_freed (mid.file.header.fields.l1_offset / cluster_size h) (l1_clusters h mid.file.header.fields.l1_entries) old mid new just (s.tables.l1_table (λ stays. moved (ap (λ (v : HeaderView). v.fields.l1_offset) header ∙ stays))));
+        l2_table = λ other. subst (λ t. TakesLowestRun view t 1 old new) (sym here) (run_freed (own_table mid offset) 1 old mid new just (s.tables.l2_table (λ stays. other (here ∙ stays))));
       }
 
   -- ---- the L1 table of a larger disk

@@ -93,6 +93,7 @@ module _ {S F : Type 0} (view : S → StorageView) (backing : F → BackingView)
           | inl is ↦ inl is
           | inr other ↦ elim other [ inl fault ↦ inr (inl fault) | inr limit ↦ inr (inr (limit.0, reaching_marked view old image noted (is_failed image) (size - 1) limit.1)) ]
         ];
+        length = tables.length;
       }
 
   -- ---- the number of faults stays

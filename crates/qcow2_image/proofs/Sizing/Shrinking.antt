@@ -28,11 +28,17 @@ use Rattle.qcow2_image.specs.declared.image.Qcow2.{Qcow2}
 use Rattle.qcow2_image.specs.declared.prepared.Prepared.{Prepared}
 use Rattle.qcow2_image.specs.Found.{l1_index_of}
 use Rattle.qcow2_image.specs.Image.{IsSameImage, is_external, is_failed, is_writable, number_of, size_of}
+use Rattle.qcow2_image.specs.L1Entries.{IsLongerByNeed}
+use Rattle.qcow2_image.proofs.Sizing.NeededLengths.{longer_then}
 use Rattle.qcow2_image.specs.ImageInvariant.{ImageInvariant, abstract_of, disk_of, pending_in}
+use Rattle.qcow2_alloc.specs.LowestRuns.{IsUsed}
+use Rattle.qcow2_disk.specs.Rules.{touched_to}
+use Rattle.qcow2_image.specs.LowestPlaces.{TakesLowestTables}
+use Rattle.qcow2_image.proofs.Prepare.LowestTables.{tables_alike}
 use Rattle.qcow2_image.specs.NewTables.{MayName}
 use Rattle.qcow2_image.specs.Refusals.{refuse_if}
 use Rattle.qcow2_image.proofs.Call.Marked.{MayMark}
-use Rattle.qcow2_image.specs.Resizing.{CantUncover, IsFaultOrCantUncover, IsTurnEnd, SetsSize, ShowsBelow, Shrinks, UncoversNext, UncoversPart, UncoversTail, WritesSize, WritesSizeLast, boundary_in, all_given_by_shrink, all_given_by_shrunk, refuses_to_resize}
+use Rattle.qcow2_image.specs.Resizing.{CantUncover, IsFaultOrCantUncover, IsTurnEnd, SetsSize, ShowsBelow, Shrinks, UncoversNext, UncoversPart, UncoversTail, WritesSize, WritesSizeLast, boundary_in, all_given_by_shrink, all_given_by_shrunk, refuses_to_resize, IsUnderOneTable}
 use Rattle.qcow2_image.proofs.Call.Called.{Quietly, listed}
 use Rattle.qcow2_image.proofs.Call.Refused.{stays_kept}
 use Rattle.qcow2_image.proofs.Call.CallOutcomes.{is_fault, outcome}
@@ -79,7 +85,12 @@ marks_nothing e before now none marks = elim (outcome e before now marks) [
 
 module _ {S F : Type 0} (view : S → StorageView) (backing : F → BackingView) where
   -- ---- turns
-  -- from a size on the tail is uncovered up to an offset
+  -- a call began
+  pub record HasBegun (old now : Qcow2 S F) : Type 0 where
+    pub rest : now ≡ record old { file = record old.file { storage = now.file.storage; caches = now.file.caches } }
+    pub used : (k : ℕ) → IsUsed view now.file k → IsUsed view old.file k
+
+  -- from a size on the tail is uncovered up to an offset, in one turn where one L2 table covers it
   pub record IsUncoveredSoFar (old now : Qcow2 S F) (size at end : ℕ) : Type 0 where
     pub image : IsSameImage old now
     pub failed : is_failed now ≡ is_failed old
@@ -87,20 +98,24 @@ module _ {S F : Type 0} (view : S → StorageView) (backing : F → BackingView)
     pub from : size ≤ at
     pub within : at ≤ end
     pub so_far : (out : List (Option Prepared)) → ImageInvariant view backing (pending_in view backing old out) old out → UncoversPart view backing size at old now out × IsShrinkEnd (cluster_size old.file.header.fields) (size_of old) size at
+    pub lowest : (out : List (Option Prepared)) → ImageInvariant view backing (pending_in view backing old out) old out → boundary_in old size < size_of old → IsUnderOneTable old size
+        → ((at ≡ size) × HasBegun old now) ⊎ ((at ≡ size_of old) × TakesLowestTables view (boundary_in old size) old now)
 
   pub begun_call : (old begun : Qcow2 S F) → ((out : List (Option Prepared)) → ImageInvariant view backing (pending_in view backing old out) old out → Quietly view backing out old begun)
       → (out : List (Option Prepared)) → ImageInvariant view backing (pending_in view backing old out) old out → UnseenCall view backing old begun out
   begun_call old begun quiet out sound = stays_kept view backing out old begun sound (listed view backing out old begun (quiet out) sound)
 
   pub none_so_far : (old begun : Qcow2 S F) (size end : ℕ) → IsSameImage old begun → is_failed begun ≡ is_failed old → end ≡ size_of old → size < size_of old
-      → ((out : List (Option Prepared)) → ImageInvariant view backing (pending_in view backing old out) old out → Quietly view backing out old begun) → IsUncoveredSoFar old begun size size end
-  none_so_far old begun size end image failed last smaller quiet = record {
+      → ((out : List (Option Prepared)) → ImageInvariant view backing (pending_in view backing old out) old out → Quietly view backing out old begun)
+      → ((out : List (Option Prepared)) → ImageInvariant view backing (pending_in view backing old out) old out → HasBegun old begun) → IsUncoveredSoFar old begun size size end
+  none_so_far old begun size end image failed last smaller quiet begins = record {
     image = image;
     failed = failed;
     last = last;
     from = omega arith;
     within = omega (arith, last, smaller);
     so_far = λ out sound. (uncovers_none view backing out size old begun (begun_call old begun quiet out sound), inr (inl refl));
+    lowest = λ out sound before under. inl (refl, begins out sound);
   }
 
   module _ (old now new : Qcow2 S F) (size at end : ℕ) (so : IsUncoveredSoFar old now size at end) where
@@ -110,6 +125,12 @@ module _ {S F : Type 0} (view : S → StorageView) (backing : F → BackingView)
 
       pub same_size : cluster_size now.file.header.fields ≡ cluster_size old.file.header.fields
       same_size = ap (λ (s : Setting). s.cluster_size) (so.so_far out sound).0.works.setting
+
+      -- the L1 table is longer only as far as the disk's last byte needs it, also behind a turn
+      pub lengthens_on : IsLongerByNeed (size_of old - 1) old.file.header.fields now.file.header.fields → IsLongerByNeed (size_of now - 1) now.file.header.fields new.file.header.fields → IsLongerByNeed (size_of old - 1) old.file.header.fields new.file.header.fields
+      lengthens_on before turn =
+          longer_then old.file.header.fields now.file.header.fields new.file.header.fields (size_of old - 1) same_size before
+          (subst (λ n. IsLongerByNeed (n - 1) now.file.header.fields new.file.header.fields) so.image.size turn)
 
     pub next_so_far : (next : ℕ) → at < next → next ≤ size_of now → UncoversNext view backing now new at (Ok next) → IsSameImage now new → is_failed new ≡ is_failed now → IsUncoveredSoFar old new size next end
     next_so_far next on within turn image failed =
@@ -129,6 +150,22 @@ module _ {S F : Type 0} (view : S → StorageView) (backing : F → BackingView)
                 uncovers_then view backing out size at next old now new before.0 then'.0 (mono_up cs (some out sound) size at so.from) (mono_up cs (some out sound) at next (omega (arith, on))),
                 end_so_far cs (some out sound) (size_of old) size at next so.from ends,
               );
+          lowest = λ out sound before under.
+              let then' = turn out (so.so_far out sound).0.sound in
+              let size_is = first.size in
+              let clusters = same_size out sound in
+              elim (so.lowest out sound before under) [
+                | inl begun ↦
+                    let cs = cluster_size old.file.header.fields in
+                    let here : boundary_in now at ≡ boundary_in old size = ap (λ n. rounded_up n at) clusters ∙ ap (boundary_in old) begun.0 in
+                    let there : boundary_in now (size_of now) ≡ boundary_in old (size_of old) = ap (λ n. rounded_up n (size_of now)) clusters ∙ ap (boundary_in old) size_is in
+                    let covered : IsUnderOneTable now at =
+                    ap (λ n. touched_to n (size_of now) at (size_of now - at)) clusters ∙ ap (λ n. touched_to (cluster_size old.file.header.fields) n at (n - at)) size_is
+                    ∙ ap (λ o. touched_to (cluster_size old.file.header.fields) (size_of old) o (size_of old - o)) begun.0 ∙ under ∙ sym there in
+                    let inside : boundary_in now at < size_of now = omega (arith, here, size_is, before) in
+                    inr (then'.2 inside covered ∙ size_is, tables_alike view (boundary_in old size) old now new begun.1.rest begun.1.used (subst (λ o. TakesLowestTables view o now new) here (then'.3 inside covered)))
+                | inr done ↦ let ended = done.0 in absurd (omega (arith, ended, on, within, size_is))
+              ];
         }
 
     module _ (before : at < end) (e : ImageError) (turn : UncoversNext view backing now new at (Err e)) (out : List (Option Prepared)) (sound : ImageInvariant view backing (pending_in view backing old out) old out) where
@@ -187,7 +224,7 @@ module _ {S F : Type 0} (view : S → StorageView) (backing : F → BackingView)
       tail_refused None fault none =
           let refuses = turn.1 (λ is. none refl (fault_of e is)) out in
           elim (refuses.answer part.sound) [
-            | inl still ↦ (uncovers_still view backing out size at old now new part (refuses.acts.works part.sound) still.0 still.1, (so.so_far out sound).1)
+            | inl still ↦ (uncovers_still view backing out size at old now new part (refuses.acts.works part.sound) still.0 still.1, (so.so_far out sound).1, λ whole. let last = so.last in absurd (omega (arith, before, last, whole)))
             | inr failed ↦ absurd (none refl (fault_of e failed.0))
           ]
 

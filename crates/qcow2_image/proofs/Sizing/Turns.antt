@@ -29,7 +29,8 @@ use Rattle.qcow2_image.specs.Image.{HasNothingToFree, is_external, is_failed, is
 use Rattle.qcow2_image.specs.ImageInvariant.{ImageInvariant, abstract_of, disk_of, pending_in}
 use Rattle.qcow2_image.specs.NewTables.{LacksTable}
 use Rattle.qcow2_image.specs.Refusals.{passes, refuse_if}
-use Rattle.qcow2_image.specs.Resizing.{IsFaultOrCantUncover, IsTurnEnd, UncoversNext, UncoversPart, boundary_in, refuses_to_resize}
+use Rattle.qcow2_image.specs.Resizing.{IsFaultOrCantUncover, IsTurnEnd, IsUnderOneTable, UncoversNext, UncoversPart, boundary_in, refuses_to_resize}
+use Rattle.qcow2_image.proofs.Clear.Touched.{rounded_from}
 use Rattle.qcow2_image.proofs.Sizes.{disk_size}
 use Rattle.qcow2_image.proofs.Sizing.Tails.{given_as, given_below, given_is, mono_up, passes_boundary, shown_below, to_at_most, touches_before, turn_numbers}
 use Rattle.qcow2_image.proofs.Sizing.UncoveredTails.{uncovers_as_many}
@@ -66,6 +67,10 @@ within_end true size n is = le-ltb size n (omega (arith, is))
 pub none_early : {B : Type 0} (P : Type 0) (o : Option ImageError) (b : B) (r : Result B ImageError) → IfSome o (λ e. (r ≡ Err e) × P) → r ≡ Ok b → o ≡ None
 none_early P None b r early was = refl
 none_early P (Some e) b r early was = absurd (let no : Ok b ≡ Err e = sym was ∙ early.0 in cc)
+
+-- where the clusters that a turn touched reach the disk's end, so does the turn
+last_turn : (from to next up end size bound : ℕ) {X : Type 0} → end ≡ size → from < to → to ≡ bound → size ≤ bound → next ≤ end → (next ≡ end) ⊎ ((up ≡ next) × X) → to - from ≡ up - from → next ≡ size
+last_turn from to next up end size bound is touched covered least within whole numbers = elim whole [ inl last ↦ last ∙ is | inr boundary ↦ let same = boundary.0 in omega (arith, is, touched, covered, least, within, same, numbers) ]
 
 module _ {S F : Type 0} (view : S → StorageView) (backing : F → BackingView) (old new : Qcow2 S F) (at end : ℕ) where
   abbrev h : HeaderFields
@@ -161,6 +166,18 @@ module _ {S F : Type 0} (view : S → StorageView) (backing : F → BackingView)
   pub turn_touches : end ≡ size_of old → at < size_of old → (out : List (Option Prepared)) → ImageInvariant view backing (pending_in view backing old out) old out → boundary_in old at < size_of old
       → touched_from (cluster_size h) at < touched_to (cluster_size h) (size_of old) at (end - at)
   turn_touches is lt out sound before = subst (λ n. rounded_up (cluster_size h) at < touched_to (cluster_size h) (size_of old) at (n - at)) (sym is) (touches_before h (some out sound) (rows out sound) (size_of old) at lt before)
+
+  -- a turn goes up to the end where one L2 table covers the rest
+  pub turn_ends : (range : ℕ × ℕ) → end ≡ size_of old → at < size_of old → end < 2 ^ 64 → Clears view backing Uncovered old new at (end - at) (Ok range) → (next : ℕ)
+      → ((next ≡ min (range.0 + range.1) (2 ^ 64 - 1)) × (at < next) × (next < end)) ⊎ ((next ≡ end) × ((min (range.0 + range.1) (2 ^ 64 - 1) ≤ at) ⊎ (end ≤ min (range.0 + range.1) (2 ^ 64 - 1))))
+      → (out : List (Option Prepared)) → ImageInvariant view backing (pending_in view backing old out) old out → boundary_in old at < size_of old → IsUnderOneTable old at → next ≡ size_of old
+  turn_ends range is lt near clears next branch out sound before under =
+      let size : d.size ≡ end = sym (shown_end out sound) ∙ sym is in
+      let range_is : range ≡ answered (cluster_size h) end at (end - at) = ((clears out).answer sound).1.0 ∙ ap (λ n. answered (cluster_size h) n at (end - at)) size in
+      let numbers = turn_numbers h (some out sound) (rows out sound) end at (omega (arith, lt, is)) range range_is near next branch in
+      let touched = subst (λ n. touched_from (cluster_size h) at < touched_to (cluster_size h) n at (end - at)) (sym is) (turn_touches is lt out sound before) in
+      let covered = subst (λ n. touched_to (cluster_size h) n at (n - at) ≡ boundary_in old (size_of old)) (sym is) under in
+      last_turn (touched_from (cluster_size h) at) (touched_to (cluster_size h) end at (end - at)) next (boundary_in old next) end (size_of old) (boundary_in old (size_of old)) is touched covered (rounded_from (cluster_size h) (size_of old) (some out sound)) numbers.0.within numbers.0.whole numbers.1
 
   -- what an answered turn leaves to be freed: nothing, where it cleared a cluster, or where nothing was listed and it cleared none
   pub turn_frees : end ≡ size_of old → at < size_of old → (touched_from (cluster_size h) at < touched_to (cluster_size h) (size_of old) at (end - at) → HasNothingToFree new)

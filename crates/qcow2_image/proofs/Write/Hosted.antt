@@ -40,7 +40,7 @@ abbrev pub hosting_in : HeaderFields → Prepared → ℕ → Hosting
 hosting_in h q o = hosted_as (share_of h q (o / cluster_size h))
 
 -- a place in a cluster that stands for no table lies behind the first cluster
-behind_tables : (h : HeaderFields) (b : Bytes) (place : ℕ) → named_for_tables h b (place / cluster_size h) ≡ 0 → cluster_size h ≤ place
+pub behind_tables : (h : HeaderFields) (b : Bytes) (place : ℕ) → named_for_tables h b (place / cluster_size h) ≡ 0 → cluster_size h ≤ place
 behind_tables h b place none = elim (cases_lt place (cluster_size h)) [
   | inr behind ↦ behind
   | inl first ↦

@@ -5,7 +5,7 @@ use Rattle.qcow2_alloc.proofs.KeptTables.Causes.{given_err}
 use Rattle.qcow2_image.specs.Image.{size_of}
 use Rattle.qcow2_session.specs.Conversions.{IsMetImporting}
 use Rattle.qcow2_alloc.specs.declared.error.ImageError.TheVariants.{InvalidOption}
-use Rattle.qcow2_session.proofs.Counting.{converted, converting_else, converting_part, converting_raw, none_counted}
+use Rattle.qcow2_session.proofs.Counting.{converted, converting_else, converting_part, converting_raw, so_far_none, so_far_part}
 use Rattle.qcow2_session.proofs.Turns.{refused_is}
 use Rattle.program_parts.proofs.Making.{once_imported, while_imported}
 use Rattle.program_parts.proofs.Refused.{may_be_read, met_importing}
@@ -13,16 +13,20 @@ use Rattle.program_parts.proofs.conversions.fill.Goals as goal
 
 pub returns-in_err-count-clause-faults : goal.returns-in_err-count-clause-faults
 returns-in_err-count-clause-faults g c =
-    converting_part g.S.Storage.view g.F.BackingDisk.backing c.args.image.now c.args.image.now c.to_qcow2.new.image _ _ _ (none_counted g.S.Storage.view g.F.BackingDisk.backing c.args.image.now) refl
+    converting_part g.S.Storage.view g.F.BackingDisk.backing c.args.image.now c.args.image.now c.to_qcow2.new.image _ _ _ (so_far_none g.S.Storage.view g.F.BackingDisk.backing c.args.image.now) refl
     c.to_qcow2.result c.in_err-count.field-0.0 _ c.to_qcow2.ensures.faults c.in_err-count.was (refused_is _ c.in_err-count.field-0.0 c.from_residual.ensures)
 
 pub returns-in_err-size-clause-faults : goal.returns-in_err-size-clause-faults
 returns-in_err-size-clause-faults g c =
-    converting_raw g.S.Storage.view g.F.BackingDisk.backing c.args.image.now c.to_qcow2.new.image _ _ _ c.in_ok-count.ensures.faults.told.0 c.in_ok-count.ensures.faults.told.1
+    converting_raw g.S.Storage.view g.F.BackingDisk.backing c.args.image.now c.to_qcow2.new.image _ _ _ (so_far_part g.S.Storage.view g.F.BackingDisk.backing c.args.image.now c.to_qcow2.new.image _ _ c.in_ok-count.ensures.faults) c.in_ok-count.ensures.faults.told.1
     c.size.result c.in_err-size.field-0.0 _ c.size.ensures.calls.cause c.in_err-size.was (refused_is _ (of_storage c.in_err-size.field-0.0) c.from_residual-in_err-size.ensures)
 
+pub returns-then-branch-count-clause-faults : goal.returns-then-branch-count-clause-faults
+returns-then-branch-count-clause-faults g c =
+    converting_else g.S.Storage.view g.F.BackingDisk.backing c.args.image.now c.to_qcow2.new.image _ _ (so_far_part g.S.Storage.view g.F.BackingDisk.backing c.args.image.now c.to_qcow2.new.image _ _ c.in_ok-count.ensures.faults) (c.in_ok-size.ensures.calls.cause.told ∙ c.in_ok-count.ensures.faults.told.1) InvalidOption _ (λ is. absurd cc) refl
+
 pub returns-clause-faults : goal.returns-clause-faults
-returns-clause-faults g c = converted _ _ _ _ _ _ _ c.in_ok-count.ensures.faults.told.0 (c.in_ok-size.ensures.calls.cause.told ∙ c.in_ok-count.ensures.faults.told.1)
+returns-clause-faults g c = converted _ _ _ _ _ _ _ (so_far_part g.S.Storage.view g.F.BackingDisk.backing c.args.image.now c.to_qcow2.new.image _ _ c.in_ok-count.ensures.faults) (c.in_ok-size.ensures.calls.cause.told ∙ c.in_ok-count.ensures.faults.told.1)
 
 pub returns-in_err-count-clause-stops : goal.returns-in_err-count-clause-stops
 returns-in_err-count-clause-stops g c = λ n opened image. while_imported g.S.Storage.view g.F.BackingDisk.backing c.args.image.now c.to_qcow2.new.image n _ c.to_qcow2.ensures.any opened image

@@ -1,10 +1,10 @@
+use Rattle.qcow2_session.proofs.Marking.{cleared_at_once}
 use Rattle.qcow2_disk.specs.Calls.{to_zero}
 use Rattle.qcow2_session.proofs.Cleared.{clears_command_step}
 use Rattle.qcow2_session.proofs.Unwritten.{clear_same}
 use Rattle.std.proofs.Common.{refl}
 use Rattle.qcow2_session.specs.declared.session.Command.TheVariants as C
 use Rattle.qcow2_session.proofs.Causing.{clears_rightly, if_err_to}
-use Rattle.qcow2_session.proofs.Marking.{clear_marks}
 use Rattle.qcow2_session.proofs.Cleared.{range_told}
 use Rattle.qcow2_session.proofs.clearing.discard_to_any.Goals as goal
 
@@ -21,8 +21,8 @@ returns-clause-causes g c = λ before found.
     clears_rightly g.S.Storage.view g.F.BackingDisk.backing c.args.image.now c.discard_to_any_unsafe.new.self before c.args.offset c.args.length to_zero (C.DiscardToAny c.args.offset c.args.length) refl (λ le. le) (λ e met. met) (λ e met. met) (λ _ heeds. heeds) (λ _ never. (λ is. absurd (never is), λ is. absurd is))
     c.discard_to_any_unsafe.result c.range_reply.result c.range_reply.ensures c.discard_to_any_unsafe.ensures.early c.discard_to_any_unsafe.ensures.late (λ none sound. if_err_to c.discard_to_any_unsafe.result (λ e refused. refused.met none before sound) c.discard_to_any_unsafe.ensures.refused) c.discard_to_any_unsafe.ensures.nothing (λ none some sound. c.discard_to_any_unsafe.ensures.under none some before sound)
 
-pub returns-clause-marks : goal.returns-clause-marks
-returns-clause-marks g c = clear_marks c.discard_to_any_unsafe.result c.range_reply.result _ _ _ c.range_reply.ensures c.discard_to_any_unsafe.ensures.marks
-
 pub returns-clause-tells : goal.returns-clause-tells
 returns-clause-tells g c = λ before. range_told g.S.Storage.view g.F.BackingDisk.backing c.args.image.now c.discard_to_any_unsafe.new.self c.args.offset c.args.length c.discard_to_any_unsafe.result c.range_reply.result c.range_reply.ensures c.discard_to_any_unsafe.ensures.range
+
+pub returns-clause-marks : goal.returns-clause-marks
+returns-clause-marks g c = cleared_at_once g.S.Storage.view c.args.image.now c.discard_to_any_unsafe.new.self c.discard_to_any_unsafe.result c.range_reply.result c.range_reply.ensures c.discard_to_any_unsafe.ensures.once_written c.discard_to_any_unsafe.ensures.marks

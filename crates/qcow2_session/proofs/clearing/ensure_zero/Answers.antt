@@ -1,10 +1,10 @@
+use Rattle.qcow2_session.proofs.Marking.{cleared_at_once}
 use Rattle.qcow2_disk.specs.Calls.{to_kept_zero}
 use Rattle.qcow2_session.proofs.Cleared.{clears_command_step}
 use Rattle.qcow2_session.proofs.Unwritten.{clear_same}
 use Rattle.std.proofs.Common.{refl}
 use Rattle.qcow2_session.specs.declared.session.Command.TheVariants as C
 use Rattle.qcow2_session.proofs.Causing.{clears_rightly, if_err_to}
-use Rattle.qcow2_session.proofs.Marking.{clear_marks}
 use Rattle.qcow2_session.proofs.Cleared.{range_told}
 use Rattle.qcow2_session.proofs.clearing.ensure_zero.Goals as goal
 
@@ -21,8 +21,8 @@ returns-clause-causes g c = λ before found.
     clears_rightly g.S.Storage.view g.F.BackingDisk.backing c.args.image.now c.ensure_zero_mapping.new.self before c.args.offset c.args.length to_kept_zero (C.EnsureZeroMapping c.args.offset c.args.length) refl (λ le. le) (λ e met. met) (λ e met. met) (λ _ heeds. heeds) (λ _ never. (λ is. absurd (never is), λ is. absurd is))
     c.ensure_zero_mapping.result c.range_reply.result c.range_reply.ensures c.ensure_zero_mapping.ensures.early c.ensure_zero_mapping.ensures.late (λ none sound. if_err_to c.ensure_zero_mapping.result (λ e refused. refused.met none before sound) c.ensure_zero_mapping.ensures.refused) c.ensure_zero_mapping.ensures.nothing (λ none some sound. c.ensure_zero_mapping.ensures.under none some before sound)
 
-pub returns-clause-marks : goal.returns-clause-marks
-returns-clause-marks g c = clear_marks c.ensure_zero_mapping.result c.range_reply.result _ _ _ c.range_reply.ensures c.ensure_zero_mapping.ensures.marks
-
 pub returns-clause-tells : goal.returns-clause-tells
 returns-clause-tells g c = λ before. range_told g.S.Storage.view g.F.BackingDisk.backing c.args.image.now c.ensure_zero_mapping.new.self c.args.offset c.args.length c.ensure_zero_mapping.result c.range_reply.result c.range_reply.ensures c.ensure_zero_mapping.ensures.range
+
+pub returns-clause-marks : goal.returns-clause-marks
+returns-clause-marks g c = cleared_at_once g.S.Storage.view c.args.image.now c.ensure_zero_mapping.new.self c.ensure_zero_mapping.result c.range_reply.result c.range_reply.ensures c.ensure_zero_mapping.ensures.once_written c.ensure_zero_mapping.ensures.marks

@@ -2,14 +2,13 @@ use Rattle.std.proofs.Common.{◌≡◌, ◌∙◌, ◌+◌, ◌≤◌, refl, sy
 use Rattle.std.proofs.lemmas.Grind.{common_steps}
 use Rattle.qcow2_image.specs.ImageInvariant.{abstract_of}
 use Rattle.qcow2_session.specs.Conversions.{Fills}
-use Rattle.qcow2_session.proofs.Counting.{converted, converting_part, none_counted}
+use Rattle.qcow2_session.proofs.Counting.{converted, converting_part, so_far_none, so_far_part, so_far_then}
 use Rattle.qcow2_session.proofs.Converting.{does_nothing, interrupted_if, interrupted_then}
 use Rattle.std.specs.Prelude.{IfErr}
 use Rattle.qcow2_alloc.specs.ImageFile.{known_in}
 use Rattle.qcow2_image.specs.MetAlone.{IsMetReadingRange}
 use Rattle.qcow2_session.proofs.MetOnSound.{reads_part}
 use Rattle.qcow2_session.proofs.Exporting.{part_of_disk, unchanged_refused, fills_more}
-use Rattle.qcow2_image.proofs.Call.FaultCounts.{faults_then}
 use Rattle.qcow2_image.proofs.Map.Unmodified.{read_none, read_then}
 use Rattle.qcow2_session.proofs.Told.{same_then}
 use Rattle.qcow2_session.proofs.Turns.{refused_is, none_within, does_if, does_then}
@@ -33,7 +32,7 @@ returns-in_err-export_at-clause-unwritten g c = λ reading out sound clean.
 pub loop-at-init : goal.loop-at-init
 loop-at-init g c = record {
   behind = behind_none;
-  faults = none_counted g.S.Storage.view g.F.BackingDisk.backing c.args.image.now;
+  faults = so_far_none g.S.Storage.view g.F.BackingDisk.backing c.args.image.now;
   counted = refl;
   within = omega arith;
   image = record { number = refl; size = refl; writable = refl; external = refl };
@@ -50,7 +49,7 @@ loop-at-preserved g c =
     let below = g.F.BackingDisk.backing in
     record {
       behind = behind_then c.loop-at.invariant.behind c.export_at.ensures.header_cluster;
-      faults = faults_then g.S.Storage.view g.F.BackingDisk.backing c.args.image.now c.loop-at.image c.export_at.new.image c.loop-at.invariant.faults c.in_ok-export_at.ensures.faults.told.0;
+      faults = so_far_then g.S.Storage.view g.F.BackingDisk.backing c.args.image.now c.loop-at.image c.export_at.new.image c.loop-at.invariant.faults (so_far_part g.S.Storage.view g.F.BackingDisk.backing c.loop-at.image c.export_at.new.image _ _ c.in_ok-export_at.ensures.faults);
       counted = c.in_ok-export_at.ensures.faults.told.1 ∙ c.loop-at.invariant.counted;
       within = grind (arith, common_steps);
       image = same_then c.loop-at.invariant.image c.export_at.ensures.image;

@@ -11,7 +11,7 @@ use Rattle.qcow2_alloc.specs.ImageFile.{known_in}
 use Rattle.qcow2_image.specs.MetAlone.{IsMetReadingRange}
 use Rattle.qcow2_session.specs.Conversions.{IsFilledUpTo}
 use Rattle.qcow2_session.proofs.Converting.{interrupted, interrupted_here}
-use Rattle.qcow2_session.proofs.Counting.{converted, converting_image, converting_raw, none_counted}
+use Rattle.qcow2_session.proofs.Counting.{converted, converting_image, converting_raw, so_far_call, so_far_none}
 use Rattle.qcow2_session.proofs.Exporting.{filled_same, filled_more, unchanged_refused}
 use Rattle.qcow2_session.proofs.Turns.{refused_is, does_if}
 use Rattle.qcow2_session.proofs.convert.export_at.Goals as goal
@@ -56,19 +56,19 @@ returns-in_err-write-clause-met g c = λ none out sound.
 
 pub returns-in_err-read_into-clause-faults : goal.returns-in_err-read_into-clause-faults
 returns-in_err-read_into-clause-faults g c =
-    converting_image g.S.Storage.view g.F.BackingDisk.backing c.args.image.now c.args.image.now c.read_into.new.image (g.R.Storage.view c.args.raw.now).faults (g.R.Storage.view c.args.raw.now).faults (none_counted g.S.Storage.view g.F.BackingDisk.backing c.args.image.now) refl
-    c.read_into.result c.in_err-read_into.field-0.0 _ c.read_into.ensures.faults c.in_err-read_into.was (refused_is _ c.in_err-read_into.field-0.0 c.from_residual.ensures)
+    converting_image g.S.Storage.view g.F.BackingDisk.backing c.args.image.now c.args.image.now c.read_into.new.image (g.R.Storage.view c.args.raw.now).faults (g.R.Storage.view c.args.raw.now).faults (so_far_none g.S.Storage.view g.F.BackingDisk.backing c.args.image.now) refl
+    c.read_into.result c.in_err-read_into.field-0.0 _ c.read_into.ensures.faults c.in_err-read_into.ensures.marks c.in_err-read_into.was (refused_is _ c.in_err-read_into.field-0.0 c.from_residual.ensures)
 
 pub returns-then-is_same-clause-faults : goal.returns-then-is_same-clause-faults
-returns-then-is_same-clause-faults g c = converted _ _ _ _ _ _ _ (c.in_ok-read_into.ensures.faults.told) (refl)
+returns-then-is_same-clause-faults g c = converted _ _ _ _ _ _ _ (so_far_call g.S.Storage.view g.F.BackingDisk.backing c.args.image.now c.read_into.new.image c.in_ok-read_into.ensures.faults.told c.in_ok-read_into.ensures.marks) (refl)
 
 pub returns-in_err-write-clause-faults : goal.returns-in_err-write-clause-faults
 returns-in_err-write-clause-faults g c =
-    converting_raw g.S.Storage.view g.F.BackingDisk.backing c.args.image.now c.read_into.new.image (g.R.Storage.view c.args.raw.now).faults (g.R.Storage.view c.args.raw.now).faults (g.R.Storage.view c.write.new.self).faults c.in_ok-read_into.ensures.faults.told refl
+    converting_raw g.S.Storage.view g.F.BackingDisk.backing c.args.image.now c.read_into.new.image (g.R.Storage.view c.args.raw.now).faults (g.R.Storage.view c.args.raw.now).faults (g.R.Storage.view c.write.new.self).faults (so_far_call g.S.Storage.view g.F.BackingDisk.backing c.args.image.now c.read_into.new.image c.in_ok-read_into.ensures.faults.told c.in_ok-read_into.ensures.marks) refl
     c.write.result c.in_err-write.field-0.0 _ c.write.ensures.calls.cause c.in_err-write.was (refused_is _ (of_storage c.in_err-write.field-0.0) c.from_residual-in_err-write.ensures)
 
 pub returns-clause-faults : goal.returns-clause-faults
-returns-clause-faults g c = converted _ _ _ _ _ _ _ (c.in_ok-read_into.ensures.faults.told) (c.in_ok-write.ensures.calls.cause.told)
+returns-clause-faults g c = converted _ _ _ _ _ _ _ (so_far_call g.S.Storage.view g.F.BackingDisk.backing c.args.image.now c.read_into.new.image c.in_ok-read_into.ensures.faults.told c.in_ok-read_into.ensures.marks) (c.in_ok-write.ensures.calls.cause.told)
 
 pub returns-in_err-read_into-clause-quiet : goal.returns-in_err-read_into-clause-quiet
 returns-in_err-read_into-clause-quiet g c = c.read_into.ensures.quiet

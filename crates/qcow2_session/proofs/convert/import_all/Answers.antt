@@ -8,11 +8,12 @@ use Rattle.qcow2_disk.specs.Disk.{with_bytes}
 use Rattle.qcow2_disk.specs.AbstractImages.{guest_of, Setting}
 use Rattle.qcow2_image.specs.ImageInvariant.{abstract_of}
 use Rattle.std.specs.Prelude.{IfErr, Ok}
+use Rattle.qcow2_session.specs.Sessions.{cluster_size_of}
 use Rattle.qcow2_session.specs.Conversions.{ImportsAnyOf, IsMetImporting, IsReasonNotToWrite}
-use Rattle.qcow2_image.proofs.Call.FaultCounts.{faults_then}
-use Rattle.qcow2_session.proofs.Counting.{converted, converting_part, none_counted}
+use Rattle.qcow2_session.proofs.Counting.{converted, converting_part, so_far_none, so_far_part, so_far_then}
 use Rattle.qcow2_session.proofs.Differing.{part_kept}
 use Rattle.qcow2_session.proofs.Exporting.{part_of_disk}
+use Rattle.qcow2_session.proofs.ImportLimits.{part_lacks}
 use Rattle.qcow2_session.proofs.Reasons.{importing_within, reason_within}
 use Rattle.qcow2_session.proofs.Converting.{any_more, any_none, any_refused, imports_none, all_more, all_refused, same_range}
 use Rattle.qcow2_session.proofs.Told.{same_then}
@@ -20,12 +21,14 @@ use Rattle.qcow2_session.proofs.Turns.{refused_is, does_if}
 use Rattle.qcow2_image.proofs.Call.BehindHeader.{behind_none, behind_then}
 use Rattle.qcow2_alloc.proofs.KeptTables.AllWritten.{written_then}
 use Rattle.qcow2_session.proofs.Quiet.{quiet_image}
+use Rattle.qcow2_image.proofs.Grow.NoLonger.{no_longer_then}
 
 pub loop-at-init : goal.loop-at-init
 loop-at-init g c = record {
   behind = behind_none;
+  no_longer = λ out sound. omega arith;
   quiet = λ reading. quiet_image g.S.Storage.view c.args.image.now c.args.image.now refl;
-  faults = none_counted g.S.Storage.view g.F.BackingDisk.backing c.args.image.now;
+  faults = so_far_none g.S.Storage.view g.F.BackingDisk.backing c.args.image.now;
   counted = refl;
   within = omega arith;
   aligned = λ lt. zero-mod (length c.args.wanted.now);
@@ -47,8 +50,16 @@ loop-at-preserved g c =
     let whole : length c.loop-at.wanted ≡ length (c.import_at.new.wanted ++ drop c.min-count.result c.loop-at.wanted) = grind (arith, common_steps) in
     record {
       behind = behind_then c.loop-at.invariant.behind c.import_at.ensures.header_cluster;
+      no_longer = λ out sound.
+          let at = c.loop-at.at in
+          let count = length (take c.min-count.result c.loop-at.wanted) in
+          let long : count ≡ c.min-count.result = grind (arith, common_steps) in
+          let first = c.loop-at.invariant.any.2 out in
+          no_longer_then c.args.image.now.file.header.fields c.loop-at.image.file.header.fields c.import_at.new.image.file.header.fields (at + count - 1) (c.args.size - 1) (ap (λ (x : Setting). x.cluster_size) (first.acts.works sound).setting)
+          (omega (arith, c.min-count.ensures, c.loop-at-test.true, long)) (c.loop-at.invariant.no_longer out sound)
+          (c.import_at.ensures.no_longer (omega (arith, c.min-count.ensures, c.loop-at-test.true, long, c.loop-at.auto.wanted, c.requires.some)) out (first.answer sound).0);
       quiet = λ reading. written_then g.S.Storage.view (c.loop-at.invariant.quiet reading) (c.import_at.ensures.quiet (c.loop-at.invariant.image.writable ∙ reading));
-      faults = faults_then g.S.Storage.view g.F.BackingDisk.backing c.args.image.now c.loop-at.image c.import_at.new.image c.loop-at.invariant.faults c.in_ok-import_at.ensures.faults.told.0;
+      faults = so_far_then g.S.Storage.view g.F.BackingDisk.backing c.args.image.now c.loop-at.image c.import_at.new.image c.loop-at.invariant.faults (so_far_part g.S.Storage.view g.F.BackingDisk.backing c.loop-at.image c.import_at.new.image _ _ c.in_ok-import_at.ensures.faults);
       counted = c.in_ok-import_at.ensures.faults.told.1 ∙ c.loop-at.invariant.counted;
       within = grind (arith, common_steps);
       aligned = λ more. subst (λ k. (c.loop-at.at + c.min-count.result) % k ≡ 0) whole
@@ -105,10 +116,14 @@ returns-in_err-import_at-clause-late g c = λ none size out sound.
     let long : length (take c.min-count.result c.loop-at.wanted) ≡ c.min-count.result = grind (arith, common_steps) in
     let first = c.loop-at.invariant.any.2 out in
     let now = (first.answer sound).0 in
-    subst (λ r. IfErr r (IsReasonNotToWrite c.args.image.now 0 c.args.size out)) (sym (refused_is _ c.in_err-import_at.field-0.0 c.from_residual.ensures))
-    (reason_within c.args.image.now c.loop-at.image c.loop-at.invariant.image (ap (λ (x : Setting). x.cluster_size) (first.acts.works sound).setting) 0 c.args.size c.loop-at.at (c.loop-at.at + count)
+    let upto : c.loop-at.at + count ≤ c.args.size = omega (arith, c.min-count.ensures, c.loop-at-test.true, long) in
+    let clusters : cluster_size_of c.loop-at.image ≡ cluster_size_of c.args.image.now = ap (λ (x : Setting). x.cluster_size) (first.acts.works sound).setting in
+    let few : count ≤ cluster_size_of c.loop-at.image = omega (arith, c.min-count.ensures, long, clusters, c.loop-at.auto.wanted, c.requires.wanted) in
+    subst (λ r. IfErr r (IsReasonNotToWrite g.S.Storage.view g.F.BackingDisk.backing c.args.image.now c.import_at.new.image 0 c.args.size out)) (sym (refused_is _ c.in_err-import_at.field-0.0 c.from_residual.ensures))
+    (reason_within g.S.Storage.view g.F.BackingDisk.backing c.args.image.now c.loop-at.image c.import_at.new.image c.loop-at.invariant.image (ap (λ (x : Setting). x.cluster_size) (first.acts.works sound).setting) 0 c.args.size c.loop-at.at (c.loop-at.at + count)
     (omega arith) (omega (arith, c.min-count.ensures, c.loop-at-test.true, long)) out c.in_err-import_at.field-0.0
-    (c.in_err-import_at.ensures.late (part_of_disk c.args.image.now c.loop-at.image c.loop-at.invariant.image c.loop-at.at count (omega (arith, c.min-count.ensures, c.loop-at-test.true, long, size)) now.works none) out now))
+    (part_lacks g.S.Storage.view g.F.BackingDisk.backing c.args.image.now c.loop-at.image c.import_at.new.image c.loop-at.at (c.loop-at.at + count) c.args.size c.loop-at.invariant.any upto clusters)
+    (c.in_err-import_at.ensures.late (part_of_disk c.args.image.now c.loop-at.image c.loop-at.invariant.image c.loop-at.at count (omega (arith, c.min-count.ensures, c.loop-at-test.true, long, size)) now.works none) few out now))
 
 pub returns-in_err-import_at-clause-met : goal.returns-in_err-import_at-clause-met
 returns-in_err-import_at-clause-met g c = λ none size out sound.
@@ -146,3 +161,13 @@ returns-in_err-import_at-clause-header_cluster g c = behind_then c.loop-at.invar
 
 pub returns-in_err-import_at-clause-quiet : goal.returns-in_err-import_at-clause-quiet
 returns-in_err-import_at-clause-quiet g c = λ reading. written_then g.S.Storage.view (c.loop-at.invariant.quiet reading) (c.import_at.ensures.quiet (c.loop-at.invariant.image.writable ∙ reading))
+
+pub returns-in_err-import_at-clause-no_longer : goal.returns-in_err-import_at-clause-no_longer
+returns-in_err-import_at-clause-no_longer g c = λ out sound.
+    let at = c.loop-at.at in
+    let count = length (take c.min-count.result c.loop-at.wanted) in
+    let long : count ≡ c.min-count.result = grind (arith, common_steps) in
+    let first = c.loop-at.invariant.any.2 out in
+    no_longer_then c.args.image.now.file.header.fields c.loop-at.image.file.header.fields c.import_at.new.image.file.header.fields (at + count - 1) (c.args.size - 1) (ap (λ (x : Setting). x.cluster_size) (first.acts.works sound).setting)
+    (omega (arith, c.min-count.ensures, c.loop-at-test.true, long)) (c.loop-at.invariant.no_longer out sound)
+    (c.import_at.ensures.no_longer (omega (arith, c.min-count.ensures, c.loop-at-test.true, long, c.loop-at.auto.wanted, c.requires.some)) out (first.answer sound).0)

@@ -1,11 +1,14 @@
 use Rattle.qcow2_session.proofs.convert.import_at.Goals as goal
-use Rattle.std.proofs.Common.{◌≡◌, ◌+◌, ◌∙◌, inl, length, None, true, false, refl, sym, ap, subst, arith}
+use Rattle.std.proofs.Common.{◌≡◌, ◌+◌, ◌-◌, ◌∙◌, inl, length, None, true, false, refl, sym, ap, subst, arith}
 use Rattle.std.specs.Prelude.{IfErr}
 use Rattle.image_access.specs.Contents.{bytes_at}
 use Rattle.qcow2_disk.specs.AbstractImages.{Setting}
 use Rattle.qcow2_image.specs.Refusals.{refuses_to_read}
 use Rattle.qcow2_image.proofs.Call.FaultCounts.{faults_then}
 use Rattle.qcow2_image.proofs.Call.MetErrors.{storage_met}
+use Rattle.qcow2_image.proofs.Call.Unlimited.{storage_unlimited}
+use Rattle.qcow2_image.proofs.Prepare.Lacked.{other_limit}
+use Rattle.qcow2_session.proofs.ImportLimits.{left_some, reading_unlimited, write_lacks}
 use Rattle.qcow2_alloc.proofs.AllocationSteps.{fault_of_storage}
 use Rattle.qcow2_alloc.specs.ImageFile.{known_in}
 use Rattle.qcow2_image.specs.MetAlone.{IsMetReadingRange}
@@ -14,13 +17,15 @@ use Rattle.qcow2_session.proofs.Reasons.{read_importing, write_importing, write_
 use Rattle.std.proofs.lemmas.Grind.{common_steps}
 use Rattle.qcow2_alloc.specs.ImageError.{of_storage}
 use Rattle.qcow2_image.specs.ImageInvariant.{abstract_of}
-use Rattle.qcow2_session.proofs.Counting.{converted, converting_image, converting_raw, fewer_since, image_tells, none_counted}
+use Rattle.qcow2_session.proofs.Counting.{converted, converting_image, converting_raw, fewer_since, image_tells, image_marks, so_far_call, so_far_none, so_far_then}
 use Rattle.qcow2_session.proofs.Differing.{other_bytes, reading_differs}
 use Rattle.qcow2_session.proofs.Converting.{does_nothing, interrupted, interrupted_here, at_refused, at_shown, at_written, at_unwritten}
 use Rattle.qcow2_session.proofs.Turns.{refused_is}
 use Rattle.qcow2_image.proofs.Call.BehindHeader.{behind_none, behind_then}
 use Rattle.qcow2_alloc.proofs.KeptTables.AllWritten.{written_then}
 use Rattle.qcow2_session.proofs.Quiet.{quiet_image}
+use Rattle.qcow2_metadata.specs.Header.{HeaderView}
+use Rattle.qcow2_image.specs.L1Entries.{IsNoLonger}
 
 pub returns-in_err-read-clause-sees : goal.returns-in_err-read-clause-sees
 returns-in_err-read-clause-sees g c = λ honest.
@@ -84,22 +89,34 @@ returns-in-Err-clause-any g c = (
 )
 
 pub returns-in_err-read-clause-late : goal.returns-in_err-read-clause-late
-returns-in_err-read-clause-late g c = λ none out sound.
-    subst (λ r. IfErr r (IsReasonNotToWrite c.args.image.now c.args.at (c.args.at + length c.args.wanted.now) out)) (sym (refused_is _ (of_storage c.in_err-read.field-0.0) c.from_residual.ensures)) (inl (storage_met c.in_err-read.field-0.0))
+returns-in_err-read-clause-late g c = λ none few out sound.
+    let e = of_storage c.in_err-read.field-0.0 in
+    subst (λ r. IfErr r (IsReasonNotToWrite g.S.Storage.view g.F.BackingDisk.backing c.args.image.now c.args.image.now c.args.at (c.args.at + length c.args.wanted.now) out)) (sym (refused_is _ (of_storage c.in_err-read.field-0.0) c.from_residual.ensures))
+    (inl (storage_met c.in_err-read.field-0.0, other_limit _ e (storage_unlimited c.in_err-read.field-0.0)))
 
 pub returns-in_err-read_into-clause-late : goal.returns-in_err-read_into-clause-late
-returns-in_err-read_into-clause-late g c = λ none out sound.
-    subst (λ r. IfErr r (IsReasonNotToWrite c.args.image.now c.args.at (c.args.at + length c.args.wanted.now) out)) (sym (refused_is _ c.in_err-read_into.field-0.0 c.from_residual-in_err-read_into.ensures))
-    (inl (c.in_err-read_into.ensures.late (subst (λ n. refuses_to_read c.args.image.now c.args.at n ≡ None) (sym c.requires) none)).0)
+returns-in_err-read_into-clause-late g c = λ none few out sound.
+    let view = g.S.Storage.view in
+    let old = c.args.image.now in
+    let e = c.in_err-read_into.field-0.0 in
+    let free = subst (λ n. refuses_to_read c.args.image.now c.args.at n ≡ None) (sym c.requires) none in
+    subst (λ r. IfErr r (IsReasonNotToWrite g.S.Storage.view g.F.BackingDisk.backing c.args.image.now c.read_into.new.image c.args.at (c.args.at + length c.args.wanted.now) out)) (sym (refused_is _ c.in_err-read_into.field-0.0 c.from_residual-in_err-read_into.ensures))
+    (inl ((c.in_err-read_into.ensures.late free).0, other_limit _ e (reading_unlimited out c.args.at _ old.file.header.fields (known_in view old.file) e (c.in_err-read_into.ensures.met free out sound))))
 
 pub returns-in-Err-clause-late : goal.returns-in-Err-clause-late
-returns-in-Err-clause-late g c = λ none out sound.
+returns-in-Err-clause-late g c = λ none few out sound.
     let first = c.in_ok-read_into.ensures.sees out in
     let now = (first.answer sound).0 in
     let long : length c.read.new.buf ≡ length c.args.wanted.now = grind (arith, common_steps) in
-    subst (λ n. IsReasonNotToWrite c.args.image.now c.args.at (c.args.at + n) out c.in-Err.refusal) long
-    (write_reason c.args.image.now c.read_into.new.image c.in_ok-read_into.ensures.image (ap (λ (x : Setting). x.cluster_size) (first.acts.works sound).setting) c.args.at (length c.read.new.buf) now.works
-    (subst (λ n. refuses_to_read c.args.image.now c.args.at n ≡ None) (sym long) none) out c.in-Err.refusal _ _ c.in-Err.ensures.early c.in-Err.ensures.late (λ free t. c.in-Err.ensures.taken free out now t))
+    let view = g.S.Storage.view in
+    let below = g.F.BackingDisk.backing in
+    let old = c.args.image.now in
+    let mid = c.read_into.new.image in
+    let new = c.write.new.image in
+    subst (λ n. IsReasonNotToWrite view below c.args.image.now c.write.new.image c.args.at (c.args.at + n) out c.in-Err.refusal) long
+    (write_reason view below c.args.image.now c.read_into.new.image c.write.new.image c.in_ok-read_into.ensures.image (ap (λ (x : Setting). x.cluster_size) (first.acts.works sound).setting) c.args.at (length c.read.new.buf) now.works
+    (subst (λ n. refuses_to_read c.args.image.now c.args.at n ≡ None) (sym long) none) out c.in-Err.refusal _ _ c.in-Err.ensures.early c.in-Err.ensures.late (λ free t. c.in-Err.ensures.taken free out now t)
+    (λ free is. write_lacks view below old mid new c.args.at c.read_into.new.bytes c.read.new.buf _ c.in_ok-read_into.ensures.sees (left_some (c.in-Err.ensures.late free).1 (c.in-Err.ensures.ends out now)) (omega (arith, few, long)) (c.in-Err.ensures.limit free out now is)))
 
 pub returns-in_err-read-clause-met : goal.returns-in_err-read-clause-met
 returns-in_err-read-clause-met g c = λ none out sound.
@@ -128,20 +145,20 @@ returns-in-Err-clause-met g c = λ none out sound.
 
 pub returns-in_err-read-clause-faults : goal.returns-in_err-read-clause-faults
 returns-in_err-read-clause-faults g c =
-    converting_raw g.S.Storage.view g.F.BackingDisk.backing c.args.image.now c.args.image.now (g.R.Storage.view c.args.raw.now).faults (g.R.Storage.view c.args.raw.now).faults (g.R.Storage.view c.read.new.self).faults (none_counted g.S.Storage.view g.F.BackingDisk.backing c.args.image.now) refl
+    converting_raw g.S.Storage.view g.F.BackingDisk.backing c.args.image.now c.args.image.now (g.R.Storage.view c.args.raw.now).faults (g.R.Storage.view c.args.raw.now).faults (g.R.Storage.view c.read.new.self).faults (so_far_none g.S.Storage.view g.F.BackingDisk.backing c.args.image.now) refl
     c.read.result c.in_err-read.field-0.0 _ c.read.ensures.calls.cause c.in_err-read.was (refused_is _ (of_storage c.in_err-read.field-0.0) c.from_residual.ensures)
 
 pub returns-in_err-read_into-clause-faults : goal.returns-in_err-read_into-clause-faults
 returns-in_err-read_into-clause-faults g c =
-    converting_image g.S.Storage.view g.F.BackingDisk.backing c.args.image.now c.args.image.now c.read_into.new.image (g.R.Storage.view c.args.raw.now).faults (g.R.Storage.view c.read.new.self).faults (none_counted g.S.Storage.view g.F.BackingDisk.backing c.args.image.now) c.in_ok-read.ensures.calls.cause.told
-    c.read_into.result c.in_err-read_into.field-0.0 _ c.read_into.ensures.faults c.in_err-read_into.was (refused_is _ c.in_err-read_into.field-0.0 c.from_residual-in_err-read_into.ensures)
+    converting_image g.S.Storage.view g.F.BackingDisk.backing c.args.image.now c.args.image.now c.read_into.new.image (g.R.Storage.view c.args.raw.now).faults (g.R.Storage.view c.read.new.self).faults (so_far_none g.S.Storage.view g.F.BackingDisk.backing c.args.image.now) c.in_ok-read.ensures.calls.cause.told
+    c.read_into.result c.in_err-read_into.field-0.0 _ c.read_into.ensures.faults c.in_err-read_into.ensures.marks c.in_err-read_into.was (refused_is _ c.in_err-read_into.field-0.0 c.from_residual-in_err-read_into.ensures)
 
 pub returns-then-is_same-clause-faults : goal.returns-then-is_same-clause-faults
-returns-then-is_same-clause-faults g c = converted _ _ _ _ _ _ _ (c.in_ok-read_into.ensures.faults.told) (c.in_ok-read.ensures.calls.cause.told)
+returns-then-is_same-clause-faults g c = converted _ _ _ _ _ _ _ (so_far_call g.S.Storage.view g.F.BackingDisk.backing c.args.image.now c.read_into.new.image c.in_ok-read_into.ensures.faults.told c.in_ok-read_into.ensures.marks) (c.in_ok-read.ensures.calls.cause.told)
 
 pub returns-in-Ok-clause-faults : goal.returns-in-Ok-clause-faults
 returns-in-Ok-clause-faults g c =
-    converted _ _ _ _ _ _ _ (faults_then g.S.Storage.view g.F.BackingDisk.backing c.args.image.now c.read_into.new.image c.write.new.image c.in_ok-read_into.ensures.faults.told c.in-Ok.ensures.faults.2) (c.in_ok-read.ensures.calls.cause.told)
+    converted _ _ _ _ _ _ _ (so_far_then g.S.Storage.view g.F.BackingDisk.backing c.args.image.now c.read_into.new.image c.write.new.image (so_far_call g.S.Storage.view g.F.BackingDisk.backing c.args.image.now c.read_into.new.image c.in_ok-read_into.ensures.faults.told c.in_ok-read_into.ensures.marks) (so_far_call g.S.Storage.view g.F.BackingDisk.backing c.read_into.new.image c.write.new.image c.in-Ok.ensures.faults.2 c.in-Ok.ensures.marks)) (c.in_ok-read.ensures.calls.cause.told)
 
 pub returns-in-Err-clause-faults : goal.returns-in-Err-clause-faults
 returns-in-Err-clause-faults g c =
@@ -150,8 +167,9 @@ returns-in-Err-clause-faults g c =
     record {
       no_fewer = fewer_since g.S.Storage.view g.F.BackingDisk.backing c.args.image.now c.read_into.new.image c.write.new.image first c.write.ensures.faults.0;
       raw = c.read.ensures.calls.cause.no_fewer;
-      rose = image_tells g.S.Storage.view g.F.BackingDisk.backing c.args.image.now c.read_into.new.image c.write.new.image (g.R.Storage.view c.args.raw.now).faults (g.R.Storage.view c.read.new.self).faults c.in-Err.refusal first c.in-Err.ensures.faults.1;
+      rose = image_tells g.S.Storage.view g.F.BackingDisk.backing c.args.image.now c.read_into.new.image c.write.new.image (g.R.Storage.view c.args.raw.now).faults (g.R.Storage.view c.read.new.self).faults c.in-Err.refusal first c.in-Err.ensures.faults.1 c.in-Err.ensures.marks.fails;
       told = λ other. (faults_then g.S.Storage.view g.F.BackingDisk.backing c.args.image.now c.read_into.new.image c.write.new.image first (c.in-Err.ensures.faults.2 other), same);
+      marks = image_marks g.S.Storage.view g.F.BackingDisk.backing c.args.image.now c.read_into.new.image c.write.new.image c.in-Err.refusal (so_far_call g.S.Storage.view g.F.BackingDisk.backing c.args.image.now c.read_into.new.image c.in_ok-read_into.ensures.faults.told c.in_ok-read_into.ensures.marks) c.in-Err.ensures.marks;
     }
 
 pub returns-in_err-read-clause-differs : goal.returns-in_err-read-clause-differs
@@ -192,3 +210,26 @@ returns-in-Ok-clause-quiet g c = λ reading. written_then g.S.Storage.view c.rea
 
 pub returns-in-Err-clause-quiet : goal.returns-in-Err-clause-quiet
 returns-in-Err-clause-quiet g c = λ reading. written_then g.S.Storage.view c.read_into.ensures.quiet (c.write.ensures.quiet (c.read_into.ensures.image.writable ∙ reading))
+
+pub returns-in_err-read-clause-no_longer : goal.returns-in_err-read-clause-no_longer
+returns-in_err-read-clause-no_longer g c = λ some out sound. omega arith
+
+pub returns-in_err-read_into-clause-no_longer : goal.returns-in_err-read_into-clause-no_longer
+returns-in_err-read_into-clause-no_longer g c = λ some out sound. let same = ap (λ (v : HeaderView). v.fields.l1_entries) c.read_into.ensures.header in omega (arith, same)
+
+pub returns-then-is_same-clause-no_longer : goal.returns-then-is_same-clause-no_longer
+returns-then-is_same-clause-no_longer g c = λ some out sound. let same = ap (λ (v : HeaderView). v.fields.l1_entries) c.read_into.ensures.header in omega (arith, same)
+
+pub returns-in-Ok-clause-no_longer : goal.returns-in-Ok-clause-no_longer
+returns-in-Ok-clause-no_longer g c = λ some out sound.
+    let now = ((c.in_ok-read_into.ensures.sees out).answer sound).0 in
+    let long : length c.read.new.buf ≡ length c.args.wanted.now = grind (arith, common_steps) in
+    subst (λ (v : HeaderView). IsNoLonger (c.args.at + length c.args.wanted.now - 1) v.fields c.write.new.image.file.header.fields) c.read_into.ensures.header
+    (subst (λ n. IsNoLonger (c.args.at + n - 1) c.read_into.new.image.file.header.fields c.write.new.image.file.header.fields) long (c.write.ensures.no_longer (omega (arith, some, long)) out now))
+
+pub returns-in-Err-clause-no_longer : goal.returns-in-Err-clause-no_longer
+returns-in-Err-clause-no_longer g c = λ some out sound.
+    let now = ((c.in_ok-read_into.ensures.sees out).answer sound).0 in
+    let long : length c.read.new.buf ≡ length c.args.wanted.now = grind (arith, common_steps) in
+    subst (λ (v : HeaderView). IsNoLonger (c.args.at + length c.args.wanted.now - 1) v.fields c.write.new.image.file.header.fields) c.read_into.ensures.header
+    (subst (λ n. IsNoLonger (c.args.at + n - 1) c.read_into.new.image.file.header.fields c.write.new.image.file.header.fields) long (c.write.ensures.no_longer (omega (arith, some, long)) out now))

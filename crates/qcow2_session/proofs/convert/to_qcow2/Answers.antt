@@ -3,22 +3,25 @@ use Rattle.std.specs.Prelude.{IfErr}
 use Rattle.image_access.specs.Moments.{HasCause}
 use Rattle.qcow2_image.specs.Image.{size_of}
 use Rattle.qcow2_image.specs.Refusals.{refuses_to_read}
-use Rattle.qcow2_image.proofs.Call.FaultCounts.{faults_then}
 use Rattle.qcow2_image.proofs.Call.MetErrors.{storage_met, tables_met}
-use Rattle.std.proofs.Common.{◌≡◌, ◌⊎◌, inl, inr, refl, sym, ap, ◌∙◌, subst, length, Ok, Err}
+use Rattle.qcow2_image.proofs.Call.Unlimited.{fault_unlimited, storage_unlimited}
+use Rattle.qcow2_image.proofs.Prepare.Lacked.{other_limit}
+use Rattle.std.proofs.Common.{◌≡◌, ◌⊎◌, ◌-◌, arith, inl, inr, refl, sym, ap, ◌∙◌, subst, length, Ok, Err}
 use Rattle.qcow2_alloc.proofs.AllocationSteps.{fault_of_storage}
 use Rattle.qcow2_alloc.specs.ImageError.{of_storage}
 use Rattle.qcow2_alloc.specs.declared.error.ImageError.TheVariants.{InvalidOption, Memory}
 use Rattle.qcow2_session.specs.Conversions.{DiffersWhereKept, Imports, ImportsAll, IsMetImporting, IsReasonNotToWrite, IsRefusedUnequal}
 use Rattle.qcow2_session.specs.Sessions.{IsOfReading}
-use Rattle.qcow2_session.proofs.Counting.{converted, converting_else, converting_image, converting_part, converting_raw, none_counted}
+use Rattle.qcow2_session.proofs.Counting.{converted, converting_else, converting_image, converting_part, converting_raw, so_far_call, so_far_none, so_far_part, so_far_then}
 use Rattle.qcow2_session.proofs.Differing.{early_reading, option_other, reading_differs, reading_other, size_untold}
 use Rattle.qcow2_session.proofs.Converting.{any_nothing, imports_nothing, imports_unflushed, imports_flushed}
-use Rattle.qcow2_session.proofs.Marking.{refused_none}
+use Rattle.qcow2_session.proofs.Marking.{refused_none, answered_at_once, in_parts, refused_at_once}
 use Rattle.qcow2_session.proofs.Turns.{refused_is}
 use Rattle.qcow2_image.proofs.Call.BehindHeader.{behind_none, behind_then}
 use Rattle.qcow2_alloc.proofs.KeptTables.AllWritten.{written_then}
 use Rattle.qcow2_session.proofs.Quiet.{quiet_image}
+use Rattle.qcow2_metadata.specs.Header.{HeaderView}
+use Rattle.qcow2_image.specs.L1Entries.{IsNoLonger}
 
 pub returns-in_err-size-clause-sees : goal.returns-in_err-size-clause-sees
 returns-in_err-size-clause-sees g c = λ honest. imports_nothing g.S.Storage.view g.F.BackingDisk.backing c.args.image.now _ (of_storage c.in_err-size.field-0.0) _ (refused_is _ (of_storage c.in_err-size.field-0.0) c.from_residual-in_err-size.ensures)
@@ -107,28 +110,28 @@ returns-clause-any g c =
     )
 
 pub returns-in_err-size-clause-late : goal.returns-in_err-size-clause-late
-returns-in_err-size-clause-late g c = λ none out sound. subst (λ r. IfErr r (λ e. (e ≡ InvalidOption) ⊎ IsReasonNotToWrite c.args.image.now 0 (size_of c.args.image.now) out e)) (sym (refused_is _ (of_storage c.in_err-size.field-0.0) c.from_residual-in_err-size.ensures)) (inr (inl (storage_met c.in_err-size.field-0.0)))
+returns-in_err-size-clause-late g c = λ none out sound. subst (λ r. IfErr r (λ e. (e ≡ InvalidOption) ⊎ IsReasonNotToWrite g.S.Storage.view g.F.BackingDisk.backing c.args.image.now c.args.image.now 0 (size_of c.args.image.now) out e)) (sym (refused_is _ (of_storage c.in_err-size.field-0.0) c.from_residual-in_err-size.ensures)) (inr (inl (storage_met c.in_err-size.field-0.0, other_limit _ (of_storage c.in_err-size.field-0.0) (storage_unlimited c.in_err-size.field-0.0))))
 
 pub returns-then-size-clause-late : goal.returns-then-size-clause-late
 returns-then-size-clause-late g c = λ none out sound. inl refl
 
 pub returns-in_err-wanted-clause-late : goal.returns-in_err-wanted-clause-late
-returns-in_err-wanted-clause-late g c = λ none out sound. subst (λ r. IfErr r (λ e. (e ≡ InvalidOption) ⊎ IsReasonNotToWrite c.args.image.now 0 (size_of c.args.image.now) out e)) (sym (refused_is _ Memory c.from_residual-in_err-wanted.ensures)) (inr (inl tt))
+returns-in_err-wanted-clause-late g c = λ none out sound. subst (λ r. IfErr r (λ e. (e ≡ InvalidOption) ⊎ IsReasonNotToWrite g.S.Storage.view g.F.BackingDisk.backing c.args.image.now c.args.image.now 0 (size_of c.args.image.now) out e)) (sym (refused_is _ Memory c.from_residual-in_err-wanted.ensures)) (inr (inl (tt, other_limit _ Memory tt)))
 
 pub returns-in_err-present-clause-late : goal.returns-in_err-present-clause-late
-returns-in_err-present-clause-late g c = λ none out sound. subst (λ r. IfErr r (λ e. (e ≡ InvalidOption) ⊎ IsReasonNotToWrite c.args.image.now 0 (size_of c.args.image.now) out e)) (sym (refused_is _ Memory c.from_residual-in_err-present.ensures)) (inr (inl tt))
+returns-in_err-present-clause-late g c = λ none out sound. subst (λ r. IfErr r (λ e. (e ≡ InvalidOption) ⊎ IsReasonNotToWrite g.S.Storage.view g.F.BackingDisk.backing c.args.image.now c.args.image.now 0 (size_of c.args.image.now) out e)) (sym (refused_is _ Memory c.from_residual-in_err-present.ensures)) (inr (inl (tt, other_limit _ Memory tt)))
 
 pub returns-in_err-import_all-clause-late : goal.returns-in_err-import_all-clause-late
 returns-in_err-import_all-clause-late g c = λ none out sound.
     let e = c.in_err-import_all.field-0.0 in
     let size_is = c.if-size.false ∙ c.size-2.ensures.value in
-    subst (λ r. IfErr r (λ e. (e ≡ InvalidOption) ⊎ IsReasonNotToWrite c.args.image.now 0 (size_of c.args.image.now) out e)) (sym (refused_is _ e c.from_residual-in_err-import_all.ensures))
-    (inr (subst (λ n. IsReasonNotToWrite c.args.image.now 0 n out e) size_is (c.in_err-import_all.ensures.late none size_is out sound)))
+    subst (λ r. IfErr r (λ e. (e ≡ InvalidOption) ⊎ IsReasonNotToWrite g.S.Storage.view g.F.BackingDisk.backing c.args.image.now c.import_all.new.image 0 (size_of c.args.image.now) out e)) (sym (refused_is _ e c.from_residual-in_err-import_all.ensures))
+    (inr (subst (λ n. IsReasonNotToWrite g.S.Storage.view g.F.BackingDisk.backing c.args.image.now c.import_all.new.image 0 n out e) size_is (c.in_err-import_all.ensures.late none size_is out sound)))
 
 pub returns-in_err-flush-clause-late : goal.returns-in_err-flush-clause-late
 returns-in_err-flush-clause-late g c = λ none out sound.
     let now = ((c.in_ok-import_all.ensures.any.2 out).answer sound).0 in
-    subst (λ r. IfErr r (λ e. (e ≡ InvalidOption) ⊎ IsReasonNotToWrite c.args.image.now 0 (size_of c.args.image.now) out e)) (sym (refused_is _ c.in_err-flush.field-0.0 c.from_residual-in_err-flush.ensures)) (inr (inl (tables_met c.in_err-flush.field-0.0 (c.in_err-flush.ensures.late now.works))))
+    subst (λ r. IfErr r (λ e. (e ≡ InvalidOption) ⊎ IsReasonNotToWrite g.S.Storage.view g.F.BackingDisk.backing c.args.image.now c.flush.new.self 0 (size_of c.args.image.now) out e)) (sym (refused_is _ c.in_err-flush.field-0.0 c.from_residual-in_err-flush.ensures)) (inr (inl (tables_met c.in_err-flush.field-0.0 (c.in_err-flush.ensures.late now.works), other_limit _ c.in_err-flush.field-0.0 (fault_unlimited c.in_err-flush.field-0.0 (c.in_err-flush.ensures.fault out now)))))
 
 pub returns-in_err-check_read-clause-met : goal.returns-in_err-check_read-clause-met
 returns-in_err-check_read-clause-met g c = λ none out sound. absurd (refused_none (refuses_to_read c.args.image.now 0 0) c.in_err-check_read.field-0.0 c.in_err-check_read.ensures.refusal none)
@@ -169,38 +172,39 @@ returns-in_err-size-clause-unequal g c = λ honest differ.
 
 pub returns-in_err-check_read-clause-faults : goal.returns-in_err-check_read-clause-faults
 returns-in_err-check_read-clause-faults g c =
-    converting_else g.S.Storage.view g.F.BackingDisk.backing c.args.image.now c.args.image.now (g.R.Storage.view c.args.raw.now).faults (g.R.Storage.view c.args.raw.now).faults (none_counted g.S.Storage.view g.F.BackingDisk.backing c.args.image.now) refl c.in_err-check_read.field-0.0 _ c.in_err-check_read.ensures.faults (refused_is _ c.in_err-check_read.field-0.0 c.from_residual.ensures)
+    converting_else g.S.Storage.view g.F.BackingDisk.backing c.args.image.now c.args.image.now (g.R.Storage.view c.args.raw.now).faults (g.R.Storage.view c.args.raw.now).faults (so_far_none g.S.Storage.view g.F.BackingDisk.backing c.args.image.now) refl c.in_err-check_read.field-0.0 _ c.in_err-check_read.ensures.faults (refused_is _ c.in_err-check_read.field-0.0 c.from_residual.ensures)
 
 pub returns-in_err-size-clause-faults : goal.returns-in_err-size-clause-faults
 returns-in_err-size-clause-faults g c =
-    converting_raw g.S.Storage.view g.F.BackingDisk.backing c.args.image.now c.args.image.now (g.R.Storage.view c.args.raw.now).faults (g.R.Storage.view c.args.raw.now).faults (g.R.Storage.view c.size.new.self).faults (none_counted g.S.Storage.view g.F.BackingDisk.backing c.args.image.now) refl
+    converting_raw g.S.Storage.view g.F.BackingDisk.backing c.args.image.now c.args.image.now (g.R.Storage.view c.args.raw.now).faults (g.R.Storage.view c.args.raw.now).faults (g.R.Storage.view c.size.new.self).faults (so_far_none g.S.Storage.view g.F.BackingDisk.backing c.args.image.now) refl
     c.size.result c.in_err-size.field-0.0 _ c.size.ensures.calls.cause c.in_err-size.was (refused_is _ (of_storage c.in_err-size.field-0.0) c.from_residual-in_err-size.ensures)
 
 pub returns-then-size-clause-faults : goal.returns-then-size-clause-faults
 returns-then-size-clause-faults g c =
-    converting_else g.S.Storage.view g.F.BackingDisk.backing c.args.image.now c.args.image.now (g.R.Storage.view c.args.raw.now).faults (g.R.Storage.view c.size.new.self).faults (none_counted g.S.Storage.view g.F.BackingDisk.backing c.args.image.now) c.in_ok-size.ensures.calls.cause.told InvalidOption _ (λ is. absurd cc) refl
+    converting_else g.S.Storage.view g.F.BackingDisk.backing c.args.image.now c.args.image.now (g.R.Storage.view c.args.raw.now).faults (g.R.Storage.view c.size.new.self).faults (so_far_none g.S.Storage.view g.F.BackingDisk.backing c.args.image.now) c.in_ok-size.ensures.calls.cause.told InvalidOption _ (λ is. absurd cc) refl
 
 pub returns-in_err-wanted-clause-faults : goal.returns-in_err-wanted-clause-faults
 returns-in_err-wanted-clause-faults g c =
-    converting_else g.S.Storage.view g.F.BackingDisk.backing c.args.image.now c.args.image.now (g.R.Storage.view c.args.raw.now).faults (g.R.Storage.view c.size.new.self).faults (none_counted g.S.Storage.view g.F.BackingDisk.backing c.args.image.now) c.in_ok-size.ensures.calls.cause.told Memory _ (λ is. absurd cc) (refused_is _ Memory c.from_residual-in_err-wanted.ensures)
+    converting_else g.S.Storage.view g.F.BackingDisk.backing c.args.image.now c.args.image.now (g.R.Storage.view c.args.raw.now).faults (g.R.Storage.view c.size.new.self).faults (so_far_none g.S.Storage.view g.F.BackingDisk.backing c.args.image.now) c.in_ok-size.ensures.calls.cause.told Memory _ (λ is. absurd cc) (refused_is _ Memory c.from_residual-in_err-wanted.ensures)
 
 pub returns-in_err-present-clause-faults : goal.returns-in_err-present-clause-faults
 returns-in_err-present-clause-faults g c =
-    converting_else g.S.Storage.view g.F.BackingDisk.backing c.args.image.now c.args.image.now (g.R.Storage.view c.args.raw.now).faults (g.R.Storage.view c.size.new.self).faults (none_counted g.S.Storage.view g.F.BackingDisk.backing c.args.image.now) c.in_ok-size.ensures.calls.cause.told Memory _ (λ is. absurd cc) (refused_is _ Memory c.from_residual-in_err-present.ensures)
+    converting_else g.S.Storage.view g.F.BackingDisk.backing c.args.image.now c.args.image.now (g.R.Storage.view c.args.raw.now).faults (g.R.Storage.view c.size.new.self).faults (so_far_none g.S.Storage.view g.F.BackingDisk.backing c.args.image.now) c.in_ok-size.ensures.calls.cause.told Memory _ (λ is. absurd cc) (refused_is _ Memory c.from_residual-in_err-present.ensures)
 
 pub returns-in_err-import_all-clause-faults : goal.returns-in_err-import_all-clause-faults
 returns-in_err-import_all-clause-faults g c =
-    converting_part g.S.Storage.view g.F.BackingDisk.backing c.args.image.now c.args.image.now c.import_all.new.image (g.R.Storage.view c.args.raw.now).faults (g.R.Storage.view c.size.new.self).faults (g.R.Storage.view c.import_all.new.raw).faults (none_counted g.S.Storage.view g.F.BackingDisk.backing c.args.image.now) c.in_ok-size.ensures.calls.cause.told
+    converting_part g.S.Storage.view g.F.BackingDisk.backing c.args.image.now c.args.image.now c.import_all.new.image (g.R.Storage.view c.args.raw.now).faults (g.R.Storage.view c.size.new.self).faults (g.R.Storage.view c.import_all.new.raw).faults (so_far_none g.S.Storage.view g.F.BackingDisk.backing c.args.image.now) c.in_ok-size.ensures.calls.cause.told
     c.import_all.result c.in_err-import_all.field-0.0 _ c.import_all.ensures.faults c.in_err-import_all.was (refused_is _ c.in_err-import_all.field-0.0 c.from_residual-in_err-import_all.ensures)
 
 pub returns-in_err-flush-clause-faults : goal.returns-in_err-flush-clause-faults
 returns-in_err-flush-clause-faults g c =
-    converting_image g.S.Storage.view g.F.BackingDisk.backing c.args.image.now c.import_all.new.image c.flush.new.self (g.R.Storage.view c.args.raw.now).faults (g.R.Storage.view c.import_all.new.raw).faults c.in_ok-import_all.ensures.faults.told.0 (c.in_ok-import_all.ensures.faults.told.1 ∙ c.in_ok-size.ensures.calls.cause.told)
-    c.flush.result c.in_err-flush.field-0.0 _ c.flush.ensures.faults c.in_err-flush.was (refused_is _ c.in_err-flush.field-0.0 c.from_residual-in_err-flush.ensures)
+    converting_image g.S.Storage.view g.F.BackingDisk.backing c.args.image.now c.import_all.new.image c.flush.new.self (g.R.Storage.view c.args.raw.now).faults (g.R.Storage.view c.import_all.new.raw).faults (so_far_part g.S.Storage.view g.F.BackingDisk.backing c.args.image.now c.import_all.new.image _ _ c.in_ok-import_all.ensures.faults) (c.in_ok-import_all.ensures.faults.told.1 ∙ c.in_ok-size.ensures.calls.cause.told)
+    c.flush.result c.in_err-flush.field-0.0 _ c.flush.ensures.faults (in_parts g.S.Storage.view (refused_at_once g.S.Storage.view c.import_all.new.image c.flush.new.self c.in_err-flush.field-0.0 c.in_err-flush.ensures.once_written c.in_err-flush.ensures.marks)) c.in_err-flush.was (refused_is _ c.in_err-flush.field-0.0 c.from_residual-in_err-flush.ensures)
 
 pub returns-clause-faults : goal.returns-clause-faults
 returns-clause-faults g c =
-    converted _ _ _ _ _ _ _ (faults_then g.S.Storage.view g.F.BackingDisk.backing c.args.image.now c.import_all.new.image c.flush.new.self c.in_ok-import_all.ensures.faults.told.0 c.in_ok-flush.ensures.faults.told)
+    converted _ _ _ _ _ _ _ (so_far_then g.S.Storage.view g.F.BackingDisk.backing c.args.image.now c.import_all.new.image c.flush.new.self (so_far_part g.S.Storage.view g.F.BackingDisk.backing c.args.image.now c.import_all.new.image _ _ c.in_ok-import_all.ensures.faults)
+    (so_far_call g.S.Storage.view g.F.BackingDisk.backing c.import_all.new.image c.flush.new.self c.in_ok-flush.ensures.faults.told (in_parts g.S.Storage.view (answered_at_once g.S.Storage.view c.import_all.new.image c.flush.new.self c.in_ok-flush.ensures.once_written c.in_ok-flush.ensures.marks))))
     (c.in_ok-import_all.ensures.faults.told.1 ∙ c.in_ok-size.ensures.calls.cause.told)
 
 pub returns-in_err-check_read-clause-differs : goal.returns-in_err-check_read-clause-differs
@@ -282,3 +286,35 @@ returns-in_err-flush-clause-quiet g c = λ reading. written_then g.S.Storage.vie
 
 pub returns-clause-quiet : goal.returns-clause-quiet
 returns-clause-quiet g c = λ reading. written_then g.S.Storage.view (c.import_all.ensures.quiet reading) (c.flush.ensures.quiet (c.import_all.ensures.image.writable ∙ reading))
+
+pub returns-in_err-check_read-clause-no_longer : goal.returns-in_err-check_read-clause-no_longer
+returns-in_err-check_read-clause-no_longer g c = λ out sound. omega arith
+
+pub returns-in_err-size-clause-no_longer : goal.returns-in_err-size-clause-no_longer
+returns-in_err-size-clause-no_longer g c = λ out sound. omega arith
+
+pub returns-then-size-clause-no_longer : goal.returns-then-size-clause-no_longer
+returns-then-size-clause-no_longer g c = λ out sound. omega arith
+
+pub returns-in_err-wanted-clause-no_longer : goal.returns-in_err-wanted-clause-no_longer
+returns-in_err-wanted-clause-no_longer g c = λ out sound. omega arith
+
+pub returns-in_err-present-clause-no_longer : goal.returns-in_err-present-clause-no_longer
+returns-in_err-present-clause-no_longer g c = λ out sound. omega arith
+
+pub returns-in_err-import_all-clause-no_longer : goal.returns-in_err-import_all-clause-no_longer
+returns-in_err-import_all-clause-no_longer g c = λ out sound.
+    let old = c.args.image.now in
+    subst (λ n. IsNoLonger (n - 1) old.file.header.fields c.import_all.new.image.file.header.fields) (c.if-size.false ∙ c.size-2.ensures.value) (c.import_all.ensures.no_longer out sound)
+
+pub returns-in_err-flush-clause-no_longer : goal.returns-in_err-flush-clause-no_longer
+returns-in_err-flush-clause-no_longer g c = λ out sound.
+    let old = c.args.image.now in
+    subst (λ (v : HeaderView). IsNoLonger (size_of old - 1) old.file.header.fields v.fields) (sym c.flush.ensures.header)
+    (subst (λ n. IsNoLonger (n - 1) old.file.header.fields c.import_all.new.image.file.header.fields) (c.if-size.false ∙ c.size-2.ensures.value) (c.import_all.ensures.no_longer out sound))
+
+pub returns-clause-no_longer : goal.returns-clause-no_longer
+returns-clause-no_longer g c = λ out sound.
+    let old = c.args.image.now in
+    subst (λ (v : HeaderView). IsNoLonger (size_of old - 1) old.file.header.fields v.fields) (sym c.flush.ensures.header)
+    (subst (λ n. IsNoLonger (n - 1) old.file.header.fields c.import_all.new.image.file.header.fields) (c.if-size.false ∙ c.size-2.ensures.value) (c.import_all.ensures.no_longer out sound))

@@ -12,7 +12,7 @@ use Rattle.qcow2_image.specs.MetAlone.{IsMetReadingRange}
 use Rattle.qcow2_image.specs.Refusals.{refuses_to_read}
 use Rattle.qcow2_session.proofs.Marking.{refused_none}
 use Rattle.qcow2_session.proofs.MetOnSound.{memory_looking}
-use Rattle.qcow2_session.proofs.Counting.{converted, converting_else, converting_part, converting_raw, none_counted}
+use Rattle.qcow2_session.proofs.Counting.{converted, converting_else, converting_part, converting_raw, so_far_none, so_far_part}
 use Rattle.qcow2_session.proofs.Exporting.{unchanged_refused, filled_first, filled_all}
 use Rattle.qcow2_session.proofs.Turns.{refused_is}
 use Rattle.qcow2_image.proofs.Call.BehindHeader.{behind_none}
@@ -66,33 +66,33 @@ returns-in_err-export_all-clause-met g c = λ none out sound.
 
 pub returns-in_err-check_read-clause-faults : goal.returns-in_err-check_read-clause-faults
 returns-in_err-check_read-clause-faults g c =
-    converting_else g.S.Storage.view g.F.BackingDisk.backing c.args.image.now c.args.image.now (g.R.Storage.view c.args.raw.now).faults (g.R.Storage.view c.args.raw.now).faults (none_counted g.S.Storage.view g.F.BackingDisk.backing c.args.image.now) refl c.in_err-check_read.field-0.0 _ c.in_err-check_read.ensures.faults (refused_is _ c.in_err-check_read.field-0.0 c.from_residual.ensures)
+    converting_else g.S.Storage.view g.F.BackingDisk.backing c.args.image.now c.args.image.now (g.R.Storage.view c.args.raw.now).faults (g.R.Storage.view c.args.raw.now).faults (so_far_none g.S.Storage.view g.F.BackingDisk.backing c.args.image.now) refl c.in_err-check_read.field-0.0 _ c.in_err-check_read.ensures.faults (refused_is _ c.in_err-check_read.field-0.0 c.from_residual.ensures)
 
 pub returns-in_err-zeros-clause-faults : goal.returns-in_err-zeros-clause-faults
 returns-in_err-zeros-clause-faults g c =
-    converting_else g.S.Storage.view g.F.BackingDisk.backing c.args.image.now c.args.image.now (g.R.Storage.view c.args.raw.now).faults (g.R.Storage.view c.args.raw.now).faults (none_counted g.S.Storage.view g.F.BackingDisk.backing c.args.image.now) refl Memory _ (λ is. absurd cc) (refused_is _ Memory c.from_residual-in_err-zeros.ensures)
+    converting_else g.S.Storage.view g.F.BackingDisk.backing c.args.image.now c.args.image.now (g.R.Storage.view c.args.raw.now).faults (g.R.Storage.view c.args.raw.now).faults (so_far_none g.S.Storage.view g.F.BackingDisk.backing c.args.image.now) refl Memory _ (λ is. absurd cc) (refused_is _ Memory c.from_residual-in_err-zeros.ensures)
 
 pub returns-in_err-bytes-clause-faults : goal.returns-in_err-bytes-clause-faults
 returns-in_err-bytes-clause-faults g c =
-    converting_else g.S.Storage.view g.F.BackingDisk.backing c.args.image.now c.args.image.now (g.R.Storage.view c.args.raw.now).faults (g.R.Storage.view c.args.raw.now).faults (none_counted g.S.Storage.view g.F.BackingDisk.backing c.args.image.now) refl Memory _ (λ is. absurd cc) (refused_is _ Memory c.from_residual-in_err-bytes.ensures)
+    converting_else g.S.Storage.view g.F.BackingDisk.backing c.args.image.now c.args.image.now (g.R.Storage.view c.args.raw.now).faults (g.R.Storage.view c.args.raw.now).faults (so_far_none g.S.Storage.view g.F.BackingDisk.backing c.args.image.now) refl Memory _ (λ is. absurd cc) (refused_is _ Memory c.from_residual-in_err-bytes.ensures)
 
 pub returns-in_err-resize-clause-faults : goal.returns-in_err-resize-clause-faults
 returns-in_err-resize-clause-faults g c =
-    converting_raw g.S.Storage.view g.F.BackingDisk.backing c.args.image.now c.args.image.now (g.R.Storage.view c.args.raw.now).faults (g.R.Storage.view c.args.raw.now).faults (g.R.Storage.view c.resize.new.self).faults (none_counted g.S.Storage.view g.F.BackingDisk.backing c.args.image.now) refl
+    converting_raw g.S.Storage.view g.F.BackingDisk.backing c.args.image.now c.args.image.now (g.R.Storage.view c.args.raw.now).faults (g.R.Storage.view c.args.raw.now).faults (g.R.Storage.view c.resize.new.self).faults (so_far_none g.S.Storage.view g.F.BackingDisk.backing c.args.image.now) refl
     c.resize.result c.in_err-resize.field-0.0 _ c.resize.ensures.calls.cause c.in_err-resize.was (refused_is _ (of_storage c.in_err-resize.field-0.0) c.from_residual-in_err-resize.ensures)
 
 pub returns-in_err-resize-2-clause-faults : goal.returns-in_err-resize-2-clause-faults
 returns-in_err-resize-2-clause-faults g c =
-    converting_raw g.S.Storage.view g.F.BackingDisk.backing c.args.image.now c.args.image.now (g.R.Storage.view c.args.raw.now).faults (g.R.Storage.view c.resize.new.self).faults (g.R.Storage.view c.resize-2.new.self).faults (none_counted g.S.Storage.view g.F.BackingDisk.backing c.args.image.now) c.in_ok-resize.ensures.calls.cause.told
+    converting_raw g.S.Storage.view g.F.BackingDisk.backing c.args.image.now c.args.image.now (g.R.Storage.view c.args.raw.now).faults (g.R.Storage.view c.resize.new.self).faults (g.R.Storage.view c.resize-2.new.self).faults (so_far_none g.S.Storage.view g.F.BackingDisk.backing c.args.image.now) c.in_ok-resize.ensures.calls.cause.told
     c.resize-2.result c.in_err-resize-2.field-0.0 _ c.resize-2.ensures.calls.cause c.in_err-resize-2.was (refused_is _ (of_storage c.in_err-resize-2.field-0.0) c.from_residual-in_err-resize-2.ensures)
 
 pub returns-in_err-export_all-clause-faults : goal.returns-in_err-export_all-clause-faults
 returns-in_err-export_all-clause-faults g c =
-    converting_part g.S.Storage.view g.F.BackingDisk.backing c.args.image.now c.args.image.now c.export_all.new.image (g.R.Storage.view c.args.raw.now).faults (g.R.Storage.view c.resize-2.new.self).faults (g.R.Storage.view c.export_all.new.raw).faults (none_counted g.S.Storage.view g.F.BackingDisk.backing c.args.image.now) (c.in_ok-resize-2.ensures.calls.cause.told ∙ c.in_ok-resize.ensures.calls.cause.told)
+    converting_part g.S.Storage.view g.F.BackingDisk.backing c.args.image.now c.args.image.now c.export_all.new.image (g.R.Storage.view c.args.raw.now).faults (g.R.Storage.view c.resize-2.new.self).faults (g.R.Storage.view c.export_all.new.raw).faults (so_far_none g.S.Storage.view g.F.BackingDisk.backing c.args.image.now) (c.in_ok-resize-2.ensures.calls.cause.told ∙ c.in_ok-resize.ensures.calls.cause.told)
     c.export_all.result c.in_err-export_all.field-0.0 _ c.export_all.ensures.faults c.in_err-export_all.was (refused_is _ c.in_err-export_all.field-0.0 c.from_residual-in_err-export_all.ensures)
 
 pub returns-clause-faults : goal.returns-clause-faults
-returns-clause-faults g c = converted _ _ _ _ _ _ _ (c.in_ok-export_all.ensures.faults.told.0) (c.in_ok-export_all.ensures.faults.told.1 ∙ (c.in_ok-resize-2.ensures.calls.cause.told ∙ c.in_ok-resize.ensures.calls.cause.told))
+returns-clause-faults g c = converted _ _ _ _ _ _ _ (so_far_part g.S.Storage.view g.F.BackingDisk.backing c.args.image.now c.export_all.new.image _ _ c.in_ok-export_all.ensures.faults) (c.in_ok-export_all.ensures.faults.told.1 ∙ (c.in_ok-resize-2.ensures.calls.cause.told ∙ c.in_ok-resize.ensures.calls.cause.told))
 
 pub returns-in_err-check_read-clause-header_cluster : goal.returns-in_err-check_read-clause-header_cluster
 returns-in_err-check_read-clause-header_cluster g c = behind_none

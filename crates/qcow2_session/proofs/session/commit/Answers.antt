@@ -1,3 +1,5 @@
+use Rattle.qcow2_session.specs.Marks.{MarksAtOnce}
+use Rattle.qcow2_session.proofs.Marking.{at_rest, commit_at_once}
 use Rattle.std.proofs.Common.{◌≡◌, inl, inr, refl, sym, ap, subst, ◌∙◌, List, Option, Some, None, Err}
 use Rattle.std.specs.Prelude.{slice_get, slice_set}
 use Rattle.qcow2_disk.specs.Runs.{RefinesCommand}
@@ -21,8 +23,6 @@ use Rattle.qcow2_image.specs.Prepared.{table_of}
 use Rattle.qcow2_alloc.specs.ImageError.{IsOfTables}
 use Rattle.std.specs.Prelude.{IsNone}
 use Rattle.qcow2_session.proofs.Causing.{is_done, is_misused, is_refused, kept_error, kept_same, not_failed, not_free, same_mapping, where_failed, where_works}
-use Rattle.qcow2_image.specs.Refusals.{MarksRefused}
-use Rattle.qcow2_session.proofs.Marking.{refused_marks}
 use Rattle.qcow2_image.proofs.Call.BehindHeader.{behind_none}
 use Rattle.qcow2_image.proofs.Map.Quiet.{reads_none}
 use Rattle.qcow2_session.proofs.Quiet.{quiet_commit}
@@ -130,12 +130,6 @@ returns-in-Err-Kept-clause-after g c =
     inl (c.fill.ensures.is ∙ ap (λ (o : List (Option _)). slice_set o c.args.slot (Some q)) c.put.ensures.is
     ∙ set_again out c.args.slot None (Some q) (Some c.in-Some.prepared) c.in-Some.ensures.was (ap Some (kept_same c.in-Some.prepared c.in-Err-Kept.field-0-is c.in-Err-Kept.ensures.kept)))
 
-pub returns-in-Err-Spent-clause-marks : goal.returns-in-Err-Spent-clause-marks
-returns-in-Err-Spent-clause-marks g c = refused_marks c.in-Err-Spent.refusal _ _ _ (subst (λ r. MarksRefused c.args.image.now c.commit_data_mapping.new.self (reason_of r)) c.in-Err-Spent.field-0-is c.in-Err-Spent.ensures.marks)
-
-pub returns-in-Err-Kept-clause-marks : goal.returns-in-Err-Kept-clause-marks
-returns-in-Err-Kept-clause-marks g c = refused_marks c.in-Err-Kept.refusal _ _ _ (subst (λ r. MarksRefused c.args.image.now c.commit_data_mapping.new.self (reason_of r)) c.in-Err-Kept.field-0-is c.in-Err-Kept.ensures.marks)
-
 pub returns-in_default-clause-header_cluster : goal.returns-in_default-clause-header_cluster
 returns-in_default-clause-header_cluster g c = behind_none
 
@@ -155,3 +149,15 @@ returns-in-Err-Kept-clause-quiet g c = λ reading existing. record {
 
 pub returns-in_default-clause-quiet : goal.returns-in_default-clause-quiet
 returns-in_default-clause-quiet g c = λ reading existing. record { reading = reading; quiet = reads_none g.S.Storage.view c.args.image.now; existing = subst AreExisting (sym c.put.ensures.is) (existing_set c.args.slots.now.prepared.items c.args.slot None existing tt) }
+
+pub returns-in_default-clause-marks : goal.returns-in_default-clause-marks
+returns-in_default-clause-marks g c = at_rest g.S.Storage.view None c.args.image.now refl
+
+pub returns-in-Ok-clause-marks : goal.returns-in-Ok-clause-marks
+returns-in-Ok-clause-marks g c = record { fails = c.in-Ok.ensures.marks; counts = c.in-Ok.ensures.once_written.counts; memory = λ bad. absurd (cc) }
+
+pub returns-in-Err-Spent-clause-marks : goal.returns-in-Err-Spent-clause-marks
+returns-in-Err-Spent-clause-marks g c = subst (λ r. MarksAtOnce g.S.Storage.view (Some (reason_of r)) c.args.image.now c.commit_data_mapping.new.self) c.in-Err-Spent.field-0-is (commit_at_once g.S.Storage.view c.args.image.now c.commit_data_mapping.new.self _ c.in-Err-Spent.ensures.once_written c.in-Err-Spent.ensures.marks)
+
+pub returns-in-Err-Kept-clause-marks : goal.returns-in-Err-Kept-clause-marks
+returns-in-Err-Kept-clause-marks g c = subst (λ r. MarksAtOnce g.S.Storage.view (Some (reason_of r)) c.args.image.now c.commit_data_mapping.new.self) c.in-Err-Kept.field-0-is (commit_at_once g.S.Storage.view c.args.image.now c.commit_data_mapping.new.self _ c.in-Err-Kept.ensures.once_written c.in-Err-Kept.ensures.marks)

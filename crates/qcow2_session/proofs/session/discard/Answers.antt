@@ -1,3 +1,5 @@
+use Rattle.qcow2_image.proofs.Call.OnceWritten.{counts_released}
+use Rattle.qcow2_session.proofs.Marking.{at_rest}
 use Rattle.std.proofs.Common.{refl, sym, subst, ◌∙◌, List, Option, None}
 use Rattle.qcow2_disk.specs.Runs.{RefinesCommand}
 use Rattle.qcow2_disk.proofs.RunSteps.{done_as, none_as}
@@ -63,3 +65,11 @@ returns-in-Some-clause-quiet g c = λ reading existing. record { reading = c.rel
 
 pub returns-in-None-clause-quiet : goal.returns-in-None-clause-quiet
 returns-in-None-clause-quiet g c = λ reading existing. record { reading = reading; quiet = reads_none g.S.Storage.view c.args.image.now; existing = subst AreExisting (sym c.put.ensures.is) (existing_set c.args.slots.now.prepared.items c.args.slot None existing tt) }
+
+pub returns-in-None-clause-marks : goal.returns-in-None-clause-marks
+returns-in-None-clause-marks g c = at_rest g.S.Storage.view None c.args.image.now refl
+
+pub returns-in-Some-clause-marks : goal.returns-in-Some-clause-marks
+returns-in-Some-clause-marks g c =
+    let released = counts_released g.S.Storage.view c.args.image.now c.release.new.image c.release.ensures.rest in
+    record { fails = c.release.ensures.marks; counts = released; memory = λ bad. absurd (cc) }

@@ -1,3 +1,4 @@
+use Rattle.qcow2_session.proofs.Marking.{answered_at_once, refused_at_once}
 use Rattle.std.proofs.Common.{refl, sym, ◌∙◌}
 use Rattle.qcow2_disk.proofs.RunSteps.{refused_as, flushed_as}
 use Rattle.qcow2_image.proofs.Free.{whole}
@@ -6,7 +7,6 @@ use Rattle.qcow2_image.specs.Image.{is_failed}
 use Rattle.qcow2_session.specs.declared.session.Command.TheVariants as C
 use Rattle.qcow2_session.specs.declared.session.Reply.TheVariants as R
 use Rattle.qcow2_session.proofs.Causing.{is_answered, is_refused, not_failed, same_error, where_failed}
-use Rattle.qcow2_session.proofs.Marking.{refused_marks}
 use Rattle.qcow2_session.proofs.session.flush.Goals as goal
 
 pub returns-in-Err-clause-command_step : goal.returns-in-Err-clause-command_step
@@ -31,11 +31,14 @@ pub returns-clause-causes : goal.returns-clause-causes
 returns-clause-causes g c = λ before found.
     is_answered g.S.Storage.view g.F.BackingDisk.backing c.args.image.now c.flush.new.self before C.Flush _ tt R.Done (λ is. absurd cc) (λ is. absurd cc, λ is. absurd is) refl (where_failed _ (is_failed c.args.image.now) (λ f. c.in_default.ensures.early f)) (λ _ _. tt)
 
-pub returns-in-Err-clause-marks : goal.returns-in-Err-clause-marks
-returns-in-Err-clause-marks g c = refused_marks c.in-Err.refusal _ _ _ c.in-Err.ensures.marks
-
 pub returns-in-Err-clause-quiet : goal.returns-in-Err-clause-quiet
 returns-in-Err-clause-quiet g c = c.flush.ensures.quiet
 
 pub returns-clause-quiet : goal.returns-clause-quiet
 returns-clause-quiet g c = c.flush.ensures.quiet
+
+pub returns-in-Err-clause-marks : goal.returns-in-Err-clause-marks
+returns-in-Err-clause-marks g c = refused_at_once g.S.Storage.view c.args.image.now c.flush.new.self c.in-Err.refusal c.in-Err.ensures.once_written c.in-Err.ensures.marks
+
+pub returns-clause-marks : goal.returns-clause-marks
+returns-clause-marks g c = answered_at_once g.S.Storage.view c.args.image.now c.flush.new.self c.in_default.ensures.once_written c.in_default.ensures.marks

@@ -1,3 +1,4 @@
+use Rattle.qcow2_session.proofs.Marking.{answered_at_once, refused_at_once}
 use Rattle.std.proofs.Common.{◌≡◌, refl, sym, ap, subst, ◌∙◌, Some, is_some, arith}
 use Rattle.std.specs.Prelude.{slice_set}
 use Rattle.qcow2_disk.specs.Found.{IsFoundIn}
@@ -17,7 +18,6 @@ use Rattle.qcow2_image.specs.declared.mapping.Mapping.{Mapping}
 use Rattle.qcow2_image.proofs.Call.Slots.{length_set}
 use Rattle.qcow2_session.proofs.Told.{none_refused}
 use Rattle.qcow2_session.proofs.Unwritten.{set_or_was}
-use Rattle.qcow2_session.proofs.Marking.{refused_marks}
 use Rattle.qcow2_session.proofs.session.get_mapping.Goals as goal
 
 pub returns-in-Ok-clause-command_step : goal.returns-in-Ok-clause-command_step
@@ -77,14 +77,14 @@ returns-in-Ok-clause-after g c = refl
 pub returns-in-Err-clause-after : goal.returns-in-Err-clause-after
 returns-in-Err-clause-after g c = refl
 
-pub returns-in-Err-clause-marks : goal.returns-in-Err-clause-marks
-returns-in-Err-clause-marks g c = refused_marks c.in-Err.refusal _ _ _ c.in-Err.ensures.marks
-
-pub returns-in-Ok-clause-marks : goal.returns-in-Ok-clause-marks
-returns-in-Ok-clause-marks g c = c.in-Ok.ensures.marks
-
 pub returns-in-Ok-clause-quiet : goal.returns-in-Ok-clause-quiet
 returns-in-Ok-clause-quiet g c = λ reading existing. record { reading = c.get_mapping.ensures.image.writable ∙ reading; quiet = c.get_mapping.ensures.quiet; existing = existing }
 
 pub returns-in-Err-clause-quiet : goal.returns-in-Err-clause-quiet
 returns-in-Err-clause-quiet g c = λ reading existing. record { reading = c.get_mapping.ensures.image.writable ∙ reading; quiet = c.get_mapping.ensures.quiet; existing = existing }
+
+pub returns-in-Err-clause-marks : goal.returns-in-Err-clause-marks
+returns-in-Err-clause-marks g c = refused_at_once g.S.Storage.view c.args.image.now c.get_mapping.new.self c.in-Err.refusal c.in-Err.ensures.once_written c.in-Err.ensures.marks
+
+pub returns-in-Ok-clause-marks : goal.returns-in-Ok-clause-marks
+returns-in-Ok-clause-marks g c = answered_at_once g.S.Storage.view c.args.image.now c.get_mapping.new.self c.in-Ok.ensures.once_written c.in-Ok.ensures.marks

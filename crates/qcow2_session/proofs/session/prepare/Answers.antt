@@ -1,3 +1,4 @@
+use Rattle.qcow2_session.proofs.Marking.{answered_at_once, at_rest, refused_at_once}
 use Rattle.std.proofs.Common.{◌≡◌, inl, inr, refl, sym, ap, subst, ◌∙◌, List, Option, arith}
 use Rattle.std.proofs.lemmas.Bool.{cases_lt}
 use Rattle.qcow2_disk.specs.Runs.{RefinesCommand}
@@ -27,7 +28,6 @@ use Rattle.qcow2_disk.specs.AbstractImages.{Setting}
 use Rattle.qcow2_image.specs.ImageInvariant.{meaning}
 use Rattle.qcow2_session.proofs.Untaken.{prepared_untaken}
 use Rattle.qcow2_session.proofs.Causing.{begun_with, holds, is_answered, is_misused, is_refused, not_free, some_error}
-use Rattle.qcow2_session.proofs.Marking.{refused_marks}
 use Rattle.qcow2_image.proofs.Call.BehindHeader.{behind_none}
 use Rattle.qcow2_image.proofs.Map.Quiet.{reads_none}
 use Rattle.qcow2_session.proofs.Quiet.{quiet_image, quiet_left}
@@ -141,9 +141,6 @@ returns-in-Ok-clause-after g c =
     let free = untaken (image_abstraction g.S.Storage.view g.F.BackingDisk.backing) c.args.image.now c.args.slots.now.prepared.items c.args.slot c.get.result c.get.ensures (sym c.is_some.ensures ∙ c.if-is_some.false) in
     (c.in-Ok.prepared, (free, c.fill.ensures.is), c.offset.ensures, c.length.ensures, c.is_nonblocking.ensures)
 
-pub returns-in-Err-clause-marks : goal.returns-in-Err-clause-marks
-returns-in-Err-clause-marks g c = refused_marks c.in-Err.refusal _ _ _ c.in-Err.ensures.marks
-
 pub returns-then-is_some-clause-header_cluster : goal.returns-then-is_some-clause-header_cluster
 returns-then-is_some-clause-header_cluster g c = behind_none
 
@@ -168,3 +165,12 @@ returns-in-Err-clause-quiet g c = λ reading existing.
 
 pub returns-then-is_some-clause-quiet : goal.returns-then-is_some-clause-quiet
 returns-then-is_some-clause-quiet g c = λ reading existing. record { reading = reading; quiet = reads_none g.S.Storage.view c.args.image.now; existing = existing }
+
+pub returns-then-is_some-clause-marks : goal.returns-then-is_some-clause-marks
+returns-then-is_some-clause-marks g c = at_rest g.S.Storage.view None c.args.image.now refl
+
+pub returns-in-Err-clause-marks : goal.returns-in-Err-clause-marks
+returns-in-Err-clause-marks g c = refused_at_once g.S.Storage.view c.args.image.now c.prepare_data_mapping.new.self c.in-Err.refusal c.in-Err.ensures.once_written c.in-Err.ensures.marks
+
+pub returns-in-Ok-clause-marks : goal.returns-in-Ok-clause-marks
+returns-in-Ok-clause-marks g c = answered_at_once g.S.Storage.view c.args.image.now c.prepare_data_mapping.new.self c.in-Ok.ensures.once_written c.in-Ok.ensures.marks

@@ -1,4 +1,5 @@
-use Rattle.std.proofs.Common.{refl, ◌≡◌, ◌<◌, length, sym, subst, take, drop, ◌++◌, arith}
+use Rattle.qcow2_alloc.specs.declared.error.ImageError.TheVariants.{Memory}
+use Rattle.std.proofs.Common.{Some, arith, drop, length, refl, subst, sym, take, ◌++◌, ◌<◌, ◌≡◌}
 use Rattle.std.proofs.lemmas.Grind.{common_steps}
 use Rattle.qcow2_disk.specs.Calls.{Shows}
 use Rattle.qcow2_disk.specs.AbstractImages.{guest_of}
@@ -7,7 +8,7 @@ use Rattle.qcow2_session.specs.Sessions.{Reads}
 use Rattle.qcow2_session.proofs.Turns.{refused_is, does_if}
 use Rattle.std.specs.Prelude.{IfErr}
 use Rattle.qcow2_image.specs.Refusals.{IsMet}
-use Rattle.qcow2_session.proofs.Marking.{hands_on, memory_marks, unmarked}
+use Rattle.qcow2_session.proofs.Marking.{at_rest, in_parts, memory_marks, parts_handed, unmarked}
 use Rattle.qcow2_image.proofs.Call.BehindHeader.{behind_none}
 use Rattle.qcow2_image.specs.MetAlone.{IsMetReadingRange}
 use Rattle.qcow2_alloc.specs.ImageFile.{known_in}
@@ -33,18 +34,6 @@ returns-in_err-read_into-clause-late g c = λ none.
     subst (λ r. IfErr r (λ e. IsMet e × (0 < c.args.length))) (sym (refused_is _ c.in_err-read_into.field-0.0 c.from_residual-in_err-read_into.ensures))
     (let met = c.in_err-read_into.ensures.late (grind (arith, common_steps)) in (met.0, grind (arith, common_steps)))
 
-pub returns-in_err-read_into-clause-marks : goal.returns-in_err-read_into-clause-marks
-returns-in_err-read_into-clause-marks g c = hands_on _ c.in_err-read_into.field-0.0 _ _ (refused_is _ c.in_err-read_into.field-0.0 c.from_residual-in_err-read_into.ensures) c.in_err-read_into.ensures.marks
-
-pub returns-clause-marks : goal.returns-clause-marks
-returns-clause-marks g c = c.in_ok-read_into.ensures.marks
-
-pub returns-in_err-check_read-clause-marks : goal.returns-in_err-check_read-clause-marks
-returns-in_err-check_read-clause-marks g c = hands_on _ c.in_err-check_read.field-0.0 _ _ (refused_is _ c.in_err-check_read.field-0.0 c.from_residual.ensures) (unmarked c.in_err-check_read.field-0.0 _ _ c.in_err-check_read.ensures.faults refl)
-
-pub returns-in_err-bytes-clause-marks : goal.returns-in_err-bytes-clause-marks
-returns-in_err-bytes-clause-marks g c = hands_on _ c.in_err-bytes.field-0.0 _ _ (refused_is _ c.in_err-bytes.field-0.0 c.from_residual-in_err-bytes.ensures) (memory_marks c.in_err-bytes.field-0.0 _ c.in_err-bytes.ensures.cause.0)
-
 pub returns-in_err-bytes-clause-header_cluster : goal.returns-in_err-bytes-clause-header_cluster
 returns-in_err-bytes-clause-header_cluster g c = behind_none
 
@@ -62,3 +51,18 @@ returns-in_err-read_into-clause-met g c = λ none out sound.
     let long : length c.deref_mut.result.now ≡ c.args.length = grind (arith, common_steps) in
     subst (λ r. IfErr r (IsMetReadingRange out c.args.offset (c.args.offset + c.args.length) c.args.image.now.file.header.fields (known_in g.S.Storage.view c.args.image.now.file))) (sym (refused_is _ c.in_err-read_into.field-0.0 c.from_residual-in_err-read_into.ensures))
     ((rw long at c.in_err-read_into.ensures.met) none out sound)
+
+pub returns-in_err-read_into-clause-marks : goal.returns-in_err-read_into-clause-marks
+returns-in_err-read_into-clause-marks g c = parts_handed g.S.Storage.view _ c.in_err-read_into.field-0.0 c.args.image.now c.read_into.new.image (refused_is _ c.in_err-read_into.field-0.0 c.from_residual-in_err-read_into.ensures) c.in_err-read_into.ensures.marks
+
+pub returns-clause-marks : goal.returns-clause-marks
+returns-clause-marks g c = c.in_ok-read_into.ensures.marks
+
+pub returns-in_err-check_read-clause-marks : goal.returns-in_err-check_read-clause-marks
+returns-in_err-check_read-clause-marks g c = parts_handed g.S.Storage.view _ c.in_err-check_read.field-0.0 c.args.image.now c.args.image.now (refused_is _ c.in_err-check_read.field-0.0 c.from_residual.ensures) (in_parts g.S.Storage.view (at_rest g.S.Storage.view (Some c.in_err-check_read.field-0.0) c.args.image.now (unmarked c.in_err-check_read.field-0.0 _ _ c.in_err-check_read.ensures.faults refl)))
+
+pub returns-in_err-bytes-clause-marks : goal.returns-in_err-bytes-clause-marks
+returns-in_err-bytes-clause-marks g c = parts_handed g.S.Storage.view _ c.in_err-bytes.field-0.0 c.args.image.now c.args.image.now (refused_is _ c.in_err-bytes.field-0.0 c.from_residual-in_err-bytes.ensures) (in_parts g.S.Storage.view (at_rest g.S.Storage.view (Some c.in_err-bytes.field-0.0) c.args.image.now (memory_marks c.in_err-bytes.field-0.0 _ c.in_err-bytes.ensures.cause.0)))
+
+pub returns-in_default-clause-marks : goal.returns-in_default-clause-marks
+returns-in_default-clause-marks g c = in_parts g.S.Storage.view (at_rest g.S.Storage.view (Some Memory) c.args.image.now (λ failed. failed))

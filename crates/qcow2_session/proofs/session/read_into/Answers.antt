@@ -1,3 +1,4 @@
+use Rattle.qcow2_image.proofs.Call.OnceWritten.{counts_on, counts_still}
 use Rattle.std.proofs.Common.{◌≡◌, ◌<◌, ◌∙◌, ◌+◌, ◌-◌, refl, length, IfErr, sym, subst, ap, [], take, drop, arith}
 use Rattle.std.proofs.lemmas.Grind.{common_steps}
 use Rattle.qcow2_disk.specs.Calls.{another, Shows}
@@ -15,7 +16,7 @@ use Rattle.qcow2_image.proofs.Call.FaultCounts.{counted_on, faults_then}
 use Rattle.qcow2_image.specs.Refusals.{IsMet}
 use Rattle.qcow2_session.proofs.Parts.{part_reads}
 use Rattle.std.proofs.Common.{Some}
-use Rattle.qcow2_session.proofs.Marking.{fails_behind, hands_on, unmarked}
+use Rattle.qcow2_session.proofs.Marking.{at_rest, in_parts, parts_answered, parts_behind, parts_beyond, parts_handed, unmarked}
 use Rattle.qcow2_session.proofs.Counting.{none_counted}
 use Rattle.qcow2_session.proofs.Converting.{does_nothing}
 use Rattle.qcow2_alloc.proofs.KeptTables.AllWritten.{written_none, written_then}
@@ -44,7 +45,8 @@ loop-done-preserved g c = record {
   within = grind (arith, common_steps);
   end = grind (arith, common_steps);
   image = same_then c.loop-done.invariant.image c.read_some.ensures.image;
-  works = c.in_ok-done.ensures.marks ∙ c.loop-done.invariant.works;
+  works = c.in_ok-done.ensures.marks.fails ∙ c.loop-done.invariant.works;
+  counts = counts_on g.S.Storage.view c.args.image.now c.loop-done.image c.read_some.new.image c.loop-done.invariant.counts c.in_ok-done.ensures.marks.counts;
   header = c.read_some.ensures.header ∙ c.loop-done.invariant.header;
   quiet = written_then g.S.Storage.view c.loop-done.invariant.quiet c.read_some.ensures.quiet;
   unwritten = λ reading out sound clean.
@@ -100,18 +102,6 @@ returns-in_err-done-clause-late g c = λ none.
       omega (arith, c.loop-done.auto.bytes, c.loop-done-test.true),
     ))
 
-pub returns-in_err-done-clause-marks : goal.returns-in_err-done-clause-marks
-returns-in_err-done-clause-marks g c = hands_on _ c.in_err-done.field-0.0 _ _ (refused_is _ c.in_err-done.field-0.0 c.from_residual-in_err-done.ensures) (fails_behind (Some c.in_err-done.field-0.0) _ _ _ c.loop-done.invariant.works c.in_err-done.ensures.marks)
-
-pub returns-in_default-clause-marks : goal.returns-in_default-clause-marks
-returns-in_default-clause-marks g c = c.loop-done.invariant.works
-
-pub returns-clause-marks : goal.returns-clause-marks
-returns-clause-marks g c = c.loop-done.invariant.works
-
-pub returns-in_err-check_read-clause-marks : goal.returns-in_err-check_read-clause-marks
-returns-in_err-check_read-clause-marks g c = hands_on _ c.in_err-check_read.field-0.0 _ _ (refused_is _ c.in_err-check_read.field-0.0 c.from_residual.ensures) (unmarked c.in_err-check_read.field-0.0 _ _ c.in_err-check_read.ensures.faults refl)
-
 pub returns-in_err-done-clause-faults : goal.returns-in_err-done-clause-faults
 returns-in_err-done-clause-faults g c =
     counted_on g.S.Storage.view g.F.BackingDisk.backing c.args.image.now c.loop-done.image c.read_some.new.image c.read_some.result c.in_err-done.field-0.0 c.from_residual-in_err-done.result c.loop-done.invariant.faults c.read_some.ensures.faults c.in_err-done.was
@@ -131,6 +121,7 @@ loop-done-init g c = record {
   end = grind (arith, common_steps);
   image = record { number = refl; size = refl; writable = refl; external = refl };
   works = refl;
+  counts = counts_still g.S.Storage.view c.args.image.now;
   header = refl;
   quiet = written_none g.S.Storage.view c.args.image.now.file.storage c.args.image.now.file.caches;
   unwritten = λ reading out sound clean. read_none g.S.Storage.view c.args.image.now clean;
@@ -162,3 +153,15 @@ returns-in_err-done-clause-met g c = λ none out sound.
     subst (λ r. IfErr r (IsMetReadingRange out c.args.offset (c.args.offset + length c.args.bytes.now) c.args.image.now.file.header.fields (known_in g.S.Storage.view c.args.image.now.file))) (sym (refused_is _ c.in_err-done.field-0.0 c.from_residual-in_err-done.ensures))
     (reads_part view below out old mid sound still (so_far.acts.works sound) c.args.offset (c.args.offset + n) c.in-Some.at (c.in-Some.at + length part) c.in_err-done.field-0.0 from upto
     (c.in_err-done.ensures.met (part_reads old mid c.loop-done.invariant.image c.args.offset n c.in-Some.at (length part) from upto c.loop-done.invariant.works none) (omega (arith, rest, c.loop-done-test.true)) out still))
+
+pub returns-in_err-done-clause-marks : goal.returns-in_err-done-clause-marks
+returns-in_err-done-clause-marks g c = parts_handed g.S.Storage.view _ c.in_err-done.field-0.0 c.args.image.now c.read_some.new.image (refused_is _ c.in_err-done.field-0.0 c.from_residual-in_err-done.ensures) (parts_behind g.S.Storage.view (Some c.in_err-done.field-0.0) c.args.image.now c.loop-done.image c.read_some.new.image c.loop-done.invariant.works c.loop-done.invariant.counts c.in_err-done.ensures.marks)
+
+pub returns-in_default-clause-marks : goal.returns-in_default-clause-marks
+returns-in_default-clause-marks g c = parts_beyond g.S.Storage.view c.args.image.now c.loop-done.image c.loop-done.invariant.works c.loop-done.invariant.counts
+
+pub returns-clause-marks : goal.returns-clause-marks
+returns-clause-marks g c = parts_answered g.S.Storage.view c.args.image.now c.loop-done.image c.loop-done.invariant.works c.loop-done.invariant.counts
+
+pub returns-in_err-check_read-clause-marks : goal.returns-in_err-check_read-clause-marks
+returns-in_err-check_read-clause-marks g c = parts_handed g.S.Storage.view _ c.in_err-check_read.field-0.0 c.args.image.now c.args.image.now (refused_is _ c.in_err-check_read.field-0.0 c.from_residual.ensures) (in_parts g.S.Storage.view (at_rest g.S.Storage.view (Some c.in_err-check_read.field-0.0) c.args.image.now (unmarked c.in_err-check_read.field-0.0 _ _ c.in_err-check_read.ensures.faults refl)))

@@ -5,6 +5,7 @@ use Rattle.std.specs.Prelude.{Option}
 use Rattle.qcow2_image.specs.BehindHeader.{StaysBehindHeader}
 use Rattle.qcow2_image.specs.Image.{IsSameImage, is_failed}
 use Rattle.qcow2_image.specs.ImageInvariant.{abstract_of}
+use Rattle.qcow2_image.specs.Noted.{CountsImageChanges}
 use Rattle.qcow2_image.specs.declared.prepared.Prepared.{Prepared}
 use Rattle.qcow2_image.specs.Unwritten.{ReadsQuietly}
 use Rattle.qcow2_session.specs.Told.{StaysUnwritten}
@@ -19,6 +20,7 @@ invariant-loop-done g l = record {
   end : l.fn.offset + length l.bytes < 2 ^ 64;
   image : IsSameImage l.fn.image l.image;
   works : is_failed l.image ≡ is_failed l.fn.image;
+  counts : CountsImageChanges g.S.Storage.view l.fn.image l.image;
   header : l.image.file.header ≡ l.fn.image.file.header;
   quiet : ReadsQuietly g.S.Storage.view l.fn.image l.image;
   unwritten : StaysUnwritten g.S.Storage.view g.F.BackingDisk.backing l.fn.image l.image;

@@ -1,3 +1,4 @@
+use Rattle.qcow2_session.proofs.Marking.{at_rest}
 use Rattle.std.proofs.Common.{refl, ap, ◌∙◌, Some, None, Err, arith}
 use Rattle.qcow2_disk.proofs.RunSteps.{done_as, refused_as, none_as}
 use Rattle.qcow2_session.proofs.Turns.{does_if, does_why}
@@ -95,3 +96,15 @@ returns-in_default-clause-header_cluster g c = behind_none
 
 pub returns-then-at-mapping-clause-header_cluster : goal.returns-then-at-mapping-clause-header_cluster
 returns-then-at-mapping-clause-header_cluster g c = behind_none
+
+pub returns-in_default-clause-marks : goal.returns-in_default-clause-marks
+returns-in_default-clause-marks g c = at_rest g.S.Storage.view None c.args.image.now refl
+
+pub returns-then-at-mapping-clause-marks : goal.returns-then-at-mapping-clause-marks
+returns-then-at-mapping-clause-marks g c = at_rest g.S.Storage.view None c.args.image.now refl
+
+pub returns-in-Ok-clause-marks : goal.returns-in-Ok-clause-marks
+returns-in-Ok-clause-marks g c = c.in-Ok.ensures.marks
+
+pub returns-in-Err-clause-marks : goal.returns-in-Err-clause-marks
+returns-in-Err-clause-marks g c = c.in-Err.ensures.marks

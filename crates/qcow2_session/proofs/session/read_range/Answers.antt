@@ -1,4 +1,4 @@
-use Rattle.std.proofs.Common.{refl, ap, ◌≡◌, ◌∙◌, ◌<◌, Err, ◌+◌, ◌++◌, take, drop, length, sym, subst, arith}
+use Rattle.std.proofs.Common.{refl, ap, ◌≡◌, ◌∙◌, ◌<◌, Err, ◌+◌, ◌++◌, take, drop, length, sym, subst, arith, Some}
 use Rattle.std.proofs.lemmas.Grind.{common_steps}
 use Rattle.qcow2_disk.specs.Calls.{Shows}
 use Rattle.qcow2_disk.specs.AbstractImages.{guest_of}
@@ -8,7 +8,7 @@ use Rattle.qcow2_session.proofs.Turns.{refused_is, refused_some, does_if}
 use Rattle.std.specs.Prelude.{IfErr}
 use Rattle.qcow2_image.specs.Refusals.{IsMet}
 use Rattle.qcow2_image.specs.Found.{IsFoundWhole, further_by}
-use Rattle.qcow2_session.proofs.Marking.{hands_on, memory_marks, none_answered, refused_marks, unchecked, unmarked}
+use Rattle.qcow2_session.proofs.Marking.{answered_at_once, at_rest, memory_marks, none_answered, once_handed, refused_at_once, unchecked, unmarked}
 use Rattle.qcow2_alloc.specs.declared.error.ImageError.TheVariants.{Memory, OutdatedMapping}
 use Rattle.qcow2_image.proofs.Sizes.{sound_is_usable}
 use Rattle.qcow2_image.specs.Refusals.{unusable}
@@ -41,12 +41,6 @@ returns-in_err-read_mapped-clause-late g c = λ none.
     subst (λ r. IfErr r (λ e. IsMet e × (0 < c.args.length))) (sym (refused_is _ c.in_err-read_mapped.field-0.0 c.from_residual-in_err-read_mapped.ensures))
     (refused_some IsMet c.args.length (Err c.in_err-read_mapped.field-0.0) tt (c.in_err-read_mapped.ensures.late none) (λ empty. (c.in_err-read_mapped.ensures.nothing none (long ∙ empty)).0))
 
-pub returns-in_err-read_mapped-clause-marks : goal.returns-in_err-read_mapped-clause-marks
-returns-in_err-read_mapped-clause-marks g c = hands_on _ c.in_err-read_mapped.field-0.0 _ _ (refused_is _ c.in_err-read_mapped.field-0.0 c.from_residual-in_err-read_mapped.ensures) (refused_marks c.in_err-read_mapped.field-0.0 _ _ _ c.in_err-read_mapped.ensures.marks)
-
-pub returns-clause-marks : goal.returns-clause-marks
-returns-clause-marks g c = c.in_ok-read_mapped.ensures.marks
-
 pub returns-in_err-read_mapped-clause-outdated : goal.returns-in_err-read_mapped-clause-outdated
 returns-in_err-read_mapped-clause-outdated g c = λ out sound is.
     let long : length c.deref_mut.result.now ≡ c.args.length = grind (arith, common_steps) in
@@ -58,12 +52,6 @@ returns-clause-mapped g c = λ some out sound.
     let long : length c.deref_mut.result.now ≡ c.args.length = grind (arith, common_steps) in
     subst (λ n. IsFoundWhole g.S.Storage.view c.args.image.now (c.args.mapping.now.offset + c.args.at) (further_by c.args.at c.args.mapping.now.kind) n) long
     (c.in_ok-read_mapped.ensures.mapped (subst (λ n. 0 < n) (sym long) some) out sound)
-
-pub returns-in_err-check_read-clause-marks : goal.returns-in_err-check_read-clause-marks
-returns-in_err-check_read-clause-marks g c = hands_on _ c.in_err-check_read.field-0.0 _ _ (refused_is _ c.in_err-check_read.field-0.0 c.from_residual.ensures) (unmarked c.in_err-check_read.field-0.0 _ _ c.in_err-check_read.ensures.faults refl)
-
-pub returns-in_err-bytes-clause-marks : goal.returns-in_err-bytes-clause-marks
-returns-in_err-bytes-clause-marks g c = hands_on _ c.in_err-bytes.field-0.0 _ _ (refused_is _ c.in_err-bytes.field-0.0 c.from_residual-in_err-bytes.ensures) (memory_marks c.in_err-bytes.field-0.0 _ c.in_err-bytes.ensures.cause.0)
 
 pub returns-in_err-check_read-clause-outdated : goal.returns-in_err-check_read-clause-outdated
 returns-in_err-check_read-clause-outdated g c = λ out sound is. absurd (unchecked (unusable c.args.image.now) c.in_err-check_read.field-0.0 c.in_err-check_read.ensures.refusal (sound_is_usable g.S.Storage.view g.F.BackingDisk.backing c.args.image.now out sound))
@@ -105,3 +93,15 @@ pub returns-in_err-read_mapped-clause-met : goal.returns-in_err-read_mapped-clau
 returns-in_err-read_mapped-clause-met g c = λ none out sound.
     let long : length c.deref_mut.result.now ≡ c.args.length = grind (arith, common_steps) in
     subst (λ r. IfErr r (IsMetMapped (IsCacheHeld c.args.image.now out) (further_by c.args.at c.args.mapping.now.kind) (IsFoundWhole g.S.Storage.view c.args.image.now (c.args.mapping.now.offset + c.args.at) (further_by c.args.at c.args.mapping.now.kind) c.args.length))) (sym (refused_is _ c.in_err-read_mapped.field-0.0 c.from_residual-in_err-read_mapped.ensures)) ((rw long at c.in_err-read_mapped.ensures.met) none out sound)
+
+pub returns-in_err-read_mapped-clause-marks : goal.returns-in_err-read_mapped-clause-marks
+returns-in_err-read_mapped-clause-marks g c = once_handed g.S.Storage.view _ c.in_err-read_mapped.field-0.0 c.args.image.now c.read_mapped.new.self (refused_is _ c.in_err-read_mapped.field-0.0 c.from_residual-in_err-read_mapped.ensures) (refused_at_once g.S.Storage.view c.args.image.now c.read_mapped.new.self c.in_err-read_mapped.field-0.0 c.in_err-read_mapped.ensures.once_written c.in_err-read_mapped.ensures.marks)
+
+pub returns-clause-marks : goal.returns-clause-marks
+returns-clause-marks g c = answered_at_once g.S.Storage.view c.args.image.now c.read_mapped.new.self c.in_ok-read_mapped.ensures.once_written c.in_ok-read_mapped.ensures.marks
+
+pub returns-in_err-check_read-clause-marks : goal.returns-in_err-check_read-clause-marks
+returns-in_err-check_read-clause-marks g c = once_handed g.S.Storage.view _ c.in_err-check_read.field-0.0 c.args.image.now c.args.image.now (refused_is _ c.in_err-check_read.field-0.0 c.from_residual.ensures) (at_rest g.S.Storage.view (Some c.in_err-check_read.field-0.0) c.args.image.now (unmarked c.in_err-check_read.field-0.0 _ _ c.in_err-check_read.ensures.faults refl))
+
+pub returns-in_err-bytes-clause-marks : goal.returns-in_err-bytes-clause-marks
+returns-in_err-bytes-clause-marks g c = once_handed g.S.Storage.view _ c.in_err-bytes.field-0.0 c.args.image.now c.args.image.now (refused_is _ c.in_err-bytes.field-0.0 c.from_residual-in_err-bytes.ensures) (at_rest g.S.Storage.view (Some c.in_err-bytes.field-0.0) c.args.image.now (memory_marks c.in_err-bytes.field-0.0 _ c.in_err-bytes.ensures.cause.0))

@@ -1,3 +1,5 @@
+use Rattle.qcow2_image.proofs.Call.OnceWritten.{counts_on}
+use Rattle.qcow2_session.proofs.Marking.{in_parts, parts_answered, parts_behind, parts_beyond, parts_handed, refused_at_once}
 use Rattle.std.proofs.Common.{◌≡◌, ◌∙◌, ◌+◌, ◌++◌, Some, sym, subst, ap, [], take, drop, arith}
 use Rattle.std.proofs.lemmas.Grind.{common_steps}
 use Rattle.qcow2_disk.specs.Calls.{another}
@@ -14,7 +16,6 @@ use Rattle.qcow2_alloc.specs.declared.error.ImageError.TheVariants.{BeyondSize}
 use Rattle.qcow2_session.proofs.Causing.{mapping_reading, fits_below, then_none}
 use Rattle.qcow2_session.proofs.Parts.{mapping_usable}
 use Rattle.qcow2_image.proofs.Call.MetErrors.{tables_met}
-use Rattle.qcow2_session.proofs.Marking.{fails_behind, hands_on, refused_marks}
 use Rattle.qcow2_image.proofs.Call.BehindHeader.{behind_then}
 use Rattle.qcow2_alloc.proofs.KeptTables.AllWritten.{written_then}
 use Rattle.qcow2_image.proofs.Call.FaultCounts.{counted_on}
@@ -87,19 +88,6 @@ returns-in_err-read_mapped-clause-late g c = λ none some.
     subst (λ r. IfErr r IsMet) (sym (refused_is _ c.in_err-read_mapped.field-0.0 c.from_residual-in_err-read_mapped.ensures))
     (c.in_err-read_mapped.ensures.late (mapping_usable c.args.image.now c.get_mapping.new.self c.get_mapping.ensures.image c.in_ok-mapping.mapping.image c.in_ok-mapping.ensures.own.0 c.in_ok-mapping.ensures.marks first.0))
 
-pub returns-clause-marks : goal.returns-clause-marks
-returns-clause-marks g c = c.in_ok-read_mapped.ensures.marks ∙ c.in_ok-mapping.ensures.marks
-
-pub returns-in_err-mapping-clause-marks : goal.returns-in_err-mapping-clause-marks
-returns-in_err-mapping-clause-marks g c = hands_on _ c.in_err-mapping.field-0.0 _ _ (refused_is _ c.in_err-mapping.field-0.0 c.from_residual.ensures) (refused_marks c.in_err-mapping.field-0.0 _ _ _ c.in_err-mapping.ensures.marks)
-
-pub returns-then-count-eq0-clause-marks : goal.returns-then-count-eq0-clause-marks
-returns-then-count-eq0-clause-marks g c = c.in_ok-mapping.ensures.marks
-
-pub returns-in_err-read_mapped-clause-marks : goal.returns-in_err-read_mapped-clause-marks
-returns-in_err-read_mapped-clause-marks g c = hands_on _ c.in_err-read_mapped.field-0.0 _ _ (refused_is _ c.in_err-read_mapped.field-0.0 c.from_residual-in_err-read_mapped.ensures)
-    (fails_behind (Some c.in_err-read_mapped.field-0.0) _ _ _ c.in_ok-mapping.ensures.marks (refused_marks c.in_err-read_mapped.field-0.0 _ _ _ c.in_err-read_mapped.ensures.marks))
-
 pub returns-clause-header_cluster : goal.returns-clause-header_cluster
 returns-clause-header_cluster g c = behind_then c.get_mapping.ensures.header_cluster c.read_mapped.ensures.header_cluster
 
@@ -154,3 +142,20 @@ returns-in_err-read_mapped-clause-met g c = λ none some out sound.
     (reads_found view below out old mid sound still c.args.offset n n c.in_ok-mapping.found m.kind e some lies (c.get_mapping.ensures.known out sound) found
     (λ outdated. c.in_err-read_mapped.ensures.outdated out still (ap Err outdated) whole)
     (c.in_err-read_mapped.ensures.met usable out still))
+
+pub returns-in_err-mapping-clause-marks : goal.returns-in_err-mapping-clause-marks
+returns-in_err-mapping-clause-marks g c = parts_handed g.S.Storage.view _ c.in_err-mapping.field-0.0 c.args.image.now c.get_mapping.new.self (refused_is _ c.in_err-mapping.field-0.0 c.from_residual.ensures) (in_parts g.S.Storage.view (refused_at_once g.S.Storage.view c.args.image.now c.get_mapping.new.self c.in_err-mapping.field-0.0 c.in_err-mapping.ensures.once_written c.in_err-mapping.ensures.marks))
+
+pub returns-then-count-eq0-clause-marks : goal.returns-then-count-eq0-clause-marks
+returns-then-count-eq0-clause-marks g c = parts_beyond g.S.Storage.view c.args.image.now c.get_mapping.new.self c.in_ok-mapping.ensures.marks c.in_ok-mapping.ensures.once_written.counts
+
+pub returns-in_err-read_mapped-clause-marks : goal.returns-in_err-read_mapped-clause-marks
+returns-in_err-read_mapped-clause-marks g c =
+    parts_handed g.S.Storage.view _ c.in_err-read_mapped.field-0.0 c.args.image.now c.read_mapped.new.self (refused_is _ c.in_err-read_mapped.field-0.0 c.from_residual-in_err-read_mapped.ensures)
+    (parts_behind g.S.Storage.view (Some c.in_err-read_mapped.field-0.0) c.args.image.now c.get_mapping.new.self c.read_mapped.new.self c.in_ok-mapping.ensures.marks c.in_ok-mapping.ensures.once_written.counts
+    (in_parts g.S.Storage.view (refused_at_once g.S.Storage.view c.get_mapping.new.self c.read_mapped.new.self c.in_err-read_mapped.field-0.0 c.in_err-read_mapped.ensures.once_written c.in_err-read_mapped.ensures.marks)))
+
+pub returns-clause-marks : goal.returns-clause-marks
+returns-clause-marks g c =
+    parts_answered g.S.Storage.view c.args.image.now c.read_mapped.new.self (c.in_ok-read_mapped.ensures.marks ∙ c.in_ok-mapping.ensures.marks)
+    (counts_on g.S.Storage.view c.args.image.now c.get_mapping.new.self c.read_mapped.new.self c.in_ok-mapping.ensures.once_written.counts c.in_ok-read_mapped.ensures.once_written.counts)

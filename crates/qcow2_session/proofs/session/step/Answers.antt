@@ -1,4 +1,7 @@
-use Rattle.std.proofs.Common.{refl, ap, sym, subst, ◌∙◌}
+use Rattle.qcow2_session.proofs.Marking.{at_rest}
+use Rattle.qcow2_session.specs.CountedFaults.{refusal_in}
+use Rattle.qcow2_session.specs.Marks.{MarksBy}
+use Rattle.std.proofs.Common.{refl, ap, sym, subst, ◌∙◌, None, Some}
 use Rattle.qcow2_disk.proofs.RunSteps.{done_as, refused_as, none_as}
 use Rattle.qcow2_session.specs.Commands.{command_of}
 use Rattle.qcow2_session.specs.Sessions.{CommandSteps, mappings_in}
@@ -24,7 +27,7 @@ returns-in-Err-clause-command_step g c = λ x s stands founds. refused_as x _ _ 
 pub returns-in-Ok-write-clause-command_step : goal.returns-in-Ok-write-clause-command_step
 returns-in-Ok-write-clause-command_step g c = λ x s stands founds. done_as x _ _ s _ _ _ (ap command_of c.in-Write.is) stands (writes_answer g.S.Storage.view g.F.BackingDisk.backing c.args.image.now c.args.slots.now.prepared.items _ (λ e h. not_both h) _ _ (rw c.deref.ensures.value at c.in-Ok-write.ensures.early)) (rw c.deref.ensures.value at (c.in-Ok-write.ensures.sees c.args.slots.now.prepared.items)) (λ f. f) (λ _ _. refl)
     (λ sound. rightly_written g.S.Storage.view g.F.BackingDisk.backing c.write.new.image c.args.slots.now.prepared.items ((rw c.deref.ensures.value at (c.in-Ok-write.ensures.sees c.args.slots.now.prepared.items)).answer sound).0 _ _
-    (λ some. (rw c.deref.ensures.value at c.in-Ok-write.ensures.copied) some c.args.slots.now.prepared.items sound))
+    (λ some. ((rw c.deref.ensures.value at c.in-Ok-write.ensures.copied) some c.args.slots.now.prepared.items sound).range))
 
 pub returns-in-Err-write-clause-command_step : goal.returns-in-Err-write-clause-command_step
 returns-in-Err-write-clause-command_step g c = λ x s stands founds. refused_as x _ _ s _ _ _ _ (ap command_of c.in-Write.is) stands (write_refused_answer g.S.Storage.view g.F.BackingDisk.backing c.args.image.now c.args.slots.now.prepared.items _ _ _ _ _ (λ h. write_error_is h) (rw c.deref.ensures.value at c.in-Err-write.ensures.early) (rw c.deref.ensures.value at c.in-Err-write.ensures.within)) (rw c.deref.ensures.value at (c.in-Err-write.ensures.sees c.args.slots.now.prepared.items)) (λ f. f) (λ f. f) (λ _ _. refl) tt
@@ -206,7 +209,8 @@ returns-in-Err-clause-causes g c =
     (sym c.in-Read.is) (read_refused g.S.Storage.view g.F.BackingDisk.backing c.args.image.now c.read.new.image c.args.slots.now.prepared.items _ _ _ c.in-Err.ensures.early c.in-Err.ensures.late c.in-Err.ensures.met)
 
 pub returns-in-Ok-write-clause-causes : goal.returns-in-Ok-write-clause-causes
-returns-in-Ok-write-clause-causes g c = subst (λ q. IsRightlyRefused g.S.Storage.view g.F.BackingDisk.backing c.args.image.now c.write.new.image c.args.slots.now.prepared.items (mappings_in c.args.slots.now.mappings.items) q Done) (sym c.in-Write.is) (write_answered g.S.Storage.view g.F.BackingDisk.backing c.args.image.now c.write.new.image c.args.slots.now.prepared.items _ _ _ (rw c.deref.ensures.value at c.in-Ok-write.ensures.early))
+returns-in-Ok-write-clause-causes g c = subst (λ q. IsRightlyRefused g.S.Storage.view g.F.BackingDisk.backing c.args.image.now c.write.new.image c.args.slots.now.prepared.items (mappings_in c.args.slots.now.mappings.items) q Done) (sym c.in-Write.is) (write_answered g.S.Storage.view g.F.BackingDisk.backing c.args.image.now c.write.new.image c.args.slots.now.prepared.items _ _ _ (rw c.deref.ensures.value at c.in-Ok-write.ensures.early)
+    (λ none sound. (rw c.deref.ensures.value at c.in-Ok-write.ensures.taken_part) none c.args.slots.now.prepared.items sound))
 
 pub returns-in-Err-write-clause-causes : goal.returns-in-Err-write-clause-causes
 returns-in-Err-write-clause-causes g c = subst (λ q. IsRightlyRefused g.S.Storage.view g.F.BackingDisk.backing c.args.image.now c.write.new.image c.args.slots.now.prepared.items (mappings_in c.args.slots.now.mappings.items) q (WriteRefused c.in-Err-write.refusal c.in-Err-write.done)) (sym c.in-Write.is)
@@ -383,3 +387,63 @@ returns-in-ResizeGrow-clause-quiet g c = λ reading existing. quiet_left g.S.Sto
 
 pub returns-in-ResizeShrink-clause-quiet : goal.returns-in-ResizeShrink-clause-quiet
 returns-in-ResizeShrink-clause-quiet g c = λ reading existing. quiet_left g.S.Storage.view c.args.image.now c.shrink.new.image c.args.slots.now.prepared.items (c.shrink.ensures.reading reading) reading existing
+
+pub returns-in-Ok-clause-marks : goal.returns-in-Ok-clause-marks
+returns-in-Ok-clause-marks g c = subst (λ q. MarksBy g.S.Storage.view c.args.image.now c.read.new.image q (None)) (sym c.in-Read.is) c.in-Ok.ensures.marks
+
+pub returns-in-Err-clause-marks : goal.returns-in-Err-clause-marks
+returns-in-Err-clause-marks g c = subst (λ q. MarksBy g.S.Storage.view c.args.image.now c.read.new.image q (Some c.in-Err.refusal)) (sym c.in-Read.is) c.in-Err.ensures.marks
+
+pub returns-in-Ok-write-clause-marks : goal.returns-in-Ok-write-clause-marks
+returns-in-Ok-write-clause-marks g c = subst (λ q. MarksBy g.S.Storage.view c.args.image.now c.write.new.image q (None)) (sym c.in-Write.is) c.in-Ok-write.ensures.marks
+
+pub returns-in-Err-write-clause-marks : goal.returns-in-Err-write-clause-marks
+returns-in-Err-write-clause-marks g c = subst (λ q. MarksBy g.S.Storage.view c.args.image.now c.write.new.image q (Some c.in-Err-write.refusal)) (sym c.in-Write.is) c.in-Err-write.ensures.marks
+
+pub returns-in-GetMapping-clause-marks : goal.returns-in-GetMapping-clause-marks
+returns-in-GetMapping-clause-marks g c = subst (λ q. MarksBy g.S.Storage.view c.args.image.now c.get_mapping.new.image q (refusal_in c.get_mapping.result)) (sym c.in-GetMapping.is) c.get_mapping.ensures.marks
+
+pub returns-in-ReadMapped-clause-marks : goal.returns-in-ReadMapped-clause-marks
+returns-in-ReadMapped-clause-marks g c = subst (λ q. MarksBy g.S.Storage.view c.args.image.now c.read_mapped.new.image q (refusal_in c.read_mapped.result)) (sym c.in-ReadMapped.is) c.read_mapped.ensures.marks
+
+pub returns-in-PrepareDataMapping-clause-marks : goal.returns-in-PrepareDataMapping-clause-marks
+returns-in-PrepareDataMapping-clause-marks g c = subst (λ q. MarksBy g.S.Storage.view c.args.image.now c.prepare.new.image q (refusal_in c.prepare.result)) (sym c.in-PrepareDataMapping.is) c.prepare.ensures.marks
+
+pub returns-in-WriteMapped-clause-marks : goal.returns-in-WriteMapped-clause-marks
+returns-in-WriteMapped-clause-marks g c = subst (λ q. MarksBy g.S.Storage.view c.args.image.now c.write_mapped.new.image q (refusal_in c.write_mapped.result)) (sym c.in-WriteMapped.is) c.write_mapped.ensures.marks
+
+pub returns-in-CommitDataMapping-clause-marks : goal.returns-in-CommitDataMapping-clause-marks
+returns-in-CommitDataMapping-clause-marks g c = subst (λ q. MarksBy g.S.Storage.view c.args.image.now c.commit.new.image q (refusal_in c.commit.result)) (sym c.in-CommitDataMapping.is) c.commit.ensures.marks
+
+pub returns-in-DiscardDataMapping-clause-marks : goal.returns-in-DiscardDataMapping-clause-marks
+returns-in-DiscardDataMapping-clause-marks g c = subst (λ q. MarksBy g.S.Storage.view c.args.image.now c.discard.new.image q (refusal_in c.discard.result)) (sym c.in-DiscardDataMapping.is) c.discard.ensures.marks
+
+pub returns-in-EnsureZeroMapping-clause-marks : goal.returns-in-EnsureZeroMapping-clause-marks
+returns-in-EnsureZeroMapping-clause-marks g c = subst (λ q. MarksBy g.S.Storage.view c.args.image.now c.ensure_zero.new.image q (refusal_in c.ensure_zero.result)) (sym c.in-EnsureZeroMapping.is) c.ensure_zero.ensures.marks
+
+pub returns-in-DiscardToZero-clause-marks : goal.returns-in-DiscardToZero-clause-marks
+returns-in-DiscardToZero-clause-marks g c = subst (λ q. MarksBy g.S.Storage.view c.args.image.now c.discard_to_zero.new.image q (refusal_in c.discard_to_zero.result)) (sym c.in-DiscardToZero.is) c.discard_to_zero.ensures.marks
+
+pub returns-in-DiscardToAny-clause-marks : goal.returns-in-DiscardToAny-clause-marks
+returns-in-DiscardToAny-clause-marks g c = subst (λ q. MarksBy g.S.Storage.view c.args.image.now c.discard_to_any.new.image q (refusal_in c.discard_to_any.result)) (sym c.in-DiscardToAny.is) c.discard_to_any.ensures.marks
+
+pub returns-in-DiscardToBacking-clause-marks : goal.returns-in-DiscardToBacking-clause-marks
+returns-in-DiscardToBacking-clause-marks g c = subst (λ q. MarksBy g.S.Storage.view c.args.image.now c.discard_to_backing.new.image q (refusal_in c.discard_to_backing.result)) (sym c.in-DiscardToBacking.is) c.discard_to_backing.ensures.marks
+
+pub returns-in-ReadvSpecial-clause-marks : goal.returns-in-ReadvSpecial-clause-marks
+returns-in-ReadvSpecial-clause-marks g c = subst (λ q. MarksBy g.S.Storage.view c.args.image.now c.readv_special.new.image q (refusal_in c.readv_special.result)) (sym c.in-ReadvSpecial.is) c.readv_special.ensures.marks
+
+pub returns-in-TryReadvSpecial-clause-marks : goal.returns-in-TryReadvSpecial-clause-marks
+returns-in-TryReadvSpecial-clause-marks g c = subst (λ q. MarksBy g.S.Storage.view c.args.image.now c.try_readv_special.new.image q (refusal_in c.try_readv_special.result)) (sym c.in-TryReadvSpecial.is) c.try_readv_special.ensures.marks
+
+pub returns-in-Flush-clause-marks : goal.returns-in-Flush-clause-marks
+returns-in-Flush-clause-marks g c = subst (λ q. MarksBy g.S.Storage.view c.args.image.now c.flush.new.image q (refusal_in c.flush.result)) (sym c.in-Flush.is) c.flush.ensures.marks
+
+pub returns-in-ResizeGrow-clause-marks : goal.returns-in-ResizeGrow-clause-marks
+returns-in-ResizeGrow-clause-marks g c = subst (λ q. MarksBy g.S.Storage.view c.args.image.now c.grow.new.image q (refusal_in c.grow.result)) (sym c.in-ResizeGrow.is) c.grow.ensures.marks
+
+pub returns-in-ResizeShrink-clause-marks : goal.returns-in-ResizeShrink-clause-marks
+returns-in-ResizeShrink-clause-marks g c = subst (λ q. MarksBy g.S.Storage.view c.args.image.now c.shrink.new.image q (refusal_in c.shrink.result)) (sym c.in-ResizeShrink.is) c.shrink.ensures.marks
+
+pub returns-in-Size-clause-marks : goal.returns-in-Size-clause-marks
+returns-in-Size-clause-marks g c = subst (λ q. MarksBy g.S.Storage.view c.args.image.now c.args.image.now q (None)) (sym c.in-Size.is) (at_rest g.S.Storage.view None c.args.image.now refl)

@@ -1,3 +1,5 @@
+use Rattle.qcow2_image.proofs.Call.OnceWritten.{counts_on}
+use Rattle.qcow2_session.proofs.Marking.{parts_answered, parts_behind, parts_beyond}
 use Rattle.qcow2_session.proofs.session.write.Goals as goal
 use Rattle.std.proofs.Common.{◌≡◌, ℕ, ◌∙◌, subst, take, drop, length, ◌<◌, ap, arith, ◌+◌, ◌≤◌, refl, ◌%◌, ◌-◌}
 use Rattle.std.specs.Prelude.{IfSome, Option, Some, None, Result, Err, Ok}
@@ -9,8 +11,9 @@ use Rattle.qcow2_disk.specs.AbstractImages.{Setting, guest_of}
 use Rattle.qcow2_image.specs.ImageInvariant.{abstract_of}
 use Rattle.qcow2_image.specs.Calls.{refusal_of}
 use Rattle.qcow2_session.proofs.Writing.{ends_on, write_refused}
-use Rattle.qcow2_session.proofs.WrittenParts.{first_given, no_more_then, stops_behind, stops_first, writes_on}
-use Rattle.qcow2_session.specs.Sessions.{Writes, cluster_size_of}
+use Rattle.qcow2_session.proofs.Heeding.{heeded_first, heeded_more}
+use Rattle.qcow2_session.proofs.WrittenParts.{first_given, never_first, no_more_then, stops_behind, stops_first, writes_on}
+use Rattle.qcow2_session.specs.Sessions.{LeavesCopied, Writes, cluster_size_of}
 use Rattle.qcow2_image.specs.L1Entries.{NeedsFarEntry}
 use Rattle.qcow2_image.specs.LackedPlaces.{LacksPlaceFor}
 use Rattle.qcow2_image.specs.Preparing.{IsTaken}
@@ -21,10 +24,8 @@ use Rattle.qcow2_session.proofs.Told.{same_then}
 use Rattle.qcow2_image.proofs.Map.Unmodified.{read_then}
 use Rattle.qcow2_image.proofs.Call.FaultCounts.{faults_then}
 use Rattle.qcow2_session.proofs.Parts.{not_failed_yet, part_prepares, part_under, prepares_usable, under_taken}
-use Rattle.qcow2_session.proofs.Marking.{fails_behind}
 use Rattle.qcow2_image.proofs.Call.BehindHeader.{behind_then}
 use Rattle.qcow2_alloc.proofs.KeptTables.AllWritten.{written_then}
-use Rattle.qcow2_image.specs.CallParts.{AreCopied}
 use Rattle.qcow2_session.proofs.Copied.{copied_on}
 use Rattle.qcow2_alloc.specs.ImageFile.{known_in}
 use Rattle.qcow2_session.proofs.MetOnSound.{compressed_in_part}
@@ -39,7 +40,9 @@ loop-done-preserved g c = record {
   behind = behind_then c.loop-done.invariant.behind c.write_some-in-loop-done.ensures.header_cluster;
   faults = faults_then g.S.Storage.view g.F.BackingDisk.backing c.args.image.now c.loop-done.image c.write_some-in-loop-done.new.image c.loop-done.invariant.faults c.in-Ok-write_some.ensures.faults.told;
   works = c.in-Ok-write_some.ensures.end.0 ∙ c.loop-done.invariant.works;
+  counts = counts_on g.S.Storage.view c.args.image.now c.loop-done.image c.write_some-in-loop-done.new.image c.loop-done.invariant.counts c.in-Ok-write_some.ensures.marks.counts;
   within = grind (arith, common_steps);
+  some_done = λ some. let first = c.loop-done.invariant.some_done some in omega (arith, first);
   image = same_then c.loop-done.invariant.image c.write_some-in-loop-done.ensures.image;
   no_longer = λ some out sound.
       let so_far = c.loop-done.invariant.written out in
@@ -63,9 +66,23 @@ loop-done-preserved g c = record {
       let still = ((c.loop-done.invariant.written out).answer sound).0 in
       let more : 0 < length (drop c.loop-done.done c.args.bytes.now) = grind (arith, common_steps) in
       let part = rw (take_rest c.args.bytes.now c.loop-done.done) at (c.in-Ok-write_some.ensures.sees out) in
-      copied_on view below c.loop-done.image c.write_some-in-loop-done.new.image out still (part.answer still).0 c.args.offset c.in-Some.at c.loop-done.done c.in-Ok-write_some.count (take c.in-Ok-write_some.count (drop c.loop-done.done c.args.bytes.now)) c.in-Some.ensures.1
-      (part.acts.works still) (c.loop-done.invariant.copied some out sound) ((rw (take_rest c.args.bytes.now c.loop-done.done) at (c.in-Ok-write_some.ensures.copied)) more out still);
+      copied_on view below c.args.image.now c.loop-done.image c.write_some-in-loop-done.new.image out still (part.answer still).0 c.args.offset c.in-Some.at c.loop-done.done c.in-Ok-write_some.count c.args.bytes.now c.loop-done.invariant.within c.in-Some.ensures.1
+      c.loop-done.invariant.written (c.loop-done.invariant.some_done some) (part.acts.works still) (c.loop-done.invariant.copied some out sound) ((rw (take_rest c.args.bytes.now c.loop-done.done) at (c.in-Ok-write_some.ensures.copied)) more out still);
   end = c.loop-done.invariant.end;
+  heeded = λ none out sound.
+      let view = g.S.Storage.view in
+      let below = g.F.BackingDisk.backing in
+      let old = c.args.image.now in
+      let mid = c.loop-done.image in
+      let n = length c.args.bytes.now in
+      let rest = length (drop c.loop-done.done c.args.bytes.now) in
+      let so_far = c.loop-done.invariant.written out in
+      let still = (so_far.answer sound).0 in
+      let heeds = (rw (take_rest c.args.bytes.now c.loop-done.done) at c.in-Ok-write_some.ensures.taken)
+      (part_prepares old mid c.loop-done.invariant.image c.args.offset n c.in-Some.at rest (grind (arith, common_steps)) (grind (arith, common_steps)) still.works (omega (arith, c.loop-done-test.true)) none) out still in
+      heeded_more view below old out c.args.offset c.args.bytes.now c.loop-done.done c.in-Ok-write_some.count c.in-Some.at mid c.in-Some.ensures.1 (ap (λ (x : Setting). x.cluster_size) (so_far.acts.works sound).setting) c.loop-done.invariant.written
+      (never_first c.loop-done.done (c.loop-done.invariant.some_done (omega (arith, c.loop-done-test.true))))
+      (grind (arith, common_steps)) heeds (c.loop-done.invariant.heeded none out sound);
   freeing = λ out sound. no_more_then c.args.image.now c.loop-done.image c.write_some-in-loop-done.new.image (c.loop-done.invariant.freeing out sound) (c.in-Ok-write_some.ensures.freeing out ((c.loop-done.invariant.written out).answer sound).0);
   written = λ out. writes_on c.args.offset c.in-Some.at c.loop-done.done c.in-Ok-write_some.count c.args.bytes.now c.loop-done.invariant.within c.in-Some.ensures.1
       (abstract_of g.S.Storage.view g.F.BackingDisk.backing c.args.image.now out) (abstract_of g.S.Storage.view g.F.BackingDisk.backing c.loop-done.image out) (abstract_of g.S.Storage.view g.F.BackingDisk.backing c.write_some-in-loop-done.new.image out)
@@ -149,18 +166,6 @@ returns-in-Err-write_some-clause-taken g c = λ none out sound is.
     (part_prepares old mid c.loop-done.invariant.image c.args.offset n c.in-Some.at rest (grind (arith, common_steps)) (grind (arith, common_steps)) still.works (omega (arith, c.loop-done-test.true)) none) out still is in
     part_under old.file.header.fields mid.file.header.fields (ap (λ (x : Setting). x.cluster_size) (so_far.acts.works sound).setting) c.args.offset (c.args.offset + n) c.in-Some.at out (grind (arith, common_steps)) (omega (arith, under.0, long)) (under_taken under.1)
 
-pub returns-in_default-clause-marks : goal.returns-in_default-clause-marks
-returns-in_default-clause-marks g c = c.loop-done.invariant.works
-
-pub returns-in-Err-write_some-clause-marks : goal.returns-in-Err-write_some-clause-marks
-returns-in-Err-write_some-clause-marks g c = fails_behind (Some c.in-Err-write_some.refusal) _ _ _ c.loop-done.invariant.works c.in-Err-write_some.ensures.marks
-
-pub returns-clause-marks : goal.returns-clause-marks
-returns-clause-marks g c = c.loop-done.invariant.works
-
-pub returns-in-Err-clause-marks : goal.returns-in-Err-clause-marks
-returns-in-Err-clause-marks g c = c.in-Err.ensures.marks
-
 pub returns-in-Err-write_some-clause-header_cluster : goal.returns-in-Err-write_some-clause-header_cluster
 returns-in-Err-write_some-clause-header_cluster g c = behind_then c.loop-done.invariant.behind c.write_some-in-loop-done.ensures.header_cluster
 
@@ -169,8 +174,8 @@ returns-in-Err-write_some-clause-quiet g c = λ reading. written_then g.S.Storag
 
 pub returns-clause-copied : goal.returns-clause-copied
 returns-clause-copied g c = λ some out sound.
-    let all : c.args.offset + c.loop-done.done ≡ c.args.offset + length c.args.bytes.now = grind (arith, common_steps) in
-    subst (λ k. AreCopied g.S.Storage.view c.args.offset k c.loop-done.image) all (c.loop-done.invariant.copied some out sound)
+    let all : c.loop-done.done ≡ length c.args.bytes.now = omega (arith, c.loop-done.invariant.within, c.loop-done-test.false) in
+    subst (λ k. LeavesCopied g.S.Storage.view g.F.BackingDisk.backing c.args.image.now c.loop-done.image c.args.offset c.args.bytes.now k) all (c.loop-done.invariant.copied some out sound)
 
 pub returns-in-Err-clause-met : goal.returns-in-Err-clause-met
 returns-in-Err-clause-met g c = λ none out sound.
@@ -201,7 +206,7 @@ returns-in-Err-write_some-clause-met g c =
     let same : cluster_size_of new ≡ cluster_size_of old = ap (λ (x : Setting). x.cluster_size) ((part.acts.works still).setting ∙ (so_far.acts.works sound).setting) in
     let begins : c.in-Some.at % cluster_size_of new ≡ 0 = ap (λ size. c.in-Some.at % size) same ∙ ap (λ o. o % cluster_size_of old) c.in-Some.ensures.1 ∙ c.loop-done.invariant.ends out sound c.loop-done-test.true in
     taking_kept (compressed_in_part new.file.header.fields (known_in view new.file) c.args.offset n done c.in-Some.at rest c.in-Some.ensures.1 long begins)
-    (λ far. stops_behind view below old (λ at k before. NeedsFarEntry before at) c.args.offset c.args.bytes.now done c.in-Some.at mid c.in-Some.ensures.1 c.loop-done.invariant.written far) c.in-Err-write_some.refusal (returns-in-Err-write_some-clause-taken g c none out sound)
+    (λ far. stops_behind view below old (λ at k before. NeedsFarEntry before at) c.args.offset c.args.bytes.now done c.in-Some.at mid c.in-Some.ensures.1 c.loop-done.invariant.written (never_first c.loop-done.done (c.loop-done.invariant.some_done some)) far) c.in-Err-write_some.refusal (returns-in-Err-write_some-clause-taken g c none out sound)
     ((rw (take_rest c.args.bytes.now done) at c.in-Err-write_some.ensures.met)
     (part_prepares old mid c.loop-done.invariant.image c.args.offset n c.in-Some.at rest from upto still.works some none) out still)
 
@@ -221,10 +226,13 @@ loop-done-init g c = record {
   faults = c.in-Ok.ensures.faults.told;
   behind = c.write_some.ensures.header_cluster;
   works = c.in-Ok.ensures.end.0;
+  counts = c.in-Ok.ensures.marks.counts;
   within = c.in-Ok.ensures.within;
+  some_done = λ some. c.in-Ok.ensures.some some;
   image = c.write_some.ensures.image;
   ends = λ out sound more. c.in-Ok.ensures.ends out sound more;
   end = c.in-Ok.ensures.end.1;
+  heeded = λ none out sound. heeded_first g.S.Storage.view g.F.BackingDisk.backing c.args.image.now out c.args.offset c.args.bytes.now c.in-Ok.count c.in-Ok.ensures.within (c.in-Ok.ensures.taken none out sound);
   copied = λ some out sound. c.in-Ok.ensures.copied some out sound;
   no_longer = λ some out sound.
       no_longer_within c.args.image.now.file.header.fields c.write_some.new.image.file.header.fields c.args.offset (c.args.offset + length c.args.bytes.now - 1) (omega (arith, some)) (c.write_some.ensures.no_longer out sound);
@@ -245,15 +253,17 @@ returns-in-Err-clause-limit g c = λ none out sound is.
     stops_first view g.F.BackingDisk.backing c.args.image.now (λ at n before. LacksPlaceFor view at n before c.write_some.new.image) c.args.offset c.args.bytes.now (c.in-Err.ensures.limit none out sound is)
 
 pub returns-in-Err-clause-taken_part : goal.returns-in-Err-clause-taken_part
-returns-in-Err-clause-taken_part g c = λ none out sound is.
-    let view = g.S.Storage.view in
-    stops_first view g.F.BackingDisk.backing c.args.image.now (λ at n before. IsTaken before.file.header.fields (known_in view before.file) at n out) c.args.offset c.args.bytes.now (c.in-Err.ensures.taken none out sound is).1
+returns-in-Err-clause-taken_part g c = λ none out sound.
+    let view = g.S.Storage.view in (
+      λ is. stops_first view g.F.BackingDisk.backing c.args.image.now (λ at n before. IsTaken before.file.header.fields (known_in view before.file) at n out) c.args.offset c.args.bytes.now (c.in-Err.ensures.taken none out sound is).1,
+      λ i lt. absurd (omega (arith, lt)),
+    )
 
 pub returns-in_default-clause-limit : goal.returns-in_default-clause-limit
 returns-in_default-clause-limit g c = λ none out sound is. absurd (c.in_default.ensures (omega (arith, c.loop-done.invariant.end, c.loop-done-test.true)))
 
 pub returns-in_default-clause-taken_part : goal.returns-in_default-clause-taken_part
-returns-in_default-clause-taken_part g c = λ none out sound is. absurd (c.in_default.ensures (omega (arith, c.loop-done.invariant.end, c.loop-done-test.true)))
+returns-in_default-clause-taken_part g c = λ none out sound. absurd (c.in_default.ensures (omega (arith, c.loop-done.invariant.end, c.loop-done-test.true)))
 
 pub returns-in-Err-write_some-clause-limit : goal.returns-in-Err-write_some-clause-limit
 returns-in-Err-write_some-clause-limit g c = λ none out sound is.
@@ -265,17 +275,36 @@ returns-in-Err-write_some-clause-limit g c = λ none out sound is.
     let rest = length (drop c.loop-done.done c.args.bytes.now) in
     let still = ((c.loop-done.invariant.written out).answer sound).0 in
     stops_behind view g.F.BackingDisk.backing old (λ at k before. LacksPlaceFor view at k before new) c.args.offset c.args.bytes.now c.loop-done.done c.in-Some.at mid c.in-Some.ensures.1 c.loop-done.invariant.written
+    (never_first c.loop-done.done (c.loop-done.invariant.some_done (omega (arith, c.loop-done-test.true))))
     ((rw (take_rest c.args.bytes.now c.loop-done.done) at c.in-Err-write_some.ensures.limit)
     (part_prepares old mid c.loop-done.invariant.image c.args.offset n c.in-Some.at rest (grind (arith, common_steps)) (grind (arith, common_steps)) still.works (omega (arith, c.loop-done-test.true)) none) out still is)
 
 pub returns-in-Err-write_some-clause-taken_part : goal.returns-in-Err-write_some-clause-taken_part
-returns-in-Err-write_some-clause-taken_part g c = λ none out sound is.
+returns-in-Err-write_some-clause-taken_part g c = λ none out sound.
     let view = g.S.Storage.view in
     let old = c.args.image.now in
     let mid = c.loop-done.image in
     let n = length c.args.bytes.now in
     let rest = length (drop c.loop-done.done c.args.bytes.now) in
-    let still = ((c.loop-done.invariant.written out).answer sound).0 in
-    stops_behind view g.F.BackingDisk.backing old (λ at k before. IsTaken before.file.header.fields (known_in view before.file) at k out) c.args.offset c.args.bytes.now c.loop-done.done c.in-Some.at mid c.in-Some.ensures.1 c.loop-done.invariant.written
-    ((rw (take_rest c.args.bytes.now c.loop-done.done) at c.in-Err-write_some.ensures.taken)
-    (part_prepares old mid c.loop-done.invariant.image c.args.offset n c.in-Some.at rest (grind (arith, common_steps)) (grind (arith, common_steps)) still.works (omega (arith, c.loop-done-test.true)) none) out still is).1
+    let still = ((c.loop-done.invariant.written out).answer sound).0 in (
+      λ is. stops_behind view g.F.BackingDisk.backing old (λ at k before. IsTaken before.file.header.fields (known_in view before.file) at k out) c.args.offset c.args.bytes.now c.loop-done.done c.in-Some.at mid c.in-Some.ensures.1 c.loop-done.invariant.written
+          (never_first c.loop-done.done (c.loop-done.invariant.some_done (omega (arith, c.loop-done-test.true))))
+          ((rw (take_rest c.args.bytes.now c.loop-done.done) at c.in-Err-write_some.ensures.taken)
+          (part_prepares old mid c.loop-done.invariant.image c.args.offset n c.in-Some.at rest (grind (arith, common_steps)) (grind (arith, common_steps)) still.works (omega (arith, c.loop-done-test.true)) none) out still is).1,
+      λ i lt. c.loop-done.invariant.heeded none out sound i lt,
+    )
+
+pub returns-in_default-clause-marks : goal.returns-in_default-clause-marks
+returns-in_default-clause-marks g c = parts_beyond g.S.Storage.view c.args.image.now c.loop-done.image c.loop-done.invariant.works c.loop-done.invariant.counts
+
+pub returns-in-Err-write_some-clause-marks : goal.returns-in-Err-write_some-clause-marks
+returns-in-Err-write_some-clause-marks g c = parts_behind g.S.Storage.view (Some c.in-Err-write_some.refusal) c.args.image.now c.loop-done.image c.write_some-in-loop-done.new.image c.loop-done.invariant.works c.loop-done.invariant.counts c.in-Err-write_some.ensures.marks
+
+pub returns-clause-marks : goal.returns-clause-marks
+returns-clause-marks g c = parts_answered g.S.Storage.view c.args.image.now c.loop-done.image c.loop-done.invariant.works c.loop-done.invariant.counts
+
+pub returns-in-Err-clause-marks : goal.returns-in-Err-clause-marks
+returns-in-Err-clause-marks g c = c.in-Err.ensures.marks
+
+pub returns-clause-taken_part : goal.returns-clause-taken_part
+returns-clause-taken_part g c = λ none out sound i lt. c.loop-done.invariant.heeded none out sound i (omega (arith, lt, c.loop-done-test.false))

@@ -1,17 +1,18 @@
 use Rattle.qcow2_session.proofs.session.write.Given as goal
-use Rattle.std.proofs.Common.{◌≡◌, ◌+◌, ◌-◌, ◌^◌, ◌<◌, ◌≤◌, length, [], ◌∷◌, take, List}
-use Rattle.std.specs.Prelude.{Option}
+use Rattle.std.proofs.Common.{◌≡◌, ◌+◌, ◌-◌, ◌^◌, ◌<◌, ◌≤◌, length, [], ◌∷◌, take, List, ℕ}
+use Rattle.std.specs.Prelude.{Option, None}
 use Rattle.qcow2_disk.specs.Calls.{AnsweredEffect, with_disk}
 use Rattle.qcow2_disk.specs.Disk.{with_bytes}
 use Rattle.qcow2_disk.specs.Mappings.{given_of}
 use Rattle.qcow2_disk.specs.AbstractImages.{guest_of}
 use Rattle.qcow2_image.specs.BehindHeader.{StaysBehindHeader}
-use Rattle.qcow2_image.specs.CallParts.{AreCopied}
 use Rattle.qcow2_image.specs.Image.{IsSameImage, is_failed}
 use Rattle.qcow2_image.specs.ImageInvariant.{abstract_of}
 use Rattle.qcow2_image.specs.ListedClusters.{ListsNoMore}
+use Rattle.qcow2_image.specs.Refusals.{refuses_to_prepare}
+use Rattle.qcow2_image.specs.Noted.{CountsImageChanges}
 use Rattle.qcow2_image.specs.declared.prepared.Prepared.{Prepared}
-use Rattle.qcow2_session.specs.Sessions.{EndsCluster}
+use Rattle.qcow2_session.specs.Sessions.{EndsCluster, LeavesCopied, IsHeededAt}
 use Rattle.qcow2_session.specs.Told.{StaysQuiet, StaysUnwritten}
 use Rattle.qcow2_image.specs.Faults.{SameFaults}
 use Rattle.qcow2_image.specs.L1Entries.{IsNoLonger}
@@ -21,11 +22,15 @@ invariant-loop-done g l = record {
   faults : SameFaults g.S.Storage.view g.F.BackingDisk.backing l.fn.image l.image;
   behind : StaysBehindHeader g.S.Storage.view l.fn.image l.image;
   works : is_failed l.image ≡ is_failed l.fn.image;
+  counts : CountsImageChanges g.S.Storage.view l.fn.image l.image;
   within : l.done ≤ length l.bytes;
+  some_done : 0 < length l.bytes → 0 < l.done;
   image : IsSameImage l.fn.image l.image;
   ends : (out : List (Option Prepared)) → (abstract_of g.S.Storage.view g.F.BackingDisk.backing l.fn.image out).is_sound → l.done < length l.bytes → EndsCluster l.fn.image (l.fn.offset + l.done);
   end : l.fn.offset + length l.bytes < 2 ^ 64;
-  copied : 0 < length l.bytes → (out : List (Option Prepared)) → (abstract_of g.S.Storage.view g.F.BackingDisk.backing l.fn.image out).is_sound → AreCopied g.S.Storage.view l.fn.offset (l.fn.offset + l.done) l.image;
+  heeded : refuses_to_prepare l.fn.image l.fn.offset (length l.bytes) ≡ None → (out : List (Option Prepared)) → (abstract_of g.S.Storage.view g.F.BackingDisk.backing l.fn.image out).is_sound
+      → (i : ℕ) → i < l.done → IsHeededAt g.S.Storage.view g.F.BackingDisk.backing l.fn.image out l.fn.offset l.bytes i;
+  copied : 0 < length l.bytes → (out : List (Option Prepared)) → (abstract_of g.S.Storage.view g.F.BackingDisk.backing l.fn.image out).is_sound → LeavesCopied g.S.Storage.view g.F.BackingDisk.backing l.fn.image l.image l.fn.offset l.bytes l.done;
   no_longer : 0 < length l.bytes → (out : List (Option Prepared)) → (abstract_of g.S.Storage.view g.F.BackingDisk.backing l.fn.image out).is_sound → IsNoLonger (l.fn.offset + length l.bytes - 1) l.fn.image.file.header.fields l.image.file.header.fields;
   quiet : StaysQuiet g.S.Storage.view l.fn.image l.image;
   freeing : (out : List (Option Prepared)) → (abstract_of g.S.Storage.view g.F.BackingDisk.backing l.fn.image out).is_sound → ListsNoMore l.fn.image l.image;

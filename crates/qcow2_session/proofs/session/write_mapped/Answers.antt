@@ -1,3 +1,4 @@
+use Rattle.qcow2_session.proofs.Marking.{answered_at_once, at_rest, refused_at_once}
 use Rattle.std.proofs.Common.{refl, length, arith}
 use Rattle.qcow2_disk.proofs.RunSteps.{done_as, refused_as, none_as}
 use Rattle.qcow2_image.specs.ImageInvariant.{image_abstraction}
@@ -19,7 +20,6 @@ use Rattle.qcow2_image.specs.Prepared.{length_of, table_of}
 use Rattle.qcow2_image.specs.declared.prepared.Prepared.{Prepared}
 use Rattle.qcow2_image.specs.Refusals.{unusable}
 use Rattle.qcow2_session.proofs.Causing.{begun_with, is_answered, is_misused, is_refused, none_of, not_free, own_mapping, put_reads, put_writes, same_error, same_mapping, some_error, then_early, then_none}
-use Rattle.qcow2_session.proofs.Marking.{refused_marks}
 use Rattle.qcow2_image.proofs.Call.BehindHeader.{behind_none}
 use Rattle.qcow2_session.proofs.session.write_mapped.Goals as goal
 use Rattle.qcow2_session.proofs.session.write_mapped.Goals.{then-at-length-via-then-at-length, then-at-length-via-else-at-length+then-len-length}
@@ -117,11 +117,20 @@ returns-in-Err-clause-causes g c =
           ],
     ))
 
-pub returns-in-Err-clause-marks : goal.returns-in-Err-clause-marks
-returns-in-Err-clause-marks g c = refused_marks c.in-Err.refusal _ _ _ c.in-Err.ensures.marks
-
 pub returns-in_default-clause-header_cluster : goal.returns-in_default-clause-header_cluster
 returns-in_default-clause-header_cluster g c = behind_none
 
 pub returns-then-at-length-clause-header_cluster : goal.returns-then-at-length-clause-header_cluster
 returns-then-at-length-clause-header_cluster g c = behind_none
+
+pub returns-in_default-clause-marks : goal.returns-in_default-clause-marks
+returns-in_default-clause-marks g c = at_rest g.S.Storage.view None c.args.image.now refl
+
+pub returns-then-at-length-clause-marks : goal.returns-then-at-length-clause-marks
+returns-then-at-length-clause-marks g c = at_rest g.S.Storage.view None c.args.image.now refl
+
+pub returns-in-Err-clause-marks : goal.returns-in-Err-clause-marks
+returns-in-Err-clause-marks g c = refused_at_once g.S.Storage.view c.args.image.now c.write_mapped.new.self c.in-Err.refusal c.in-Err.ensures.once_written c.in-Err.ensures.marks
+
+pub returns-in-Ok-clause-marks : goal.returns-in-Ok-clause-marks
+returns-in-Ok-clause-marks g c = answered_at_once g.S.Storage.view c.args.image.now c.write_mapped.new.self c.in-Ok.ensures.once_written c.in-Ok.ensures.marks

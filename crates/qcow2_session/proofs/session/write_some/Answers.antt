@@ -1,3 +1,6 @@
+use Rattle.qcow2_session.specs.Marks.{MarksAtOnce}
+use Rattle.qcow2_image.proofs.Call.OnceWritten.{counts_on, counts_released}
+use Rattle.qcow2_session.proofs.Marking.{commit_at_once, in_parts, parts_answered, parts_before, parts_behind, parts_handed, refused_at_once}
 use Rattle.qcow2_image.specs.Clearing.{IsUnderMapping}
 use Rattle.qcow2_session.proofs.session.write_some.Goals as goal
 use Rattle.std.proofs.Common.{◌≡◌, sym, subst, ap, ◌∙◌, Err, [], ◌∷◌, Some, None, min, length, refl, arith, ℕ, ◌+◌, ◌<◌, ◌≤◌, ⊎_elim, List, inl, inr, take, true, false}
@@ -5,12 +8,14 @@ use Rattle.std.specs.Prelude.{IfSome, IfOk, IsOk, Ok, Option, Result, IfErr, is_
 use Rattle.qcow2_disk.specs.Mappings.{given_of}
 use Rattle.qcow2_disk.specs.AbstractImages.{Setting, guest_of}
 use Rattle.qcow2_image.specs.Calls.{refusal_of, Commits, reason_of}
+use Rattle.qcow2_image.specs.Faults.{CountsImageFaults}
 use Rattle.qcow2_image.specs.Image.{is_failed, is_writable, number_of, size_of}
 use Rattle.qcow2_image.specs.Prepared.{IsHandedBackBy, image_of, length_of, guest_offset_of, offset_of, table_of}
-use Rattle.qcow2_image.specs.Refusals.{refuses_mapping, refuses_to_prepare, IsMet, IsMetPreparing, MarksRefused}
+use Rattle.qcow2_image.specs.Refusals.{refuses_mapping, refuses_to_prepare, IsMet, IsMetPreparing}
 use Rattle.qcow2_image.specs.declared.prepared.CommitRefused.TheVariants.{Kept}
-use Rattle.qcow2_image.specs.ImageInvariant.{abstract_of, image_abstraction}
-use Rattle.qcow2_session.specs.Sessions.{cluster_size_of, WritesFirst}
+use Rattle.qcow2_image.specs.ImageInvariant.{abstract_of, image_abstraction, meaning}
+use Rattle.qcow2_disk.specs.Alike.{AreDataAt}
+use Rattle.qcow2_session.specs.Sessions.{cluster_size_of, LeavesCopied, WritesFirst, HeedsFirst}
 use Rattle.qcow2_session.proofs.Bytes.{cut_long, cut_part, cut_short}
 use Rattle.qcow2_session.proofs.Chunks.{may_write_none, put_refused, written, commit_old_tables, commit_kept}
 use Rattle.qcow2_session.proofs.Writing.{chunk_ends}
@@ -23,20 +28,21 @@ use Rattle.qcow2_session.proofs.Unwritten.{nothing_prepared, prepare_same, put_s
 use Rattle.qcow2_image.specs.declared.image.Qcow2.{Qcow2}
 use Rattle.std.proofs.lemmas.Bool.{cases_Bool, cases_lt}
 use Rattle.std.proofs.lemmas.Nat.{pow_pos}
-use Rattle.qcow2_image.specs.Preparing.{IsOfNothing, IsTaken}
+use Rattle.qcow2_image.specs.Preparing.{IsOfNothing}
 use Rattle.qcow2_image.specs.declared.prepared.Prepared.{Prepared}
 use Rattle.std.proofs.lemmas.Grind.{common_steps}
 use Rattle.qcow2_alloc.specs.declared.error.ImageError.{ImageError}
-use Rattle.qcow2_alloc.specs.declared.error.ImageError.TheVariants.{Limit, TablePrepared}
+use Rattle.qcow2_alloc.specs.declared.error.ImageError.TheVariants.{Limit}
+use Rattle.qcow2_image.proofs.Call.FaultCounts.{counted_still, faults_then}
+use Rattle.qcow2_session.proofs.Counting.{commit_since}
 use Rattle.qcow2_session.proofs.Parts.{mapping_usable, not_failed_yet, prepares_usable, prepares_within, prepares_writable, put_met, under_taken}
 use Rattle.qcow2_alloc.specs.ImageError.{IsOfTables}
 use Rattle.qcow2_image.proofs.Call.MetErrors.{tables_met}
-use Rattle.qcow2_session.proofs.Marking.{fails_before, fails_behind, hands_on, refused_marks}
 use Rattle.qcow2_image.proofs.Call.BehindHeader.{behind_then}
 use Rattle.qcow2_alloc.proofs.KeptTables.AllWritten.{written_then}
+use Rattle.qcow2_session.proofs.Untaken.{untaken_beside}
 use Rattle.qcow2_session.proofs.Quiet.{quiet_commit, quiet_image, quiet_release}
-use Rattle.qcow2_image.specs.CallParts.{AreCopied}
-use Rattle.qcow2_session.proofs.Copied.{entered_copied, existing_or_not, kept_copied}
+use Rattle.qcow2_session.proofs.Copied.{existing_or_not, kept_data, part_copied}
 use Rattle.qcow2_alloc.specs.ImageFile.{known_in}
 use Rattle.qcow2_image.proofs.Call.Unlimited.{fault_unlimited}
 use Rattle.qcow2_image.proofs.Prepare.Lacked.{other_limit}
@@ -287,7 +293,7 @@ pub returns-in_err-prepared-clause-taken : goal.returns-in_err-prepared-clause-t
 returns-in_err-prepared-clause-taken g c = λ none out sound.
     let old = c.args.image.now in
     let n = length c.args.bytes.now in
-    subst (λ r. IfErr r (λ (e : ImageError). e ≡ TablePrepared → (0 < n) × IsTaken old.file.header.fields (known_in g.S.Storage.view old.file) c.args.offset n out)) (sym (refused_is _ c.in_err-prepared.field-0.0 c.from_residual.ensures))
+    subst (λ r. HeedsFirst g.S.Storage.view g.F.BackingDisk.backing old out c.args.offset n r) (sym (refused_is _ c.in_err-prepared.field-0.0 c.from_residual.ensures))
     (λ is. (
       elim (cases_lt 0 n) [
         | inl some ↦ some
@@ -295,6 +301,26 @@ returns-in_err-prepared-clause-taken g c = λ none out sound.
       ],
       c.in_err-prepared.ensures.taken none out sound is,
     ))
+
+pub returns-in-Ok-clause-taken : goal.returns-in-Ok-clause-taken
+returns-in-Ok-clause-taken g c = λ none out sound some.
+    let view = g.S.Storage.view in
+    let below = g.F.BackingDisk.backing in
+    let old = c.args.image.now in
+    let mid = c.prepare_data_mapping.new.self in
+    let p = c.in_ok-prepared.prepared in
+    let n = length c.args.bytes.now in
+    let call = c.in_ok-prepared.ensures.sees (None ∷ out) 0 refl in
+    let free_place = (free_places view below).free old [] out sound in
+    let prepared = call.answer free_place in
+    let same : cluster_size_of mid ≡ cluster_size_of old = ap (λ (x : Setting). x.cluster_size) (call.acts.works free_place).setting in
+    let maps = c.in_ok-prepared.ensures.maps some out sound in
+    let count_is : c.min-count.result ≡ min n (length_of p) = c.min-count.ensures ∙ ap (λ k. min n k) c.length.ensures in
+    let within = maps.within in (
+      omega (arith, count_is, within),
+      untaken_beside view below old.file.header.fields (known_in view old.file) mid out p (meaning view below mid p) c.args.offset n prepared.0 same prepared.1.0.from maps,
+      λ far. c.in_ok-prepared.ensures.far_refused some none far,
+    )
 
 pub returns-in-Err-clause-taken : goal.returns-in-Err-clause-taken
 returns-in-Err-clause-taken g c = λ none out sound is. absurd (subst IsMet is (put_met c.args.image.now c.prepare_data_mapping.new.self c.prepare_data_mapping.ensures.image (image_of c.in_ok-prepared.prepared) c.args.offset (length c.args.bytes.now) (length (take c.min-count.result c.args.bytes.now)) c.in-Err.refusal
@@ -314,25 +340,6 @@ pub returns-in_err-prepared-clause-early : goal.returns-in_err-prepared-clause-e
 returns-in_err-prepared-clause-early g c =
     early_handed _ (refuses_to_prepare c.args.image.now c.args.offset (length c.args.bytes.now)) c.prepare_data_mapping.result c.in_err-prepared.field-0.0 c.from_residual.result
     c.prepare_data_mapping.ensures.early c.in_err-prepared.was (refused_is _ c.in_err-prepared.field-0.0 c.from_residual.ensures)
-
-pub returns-in_err-prepared-clause-marks : goal.returns-in_err-prepared-clause-marks
-returns-in_err-prepared-clause-marks g c = hands_on _ c.in_err-prepared.field-0.0 _ _ (refused_is _ c.in_err-prepared.field-0.0 c.from_residual.ensures) (refused_marks c.in_err-prepared.field-0.0 _ _ _ c.in_err-prepared.ensures.marks)
-
-pub returns-in-Err-clause-marks : goal.returns-in-Err-clause-marks
-returns-in-Err-clause-marks g c = fails_before (Some c.in-Err.refusal) _ _ _ c.release.ensures.marks (fails_behind (Some c.in-Err.refusal) _ _ _ c.in_ok-prepared.ensures.marks (refused_marks c.in-Err.refusal _ _ _ c.in-Err.ensures.marks))
-
-pub returns-in-Ok-clause-marks : goal.returns-in-Ok-clause-marks
-returns-in-Ok-clause-marks g c = c.in-Ok.ensures.marks ∙ c.in_default.ensures.marks ∙ c.in_ok-prepared.ensures.marks
-
-pub returns-in-Err-Spent-clause-marks : goal.returns-in-Err-Spent-clause-marks
-returns-in-Err-Spent-clause-marks g c =
-    let marks = subst (λ r. MarksRefused c.write_mapped.new.self c.commit_data_mapping.new.self (reason_of r)) c.in-Err-Spent.field-0-is c.in-Err-Spent.ensures.marks in
-    fails_behind (Some c.in-Err-Spent.refusal) _ _ _ (c.in_default.ensures.marks ∙ c.in_ok-prepared.ensures.marks) (refused_marks c.in-Err-Spent.refusal _ _ _ marks)
-
-pub returns-in-Err-Kept-clause-marks : goal.returns-in-Err-Kept-clause-marks
-returns-in-Err-Kept-clause-marks g c =
-    let marks = subst (λ r. MarksRefused c.write_mapped.new.self c.commit_data_mapping.new.self (reason_of r)) c.in-Err-Kept.field-0-is c.in-Err-Kept.ensures.marks in
-    fails_before (Some c.in-Err-Kept.refusal) _ _ _ c.release-in-Err-Kept.ensures.marks (fails_behind (Some c.in-Err-Kept.refusal) _ _ _ (c.in_default.ensures.marks ∙ c.in_ok-prepared.ensures.marks) (refused_marks c.in-Err-Kept.refusal _ _ _ marks))
 
 pub returns-in-Err-clause-header_cluster : goal.returns-in-Err-clause-header_cluster
 returns-in-Err-clause-header_cluster g c = behind_then (behind_then c.prepare_data_mapping.ensures.header_cluster c.write_mapped.ensures.header_cluster) c.release.ensures.header_cluster
@@ -437,13 +444,21 @@ returns-in-Ok-clause-copied g c = λ some out sound.
     let none = none_refused _ (refuses_to_prepare old offset n) p c.in_ok-prepared.ensures.early in
     let usable = mapping_usable old mid c.prepare_data_mapping.ensures.image (image_of p) c.in_ok-prepared.ensures.own c.in_ok-prepared.ensures.marks (prepares_usable old offset n none) in
     let own = c.in_ok-prepared.ensures.own ∙ sym (c.write_mapped.ensures.image.number ∙ c.prepare_data_mapping.ensures.image.number) in
-    let left : AreCopied view (guest_offset_of p) (guest_offset_of p + count) new =
+    let stood : AreDataAt new.file.header.fields (known_in view new.file) true (guest_offset_of p) (offset_of p) count =
     existing_or_not (table_of p)
     (λ existing.
-    kept_copied view below put (Some p ∷ out) ready.0 new (guest_offset_of p) (offset_of p) (length (take count c.args.bytes.now)) count long any (c.commit_data_mapping.ensures.existing own ready.0.works (ap is_some existing)).1
+    kept_data view below put (Some p ∷ out) ready.0 new (guest_offset_of p) (offset_of p) (length (take count c.args.bytes.now)) count long (c.commit_data_mapping.ensures.existing own ready.0.works (ap is_some existing)).1
     (c.in_default.ensures.held usable existing (omega (arith, any, long))))
-    (λ table. entered_copied view new (guest_offset_of p) (offset_of p) (length_of p) count any (omega (arith, count_is)) (c.in-Ok.ensures.copied (Some p ∷ out) 0 refl ready.0 table)) in
-    subst (λ k. AreCopied view k (k + count) new) from_is left
+    (λ table i lt. c.in-Ok.ensures.copied (Some p ∷ out) 0 refl ready.0 table i (omega (arith, lt, count_is))) in
+    let chunk = take count c.args.bytes.now in
+    let cut : length chunk ≡ min n (length_of p) = cut_long count (length_of p) c.args.bytes.now count_is in
+    let done = written (image_abstraction view below) (free_places view below) (λ _. refl) old mid p out c.args.offset n chunk chunk cut (omega arith) (λ i lt. refl) (pow_pos old.file.header.fields.cluster_bits)
+    (none_of_none (length chunk) n (length_of p) cut (none_long old c.args.offset n mid c.prepare_data_mapping.result p c.prepare_data_mapping.ensures.early c.prepare_data_mapping.ensures.nothing c.in_ok-prepared.was)) (λ past. omega (arith, past, cut)) (c.in_ok-prepared.ensures.sees (None ∷ out) 0 refl)
+    put (c.in_default.ensures.sees (Some p ∷ out) 0 refl) new (c.in-Ok.ensures.sees (Some p ∷ out) 0 refl) in
+    let all = subst (λ k. AreDataAt new.file.header.fields (known_in view new.file) true offset (offset_of p) k) (sym long) (subst (λ k. AreDataAt new.file.header.fields (known_in view new.file) true k (offset_of p) count) from_is stood) in
+    subst (LeavesCopied view below old new offset c.args.bytes.now) long
+    (part_copied view below old mid new out sound (done.answer sound).0 offset p c.args.bytes.now chunk (omega (arith, any, long)) (omega (arith, cut)) from_is (c.in_ok-prepared.ensures.maps some out sound) c.in_ok-prepared.ensures.sees
+    (c.in_ok-prepared.ensures.lowest some out sound) (c.in_ok-prepared.ensures.lowest_tables some out sound) (done.acts.works sound) all)
 
 pub returns-in_err-prepared-clause-met : goal.returns-in_err-prepared-clause-met
 returns-in_err-prepared-clause-met g c = λ none out sound.
@@ -581,3 +596,38 @@ returns-in-Ok-clause-freeing g c = λ out sound.
           let nothing = nothing_prepared old reading _ p c.args.offset n c.in_ok-prepared.ensures.early c.in_ok-prepared.ensures.nothing in
           absurd (let no : false ≡ true = sym nothing.0 ∙ table in cc)
     ])
+
+pub returns-in_err-prepared-clause-marks : goal.returns-in_err-prepared-clause-marks
+returns-in_err-prepared-clause-marks g c = parts_handed g.S.Storage.view _ c.in_err-prepared.field-0.0 c.args.image.now c.prepare_data_mapping.new.self (refused_is _ c.in_err-prepared.field-0.0 c.from_residual.ensures) (in_parts g.S.Storage.view (refused_at_once g.S.Storage.view c.args.image.now c.prepare_data_mapping.new.self c.in_err-prepared.field-0.0 c.in_err-prepared.ensures.once_written c.in_err-prepared.ensures.marks))
+
+pub returns-in-Err-clause-marks : goal.returns-in-Err-clause-marks
+returns-in-Err-clause-marks g c =
+    parts_before g.S.Storage.view (Some c.in-Err.refusal) c.args.image.now c.write_mapped.new.self c.release.new.image c.release.ensures.marks (counts_released g.S.Storage.view c.write_mapped.new.self c.release.new.image c.release.ensures.rest)
+    (parts_behind g.S.Storage.view (Some c.in-Err.refusal) c.args.image.now c.prepare_data_mapping.new.self c.write_mapped.new.self c.in_ok-prepared.ensures.marks c.in_ok-prepared.ensures.once_written.counts (in_parts g.S.Storage.view (refused_at_once g.S.Storage.view c.prepare_data_mapping.new.self c.write_mapped.new.self c.in-Err.refusal c.in-Err.ensures.once_written c.in-Err.ensures.marks)))
+
+pub returns-in-Ok-clause-marks : goal.returns-in-Ok-clause-marks
+returns-in-Ok-clause-marks g c = parts_answered g.S.Storage.view c.args.image.now c.commit_data_mapping.new.self (c.in-Ok.ensures.marks ∙ c.in_default.ensures.marks ∙ c.in_ok-prepared.ensures.marks) (counts_on g.S.Storage.view c.args.image.now c.write_mapped.new.self c.commit_data_mapping.new.self (counts_on g.S.Storage.view c.args.image.now c.prepare_data_mapping.new.self c.write_mapped.new.self c.in_ok-prepared.ensures.once_written.counts c.in_default.ensures.once_written.counts) c.in-Ok.ensures.once_written.counts)
+
+pub returns-in-Err-Spent-clause-marks : goal.returns-in-Err-Spent-clause-marks
+returns-in-Err-Spent-clause-marks g c = parts_behind g.S.Storage.view (Some c.in-Err-Spent.refusal) c.args.image.now c.write_mapped.new.self c.commit_data_mapping.new.self (c.in_default.ensures.marks ∙ c.in_ok-prepared.ensures.marks) (counts_on g.S.Storage.view c.args.image.now c.prepare_data_mapping.new.self c.write_mapped.new.self c.in_ok-prepared.ensures.once_written.counts c.in_default.ensures.once_written.counts) (in_parts g.S.Storage.view (subst (λ r. MarksAtOnce g.S.Storage.view (Some (reason_of r)) c.write_mapped.new.self c.commit_data_mapping.new.self) c.in-Err-Spent.field-0-is (commit_at_once g.S.Storage.view c.write_mapped.new.self c.commit_data_mapping.new.self _ c.in-Err-Spent.ensures.once_written c.in-Err-Spent.ensures.marks)))
+
+pub returns-in-Err-Kept-clause-marks : goal.returns-in-Err-Kept-clause-marks
+returns-in-Err-Kept-clause-marks g c =
+    parts_before g.S.Storage.view (Some c.in-Err-Kept.refusal) c.args.image.now c.commit_data_mapping.new.self c.release-in-Err-Kept.new.image c.release-in-Err-Kept.ensures.marks (counts_released g.S.Storage.view c.commit_data_mapping.new.self c.release-in-Err-Kept.new.image c.release-in-Err-Kept.ensures.rest)
+    (parts_behind g.S.Storage.view (Some c.in-Err-Kept.refusal) c.args.image.now c.write_mapped.new.self c.commit_data_mapping.new.self (c.in_default.ensures.marks ∙ c.in_ok-prepared.ensures.marks) (counts_on g.S.Storage.view c.args.image.now c.prepare_data_mapping.new.self c.write_mapped.new.self c.in_ok-prepared.ensures.once_written.counts c.in_default.ensures.once_written.counts) (in_parts g.S.Storage.view (subst (λ r. MarksAtOnce g.S.Storage.view (Some (reason_of r)) c.write_mapped.new.self c.commit_data_mapping.new.self) c.in-Err-Kept.field-0-is (commit_at_once g.S.Storage.view c.write_mapped.new.self c.commit_data_mapping.new.self _ c.in-Err-Kept.ensures.once_written c.in-Err-Kept.ensures.marks))))
+
+pub returns-in-Err-Spent-clause-faults : goal.returns-in-Err-Spent-clause-faults
+returns-in-Err-Spent-clause-faults g c =
+    let view = g.S.Storage.view in
+    let below = g.F.BackingDisk.backing in
+    let first = faults_then view below c.args.image.now c.prepare_data_mapping.new.self c.write_mapped.new.self c.in_ok-prepared.ensures.faults.told c.in_default.ensures.faults.told in
+    commit_since view below c.args.image.now c.write_mapped.new.self c.commit_data_mapping.new.self c.in-Err-Spent.field-0 c.in-Err-Spent.refusal (ap reason_of c.in-Err-Spent.field-0-is) first c.in-Err-Spent.ensures.faults
+
+pub returns-in-Err-Kept-clause-faults : goal.returns-in-Err-Kept-clause-faults
+returns-in-Err-Kept-clause-faults g c =
+    let view = g.S.Storage.view in
+    let below = g.F.BackingDisk.backing in
+    let e = c.in-Err-Kept.refusal in
+    let first = faults_then view below c.args.image.now c.prepare_data_mapping.new.self c.write_mapped.new.self c.in_ok-prepared.ensures.faults.told c.in_default.ensures.faults.told in
+    let told : CountsImageFaults view below {T = ℕ} c.args.image.now c.commit_data_mapping.new.self (Err e) = commit_since view below c.args.image.now c.write_mapped.new.self c.commit_data_mapping.new.self c.in-Err-Kept.field-0 e (ap reason_of c.in-Err-Kept.field-0-is) first c.in-Err-Kept.ensures.faults in
+    counted_still view below c.args.image.now c.commit_data_mapping.new.self c.release-in-Err-Kept.new.image (Err e) told c.release-in-Err-Kept.ensures.faults

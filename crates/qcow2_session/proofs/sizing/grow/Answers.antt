@@ -1,3 +1,4 @@
+use Rattle.qcow2_session.proofs.Marking.{answered_at_once, refused_at_once}
 use Rattle.std.proofs.Common.{inl, inr, ap, arith}
 use Rattle.std.proofs.lemmas.Bool.{cases_lt}
 use Rattle.qcow2_session.proofs.Resized.{none_early, grow_done, grow_refused}
@@ -11,7 +12,6 @@ use Rattle.std.specs.Prelude.{◌&&◌, nat_lt}
 use Rattle.qcow2_alloc.specs.declared.error.ImageError.TheVariants.{Preallocation}
 use Rattle.qcow2_image.specs.Resizing.{takes_over}
 use Rattle.qcow2_session.proofs.Causing.{begun_with, grow_meets, is_answered, is_refused, same_error, some_error, takes_larger, then_early, then_none}
-use Rattle.qcow2_session.proofs.Marking.{refused_marks}
 use Rattle.qcow2_session.proofs.sizing.grow.Goals as goal
 
 pub returns-in-Ok-clause-command_step : goal.returns-in-Ok-clause-command_step
@@ -64,4 +64,7 @@ returns-in-Err-clause-causes g c = λ before found.
     (λ none sound larger is. (c.in-Err.ensures.tables (first none).0 larger before sound).taken (some_error is))
 
 pub returns-in-Err-clause-marks : goal.returns-in-Err-clause-marks
-returns-in-Err-clause-marks g c = refused_marks c.in-Err.refusal _ _ _ c.in-Err.ensures.marks
+returns-in-Err-clause-marks g c = refused_at_once g.S.Storage.view c.args.image.now c.resize_grow.new.self c.in-Err.refusal c.in-Err.ensures.once_written c.in-Err.ensures.marks
+
+pub returns-in-Ok-clause-marks : goal.returns-in-Ok-clause-marks
+returns-in-Ok-clause-marks g c = answered_at_once g.S.Storage.view c.args.image.now c.resize_grow.new.self c.in-Ok.ensures.once_written c.in-Ok.ensures.marks

@@ -1,3 +1,4 @@
+use Rattle.qcow2_session.proofs.Marking.{answered_at_once, refused_at_once}
 use Rattle.std.proofs.Common.{ap}
 use Rattle.qcow2_session.proofs.Resized.{shrink_done, shrink_refused}
 use Rattle.qcow2_session.proofs.Unwritten.{resizes_failed, resized_itself, resizes_reading, same_early}
@@ -8,7 +9,6 @@ use Rattle.qcow2_session.specs.declared.session.Reply.TheVariants as R
 use Rattle.std.proofs.Common.{refl}
 use Rattle.qcow2_session.proofs.Causing.{begun_with, is_answered, is_refused, some_error}
 use Rattle.qcow2_session.proofs.Told.{none_refused}
-use Rattle.qcow2_session.proofs.Marking.{refused_marks}
 use Rattle.qcow2_session.proofs.sizing.shrink.Goals as goal
 
 pub returns-in-Ok-clause-command_step : goal.returns-in-Ok-clause-command_step
@@ -50,11 +50,14 @@ returns-in-Err-clause-causes g c = λ before found.
     (λ none. (c.in-Err.ensures.late none).cause) (λ _ _. tt) (λ none le. let no = (c.in-Err.ensures.no_smaller none le).0 in absurd cc)
     (λ none sound smaller. (λ is. (c.in-Err.ensures.late none).prepared (some_error is) before sound, λ prepared. let same = (c.in-Err.ensures.prepared none smaller before sound prepared).0 in cc))
 
-pub returns-in-Err-clause-marks : goal.returns-in-Err-clause-marks
-returns-in-Err-clause-marks g c = refused_marks c.in-Err.refusal _ _ _ c.in-Err.ensures.marks
-
 pub returns-in-Ok-clause-tells : goal.returns-in-Ok-clause-tells
 returns-in-Ok-clause-tells g c = λ before le. let is = (c.in-Ok.ensures.no_smaller (none_refused _ (refuses_to_resize c.args.image.now) _ c.in-Ok.ensures.early) le).0 in (cc)
 
 pub returns-in-Err-clause-tells : goal.returns-in-Err-clause-tells
 returns-in-Err-clause-tells g c = λ before. tt
+
+pub returns-in-Err-clause-marks : goal.returns-in-Err-clause-marks
+returns-in-Err-clause-marks g c = refused_at_once g.S.Storage.view c.args.image.now c.resize_shrink.new.self c.in-Err.refusal c.in-Err.ensures.once_written c.in-Err.ensures.marks
+
+pub returns-in-Ok-clause-marks : goal.returns-in-Ok-clause-marks
+returns-in-Ok-clause-marks g c = answered_at_once g.S.Storage.view c.args.image.now c.resize_shrink.new.self c.in-Ok.ensures.once_written c.in-Ok.ensures.marks

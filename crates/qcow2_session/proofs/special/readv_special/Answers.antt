@@ -23,3 +23,9 @@ returns-in-Err-clause-causes g c = λ before found.
     is_refused g.S.Storage.view g.F.BackingDisk.backing c.args.image.now c.read_range.new.image before (C.ReadvSpecial c.args.offset c.args.length) c.in-Err.refusal (R.Refused c.in-Err.refusal)
     (λ is. absurd cc) (λ is. absurd cc, λ is. absurd is) refl (begun_with _ _ _ (unusable c.args.image.now) c.in-Err.ensures.early)
     (λ none. (c.in-Err.ensures.late none).0) (λ _ _. tt) (λ none empty. let some = (c.in-Err.ensures.late none).1 in omega (arith, some, empty)) (λ _ sound. c.in-Err.ensures.met before sound)
+
+pub returns-in-Ok-clause-marks : goal.returns-in-Ok-clause-marks
+returns-in-Ok-clause-marks g c = c.in-Ok.ensures.marks
+
+pub returns-in-Err-clause-marks : goal.returns-in-Err-clause-marks
+returns-in-Err-clause-marks g c = c.in-Err.ensures.marks

@@ -1,4 +1,4 @@
-use Rattle.std.proofs.Common.{ℕ, max, sym, ap, ◌∙◌, inl, inr, refl, subst, ◌<◌}
+use Rattle.std.proofs.Common.{◌≤◌, ℕ, max, sym, ap, ◌∙◌, inl, inr, refl, subst, ◌<◌}
 use Rattle.qcow2_alloc.specs.declared.clusters_to_free.ClustersToFreeEntry.{ClustersToFreeEntry}
 use Rattle.qcow2_alloc.specs.Allocation.{AvoidsUnaligned, run_at, taken_as, is_data, UnseenAllocatorGrowth}
 use Rattle.qcow2_alloc.specs.FreeList.{pending_then}
@@ -136,3 +136,12 @@ pub returns-in-Ok-lowest_run-clause-aligned : goal.returns-in-Ok-lowest_run-clau
 returns-in-Ok-lowest_run-clause-aligned g c =
     let first = ap (λ (r : ClustersToFreeEntry). r.first_cluster) c.placed_at.ensures ∙ c.new-in-Ok-lowest_run.ensures in
     of_equal (AvoidsUnaligned c.args.file.now.header.fields c.lowest_run.new.self.reftable) c.placed_at.result.first_cluster c.in-Ok-lowest_run.first c.args.count c.value.result first (sym c.value.ensures) c.in-Ok-lowest_run.ensures.aligned
+
+pub returns-in_default-clause-quiet : goal.returns-in_default-clause-quiet
+returns-in_default-clause-quiet g c = λ few. tt
+
+pub returns-in-Err-clause-quiet : goal.returns-in-Err-clause-quiet
+returns-in-Err-clause-quiet g c = λ few. tt
+
+pub returns-in-Ok-lowest_run-clause-quiet : goal.returns-in-Ok-lowest_run-clause-quiet
+returns-in-Ok-lowest_run-clause-quiet g c = λ few. c.in-Ok-lowest_run.ensures.quiet (subst (λ n. n ≤ 1) (sym c.value.ensures) few)

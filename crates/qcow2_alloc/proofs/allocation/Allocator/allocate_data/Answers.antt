@@ -1,4 +1,4 @@
-use Rattle.std.proofs.Common.{◌≡◌, ◌≢◌, ◌⊎◌, max, ℕ, inl, inr, refl, sym, subst, Result, ◌∙◌}
+use Rattle.std.proofs.Common.{◌≡◌, ◌≢◌, ◌⊎◌, max, inl, inr, refl, sym, subst, Result, ◌∙◌}
 use Rattle.qcow2_laws.specs.CrashInvariant.{Pending}
 use Rattle.qcow2_alloc.specs.declared.clusters_to_free.ClusterKind.TheVariants.{Data}
 use Rattle.qcow2_alloc.specs.declared.image_file.ImageFile.{ImageFile}
@@ -18,7 +18,7 @@ use Rattle.qcow2_alloc.proofs.Faults.{told_on, told_since}
 use Rattle.qcow2_alloc.proofs.Outcomes.{on_no_ok, if_no_ok, handed_cause, handed_why, on_ok, why_as}
 use Rattle.qcow2_alloc.proofs.SparedHeaders.{spares_then, spares_less, spares_cached}
 use Rattle.qcow2_alloc.specs.KeptNotes.{kept_then}
-use Rattle.qcow2_alloc.proofs.MadeClusters.{alone_since, made_run}
+use Rattle.qcow2_alloc.proofs.MadeClusters.{alone_none, alone_since, made_run}
 use Rattle.qcow2_alloc.specs.MadeClusters.{IsMadeInTurn, TakesAlone}
 use Rattle.qcow2_alloc.specs.FreeList.{run_of}
 use Rattle.qcow2_alloc.specs.LowestRuns.{IsUsed}
@@ -28,6 +28,7 @@ use Rattle.qcow2_alloc.specs.TurnedCaches.{IsOfTurning, TurnsAlone}
 use Rattle.image_access.specs.Moments.{StorageView}
 use Rattle.qcow2_alloc.specs.declared.error.ImageError.TheVariants as I
 use Rattle.std.specs.Result.{IsErrAnd}
+use Rattle.qcow2_alloc.proofs.QuietSearches.{search_after}
 use Rattle.qcow2_alloc.proofs.allocation.Allocator.allocate_data.Goals as goal
 
 -- the caches were turned before
@@ -200,8 +201,8 @@ pub returns-in_err-l2_depends_on_rb-clause-made : goal.returns-in_err-l2_depends
 returns-in_err-l2_depends_on_rb-clause-made g c = λ p sound.
     let file : ImageFile g.row.S.Denot = record c.args.file.now { storage = c.l2_depends_on_rb.new.storage; caches = c.l2_depends_on_rb.new.self } in
     let known = (c.l2_depends_on_rb.ensures.keeps c.args.file.now.header.fields p sound.sound.honest sound.sound.caches).known in
-    let uses : (k : ℕ) → IsUsed g.S.Storage.view file k → IsUsed g.S.Storage.view c.args.file.now k = λ k used. subst (λ b. count c.args.file.now.header.fields b k ≢ 0) known used in
-    handed_on (TakesAlone g.S.Storage.view run_of (IsMadeInTurn c.args.file.now.header.fields c.args.self.now.reftable c.args.self.now.reftable c.args.file.now.free_list c.args.file.now.free_list) c.args.file.now file) c.from_residual.result c.in_err-l2_depends_on_rb.field-0.0 c.from_residual.ensures (inl (λ k used. inl (uses k used)))
+    let alone = alone_none g.S.Storage.view c.args.file.now file refl known in
+    handed_on (TakesAlone g.S.Storage.view run_of (IsMadeInTurn c.args.file.now.header.fields c.args.self.now.reftable c.args.self.now.reftable c.args.file.now.free_list c.args.file.now.free_list) c.args.file.now file) c.from_residual.result c.in_err-l2_depends_on_rb.field-0.0 c.from_residual.ensures (inl ((λ k used. inl (alone.0 k used)), alone.1))
 
 pub returns-clause-made : goal.returns-clause-made
 returns-clause-made g c = λ p sound.
@@ -209,12 +210,17 @@ returns-clause-made g c = λ p sound.
     let file : ImageFile g.row.S.Denot = record c.args.file.now { storage = c.l2_depends_on_rb.new.storage; caches = c.l2_depends_on_rb.new.self } in
     let now = is_sound_now g.S.Storage.view p p c.args.file.now file c.args.self.now one in
     let known = (c.l2_depends_on_rb.ensures.keeps c.args.file.now.header.fields p sound.sound.honest sound.sound.caches).known in
-    let uses : (k : ℕ) → IsUsed g.S.Storage.view file k → IsUsed g.S.Storage.view c.args.file.now k = λ k used. subst (λ b. count c.args.file.now.header.fields b k ≢ 0) known used in
-    alone_since g.S.Storage.view run_of (IsMadeInTurn c.args.file.now.header.fields c.args.self.now.reftable c.allocate.new.self.reftable c.args.file.now.free_list c.allocate.new.file.free_list) c.args.file.now file c.allocate.new.file c.allocate.result uses
-    (made_run g.S.Storage.view p file c.allocate.new.file c.args.self.now c.allocate.new.self now c.allocate.ensures.list Data c.args.count c.allocate.result (c.allocate.ensures.sound p now c.in_ok-l2_depends_on_rb.ensures.order))
+    alone_since g.S.Storage.view c.args.file.now file refl known run_of (IsMadeInTurn c.args.file.now.header.fields c.args.self.now.reftable c.allocate.new.self.reftable c.args.file.now.free_list c.allocate.new.file.free_list) c.allocate.new.file c.allocate.result
+    (made_run g.S.Storage.view p file c.allocate.new.file c.args.self.now c.allocate.new.self now c.allocate.ensures.list c.allocate.ensures.former Data c.args.count c.allocate.result (c.allocate.ensures.sound p now c.in_ok-l2_depends_on_rb.ensures.order))
 
 pub returns-in_err-l2_depends_on_rb-clause-aligned : goal.returns-in_err-l2_depends_on_rb-clause-aligned
 returns-in_err-l2_depends_on_rb-clause-aligned g c = if_no_ok _ c.from_residual.result c.in_err-l2_depends_on_rb.field-0.0 c.from_residual.ensures
 
 pub returns-clause-aligned : goal.returns-clause-aligned
 returns-clause-aligned g c = c.allocate.ensures.aligned
+
+pub returns-in_err-l2_depends_on_rb-clause-quiet : goal.returns-in_err-l2_depends_on_rb-clause-quiet
+returns-in_err-l2_depends_on_rb-clause-quiet g c = λ few. on_no_ok _ c.from_residual.result c.in_err-l2_depends_on_rb.field-0.0 c.from_residual.ensures
+
+pub returns-clause-quiet : goal.returns-clause-quiet
+returns-clause-quiet g c = λ few. ok_as _ _ c.allocate.result (search_after g.S.Storage.view c.args.file.now (record c.args.file.now { storage = c.l2_depends_on_rb.new.storage; caches = c.l2_depends_on_rb.new.self }) c.allocate.new.file c.args.self.now.reftable c.allocate.new.self.reftable c.l2_depends_on_rb.ensures.all_written) (c.allocate.ensures.quiet few)

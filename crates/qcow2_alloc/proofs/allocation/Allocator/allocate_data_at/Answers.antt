@@ -1,4 +1,4 @@
-use Rattle.std.proofs.Common.{Bool, ◌≢◌, ◌/◌, ℕ, inl, inr, Ok, Err, Some, None, arith, true, refl, sym, ap, ◌∙◌, subst, Result, Option, ◌⊎◌}
+use Rattle.std.proofs.Common.{Bool, ◌≢◌, ◌/◌, ℕ, inl, inr, Ok, Err, Some, None, arith, true, refl, sym, ap, ◌∙◌, subst, Result, Option, ◌⊎◌, false}
 use Rattle.qcow2_metadata.specs.Entries.{count}
 use Rattle.qcow2_metadata.specs.Header.{counts_per_block}
 use Rattle.qcow2_laws.specs.Changes.{one_at}
@@ -24,10 +24,11 @@ use Rattle.qcow2_alloc.proofs.Outcomes.{handed_why, refused_as, not_both, ok_no_
 use Rattle.qcow2_alloc.proofs.SparedHeaders.{spares_then, spares_less, spares_cached}
 use Rattle.qcow2_alloc.specs.KeptNotes.{kept_then}
 use Rattle.qcow2_alloc.specs.declared.error.ImageError.TheVariants as I
-use Rattle.qcow2_alloc.proofs.MadeClusters.{alone_since, lists_used_none, made_before, made_one, made_refused, made_untaken}
+use Rattle.qcow2_alloc.proofs.MadeClusters.{alone_none, alone_since, lists_used_none, made_before, made_one, made_refused, made_untaken}
 use Rattle.qcow2_alloc.specs.MadeClusters.{run_in, IsMadeOnTheWay, TakesAlone}
 use Rattle.qcow2_alloc.proofs.TurnedCaches.{turned}
 use Rattle.qcow2_alloc.specs.TurnedCaches.{IsOfTurning, TurnsAlone}
+use Rattle.qcow2_alloc.proofs.QuietSearches.{count_after}
 use Rattle.qcow2_alloc.proofs.allocation.Allocator.allocate_data_at.Goals as goal
 
 pub returns-in_err-l2_depends_on_rb-clause-sound : goal.returns-in_err-l2_depends_on_rb-clause-sound
@@ -460,29 +461,29 @@ pub returns-in_err-l2_depends_on_rb-clause-made : goal.returns-in_err-l2_depends
 returns-in_err-l2_depends_on_rb-clause-made g c = λ p sound.
     let file : ImageFile g.row.S.Denot = record c.args.file.now { storage = c.l2_depends_on_rb.new.storage; caches = c.l2_depends_on_rb.new.self } in
     let known = (c.l2_depends_on_rb.ensures.keeps c.args.file.now.header.fields p sound.sound.honest sound.sound.caches).known in
-    let uses : (k : ℕ) → IsUsed g.S.Storage.view file k → IsUsed g.S.Storage.view c.args.file.now k = λ k used. subst (λ b. count c.args.file.now.header.fields b k ≢ 0) known used in
-    handed_on (TakesAlone g.S.Storage.view run_in (IsMadeOnTheWay c.args.file.now.header.fields c.args.self.now.reftable c.args.self.now.reftable) c.args.file.now file) c.from_residual.result c.in_err-l2_depends_on_rb.field-0.0 c.from_residual.ensures (inl (λ k used. inl (uses k used)))
+    let alone = alone_none g.S.Storage.view c.args.file.now file refl known in
+    handed_on (TakesAlone g.S.Storage.view run_in (IsMadeOnTheWay c.args.file.now.header.fields c.args.self.now.reftable c.args.self.now.reftable) c.args.file.now file) c.from_residual.result c.in_err-l2_depends_on_rb.field-0.0 c.from_residual.ensures (inl ((λ k used. inl (alone.0 k used)), alone.1))
 
 pub returns-then-at-eq0-clause-made : goal.returns-then-at-eq0-clause-made
-returns-then-at-eq0-clause-made g c = λ p sound k used.
+returns-then-at-eq0-clause-made g c = λ p sound.
     let file : ImageFile g.row.S.Denot = record c.args.file.now { storage = c.l2_depends_on_rb.new.storage; caches = c.l2_depends_on_rb.new.self } in
     let known = (c.l2_depends_on_rb.ensures.keeps c.args.file.now.header.fields p sound.sound.honest sound.sound.caches).known in
-    let uses : (k : ℕ) → IsUsed g.S.Storage.view file k → IsUsed g.S.Storage.view c.args.file.now k = λ k used. subst (λ b. count c.args.file.now.header.fields b k ≢ 0) known used in
-    inl (uses k used)
+    let alone = alone_none g.S.Storage.view c.args.file.now file refl known in
+    ((λ k used. inl (alone.0 k used)), alone.1)
 
 pub returns-then-not-is_nameable-clause-made : goal.returns-then-not-is_nameable-clause-made
-returns-then-not-is_nameable-clause-made g c = λ p sound k used.
+returns-then-not-is_nameable-clause-made g c = λ p sound.
     let file : ImageFile g.row.S.Denot = record c.args.file.now { storage = c.l2_depends_on_rb.new.storage; caches = c.l2_depends_on_rb.new.self } in
     let known = (c.l2_depends_on_rb.ensures.keeps c.args.file.now.header.fields p sound.sound.honest sound.sound.caches).known in
-    let uses : (k : ℕ) → IsUsed g.S.Storage.view file k → IsUsed g.S.Storage.view c.args.file.now k = λ k used. subst (λ b. count c.args.file.now.header.fields b k ≢ 0) known used in
-    inl (uses k used)
+    let alone = alone_none g.S.Storage.view c.args.file.now file refl known in
+    ((λ k used. inl (alone.0 k used)), alone.1)
 
 pub returns-in_default-clause-made : goal.returns-in_default-clause-made
 returns-in_default-clause-made g c = λ p sound.
     let file : ImageFile g.row.S.Denot = record c.args.file.now { storage = c.l2_depends_on_rb.new.storage; caches = c.l2_depends_on_rb.new.self } in
     let known = (c.l2_depends_on_rb.ensures.keeps c.args.file.now.header.fields p sound.sound.honest sound.sound.caches).known in
-    let uses : (k : ℕ) → IsUsed g.S.Storage.view file k → IsUsed g.S.Storage.view c.args.file.now k = λ k used. subst (λ b. count c.args.file.now.header.fields b k ≢ 0) known used in
-    inl (λ k used. inl (uses k used))
+    let alone = alone_none g.S.Storage.view c.args.file.now file refl known in
+    inl ((λ k used. inl (alone.0 k used)), alone.1)
 
 pub returns-in-Ok-true-clause-made : goal.returns-in-Ok-true-clause-made
 returns-in-Ok-true-clause-made g c = λ p sound.
@@ -490,10 +491,9 @@ returns-in-Ok-true-clause-made g c = λ p sound.
     let file : ImageFile g.row.S.Denot = record c.args.file.now { storage = c.l2_depends_on_rb.new.storage; caches = c.l2_depends_on_rb.new.self } in
     let now = is_sound_now g.S.Storage.view p p c.args.file.now file c.args.self.now one in
     let known = (c.l2_depends_on_rb.ensures.keeps c.args.file.now.header.fields p sound.sound.honest sound.sound.caches).known in
-    let uses : (k : ℕ) → IsUsed g.S.Storage.view file k → IsUsed g.S.Storage.view c.args.file.now k = λ k used. subst (λ b. count c.args.file.now.header.fields b k ≢ 0) known used in
     let two = rw c.in-Ok-true.field-0-test at (c.in-Ok-true.ensures.sound p true now c.in_ok-l2_depends_on_rb.ensures.order) in
-    alone_since g.S.Storage.view run_in (IsMadeOnTheWay c.args.file.now.header.fields c.args.self.now.reftable c.take.new.self.reftable) c.args.file.now file c.take.new.file (Ok (Some c.in-Ok.pending)) uses
-    (made_one g.S.Storage.view p file c.take.new.file c.args.self.now c.take.new.self now c.take.ensures.list (c.take.ensures.listed p now) true c.value.result c.args.cluster c.in-Ok.pending c.value.ensures (ap (λ (r : ClustersToFreeEntry). r.first_cluster) (c.in-Ok.ensures ∙ c.data-entry.ensures)) (ap (λ (r : ClustersToFreeEntry). r.count) (c.in-Ok.ensures ∙ c.data-entry.ensures) ∙ c.new.ensures) two)
+    alone_since g.S.Storage.view c.args.file.now file refl known run_in (IsMadeOnTheWay c.args.file.now.header.fields c.args.self.now.reftable c.take.new.self.reftable) c.take.new.file (Ok (Some c.in-Ok.pending))
+    (made_one g.S.Storage.view p file c.take.new.file c.args.self.now c.take.new.self now c.take.ensures.list c.take.ensures.former (c.take.ensures.listed p now) true c.value.result c.args.cluster c.in-Ok.pending c.value.ensures (ap (λ (r : ClustersToFreeEntry). r.first_cluster) (c.in-Ok.ensures ∙ c.data-entry.ensures)) (ap (λ (r : ClustersToFreeEntry). r.count) (c.in-Ok.ensures ∙ c.data-entry.ensures) ∙ c.new.ensures) two)
 
 pub returns-in-Ok-false-clause-made : goal.returns-in-Ok-false-clause-made
 returns-in-Ok-false-clause-made g c = λ p sound.
@@ -501,10 +501,9 @@ returns-in-Ok-false-clause-made g c = λ p sound.
     let file : ImageFile g.row.S.Denot = record c.args.file.now { storage = c.l2_depends_on_rb.new.storage; caches = c.l2_depends_on_rb.new.self } in
     let now = is_sound_now g.S.Storage.view p p c.args.file.now file c.args.self.now one in
     let known = (c.l2_depends_on_rb.ensures.keeps c.args.file.now.header.fields p sound.sound.honest sound.sound.caches).known in
-    let uses : (k : ℕ) → IsUsed g.S.Storage.view file k → IsUsed g.S.Storage.view c.args.file.now k = λ k used. subst (λ b. count c.args.file.now.header.fields b k ≢ 0) known used in
     let two = rw c.in-Ok-false.field-0-test at (c.in-Ok-false.ensures.sound p true now c.in_ok-l2_depends_on_rb.ensures.order) in
-    alone_since g.S.Storage.view run_in (IsMadeOnTheWay c.args.file.now.header.fields c.args.self.now.reftable c.take.new.self.reftable) c.args.file.now file c.take.new.file (Ok None) uses
-    (made_untaken g.S.Storage.view p file c.take.new.file c.args.self.now c.take.new.self now c.take.ensures.list (c.take.ensures.listed p now) two)
+    alone_since g.S.Storage.view c.args.file.now file refl known run_in (IsMadeOnTheWay c.args.file.now.header.fields c.args.self.now.reftable c.take.new.self.reftable) c.take.new.file (Ok None)
+    (made_untaken g.S.Storage.view p file c.take.new.file c.args.self.now c.take.new.self now c.take.ensures.list c.take.ensures.former (c.take.ensures.listed p now) two)
 
 pub returns-in-Err-clause-made : goal.returns-in-Err-clause-made
 returns-in-Err-clause-made g c = λ p sound.
@@ -512,9 +511,8 @@ returns-in-Err-clause-made g c = λ p sound.
     let file : ImageFile g.row.S.Denot = record c.args.file.now { storage = c.l2_depends_on_rb.new.storage; caches = c.l2_depends_on_rb.new.self } in
     let now = is_sound_now g.S.Storage.view p p c.args.file.now file c.args.self.now one in
     let known = (c.l2_depends_on_rb.ensures.keeps c.args.file.now.header.fields p sound.sound.honest sound.sound.caches).known in
-    let uses : (k : ℕ) → IsUsed g.S.Storage.view file k → IsUsed g.S.Storage.view c.args.file.now k = λ k used. subst (λ b. count c.args.file.now.header.fields b k ≢ 0) known used in
-    alone_since g.S.Storage.view run_in (IsMadeOnTheWay c.args.file.now.header.fields c.args.self.now.reftable c.take.new.self.reftable) c.args.file.now file c.take.new.file (Err c.in-Err.refusal) uses
-    (made_refused g.S.Storage.view p file c.take.new.file c.args.self.now c.take.new.self now c.take.ensures.list (c.take.ensures.listed p now) c.in-Err.refusal (c.in-Err.ensures.sound p true now c.in_ok-l2_depends_on_rb.ensures.order))
+    alone_since g.S.Storage.view c.args.file.now file refl known run_in (IsMadeOnTheWay c.args.file.now.header.fields c.args.self.now.reftable c.take.new.self.reftable) c.take.new.file (Err c.in-Err.refusal)
+    (made_refused g.S.Storage.view p file c.take.new.file c.args.self.now c.take.new.self now c.take.ensures.list c.take.ensures.former (c.take.ensures.listed p now) c.in-Err.refusal (c.in-Err.ensures.sound p true now c.in_ok-l2_depends_on_rb.ensures.order))
 
 pub returns-in-Ok-false-clause-none : goal.returns-in-Ok-false-clause-none
 returns-in-Ok-false-clause-none g c = λ p sound _.
@@ -525,7 +523,7 @@ returns-in-Ok-false-clause-none g c = λ p sound _.
     let uses : (k : ℕ) → IsUsed g.S.Storage.view file k → IsUsed g.S.Storage.view c.args.file.now k = λ k used. subst (λ b. count c.args.file.now.header.fields b k ≢ 0) known used in
     let two = rw c.in-Ok-false.field-0-test at (c.in-Ok-false.ensures.sound p true now c.in_ok-l2_depends_on_rb.ensures.order) in
     let used = subst (λ n. IsUsed g.S.Storage.view c.take.new.file n) c.value.ensures (c.in-Ok-false.ensures.used p true now c.in_ok-l2_depends_on_rb.ensures.order c.in-Ok-false.field-0-test) in
-    inr (made_before g.S.Storage.view p file c.take.new.file c.args.self.now c.take.new.self now c.take.ensures.list (c.take.ensures.listed p now) c.args.file.now uses c.args.cluster two used)
+    inr (made_before g.S.Storage.view p file c.take.new.file c.args.self.now c.take.new.self now c.take.ensures.list c.take.ensures.former (c.take.ensures.listed p now) c.args.file.now uses c.args.cluster two used)
 
 pub returns-then-at-eq0-clause-first_range : goal.returns-then-at-eq0-clause-first_range
 returns-then-at-eq0-clause-first_range g c = λ l some near. absurd (let zero = sym c.value-at.ensures ∙ c.if-at-eq0.true in omega (arith, some, zero))
@@ -603,3 +601,24 @@ returns-in_err-l2_depends_on_rb-clause-aligned g c = if_no_ok _ c.from_residual.
 
 pub returns-in-Ok-true-clause-aligned : goal.returns-in-Ok-true-clause-aligned
 returns-in-Ok-true-clause-aligned g c = λ some. subst (λ n. HasAlignedBlock c.args.file.now.header.fields c.take.new.self.reftable (n / counts_per_block c.args.file.now.header.fields)) c.value.ensures (c.in-Ok-true.ensures.aligned c.in-Ok-true.field-0-test)
+
+pub returns-in_err-l2_depends_on_rb-clause-quiet : goal.returns-in_err-l2_depends_on_rb-clause-quiet
+returns-in_err-l2_depends_on_rb-clause-quiet g c = on_no_ok _ c.from_residual.result c.in_err-l2_depends_on_rb.field-0.0 c.from_residual.ensures
+
+pub returns-then-at-eq0-clause-quiet : goal.returns-then-at-eq0-clause-quiet
+returns-then-at-eq0-clause-quiet g c = inl c.l2_depends_on_rb.ensures.all_written.quiet
+
+pub returns-then-not-is_nameable-clause-quiet : goal.returns-then-not-is_nameable-clause-quiet
+returns-then-not-is_nameable-clause-quiet g c = inl c.l2_depends_on_rb.ensures.all_written.quiet
+
+pub returns-in_default-clause-quiet : goal.returns-in_default-clause-quiet
+returns-in_default-clause-quiet g c = tt
+
+pub returns-in-Err-clause-quiet : goal.returns-in-Err-clause-quiet
+returns-in-Err-clause-quiet g c = tt
+
+pub returns-in-Ok-true-clause-quiet : goal.returns-in-Ok-true-clause-quiet
+returns-in-Ok-true-clause-quiet g c = count_after g.S.Storage.view c.args.file.now (record c.args.file.now { storage = c.l2_depends_on_rb.new.storage; caches = c.l2_depends_on_rb.new.self }) c.take.new.file c.args.self.now.reftable c.take.new.self.reftable true c.l2_depends_on_rb.ensures.all_written (rw c.in-Ok-true.field-0-test at c.in-Ok-true.ensures.quiet)
+
+pub returns-in-Ok-false-clause-quiet : goal.returns-in-Ok-false-clause-quiet
+returns-in-Ok-false-clause-quiet g c = count_after g.S.Storage.view c.args.file.now (record c.args.file.now { storage = c.l2_depends_on_rb.new.storage; caches = c.l2_depends_on_rb.new.self }) c.take.new.file c.args.self.now.reftable c.take.new.self.reftable false c.l2_depends_on_rb.ensures.all_written (rw c.in-Ok-false.field-0-test at c.in-Ok-false.ensures.quiet)

@@ -27,7 +27,10 @@ pub returns-clause-first_range : goal.returns-clause-first_range
 returns-clause-first_range g c = c.allocate.ensures.first_range
 
 pub returns-clause-made : goal.returns-clause-made
-returns-clause-made g c = λ p sound. made_run g.S.Storage.view p c.args.file.now c.allocate.new.file c.args.self.now c.allocate.new.self sound c.allocate.ensures.list Metadata c.args.count c.allocate.result (c.allocate.ensures.sound p sound tt)
+returns-clause-made g c = λ p sound. made_run g.S.Storage.view p c.args.file.now c.allocate.new.file c.args.self.now c.allocate.new.self sound c.allocate.ensures.list c.allocate.ensures.former Metadata c.args.count c.allocate.result (c.allocate.ensures.sound p sound tt)
 
 pub returns-clause-aligned : goal.returns-clause-aligned
 returns-clause-aligned g c = c.allocate.ensures.aligned
+
+pub returns-clause-quiet : goal.returns-clause-quiet
+returns-clause-quiet g c = c.allocate.ensures.quiet

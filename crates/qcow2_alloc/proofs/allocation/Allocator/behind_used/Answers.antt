@@ -129,3 +129,12 @@ returns-in_default-clause-unaligned g c = λ u. ok_no_err _ I.UnalignedTable (c.
 
 pub returns-clause-unaligned : goal.returns-clause-unaligned
 returns-clause-unaligned g c = λ u. ok_no_err _ I.UnalignedTable (c.in_ok-block.ensures.unaligned (unaligned_as c.args.file.now.header.fields c.args.self.now.reftable c.args.cluster _ c.rb_bits-bits.ensures.counts u)).0
+
+pub returns-in_err-block-clause-quiet : goal.returns-in_err-block-clause-quiet
+returns-in_err-block-clause-quiet g c = c.load_block.ensures.quiet
+
+pub returns-in_default-clause-quiet : goal.returns-in_default-clause-quiet
+returns-in_default-clause-quiet g c = c.load_block.ensures.quiet
+
+pub returns-clause-quiet : goal.returns-clause-quiet
+returns-clause-quiet g c = rw c.rb_used_from-used.ensures.same c.load_block.ensures.quiet

@@ -1,4 +1,4 @@
-use Rattle.std.proofs.Common.{Option, Some, None, Ok, Err, true, ◌≡◌, mul-pos, ◌≤◌, ◌<◌, inl, ◌*◌, ◌/◌, ◌%◌, ◌^◌, false, sym, ap, ◌∙◌, refl, arith, Result, IsTrue, subst, ℕ}
+use Rattle.std.proofs.Common.{inr, Option, Some, None, Ok, Err, true, ◌≡◌, mul-pos, ◌≤◌, ◌<◌, inl, ◌*◌, ◌/◌, ◌%◌, ◌^◌, false, sym, ap, ◌∙◌, refl, arith, Result, IsTrue, subst, ℕ}
 use Rattle.qcow2_metadata.specs.Entries.{block_offset}
 use Rattle.qcow2_metadata.specs.Header.{counts_per_block}
 use Rattle.qcow2_laws.specs.Changes.{one_at}
@@ -456,3 +456,24 @@ returns-then-is_fault-clause-first_range g c = λ lacks.
 pub returns-else-is_fault-clause-first_range : goal.returns-else-is_fault-clause-first_range
 returns-else-is_fault-clause-first_range g c = λ lacks.
     not_first c.args.file.now.header.fields c.args.self.now.reftable c.args.cluster (2 ^ c.rb_bits-bits.result) c.new-first.result (sym c.rb_bits-bits.ensures.counts) lacks c.new-first.ensures (c.can_name.ensures.elsewhere c.if-not-can_name.false)
+
+pub returns-in_err-load_block-clause-quiet : goal.returns-in_err-load_block-clause-quiet
+returns-in_err-load_block-clause-quiet g c = on_no_ok _ c.from_residual.result c.in_err-load_block.field-0.0 c.from_residual.ensures
+
+pub returns-then-is_some-clause-quiet : goal.returns-then-is_some-clause-quiet
+returns-then-is_some-clause-quiet g c = inl c.load_block.ensures.quiet
+
+pub returns-then-not-can_name-clause-quiet : goal.returns-then-not-can_name-clause-quiet
+returns-then-not-can_name-clause-quiet g c = tt
+
+pub returns-then-is_fault-clause-quiet : goal.returns-then-is_fault-clause-quiet
+returns-then-is_fault-clause-quiet g c = tt
+
+pub returns-in-Ok-Some-clause-quiet : goal.returns-in-Ok-Some-clause-quiet
+returns-in-Ok-Some-clause-quiet g c = ok_as _ _ c.place_block.result (λ has. inr (inl (c.args.cluster / 2 ^ c.rb_bits-bits.result, none_named c.args.file.now.header.fields c.args.self.now.reftable (c.args.cluster / 2 ^ c.rb_bits-bits.result) c.in_ok-load_block.field-0 (sym c.is_some.ensures ∙ c.if-is_some.false) c.in_ok-load_block.ensures.names, has))) c.place_block.ensures.has
+
+pub returns-in-Ok-None-clause-quiet : goal.returns-in-Ok-None-clause-quiet
+returns-in-Ok-None-clause-quiet g c = ok_as _ _ c.cover_range.result (λ has. inr (inl (c.args.cluster / 2 ^ c.rb_bits-bits.result, none_named c.args.file.now.header.fields c.args.self.now.reftable (c.args.cluster / 2 ^ c.rb_bits-bits.result) c.in_ok-load_block.field-0 (sym c.is_some.ensures ∙ c.if-is_some.false) c.in_ok-load_block.ensures.names, has))) c.cover_range.ensures.has
+
+pub returns-else-is_fault-clause-quiet : goal.returns-else-is_fault-clause-quiet
+returns-else-is_fault-clause-quiet g c = ok_as _ _ c.cover_range-in-Err.result (λ has. inr (inl (c.args.cluster / 2 ^ c.rb_bits-bits.result, none_named c.args.file.now.header.fields c.args.self.now.reftable (c.args.cluster / 2 ^ c.rb_bits-bits.result) c.in_ok-load_block.field-0 (sym c.is_some.ensures ∙ c.if-is_some.false) c.in_ok-load_block.ensures.names, has))) c.cover_range-in-Err.ensures.has

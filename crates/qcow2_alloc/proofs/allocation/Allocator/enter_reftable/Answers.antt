@@ -10,6 +10,7 @@ use Rattle.qcow2_alloc.specs.declared.error.ImageError.{ImageError}
 use Rattle.qcow2_alloc.specs.declared.image_file.ImageFile.{ImageFile}
 use Rattle.qcow2_alloc.specs.Allocation.{NamesLacking, UnseenAllocatorStep}
 use Rattle.qcow2_alloc.specs.Growing.{IsCloneOf}
+use Rattle.qcow2_alloc.specs.FreeList.{FillsClusters}
 use Rattle.qcow2_alloc.specs.GrownTables.{with_run, EntersReftable, NamesReftable}
 use Rattle.qcow2_alloc.specs.ImageFile.{AllocatorInvariant, KeepsHeader}
 use Rattle.qcow2_alloc.specs.Limits.{IsFaultOr, nameable_clusters, HasNoRoomBelow, HasNoRoomFor, LiesLowest}
@@ -35,10 +36,14 @@ few_clusters n bits few high = let pow : 2 ^ bits ≤ 2 ^ 24 = pow_mono high in 
 lesser : (a a' b b' end e : ℕ) → a < 2 ^ 64 → a ≡ a' → b ≡ b' → end ≡ min (a % 2 ^ 64) b → e ≤ a' → e ≤ b' → e ≤ end
 lesser a a' b b' end e fits same_a same_b is low near = omega arith
 
--- where room lies behind the header's cluster, the table in it does
-lies_above : (r : Result (Unit {0}) ImageError) (o : Option ℕ) (first blocks : ℕ) → 0 < first → OnOk r (o ≡ Some (first + blocks)) → OnOk r (IfSome o (λ c. 0 < c))
-lies_above (Ok done) o first blocks above is = subst (λ (v : Option ℕ). IfSome v (λ c. 0 < c)) (sym is) (omega (arith, above))
-lies_above (Err e) o first blocks above is = tt
+-- a table of whole clusters fills those, and behind the header's cluster where its room lies behind that
+fills_room : (r : Result (Unit {0}) ImageError) (old table t : EntryTableView) (bits first blocks : ℕ) → 0 < first → table.cluster_bits ≡ bits → OnOk r (t.cluster ≡ Some (first + blocks)) → OnOk r (entry_count t ≡ entry_count table) → OnOk r (NamesLacking old table t)
+    → entry_count table % (2 ^ bits / 8) ≡ 0 → OnOk r (FillsClusters t)
+fills_room (Ok done) old table t bits first blocks above same is count lacking whole = record {
+  whole = subst (λ n. n % (2 ^ t.cluster_bits / 8) ≡ 0) (sym count) (subst (λ b. entry_count table % (2 ^ b / 8) ≡ 0) (sym (lacking.behind.bits ∙ same)) whole);
+  elsewhere = subst (λ (v : Option ℕ). IfSome v (λ c. 0 < c)) (sym is) (omega (arith, above));
+}
+fills_room (Err e) old table t bits first blocks above same is count lacking whole = tt
 
 pub returns-in_err-room-clause-enters : goal.returns-in_err-room-clause-enters
 returns-in_err-room-clause-enters g c = λ p sound clone whole.
@@ -241,8 +246,9 @@ returns-in_err-room-clause-header_cluster g c = spares_less (c.take_room.ensures
 pub returns-clause-header_cluster : goal.returns-clause-header_cluster
 returns-clause-header_cluster g c = spares_then (spares_less c.take_room.ensures.header_cluster) c.write_reftable.ensures.header_cluster
 
-pub returns-in_err-room-clause-elsewhere : goal.returns-in_err-room-clause-elsewhere
-returns-in_err-room-clause-elsewhere g c = on_no_ok _ c.from_residual.result c.in_err-room.field-0.0 c.from_residual.ensures
+pub returns-in_err-room-clause-fills : goal.returns-in_err-room-clause-fills
+returns-in_err-room-clause-fills g c = λ _. on_no_ok _ c.from_residual.result c.in_err-room.field-0.0 c.from_residual.ensures
 
-pub returns-clause-elsewhere : goal.returns-clause-elsewhere
-returns-clause-elsewhere g c = lies_above c.write_reftable.result c.write_reftable.new.self.reftable.cluster c.in_ok-room.room.first c.in_ok-room.room.blocks c.in_ok-room.ensures.above c.write_reftable.ensures.place
+pub returns-clause-fills : goal.returns-clause-fills
+returns-clause-fills g c = fills_room c.write_reftable.result c.take_room.new.self.reftable c.args.table c.write_reftable.new.self.reftable c.args.file.now.header.fields.cluster_bits c.in_ok-room.room.first c.in_ok-room.room.blocks c.in_ok-room.ensures.above (sym c.cluster_bits.ensures.value ∙ c.if-cluster_bits-bits.false ∙ c.cluster_bits-bits.ensures.value)
+    c.write_reftable.ensures.place c.write_reftable.ensures.table c.write_reftable.ensures.lacking

@@ -1,4 +1,4 @@
-use Rattle.std.proofs.Common.{◌≡◌, ℕ, ◌^◌, ◌≤◌, IsSome, inl, inr, Result, Ok, Err, refl, ◌∙◌, ◌++◌, ◌∷◌, [], List, sym, ap, subst}
+use Rattle.std.proofs.Common.{◌≡◌, ℕ, ◌^◌, ◌≤◌, IsSome, inl, inr, Result, refl, ◌∙◌, ◌++◌, ◌∷◌, [], List, sym, ap, subst, arith}
 use Rattle.qcow2_alloc.specs.LowestRuns.{IsUsed}
 use Rattle.std.specs.Prelude.{IfErr}
 use Rattle.qcow2_metadata.specs.EntryTable.{entry_count}
@@ -19,7 +19,7 @@ use Rattle.qcow2_alloc.proofs.SparedHeaders.{spares_none, spares_listed}
 use Rattle.qcow2_alloc.proofs.KeptMarks.{kept_marks_none}
 use Rattle.qcow2_alloc.proofs.Outcomes.{on_no_ok}
 use Rattle.qcow2_alloc.specs.MadeClusters.{IsMadeOnTheWay, TakesAlone}
-use Rattle.qcow2_alloc.proofs.MadeClusters.{made_entered}
+use Rattle.qcow2_alloc.proofs.MadeClusters.{made_entered, made_unentered}
 use Rattle.qcow2_alloc.proofs.allocation.Allocator.grow_reftable.Goals as goal
 
 pub returns-in-Ok-clause-sound : goal.returns-in-Ok-clause-sound
@@ -116,6 +116,7 @@ returns-in-Ok-clause-former g c =
       c.in_ok-former.former,
       c.in_ok-former.ensures.of_table,
       c.hand_back.ensures ∙ ap (λ (l : List ClustersToFreeEntry). l ++ c.in_ok-former.former ∷ []) c.enter_reftable.ensures.list,
+      c.in-Ok.ensures.fills c.in_ok-table.ensures.length.enough.whole,
       names.0,
       names.1,
     )
@@ -130,19 +131,26 @@ pub returns-in_err-former-clause-elsewhere : goal.returns-in_err-former-clause-e
 returns-in_err-former-clause-elsewhere g c = on_no_ok _ c.from_residual-in_err-former.result c.in_err-former.field-0.0 c.from_residual-in_err-former.ensures
 
 pub returns-in-Ok-clause-elsewhere : goal.returns-in-Ok-clause-elsewhere
-returns-in-Ok-clause-elsewhere g c = c.in-Ok.ensures.elsewhere
+returns-in-Ok-clause-elsewhere g c = (c.in-Ok.ensures.fills c.in_ok-table.ensures.length.enough.whole).elsewhere
 
 pub returns-in-Err-clause-elsewhere : goal.returns-in-Err-clause-elsewhere
 returns-in-Err-clause-elsewhere g c = tt
 
 pub returns-in_err-table-clause-made : goal.returns-in_err-table-clause-made
-returns-in_err-table-clause-made g c = λ p sound. handed_on (TakesAlone g.S.Storage.view (λ done k. 0) (IsMadeOnTheWay c.args.file.now.header.fields c.args.self.now.reftable c.args.self.now.reftable) c.args.file.now c.args.file.now) c.from_residual.result c.in_err-table.field-0.0 c.from_residual.ensures (inl (λ k used. inl used))
+returns-in_err-table-clause-made g c = λ p sound. handed_on (TakesAlone g.S.Storage.view (λ done k. 0) (IsMadeOnTheWay c.args.file.now.header.fields c.args.self.now.reftable c.args.self.now.reftable) c.args.file.now c.args.file.now) c.from_residual.result c.in_err-table.field-0.0 c.from_residual.ensures (inl ((λ k used. inl used), λ k. omega arith))
 
 pub returns-in_err-former-clause-made : goal.returns-in_err-former-clause-made
-returns-in_err-former-clause-made g c = λ p sound. handed_on (TakesAlone g.S.Storage.view (λ done k. 0) (IsMadeOnTheWay c.args.file.now.header.fields c.args.self.now.reftable c.args.self.now.reftable) c.args.file.now c.args.file.now) c.from_residual-in_err-former.result c.in_err-former.field-0.0 c.from_residual-in_err-former.ensures (inl (λ k used. inl used))
+returns-in_err-former-clause-made g c = λ p sound. handed_on (TakesAlone g.S.Storage.view (λ done k. 0) (IsMadeOnTheWay c.args.file.now.header.fields c.args.self.now.reftable c.args.self.now.reftable) c.args.file.now c.args.file.now) c.from_residual-in_err-former.result c.in_err-former.field-0.0 c.from_residual-in_err-former.ensures (inl ((λ k used. inl used), λ k. omega arith))
 
 pub returns-in-Ok-clause-made : goal.returns-in-Ok-clause-made
-returns-in-Ok-clause-made g c = λ p sound. made_entered g.S.Storage.view p c.args.file.now c.enter_reftable.new.file c.args.self.now c.enter_reftable.new.self sound (Ok tt) (c.in-Ok.ensures.enters p sound c.in_ok-table.ensures.entries c.in_ok-table.ensures.length.enough.whole)
+returns-in-Ok-clause-made g c = λ p sound.
+    let clone = c.in_ok-table.ensures.entries in
+    let names = lacking_clone c.args.self.now.reftable c.in_ok-table.table c.enter_reftable.new.self.reftable clone.bits clone.entries c.in-Ok.ensures.lacking in
+    let list = c.hand_back.ensures ∙ ap (λ (l : List ClustersToFreeEntry). l ++ c.in_ok-former.former ∷ []) c.enter_reftable.ensures.list in
+    let count = c.in-Ok.ensures.table in
+    let longer = c.in_ok-table.ensures.length.enough.longer in
+    made_entered g.S.Storage.view p c.args.file.now c.enter_reftable.new.file c.args.self.now c.enter_reftable.new.self sound c.in_ok-former.former c.hand_back.new.list c.in_ok-former.ensures.of_table list (omega (arith, count, longer)) names.1
+    (c.in-Ok.ensures.enters p sound clone c.in_ok-table.ensures.length.enough.whole) tt
 
 pub returns-in-Err-clause-made : goal.returns-in-Err-clause-made
-returns-in-Err-clause-made g c = λ p sound. made_entered g.S.Storage.view p c.args.file.now c.enter_reftable.new.file c.args.self.now c.enter_reftable.new.self sound (Err c.in-Err.refusal) (c.in-Err.ensures.enters p sound c.in_ok-table.ensures.entries c.in_ok-table.ensures.length.enough.whole)
+returns-in-Err-clause-made g c = λ p sound. made_unentered g.S.Storage.view p c.args.file.now c.enter_reftable.new.file c.args.self.now c.enter_reftable.new.self sound c.in-Err.refusal c.enter_reftable.ensures.list c.in-Err.ensures.kept (c.in-Err.ensures.enters p sound c.in_ok-table.ensures.entries c.in_ok-table.ensures.length.enough.whole)

@@ -47,3 +47,9 @@ returns-in_err-rb_get_or_insert-clause-unaligned g c = λ u. not_off c.args.file
 
 pub returns-clause-unaligned : goal.returns-clause-unaligned
 returns-clause-unaligned g c = λ u. not_off c.args.file.now.header.fields c.args.self.now.reftable c.args.range c.in-Some-checked_cluster.cluster c.cluster_bits.result c.in-Some.offset c.in-Some.ensures.offset c.in-Some-checked_cluster.ensures.cluster c.cluster_bits.ensures.value u
+
+pub returns-in_err-rb_get_or_insert-clause-quiet : goal.returns-in_err-rb_get_or_insert-clause-quiet
+returns-in_err-rb_get_or_insert-clause-quiet g c = c.rb_get_or_insert.ensures.all_written
+
+pub returns-clause-quiet : goal.returns-clause-quiet
+returns-clause-quiet g c = c.rb_get_or_insert.ensures.all_written

@@ -25,6 +25,7 @@ use Rattle.qcow2_alloc.proofs.SparedHeaders.{spares_none, spares_then, spares_le
 use Rattle.qcow2_metadata.specs.EntryTable.{EntryTableView}
 use Rattle.qcow2_metadata.specs.declared.header.HeaderFields.{HeaderFields}
 use Rattle.qcow2_alloc.specs.declared.error.ImageError.TheVariants as I
+use Rattle.qcow2_alloc.proofs.QuietSearches.{looks_none, search_ends, search_on}
 use Rattle.qcow2_alloc.proofs.allocation.Allocator.lowest_run.Goals as goal
 
 pub returns-in_err-taken-clause-sound : goal.returns-in_err-taken-clause-sound
@@ -62,6 +63,7 @@ search-init g c = record {
       subst (λ (r : Pending). UnseenAllocatorGrowth g.S.Storage.view p c.args.file.now (record c.args.self.now { first_free_cluster = c.max-self.result }) c.args.file.now r) (sym (listed_after_same p c.args.file.now.free_list c.args.file.now.free_list refl))
       (on_none g.S.Storage.view p c.args.file.now (record c.args.self.now { first_free_cluster = c.max-self.result }) (record { sound = sound.sound; reftable = sound.reftable }));
   above = let first = c.max-self.ensures in omega (arith, first);
+  quiet = λ few. inl (looks_none g.S.Storage.view c.args.file.now c.args.file.now refl);
   lacking = λ e lacks. (c.max-self.ensures, refl, refl);
   leaks = λ p sound. refl;
   hint = λ p d sound may hint. hint_header g.S.Storage.view p c.args.file.now c.args.self.now (record c.args.self.now { first_free_cluster = c.max-self.result }) sound.sound (λ k some below. let first = c.max-self.ensures in omega (arith, first, some, below)) hint;
@@ -80,6 +82,9 @@ search-preserved g c = record {
   limit = c.search.invariant.limit;
   near = c.search.invariant.near;
   above = let behind = c.in_ok-first.ensures.behind in omega (arith, behind);
+  quiet = λ few.
+      search_on g.S.Storage.view c.args.file.now c.search.file c.take_run.new.file c.args.self.now.reftable c.search.self.reftable c.take_run.new.self.reftable c.args.n c.in_ok-taken.taken c.args.file.now.free_list c.search.file.free_list c.take_run.new.file.free_list
+      c.search.invariant.former c.take_run.ensures.former (c.search.invariant.quiet few) (c.in_ok-taken.ensures.quiet few) c.pass_used.new.file c.pass_used.new.self.reftable c.if-taken-n.false c.pass_used.ensures.quiet (ap (λ (t : Allocator). t.reftable) c.pass_used.ensures.moves);
   marks = kept_marks_then (kept_marks_then c.search.invariant.marks c.take_run.ensures.marks) c.pass_used.ensures.marks;
   faults = c.in_ok-first.ensures.storage_faults.told ∙ (c.in_ok-taken.ensures.storage_faults.told ∙ c.search.invariant.faults);
   spared = spares_then (spares_then c.search.invariant.spared c.take_run.ensures.header_cluster) (spares_less (c.pass_used.ensures.header_cluster));
@@ -460,3 +465,17 @@ returns-then-taken-n-clause-aligned g c = avoids_as c.args.file.now.header c.sea
 
 pub returns-in_err-first-clause-aligned : goal.returns-in_err-first-clause-aligned
 returns-in_err-first-clause-aligned g c = if_no_ok _ c.from_residual-in_err-first.result c.in_err-first.field-0.0 c.from_residual-in_err-first.ensures
+
+pub returns-in_err-taken-clause-quiet : goal.returns-in_err-taken-clause-quiet
+returns-in_err-taken-clause-quiet g c = λ few. on_no_ok _ c.from_residual.result c.in_err-taken.field-0.0 c.from_residual.ensures
+
+pub returns-in_err-first-clause-quiet : goal.returns-in_err-first-clause-quiet
+returns-in_err-first-clause-quiet g c = λ few. on_no_ok _ c.from_residual-in_err-first.result c.in_err-first.field-0.0 c.from_residual-in_err-first.ensures
+
+pub returns-clause-quiet : goal.returns-clause-quiet
+returns-clause-quiet g c = λ few. tt
+
+pub returns-then-taken-n-clause-quiet : goal.returns-then-taken-n-clause-quiet
+returns-then-taken-n-clause-quiet g c = λ few.
+    search_ends g.S.Storage.view c.args.file.now c.search.file c.take_run.new.file c.args.self.now.reftable c.search.self.reftable c.take_run.new.self.reftable c.args.n c.in_ok-taken.taken c.args.file.now.free_list c.search.file.free_list c.take_run.new.file.free_list
+    c.search.invariant.former c.take_run.ensures.former (c.search.invariant.quiet few) (c.in_ok-taken.ensures.quiet few) c.if-taken-n.true

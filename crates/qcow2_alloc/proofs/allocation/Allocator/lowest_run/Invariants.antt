@@ -7,6 +7,7 @@ use Rattle.qcow2_alloc.specs.Faults.{faults_of}
 use Rattle.qcow2_alloc.specs.ImageFile.{AllocatorInvariant, KeepsHeader}
 use Rattle.qcow2_alloc.specs.FreeList.{pending_then, ListsTables, ListsReftables}
 use Rattle.qcow2_alloc.specs.LowestRuns.{NoFreeBelowHint, IsLowestRun, IsUsed, StaysUsed}
+use Rattle.qcow2_alloc.specs.QuietSearches.{LooksOrMakes}
 use Rattle.qcow2_alloc.specs.SparedHeaders.{SparesHeaderButPointer}
 use Rattle.qcow2_alloc.specs.declared.error.ImageError.{ImageError}
 use Rattle.qcow2_alloc.proofs.allocation.Allocator.lowest_run.Given as goal
@@ -20,6 +21,7 @@ invariant-search g l = record {
   limit : l.limit ≡ greatest_offset / 2 ^ l.fn.file.header.fields.cluster_bits + 1;
   near : l.limit ≤ 2 ^ 57;
   above : 0 < l.first;
+  quiet : l.fn.n ≤ 1 → LooksOrMakes g.S.Storage.view l.fn.file l.file l.fn.self.reftable l.self.reftable;
   marks : KeepsMarks g.S.Storage.view l.fn.file l.file;
   faults : faults_of g.S.Storage.view l.file.storage ≡ faults_of g.S.Storage.view l.fn.file.storage;
   spared : SparesHeaderButPointer g.S.Storage.view l.fn.self.reftable l.fn.file l.self.reftable l.file;

@@ -59,3 +59,9 @@ returns-in_err-next-clause-unaligned g c = λ u.
 
 pub returns-clause-unaligned : goal.returns-clause-unaligned
 returns-clause-unaligned g c = λ u. ok_no_err _ I.UnalignedTable (c.in_ok-next.ensures.unaligned u).0
+
+pub returns-in_err-next-clause-quiet : goal.returns-in_err-next-clause-quiet
+returns-in_err-next-clause-quiet g c = c.behind_used.ensures.quiet
+
+pub returns-clause-quiet : goal.returns-clause-quiet
+returns-clause-quiet g c = c.behind_used.ensures.quiet

@@ -18,6 +18,8 @@ use Rattle.qcow2_alloc.proofs.allocation.Allocator.raise.Goals.{then-rb_is_zero,
 use Rattle.qcow2_alloc.proofs.SparedHeaders.{spares_then, spares_tables}
 use Rattle.qcow2_alloc.specs.SparedHeaders.{SparesHeader}
 use Rattle.qcow2_alloc.specs.declared.image_file.ImageFile.{ImageFile}
+use Rattle.qcow2_alloc.proofs.QuietSearches.{counts_held}
+use Rattle.qcow2_alloc.specs.QuietSearches.{CountsQuietly}
 use Rattle.qcow2_alloc.proofs.allocation.Allocator.raise.Goals as goal
 
 zero_of : (n : _) → (n == 0) ≡ true → n ≡ 0
@@ -130,3 +132,16 @@ returns-in_default-clause-unaligned g c = λ u. ok_no_err _ I.UnalignedTable (c.
 
 pub returns-clause-unaligned : goal.returns-clause-unaligned
 returns-clause-unaligned g c = λ u. ok_no_err _ I.UnalignedTable (c.in_ok-block.ensures.unaligned (unaligned_as c.args.file.now.header.fields c.args.self.now.reftable c.args.cluster _ c.rb_bits-bits.ensures.counts u)).0
+
+pub returns-in_err-block-clause-quiet : goal.returns-in_err-block-clause-quiet
+returns-in_err-block-clause-quiet g c = if_no_ok _ c.from_residual.result c.in_err-block.field-0.0 c.from_residual.ensures
+
+pub returns-in_default-clause-quiet : goal.returns-in_default-clause-quiet
+returns-in_default-clause-quiet g c = c.load_block.ensures.quiet
+
+pub returns-clause-quiet : goal.returns-clause-quiet
+returns-clause-quiet g c = elim c.if-rb_is_zero.branch [
+  | then-rb_is_zero w ↦ of_equal (λ (f : ImageFile g.row.S.Denot) r. CountsQuietly g.S.Storage.view c.args.file.now f r) c.if-rb_is_zero.file (record c.load_block.new.file { caches = w.rb_increment.new.self }) c.if-rb_is_zero.result w.rb_increment.result w.file-is w.result-is
+      (counts_held g.S.Storage.view c.args.file.now c.load_block.new.file w.rb_increment.new.self w.rb_increment.result w.rb_increment.ensures.refused c.load_block.ensures.quiet)
+  | else-rb_is_zero w ↦ of_equal (λ (f : ImageFile g.row.S.Denot) r. CountsQuietly g.S.Storage.view c.args.file.now f r) c.if-rb_is_zero.file c.load_block.new.file c.if-rb_is_zero.result false w.file-is (w.result-is ∙ w.if-rb_is_zero.false) c.load_block.ensures.quiet
+]

@@ -1,4 +1,4 @@
-use Rattle.std.proofs.Common.{◌≡◌, sym, ap, subst, ◌/◌, arith, ◌^◌, ◌∙◌, Result}
+use Rattle.std.proofs.Common.{◌≡◌, sym, ap, subst, ◌/◌, arith, ◌^◌, ◌∙◌, Result, inr}
 use Rattle.qcow2_laws.specs.CrashInvariant.{Pending}
 use Rattle.qcow2_metadata.specs.Header.{counts_per_block}
 use Rattle.qcow2_alloc.specs.Allocation.{GrowsTable}
@@ -96,7 +96,7 @@ returns-clause-former g c =
     let past = not_below (c.args.cluster / 2 ^ c.rb_bits.result) (entry_count c.args.self.now.reftable) c.in_bounds.result c.in_bounds.ensures c.if-in_bounds.false in
     let within = c.in_ok-grow_reftable.ensures.length.enough.above in
     former_then c.args.self.now.reftable c.grow_reftable.new.self.reftable c.ensure_block-2.new.self.reftable c.args.file.now.free_list c.grow_reftable.new.file.free_list c.ensure_block-2.new.file.free_list
-    (former_one c.args.self.now.reftable c.grow_reftable.new.self.reftable gave.0 c.args.file.now.free_list c.grow_reftable.new.file.free_list gave.1 (omega (arith, past, within)) gave.3 gave.4 gave.2)
+    (former_one c.args.self.now.reftable c.grow_reftable.new.self.reftable gave.0 c.args.file.now.free_list c.grow_reftable.new.file.free_list gave.1 (omega (arith, past, within)) gave.3 gave.4 gave.5 gave.2)
     (former_same c.grow_reftable.new.self.reftable c.ensure_block-2.new.self.reftable c.grow_reftable.new.file.free_list c.ensure_block-2.new.file.free_list c.ensure_block-2.ensures.named c.ensure_block-2.ensures.list)
 
 pub returns-then-in_bounds-clause-marks : goal.returns-then-in_bounds-clause-marks
@@ -217,3 +217,16 @@ returns-clause-listed g c = λ p sound.
     let gave = c.in_ok-grow_reftable.ensures.former in
     lists_used_still g.S.Storage.view c.args.file.now c.grow_reftable.new.file c.ensure_block-2.new.file
     (lists_used_one g.S.Storage.view p c.args.file.now c.grow_reftable.new.file c.args.self.now.reftable gave.0 sound.sound sound.reftable gave.1 gave.2) c.ensure_block-2.ensures.list
+
+pub returns-then-in_bounds-clause-quiet : goal.returns-then-in_bounds-clause-quiet
+returns-then-in_bounds-clause-quiet g c = c.ensure_block.ensures.quiet
+
+pub returns-in_err-grow_reftable-clause-quiet : goal.returns-in_err-grow_reftable-clause-quiet
+returns-in_err-grow_reftable-clause-quiet g c = on_no_ok _ c.from_residual.result c.in_err-grow_reftable.field-0.0 c.from_residual.ensures
+
+pub returns-clause-quiet : goal.returns-clause-quiet
+returns-clause-quiet g c =
+    let past = not_below (c.args.cluster / 2 ^ c.rb_bits.result) (entry_count c.args.self.now.reftable) c.in_bounds.result c.in_bounds.ensures c.if-in_bounds.false in
+    let within = c.in_ok-grow_reftable.ensures.length.enough.above in
+    let count = c.ensure_block-2.ensures.named.count in
+    ok_as _ _ c.ensure_block-2.result (λ has. inr (inr (omega (arith, past, within, count)))) c.ensure_block-2.ensures.has

@@ -210,3 +210,7 @@ returns-then-not-branch-clause-header_cluster g c = spares_then c.reaching.invar
 
 pub returns-clause-header_cluster : goal.returns-clause-header_cluster
 returns-clause-header_cluster g c = c.reaching.invariant.spared
+
+pub returns-then-not-branch-clause-noted : goal.returns-then-not-branch-clause-noted
+returns-then-not-branch-clause-noted g c =
+    still_noted c.args.file.now.header.fields c.args.self.now.reftable c.args.first c.reaching.taken c.reaching.file.caches.is_changed c.take_if_free.new.file.caches.is_changed c.take_if_free.ensures.marks.pins.changes.noted c.reaching.invariant.noted

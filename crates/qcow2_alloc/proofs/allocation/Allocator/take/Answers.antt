@@ -20,6 +20,7 @@ use Rattle.qcow2_alloc.proofs.Outcomes.{err_as, ok_no_err, told_after, if_no_ok,
 use Rattle.qcow2_alloc.specs.declared.error.ImageError.TheVariants as I
 use Rattle.qcow2_alloc.proofs.SparedHeaders.{spares_then, spares_less, spares_as}
 use Rattle.qcow2_alloc.proofs.MadeClusters.{lists_used_still}
+use Rattle.qcow2_alloc.proofs.QuietSearches.{counts_then}
 use Rattle.qcow2_alloc.proofs.allocation.Allocator.take.Goals as goal
 
 pub returns-in_err-reach_block-clause-sound : goal.returns-in_err-reach_block-clause-sound
@@ -270,3 +271,18 @@ returns-clause-aligned g c = λ taken.
       | else-cluster-self w ↦ ap (λ (t : Allocator). t.reftable) w.self-is
     ] in
     aligned_as c.args.file.now.header c.reach_block.new.file.header c.reach_block.new.self.reftable c.if-cluster-self.self.reftable c.args.cluster c.reach_block.ensures.header (same ∙ ap (λ (t : Allocator). t.reftable) c.raise.ensures.same) (c.in_ok-taken.ensures.aligned taken)
+
+pub returns-in_err-reach_block-clause-quiet : goal.returns-in_err-reach_block-clause-quiet
+returns-in_err-reach_block-clause-quiet g c = if_no_ok _ c.from_residual.result c.in_err-reach_block.field-0.0 c.from_residual.ensures
+
+pub returns-in_err-taken-clause-quiet : goal.returns-in_err-taken-clause-quiet
+returns-in_err-taken-clause-quiet g c = if_no_ok _ c.from_residual-in_err-taken.result c.in_err-taken.field-0.0 c.from_residual-in_err-taken.ensures
+
+pub returns-clause-quiet : goal.returns-clause-quiet
+returns-clause-quiet g c =
+    let same : c.if-cluster-self.self.reftable ≡ c.raise.new.self.reftable = elim c.if-cluster-self.branch [
+      | then-cluster-self w ↦ ap (λ (t : Allocator). t.reftable) w.self-is
+      | else-cluster-self w ↦ ap (λ (t : Allocator). t.reftable) w.self-is
+    ] in
+    counts_then g.S.Storage.view c.args.file.now c.reach_block.new.file c.raise.new.file c.args.self.now.reftable c.reach_block.new.self.reftable c.if-cluster-self.self.reftable c.in_ok-taken.taken
+    (same ∙ ap (λ (t : Allocator). t.reftable) c.raise.ensures.same) c.in_ok-reach_block.ensures.quiet c.in_ok-taken.ensures.quiet

@@ -31,6 +31,7 @@ use Rattle.qcow2_metadata.specs.Header.{counts_per_block}
 use Rattle.qcow2_metadata.specs.EntryTable.{EntryTableView}
 use Rattle.qcow2_metadata.specs.declared.header.HeaderFields.{HeaderFields}
 use Rattle.qcow2_alloc.specs.declared.error.ImageError.TheVariants as I
+use Rattle.qcow2_alloc.proofs.QuietSearches.{first_free, first_used, run_ends}
 use Rattle.qcow2_alloc.proofs.allocation.Allocator.take_run.Goals as goal
 
 -- none, where there aren't some
@@ -78,6 +79,8 @@ taking-init g c = record {
   uses = λ p d sound may k used. used;
   free = λ p d sound may k some used. let none = run_none c.args.first k in omega (arith, none, some);
   lacking = λ e lacks. (refl, refl, refl);
+  still = λ none. (refl, refl);
+  one = λ some. absurd (omega (arith, some));
   aligned = avoids_none c.args.file.now.header.fields c.args.self.now.reftable c.args.first;
   sound = λ p d sound may.
       subst (λ (r : Pending). UnseenAllocatorGrowth g.S.Storage.view p c.args.file.now c.args.self.now c.args.file.now r)
@@ -165,6 +168,11 @@ taking-preserved g c = record {
   lacking = λ e lacks.
       let at = c.taking.invariant.lacking e lacks in
       ok_no_err c.in-Ok-true.field-0 e (refuses c.args.file.now.header.fields c.taking.file.header.fields c.args.self.now.reftable c.taking.self.reftable c.args.first c.taking.taken (Ok c.in-Ok-true.field-0) (c.take.new.file ≡ c.taking.file) e (ap (λ (f : ImageFile g.row.S.Denot). f.header.fields) at.2) at.1 at.0 c.in-Ok-true.ensures.unaligned c.in-Ok-true.ensures.first_range lacks).0;
+  still = λ none. absurd (omega (arith, none));
+  one = λ one.
+      let at = c.taking.invariant.still (omega (arith, one)) in
+      first_free g.S.Storage.view c.args.file.now c.taking.file c.take.new.file c.take.new.file c.args.self.now.reftable c.taking.self.reftable c.take.new.self.reftable c.take.new.self.reftable at.0 at.1
+      (rw c.in-Ok-true.field-0-test at c.in-Ok-true.ensures.quiet);
   aligned = avoids_more c.args.file.now.header.fields c.take.new.self.reftable c.args.first c.taking.taken (avoids_then c.args.file.now.header.fields c.taking.self.reftable c.take.new.self.reftable c.args.first c.taking.taken c.take.ensures.former.ranges c.taking.invariant.aligned)
       (aligned_as c.args.file.now.header c.taking.file.header c.take.new.self.reftable c.take.new.self.reftable (c.args.first + c.taking.taken) c.taking.invariant.header refl (c.in-Ok-true.ensures.aligned c.in-Ok-true.field-0-test));
   leaks = λ p sound.
@@ -615,3 +623,25 @@ pub returns-clause-aligned : goal.returns-clause-aligned
 returns-clause-aligned g c = λ all.
     let all : c.taking.taken ≡ c.args.n = let le = c.taking.auto.taken-end in let past = c.taking-test.false in omega arith in
     subst (AvoidsUnaligned c.args.file.now.header.fields c.taking.self.reftable c.args.first) all c.taking.invariant.aligned
+
+pub returns-in_err-give_back-in-Ok-false-clause-quiet : goal.returns-in_err-give_back-in-Ok-false-clause-quiet
+returns-in_err-give_back-in-Ok-false-clause-quiet g c = λ few. if_no_ok _ c.from_residual.result c.in_err-give_back-in-Ok-false.field-0.0 c.from_residual.ensures
+
+pub returns-in_err-give_back-in-Err-clause-quiet : goal.returns-in_err-give_back-in-Err-clause-quiet
+returns-in_err-give_back-in-Err-clause-quiet g c = λ few. if_no_ok _ c.from_residual-in_err-give_back-in-Err.result c.in_err-give_back-in-Err.field-0.0 c.from_residual-in_err-give_back-in-Err.ensures
+
+pub returns-in-Err-clause-quiet : goal.returns-in-Err-clause-quiet
+returns-in-Err-clause-quiet g c = λ few. tt
+
+pub returns-in-Ok-false-clause-quiet : goal.returns-in-Ok-false-clause-quiet
+returns-in-Ok-false-clause-quiet g c = λ few.
+    let lt = c.taking-test.true in
+    let none : c.taking.taken ≡ 0 = omega (arith, lt, few) in
+    let at = c.taking.invariant.still none in
+    first_used g.S.Storage.view c.args.file.now c.taking.file c.take.new.file c.give_back.new.file c.args.self.now.reftable c.taking.self.reftable c.take.new.self.reftable c.give_back.new.self.reftable at.0 at.1
+    c.args.n c.taking.taken (omega (arith, lt)) (c.give_back.ensures.none none).1 c.give_back.ensures.reftable (rw c.in-Ok-false.field-0-test at c.in-Ok-false.ensures.quiet)
+
+pub returns-clause-quiet : goal.returns-clause-quiet
+returns-clause-quiet g c = λ few.
+    let all : c.taking.taken ≡ c.args.n = let le = c.taking.auto.taken-end in let past = c.taking-test.false in omega arith in
+    run_ends g.S.Storage.view c.args.file.now c.taking.file c.args.self.now.reftable c.taking.self.reftable c.args.n c.taking.taken all few c.taking.invariant.still c.taking.invariant.one

@@ -6,6 +6,7 @@ use Rattle.qcow2_alloc.specs.Faults.{faults_of}
 use Rattle.qcow2_alloc.specs.ImageFile.{AllocatorInvariant, KeepsHeader}
 use Rattle.qcow2_alloc.specs.FreeList.{pending_then, ListsTables, ListsReftables}
 use Rattle.qcow2_alloc.specs.LowestRuns.{NoFreeBelowHint, IsUsed}
+use Rattle.qcow2_alloc.specs.QuietSearches.{SearchesQuietly}
 use Rattle.qcow2_alloc.specs.SparedHeaders.{SparesHeaderButPointer}
 use Rattle.qcow2_alloc.specs.declared.error.ImageError.{ImageError}
 use Rattle.qcow2_alloc.proofs.allocation.Allocator.take_run.Given as goal
@@ -26,5 +27,7 @@ invariant-taking g l = record {
   uses : (p : Pending) (d : Bool) → AllocatorInvariant g.S.Storage.view l.fn.self p l.fn.file → MayTake d l.fn.file → (k : ℕ) → IsUsed g.S.Storage.view l.fn.file k → IsUsed g.S.Storage.view l.file k;
   free : (p : Pending) (d : Bool) → AllocatorInvariant g.S.Storage.view l.fn.self p l.fn.file → MayTake d l.fn.file → (k : ℕ) → 0 < run_at l.fn.first l.taken k → ¬ IsUsed g.S.Storage.view l.fn.file k;
   lacking : (e : ImageError) → LacksBlock l.fn.file.header.fields l.fn.self.reftable l.fn.first e → (l.taken ≡ 0) × (l.self.reftable ≡ l.fn.self.reftable) × (l.file ≡ l.fn.file);
+  still : l.taken ≡ 0 → (l.file ≡ l.fn.file) × (l.self.reftable ≡ l.fn.self.reftable);
+  one : l.taken ≡ 1 → SearchesQuietly g.S.Storage.view l.fn.file l.file l.fn.self.reftable l.self.reftable;
   aligned : AvoidsUnaligned l.fn.file.header.fields l.self.reftable l.fn.first l.taken;
 }

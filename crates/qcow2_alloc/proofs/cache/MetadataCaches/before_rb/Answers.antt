@@ -13,3 +13,6 @@ returns-in-RbDependsOnL2-clause-header_cluster g c = c.write_tables.ensures.head
 
 pub returns-in-RbDependsOnL2-clause-apart : goal.returns-in-RbDependsOnL2-clause-apart
 returns-in-RbDependsOnL2-clause-apart g c = c.write_tables.ensures.apart (tables_free c.args.self.now (inr c.in-RbDependsOnL2.is))
+
+pub returns-in-RbDependsOnL2-clause-all_written : goal.returns-in-RbDependsOnL2-clause-all_written
+returns-in-RbDependsOnL2-clause-all_written g c = c.write_tables.ensures.all_written

@@ -9,6 +9,7 @@ use Rattle.qcow2_alloc.proofs.KeptTables.InOrder.{order_none}
 use Rattle.qcow2_alloc.proofs.KeptTables.BehindHeader.{caches_none, turned_behind}
 use Rattle.qcow2_alloc.specs.KeptNotes.{kept_same}
 use Rattle.qcow2_alloc.proofs.KeptTables.ApartCalls.{apart_none, apart_turned}
+use Rattle.qcow2_alloc.proofs.KeptTables.AllWritten.{written_none, written_turned}
 use Rattle.qcow2_alloc.proofs.cache.MetadataCaches.l2_depends_on_rb.Goals as goal
 use Rattle.qcow2_alloc.proofs.cache.MetadataCaches.l2_depends_on_rb.Goals.{in-L2DependsOnRb, in-None, in-RbDependsOnL2+in_ok-write_tables-in-RbDependsOnL2}
 
@@ -75,3 +76,13 @@ returns-clause-written g c = elim c.match-self.branch [
 -- only the tables that are written can refuse it
 pub returns-in_err-write_tables-in-RbDependsOnL2-clause-turned : goal.returns-in_err-write_tables-in-RbDependsOnL2-clause-turned
 returns-in_err-write_tables-in-RbDependsOnL2-clause-turned g c = on_err _ c.from_residual.result (ap order c.in-RbDependsOnL2.is)
+
+pub returns-in_err-write_tables-in-RbDependsOnL2-clause-all_written : goal.returns-in_err-write_tables-in-RbDependsOnL2-clause-all_written
+returns-in_err-write_tables-in-RbDependsOnL2-clause-all_written g c = c.write_tables.ensures.all_written
+
+pub returns-clause-all_written : goal.returns-clause-all_written
+returns-clause-all_written g c = elim c.match-self.branch [
+  | in-L2DependsOnRb w ↦ rw (w.self-is, w.storage-is) (written_none g.S.Storage.view c.args.storage.now c.args.self.now)
+  | in-None w ↦ rw (w.self-is, w.storage-is) (written_turned D.L2DependsOnRb (written_none g.S.Storage.view c.args.storage.now c.args.self.now))
+  | in-RbDependsOnL2+in_ok-write_tables-in-RbDependsOnL2 w ↦ rw (w.self-is, w.storage-is) (written_turned D.L2DependsOnRb w.write_tables.ensures.all_written)
+]

@@ -16,6 +16,7 @@ use Rattle.qcow2_alloc.proofs.Outcomes.{never}
 use Rattle.qcow2_alloc.proofs.KeptTables.BehindHeader.{block_got_behind, caches_then}
 use Rattle.qcow2_alloc.specs.KeptNotes.{kept_then}
 use Rattle.qcow2_alloc.proofs.KeptTables.ApartCalls.{apart_then, block_got_apart}
+use Rattle.qcow2_alloc.proofs.KeptTables.AllWritten.{block_got_written, written_then}
 use Rattle.qcow2_alloc.proofs.cache.MetadataCaches.rb_get_or_insert.Goals as goal
 
 pub returns-in_err-get_or_insert-clause-keeps : goal.returns-in_err-get_or_insert-clause-keeps
@@ -217,3 +218,18 @@ returns-in_err-get_or_insert-2-clause-apart g c = apart_then c.before_rb.ensures
 
 pub returns-clause-apart : goal.returns-clause-apart
 returns-clause-apart g c = apart_then c.before_rb.ensures.order (apart_then refl (block_got_apart g.S.Storage.view c.args.storage.now c.get_or_insert.new.store c.args.self.now c.get_or_insert.new.self c.get_or_insert.ensures.others c.get_or_insert.ensures.distinct false c.args.cluster c.get_or_insert.result (λ flush. never flush) c.get_or_insert.ensures.hit c.get_or_insert.ensures.miss) c.before_rb.ensures.apart) (block_got_apart g.S.Storage.view c.before_rb.new.storage c.get_or_insert-2.new.store c.before_rb.new.self c.get_or_insert-2.new.self c.get_or_insert-2.ensures.others c.get_or_insert-2.ensures.distinct true c.args.cluster c.get_or_insert-2.result (λ _. c.in_ok-before_rb.ensures.first) c.get_or_insert-2.ensures.hit c.get_or_insert-2.ensures.miss)
+
+pub returns-in_err-get_or_insert-clause-all_written : goal.returns-in_err-get_or_insert-clause-all_written
+returns-in_err-get_or_insert-clause-all_written g c = block_got_written g.S.Storage.view c.args.storage.now c.get_or_insert.new.store c.args.self.now false c.args.cluster c.get_or_insert.new.self c.get_or_insert.result c.get_or_insert.ensures.hit c.get_or_insert.ensures.miss
+
+pub returns-then-branch-clause-all_written : goal.returns-then-branch-clause-all_written
+returns-then-branch-clause-all_written g c = block_got_written g.S.Storage.view c.args.storage.now c.get_or_insert.new.store c.args.self.now false c.args.cluster c.get_or_insert.new.self c.get_or_insert.result c.get_or_insert.ensures.hit c.get_or_insert.ensures.miss
+
+pub returns-in_err-before_rb-clause-all_written : goal.returns-in_err-before_rb-clause-all_written
+returns-in_err-before_rb-clause-all_written g c = written_then g.S.Storage.view (block_got_written g.S.Storage.view c.args.storage.now c.get_or_insert.new.store c.args.self.now false c.args.cluster c.get_or_insert.new.self c.get_or_insert.result c.get_or_insert.ensures.hit c.get_or_insert.ensures.miss) c.before_rb.ensures.all_written
+
+pub returns-in_err-get_or_insert-2-clause-all_written : goal.returns-in_err-get_or_insert-2-clause-all_written
+returns-in_err-get_or_insert-2-clause-all_written g c = written_then g.S.Storage.view (written_then g.S.Storage.view (block_got_written g.S.Storage.view c.args.storage.now c.get_or_insert.new.store c.args.self.now false c.args.cluster c.get_or_insert.new.self c.get_or_insert.result c.get_or_insert.ensures.hit c.get_or_insert.ensures.miss) c.before_rb.ensures.all_written) (block_got_written g.S.Storage.view c.before_rb.new.storage c.get_or_insert-2.new.store c.before_rb.new.self true c.args.cluster c.get_or_insert-2.new.self c.get_or_insert-2.result c.get_or_insert-2.ensures.hit c.get_or_insert-2.ensures.miss)
+
+pub returns-clause-all_written : goal.returns-clause-all_written
+returns-clause-all_written g c = written_then g.S.Storage.view (written_then g.S.Storage.view (block_got_written g.S.Storage.view c.args.storage.now c.get_or_insert.new.store c.args.self.now false c.args.cluster c.get_or_insert.new.self c.get_or_insert.result c.get_or_insert.ensures.hit c.get_or_insert.ensures.miss) c.before_rb.ensures.all_written) (block_got_written g.S.Storage.view c.before_rb.new.storage c.get_or_insert-2.new.store c.before_rb.new.self true c.args.cluster c.get_or_insert-2.new.self c.get_or_insert-2.result c.get_or_insert-2.ensures.hit c.get_or_insert-2.ensures.miss)

@@ -226,7 +226,8 @@ returns-clause-lowest_tables g c = λ out sound whole.
     let longer = ap (λ l. record b { file = record b.file { free_list = l } }) (c.hand_back.ensures ∙ ap (λ l. b.file.free_list ++ l) c.take.ensures.taken) in
     let none = no_pins c.l2_is_pinned.result (l2_pins mid.file.caches table) c.l2_is_pinned.ensures c.if-l2_is_pinned.false in
     let is : own_table mid from ≡ table = own_table_known view below out (pending_in view below mid out) mid from table found.0.sound found.1.entry.place in
-    tables_listing view from table old mid new is (λ own. (c.in_ok-table.ensures.own own).table) (ap (λ (i : Qcow2 _ _). i.file.header) clears.rest) (ap (λ (i : Qcow2 _ _). i.l1_table) clears.rest) (ap (λ (i : Qcow2 _ _). i.allocator) clears.rest)
+    let since = c.in_ok-table.ensures.freed out sound in
+    tables_listing view from table old mid new (since.freed ++ since.more, since.gone) is (λ own. (c.in_ok-table.ensures.own own).table) (ap (λ (i : Qcow2 _ _). i.file.header) clears.rest) (ap (λ (i : Qcow2 _ _). i.l1_table) clears.rest) (ap (λ (i : Qcow2 _ _). i.allocator) clears.rest)
     (clears_uses view below out old mid b new how from to table found.0 found.1 whole c.requires.some none list reads clears longer)
     (clears_listed view below out old mid b new how from to table found.0 found.1 whole c.requires.some none list reads clears longer sound)
     (c.in_ok-table.ensures.moves out sound) (c.in_ok-table.ensures.lowest out sound)

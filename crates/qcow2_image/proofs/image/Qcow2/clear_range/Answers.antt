@@ -2,7 +2,7 @@ use Rattle.qcow2_image.proofs.image.Qcow2.clear_range.Goals as goal
 use Rattle.qcow2_alloc.specs.ImageStorage.{is_changed_of}
 use Rattle.std.proofs.lemmas.Bool.{or_right}
 use Rattle.qcow2_image.specs.Noted.{FailsOnceWritten}
-use Rattle.qcow2_image.proofs.Call.OnceWritten.{kept_noted, notes_begun, notes_part, notes_since, once_marked, once_none, once_written, part_none}
+use Rattle.qcow2_image.proofs.Call.OnceWritten.{answered_counts, counts_begun, fails_marked, fails_none, fails_once, kept_noted, notes_begun, notes_part, notes_since, part_none}
 use Rattle.std.proofs.Common.{◌≡◌, ◌<◌, ◌+◌, ◌-◌, ℕ, min, sym, ap, ◌∙◌, subst, arith, inl, refl}
 use Rattle.std.specs.Prelude.{None, Some, Ok, Err, IfErr, IfOk, IsTrue, OnOk, Result, IsErrAnd, ◌⊎◌}
 use Rattle.qcow2_alloc.specs.declared.error.ImageError.TheVariants.{Memory, TablePrepared, Limit, Overflow}
@@ -464,28 +464,32 @@ pub returns-clause-header_cluster : goal.returns-clause-header_cluster
 returns-clause-header_cluster g c = behind_then (behind_call g.S.Storage.view c.begin.ensures.begun c.clear_between-cleared.ensures.header_cluster c.mark_failure.ensures.rest) c.end_freeing.ensures.header_cluster
 
 pub returns-in_err-from-clause-once_written : goal.returns-in_err-from-clause-once_written
-returns-in_err-from-clause-once_written g c = λ memory. once_none g.S.Storage.view c.args.self.now
+returns-in_err-from-clause-once_written g c = fails_none g.S.Storage.view c.args.self.now _
 
 pub returns-then-to-from-clause-once_written : goal.returns-then-to-from-clause-once_written
-returns-then-to-from-clause-once_written g c = λ memory. once_none g.S.Storage.view c.args.self.now
+returns-then-to-from-clause-once_written g c = fails_none g.S.Storage.view c.args.self.now _
 
 pub returns-in_err-mark_failure-clause-once_written : goal.returns-in_err-mark_failure-clause-once_written
 returns-in_err-mark_failure-clause-once_written g c =
     handed_on (λ r. FailsOnceWritten g.S.Storage.view c.args.self.now c.mark_failure.new.self r) c.from_residual-in_err-mark_failure.result c.in_err-mark_failure.field-0.0 c.from_residual-in_err-mark_failure.ensures
-    (λ memory. once_written g.S.Storage.view c.args.self.now c.begin.new.self c.begin.ensures.begun c.clear_between-cleared.new.self c.mark_failure.new.self c.clear_between-cleared.result c.clear_between-cleared.ensures.notes
-    (c.clear_between-cleared.ensures.stays.failed ∙ c.begin.ensures.stays.failed) c.mark_failure.ensures.marks c.mark_failure.ensures.rest (sym c.mark_failure.ensures.answer ∙ c.in_err-mark_failure.was ∙ err_as c.in_err-mark_failure.field-0.0 Memory memory))
+    (fails_once g.S.Storage.view c.args.self.now c.begin.new.self c.begin.ensures.begun c.clear_between-cleared.new.self c.mark_failure.new.self c.clear_between-cleared.result c.clear_between-cleared.ensures.notes
+    (c.clear_between-cleared.ensures.stays.failed ∙ c.begin.ensures.stays.failed) c.mark_failure.ensures.marks c.mark_failure.ensures.rest (Err c.in_err-mark_failure.field-0.0) (λ memory. sym c.mark_failure.ensures.answer ∙ c.in_err-mark_failure.was ∙ err_as c.in_err-mark_failure.field-0.0 Memory memory))
 
 pub returns-in_err-end_freeing-clause-once_written : goal.returns-in_err-end_freeing-clause-once_written
 returns-in_err-end_freeing-clause-once_written g c =
     let done : c.clear_between-cleared.result ≡ Ok c.in_ok-mark_failure.field-0 = sym c.mark_failure.ensures.answer ∙ c.in_ok-mark_failure.was in
     let kept = subst (λ (r : Result _ _). MayMarkBy r (is_failed c.clear_between-cleared.new.self) (is_failed c.mark_failure.new.self)) done (may_mark c.clear_between-cleared.new.self c.mark_failure.new.self c.clear_between-cleared.result c.mark_failure.ensures.marks) in
     handed_on (λ r. FailsOnceWritten g.S.Storage.view c.args.self.now c.end_freeing.new.self r) c.from_residual-in_err-end_freeing.result c.in_err-end_freeing.field-0.0 c.from_residual-in_err-end_freeing.ensures
-    (λ memory. once_marked g.S.Storage.view c.args.self.now c.begin.new.self c.begin.ensures.begun c.mark_failure.new.self c.end_freeing.new.self c.end_freeing.result
+    (fails_marked g.S.Storage.view c.args.self.now c.begin.new.self c.begin.ensures.begun c.mark_failure.new.self c.end_freeing.new.self c.end_freeing.result
     (notes_then (notes_then c.clear_between-cleared.ensures.notes (same_kept c.clear_between-cleared.new.self c.mark_failure.new.self (ap (λ (i : Qcow2 _ _). i.file.storage) c.mark_failure.ensures.rest) (ap (λ (i : Qcow2 _ _). i.file.caches) c.mark_failure.ensures.rest))) c.end_freeing.ensures.notes)
-    (kept ∙ c.clear_between-cleared.ensures.stays.failed ∙ c.begin.ensures.stays.failed) c.end_freeing.ensures.marks (c.in_err-end_freeing.was ∙ err_as c.in_err-end_freeing.field-0.0 Memory memory))
+    (kept ∙ c.clear_between-cleared.ensures.stays.failed ∙ c.begin.ensures.stays.failed) c.end_freeing.ensures.marks (Err c.in_err-end_freeing.field-0.0) (λ memory. c.in_err-end_freeing.was ∙ err_as c.in_err-end_freeing.field-0.0 Memory memory))
 
 pub returns-clause-once_written : goal.returns-clause-once_written
-returns-clause-once_written g c = λ bad. absurd (cc)
+returns-clause-once_written g c =
+    let new = c.end_freeing.new.self in
+    answered_counts g.S.Storage.view c.args.self.now new _
+    (counts_begun g.S.Storage.view c.args.self.now c.begin.new.self c.begin.ensures.begun new
+    (notes_then (notes_then c.clear_between-cleared.ensures.notes (same_kept c.clear_between-cleared.new.self c.mark_failure.new.self (ap (λ (i : Qcow2 _ _). i.file.storage) c.mark_failure.ensures.rest) (ap (λ (i : Qcow2 _ _). i.file.caches) c.mark_failure.ensures.rest))) c.end_freeing.ensures.notes))
 
 pub returns-in_err-from-clause-changed : goal.returns-in_err-from-clause-changed
 returns-in_err-from-clause-changed g c = λ out sound touched. on_no_ok _ c.from_residual.result c.in_err-from.field-0.0 c.from_residual.ensures

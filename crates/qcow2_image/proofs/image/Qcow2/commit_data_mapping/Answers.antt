@@ -18,7 +18,7 @@ use Rattle.qcow2_image.proofs.Commit.CommitCalls.{commit_interruption, commit_br
 use Rattle.qcow2_image.proofs.Call.FaultCounts.{fewer_of, counted_as, faults_then}
 use Rattle.qcow2_image.specs.Faults.{CountsImageFaults}
 use Rattle.qcow2_alloc.proofs.KeptMarks.{notes_then}
-use Rattle.qcow2_image.proofs.Call.OnceWritten.{once_none, once_marked}
+use Rattle.qcow2_image.proofs.Call.OnceWritten.{once_marked, commit_fails_none, counts_begun, counts_on, counts_released}
 use Rattle.qcow2_image.proofs.Call.BehindHeader.{behind_begun, behind_then}
 use Rattle.qcow2_image.proofs.Commit.Copied.{stands_copied}
 use Rattle.qcow2_image.proofs.image.Qcow2.commit_data_mapping.Goals.{then-entered, else-entered}
@@ -87,12 +87,12 @@ pub returns-in-Ok-clause-quiet : goal.returns-in-Ok-clause-quiet
 returns-in-Ok-clause-quiet g c = λ nothing none.
     ap (λ (image : Qcow2 _ _). storage_of image.file.storage) c.release_prepared-in-Ok.ensures.rest.rest
     ∙ ap (λ (image : Qcow2 _ _). storage_of image.file.storage) (c.end_freeing.ensures.idle (c.enter_shares-entered.ensures.quiet none ∙ c.begin.ensures.list ∙ nothing)).1
-    ∙ ap storage_of c.enter_shares-entered.ensures.storage ∙ c.begin.ensures.storage
+    ∙ ap (λ (image : Qcow2 _ _). storage_of image.file.storage) c.enter_shares-entered.ensures.rest ∙ c.begin.ensures.storage
 
 pub returns-after-entered-clause-quiet : goal.returns-after-entered-clause-quiet
 returns-after-entered-clause-quiet g c = λ nothing none.
     ap (λ (image : Qcow2 _ _). storage_of image.file.storage) (c.end_freeing.ensures.idle (c.enter_shares-entered.ensures.quiet none ∙ c.begin.ensures.list ∙ nothing)).1
-    ∙ ap storage_of c.enter_shares-entered.ensures.storage ∙ c.begin.ensures.storage
+    ∙ ap (λ (image : Qcow2 _ _). storage_of image.file.storage) c.enter_shares-entered.ensures.rest ∙ c.begin.ensures.storage
 
 pub returns-in-Ok-clause-faults : goal.returns-in-Ok-clause-faults
 returns-in-Ok-clause-faults g c =
@@ -116,12 +116,28 @@ returns-after-entered-clause-faults g c =
     (told.no_fewer, λ is. told.rose (sym c.refused_commit.ensures.reason ∙ is), λ other. told.told (λ is. other (c.refused_commit.ensures.reason ∙ is)))
 
 pub returns-then-prepared-self-clause-once_written : goal.returns-then-prepared-self-clause-once_written
-returns-then-prepared-self-clause-once_written g c = λ memory. once_none g.S.Storage.view c.args.self.now
+returns-then-prepared-self-clause-once_written g c = commit_fails_none g.S.Storage.view c.args.self.now _
+
+pub returns-then-self-clause-once_written : goal.returns-then-self-clause-once_written
+returns-then-self-clause-once_written g c = commit_fails_none g.S.Storage.view c.args.self.now _
+
+pub returns-then-is_none-clause-once_written : goal.returns-then-is_none-clause-once_written
+returns-then-is_none-clause-once_written g c = record { counts = counts_released g.S.Storage.view c.args.self.now c.release_prepared.new.self c.release_prepared.ensures.rest; memory = tt }
+
+pub returns-in-Ok-clause-once_written : goal.returns-in-Ok-clause-once_written
+returns-in-Ok-clause-once_written g c =
+    let view = g.S.Storage.view in
+    let freed = c.end_freeing.new.self in
+    let new = c.release_prepared-in-Ok.new.self in
+    let first = counts_begun view c.args.self.now c.begin.new.self c.begin.ensures.begun freed (notes_then c.enter_shares-entered.ensures.notes c.end_freeing.ensures.notes) in
+    record { counts = counts_on view c.args.self.now freed new first (counts_released view freed new c.release_prepared-in-Ok.ensures.rest); memory = tt }
 
 pub returns-after-entered-clause-once_written : goal.returns-after-entered-clause-once_written
-returns-after-entered-clause-once_written g c = λ memory.
-    once_marked g.S.Storage.view c.args.self.now c.begin.new.self c.begin.ensures.begun c.enter_shares-entered.new.self c.end_freeing.new.self c.end_freeing.result (notes_then c.enter_shares-entered.ensures.notes c.end_freeing.ensures.notes)
-    (c.enter_shares-entered.ensures.stays.failed ∙ c.begin.ensures.stays.failed) c.end_freeing.ensures.marks (c.in-Err.is ∙ ap Err (sym c.refused_commit.ensures.reason ∙ memory))
+returns-after-entered-clause-once_written g c = record {
+  counts = counts_begun g.S.Storage.view c.args.self.now c.begin.new.self c.begin.ensures.begun c.end_freeing.new.self (notes_then c.enter_shares-entered.ensures.notes c.end_freeing.ensures.notes);
+  memory = λ memory. once_marked g.S.Storage.view c.args.self.now c.begin.new.self c.begin.ensures.begun c.enter_shares-entered.new.self c.end_freeing.new.self c.end_freeing.result (notes_then c.enter_shares-entered.ensures.notes c.end_freeing.ensures.notes)
+      (c.enter_shares-entered.ensures.stays.failed ∙ c.begin.ensures.stays.failed) c.end_freeing.ensures.marks (c.in-Err.is ∙ ap Err (sym c.refused_commit.ensures.reason ∙ memory));
+}
 
 pub returns-then-is_none-clause-header_cluster : goal.returns-then-is_none-clause-header_cluster
 returns-then-is_none-clause-header_cluster g c = c.release_prepared.ensures.header_cluster

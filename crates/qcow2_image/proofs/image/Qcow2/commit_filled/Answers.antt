@@ -15,7 +15,7 @@ pub returns-clause-commits : goal.returns-clause-commits
 returns-clause-commits g c = λ out k placed sound.
     let some : IsSome c.args.prepared.table = search rules in
     commits_entered g.S.Storage.view g.F.BackingDisk.backing c.args.self.now c.args.prepared c.release_prepared-2.new.self out k placed sound c.enter_shares-entered.new.self c.enter_shares-entered.new.prepared c.enter_shares-entered.result some
-    c.enter_shares-entered.ensures.enters c.enter_shares-entered.ensures.in_place c.release_prepared-2.ensures.sees c.release_prepared-2.ensures.rest
+    (ap (λ (image : Qcow2 _ _). image.allocator) c.enter_shares-entered.ensures.rest) c.enter_shares-entered.ensures.enters c.enter_shares-entered.ensures.in_place c.release_prepared-2.ensures.sees c.release_prepared-2.ensures.rest
 
 pub returns-then-is_none-clause-header : goal.returns-then-is_none-clause-header
 returns-then-is_none-clause-header g c = ap (λ (image : Qcow2 _ _). image.file.header) c.release_prepared.ensures.rest.rest

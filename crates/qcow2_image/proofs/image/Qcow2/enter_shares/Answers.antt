@@ -1,4 +1,5 @@
-use Rattle.std.proofs.Common.{◌≡◌, ◌+◌, length, sym, subst, arith, rules}
+use Rattle.std.proofs.Common.{◌≡◌, ◌+◌, length, sym, ap, subst, arith, rules}
+use Rattle.qcow2_image.specs.declared.image.Qcow2.{Qcow2}
 use Rattle.qcow2_image.proofs.Shares.{freed_none}
 use Rattle.qcow2_image.proofs.Commit.Entered.{EntersFirst, entered_whole, enters_all, first_false, first_none, first_true}
 use Rattle.qcow2_image.proofs.Call.FaultCounts.{untouched}
@@ -38,14 +39,14 @@ returns-clause-left g c =
     let count = c.loop-i.invariant.count in
     freed_none c.loop-i.prepared.shares.items (λ j lt. c.loop-i.invariant.in_place j (omega (arith, end, count, c.loop-i-test.false)))
 
-pub returns-clause-storage : goal.returns-clause-storage
-returns-clause-storage g c = c.loop-i.invariant.storage
-
 pub returns-clause-quiet : goal.returns-clause-quiet
 returns-clause-quiet g c = λ none. (c.loop-i.invariant.quiet none).1
 
 pub returns-clause-header : goal.returns-clause-header
-returns-clause-header g c = c.loop-i.invariant.header
+returns-clause-header g c = ap (λ (image : Qcow2 _ _). image.file.header) c.loop-i.invariant.rest
+
+pub returns-clause-rest : goal.returns-clause-rest
+returns-clause-rest g c = c.loop-i.invariant.rest
 
 pub returns-clause-in_place : goal.returns-clause-in_place
 returns-clause-in_place g c =
@@ -53,7 +54,7 @@ returns-clause-in_place g c =
     entered_whole g.S.Storage.view g.F.BackingDisk.backing c.args.self.now c.loop-i.self c.args.prepared.now c.loop-i.prepared c.loop-i.i c.loop-i.entered c.loop-i.invariant (omega (arith, end, c.loop-i-test.false, c.loop-i.auto.i-end))
 
 pub returns-clause-faults : goal.returns-clause-faults
-returns-clause-faults g c = untouched g.S.Storage.view g.F.BackingDisk.backing c.args.self.now c.loop-i.self c.loop-i.invariant.storage c.loop-i.invariant.below
+returns-clause-faults g c = untouched g.S.Storage.view g.F.BackingDisk.backing c.args.self.now c.loop-i.self (ap (λ (image : Qcow2 _ _). image.file.storage) c.loop-i.invariant.rest) (ap (λ (image : Qcow2 _ _). image.backing) c.loop-i.invariant.rest)
 
 pub returns-clause-header_cluster : goal.returns-clause-header_cluster
 returns-clause-header_cluster g c = c.loop-i.invariant.behind

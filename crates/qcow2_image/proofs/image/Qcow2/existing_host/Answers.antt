@@ -1,4 +1,5 @@
-use Rattle.std.proofs.Common.{◌≡◌, sym, ap, ◌∙◌, subst, arith, min, is_some, false, true}
+use Rattle.std.proofs.Common.{◌≡◌, ◌≤◌, sym, ap, ◌∙◌, subst, arith, min, is_some, false, true}
+use Rattle.std.specs.Prelude.{IfSome}
 use Rattle.qcow2_disk.specs.Alike.{IsLongestRun}
 use Rattle.qcow2_alloc.specs.ImageFile.{known_in}
 use Rattle.qcow2_disk.specs.Found.{rest_of_table}
@@ -6,6 +7,7 @@ use Rattle.qcow2_image.specs.Found.{writable_place}
 use Rattle.qcow2_image.specs.Preparing.{IsPlaceOf}
 use Rattle.qcow2_image.proofs.Prepare.Writable.{place_found, short_of}
 use Rattle.qcow2_image.proofs.Prepare.Lacked.{hands_unlimited}
+use Rattle.qcow2_image.proofs.Prepare.MarkedPlaces.{place_behind}
 use Rattle.qcow2_image.proofs.image.Qcow2.existing_host.Goals as goal
 
 pub returns-then-found-length-clause-place : goal.returns-then-found-length-clause-place
@@ -22,8 +24,13 @@ returns-clause-place g c = λ p sound at some.
     let known = known_in g.S.Storage.view c.args.self.now.file in
     let limit : c.min-max.result ≡ min c.args.length (rest_of_table h c.args.offset) = c.min-max.ensures ∙ ap (min c.args.length) c.rest_of_table.ensures.value in
     let run = c.in_ok-kind.ensures.run p sound at (omega (arith, limit)) in
-    subst (IsPlaceOf h known c.args.offset c.args.length) (sym (c.writable_place.ensures ∙ ap writable_place run.kind_is))
-    (place_found h known c.args.offset c.args.length c.in_ok-kind.found some (subst (λ m. IsLongestRun h known c.args.offset m c.in_ok-kind.found) limit run.longest) (is_some c.args.self.now.backing) (let l = c.if-found-length.false in omega arith))
+    let found = subst (IsPlaceOf h known c.args.offset c.args.length) (sym (c.writable_place.ensures ∙ ap writable_place run.kind_is))
+    (place_found h known c.args.offset c.args.length c.in_ok-kind.found some (subst (λ m. IsLongestRun h known c.args.offset m c.in_ok-kind.found) limit run.longest) (is_some c.args.self.now.backing) (let l = c.if-found-length.false in omega arith)) in
+    let behind = place_behind g.S.Storage.view p c.args.self.now.file sound c.args.offset c.args.length c.writable_place.result some found in
+    subst (IsPlaceOf h known c.args.offset c.args.length) (sym (c.behind_header.ensures.same (subst (λ n. IfSome c.writable_place.result (λ host. n ≤ host)) (sym c.cluster_size.ensures.value) behind))) found
+
+pub returns-clause-behind : goal.returns-clause-behind
+returns-clause-behind g c = subst (λ n. IfSome c.behind_header.result (λ host. n ≤ host)) c.cluster_size.ensures.value c.behind_header.ensures.behind
 
 pub returns-in_err-kind-clause-limited : goal.returns-in_err-kind-clause-limited
 returns-in_err-kind-clause-limited g c = hands_unlimited c.from_residual.result c.in_err-kind.field-0.0 c.from_residual.ensures c.in_err-kind.ensures.limited

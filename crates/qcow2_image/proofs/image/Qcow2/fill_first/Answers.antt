@@ -1,7 +1,7 @@
 use Rattle.qcow2_image.proofs.image.Qcow2.fill_first.Goals as goal
 use Rattle.qcow2_alloc.proofs.KeptMarks.{notes_then, notes_for}
 use Rattle.std.specs.Prelude.{Err, IsTrue}
-use Rattle.std.proofs.Common.{◌≡◌, ◌∙◌, ◌+◌, ◌^◌, ◌≤◌, ◌<◌, ◌∷◌, [], None, true, inl, min, refl, sym, ap, subst, arith, rules}
+use Rattle.std.proofs.Common.{◌≡◌, ◌∙◌, ◌+◌, ◌++◌, ◌^◌, ◌≤◌, ◌<◌, ◌∷◌, [], None, true, inl, min, refl, sym, ap, subst, arith, rules}
 use Rattle.qcow2_laws.specs.CrashInvariant.{Pending}
 use Rattle.qcow2_alloc.proofs.AllocationSteps.{handed_on}
 use Rattle.qcow2_image.specs.ImageInvariant.{ImageInvariant, abstract_of, pending_in}
@@ -22,8 +22,13 @@ use Rattle.qcow2_alloc.specs.ImageFile.{known_in}
 use Rattle.qcow2_alloc.specs.declared.error.ImageError.{ImageError}
 use Rattle.qcow2_image.specs.MetAlone.{HasCompressedIn, IsMetTaking}
 use Rattle.qcow2_image.specs.declared.image.Qcow2.{Qcow2}
-use Rattle.qcow2_image.proofs.Preallocate.Met.{hands_met, met_piece, place_same}
+use Rattle.qcow2_image.proofs.Preallocate.Met.{hands_met, met_piece}
+use Rattle.qcow2_image.proofs.Grow.Lengths.{place_same}
 use Rattle.qcow2_image.specs.Backings.{HasPrepared}
+use Rattle.qcow2_metadata.specs.Header.{HeaderView}
+use Rattle.qcow2_image.proofs.Grow.NoLonger.{length_then}
+use Rattle.qcow2_image.proofs.Sizing.NeededLengths.{stays_told}
+use Rattle.qcow2_image.proofs.Call.ToldData.{notes_if}
 
 pub returns-in_err-prepared-clause-fills : goal.returns-in_err-prepared-clause-fills
 returns-in_err-prepared-clause-fills g c = λ out sound whole.
@@ -45,6 +50,7 @@ returns-in_err-prepared-clause-fills g c = λ out sound whole.
       limit = λ is.
           lacks_here view below out old new c.args.to c.args.from c.args.to c.min.result sound some (omega (arith, asked, lt)) (c.in_err-prepared.ensures.limit some out sound is) (λ past. absurd (omega (arith, lt, past)))
           (emptied_by_limit new e (c.in_err-prepared.ensures.listed some out sound) is);
+      length = stays_told old new view below out c.args.from sound c.prepare.ensures.no_longer c.args.to lt;
     })
 
 pub returns-in-Err-clause-fills : goal.returns-in-Err-clause-fills
@@ -76,6 +82,11 @@ returns-in-Err-clause-fills g c = λ out sound whole.
       limit = λ is.
           let gone = sound_now view below out old mid p from n sound ready answered fits c.put_zeros.new.self c.release_prepared.new.self c.free_after.new.self to e e' within put c.release_prepared.ensures.sees c.free_after.ensures.fault in
           other_limit (LacksPlaceOnWay view below to from (from + p.length) old c.free_after.new.self out) e c.in-Err.ensures.limited (c.free_after.ensures.limit out gone is).0;
+      length =
+          let any = c.in_ok-prepared.ensures.some some in
+          let put : c.put_zeros.new.self.file.header ≡ c.prepare.new.self.file.header = ap (λ (i : Qcow2 _ _). i.file.header) c.put_zeros.ensures.written.rest in
+          let same = c.free_after.ensures.keeps_rest.header ∙ c.release_prepared.ensures.header ∙ put in
+          stays_told old c.free_after.new.self view below out from sound (length_then c.prepare.ensures.no_longer (ap (λ (v : HeaderView). v.fields.l1_entries) same)) (from + p.length) (omega (arith, any));
     })
 
 pub returns-in_err-free_listed-clause-fills : goal.returns-in_err-free_listed-clause-fills
@@ -99,11 +110,11 @@ returns-in_err-free_listed-clause-fills g c = λ out sound whole.
     let ready = c.in_ok-prepared.ensures.readies some (None ∷ out) ((free_places view below).free old [] out sound) 0 refl in
     let answered = c.in_ok-prepared.ensures.answers some out sound in
     let within = all_within view below out old mid p from to c.most.result n c.min-count.result sound ready answered lt whole few asked counted in
-    let part = all_filled view below out old mid p from to c.most.result n c.min-count.result sound ready answered lt whole few asked counted (c.in_ok-prepared.ensures.some some) c.put_zeros.new.self done c.in_default.ensures.written c.commit_filled.ensures.commits c.commit_filled.ensures.header (c.in_ok-prepared.ensures.listed some out sound).reaches in
+    let part = all_filled view below out old mid p from to c.most.result n c.min-count.result sound ready answered lt whole few asked counted (c.in_ok-prepared.ensures.some some).some c.put_zeros.new.self done c.in_default.ensures.written c.commit_filled.ensures.commits c.commit_filled.ensures.header c.in_ok-prepared.ensures.l1_place (let lists = (c.in_ok-prepared.ensures.listed some out sound).lists in (lists.freed ++ lists.more, lists.gone)) in
     let listed = subst (λ (x : Pending). ImageInvariant view below x done out) (all_listed view below done out) part.sound in
     handed_on (λ r. FillsFirst view below to from to old new out r) c.from_residual-in_err-free_listed.result e c.from_residual-in_err-free_listed.ensures
     (fills_refused view below out old done new to from (from + p.length) part to e within (tables_met e c.in_err-free_listed.ensures.cause) (fault_unlimited e (c.in_err-free_listed.ensures.faults (beside view below done out) out listed))
-    (freed_refused view below done out new e part.sound (c.in_err-free_listed.ensures.frees (beside view below done out) out listed)))
+    (freed_refused view below done out new e part.sound (c.in_err-free_listed.ensures.frees (beside view below done out) out listed)) c.free_listed.ensures.keeps_rest.header)
 
 pub returns-clause-fills : goal.returns-clause-fills
 returns-clause-fills g c = λ out sound whole.
@@ -127,10 +138,10 @@ returns-clause-fills g c = λ out sound whole.
     let answered = c.in_ok-prepared.ensures.answers some out sound in
     let next : c.min-next.result ≡ c.args.from + c.in_ok-prepared.prepared.length =
     all_next view below out old mid p from to c.most.result n c.min-count.result sound ready answered lt whole few asked counted c.min-next.result (c.min-next.ensures ∙ ap (min to) c.saturating_add.ensures) high in
-    let part = all_filled view below out old mid p from to c.most.result n c.min-count.result sound ready answered lt whole few asked counted (c.in_ok-prepared.ensures.some some) c.put_zeros.new.self done c.in_default.ensures.written c.commit_filled.ensures.commits c.commit_filled.ensures.header (c.in_ok-prepared.ensures.listed some out sound).reaches in
+    let part = all_filled view below out old mid p from to c.most.result n c.min-count.result sound ready answered lt whole few asked counted (c.in_ok-prepared.ensures.some some).some c.put_zeros.new.self done c.in_default.ensures.written c.commit_filled.ensures.commits c.commit_filled.ensures.header c.in_ok-prepared.ensures.l1_place (let lists = (c.in_ok-prepared.ensures.listed some out sound).lists in (lists.freed ++ lists.more, lists.gone)) in
     let listed = subst (λ (x : Pending). ImageInvariant view below x done out) (all_listed view below done out) part.sound in
     subst (λ k. FillsPart view below to from k old new out) (sym next)
-    (fills_stays view below out old done new to from (from + p.length) part (tidy_stays view below done out new part.sound (c.in_ok-free_listed.ensures.frees (beside view below done out) out listed)) c.free_listed.ensures.keeps_rest.header)
+    (fills_stays view below out old done new to from (from + p.length) part (tidy_stays view below done out new part.sound (c.in_ok-free_listed.ensures.frees (beside view below done out) out listed)) c.free_listed.ensures.keeps_rest.header c.free_listed.ensures.former)
 
 pub returns-in-Err-clause-faults : goal.returns-in-Err-clause-faults
 returns-in-Err-clause-faults g c =
@@ -158,16 +169,16 @@ pub returns-clause-header_cluster : goal.returns-clause-header_cluster
 returns-clause-header_cluster g c = behind_then (behind_then (behind_then c.prepare.ensures.header_cluster c.put_zeros.ensures.header_cluster) c.commit_filled.ensures.header_cluster) c.free_listed.ensures.header_cluster
 
 pub returns-in_err-prepared-clause-notes : goal.returns-in_err-prepared-clause-notes
-returns-in_err-prepared-clause-notes g c = c.prepare.ensures.notes
+returns-in_err-prepared-clause-notes g c = notes_if (λ _. tt) c.prepare.ensures.notes
 
 pub returns-in-Err-clause-notes : goal.returns-in-Err-clause-notes
-returns-in-Err-clause-notes g c = notes_then (notes_then (notes_then c.prepare.ensures.notes c.put_zeros.ensures.notes) (notes_for c.release_prepared.ensures.notes)) (notes_for c.free_after.ensures.notes)
+returns-in-Err-clause-notes g c = notes_then (notes_then (notes_then (notes_if (λ _. tt) c.prepare.ensures.notes) c.put_zeros.ensures.notes) (notes_for c.release_prepared.ensures.notes)) (notes_for c.free_after.ensures.notes)
 
 pub returns-in_err-free_listed-clause-notes : goal.returns-in_err-free_listed-clause-notes
-returns-in_err-free_listed-clause-notes g c = notes_then (notes_then (notes_then c.prepare.ensures.notes c.put_zeros.ensures.notes) (notes_for c.commit_filled.ensures.notes)) (notes_for c.free_listed.ensures.notes)
+returns-in_err-free_listed-clause-notes g c = notes_then (notes_then (notes_then (notes_if (λ _. tt) c.prepare.ensures.notes) c.put_zeros.ensures.notes) (notes_for c.commit_filled.ensures.notes)) (notes_for c.free_listed.ensures.notes)
 
 pub returns-clause-notes : goal.returns-clause-notes
-returns-clause-notes g c = notes_then (notes_then (notes_then c.prepare.ensures.notes c.put_zeros.ensures.notes) (notes_for c.commit_filled.ensures.notes)) (notes_for c.free_listed.ensures.notes)
+returns-clause-notes g c = notes_then (notes_then (notes_then (notes_if (λ _. tt) c.prepare.ensures.notes) c.put_zeros.ensures.notes) (notes_for c.commit_filled.ensures.notes)) (notes_for c.free_listed.ensures.notes)
 
 pub returns-in_err-prepared-clause-met : goal.returns-in_err-prepared-clause-met
 returns-in_err-prepared-clause-met g c = λ out sound whole near.
@@ -196,7 +207,7 @@ returns-in-Err-clause-met g c = λ out sound whole near.
     let counted = c.min-count.ensures ∙ ap (min p.length) (c.most-2.ensures ∙ sym c.most.ensures) in
     let ready = c.in_ok-prepared.ensures.readies some (None ∷ out) ((free_places view below).free old [] out sound) 0 refl in
     let answered = c.in_ok-prepared.ensures.answers some out sound in
-    let fault = c.in-Err.ensures.fault (all_behind view below out old c.prepare.new.self p c.args.from c.args.to c.most.result c.min.result c.min-count.result sound ready answered lt whole few asked counted (c.in_ok-prepared.ensures.some some)) in
+    let fault = c.in-Err.ensures.fault (all_behind view below out old c.prepare.new.self p c.args.from c.args.to c.most.result c.min.result c.min-count.result sound ready answered lt whole few asked counted (c.in_ok-prepared.ensures.some some).some) in
     inl (inl (inl (subst (λ (x : ImageError). IsFault x) (sym (c.free_after.ensures.fault fault).0) fault)))
 
 pub returns-in_err-free_listed-clause-met : goal.returns-in_err-free_listed-clause-met
@@ -217,7 +228,7 @@ returns-in_err-free_listed-clause-met g c = λ out sound whole near.
     let counted = c.min-count.ensures ∙ ap (min p.length) (c.most-2.ensures ∙ sym c.most.ensures) in
     let ready = c.in_ok-prepared.ensures.readies some (None ∷ out) ((free_places view below).free old [] out sound) 0 refl in
     let answered = c.in_ok-prepared.ensures.answers some out sound in
-    let part = all_filled view below out old mid p from to c.most.result n c.min-count.result sound ready answered lt whole few asked counted (c.in_ok-prepared.ensures.some some) c.put_zeros.new.self done c.in_default.ensures.written c.commit_filled.ensures.commits c.commit_filled.ensures.header (c.in_ok-prepared.ensures.listed some out sound).reaches in
+    let part = all_filled view below out old mid p from to c.most.result n c.min-count.result sound ready answered lt whole few asked counted (c.in_ok-prepared.ensures.some some).some c.put_zeros.new.self done c.in_default.ensures.written c.commit_filled.ensures.commits c.commit_filled.ensures.header c.in_ok-prepared.ensures.l1_place (let lists = (c.in_ok-prepared.ensures.listed some out sound).lists in (lists.freed ++ lists.more, lists.gone)) in
     let listed = subst (λ (x : Pending). ImageInvariant view below x done out) (all_listed view below done out) part.sound in
     hands_met (IsMetTaking (HasPrepared out) (HasPrepared out) (HasCompressedIn from to old.file.header.fields (known_in view old.file)) ⊥) c.from_residual-in_err-free_listed.result c.in_err-free_listed.field-0.0 c.from_residual-in_err-free_listed.ensures
     (inl (inl (inl (c.in_err-free_listed.ensures.faults (beside view below done out) out listed))))

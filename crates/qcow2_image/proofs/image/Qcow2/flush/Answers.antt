@@ -11,7 +11,7 @@ use Rattle.qcow2_image.proofs.Flush.Freeing.{all_listed, beside, flushes_with_ou
 use Rattle.qcow2_image.proofs.Call.FaultCounts.{counted_marked}
 use Rattle.qcow2_image.proofs.Map.Unmodified.{read_call}
 use Rattle.qcow2_image.proofs.Call.Marked.{marks_memory, may_mark}
-use Rattle.qcow2_image.proofs.Call.OnceWritten.{once_written}
+use Rattle.qcow2_image.proofs.Call.OnceWritten.{fails_none, fails_once}
 use Rattle.qcow2_image.proofs.Call.BehindHeader.{behind_call}
 use Rattle.std.specs.Prelude.{IfErr}
 use Rattle.qcow2_alloc.specs.ImageError.{IsFault}
@@ -60,8 +60,11 @@ returns-clause-unwritten g c = λ reading.
     read_call g.S.Storage.view g.F.BackingDisk.backing c.args.self.now c.begin.new.self c.write_back-done.new.self c.mark_failure.new.self (is_failed c.mark_failure.new.self) c.begin.ensures.storage c.begin.ensures.keeps c.begin.ensures.known
     (c.write_back-done.ensures.unwritten (c.begin.ensures.stays.image.writable ∙ reading)) c.mark_failure.ensures.rest
 
+pub returns-then-self-clause-once_written : goal.returns-then-self-clause-once_written
+returns-then-self-clause-once_written g c = fails_none g.S.Storage.view c.args.self.now _
+
 pub returns-clause-once_written : goal.returns-clause-once_written
-returns-clause-once_written g c = λ memory. once_written g.S.Storage.view c.args.self.now c.begin.new.self c.begin.ensures.begun c.write_back-done.new.self c.mark_failure.new.self c.write_back-done.result c.write_back-done.ensures.notes (c.write_back-done.ensures.stays.failed ∙ c.begin.ensures.stays.failed) c.mark_failure.ensures.marks c.mark_failure.ensures.rest (sym c.mark_failure.ensures.answer ∙ memory)
+returns-clause-once_written g c = fails_once g.S.Storage.view c.args.self.now c.begin.new.self c.begin.ensures.begun c.write_back-done.new.self c.mark_failure.new.self c.write_back-done.result c.write_back-done.ensures.notes (c.write_back-done.ensures.stays.failed ∙ c.begin.ensures.stays.failed) c.mark_failure.ensures.marks c.mark_failure.ensures.rest c.mark_failure.result (λ memory. sym c.mark_failure.ensures.answer ∙ memory)
 
 pub returns-clause-header_cluster : goal.returns-clause-header_cluster
 returns-clause-header_cluster g c = behind_call g.S.Storage.view c.begin.ensures.begun c.write_back-done.ensures.header_cluster c.mark_failure.ensures.rest

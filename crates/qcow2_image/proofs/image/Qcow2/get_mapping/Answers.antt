@@ -13,13 +13,13 @@ use Rattle.qcow2_image.specs.Calls.{refusal_of}
 use Rattle.qcow2_image.proofs.Call.Answers.{answers_err, usable_works}
 use Rattle.qcow2_image.proofs.Call.Called.{quietly_then, quiet_does, quiet_refuses}
 use Rattle.qcow2_image.proofs.Map.Unmodified.{read_call}
-use Rattle.qcow2_image.proofs.Call.OnceWritten.{once_written}
+use Rattle.qcow2_image.proofs.Call.OnceWritten.{answered_once, fails_none, fails_once}
 use Rattle.qcow2_image.specs.Noted.{FailsOnceWritten}
 use Rattle.qcow2_alloc.proofs.AllocationSteps.{handed_on}
 use Rattle.qcow2_alloc.proofs.Outcomes.{err_as}
 use Rattle.qcow2_alloc.specs.declared.error.ImageError.TheVariants.{Memory}
 use Rattle.qcow2_image.proofs.Call.BehindHeader.{behind_call}
-use Rattle.std.specs.Prelude.{IfErr}
+use Rattle.std.specs.Prelude.{Err, IfErr}
 use Rattle.qcow2_image.proofs.Map.MetLooking.{held_since}
 use Rattle.qcow2_image.specs.MetAlone.{IsCacheHeld, IsMetLooking}
 use Rattle.qcow2_image.proofs.Prepare.Met.{hands_met}
@@ -97,10 +97,13 @@ returns-clause-unwritten g c = read_call g.S.Storage.view g.F.BackingDisk.backin
 pub returns-in_err-kind-clause-once_written : goal.returns-in_err-kind-clause-once_written
 returns-in_err-kind-clause-once_written g c =
     handed_on (λ r. FailsOnceWritten g.S.Storage.view c.args.self.now c.mark_failure.new.self r) c.from_residual-in_err-kind.result c.in_err-kind.field-0.0 c.from_residual-in_err-kind.ensures
-    (λ memory. once_written g.S.Storage.view c.args.self.now c.begin.new.self c.begin.ensures.begun c.look_up-found.new.self c.mark_failure.new.self c.look_up-found.result c.look_up-found.ensures.notes (c.look_up-found.ensures.stays.failed ∙ c.begin.ensures.stays.failed) c.mark_failure.ensures.marks c.mark_failure.ensures.rest (sym c.mark_failure.ensures.answer ∙ c.in_err-kind.was ∙ err_as c.in_err-kind.field-0.0 Memory memory))
+    (fails_once g.S.Storage.view c.args.self.now c.begin.new.self c.begin.ensures.begun c.look_up-found.new.self c.mark_failure.new.self c.look_up-found.result c.look_up-found.ensures.notes (c.look_up-found.ensures.stays.failed ∙ c.begin.ensures.stays.failed) c.mark_failure.ensures.marks c.mark_failure.ensures.rest (Err c.in_err-kind.field-0.0) (λ memory. sym c.mark_failure.ensures.answer ∙ c.in_err-kind.was ∙ err_as c.in_err-kind.field-0.0 Memory memory))
+
+pub returns-in_err-check_usable-clause-once_written : goal.returns-in_err-check_usable-clause-once_written
+returns-in_err-check_usable-clause-once_written g c = fails_none g.S.Storage.view c.args.self.now _
 
 pub returns-clause-once_written : goal.returns-clause-once_written
-returns-clause-once_written g c = λ bad. absurd (cc)
+returns-clause-once_written g c = answered_once g.S.Storage.view c.args.self.now c.begin.new.self c.begin.ensures.begun c.look_up-found.new.self c.mark_failure.new.self c.look_up-found.ensures.notes c.mark_failure.ensures.rest _
 
 pub returns-in_err-kind-clause-header_cluster : goal.returns-in_err-kind-clause-header_cluster
 returns-in_err-kind-clause-header_cluster g c = behind_call g.S.Storage.view c.begin.ensures.begun c.look_up-found.ensures.header_cluster c.mark_failure.ensures.rest

@@ -28,7 +28,9 @@ use Rattle.qcow2_image.specs.Resizing.{GrowsTables, GrowsTo, LacksZeros, Refuses
 use Rattle.image_access.specs.declared.storage.PreallocateMode.TheVariants.{None as PreallocateNone, Zero}
 use Rattle.qcow2_image.proofs.Call.Refused.{stays_then}
 use Rattle.qcow2_image.proofs.Clear.ClearCalls.{err_is}
-use Rattle.qcow2_image.proofs.Grow.Lengths.{reaches_begun, reaches_on, reaches_told}
+use Rattle.qcow2_image.proofs.Grow.Lengths.{reaches_begun, reaches_end, reaches_on, reaches_told}
+use Rattle.qcow2_image.proofs.Grow.TakenForTables.{grown_lowest}
+use Rattle.qcow2_metadata.specs.TableBytes.{entry_at}
 use Rattle.qcow2_image.proofs.Moved.{file_step_then}
 use Rattle.qcow2_image.proofs.Preallocate.Filled.{met_taken}
 use Rattle.qcow2_image.proofs.Preallocate.Turns.{same_version}
@@ -41,7 +43,7 @@ use Rattle.qcow2_image.proofs.Call.FaultCounts.{same_of, counted_marked, counted
 use Rattle.qcow2_alloc.proofs.AllocationSteps.{handed_on}
 use Rattle.qcow2_alloc.proofs.Outcomes.{err_as}
 use Rattle.qcow2_image.specs.Noted.{FailsOnceWritten}
-use Rattle.qcow2_image.proofs.Call.OnceWritten.{once_written, kept_noted, once_marked}
+use Rattle.qcow2_image.proofs.Call.OnceWritten.{kept_noted, fails_marked, fails_once}
 use Rattle.qcow2_image.proofs.Call.BehindHeader.{behind_by, behind_call, behind_none, behind_then}
 use Rattle.qcow2_image.proofs.Prepare.Lacked.{faults_unlimited, unlimited_all}
 use Rattle.qcow2_image.proofs.Sizing.LackedTables.{behind_lacked, longer_ended}
@@ -53,6 +55,8 @@ use Rattle.qcow2_alloc.specs.LowestRuns.{StaysUsed}
 use Rattle.qcow2_image.specs.LowestPlaces.{GrowsFromLowest}
 use Rattle.qcow2_image.proofs.Prepare.LowestTables.{begun_used, grows_alike, grows_sized_lowest}
 use Rattle.qcow2_image.proofs.Call.ToldData.{none_told, none_told_by, none_told_in_call}
+use Rattle.qcow2_image.proofs.Grow.NoLonger.{reaches_behind}
+use Rattle.qcow2_image.proofs.Sizing.NeededLengths.{longer_kept, longer_reached, longer_told}
 
 pub returns-in_err-mark_failure-clause-sees : goal.returns-in_err-mark_failure-clause-sees
 returns-in_err-mark_failure-clause-sees g c =
@@ -226,6 +230,10 @@ returns-in_err-mark_failure-clause-tables g c = λ out sound.
             | inl fault ↦ inr (inl fault)
             | inr is ↦ inr (inr (is, subst (λ (image : Qcow2 _ _). LacksTableReaching view offset old image) (sym c.mark_failure.ensures.rest) (longer_ended view offset old begun mid marked c.begin.ensures.rest (limit is))))
           ];
+      length =
+          let offset = c.args.size - 1 in
+          let reaches = reaches_behind offset old begun mid (ap (λ (i : Qcow2 _ _). i.file.header) c.begin.ensures.rest) (ap (λ (i : Qcow2 _ _). i.l1_table) c.begin.ensures.rest) c.renew_l1_table-longer.ensures.no_longer in
+          longer_kept old.file.header.fields mid.file.header.fields c.mark_failure.new.self.file.header.fields offset (longer_told old mid view below out offset sound reaches) (ap (λ (i : Qcow2 _ _). i.file.header.fields.l1_entries) c.mark_failure.ensures.rest);
     })
 
 pub returns-in_err-mark_fault-clause-tables : goal.returns-in_err-mark_fault-clause-tables
@@ -262,6 +270,15 @@ returns-in_err-mark_fault-clause-tables g c = λ out sound.
           (c.fill_grown-filled.ensures.stays.image.number ∙ c.mark_failure.ensures.image.number ∙ c.renew_l1_table-longer.ensures.stays.image.number ∙ c.begin.ensures.stays.image.number)
           (subst (λ (r : Result _ _). MayMarkBy r (is_failed filled) marked) done (may_mark c.fill_grown-filled.new.self c.mark_fault.new.self c.fill_grown-filled.result c.mark_fault.ensures.marks))));
       version = λ zero lacks. inl (let fault : Err e ≡ Err Version = sym done ∙ (none zero lacks).0 in let is : e ≡ Version = cc in is);
+      length =
+          let offset = c.args.size - 1 in
+          let length = subst (λ (r : Result _ _). OnOk r (entry_count mid.l1_table ≡ max (entry_count begun.l1_table) (l1_index_of begun.file.header.fields offset + 1))) made c.renew_l1_table-longer.ensures.length in
+          let told = reaches_begun old.file.header.fields begun.file.header.fields mid.file.header.fields offset (c.begin.ensures.keeps (pending_in view below old out) out sound).unseen.header
+          (reaches_told view below out (pending_in view below begun out) (pending_in view below mid out) begun mid offset begins.sound lengthens.sound length) in
+          let longer = subst (λ (image : Qcow2 _ _). ReachesOffset offset old.file.header.fields image.file.header.fields) (sym same) told in
+          let refused = subst (FillsGrownOrRefuses view below c.args.size c.args.mode long filled out) done (c.fill_grown-filled.ensures.fills out call.sound) in
+          let reached = reaches_on old.file.header.fields long.file.header.fields filled.file.header.fields c.args.size (let l = c.requires.larger in omega (arith, l)) call.header longer refused.length in
+          longer_kept old.file.header.fields filled.file.header.fields c.mark_fault.new.self.file.header.fields offset (longer_reached old.file.header.fields filled.file.header.fields offset reached) (ap (λ (i : Qcow2 _ _). i.file.header.fields.l1_entries) c.mark_fault.ensures.rest);
     })
 
 pub returns-clause-tables : goal.returns-clause-tables
@@ -292,7 +309,7 @@ returns-clause-tables g c = λ out sound.
     let told = reaches_begun old.file.header.fields begun.file.header.fields mid.file.header.fields (c.args.size - 1) step.unseen.header
     (reaches_told view below out (pending_in view below begun out) (pending_in view below mid out) begun mid (c.args.size - 1) begins.sound lengthens.sound length) in
     let longer = subst (λ (image : Qcow2 _ _). ReachesOffset (c.args.size - 1) old.file.header.fields image.file.header.fields) (sym same) told in
-    let as_long = reaches_on old.file.header.fields long.file.header.fields c.mark_fault.new.self.file.header.fields c.args.size (let l = c.requires.larger in omega (arith, l)) call.header longer grown.length in
+    let as_long = reaches_on old.file.header.fields long.file.header.fields c.mark_fault.new.self.file.header.fields c.args.size (let l = c.requires.larger in omega (arith, l)) call.header longer (λ within. (grown.l1_table within).1) in
     let never : c.args.mode ≡ Zero → LacksZeros old → ⊥ = λ zero lacks.
     let empty : HasNothingToFree c.mark_failure.new.self = subst (λ (i : Qcow2 _ _). HasNothingToFree i) (sym same) (subst (λ (r : Result _ _). OnOk r (HasNothingToFree mid)) made c.renew_l1_table-longer.ensures.emptied) in
     let refused = c.fill_grown-filled.ensures.version empty zero (subst (λ n. n < 3) (sym (same_version old.file.header.fields long.file.header.fields call.header)) lacks) in
@@ -303,7 +320,7 @@ returns-clause-tables g c = λ out sound.
     let emptied : HasNothingToFree new = ap (λ (i : Qcow2 _ _). i.file.free_list) c.write_size-written.ensures.rest ∙ subst (λ (image : Qcow2 _ _). HasNothingToFree image) (sym whole) still in
     subst (λ (image : Qcow2 _ _). GrowsTables view below old image c.args.size c.args.mode out c.mark_fault-2.result) (sym c.mark_fault-2.ensures.rest)
     (subst (λ (r : Result _ _). GrowsTables view below old (with_marks new (is_changed_of c.mark_fault-2.new.self.file.storage) (is_failed c.mark_fault-2.new.self)) c.args.size c.args.mode out r) (sym c.mark_fault-2.ensures.answer)
-    (tables_noted view below old (record new { is_failed = is_failed c.mark_fault-2.new.self }) (is_changed_of c.mark_fault-2.new.self.file.storage) c.args.size c.args.mode out c.write_size-written.result (tables_sized view below out old c.mark_fault.new.self new (is_failed c.mark_fault-2.new.self) c.args.size c.args.mode c.write_size-written.result (file_step_then old.file.header.fields long.file.header.fields c.mark_fault.new.self.file.header.fields call.header grown.header) c.write_size-written.ensures.cause c.write_size-written.ensures.header
+    (tables_noted view below old (record new { is_failed = is_failed c.mark_fault-2.new.self }) (is_changed_of c.mark_fault-2.new.self.file.storage) c.args.size c.args.mode out c.write_size-written.result (tables_sized view below out old c.mark_fault.new.self new (is_failed c.mark_fault-2.new.self) c.args.size c.args.mode c.write_size-written.result (file_step_then old.file.header.fields long.file.header.fields c.mark_fault.new.self.file.header.fields call.header grown.header) c.write_size-written.ensures.cause c.write_size-written.ensures.header c.write_size-written.ensures.restored
     (subst (λ (image : Qcow2 _ _). ReachesSize (with_size image.file.header.fields c.args.size)) (sym whole) reached) as_long
     (leaves_sized view below out old long c.mark_fault.new.self new c.args.size c.args.mode c.write_size-written.result call grown (c.write_size-written.ensures.writes out grown.sound)) emptied never
     (untaken_grown view below out old long c.args.size c.args.mode call grown.free))))
@@ -337,7 +354,7 @@ returns-clause-faults g c =
 pub returns-in_err-mark_failure-clause-once_written : goal.returns-in_err-mark_failure-clause-once_written
 returns-in_err-mark_failure-clause-once_written g c =
     handed_on (λ r. FailsOnceWritten g.S.Storage.view c.args.self.now c.mark_failure.new.self r) c.from_residual.result c.in_err-mark_failure.field-0.0 c.from_residual.ensures
-    (λ memory. once_written g.S.Storage.view c.args.self.now c.begin.new.self c.begin.ensures.begun c.renew_l1_table-longer.new.self c.mark_failure.new.self c.renew_l1_table-longer.result c.renew_l1_table-longer.ensures.notes (c.renew_l1_table-longer.ensures.stays.failed ∙ c.begin.ensures.stays.failed) c.mark_failure.ensures.marks c.mark_failure.ensures.rest (sym c.mark_failure.ensures.answer ∙ c.in_err-mark_failure.was ∙ err_as c.in_err-mark_failure.field-0.0 Memory memory))
+    (fails_once g.S.Storage.view c.args.self.now c.begin.new.self c.begin.ensures.begun c.renew_l1_table-longer.new.self c.mark_failure.new.self c.renew_l1_table-longer.result c.renew_l1_table-longer.ensures.notes (c.renew_l1_table-longer.ensures.stays.failed ∙ c.begin.ensures.stays.failed) c.mark_failure.ensures.marks c.mark_failure.ensures.rest (Err c.in_err-mark_failure.field-0.0) (λ memory. sym c.mark_failure.ensures.answer ∙ c.in_err-mark_failure.was ∙ err_as c.in_err-mark_failure.field-0.0 Memory memory))
 
 pub returns-in_err-mark_fault-clause-once_written : goal.returns-in_err-mark_fault-clause-once_written
 returns-in_err-mark_fault-clause-once_written g c =
@@ -345,18 +362,18 @@ returns-in_err-mark_fault-clause-once_written g c =
     let long : is_failed c.mark_failure.new.self ≡ is_failed c.args.self.now = subst (λ (r : Result _ _). MayMarkBy r (is_failed c.renew_l1_table-longer.new.self) (is_failed c.mark_failure.new.self)) made (may_mark c.renew_l1_table-longer.new.self c.mark_failure.new.self c.renew_l1_table-longer.result c.mark_failure.ensures.marks)
     ∙ c.renew_l1_table-longer.ensures.stays.failed ∙ c.begin.ensures.stays.failed in
     handed_on (λ r. FailsOnceWritten g.S.Storage.view c.args.self.now c.mark_fault.new.self r) c.from_residual-in_err-mark_fault.result c.in_err-mark_fault.field-0.0 c.from_residual-in_err-mark_fault.ensures
-    (λ memory. once_marked g.S.Storage.view c.args.self.now c.begin.new.self c.begin.ensures.begun c.fill_grown-filled.new.self c.mark_fault.new.self c.fill_grown-filled.result (notes_then (notes_then (notes_then (notes_for c.renew_l1_table-longer.ensures.notes) (same_kept c.renew_l1_table-longer.new.self c.mark_failure.new.self (ap (λ (i : Qcow2 _ _). i.file.storage) c.mark_failure.ensures.rest) (ap (λ (i : Qcow2 _ _). i.file.caches) c.mark_failure.ensures.rest))) c.fill_grown-filled.ensures.notes) (same_kept c.fill_grown-filled.new.self c.mark_fault.new.self (ap (λ (f : ImageFile _). f.storage) c.mark_fault.ensures.file) (ap (λ (f : ImageFile _). f.caches) c.mark_fault.ensures.file)))
-    (c.fill_grown-filled.ensures.stays.failed ∙ long) c.mark_fault.ensures.marks (sym c.mark_fault.ensures.answer ∙ c.in_err-mark_fault.was ∙ err_as c.in_err-mark_fault.field-0.0 Memory memory))
+    (fails_marked g.S.Storage.view c.args.self.now c.begin.new.self c.begin.ensures.begun c.fill_grown-filled.new.self c.mark_fault.new.self c.fill_grown-filled.result (notes_then (notes_then (notes_then (notes_for c.renew_l1_table-longer.ensures.notes) (same_kept c.renew_l1_table-longer.new.self c.mark_failure.new.self (ap (λ (i : Qcow2 _ _). i.file.storage) c.mark_failure.ensures.rest) (ap (λ (i : Qcow2 _ _). i.file.caches) c.mark_failure.ensures.rest))) c.fill_grown-filled.ensures.notes) (same_kept c.fill_grown-filled.new.self c.mark_fault.new.self (ap (λ (f : ImageFile _). f.storage) c.mark_fault.ensures.file) (ap (λ (f : ImageFile _). f.caches) c.mark_fault.ensures.file)))
+    (c.fill_grown-filled.ensures.stays.failed ∙ long) c.mark_fault.ensures.marks (Err c.in_err-mark_fault.field-0.0) (λ memory. sym c.mark_fault.ensures.answer ∙ c.in_err-mark_fault.was ∙ err_as c.in_err-mark_fault.field-0.0 Memory memory))
 
 pub returns-clause-once_written : goal.returns-clause-once_written
-returns-clause-once_written g c = λ memory.
+returns-clause-once_written g c =
     let made : c.renew_l1_table-longer.result ≡ Ok c.in_ok-mark_failure.field-0 = sym c.mark_failure.ensures.answer ∙ c.in_ok-mark_failure.was in
     let long : is_failed c.mark_failure.new.self ≡ is_failed c.args.self.now = subst (λ (r : Result _ _). MayMarkBy r (is_failed c.renew_l1_table-longer.new.self) (is_failed c.mark_failure.new.self)) made (may_mark c.renew_l1_table-longer.new.self c.mark_failure.new.self c.renew_l1_table-longer.result c.mark_failure.ensures.marks)
     ∙ c.renew_l1_table-longer.ensures.stays.failed ∙ c.begin.ensures.stays.failed in
     let put : c.fill_grown-filled.result ≡ Ok c.in_ok-mark_fault.field-0 = sym c.mark_fault.ensures.answer ∙ c.in_ok-mark_fault.was in
     let whole : c.mark_fault.new.self ≡ c.fill_grown-filled.new.self = subst (λ (r : Result _ _). OnOk r (c.mark_fault.new.self ≡ c.fill_grown-filled.new.self)) put c.mark_fault.ensures.same in
-    once_marked g.S.Storage.view c.args.self.now c.begin.new.self c.begin.ensures.begun c.write_size-written.new.self c.mark_fault-2.new.self c.write_size-written.result (notes_then (notes_then (notes_then (notes_then (notes_then (notes_for c.renew_l1_table-longer.ensures.notes) (same_kept c.renew_l1_table-longer.new.self c.mark_failure.new.self (ap (λ (i : Qcow2 _ _). i.file.storage) c.mark_failure.ensures.rest) (ap (λ (i : Qcow2 _ _). i.file.caches) c.mark_failure.ensures.rest))) c.fill_grown-filled.ensures.notes) (same_kept c.fill_grown-filled.new.self c.mark_fault.new.self (ap (λ (f : ImageFile _). f.storage) c.mark_fault.ensures.file) (ap (λ (f : ImageFile _). f.caches) c.mark_fault.ensures.file))) (notes_for c.write_size-written.ensures.notes)) (same_kept c.write_size-written.new.self c.mark_fault-2.new.self (ap (λ (f : ImageFile _). f.storage) c.mark_fault-2.ensures.file) (ap (λ (f : ImageFile _). f.caches) c.mark_fault-2.ensures.file)))
-    (ap (λ (i : Qcow2 _ _). i.is_failed) c.write_size-written.ensures.rest ∙ ap (λ (i : Qcow2 _ _). i.is_failed) whole ∙ c.fill_grown-filled.ensures.stays.failed ∙ long) c.mark_fault-2.ensures.marks (sym c.mark_fault-2.ensures.answer ∙ memory)
+    fails_marked g.S.Storage.view c.args.self.now c.begin.new.self c.begin.ensures.begun c.write_size-written.new.self c.mark_fault-2.new.self c.write_size-written.result (notes_then (notes_then (notes_then (notes_then (notes_then (notes_for c.renew_l1_table-longer.ensures.notes) (same_kept c.renew_l1_table-longer.new.self c.mark_failure.new.self (ap (λ (i : Qcow2 _ _). i.file.storage) c.mark_failure.ensures.rest) (ap (λ (i : Qcow2 _ _). i.file.caches) c.mark_failure.ensures.rest))) c.fill_grown-filled.ensures.notes) (same_kept c.fill_grown-filled.new.self c.mark_fault.new.self (ap (λ (f : ImageFile _). f.storage) c.mark_fault.ensures.file) (ap (λ (f : ImageFile _). f.caches) c.mark_fault.ensures.file))) (notes_for c.write_size-written.ensures.notes)) (same_kept c.write_size-written.new.self c.mark_fault-2.new.self (ap (λ (f : ImageFile _). f.storage) c.mark_fault-2.ensures.file) (ap (λ (f : ImageFile _). f.caches) c.mark_fault-2.ensures.file)))
+    (ap (λ (i : Qcow2 _ _). i.is_failed) c.write_size-written.ensures.rest ∙ ap (λ (i : Qcow2 _ _). i.is_failed) whole ∙ c.fill_grown-filled.ensures.stays.failed ∙ long) c.mark_fault-2.ensures.marks c.mark_fault-2.result (λ memory. sym c.mark_fault-2.ensures.answer ∙ memory)
 
 pub returns-in_err-mark_failure-clause-header_cluster : goal.returns-in_err-mark_failure-clause-header_cluster
 returns-in_err-mark_failure-clause-header_cluster g c = behind_call g.S.Storage.view c.begin.ensures.begun c.renew_l1_table-longer.ensures.header_cluster c.mark_failure.ensures.rest
@@ -536,7 +553,7 @@ returns-clause-kinds g c = λ mode.
     none_told_by c.mark_fault-2.ensures.rest ∙ none_told c.write_size-written.ensures.notes ∙ none_told_by c.mark_fault.ensures.rest ∙ none_told_by (c.fill_grown-filled.ensures.unfilled mode).1 ∙ none_told_in_call c.begin.ensures.begun c.renew_l1_table-longer.ensures.notes c.mark_failure.ensures.rest
 
 pub returns-clause-lowest : goal.returns-clause-lowest
-returns-clause-lowest g c = λ none out sound.
+returns-clause-lowest g c = λ out sound.
     let view = g.S.Storage.view in
     let below = g.F.BackingDisk.backing in
     let old = c.args.self.now in
@@ -549,17 +566,26 @@ returns-clause-lowest g c = λ none out sound.
     let same : c.mark_failure.new.self ≡ c.renew_l1_table-longer.new.self = c.mark_failure.ensures.rest ∙ ap (λ f. record mid { is_failed = f }) kept in
     let begins = first out sound in
     let lengthens = subst (MakesEntry view below begun mid out) made (c.renew_l1_table-longer.ensures.makes out begins.sound) in
+    let filled = c.fill_grown-filled.new.self in
     let put : c.fill_grown-filled.result ≡ Ok c.in_ok-mark_fault.field-0 = sym c.mark_fault.ensures.answer ∙ c.in_ok-mark_fault.was in
     let whole : c.mark_fault.new.self ≡ c.fill_grown-filled.new.self = subst (λ (r : Result _ _). OnOk r (c.mark_fault.new.self ≡ c.fill_grown-filled.new.self)) put c.mark_fault.ensures.same in
-    let sized : c.mark_fault.new.self ≡ mid = whole ∙ (c.fill_grown-filled.ensures.unfilled none).1 ∙ same in
+    let sound_long = subst (λ (i : Qcow2 _ _). ImageInvariant view below (pending_in view below i out) i out) (sym same) lengthens.sound in
+    let fills = subst (λ (i : Qcow2 _ _). FillsGrown view below c.args.size c.args.mode i filled out) same (subst (FillsGrownOrRefuses view below c.args.size c.args.mode long filled out) put (c.fill_grown-filled.ensures.fills out sound_long)) in
     let low = subst (λ (r : Result _ _). OnOk r (GrowsFromLowest view begun mid)) made (c.renew_l1_table-longer.ensures.lowest out begins.sound) in
+    let length = subst (λ (r : Result _ _). OnOk r (entry_count mid.l1_table ≡ max (entry_count begun.l1_table) (l1_index_of begun.file.header.fields (c.args.size - 1) + 1))) made c.renew_l1_table-longer.ensures.length in
+    let reach = reaches_told view below out (pending_in view below begun out) (pending_in view below mid out) begun mid (c.args.size - 1) begins.sound lengthens.sound length in
+    let place = fills.l1_table (reaches_end begun.file.header.fields mid.file.header.fields c.args.size (let l = c.requires.larger in omega (arith, l)) lengthens.header reach) in
+    let gave = fills.reftables low.gone.after low.gone.is in
+    let entries = subst (λ (r : Result _ _). OnOk r ((i : _) → entry_at mid.l1_table.bytes i ≡ entry_at begun.l1_table.bytes i)) made c.renew_l1_table-longer.ensures.kept in
+    let empty = subst (λ (r : Result _ _). OnOk r (HasNothingToFree mid)) made c.renew_l1_table-longer.ensures.emptied in
+    let lies = grown_lowest view below out begun mid begins.sound lengthens entries empty (pending_in view below filled out) filled fills.sound fills.header place gave.0 gave.1 low in
     let known = c.begin.ensures.known (pending_in view below old out) out sound in
-    let as_begun = grows_alike view old begun mid c.begin.ensures.rest (begun_used view old begun (ap (λ (i : Qcow2 _ _). i.file.header) c.begin.ensures.rest) known) low in
+    let as_begun = grows_alike view old begun filled c.begin.ensures.rest (begun_used view old begun (ap (λ (i : Qcow2 _ _). i.file.header) c.begin.ensures.rest) known) lies in
     let new = c.write_size-written.new.self in
     let marked = is_failed c.mark_fault-2.new.self in
-    let kept_size = subst (λ (i : Qcow2 _ _). new ≡ record i { file = record i.file { storage = new.file.storage; header = new.file.header } }) sized c.write_size-written.ensures.rest in
-    let uses = subst (λ (i : Qcow2 _ _). OnOk c.write_size-written.result (StaysUsed view i.file new.file)) sized (c.write_size-written.ensures.uses out (subst (λ (i : Qcow2 _ _). ImageInvariant view below (pending_in view below i out) i out) (sym sized) lengthens.sound)) in
-    let header = subst (λ (i : Qcow2 _ _). OnOk c.write_size-written.result (new.file.header ≡ with_fields i.file.header (with_size i.file.header.fields c.args.size))) sized c.write_size-written.ensures.header in
+    let kept_size = subst (λ (i : Qcow2 _ _). new ≡ record i { file = record i.file { storage = new.file.storage; header = new.file.header } }) whole c.write_size-written.ensures.rest in
+    let uses = subst (λ (i : Qcow2 _ _). OnOk c.write_size-written.result (StaysUsed view i.file new.file)) whole (c.write_size-written.ensures.uses out (subst (λ (i : Qcow2 _ _). ImageInvariant view below (pending_in view below i out) i out) (sym whole) fills.sound)) in
+    let header = subst (λ (i : Qcow2 _ _). OnOk c.write_size-written.result (new.file.header ≡ with_fields i.file.header (with_size i.file.header.fields c.args.size))) whole c.write_size-written.ensures.header in
     subst (λ (image : Qcow2 _ _). OnOk c.mark_fault-2.result (GrowsFromLowest view old image)) (sym c.mark_fault-2.ensures.rest)
     (subst (λ (r : Result _ _). OnOk r (GrowsFromLowest view old (with_marks new (is_changed_of c.mark_fault-2.new.self.file.storage) marked))) (sym c.mark_fault-2.ensures.answer)
-    (grows_sized_lowest view old mid new c.args.size (is_changed_of c.mark_fault-2.new.self.file.storage) marked c.write_size-written.result (ap (λ (i : Qcow2 _ _). i.allocator) kept_size) uses header as_begun))
+    (grows_sized_lowest view old filled new c.args.size (is_changed_of c.mark_fault-2.new.self.file.storage) marked c.write_size-written.result (ap (λ (i : Qcow2 _ _). i.allocator) kept_size) uses header as_begun))

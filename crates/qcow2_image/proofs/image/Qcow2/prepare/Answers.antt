@@ -55,10 +55,10 @@ returns-in-Err-clause-far g c = λ needs.
     far_then_freed g.S.Storage.view g.F.BackingDisk.backing c.args.self.now c.prepare_range.new.self c.free_after.new.self c.in-Err.refusal c.free_after.result (far_refusal c.prepare_range.result c.in-Err.refusal c.in-Err.is far.0) far.1 c.free_after.ensures.idle c.free_after.ensures.told
 
 pub returns-in-Ok-clause-notes : goal.returns-in-Ok-clause-notes
-returns-in-Ok-clause-notes g c = c.prepare_range.ensures.notes
+returns-in-Ok-clause-notes g c = c.in-Ok.ensures.notes
 
 pub returns-in-Err-clause-notes : goal.returns-in-Err-clause-notes
-returns-in-Err-clause-notes g c = notes_then c.prepare_range.ensures.notes (notes_for c.free_after.ensures.notes)
+returns-in-Err-clause-notes g c = notes_then c.in-Err.ensures.notes (notes_for c.free_after.ensures.notes)
 
 pub returns-in-Ok-clause-header_cluster : goal.returns-in-Ok-clause-header_cluster
 returns-in-Ok-clause-header_cluster g c = c.prepare_range.ensures.header_cluster

@@ -1,5 +1,5 @@
 use Rattle.qcow2_image.proofs.image.Qcow2.prepare_data_mapping.Goals as goal
-use Rattle.std.proofs.Common.{◌≡◌, ◌⊎◌, ◌<◌, sym, ◌∙◌, subst, arith, ap, refl, ◌+◌, ⊎_elim, inl, inr}
+use Rattle.std.proofs.Common.{◌≡◌, ◌⊎◌, ◌<◌, sym, ◌∙◌, subst, arith, ap, refl, ◌+◌, ⊎_elim, inl, inr, ◌≤◌}
 use Rattle.std.specs.Prelude.{IfErr, IfOk, IsErrAnd, None, Result, Some, OnOk, IsNone}
 use Rattle.qcow2_alloc.specs.declared.error.ImageError.TheVariants.{Overflow, TablePrepared, Limit}
 use Rattle.qcow2_alloc.specs.ImageFile.{known_in}
@@ -23,7 +23,7 @@ use Rattle.qcow2_image.proofs.Prepare.PrepareCalls.{lists_begun, prepares_nothin
 use Rattle.qcow2_image.proofs.Call.Refused.{prepares_after, stays_kept}
 use Rattle.qcow2_image.proofs.Call.FaultCounts.{counted_marked}
 use Rattle.qcow2_image.proofs.Call.Marked.{marks_memory, may_mark}
-use Rattle.qcow2_image.proofs.Call.OnceWritten.{once_written, once_none}
+use Rattle.qcow2_image.proofs.Call.OnceWritten.{fails_none, fails_once}
 use Rattle.qcow2_image.proofs.Call.BehindHeader.{behind_call, behind_none}
 use Rattle.qcow2_image.proofs.Prepare.Pinned.{begun_own, unpinned_begun}
 use Rattle.qcow2_image.specs.PinnedTables.{PreparesUnpinned}
@@ -38,10 +38,15 @@ use Rattle.qcow2_image.specs.MetAlone.{CopiesCompressed, IsMetTaking}
 use Rattle.qcow2_image.proofs.Prepare.Unannounced.{compressed_as}
 use Rattle.qcow2_image.proofs.Prepare.MetTables.{far_before}
 use Rattle.qcow2_image.proofs.Prepare.LowestTables.{begun_used, tables_begun}
-use Rattle.qcow2_image.specs.Prepared.{table_of}
+use Rattle.qcow2_image.specs.Prepared.{length_of, offset_of, table_of}
 use Rattle.qcow2_image.specs.Backings.{HasPrepared}
 use Rattle.qcow2_image.proofs.Prepare.MetTaking.{taking_as}
 use Rattle.qcow2_image.proofs.Grow.NoLonger.{length_then, reaches_behind}
+use Rattle.std.specs.Prelude.{IfOk, None}
+use Rattle.qcow2_alloc.proofs.Outcomes.{if_no_ok}
+use Rattle.qcow2_image.specs.Noted.{TellsNoData}
+use Rattle.qcow2_image.specs.Prepared.{table_of}
+use Rattle.qcow2_image.proofs.Call.ToldData.{existing_in_call}
 
 pub returns-then-length-eq0-clause-sees : goal.returns-then-length-eq0-clause-sees
 returns-then-length-eq0-clause-sees g c =
@@ -66,6 +71,17 @@ returns-clause-sees g c =
     (λ out sound.
     let kept = stays_kept view below out old mid sound (listed view below out old mid (λ s. record { keeps = c.begin.ensures.keeps (pending_in view below old out) out s; list = c.begin.ensures.list }) sound) in
     prepares_after view below out old mid new kept c.args.offset c.args.length c.args.overwrite r (c.prepare-prepared.ensures.readies some out kept.sound))))
+
+pub returns-clause-some : goal.returns-clause-some
+returns-clause-some g c =
+    let n = c.args.length in
+    subst (λ (r : Result _ _). IfOk r (λ p. 0 < n → 0 < length_of p)) (sym c.mark_failure.ensures.answer) (if_ok c.prepare-prepared.result (λ p has some. (has some).some) c.prepare-prepared.ensures.some)
+
+pub returns-clause-behind : goal.returns-clause-behind
+returns-clause-behind g c =
+    let n = c.args.length in
+    subst (λ (r : Result _ _). IfOk r (λ p. 0 < n → cluster_size c.mark_failure.new.self.file.header.fields ≤ offset_of p)) (sym c.mark_failure.ensures.answer)
+    (subst (λ (i : Qcow2 _ _). IfOk c.prepare-prepared.result (λ p. 0 < n → cluster_size i.file.header.fields ≤ offset_of p)) (sym c.mark_failure.ensures.rest) (if_ok c.prepare-prepared.result (λ p has some. (has some).behind) c.prepare-prepared.ensures.some))
 
 pub returns-clause-maps : goal.returns-clause-maps
 returns-clause-maps g c = λ some out sound.
@@ -133,10 +149,13 @@ returns-clause-far g c = λ some.
     c.prepare-prepared.ensures.far c.mark_failure.ensures.answer c.mark_failure.ensures.marks c.mark_failure.ensures.rest
 
 pub returns-in_err-check_prepare-clause-once_written : goal.returns-in_err-check_prepare-clause-once_written
-returns-in_err-check_prepare-clause-once_written g c = λ memory. once_none g.S.Storage.view c.args.self.now
+returns-in_err-check_prepare-clause-once_written g c = fails_none g.S.Storage.view c.args.self.now _
+
+pub returns-then-length-eq0-clause-once_written : goal.returns-then-length-eq0-clause-once_written
+returns-then-length-eq0-clause-once_written g c = fails_none g.S.Storage.view c.args.self.now _
 
 pub returns-clause-once_written : goal.returns-clause-once_written
-returns-clause-once_written g c = λ memory. once_written g.S.Storage.view c.args.self.now c.begin.new.self c.begin.ensures.begun c.prepare-prepared.new.self c.mark_failure.new.self c.prepare-prepared.result c.prepare-prepared.ensures.notes (c.prepare-prepared.ensures.stays.failed ∙ c.begin.ensures.stays.failed) c.mark_failure.ensures.marks c.mark_failure.ensures.rest (sym c.mark_failure.ensures.answer ∙ memory)
+returns-clause-once_written g c = fails_once g.S.Storage.view c.args.self.now c.begin.new.self c.begin.ensures.begun c.prepare-prepared.new.self c.mark_failure.new.self c.prepare-prepared.result c.prepare-prepared.ensures.notes (c.prepare-prepared.ensures.stays.failed ∙ c.begin.ensures.stays.failed) c.mark_failure.ensures.marks c.mark_failure.ensures.rest c.mark_failure.result (λ memory. sym c.mark_failure.ensures.answer ∙ memory)
 
 pub returns-in_err-check_prepare-clause-header_cluster : goal.returns-in_err-check_prepare-clause-header_cluster
 returns-in_err-check_prepare-clause-header_cluster g c = behind_none
@@ -271,3 +290,14 @@ returns-clause-lowest_tables g c = λ some out sound.
     subst (λ (image : Qcow2 _ _). OnOk c.mark_failure.result (TakesLowestTables view c.args.offset old image)) (sym c.mark_failure.ensures.rest)
     (subst (λ r. OnOk r (TakesLowestTables view c.args.offset old (record new { is_failed = is_failed c.mark_failure.new.self }))) (sym c.mark_failure.ensures.answer)
     (tables_begun view c.args.offset old mid new (is_failed c.mark_failure.new.self) c.prepare-prepared.result c.begin.ensures.rest (begun_used view old mid (ap (λ (i : Qcow2 _ _). i.file.header) c.begin.ensures.rest) known) (c.prepare-prepared.ensures.lowest_tables out stays.sound)))
+
+pub returns-in_err-check_prepare-clause-kinds : goal.returns-in_err-check_prepare-clause-kinds
+returns-in_err-check_prepare-clause-kinds g c = if_no_ok _ c.from_residual.result c.in_err-check_prepare.field-0.0 c.from_residual.ensures
+
+pub returns-then-length-eq0-clause-kinds : goal.returns-then-length-eq0-clause-kinds
+returns-then-length-eq0-clause-kinds g c = λ none. refl
+
+pub returns-clause-kinds : goal.returns-clause-kinds
+returns-clause-kinds g c =
+    subst (λ (r : Result _ _). IfOk r (λ p. table_of p ≡ None → TellsNoData c.args.self.now c.mark_failure.new.self)) (sym c.mark_failure.ensures.answer)
+    (existing_in_call g.S.Storage.view c.args.self.now c.begin.new.self c.prepare-prepared.new.self c.mark_failure.new.self c.prepare-prepared.result c.begin.ensures.begun c.prepare-prepared.ensures.notes c.mark_failure.ensures.rest)

@@ -1,5 +1,6 @@
 use Rattle.qcow2_image.proofs.image.Qcow2.prepare_first.Goals as goal
-use Rattle.std.proofs.Common.{rules, refl, ◌/◌, sym, ap, ◌∙◌, subst, List, length, ◌≡◌, ◌<◌, true, false, inr}
+use Rattle.std.proofs.Common.{rules, refl, ◌/◌, sym, ap, ◌∙◌, subst, List, length, ◌≡◌, ◌<◌, ◌≤◌, true, false, inr, arith}
+use Rattle.qcow2_image.specs.PreparedPlaces.{MarkedIsBehind}
 use Rattle.qcow2_metadata.specs.Cover.{cover}
 use Rattle.std.specs.Prelude.{IfErr, vec_capacity}
 use Rattle.qcow2_image.specs.declared.prepared.Share.{Share}
@@ -75,6 +76,12 @@ pub returns-in-Some-clause-first : goal.returns-in-Some-clause-first
 returns-in-Some-clause-first g c =
     subst (λ (x : Prepared). IsFirst c.args.self.now.file.header.fields c.args.offset c.args.table x) (sym c.prepare_at.ensures.value)
     (record { guest = refl; under = refl; rest = refl; one = ap (λ (l : List Share). length l) c.prepare_at.ensures.share })
+
+pub returns-in-Some-clause-behind : goal.returns-in-Some-clause-behind
+returns-in-Some-clause-behind g c =
+    let h = c.args.self.now.file.header.fields in
+    let behind : cluster_size h ≤ c.in-Some.host = subst (MarkedIsBehind (cluster_size h)) c.in-Some.ensures.place.0 c.in_ok-old.ensures.behind refl in
+    subst (λ (x : Prepared). cluster_size h ≤ x.offset) (sym c.prepare_at.ensures.value) (omega (arith, behind))
 
 pub returns-in-Some-clause-room : goal.returns-in-Some-clause-room
 returns-in-Some-clause-room g c =

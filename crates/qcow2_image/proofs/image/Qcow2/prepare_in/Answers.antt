@@ -20,7 +20,7 @@ use Rattle.qcow2_image.proofs.Call.BehindHeader.{behind_then}
 use Rattle.qcow2_image.proofs.Prepare.InUse.{first_of, longer_lowest}
 use Rattle.qcow2_image.proofs.Prepare.Lacked.{hands_limit}
 use Rattle.qcow2_image.proofs.Prepare.LackedBehind.{cant_go_on, first_begun, first_cluster, lacks_uncounted, own_released}
-use Rattle.std.proofs.lemmas.Nat.{pow_pos}
+use Rattle.std.proofs.lemmas.Nat.{pow_pos, mod_below}
 use Rattle.qcow2_disk.specs.Found.{rest_of_table}
 use Rattle.qcow2_image.specs.LackedPlaces.{IsNewThere, LacksData, behind_first, bytes_in_table, first_of_range}
 use Rattle.qcow2_image.specs.ImageInvariant.{IsPending, IsReadyWith, pending_in}
@@ -39,6 +39,9 @@ use Rattle.qcow2_image.specs.Backings.{HasPrepared}
 use Rattle.qcow2_image.proofs.Prepare.Met.{hands_met}
 use Rattle.qcow2_image.proofs.Prepare.MetTaking.{taking_as}
 use Rattle.qcow2_alloc.specs.CachePins.{l2_pins}
+use Rattle.qcow2_alloc.specs.KeptMarks.{KeepsFileNotes}
+use Rattle.qcow2_image.specs.Noted.{DataUnlessExisting}
+use Rattle.qcow2_image.proofs.Call.ToldData.{notes_if, some_under}
 
 pub returns-in_err-prepared-clause-readies : goal.returns-in_err-prepared-clause-readies
 returns-in_err-prepared-clause-readies g c = λ out sound holds.
@@ -104,6 +107,17 @@ returns-in-Ok-clause-reaches g c = λ out k free sound holds.
       kept = λ host at. longer.place ∙ c.in_ok-prepared.ensures.kept out sound holds host (sym same ∙ at) ∙ ap (λ s. host + c.args.offset % s) (sym size);
     }
 
+pub returns-in-Ok-clause-some : goal.returns-in-Ok-clause-some
+returns-in-Ok-clause-some g c =
+    let old = c.args.self.now in
+    let new = c.prepare_rest.new.self in
+    let h = old.file.header.fields in
+    let first = c.in_ok-prepared.ensures.first in
+    let longer = c.in-Ok.ensures.longer in
+    let size : cluster_size new.file.header.fields ≡ cluster_size h = ap (λ (x : HeaderFields). cluster_size x) (header_format old.file.header new.file.header (header_then old.file.header c.prepare_first.new.self.file.header new.file.header c.in_ok-prepared.ensures.header c.in-Ok.ensures.header)) in
+    let within = mod_below c.args.offset (cluster_size h) (pow_pos h.cluster_bits) in
+    record { some = (let rest = first.rest in let more = longer.more in omega (arith, within)); behind = (let begins = c.in_ok-prepared.ensures.behind in let place = longer.place in omega (arith, size)) }
+
 pub returns-in-Err-clause-faults : goal.returns-in-Err-clause-faults
 returns-in-Err-clause-faults g c =
     let view = g.S.Storage.view in
@@ -126,10 +140,13 @@ pub returns-in-Ok-clause-former : goal.returns-in-Ok-clause-former
 returns-in-Ok-clause-former g c = lists_then c.args.self.now c.prepare_first.new.self c.prepare_rest.new.self c.in_ok-prepared.ensures.former c.in-Ok.ensures.former
 
 pub returns-in_err-prepared-clause-notes : goal.returns-in_err-prepared-clause-notes
-returns-in_err-prepared-clause-notes g c = c.prepare_first.ensures.notes
+returns-in_err-prepared-clause-notes g c =
+    handed_on (λ r. KeepsFileNotes g.S.Storage.view (DataUnlessExisting r) c.args.self.now.file c.prepare_first.new.self.file) c.from_residual.result c.in_err-prepared.field-0.0 c.from_residual.ensures c.prepare_first.ensures.notes
 
 pub returns-in-Ok-clause-notes : goal.returns-in-Ok-clause-notes
-returns-in-Ok-clause-notes g c = notes_then c.prepare_first.ensures.notes c.prepare_rest.ensures.notes
+returns-in-Ok-clause-notes g c =
+    let under = c.prepare_rest.ensures.longer.under ∙ c.in_ok-prepared.ensures.first.under in
+    notes_if (λ _. some_under c.prepare_rest.new.prepared under) (notes_then c.prepare_first.ensures.notes c.prepare_rest.ensures.notes)
 
 pub returns-in-Err-clause-notes : goal.returns-in-Err-clause-notes
 returns-in-Err-clause-notes g c = notes_then (notes_then c.prepare_first.ensures.notes c.prepare_rest.ensures.notes) (notes_for c.release_prepared.ensures.notes)

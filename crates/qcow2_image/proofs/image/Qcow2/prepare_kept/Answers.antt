@@ -1,4 +1,4 @@
-use Rattle.std.proofs.Common.{◌+◌, ◌-◌, ◌%◌, ◌∙◌, List, length, inl, refl, sym, ap, subst, arith, ◌/◌}
+use Rattle.std.proofs.Common.{◌≤◌, ◌+◌, ◌-◌, ◌%◌, ◌∙◌, List, length, inl, refl, sym, ap, subst, arith, ◌/◌}
 use Rattle.qcow2_metadata.specs.Header.{cluster_size}
 use Rattle.qcow2_alloc.proofs.AllocationSteps.{handed_on}
 use Rattle.qcow2_image.specs.declared.image.Qcow2.{Qcow2}
@@ -48,6 +48,11 @@ pub returns-clause-first : goal.returns-clause-first
 returns-clause-first g c =
     subst (λ (x : Prepared). IsFirst c.args.self.now.file.header.fields c.args.offset c.args.table x) (sym c.prepare_at.ensures.value)
     (record { guest = refl; under = refl; rest = ap (λ (image : Qcow2 _ _). cluster_size image.file.header.fields - c.args.offset % cluster_size image.file.header.fields) c.fill_kept.ensures.rest; one = ap (λ (l : List Share). length l) c.prepare_at.ensures.share })
+
+pub returns-clause-behind : goal.returns-clause-behind
+returns-clause-behind g c =
+    let least = c.requires.behind in
+    subst (λ (x : Prepared). cluster_size c.args.self.now.file.header.fields ≤ x.offset) (sym c.prepare_at.ensures.value) (omega (arith, least))
 
 pub returns-clause-place : goal.returns-clause-place
 returns-clause-place g c =

@@ -1,5 +1,5 @@
 use Rattle.qcow2_image.proofs.image.Qcow2.prepare_new.Goals as goal
-use Rattle.std.proofs.Common.{rules, ◌≡◌, ◌-◌, ◌*◌, ◌%◌, ◌^◌, ◌++◌, [], ◌∷◌, inl, refl, sym, ap, ◌∙◌, subst, arith, List, length, ◌+◌, ◌/◌, ◌<◌}
+use Rattle.std.proofs.Common.{rules, ◌≡◌, ◌≤◌, ◌-◌, ◌*◌, ◌%◌, ◌^◌, ◌++◌, [], ◌∷◌, inl, refl, sym, ap, ◌∙◌, subst, arith, List, length, ◌+◌, ◌/◌, ◌<◌}
 use Rattle.qcow2_metadata.specs.declared.header.HeaderFields.{HeaderFields}
 use Rattle.qcow2_metadata.specs.Header.{cluster_size, HeaderView}
 use Rattle.qcow2_laws.specs.Unseen.{KeepsFormat}
@@ -20,7 +20,7 @@ use Rattle.qcow2_image.proofs.Prepare.ReadyingNew.{back_none, readied_new}
 use Rattle.qcow2_image.proofs.Prepare.Listing.{lists_still}
 use Rattle.qcow2_alloc.proofs.KeptMarks.{notes_none, notes_then, notes_for}
 use Rattle.qcow2_image.proofs.Call.Notes.{same_kept, pins_kept}
-use Rattle.qcow2_image.proofs.Call.BehindHeader.{behind_by, behind_none, behind_tables, behind_then}
+use Rattle.qcow2_image.proofs.Call.BehindHeader.{behind_by, behind_none, behind_tables, behind_then, behind_zero}
 use Rattle.std.proofs.lemmas.Nat.{div-mul-add, mod_below, pow_pos}
 use Rattle.qcow2_image.proofs.Prepare.InUse.{used_pinned, used_stays}
 use Rattle.qcow2_image.proofs.Prepare.Lacked.{hands_limit, other_limit}
@@ -95,6 +95,19 @@ returns-in-Ok-clause-first g c =
     let size : cluster_size mid.file.header.fields ≡ cluster_size h = ap (λ (x : HeaderFields). cluster_size x) (ap (λ x. x.fields) c.in-Ok.ensures.header ∙ format) in
     subst (λ (x : Prepared). IsFirst h c.args.offset c.args.table x) (sym c.prepare_at.ensures.value)
     (record { guest = refl; under = refl; rest = ap (λ s. s - c.args.offset % s) size; one = ap (λ (l : List Share). length l) c.prepare_at.ensures.share })
+
+pub returns-in-Ok-clause-behind : goal.returns-in-Ok-clause-behind
+returns-in-Ok-clause-behind g c =
+    let old = c.args.self.now in
+    let filled = c.new_cluster.new.self in
+    let mid = c.load_l2.new.self in
+    let h = old.file.header.fields in
+    let format : KeepsFormat h filled.file.header.fields = header_format old.file.header filled.file.header c.in_ok-pending.ensures.header in
+    let n = c.in_ok-pending.pending.first_cluster in
+    let same : mid.file.header.fields.cluster_bits ≡ h.cluster_bits = ap (λ (x : HeaderFields). x.cluster_bits) (ap (λ x. x.fields) c.in-Ok.ensures.header ∙ format) in
+    let host_is : c.value-host.result ≡ n * 2 ^ mid.file.header.fields.cluster_bits = c.value-host.ensures ∙ c.offset.ensures ∙ ap (λ x. x * 2 ^ c.cluster_bits-bits.result) c.cluster.ensures ∙ ap (λ b. n * 2 ^ b) c.cluster_bits-bits.ensures.value in
+    let behind = behind_zero h.cluster_bits mid.file.header.fields.cluster_bits n same c.in_ok-pending.ensures.elsewhere in
+    subst (λ (x : Prepared). cluster_size h ≤ x.offset) (sym c.prepare_at.ensures.value) (omega (arith, host_is, behind))
 
 pub returns-in-Ok-clause-former : goal.returns-in-Ok-clause-former
 returns-in-Ok-clause-former g c =

@@ -1,5 +1,7 @@
 use Rattle.qcow2_image.proofs.image.Qcow2.prepare_private.Goals as goal
-use Rattle.std.proofs.Common.{refl, ◌∙◌, inl}
+use Rattle.std.proofs.Common.{refl, ◌∙◌, inl, subst}
+use Rattle.qcow2_metadata.specs.Header.{cluster_size}
+use Rattle.qcow2_image.specs.PreparedPlaces.{MarkedIsBehind}
 use Rattle.qcow2_image.proofs.Map.Loading.{if_ok, if_ok_any}
 use Rattle.qcow2_image.proofs.Prepare.KeptShares.{begins_kept}
 use Rattle.qcow2_alloc.proofs.KeptTables.Turning.{always_ok}
@@ -10,6 +12,9 @@ use Rattle.qcow2_image.proofs.Prepare.Met.{met_as}
 use Rattle.qcow2_image.specs.MetAlone.{IsCopiedCompressed, IsMetTaking}
 use Rattle.qcow2_alloc.specs.ImageError.{IsFault}
 use Rattle.qcow2_image.specs.Backings.{HasPrepared}
+
+pub prepare_kept-requires-clause-behind : goal.prepare_kept-requires-clause-behind
+prepare_kept-requires-clause-behind g c = subst (MarkedIsBehind (cluster_size c.args.self.now.file.header.fields)) c.in-Some.ensures.place.0 c.requires.behind refl
 
 pub returns-in-Some-clause-readies : goal.returns-in-Some-clause-readies
 returns-in-Some-clause-readies g c = λ out sound holds unpinned covered. c.prepare_kept.ensures.readies out sound holds unpinned (covered ∙ c.in-Some.ensures.place.0)

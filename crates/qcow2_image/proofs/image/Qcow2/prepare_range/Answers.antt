@@ -1,5 +1,5 @@
 use Rattle.qcow2_image.proofs.image.Qcow2.prepare_range.Goals as goal
-use Rattle.std.proofs.Common.{◌≡◌, true, false, inl, inr, refl, sym, ◌∙◌, subst, None, Option, [], ◌∷◌, ◌+◌, ap}
+use Rattle.std.proofs.Common.{◌≡◌, true, false, inl, inr, refl, sym, ◌∙◌, subst, None, Option, [], ◌∷◌, ◌+◌, ap, ◌<◌, ◌≤◌, ℕ}
 use Rattle.qcow2_alloc.specs.ImageFile.{known_in}
 use Rattle.qcow2_alloc.proofs.AllocationSteps.{handed_on}
 use Rattle.qcow2_image.specs.CallParts.{PreparesRange}
@@ -14,7 +14,7 @@ use Rattle.qcow2_image.proofs.Call.Refused.{prepares_after, readied_after}
 use Rattle.qcow2_image.proofs.Prepare.Taken.{if_err, taken_by}
 use Rattle.qcow2_image.proofs.Prepare.Listing.{lists_since}
 use Rattle.qcow2_image.proofs.Prepare.FarEntries.{far_handed_on, far_unanswered}
-use Rattle.std.specs.Prelude.{IsSome, IsTrue}
+use Rattle.std.specs.Prelude.{IsSome, IsTrue, IfSome}
 use Rattle.qcow2_alloc.proofs.KeptMarks.{notes_then, notes_for}
 use Rattle.qcow2_image.proofs.Call.BehindHeader.{behind_then}
 use Rattle.qcow2_image.proofs.Prepare.InUse.{none_lowest}
@@ -34,6 +34,8 @@ use Rattle.qcow2_image.specs.Backings.{HasPrepared}
 use Rattle.qcow2_image.proofs.Prepare.Met.{hands_met}
 use Rattle.qcow2_image.proofs.Prepare.MetTaking.{if_err_both, taking_as, taking_kept}
 use Rattle.qcow2_image.proofs.Grow.NoLonger.{length_then}
+use Rattle.qcow2_alloc.specs.KeptMarks.{KeepsFileNotes}
+use Rattle.qcow2_image.specs.Noted.{DataUnlessExisting}
 
 pub returns-in_err-table-clause-readies : goal.returns-in_err-table-clause-readies
 returns-in_err-table-clause-readies g c = λ some out sound.
@@ -106,6 +108,15 @@ returns-in-None-clause-taken g c = λ some out sound.
     taken_before view old mid c.args.offset c.args.length found.0.header found.0.covers out
     (taken_by view below mid p out found.0.sound c.args.offset c.in_ok-table.table found.1 (known_in view mid.file) c.args.length (taken is) place)) c.prepare_in.ensures.taken
 
+pub returns-in-Some-clause-some : goal.returns-in-Some-clause-some
+returns-in-Some-clause-some g c = λ some.
+    let h = c.table_for.new.self.file.header.fields in
+    let behind = subst (λ (x : Option ℕ). IfSome x (λ host. cluster_size h ≤ host)) c.in-Some.is c.in_ok-host.ensures.behind in
+    record { some = subst (λ n. 0 < n) (sym c.existing_at.ensures.length) some; behind = subst (λ n. cluster_size h ≤ n) (sym c.existing_at.ensures.offset) behind }
+
+pub returns-in-None-clause-some : goal.returns-in-None-clause-some
+returns-in-None-clause-some g c = if_ok c.prepare_in.result (λ p has some. has) c.prepare_in.ensures.some
+
 pub returns-in-Some-clause-tables : goal.returns-in-Some-clause-tables
 returns-in-Some-clause-tables g c = λ out sound.
     record {
@@ -134,10 +145,12 @@ pub returns-in-None-clause-far : goal.returns-in-None-clause-far
 returns-in-None-clause-far g c = λ needs. absurd (far_unanswered c.table_for.result c.in_ok-table.table c.in_ok-table.was (c.table_for.ensures.far needs).0)
 
 pub returns-in_err-table-clause-notes : goal.returns-in_err-table-clause-notes
-returns-in_err-table-clause-notes g c = notes_for c.table_for.ensures.notes
+returns-in_err-table-clause-notes g c =
+    handed_on (λ r. KeepsFileNotes g.S.Storage.view (DataUnlessExisting r) c.args.self.now.file c.table_for.new.self.file) c.from_residual.result c.in_err-table.field-0.0 c.from_residual.ensures (notes_for c.table_for.ensures.notes)
 
 pub returns-in_err-host-clause-notes : goal.returns-in_err-host-clause-notes
-returns-in_err-host-clause-notes g c = notes_for c.table_for.ensures.notes
+returns-in_err-host-clause-notes g c =
+    handed_on (λ r. KeepsFileNotes g.S.Storage.view (DataUnlessExisting r) c.args.self.now.file c.table_for.new.self.file) c.from_residual-in_err-host.result c.in_err-host.field-0.0 c.from_residual-in_err-host.ensures (notes_for c.table_for.ensures.notes)
 
 pub returns-in-Some-clause-notes : goal.returns-in-Some-clause-notes
 returns-in-Some-clause-notes g c = notes_for c.table_for.ensures.notes

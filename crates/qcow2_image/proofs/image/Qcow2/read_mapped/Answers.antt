@@ -16,7 +16,7 @@ use Rattle.qcow2_image.proofs.Map.Loading.{if_ok}
 use Rattle.qcow2_image.proofs.Map.Looked.{found_after, found_before}
 use Rattle.qcow2_image.proofs.Call.FaultCounts.{counted_marked}
 use Rattle.qcow2_image.proofs.Map.Unmodified.{read_call}
-use Rattle.qcow2_image.proofs.Call.OnceWritten.{once_written}
+use Rattle.qcow2_image.proofs.Call.OnceWritten.{fails_none, fails_once}
 use Rattle.qcow2_image.proofs.Call.BehindHeader.{behind_call}
 use Rattle.std.specs.Prelude.{IfErr}
 use Rattle.qcow2_image.proofs.Map.MetLooking.{held_since}
@@ -65,8 +65,17 @@ returns-clause-faults g c = counted_marked g.S.Storage.view g.F.BackingDisk.back
 pub returns-clause-unwritten : goal.returns-clause-unwritten
 returns-clause-unwritten g c = read_call g.S.Storage.view g.F.BackingDisk.backing c.args.self.now c.begin.new.self c.read_current-done.new.self c.mark_failure.new.self (is_failed c.mark_failure.new.self) c.begin.ensures.storage c.begin.ensures.keeps c.begin.ensures.known c.read_current-done.ensures.unwritten c.mark_failure.ensures.rest
 
+pub returns-in_err-check_usable-clause-once_written : goal.returns-in_err-check_usable-clause-once_written
+returns-in_err-check_usable-clause-once_written g c = fails_none g.S.Storage.view c.args.self.now _
+
+pub returns-then-mapping-self-clause-once_written : goal.returns-then-mapping-self-clause-once_written
+returns-then-mapping-self-clause-once_written g c = fails_none g.S.Storage.view c.args.self.now _
+
+pub returns-then-is_empty-clause-once_written : goal.returns-then-is_empty-clause-once_written
+returns-then-is_empty-clause-once_written g c = fails_none g.S.Storage.view c.args.self.now _
+
 pub returns-clause-once_written : goal.returns-clause-once_written
-returns-clause-once_written g c = λ memory. once_written g.S.Storage.view c.args.self.now c.begin.new.self c.begin.ensures.begun c.read_current-done.new.self c.mark_failure.new.self c.read_current-done.result c.read_current-done.ensures.notes (c.read_current-done.ensures.stays.failed ∙ c.begin.ensures.stays.failed) c.mark_failure.ensures.marks c.mark_failure.ensures.rest (sym c.mark_failure.ensures.answer ∙ memory)
+returns-clause-once_written g c = fails_once g.S.Storage.view c.args.self.now c.begin.new.self c.begin.ensures.begun c.read_current-done.new.self c.mark_failure.new.self c.read_current-done.result c.read_current-done.ensures.notes (c.read_current-done.ensures.stays.failed ∙ c.begin.ensures.stays.failed) c.mark_failure.ensures.marks c.mark_failure.ensures.rest c.mark_failure.result (λ memory. sym c.mark_failure.ensures.answer ∙ memory)
 
 pub returns-then-is_empty-clause-mapped : goal.returns-then-is_empty-clause-mapped
 returns-then-is_empty-clause-mapped g c = λ some out sound. absurd (let none : length c.args.bytes.now ≡ 0 = search rules in omega (arith, none, some))

@@ -42,10 +42,13 @@ returns-in-Some-clause-sees g c = λ out.
 pub returns-in_err-try_readv_special-clause-once_written : goal.returns-in_err-try_readv_special-clause-once_written
 returns-in_err-try_readv_special-clause-once_written g c =
     handed_on (λ r. FailsOnceWritten g.S.Storage.view c.args.self.now c.try_readv_special.new.self r) c.from_residual.result c.in_err-try_readv_special.field-0.0 c.from_residual.ensures
-    (λ memory. c.try_readv_special.ensures.once_written (c.in_err-try_readv_special.was ∙ err_as c.in_err-try_readv_special.field-0.0 Memory memory))
+    (record { counts = c.try_readv_special.ensures.once_written.counts; memory = λ memory. c.try_readv_special.ensures.once_written.memory (c.in_err-try_readv_special.was ∙ err_as c.in_err-try_readv_special.field-0.0 Memory memory) })
+
+pub returns-in-None-clause-once_written : goal.returns-in-None-clause-once_written
+returns-in-None-clause-once_written g c = record { counts = c.try_readv_special.ensures.once_written.counts; memory = λ bad. absurd (cc) }
 
 pub returns-in-Some-clause-once_written : goal.returns-in-Some-clause-once_written
-returns-in-Some-clause-once_written g c = λ bad. absurd (cc)
+returns-in-Some-clause-once_written g c = record { counts = c.try_readv_special.ensures.once_written.counts; memory = λ bad. absurd (cc) }
 
 pub returns-in_err-try_readv_special-clause-met : goal.returns-in_err-try_readv_special-clause-met
 returns-in_err-try_readv_special-clause-met g c = λ out sound.

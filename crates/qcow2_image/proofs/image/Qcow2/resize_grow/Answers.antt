@@ -1,12 +1,13 @@
 use Rattle.qcow2_image.proofs.image.Qcow2.resize_grow.Goals as goal
-use Rattle.qcow2_image.proofs.Call.OnceWritten.{once_none}
-use Rattle.std.proofs.Common.{◌≡◌, ◌≤◌, ◌∙◌, inl, inr, None, Some, true, false, sym, ap, subst, refl}
+use Rattle.qcow2_image.proofs.Call.OnceWritten.{fails_none}
+use Rattle.std.proofs.Common.{◌≡◌, ◌≤◌, ◌∙◌, inl, inr, None, Some, true, false, sym, ap, subst, refl, ◌-◌}
 use Rattle.std.specs.Prelude.{Result}
 use Rattle.qcow2_image.specs.Resizing.{GrowsTo, refuses_to_resize, takes_over}
 use Rattle.qcow2_image.proofs.Clear.ClearCalls.{err_is, not_refused, refused_for}
 use Rattle.qcow2_image.proofs.Sizing.GrowCalls.{grows_early, grows_nothing, grows_over}
 use Rattle.qcow2_image.proofs.Sizing.ShrinkCalls.{resize_works}
 use Rattle.qcow2_image.proofs.Prepare.Taken.{if_err}
+use Rattle.qcow2_image.proofs.Sizing.NeededLengths.{longer_none}
 
 pub returns-in_err-check_resize-clause-sees : goal.returns-in_err-check_resize-clause-sees
 returns-in_err-check_resize-clause-sees g c =
@@ -31,13 +32,20 @@ returns-then-takes_over-clause-tables g c = λ none larger out sound. record {
   taken = λ is. absurd cc;
   zeros = λ zero lacks. absurd (let no : true ≡ false = sym c.if-takes_over.true ∙ c.takes_over.ensures ∙ ap (takes_over c.args.self.now) zero in cc);
   version = λ zero lacks. absurd (let no : true ≡ false = sym c.if-takes_over.true ∙ c.takes_over.ensures ∙ ap (takes_over c.args.self.now) zero in cc);
+  length = longer_none c.args.self.now.file.header.fields (c.args.size - 1);
 }
 
 pub returns-in_err-check_resize-clause-once_written : goal.returns-in_err-check_resize-clause-once_written
-returns-in_err-check_resize-clause-once_written g c = λ memory. once_none g.S.Storage.view c.args.self.now
+returns-in_err-check_resize-clause-once_written g c = fails_none g.S.Storage.view c.args.self.now _
+
+pub returns-then-size-clause-once_written : goal.returns-then-size-clause-once_written
+returns-then-size-clause-once_written g c = fails_none g.S.Storage.view c.args.self.now _
 
 pub returns-then-takes_over-clause-once_written : goal.returns-then-takes_over-clause-once_written
-returns-then-takes_over-clause-once_written g c = λ memory. once_none g.S.Storage.view c.args.self.now
+returns-then-takes_over-clause-once_written g c = fails_none g.S.Storage.view c.args.self.now _
+
+pub returns-clause-once_written : goal.returns-clause-once_written
+returns-clause-once_written g c = c.grow_disk.ensures.once_written
 
 pub returns-clause-header_cluster : goal.returns-clause-header_cluster
 returns-clause-header_cluster g c = c.grow_disk.ensures.header_cluster
@@ -68,4 +76,4 @@ pub returns-clause-kinds : goal.returns-clause-kinds
 returns-clause-kinds g c = c.grow_disk.ensures.kinds
 
 pub returns-clause-lowest : goal.returns-clause-lowest
-returns-clause-lowest g c = λ allowed larger none. c.grow_disk.ensures.lowest none
+returns-clause-lowest g c = λ allowed larger. c.grow_disk.ensures.lowest

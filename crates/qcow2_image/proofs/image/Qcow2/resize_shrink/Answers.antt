@@ -1,5 +1,5 @@
-use Rattle.qcow2_image.proofs.Call.OnceWritten.{once_none}
-use Rattle.std.proofs.Common.{◌≡◌, ◌≤◌, ◌∙◌, refl, sym, subst, arith}
+use Rattle.qcow2_image.proofs.Call.OnceWritten.{fails_none}
+use Rattle.std.proofs.Common.{◌≡◌, ◌-◌, ◌≤◌, ◌∙◌, refl, sym, subst, arith}
 use Rattle.std.specs.Prelude.{None, Ok, Result, Some}
 use Rattle.qcow2_alloc.specs.ImageFile.{known_in, l2_pins}
 use Rattle.qcow2_image.specs.Image.{size_of}
@@ -13,6 +13,7 @@ use Rattle.qcow2_image.proofs.Sizing.ShrinkCalls.{fault_unprepared, met_prepared
 use Rattle.qcow2_image.proofs.Sizing.Tails.{mono_up}
 use Rattle.qcow2_image.proofs.Sizing.UncoveredTails.{uncovers_no_cluster}
 use Rattle.qcow2_image.proofs.image.Qcow2.resize_shrink.Goals as goal
+use Rattle.qcow2_image.proofs.Sizing.NeededLengths.{longer_none}
 
 pub returns-in_err-check_resize-clause-sees : goal.returns-in_err-check_resize-clause-sees
 returns-in_err-check_resize-clause-sees g c =
@@ -57,7 +58,7 @@ returns-then-size-clause-stops g c = λ out sound.
     let old = c.args.self.now in
     let le = subst (λ n. n ≤ c.args.size) c.size.ensures c.if-size.true in
     let up = rounded_from (cluster_size old.file.header.fields) c.args.size (pow_pos old.file.header.fields.cluster_bits) in
-    record { stops = λ lt. absurd (omega (arith, lt, is)); emptied = λ before. absurd (omega (arith, le, up, before)) }
+    record { tables = λ whole before under. absurd (omega (arith, le, up, before)); stops = λ lt. absurd (omega (arith, lt, is)); emptied = λ before. absurd (omega (arith, le, up, before)) }
 
 pub returns-then-size-clause-covers : goal.returns-then-size-clause-covers
 returns-then-size-clause-covers g c = λ out sound.
@@ -72,13 +73,13 @@ pub returns-clause-covers : goal.returns-clause-covers
 returns-clause-covers g c = c.shrink.ensures.covers
 
 pub returns-in_err-check_resize-clause-once_written : goal.returns-in_err-check_resize-clause-once_written
-returns-in_err-check_resize-clause-once_written g c = λ memory. once_none g.S.Storage.view c.args.self.now
+returns-in_err-check_resize-clause-once_written g c = fails_none g.S.Storage.view c.args.self.now _
 
 pub returns-then-size-clause-once_written : goal.returns-then-size-clause-once_written
-returns-then-size-clause-once_written g c = λ bad. absurd (cc)
+returns-then-size-clause-once_written g c = fails_none g.S.Storage.view c.args.self.now _
 
 pub returns-then-is_some-clause-once_written : goal.returns-then-is_some-clause-once_written
-returns-then-is_some-clause-once_written g c = λ memory. once_none g.S.Storage.view c.args.self.now
+returns-then-is_some-clause-once_written g c = fails_none g.S.Storage.view c.args.self.now _
 
 pub returns-clause-once_written : goal.returns-clause-once_written
 returns-clause-once_written g c = c.shrink.ensures.once_written
@@ -108,3 +109,15 @@ returns-clause-pinned g c = λ none smaller. (
 
 pub returns-clause-kinds : goal.returns-clause-kinds
 returns-clause-kinds g c = c.shrink.ensures.kinds
+
+pub returns-in_err-check_resize-clause-length : goal.returns-in_err-check_resize-clause-length
+returns-in_err-check_resize-clause-length g c = λ out sound. longer_none c.args.self.now.file.header.fields (size_of c.args.self.now - 1)
+
+pub returns-then-size-clause-length : goal.returns-then-size-clause-length
+returns-then-size-clause-length g c = λ out sound. longer_none c.args.self.now.file.header.fields (size_of c.args.self.now - 1)
+
+pub returns-then-is_some-clause-length : goal.returns-then-is_some-clause-length
+returns-then-is_some-clause-length g c = λ out sound. longer_none c.args.self.now.file.header.fields (size_of c.args.self.now - 1)
+
+pub returns-clause-length : goal.returns-clause-length
+returns-clause-length g c = c.shrink.ensures.length

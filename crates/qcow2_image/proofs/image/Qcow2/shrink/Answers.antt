@@ -1,7 +1,7 @@
-use Rattle.std.proofs.Common.{◌≡◌, ◌∙◌, inl, inr, sym, ap, subst}
+use Rattle.std.proofs.Common.{◌≡◌, ◌∙◌, ◌-◌, inl, inr, sym, ap, subst}
 use Rattle.std.specs.Prelude.{Err, IfSome, MatchOption, nat_lt}
 use Rattle.image_access.proofs.EachMomentSince.{passes_none}
-use Rattle.qcow2_metadata.specs.Header.{cluster_size, rounded_up}
+use Rattle.qcow2_metadata.specs.Header.{HeaderView, cluster_size, rounded_up}
 use Rattle.qcow2_alloc.specs.KeptMarks.{HaveRisen}
 use Rattle.std.proofs.lemmas.Bool.{ltb-true}
 use Rattle.qcow2_alloc.specs.ImageError.{IsFault}
@@ -10,6 +10,7 @@ use Rattle.qcow2_alloc.specs.ImageStorage.{is_changed_of, storage_of}
 use Rattle.qcow2_image.specs.declared.image.Qcow2.{Qcow2}
 use Rattle.qcow2_image.specs.Image.{is_failed, size_of}
 use Rattle.qcow2_image.specs.Refusals.{MarksRefused}
+use Rattle.qcow2_image.proofs.Sizing.LowestTail.{tables_sized}
 use Rattle.qcow2_image.specs.Resizing.{Shrinks, UncoversTail, WritesSizeLast, boundary_in}
 use Rattle.qcow2_image.specs.declared.discarding.Clearance.TheVariants.{Uncovered}
 use Rattle.qcow2_image.proofs.Clear.ClearCalls.{covers_after}
@@ -19,10 +20,11 @@ use Rattle.qcow2_image.proofs.Sizing.ShrinkCalls.{resize_writable}
 use Rattle.qcow2_image.proofs.Call.Marked.{may_mark_refused, noted_marks, refused_on, refused_since}
 use Rattle.qcow2_image.proofs.Call.FaultCounts.{counted_as, counted_still}
 use Rattle.qcow2_image.specs.Faults.{TellsEachIn, TellsFault}
-use Rattle.qcow2_image.proofs.Call.OnceWritten.{call_then, changes_later, failed_part, kept_fewer, notes_part, refused_once}
+use Rattle.qcow2_image.proofs.Call.OnceWritten.{call_then, changes_later, failed_part, kept_fewer, notes_part, refused_once, answered_counts, counts_noted}
 use Rattle.qcow2_image.proofs.Call.BehindHeader.{behind_by, behind_none, behind_then}
 use Rattle.qcow2_image.proofs.Call.ToldData.{none_told, none_told_by}
 use Rattle.qcow2_image.proofs.image.Qcow2.shrink.Goals as goal
+use Rattle.qcow2_image.proofs.Sizing.NeededLengths.{longer_kept}
 
 pub returns-in-Some-clause-sees : goal.returns-in-Some-clause-sees
 returns-in-Some-clause-sees g c =
@@ -99,6 +101,9 @@ returns-clause-stops g c = λ none out sound unprepared.
     let at = c.uncover_tail-end.result.0 in
     let tail = subst (λ r. UncoversTail view below old mid c.args.size at r out) c.in_default.is (c.uncover_tail-end.ensures.uncovers out sound) in
     record {
+      tables = λ whole before under.
+          tables_sized view old mid new (ap (λ (i : Qcow2 _ _). i.allocator) c.write_size.ensures.rest) (c.in_default-write_size.ensures.uses out tail.0.sound) (boundary_in old c.args.size) c.args.size (ap (λ (i : Qcow2 _ _). i.l1_table) c.write_size.ensures.rest) c.in_default-write_size.ensures.header
+          (tail.2 whole before under);
       stops = λ lt.
           written_stops view below out (size_of old) at c.args.size mid new tail.0.sound (c.in_default-write_size.ensures.writes out tail.0.sound).sound (ap (λ (i : Qcow2 _ _). i.l1_table) c.write_size.ensures.rest) c.in_default-write_size.ensures.header
           (c.uncover_tail-end.ensures.stops none out sound unprepared c.in_default.is lt);
@@ -167,7 +172,11 @@ returns-in-Err-clause-once_written g c =
     (λ noted. elim (c.mark_refused-in-Err.ensures.why noted) [ inl was ↦ inl was | inr rose ↦ inr (subst (λ n. HaveRisen n new.file) c.changes-before.ensures rose) ]) c.mark_refused-in-Err.ensures.marks
 
 pub returns-clause-once_written : goal.returns-clause-once_written
-returns-clause-once_written g c = λ bad. absurd (cc)
+returns-clause-once_written g c =
+    let view = g.S.Storage.view in
+    let tail = c.uncover_tail-end.new.self in
+    let new = c.write_size.new.self in
+    answered_counts view c.args.self.now new _ (counts_noted view c.args.self.now new (call_then view c.args.self.now tail new c.uncover_tail-end.ensures.since (notes_part view tail new c.write_size.ensures.notes)))
 
 pub returns-in-Some-clause-header_cluster : goal.returns-in-Some-clause-header_cluster
 returns-in-Some-clause-header_cluster g c = behind_then c.uncover_tail-end.ensures.header_cluster (behind_by g.S.Storage.view c.mark_refused.ensures.rest behind_none)
@@ -186,3 +195,22 @@ returns-in-Err-clause-kinds g c = none_told_by c.mark_refused-in-Err.ensures.res
 
 pub returns-clause-kinds : goal.returns-clause-kinds
 returns-clause-kinds g c = none_told c.write_size.ensures.notes ∙ c.uncover_tail-end.ensures.since.kinds
+
+pub returns-in-Some-clause-length : goal.returns-in-Some-clause-length
+returns-in-Some-clause-length g c = λ out sound.
+    let old = c.args.self.now in
+    let mid = c.uncover_tail-end.new.self in
+    longer_kept old.file.header.fields mid.file.header.fields c.mark_refused.new.self.file.header.fields (size_of old - 1) (c.uncover_tail-end.ensures.length out sound) (ap (λ (i : Qcow2 _ _). i.file.header.fields.l1_entries) c.mark_refused.ensures.rest)
+
+pub returns-in-Err-clause-length : goal.returns-in-Err-clause-length
+returns-in-Err-clause-length g c = λ out sound.
+    let old = c.args.self.now in
+    let mid = c.uncover_tail-end.new.self in
+    longer_kept old.file.header.fields mid.file.header.fields c.mark_refused-in-Err.new.self.file.header.fields (size_of old - 1) (c.uncover_tail-end.ensures.length out sound)
+    (ap (λ (i : Qcow2 _ _). i.file.header.fields.l1_entries) c.mark_refused-in-Err.ensures.rest ∙ ap (λ (v : HeaderView). v.fields.l1_entries) c.in-Err.ensures.restored)
+
+pub returns-clause-length : goal.returns-clause-length
+returns-clause-length g c = λ out sound.
+    let old = c.args.self.now in
+    let mid = c.uncover_tail-end.new.self in
+    longer_kept old.file.header.fields mid.file.header.fields c.write_size.new.self.file.header.fields (size_of old - 1) (c.uncover_tail-end.ensures.length out sound) (ap (λ (v : HeaderView). v.fields.l1_entries) c.in_default-write_size.ensures.header)

@@ -13,7 +13,7 @@ use Rattle.qcow2_image.proofs.Map.Loading.{if_ok}
 use Rattle.qcow2_image.proofs.Call.FaultCounts.{counted_marked}
 use Rattle.qcow2_image.proofs.Map.Unmodified.{read_call}
 use Rattle.qcow2_image.proofs.Call.Marked.{may_mark}
-use Rattle.qcow2_image.proofs.Call.OnceWritten.{once_written}
+use Rattle.qcow2_image.proofs.Call.OnceWritten.{fails_none, fails_once}
 use Rattle.qcow2_image.proofs.Call.BehindHeader.{behind_call}
 use Rattle.std.specs.Prelude.{IfErr}
 use Rattle.qcow2_alloc.specs.declared.error.ImageError.TheVariants.{Compressed}
@@ -54,8 +54,14 @@ returns-clause-faults g c = counted_marked g.S.Storage.view g.F.BackingDisk.back
 pub returns-clause-unwritten : goal.returns-clause-unwritten
 returns-clause-unwritten g c = read_call g.S.Storage.view g.F.BackingDisk.backing c.args.self.now c.begin.new.self c.plain_at-plain.new.self c.mark_failure.new.self (is_failed c.mark_failure.new.self) c.begin.ensures.storage c.begin.ensures.keeps c.begin.ensures.known c.plain_at-plain.ensures.unwritten c.mark_failure.ensures.rest
 
+pub returns-in_err-check_usable-clause-once_written : goal.returns-in_err-check_usable-clause-once_written
+returns-in_err-check_usable-clause-once_written g c = fails_none g.S.Storage.view c.args.self.now _
+
+pub returns-then-is_empty-clause-once_written : goal.returns-then-is_empty-clause-once_written
+returns-then-is_empty-clause-once_written g c = fails_none g.S.Storage.view c.args.self.now _
+
 pub returns-clause-once_written : goal.returns-clause-once_written
-returns-clause-once_written g c = λ memory. once_written g.S.Storage.view c.args.self.now c.begin.new.self c.begin.ensures.begun c.plain_at-plain.new.self c.mark_failure.new.self c.plain_at-plain.result c.plain_at-plain.ensures.notes (c.plain_at-plain.ensures.stays.failed ∙ c.begin.ensures.stays.failed) c.mark_failure.ensures.marks c.mark_failure.ensures.rest (sym c.mark_failure.ensures.answer ∙ memory)
+returns-clause-once_written g c = fails_once g.S.Storage.view c.args.self.now c.begin.new.self c.begin.ensures.begun c.plain_at-plain.new.self c.mark_failure.new.self c.plain_at-plain.result c.plain_at-plain.ensures.notes (c.plain_at-plain.ensures.stays.failed ∙ c.begin.ensures.stays.failed) c.mark_failure.ensures.marks c.mark_failure.ensures.rest c.mark_failure.result (λ memory. sym c.mark_failure.ensures.answer ∙ memory)
 
 pub returns-clause-header_cluster : goal.returns-clause-header_cluster
 returns-clause-header_cluster g c = behind_call g.S.Storage.view c.begin.ensures.begun c.plain_at-plain.ensures.header_cluster c.mark_failure.ensures.rest

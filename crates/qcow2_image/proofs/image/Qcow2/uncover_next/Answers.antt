@@ -6,11 +6,13 @@ use Rattle.qcow2_image.specs.Image.{size_of}
 use Rattle.qcow2_image.specs.Resizing.{IsFaultOrCantUncover, UncoversNext}
 use Rattle.qcow2_image.proofs.Call.FaultCounts.{counted_on, untouched}
 use Rattle.qcow2_image.proofs.Clear.ClearCalls.{err_is}
-use Rattle.qcow2_image.proofs.Sizing.Turns.{none_early, turn_done, turn_frees, turn_refused, turn_stops, turn_touches}
+use Rattle.qcow2_image.proofs.Sizing.Turns.{none_early, turn_done, turn_frees, turn_refused, turn_stops, turn_touches, turn_ends}
 use Rattle.qcow2_image.specs.Clearing.{refuses_to_clear}
 use Rattle.qcow2_image.specs.declared.discarding.Clearance.TheVariants.{Uncovered}
 use Rattle.qcow2_image.proofs.image.Qcow2.uncover_next.Goals as goal
 use Rattle.qcow2_image.proofs.image.Qcow2.uncover_next.Goals.{else-at-next-via-then-at-next+else-next-end, else-at-next-via-else-at-next}
+use Rattle.qcow2_image.specs.Clearing.{from_in, to_in}
+use Rattle.qcow2_image.proofs.Sizing.NeededLengths.{clears_or_stays, turn_lengthens}
 
 pub returns-in_err-from-clause-uncovers : goal.returns-in_err-from-clause-uncovers
 returns-in_err-from-clause-uncovers g c =
@@ -24,13 +26,31 @@ returns-in_err-from-clause-uncovers g c =
 
 pub returns-then-next-end-clause-uncovers : goal.returns-then-next-end-clause-uncovers
 returns-then-next-end-clause-uncovers g c = λ out sound.
-    turn_done g.S.Storage.view g.F.BackingDisk.backing c.args.self.now c.clear_range.new.self c.args.at c.size-end.result (c.in_ok-from.from, c.in_ok-from.count) c.size-end.ensures c.requires.inside (omega (arith, c.size-end.type_inv)) c.in_ok-from.ensures.sees c.saturating_add-next.result
-    (inl (c.saturating_add-next.ensures, c.if-at-next.true, c.if-next-end.true)) out sound (c.in_ok-from.ensures.covers out sound)
+    let done = turn_done g.S.Storage.view g.F.BackingDisk.backing c.args.self.now c.clear_range.new.self c.args.at c.size-end.result (c.in_ok-from.from, c.in_ok-from.count) c.size-end.ensures c.requires.inside (omega (arith, c.size-end.type_inv)) c.in_ok-from.ensures.sees c.saturating_add-next.result
+    (inl (c.saturating_add-next.ensures, c.if-at-next.true, c.if-next-end.true)) out sound (c.in_ok-from.ensures.covers out sound) in
+    let view = g.S.Storage.view in
+    let old = c.args.self.now in
+    let touches = turn_touches view g.F.BackingDisk.backing old c.clear_range.new.self c.args.at c.size-end.result c.size-end.ensures c.requires.inside out sound in (
+      done.0,
+      done.1,
+      turn_ends g.S.Storage.view g.F.BackingDisk.backing c.args.self.now c.clear_range.new.self c.args.at c.size-end.result (c.in_ok-from.from, c.in_ok-from.count) c.size-end.ensures c.requires.inside (omega (arith, c.size-end.type_inv)) c.in_ok-from.ensures.sees c.saturating_add-next.result
+          (inl (c.saturating_add-next.ensures, c.if-at-next.true, c.if-next-end.true)) out sound,
+      λ before under. c.in_ok-from.ensures.lowest_tables (touches before) out sound,
+    )
 
 pub returns-else-at-next-clause-uncovers : goal.returns-else-at-next-clause-uncovers
 returns-else-at-next-clause-uncovers g c = λ out sound.
-    turn_done g.S.Storage.view g.F.BackingDisk.backing c.args.self.now c.clear_range.new.self c.args.at c.size-end.result (c.in_ok-from.from, c.in_ok-from.count) c.size-end.ensures c.requires.inside (omega (arith, c.size-end.type_inv)) c.in_ok-from.ensures.sees c.size-end.result
-    (inr (refl, (let h = c.saturating_add-next.ensures in elim c.else-at-next.branch [ else-at-next-via-then-at-next+else-next-end w ↦ inr (subst (λ n. c.size-end.result ≤ n) h w.if-next-end.false) | else-at-next-via-else-at-next w ↦ inl (subst (λ n. n ≤ c.args.at) h w.if-at-next.false) ]))) out sound (c.in_ok-from.ensures.covers out sound)
+    let done = turn_done g.S.Storage.view g.F.BackingDisk.backing c.args.self.now c.clear_range.new.self c.args.at c.size-end.result (c.in_ok-from.from, c.in_ok-from.count) c.size-end.ensures c.requires.inside (omega (arith, c.size-end.type_inv)) c.in_ok-from.ensures.sees c.size-end.result
+    (inr (refl, (let h = c.saturating_add-next.ensures in elim c.else-at-next.branch [ else-at-next-via-then-at-next+else-next-end w ↦ inr (subst (λ n. c.size-end.result ≤ n) h w.if-next-end.false) | else-at-next-via-else-at-next w ↦ inl (subst (λ n. n ≤ c.args.at) h w.if-at-next.false) ]))) out sound (c.in_ok-from.ensures.covers out sound) in
+    let view = g.S.Storage.view in
+    let old = c.args.self.now in
+    let touches = turn_touches view g.F.BackingDisk.backing old c.clear_range.new.self c.args.at c.size-end.result c.size-end.ensures c.requires.inside out sound in (
+      done.0,
+      done.1,
+      turn_ends g.S.Storage.view g.F.BackingDisk.backing c.args.self.now c.clear_range.new.self c.args.at c.size-end.result (c.in_ok-from.from, c.in_ok-from.count) c.size-end.ensures c.requires.inside (omega (arith, c.size-end.type_inv)) c.in_ok-from.ensures.sees c.size-end.result
+          (inr (refl, (let h = c.saturating_add-next.ensures in elim c.else-at-next.branch [ else-at-next-via-then-at-next+else-next-end w ↦ inr (subst (λ n. c.size-end.result ≤ n) h w.if-next-end.false) | else-at-next-via-else-at-next w ↦ inl (subst (λ n. n ≤ c.args.at) h w.if-at-next.false) ]))) out sound,
+      λ before under. c.in_ok-from.ensures.lowest_tables (touches before) out sound,
+    )
 
 pub returns-in_err-from-clause-stops : goal.returns-in_err-from-clause-stops
 returns-in_err-from-clause-stops g c = λ none out sound unprepared.
@@ -89,3 +109,27 @@ returns-in_err-from-clause-faults g c =
     let below = g.F.BackingDisk.backing in
     let old = c.args.self.now in
     counted_on view below old old c.clear_range.new.self c.clear_range.result c.in_err-from.field-0.0 c.from_residual.result (untouched view below old old refl refl) c.clear_range.ensures.faults c.in_err-from.was c.from_residual.ensures
+
+pub returns-in_err-from-clause-length : goal.returns-in_err-from-clause-length
+returns-in_err-from-clause-length g c = λ out sound.
+    let old = c.args.self.now in
+    let new = c.clear_range.new.self in
+    let n = c.size-end.result - c.args.at in
+    turn_lengthens old new g.S.Storage.view g.F.BackingDisk.backing out sound c.args.at c.size-end.result c.size-end.ensures c.requires.inside c.clear_range.ensures.no_longer
+    (clears_or_stays old new c.clear_range.result (refuses_to_clear old c.args.at n Uncovered) (from_in old c.args.at n) (to_in old c.args.at n) c.clear_range.ensures.early c.clear_range.ensures.nothing)
+
+pub returns-then-next-end-clause-length : goal.returns-then-next-end-clause-length
+returns-then-next-end-clause-length g c = λ out sound.
+    let old = c.args.self.now in
+    let new = c.clear_range.new.self in
+    let n = c.size-end.result - c.args.at in
+    turn_lengthens old new g.S.Storage.view g.F.BackingDisk.backing out sound c.args.at c.size-end.result c.size-end.ensures c.requires.inside c.clear_range.ensures.no_longer
+    (clears_or_stays old new c.clear_range.result (refuses_to_clear old c.args.at n Uncovered) (from_in old c.args.at n) (to_in old c.args.at n) c.clear_range.ensures.early c.clear_range.ensures.nothing)
+
+pub returns-else-at-next-clause-length : goal.returns-else-at-next-clause-length
+returns-else-at-next-clause-length g c = λ out sound.
+    let old = c.args.self.now in
+    let new = c.clear_range.new.self in
+    let n = c.size-end.result - c.args.at in
+    turn_lengthens old new g.S.Storage.view g.F.BackingDisk.backing out sound c.args.at c.size-end.result c.size-end.ensures c.requires.inside c.clear_range.ensures.no_longer
+    (clears_or_stays old new c.clear_range.result (refuses_to_clear old c.args.at n Uncovered) (from_in old c.args.at n) (to_in old c.args.at n) c.clear_range.ensures.early c.clear_range.ensures.nothing)

@@ -1,8 +1,10 @@
 use Rattle.qcow2_image.proofs.Call.OnceWritten.{call_then, changes_later, notes_begun, part_none}
-use Rattle.std.proofs.Common.{◌∙◌, ◌<◌, arith, inl, inr, refl, sym, subst, Some, None, Err}
+use Rattle.std.proofs.Common.{◌∙◌, ◌-◌, ◌<◌, ap, arith, inl, inr, refl, sym, subst, Some, None, Err}
 use Rattle.std.specs.Prelude.{IsTrue}
 use Rattle.qcow2_alloc.proofs.Outcomes.{not_both}
 use Rattle.qcow2_image.specs.ImageInvariant.{pending_in}
+use Rattle.qcow2_image.specs.declared.image.Qcow2.{Qcow2}
+use Rattle.qcow2_image.proofs.Prepare.LowestTables.{begun_used}
 use Rattle.qcow2_image.proofs.Sizing.RefusedTurns.{frees_next}
 use Rattle.qcow2_image.proofs.Sizing.Shrinking.{next_so_far, none_so_far, same_size, tail_refused, tail_stops}
 use Rattle.qcow2_image.proofs.Call.FaultCounts.{fewer_of, counted_as, faults_then}
@@ -13,6 +15,10 @@ use Rattle.std.proofs.lemmas.Nat.{pow_pos}
 use Rattle.qcow2_metadata.specs.Header.{cluster_size}
 use Rattle.qcow2_image.proofs.Call.BehindHeader.{behind_begun, behind_then}
 use Rattle.qcow2_image.proofs.image.Qcow2.uncover_tail.Goals as goal
+use Rattle.qcow2_image.specs.Image.{size_of}
+use Rattle.qcow2_image.specs.declared.image.Qcow2.{Qcow2}
+use Rattle.qcow2_image.proofs.Sizing.NeededLengths.{longer_kept, longer_none}
+use Rattle.qcow2_image.proofs.Sizing.Shrinking.{lengthens_on}
 
 pub loop-at-init : goal.loop-at-init
 loop-at-init g c =
@@ -20,12 +26,17 @@ loop-at-init g c =
     let below = g.F.BackingDisk.backing in
     record {
       turns = none_so_far view below c.args.self.now c.begin.new.self c.args.size c.size-end.result c.begin.ensures.stays.image c.begin.ensures.stays.failed (c.size-end.ensures ∙ c.begin.ensures.stays.image.size) c.requires.smaller
-          (λ out sound. record { keeps = c.begin.ensures.keeps (pending_in view below c.args.self.now out) out sound; list = c.begin.ensures.list });
+          (λ out sound. record { keeps = c.begin.ensures.keeps (pending_in view below c.args.self.now out) out sound; list = c.begin.ensures.list })
+          (λ out sound. record { rest = c.begin.ensures.rest; used = begun_used view c.args.self.now c.begin.new.self (ap (λ (i : Qcow2 _ _). i.file.header) c.begin.ensures.rest) (c.begin.ensures.known (pending_in view below c.args.self.now out) out sound) });
       faults = c.begin.ensures.faults;
       emptied = λ writable out sound before. inl refl;
       since = notes_begun g.S.Storage.view c.args.self.now c.begin.new.self c.begin.ensures.begun c.begin.new.self (part_none g.S.Storage.view c.begin.new.self);
       changed = λ out sound past. absurd (let up = rounded_from (cluster_size c.args.self.now.file.header.fields) c.args.size (pow_pos c.args.self.now.file.header.fields.cluster_bits) in omega (arith, past, up));
       behind = behind_begun g.S.Storage.view c.begin.ensures.begun;
+      length = λ out sound.
+          let old = c.args.self.now in
+          let h = old.file.header.fields in
+          longer_kept h h c.begin.new.self.file.header.fields (size_of old - 1) (longer_none h (size_of old - 1)) (ap (λ (i : Qcow2 _ _). i.file.header.fields.l1_entries) c.begin.ensures.rest);
     }
 
 pub loop-at-preserved : goal.loop-at-preserved
@@ -42,6 +53,8 @@ loop-at-preserved g c = record {
       turns_counted c.args.self.now c.loop-at.self c.uncover_from.new.self c.args.size c.loop-at.at c.in-Ok.next (same_size g.S.Storage.view g.F.BackingDisk.backing c.args.self.now c.loop-at.self c.uncover_from.new.self c.args.size c.loop-at.at c.size-end.result c.loop-at.invariant.turns out sound) c.loop-at.invariant.since.no_fewer c.uncover_from.ensures.since.no_fewer
       (c.loop-at.invariant.changed out sound) (c.in-Ok.ensures.changed out (c.loop-at.invariant.turns.so_far out sound).0.sound);
   behind = behind_then c.loop-at.invariant.behind c.uncover_from.ensures.header_cluster;
+  length = λ out sound.
+      lengthens_on g.S.Storage.view g.F.BackingDisk.backing c.args.self.now c.loop-at.self c.uncover_from.new.self c.args.size c.loop-at.at c.size-end.result c.loop-at.invariant.turns out sound (c.loop-at.invariant.length out sound) (c.uncover_from.ensures.length out (c.loop-at.invariant.turns.so_far out sound).0.sound);
 }
 
 pub returns-then-is_fault-clause-uncovers : goal.returns-then-is_fault-clause-uncovers
@@ -61,6 +74,15 @@ pub returns-in-Err-clause-stops : goal.returns-in-Err-clause-stops
 returns-in-Err-clause-stops g c = λ none out sound unprepared is lt.
     tail_stops g.S.Storage.view g.F.BackingDisk.backing out c.args.self.now c.loop-at.self c.uncover_from.new.self c.args.size c.loop-at.at c.size-end.result c.loop-at.invariant.turns c.in-Err.refusal
     (λ none sound unprepared. c.in-Err.ensures.stops none out sound unprepared) none sound unprepared (λ fault. not_both c.is_fault.result (c.is_fault.ensures.1 fault) c.if-is_fault.false)
+
+pub returns-clause-uncovers : goal.returns-clause-uncovers
+returns-clause-uncovers g c = λ out sound.
+    let so = c.loop-at.invariant.turns in
+    let part = so.so_far out sound in (
+      part.0,
+      part.1,
+      λ whole before under. elim (so.lowest out sound before under) [ inl begun ↦ let at = begun.0 in let smaller = c.requires.smaller in absurd (omega (arith, at, whole, smaller)) | inr done ↦ done.1 ],
+    )
 
 pub returns-clause-stops : goal.returns-clause-stops
 returns-clause-stops g c = λ none out sound unprepared is lt.
@@ -133,3 +155,12 @@ returns-in-Err-clause-changed g c = λ out sound past. changes_later c.args.self
 
 pub returns-clause-changed : goal.returns-clause-changed
 returns-clause-changed g c = λ out sound past. c.loop-at.invariant.changed out sound past
+
+pub returns-then-is_fault-clause-length : goal.returns-then-is_fault-clause-length
+returns-then-is_fault-clause-length g c = λ out sound. lengthens_on g.S.Storage.view g.F.BackingDisk.backing c.args.self.now c.loop-at.self c.uncover_from.new.self c.args.size c.loop-at.at c.size-end.result c.loop-at.invariant.turns out sound (c.loop-at.invariant.length out sound) (c.uncover_from.ensures.length out (c.loop-at.invariant.turns.so_far out sound).0.sound)
+
+pub returns-in-Err-clause-length : goal.returns-in-Err-clause-length
+returns-in-Err-clause-length g c = λ out sound. lengthens_on g.S.Storage.view g.F.BackingDisk.backing c.args.self.now c.loop-at.self c.uncover_from.new.self c.args.size c.loop-at.at c.size-end.result c.loop-at.invariant.turns out sound (c.loop-at.invariant.length out sound) (c.uncover_from.ensures.length out (c.loop-at.invariant.turns.so_far out sound).0.sound)
+
+pub returns-clause-length : goal.returns-clause-length
+returns-clause-length g c = c.loop-at.invariant.length

@@ -1,5 +1,5 @@
 use Rattle.qcow2_image.proofs.image.Qcow2.write_mapped.Goals as goal
-use Rattle.std.proofs.Common.{◌≡◌, ◌+◌, ◌<◌, [], Err, true, ap, length, sym, ◌∙◌, subst, rules, arith, inl, refl}
+use Rattle.std.proofs.Common.{◌≡◌, ◌+◌, ◌<◌, [], true, ap, length, sym, ◌∙◌, subst, rules, arith}
 use Rattle.std.specs.Prelude.{OnOk, Result, IfErr}
 use Rattle.std.proofs.lemmas.List.{nil_from_length}
 use Rattle.qcow2_image.specs.declared.image.Qcow2.{Qcow2}
@@ -17,14 +17,15 @@ use Rattle.qcow2_image.proofs.Grow.Lengths.{on_ok}
 use Rattle.qcow2_image.proofs.Map.Looked.{found_after, found_before}
 use Rattle.qcow2_image.proofs.Write.PutParts.{puts_early, puts_none, puts_then, puts_with_outcome}
 use Rattle.qcow2_image.proofs.Call.FaultCounts.{counted_marked}
-use Rattle.qcow2_image.proofs.Call.OnceWritten.{once_written}
+use Rattle.qcow2_image.proofs.Call.OnceWritten.{fails_none, fails_once}
 use Rattle.qcow2_image.proofs.Call.BehindHeader.{behind_call}
 use Rattle.qcow2_image.proofs.Map.Held.{heeds_on, keeps_marked}
 use Rattle.qcow2_image.specs.HeldMappings.{HeedsHeld}
 use Rattle.qcow2_image.proofs.Map.MetLooking.{held_since}
 use Rattle.qcow2_image.specs.MetAlone.{IsCacheHeld, IsMetPutting}
-use Rattle.qcow2_image.specs.Noted.{TellsData}
-use Rattle.qcow2_image.proofs.Call.ToldData.{data_alone_in_call, data_told_in_call}
+use Rattle.qcow2_alloc.proofs.AllocationSteps.{handed_on}
+use Rattle.qcow2_image.specs.Noted.{TellsData, TellsPut}
+use Rattle.qcow2_image.proofs.Call.ToldData.{data_told_in_call, put_in_call, put_nothing, put_refused}
 
 pub returns-then-is_empty-clause-sees : goal.returns-then-is_empty-clause-sees
 returns-then-is_empty-clause-sees g c =
@@ -70,8 +71,20 @@ returns-then-not-writable-clause-sees g c =
 pub returns-clause-faults : goal.returns-clause-faults
 returns-clause-faults g c = counted_marked g.S.Storage.view g.F.BackingDisk.backing c.args.self.now c.begin.new.self c.write_current-done.new.self c.mark_failure.new.self c.write_current-done.result c.mark_failure.result c.begin.ensures.faults c.write_current-done.ensures.faults c.mark_failure.ensures.answer c.mark_failure.ensures.rest
 
+pub returns-in_err-check_usable-clause-once_written : goal.returns-in_err-check_usable-clause-once_written
+returns-in_err-check_usable-clause-once_written g c = fails_none g.S.Storage.view c.args.self.now _
+
+pub returns-then-prepared-self-clause-once_written : goal.returns-then-prepared-self-clause-once_written
+returns-then-prepared-self-clause-once_written g c = fails_none g.S.Storage.view c.args.self.now _
+
+pub returns-then-is_empty-clause-once_written : goal.returns-then-is_empty-clause-once_written
+returns-then-is_empty-clause-once_written g c = fails_none g.S.Storage.view c.args.self.now _
+
+pub returns-then-not-writable-clause-once_written : goal.returns-then-not-writable-clause-once_written
+returns-then-not-writable-clause-once_written g c = fails_none g.S.Storage.view c.args.self.now _
+
 pub returns-clause-once_written : goal.returns-clause-once_written
-returns-clause-once_written g c = λ memory. once_written g.S.Storage.view c.args.self.now c.begin.new.self c.begin.ensures.begun c.write_current-done.new.self c.mark_failure.new.self c.write_current-done.result c.write_current-done.ensures.notes (c.write_current-done.ensures.stays.failed ∙ c.begin.ensures.stays.failed) c.mark_failure.ensures.marks c.mark_failure.ensures.rest (sym c.mark_failure.ensures.answer ∙ memory)
+returns-clause-once_written g c = fails_once g.S.Storage.view c.args.self.now c.begin.new.self c.begin.ensures.begun c.write_current-done.new.self c.mark_failure.new.self c.write_current-done.result c.write_current-done.ensures.notes (c.write_current-done.ensures.stays.failed ∙ c.begin.ensures.stays.failed) c.mark_failure.ensures.marks c.mark_failure.ensures.rest c.mark_failure.result (λ memory. sym c.mark_failure.ensures.answer ∙ memory)
 
 pub returns-then-is_empty-clause-mapped : goal.returns-then-is_empty-clause-mapped
 returns-then-is_empty-clause-mapped g c = λ none some out sound. absurd (let no : length c.args.bytes.now ≡ 0 = search rules in omega (arith, no, some))
@@ -114,19 +127,23 @@ returns-clause-met g c = λ out k placed sound writable.
     (held_since old c.begin.new.self out c.begin.ensures.begun (λ held. IfErr c.write_current-done.result (IsMetPutting held c.args.prepared.now c.args.at)) (c.write_current-done.ensures.met c.requires some out k placed (quiet_sound view below out old c.begin.new.self (λ _. quiet) sound)))
 
 pub returns-in_err-check_usable-clause-kinds : goal.returns-in_err-check_usable-clause-kinds
-returns-in_err-check_usable-clause-kinds g c = λ some. inl refl
+returns-in_err-check_usable-clause-kinds g c =
+    handed_on (TellsPut g.S.Storage.view c.args.prepared.now c.args.at c.args.bytes.now c.args.self.now c.args.self.now) c.from_residual.result c.in_err-check_usable.field-0.0 c.from_residual.ensures
+    (put_refused g.S.Storage.view c.args.prepared.now c.args.at c.args.bytes.now c.args.self.now c.in_err-check_usable.field-0.0)
 
 pub returns-then-prepared-self-clause-kinds : goal.returns-then-prepared-self-clause-kinds
-returns-then-prepared-self-clause-kinds g c = λ some. inl refl
+returns-then-prepared-self-clause-kinds g c = put_refused g.S.Storage.view c.args.prepared.now c.args.at c.args.bytes.now c.args.self.now ForeignState
 
 pub returns-then-is_empty-clause-kinds : goal.returns-then-is_empty-clause-kinds
-returns-then-is_empty-clause-kinds g c = λ some. inl refl
+returns-then-is_empty-clause-kinds g c = put_nothing g.S.Storage.view c.args.prepared.now c.args.at c.args.bytes.now c.args.self.now (nil_from_length c.args.bytes.now (search rules))
 
 pub returns-then-not-writable-clause-kinds : goal.returns-then-not-writable-clause-kinds
-returns-then-not-writable-clause-kinds g c = λ some. inl refl
+returns-then-not-writable-clause-kinds g c = put_refused g.S.Storage.view c.args.prepared.now c.args.at c.args.bytes.now c.args.self.now ReadOnly
 
 pub returns-clause-kinds : goal.returns-clause-kinds
-returns-clause-kinds g c = λ some. data_alone_in_call c.args.self.now c.begin.new.self c.mark_failure.new.self (record c.write_current-done.new.self { is_failed = c.mark_failure.new.self.is_failed }) c.begin.ensures.begun (c.write_current-done.ensures.kinds some) c.mark_failure.ensures.rest
+returns-clause-kinds g c =
+    subst (λ (r : Result _ _). TellsPut g.S.Storage.view c.args.prepared.now c.args.at c.args.bytes.now c.args.self.now c.mark_failure.new.self r) (sym c.mark_failure.ensures.answer)
+    (put_in_call g.S.Storage.view c.args.prepared.now c.args.at c.args.bytes.now c.args.self.now c.begin.new.self c.write_current-done.new.self c.mark_failure.new.self c.write_current-done.result c.begin.ensures.begun c.write_current-done.ensures.kinds (is_failed c.mark_failure.new.self) c.mark_failure.ensures.rest)
 
 pub returns-then-is_empty-clause-told : goal.returns-then-is_empty-clause-told
 returns-then-is_empty-clause-told g c = λ some. absurd (let no : length c.args.bytes.now ≡ 0 = search rules in omega (arith, no, some))

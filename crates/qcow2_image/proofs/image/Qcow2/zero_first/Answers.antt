@@ -2,6 +2,7 @@ use Rattle.qcow2_alloc.proofs.KeptMarks.{notes_none, notes_then}
 use Rattle.std.proofs.Common.{◌≡◌, ◌∙◌, ◌+◌, ◌-◌, ◌^◌, ◌<◌, inl, min, ap, subst, sym, arith, rules}
 use Rattle.std.specs.Prelude.{IsTrue}
 use Rattle.qcow2_disk.specs.Found.{rest_of_table}
+use Rattle.qcow2_metadata.specs.EntryTable.{entry_count}
 use Rattle.qcow2_laws.specs.CrashInvariant.{Pending}
 use Rattle.qcow2_laws.proofs.Places.{Sizes-from}
 use Rattle.qcow2_alloc.proofs.AllocationSteps.{handed_on}
@@ -18,12 +19,14 @@ use Rattle.qcow2_image.proofs.Call.MetErrors.{tables_met}
 use Rattle.qcow2_image.proofs.Call.Unlimited.{fault_unlimited}
 use Rattle.qcow2_image.proofs.Prepare.Lacked.{emptied_by_limit}
 use Rattle.qcow2_image.proofs.Call.BehindHeader.{behind_none, behind_then}
-use Rattle.qcow2_image.proofs.Preallocate.Met.{under_prepared, never_far, place_same}
+use Rattle.qcow2_image.proofs.Preallocate.Met.{under_prepared, never_far}
+use Rattle.qcow2_image.proofs.Grow.Lengths.{place_same}
 use Rattle.qcow2_image.specs.Backings.{HasPrepared}
 use Rattle.qcow2_image.specs.MetAlone.{IsMetTaking}
 use Rattle.qcow2_image.proofs.Prepare.Met.{hands_met}
 use Rattle.qcow2_image.proofs.Prepare.MetTaking.{taking_as}
 use Rattle.qcow2_image.proofs.image.Qcow2.zero_first.Goals as goal
+use Rattle.qcow2_image.proofs.Sizing.NeededLengths.{stays_told}
 
 pub returns-then-to-from-clause-fills : goal.returns-then-to-from-clause-fills
 returns-then-to-from-clause-fills g c = λ out sound le whole version.
@@ -60,6 +63,7 @@ returns-in_err-clear_between-clause-fills g c = λ out sound le whole version.
       limit = λ limit.
           let lacks = c.in_err-clear_between.ensures.limit out sound can limit in
           lacks_here view below out old new 0 from to (to - from) sound (omega (arith, lt)) (omega (arith, lt)) (inl lacks) (λ _. lacks) (emptied_by_limit new e (c.in_err-clear_between.ensures.freed out sound can) limit);
+      length = stays_told old new view below out from sound c.clear_between.ensures.no_longer to (omega (arith, lt));
     })
 
 pub returns-in_err-free_listed-clause-fills : goal.returns-in_err-free_listed-clause-fills
@@ -78,17 +82,19 @@ returns-in_err-free_listed-clause-fills g c = λ out sound le whole version.
     let rest = c.rest_of_table.ensures.value in
     let is : c.min-next.result ≡ min c.args.to (min (c.args.from + rest_of_table c.args.self.now.file.header.fields c.args.from) (2 ^ 64 - 1)) = c.min-next.ensures ∙ ap (min to) (c.saturating_add.ensures ∙ ap (λ n. min (from + n) (2 ^ 64 - 1)) rest) in
     let high : c.args.to < 2 ^ 64 = search rules in
-    let part = cleared_fills view below out old mid from next (let lt = c.if-to-from.false in let some = c.rest_of_table.ensures.some in omega (arith, is, lt, some, rest, high)) (c.in_ok-clear_between.ensures.reaches out sound) whole.0 (c.in_ok-clear_between.ensures.clears out sound (record {
+    let can : IsClearable c.args.self.now.file.header.fields KeptZeros c.args.from c.min-next.result = record {
       begins = whole.0;
-      ends = next_whole h sizes.some sizes.entries from to next whole.1 is high;
-      within = next_within h sizes.some sizes.entries from to next whole.1 is high;
+      ends = next_whole h sizes.some sizes.entries from to c.min-next.result whole.1 is high;
+      within = next_within h sizes.some sizes.entries from to c.min-next.result whole.1 is high;
       version = λ _. version;
-    }))
+    } in
+    let part = cleared_fills view below out old mid from next (let lt = c.if-to-from.false in let some = c.rest_of_table.ensures.some in omega (arith, is, lt, some, rest, high)) (entry_count old.l1_table) sound.l1_table.count c.in_ok-clear_between.ensures.l1_place (c.in_ok-clear_between.ensures.lowest_tables out sound can).gave whole.0
+    (c.in_ok-clear_between.ensures.clears out sound can)
     (untaken_cleared h (known_in view old.file) sizes out from next (next_within h sizes.some sizes.entries from to next whole.1 is high) (c.in_ok-clear_between.ensures.free out sound)) in
     let listed = subst (λ (x : Pending). ImageInvariant view below x mid out) (all_listed view below mid out) part.sound in
     handed_on (λ r. FillsFirst view below 0 from to old new out r) c.from_residual-in_err-free_listed.result e c.from_residual-in_err-free_listed.ensures
     (fills_refused view below out old mid new 0 from next part to e (omega (arith, is)) (tables_met e c.in_err-free_listed.ensures.cause) (fault_unlimited e (c.in_err-free_listed.ensures.faults (beside view below mid out) out listed))
-    (freed_refused view below mid out new e part.sound (c.in_err-free_listed.ensures.frees (beside view below mid out) out listed)))
+    (freed_refused view below mid out new e part.sound (c.in_err-free_listed.ensures.frees (beside view below mid out) out listed)) c.free_listed.ensures.keeps_rest.header)
 
 pub returns-clause-whole : goal.returns-clause-whole
 returns-clause-whole g c = λ out sound whole.
@@ -118,15 +124,17 @@ returns-clause-fills g c = λ out sound le whole version.
     let rest = c.rest_of_table.ensures.value in
     let is : c.min-next.result ≡ min c.args.to (min (c.args.from + rest_of_table c.args.self.now.file.header.fields c.args.from) (2 ^ 64 - 1)) = c.min-next.ensures ∙ ap (min to) (c.saturating_add.ensures ∙ ap (λ n. min (from + n) (2 ^ 64 - 1)) rest) in
     let high : c.args.to < 2 ^ 64 = search rules in
-    let part = cleared_fills view below out old mid from next (let lt = c.if-to-from.false in let some = c.rest_of_table.ensures.some in omega (arith, is, lt, some, rest, high)) (c.in_ok-clear_between.ensures.reaches out sound) whole.0 (c.in_ok-clear_between.ensures.clears out sound (record {
+    let can : IsClearable c.args.self.now.file.header.fields KeptZeros c.args.from c.min-next.result = record {
       begins = whole.0;
-      ends = next_whole h sizes.some sizes.entries from to next whole.1 is high;
-      within = next_within h sizes.some sizes.entries from to next whole.1 is high;
+      ends = next_whole h sizes.some sizes.entries from to c.min-next.result whole.1 is high;
+      within = next_within h sizes.some sizes.entries from to c.min-next.result whole.1 is high;
       version = λ _. version;
-    }))
+    } in
+    let part = cleared_fills view below out old mid from next (let lt = c.if-to-from.false in let some = c.rest_of_table.ensures.some in omega (arith, is, lt, some, rest, high)) (entry_count old.l1_table) sound.l1_table.count c.in_ok-clear_between.ensures.l1_place (c.in_ok-clear_between.ensures.lowest_tables out sound can).gave whole.0
+    (c.in_ok-clear_between.ensures.clears out sound can)
     (untaken_cleared h (known_in view old.file) sizes out from next (next_within h sizes.some sizes.entries from to next whole.1 is high) (c.in_ok-clear_between.ensures.free out sound)) in
     let listed = subst (λ (x : Pending). ImageInvariant view below x mid out) (all_listed view below mid out) part.sound in
-    fills_stays view below out old mid new 0 from next part (tidy_stays view below mid out new part.sound (c.in_ok-free_listed.ensures.frees (beside view below mid out) out listed)) c.free_listed.ensures.keeps_rest.header
+    fills_stays view below out old mid new 0 from next part (tidy_stays view below mid out new part.sound (c.in_ok-free_listed.ensures.frees (beside view below mid out) out listed)) c.free_listed.ensures.keeps_rest.header c.free_listed.ensures.former
 
 pub returns-clause-emptied : goal.returns-clause-emptied
 returns-clause-emptied g c = λ none. c.in_ok-free_listed.ensures.emptied (subst IsTrue (sym c.clear_between.ensures.stays.image.writable) c.requires.writable)

@@ -1,0 +1,66 @@
+-- Places in a sound file that may be written as they are lie behind cluster 0.
+use Rattle.std.proofs.Common.{◌≡◌, ℕ, ◌+◌, ◌*◌, ◌/◌, ◌%◌, ◌<◌, ◌≤◌, Option, Some, None, refl, ap, ◌∙◌, arith}
+use Rattle.std.specs.Prelude.{IfSome}
+use Rattle.std.proofs.lemmas.Nat.{mod-mul-add, pow_pos}
+use Rattle.image_access.specs.Moments.{StorageView}
+use Rattle.qcow2_metadata.specs.Bytes.{Bytes}
+use Rattle.qcow2_metadata.specs.Cover.{cover}
+use Rattle.qcow2_metadata.specs.Header.{cluster_size}
+use Rattle.qcow2_metadata.specs.declared.header.HeaderFields.{HeaderFields}
+use Rattle.qcow2_metadata.specs.declared.l2_mapping.L2Mapping.{L2Mapping}
+use Rattle.qcow2_metadata.specs.declared.l2_mapping.L2Mapping.TheVariants.{Data, Zero, Compressed, Uncovered}
+use Rattle.qcow2_laws.specs.CrashInvariant.{Pending}
+use Rattle.qcow2_laws.specs.GuestLaws.{Hosting, IsHostedAt, InPlace, Kept}
+use Rattle.qcow2_laws.specs.SafeSteps.{DriverState}
+use Rattle.qcow2_laws.proofs.PutRuns.{beside_tables}
+use Rattle.qcow2_alloc.specs.ImageFile.{contents_in, known_in, state_in, FileInvariant}
+use Rattle.qcow2_alloc.specs.declared.image_file.ImageFile.{ImageFile}
+use Rattle.qcow2_alloc.proofs.KeptTables.Standing.{own_cluster}
+use Rattle.qcow2_image.specs.PreparedPlaces.{MarkedIsBehind}
+use Rattle.qcow2_image.specs.Preparing.{IsPlaceOf}
+use Rattle.qcow2_image.proofs.Write.Hosted.{behind_tables}
+
+module _ {S : Type 0} (view : S → StorageView) (p : Pending) (file : ImageFile S) (sound : FileInvariant view p file) where
+  abbrev h : HeaderFields
+  h = file.header.fields
+
+  abbrev known : Bytes
+  known = known_in view file
+
+  abbrev s : DriverState
+  s = state_in view file p
+
+  hosted_behind : (hosting : Hosting) (o place : ℕ) → IsHostedAt s hosting o place → cluster_size h ≤ place
+  hosted_behind hosting o place hosted = behind_tables h (contents_in view file) place (beside_tables s hosting o place sound.caches.kept.kept.crash_invariant hosted)
+
+  -- where the guest cluster begins
+  row : (guest : ℕ) → guest * cluster_size h / cluster_size h ≡ guest
+  row guest = own_cluster h.cluster_bits guest
+
+  rest : (guest : ℕ) → guest * cluster_size h % cluster_size h ≡ 0
+  rest guest =
+      let some = pow_pos h.cluster_bits in
+      let e : guest * cluster_size h ≡ guest * cluster_size h + 0 = omega arith in
+      ap (λ n. n % cluster_size h) e ∙ mod-mul-add guest (cluster_size h) 0 some
+
+  marked_of : (guest : ℕ) (m : L2Mapping) → cover h known guest ≡ m → MarkedIsBehind (cluster_size h) m
+  marked_of guest (Data host copied) is = λ marked.
+      let at = rest guest in
+      hosted_behind InPlace (guest * cluster_size h) host (host, ap (cover h known) (row guest) ∙ is ∙ ap (λ b. Data host b) marked, omega (arith, at))
+  marked_of guest (Zero None) is = λ marked. tt
+  marked_of guest (Zero (Some k)) is = λ marked.
+      let at = rest guest in
+      hosted_behind Kept (guest * cluster_size h) k.0 (k.0, ap (cover h known) (row guest) ∙ is ∙ ap (λ b. Zero (Some (k.0, b))) marked, omega (arith, at))
+  marked_of guest (Compressed place sectors) is = λ marked. tt
+  marked_of guest Uncovered is = λ marked. tt
+
+  -- a host cluster that an entry has marked copied
+  pub marked_behind : (guest : ℕ) → MarkedIsBehind (cluster_size h) (cover h known guest)
+  marked_behind guest = marked_of guest (cover h known guest) refl
+
+  -- a place where bytes of a range may be written
+  pub place_behind : (offset n : ℕ) (place : Option ℕ) → 0 < n → IsPlaceOf h known offset n place → IfSome place (λ host. cluster_size h ≤ host)
+  place_behind offset n None some is = tt
+  place_behind offset n (Some place) some is =
+      let first = hosted_behind InPlace (offset + 0) (place + 0) (is.1 0 some) in
+      omega (arith, first)
