@@ -1,6 +1,6 @@
 #!/usr/bin/env python3
-"""Runs the merge gate, then the scripts on real files and the tests of the crates, and beside all these the wrong bodies. At the end stands how long each part took, and what it took of
-processors; the last line sums what passed and what failed."""
+"""Runs the merge gate, then the scripts on real files and the tests of the crates, and beside all these the wrong bodies. At the end stands how long each part took, what it took of
+processors, and what failed; the last line sums what passed and what failed."""
 
 import os
 import re
@@ -76,14 +76,14 @@ class Parts:
         self.run(name, lambda: counts(words, self.told))
 
     def tell(self):
-        """Prints what failed, the times and the sums, and answers whether anything failed."""
+        """Prints the times, what failed and the sums, and answers whether anything failed."""
         passed, failed = (sum(each) for each in zip(*self.results))
-        if failed:
-            print("what failed:", *self.told[-40:], sep="\n")
         all_used = sum(used for _, _, used in self.times)
         for name, seconds, used in [*self.times, ("all", time.monotonic() - self.began, all_used)]:
             print(f"{name}: {seconds / 60:.1f} minutes, {used / 60:.1f} of a processor")
         print(f"on {len(os.sched_getaffinity(0))} processors")
+        if failed:
+            print("what failed:", *self.told[-40:], sep="\n")
         print(f"{passed} passed, {failed} failed")
         return failed > 0
 

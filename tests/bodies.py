@@ -17,13 +17,15 @@ OF_A_TRAIT = re.compile(r"\btrait\b|\bfor\s+(?!<)")
 
 @dataclass
 class WrongBody:
-    """One wrong body: its name, its place in the list, the function that it is in, the clause that alone is to refuse it where one is named, and what takes the place of what."""
+    """One wrong body: its name, its place in the list, the function that it is in, the clause that alone is to refuse it where one is named, or the call that does so by what it requires, and
+    what takes the place of what."""
 
     name: str
     number: int
     function: str = ""
     file: str = ""
     clause: str = ""
+    needs: str = ""
     pairs: list = field(default_factory=list)
 
     def changed(self, text):
@@ -78,7 +80,7 @@ def bodies_of(folder):
         word, _, rest = line.partition(" ")
         if word == "###":
             bodies.append(WrongBody(rest, len(bodies) + 1))
-        elif word in ("fn:", "file:", "clause:"):
+        elif word in ("fn:", "file:", "clause:", "needs:"):
             setattr(bodies[-1], {"fn:": "function"}.get(word, word[:-1]), rest)
         elif word == "old:":
             bodies[-1].pairs.append((rest, ""))
@@ -111,8 +113,8 @@ def proof_files(crate, folder, body, function):
 
 
 def alone(text, body, proof):
-    """The text with a body, and its proof, where the clause that it names stands alone. None where it names none, or the clause can't be cut out."""
-    cut, other = body.clause and clauses.kept_alone(body.changed(text), body.place(text), body.clause) or (None, None)
+    """The text with a body, and its proof, where the clause that it names stands alone, or none where it names a call. None where it names neither, or the clause can't be cut out."""
+    cut, other = (body.clause or body.needs) and clauses.kept_alone(body.changed(text), body.place(text), body.clause) or (None, None)
     if cut is None:
         return None
     kept = {path: clauses.answers_kept(it, body.clause, other) if path.endswith("/Answers.antt") else it for path, it in proof.items()}

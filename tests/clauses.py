@@ -1,4 +1,5 @@
-"""Cuts a function's contract to one of its clauses beside an empty one, and its proof to what is said of that clause: what refuses a body then is that clause."""
+"""Cuts a function's contract to one of its clauses beside an empty one, and its proof to what is said of that clause: what refuses a body then is that clause. Where none is named, the
+empty one stays alone: what refuses a body then is what a call requires, or an invariant."""
 
 import re
 
@@ -25,11 +26,11 @@ def promises(lines, contract):
 
 
 def kept_alone(text, at, name):
-    """The text with one clause of the function that a line stands in, and the name of another one that stays, and says that what is left is what is left: answers are named by a clause where
-    there are several. None where clauses have no name, or none has this one."""
+    """The text with one clause of the function that a line stands in, or with none where that is "", and the name of another one that stays, and says that what is left is what is left:
+    answers are named by a clause where there are several. None where clauses have no name, or none has this one."""
     lines = text.split("\n")
     found = promises(lines, contract_of(lines, at))
-    if not found or name not in [it for _, it in found] or any(not re.fullmatch(r"\w+", it) for _, it in found):
+    if not found or name not in ["", *[it for _, it in found]] or any(not re.fullmatch(r"\w+", it) for _, it in found):
         return None
     word = next((it for it in LEFT if any(it in lines[i] for where, _ in found for i in where)), None)
     empty = f"{word} ≡ {word}" if word and "◌≡◌" in text else "⊥ → ⊥"
@@ -49,7 +50,7 @@ def fields_kept(lines, name, other):
         return None
     field = re.compile(rf"{indent}  (\w+) =( |$)")
     start = next((i for i, it in enumerate(lines) if it.endswith("record {") and re.match(rf"{indent}\S", it)), len(lines))
-    if not any(it[1] == name for it in map(field.match, lines[start:]) if it):
+    if name and not any(it[1] == name for it in map(field.match, lines[start:]) if it):
         return None
     kept, passes = lines[: start + 1], False
     for line in lines[start + 1 :]:

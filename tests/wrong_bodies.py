@@ -26,8 +26,9 @@ from promises import read, take_promises
 
 ROOT = os.path.dirname(os.path.dirname(os.path.abspath(__file__)))
 HOW_MANY_LINES = 8
-MOST_IN_A_CHECK = 170
-LEAST_IN_A_CHECK = 25
+MOST_IN_A_CHECK = 210
+LEAST_IN_A_CHECK = 70
+FIRST_IN_A_CHECK = 40
 SECONDS_TO_LOOK_AGAIN = 5
 MISSING_NAME = re.compile(r": error: module `|has no field|is not in scope|has no `|was not admitted|is no name")
 OF_AN_ANSWER = re.compile(r"\S+: error: (`[^`]*`: |module `|\d+ declarations? that depends? on )")
@@ -77,6 +78,9 @@ class Trial:
         in its place waits."""
         taken, in_place = [], set()
         most = min(self.most, max(LEAST_IN_A_CHECK, math.ceil(share * len(self.left))))
+        if most < len(self.left) and not os.path.isdir(self.kept):
+            # other checks of the crate wait for what it leaves
+            most = FIRST_IN_A_CHECK
         for body in self.left:
             is_in_place = body.name in self.in_place
             if body.name in self.alone and not taken:

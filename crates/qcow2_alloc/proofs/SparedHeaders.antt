@@ -7,7 +7,7 @@ use Rattle.image_access.specs.declared.error.StorageError.{StorageError}
 use Rattle.image_access.proofs.EachMomentSince.{whole_or_nothing}
 use Rattle.qcow2_metadata.specs.Bytes.{byte_at}
 use Rattle.qcow2_metadata.specs.declared.header.HeaderFields.{HeaderFields}
-use Rattle.qcow2_metadata.specs.EntryTable.{EntryTableView}
+use Rattle.qcow2_metadata.specs.EntryTable.{EntryTableView, entry_count}
 use Rattle.qcow2_metadata.specs.Header.{HeaderView, with_fields, with_reftable}
 use Rattle.qcow2_metadata.specs.HeaderWrite.{bytes_of_numbers, reftable_pointer_written}
 use Rattle.qcow2_alloc.specs.HeaderClusters.{IsInHeaderCluster, IsBesidePointer, BytesStay, KeepsHeaderCluster}
@@ -80,28 +80,29 @@ module _ {S : Type 0} {view : S → StorageView} where
   -- ---- the parts of a file
 
   -- another file with the same header, whose caches and bytes were spared
-  pub spares_parts : (r r' : EntryTableView) (a b : ImageFile S) → b.header.fields.cluster_bits ≡ a.header.fields.cluster_bits → r'.cluster_bits ≡ r.cluster_bits → r'.cluster ≡ r.cluster → KeepBehindHeader a.caches b.caches
+  pub spares_parts : (r r' : EntryTableView) (a b : ImageFile S) → b.header.fields.cluster_bits ≡ a.header.fields.cluster_bits → r'.cluster_bits ≡ r.cluster_bits → r'.cluster ≡ r.cluster → (0 < entry_count r' → 0 < entry_count r)
+      → KeepBehindHeader a.caches b.caches
       → ((bits : ℕ) → StandsBehindHeader bits r a → KeepsHeaderCluster bits (view_in view a) (view_in view b)) → SparesHeader view r a r' b
-  spares_parts r r' a b header reftable_bits cluster caches bytes = record {
+  spares_parts r r' a b header reftable_bits cluster some caches bytes = record {
     bytes = bytes;
     behind = λ bits stands. record {
       header = header ∙ stands.header;
       caches = caches bits stands.caches;
       reftable_bits = reftable_bits ∙ stands.reftable_bits;
-      elsewhere = λ is. stands.elsewhere (sym cluster ∙ is);
+      elsewhere = λ has is. stands.elsewhere (some has) (sym cluster ∙ is);
     };
   }
 
   pub spares_cached : (r : EntryTableView) (f : ImageFile S) (storage : ImageStorage S) (caches : MetadataCaches S) → CachesSpareHeader view f.storage f.caches storage caches → SparesHeader view r f r (record f { storage = storage; caches = caches })
-  spares_cached r f storage caches spare = spares_parts r r f (record f { storage = storage; caches = caches }) refl refl refl spare.behind (λ bits stands. spare.bytes bits stands.caches)
+  spares_cached r f storage caches spare = spares_parts r r f (record f { storage = storage; caches = caches }) refl refl refl (λ has. has) spare.behind (λ bits stands. spare.bytes bits stands.caches)
 
   pub spares_tables : (r : EntryTableView) (f : ImageFile S) (caches : MetadataCaches S) → KeepBehindHeader f.caches caches → SparesHeader view r f r (record f { caches = caches })
-  spares_tables r f caches keep = spares_parts r r f (record f { caches = caches }) refl refl refl keep (λ bits stands honest. bytes_stay (IsInHeaderCluster bits) (view_in view f))
+  spares_tables r f caches keep = spares_parts r r f (record f { caches = caches }) refl refl refl (λ has. has) keep (λ bits stands honest. bytes_stay (IsInHeaderCluster bits) (view_in view f))
 
   -- a table was written to another cluster, and its size is the image's
   pub spares_written : (r : EntryTableView) (f : ImageFile S) (bits : ℕ) (s : ImageStorage S) → bits ≡ f.header.fields.cluster_bits → KeepsHeaderCluster bits (view_in view f) (view (storage_of s)) → SparesHeader view r f r (record f { storage = s })
   spares_written r f bits s is keeps =
-      spares_parts r r f (record f { storage = s }) refl refl refl (λ n are. are) (λ n stands. subst (λ m. KeepsHeaderCluster m (view_in view f) (view (storage_of s))) (is ∙ stands.header) keeps)
+      spares_parts r r f (record f { storage = s }) refl refl refl (λ has. has) (λ n are. are) (λ n stands. subst (λ m. KeepsHeaderCluster m (view_in view f) (view (storage_of s))) (is ∙ stands.header) keeps)
 
 -- ---- what is written beside cached tables
 module _ {S : Type 0} (view : S → StorageView) where
@@ -118,10 +119,10 @@ module _ {S : Type 0} (view : S → StorageView) where
         above_zero : (k : ℕ) → ¬ (Some k ≡ Some 0) → 0 < k
         above_zero k other = elim k as (λ n. ¬ (Some n ≡ Some 0) → 0 < n) [ zero ↦ λ apart. absurd (apart refl) | suc n ↦ λ apart. omega arith ] other
 
-    pub spares_entry : IsSome r'.cluster → SparesHeader view r f r' (record f { storage = s; caches = caches })
-    spares_entry some = spares_parts r r' f (record f { storage = s; caches = caches }) refl bits_stay place_stays keep
+    pub spares_entry : 0 < entry_count r → IsSome r'.cluster → SparesHeader view r f r' (record f { storage = s; caches = caches })
+    spares_entry has some = spares_parts r r' f (record f { storage = s; caches = caches }) refl bits_stay place_stays (λ still. has) keep
         (λ bits stands. subst (λ (x : S). KeepsHeaderCluster bits (view x) (view (storage_of s))) same
-        (entry_elsewhere r'.cluster bits r'.cluster_bits (bits_stay ∙ stands.reftable_bits) (λ is. stands.elsewhere (sym place_stays ∙ is)) some written))
+        (entry_elsewhere r'.cluster bits r'.cluster_bits (bits_stay ∙ stands.reftable_bits) (λ is. stands.elsewhere has (sym place_stays ∙ is)) some written))
 
   -- the header's pointer was written, and names a reftable that isn't at cluster 0
   module _ {T : Type 0} (r : EntryTableView) (f : ImageFile S) (header : HeaderView) (caches : MetadataCaches S) (asked : S) (s : ImageStorage S) (offset clusters : ℕ) (result : Result T StorageError)
@@ -136,7 +137,7 @@ module _ {S : Type 0} (view : S → StorageView) where
         (λ o kept. beside o kept.1 (view (storage_of s)).contents (whole_or_nothing result (view asked).contents (reftable_pointer_written header.fields (view asked).contents) (view (storage_of s)).contents (written honest)))
 
     -- the allocator's reftable is the former one still, or the new one
-    pub spares_pointer : (r' : EntryTableView) → ((bits : ℕ) → StandsBehindHeader bits r f → (r'.cluster_bits ≡ bits) × ¬ (r'.cluster ≡ Some 0)) → SparesHeaderButPointer view r f r' (record f { storage = s; header = header; caches = caches })
+    pub spares_pointer : (r' : EntryTableView) → ((bits : ℕ) → StandsBehindHeader bits r f → (r'.cluster_bits ≡ bits) × (0 < entry_count r' → ¬ (r'.cluster ≡ Some 0))) → SparesHeaderButPointer view r f r' (record f { storage = s; header = header; caches = caches })
     spares_pointer r' stand = record {
       bytes = λ bits stands. subst (λ (x : S). (view x).is_honest → BytesStay (IsBesidePointer bits) (view x) (view (storage_of s))) same (pointer_stays bits);
       behind = λ bits stands. let now = stand bits stands in record { header = ap (λ (h : HeaderView). h.fields.cluster_bits) header_is ∙ stands.header; caches = keep bits stands.caches; reftable_bits = now.0; elsewhere = now.1 };

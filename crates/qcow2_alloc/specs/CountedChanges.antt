@@ -4,9 +4,9 @@ use Rattle.std.proofs.Common.{inl, inr, refl, ◌∙◌}
 use Rattle.std.proofs.Math.Nat.{le_refl, le_trans, le-min, min-le_left, min-le_right, add-le-add}
 use Rattle.image_access.specs.Moments.{Rose}
 
--- one change: it is noted and counted
+-- one change and no more: it is noted and counted
 abbrev pub IsOneChange : Bool → ℕ → ℕ → Type 0
-IsOneChange is before now = IsTrue is × (before ≤ now) × Rose before now
+IsOneChange is before now = IsTrue is × (before ≤ now) × Rose before now × (now ≤ before + 1)
 
 -- A change that was noted stays noted, and their number doesn't fall. What is noted was counted, and what is counted is noted.
 pub record CountsChanges (was : Bool) (before : ℕ) (is : Bool) (now : ℕ) : Type 0 where

@@ -1,7 +1,8 @@
 -- What the calls of the caches and of the allocator leave of cluster 0, where the header lies, whatever an image's contents are.
-use Rattle.std.specs.Prelude.{ℕ, ◌≡◌, Some}
+use Rattle.std.specs.Prelude.{ℕ, ◌<◌, ◌≡◌, ◌⊎◌, Some}
 use Rattle.image_access.specs.Moments.{StorageView}
-use Rattle.qcow2_metadata.specs.EntryTable.{EntryTableView}
+use Rattle.qcow2_metadata.specs.EntryTable.{EntryTableView, entry_count}
+use Rattle.qcow2_metadata.specs.declared.header.HeaderFields.{HeaderFields}
 pub use Rattle.qcow2_alloc.specs.BehindHeader.{AreBehindHeader, KeepBehindHeader}
 use Rattle.qcow2_alloc.specs.HeaderClusters.{IsInHeaderCluster, IsBesidePointer, BytesStay, KeepsHeaderCluster}
 use Rattle.qcow2_alloc.specs.ImageFile.{view_in}
@@ -10,13 +11,17 @@ use Rattle.qcow2_alloc.specs.declared.cache.MetadataCaches.{MetadataCaches}
 use Rattle.qcow2_alloc.specs.declared.image_file.ImageFile.{ImageFile}
 use Rattle.qcow2_alloc.specs.declared.image_storage.ImageStorage.{ImageStorage}
 
+-- a header names its reftable, where that has clusters, behind cluster 0
+abbrev pub NamesReftableBehind : HeaderFields → Type 0
+NamesReftableBehind h = (h.reftable_clusters ≡ 0) ⊎ (0 < h.reftable_offset)
+
 module _ {S : Type 0} where
-  -- neither a cached table of an image nor its reftable stands at cluster 0
+  -- neither a cached table of an image stands at cluster 0, nor its reftable, where that has entries
   pub record StandsBehindHeader (bits : ℕ) (reftable : EntryTableView) (file : ImageFile S) : Type 0 where
     pub header : file.header.fields.cluster_bits ≡ bits
     pub caches : AreBehindHeader bits file.caches
     pub reftable_bits : reftable.cluster_bits ≡ bits
-    pub elsewhere : ¬ (reftable.cluster ≡ Some 0)
+    pub elsewhere : 0 < entry_count reftable → ¬ (reftable.cluster ≡ Some 0)
 
   module _ (view : S → StorageView) where
     -- Where no cached table stood at cluster 0, none does, and the bytes of cluster 0 stay.

@@ -1,11 +1,12 @@
 -- That no table of an image stands at cluster 0, where the header lies, and that calls leave the bytes there alone, but for the header's numbers.
 use Rattle.std.specs.Prelude.{ℕ, ◌<◌, ◌≤◌, ◌≡◌, ◌⊎◌, Option, Some, IfSome}
 use Rattle.image_access.specs.Moments.{StorageView}
-use Rattle.qcow2_metadata.specs.EntryTable.{EntryTableView}
+use Rattle.qcow2_metadata.specs.EntryTable.{EntryTableView, entry_count}
 use Rattle.qcow2_metadata.specs.declared.header.HeaderFields.{HeaderFields}
 use Rattle.qcow2_alloc.specs.BehindHeader.{AreBehindHeader}
 use Rattle.qcow2_alloc.specs.HeaderClusters.{IsInHeaderCluster, BytesStay}
 use Rattle.qcow2_alloc.specs.ImageFile.{view_in}
+use Rattle.qcow2_alloc.specs.SparedHeaders.{NamesReftableBehind}
 use Rattle.qcow2_alloc.specs.declared.allocation.Allocator.{Allocator}
 use Rattle.qcow2_alloc.specs.declared.cache.MetadataCaches.{MetadataCaches}
 use Rattle.qcow2_image.specs.declared.image.Qcow2.{Qcow2}
@@ -14,9 +15,9 @@ use Rattle.qcow2_image.specs.declared.image.Qcow2.{Qcow2}
 abbrev pub IsBesideNumbers : ℕ → ℕ → Type 0
 IsBesideNumbers bits o = IsInHeaderCluster bits o × ((o < 24) ⊎ (((32 ≤ o) × (o < 36)) ⊎ (60 ≤ o)))
 
--- the header names its reftable, and an L1 table that has entries, behind cluster 0
+-- the header names its reftable and its L1 table, where they have entries, behind cluster 0
 pub record NamesTablesBehind (h : HeaderFields) : Type 0 where
-  pub reftable : 0 < h.reftable_offset
+  pub reftable : NamesReftableBehind h
   pub l1_table : (h.l1_entries ≡ 0) ⊎ (0 < h.l1_offset)
 
 -- an L1 table has clusters of so many bits, and doesn't stand at cluster 0
@@ -29,12 +30,12 @@ abbrev pub KeepsL1TableBehind : EntryTableView → EntryTableView → Type 0
 KeepsL1TableBehind old new = (bits : ℕ) → IsL1TableBehind bits old → IsL1TableBehind bits new
 
 module _ {S : Type 0} where
-  -- clusters have so many bits, and neither the L1 table, nor a cached table, nor the reftable stands at cluster 0
+  -- clusters have so many bits, and neither the L1 table, nor a cached table, nor a reftable with entries stands at cluster 0
   pub record TablesBehindHeader (bits own : ℕ) (l1_table : EntryTableView) (cached : MetadataCaches S) (allocator : Option Allocator) : Type 0 where
     pub header : own ≡ bits
     pub l1 : IsL1TableBehind bits l1_table
     pub caches : AreBehindHeader bits cached
-    pub reftable : IfSome allocator (λ a. (a.reftable.cluster_bits ≡ bits) × ¬ (a.reftable.cluster ≡ Some 0))
+    pub reftable : IfSome allocator (λ a. (a.reftable.cluster_bits ≡ bits) × (0 < entry_count a.reftable → ¬ (a.reftable.cluster ≡ Some 0)))
 
   -- that stays; on an honest storage the bytes of cluster 0 stay then, at each moment, but for the header's numbers
   pub record KeepsTablesBehind (own : ℕ) (l1_table : EntryTableView) (storage : StorageView) (caches : MetadataCaches S) (allocator : Option Allocator)
@@ -47,7 +48,7 @@ module _ {S F : Type 0} where
   abbrev pub LiesBehindHeader : Qcow2 S F → Type 0
   LiesBehindHeader image = TablesBehindHeader image.file.header.fields.cluster_bits image.file.header.fields.cluster_bits image.l1_table image.file.caches image.allocator
 
-  -- A call keeps that, whatever the image's contents are: where neither the L1 table, nor a cached table, nor the reftable stood at cluster 0, none does.
+  -- A call keeps that, whatever the image's contents are: where neither the L1 table, nor a cached table, nor a reftable with entries stood at cluster 0, none does.
   -- On an honest storage the bytes of cluster 0 stay then, at each moment, but for the size and the places of the L1 table and the reftable.
   abbrev pub StaysBehindHeader : (S → StorageView) → Qcow2 S F → Qcow2 S F → Type 0
   StaysBehindHeader view old new = KeepsTablesBehind old.file.header.fields.cluster_bits old.l1_table (view_in view old.file) old.file.caches old.allocator

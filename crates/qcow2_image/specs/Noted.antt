@@ -38,9 +38,9 @@ module _ {S F : Type 0} where
   abbrev pub TellsData : Qcow2 S F → Qcow2 S F → Type 0
   TellsData old new = Rose (data_changes_of old.file.storage) (data_changes_of new.file.storage)
 
-  -- no change of the storage was counted, or at least one was told as data
+  -- no change of the storage was counted, or a single one, which was told as data
   abbrev pub TellsDataAlone : Qcow2 S F → Qcow2 S F → Type 0
-  TellsDataAlone old new = (changes_of new.file.storage ≡ changes_of old.file.storage) ⊎ TellsData old new
+  TellsDataAlone old new = (changes_of new.file.storage ≡ changes_of old.file.storage) ⊎ (TellsData old new × (changes_of new.file.storage ≤ changes_of old.file.storage + 1))
 
 -- what preparing may tell as data: nothing, where it answers an existing mapping
 abbrev pub DataUnlessExisting : Result Prepared ImageError → Type 0
@@ -87,7 +87,7 @@ module _ {S F : Type 0} (view : S → StorageView) (old new : Qcow2 S F) where
     pub contents : ¬ IsTrue (has_noted_change old) → ¬ ChangesRose old new → ContentsStay (view_in view old.file) (view_in view new.file)
     pub kinds : TellsNoData old new
 
--- There is an image `before`, up to which no write was told as data. From there on the put's bytes are written at once, at their place in the mapping.
+-- There is an image `before`, up to which no write was told as data. From there on the put's bytes are written by a single write, at their place in the mapping.
 -- Into a mapping that isn't existing nothing else is written.
 pub record TellsPut {S F : Type 0} (view : S → StorageView) (p : Prepared) (at : ℕ) (bytes : List ℕ) (old new : Qcow2 S F) (result : Result (Unit {0}) ImageError) : Type 0 where
   pub before : Qcow2 S F

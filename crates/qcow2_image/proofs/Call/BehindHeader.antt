@@ -9,7 +9,7 @@ use Rattle.image_access.specs.declared.error.StorageError.{StorageError}
 use Rattle.image_access.proofs.Bytes.{byte_at-overwritten_outside}
 use Rattle.image_access.proofs.EachMomentSince.{whole_or_nothing}
 use Rattle.qcow2_metadata.specs.Bytes.{byte_at}
-use Rattle.qcow2_metadata.specs.EntryTable.{EntryTableView, entry_table}
+use Rattle.qcow2_metadata.specs.EntryTable.{EntryTableView, entry_count, entry_table}
 use Rattle.qcow2_metadata.specs.Header.{without_autoclear}
 use Rattle.qcow2_metadata.specs.declared.header.HeaderFields.{HeaderFields}
 use Rattle.qcow2_metadata.specs.HeaderWrite.{bytes_of_numbers, l1_table_pointer_written, size_written}
@@ -219,7 +219,7 @@ module _ {S : Type 0} where
       where
         stood : (bits : ℕ) → TablesBehindHeader bits old.header.fields.cluster_bits l1 old.caches a → StandsBehindHeader bits before.reftable old
         stood bits lies =
-            let own = subst (λ (x : Option Allocator). IfSome x (λ r. (r.reftable.cluster_bits ≡ bits) × ¬ (r.reftable.cluster ≡ Some 0))) is lies.reftable in
+            let own = subst (λ (x : Option Allocator). IfSome x (λ r. (r.reftable.cluster_bits ≡ bits) × (0 < entry_count r.reftable → ¬ (r.reftable.cluster ≡ Some 0)))) is lies.reftable in
             record { header = lies.header; caches = lies.caches; reftable_bits = own.0; elsewhere = own.1 }
 
     pub behind_allocated : {before after : Allocator} {old new : ImageFile S} {a : Option Allocator} → a ≡ Some before → SparesHeaderButPointer view before.reftable old after.reftable new

@@ -1,5 +1,5 @@
 -- What calls tell as data: a write, parts that tell nothing so, a call that begins, does a part, and is marked, and a put.
-use Rattle.std.proofs.Common.{◌≡◌, ◌⊎◌, ℕ, ◌+◌, Bool, true, false, List, [], Option, Some, None, IsSome, Result, Ok, Err, inl, inr, refl, sym, ap, ◌∙◌, subst}
+use Rattle.std.proofs.Common.{◌≡◌, ◌⊎◌, ℕ, ◌+◌, ◌≤◌, Bool, true, false, List, [], Option, Some, None, IsSome, Result, Ok, Err, inl, inr, refl, sym, ap, ◌∙◌, subst}
 use Rattle.image_access.specs.Contents.{overwritten}
 use Rattle.image_access.specs.Moments.{StorageView, Rose}
 use Rattle.image_access.specs.declared.error.StorageError.{StorageError}
@@ -8,7 +8,7 @@ use Rattle.image_access.proofs.EachMomentSince.{passes_none}
 use Rattle.qcow2_alloc.specs.declared.error.ImageError.{ImageError}
 use Rattle.qcow2_alloc.specs.declared.error.ImageError.TheVariants as I
 use Rattle.qcow2_alloc.specs.ImageFile.{view_in}
-use Rattle.qcow2_alloc.specs.ImageStorage.{kind_of, changes_of, data_changes_of, CountsKind, NotesWrite, SameNotes}
+use Rattle.qcow2_alloc.specs.ImageStorage.{kind_of, changes_of, data_changes_of, CountsKind, CountsWrite, NotesWrite, SameNotes}
 use Rattle.qcow2_alloc.specs.KeptMarks.{KeepNotes}
 use Rattle.qcow2_alloc.specs.KeptNotes.{NoData}
 use Rattle.qcow2_alloc.specs.declared.cache.MetadataCaches.{MetadataCaches}
@@ -45,9 +45,12 @@ module _ {S : Type 0} (before mid now : ImageStorage S) (noted : SameNotes befor
       let as_data : CountsKind Data (data_changes_of mid) (data_changes_of now) = subst (λ k. CountsKind k (data_changes_of mid) (data_changes_of now)) told counts in
       subst (λ n. Rose n (data_changes_of now)) noted.kinds as_data.2
 
-  pub data_alone_told : (r : Result (Unit {0}) StorageError) → NotesWrite mid now r → (changes_of now ≡ changes_of before) ⊎ Rose (data_changes_of before) (data_changes_of now)
-  data_alone_told (Ok _) notes = inr (data_told notes.1)
-  data_alone_told (Err Fault) notes = inr (data_told notes.1)
+  one_write : CountsWrite mid now → Rose (data_changes_of before) (data_changes_of now) × (changes_of now ≤ changes_of before + 1)
+  one_write counts = (data_told counts.1, subst (λ n. changes_of now ≤ n + 1) noted.count counts.0.3)
+
+  pub data_alone_told : (r : Result (Unit {0}) StorageError) → NotesWrite mid now r → (changes_of now ≡ changes_of before) ⊎ (Rose (data_changes_of before) (data_changes_of now) × (changes_of now ≤ changes_of before + 1))
+  data_alone_told (Ok _) notes = inr (one_write notes)
+  data_alone_told (Err Fault) notes = inr (one_write notes)
   data_alone_told (Err Memory) notes = inl (notes.count ∙ noted.count)
 
 module _ {S F : Type 0} where

@@ -90,7 +90,7 @@ module _ (h : HeaderFields) (d : Direction) (p : Pending) (on_storage known : By
   ]
 
   pub names_behind : NamesTablesBehind h
-  names_behind = record { reftable = reftable_behind; l1_table = l1_behind }
+  names_behind = record { reftable = inr reftable_behind; l1_table = l1_behind }
 
 -- so does an image that was opened so
 module _ {S F : Type 0} (view : S → StorageView) (backing : F → BackingView) where

@@ -140,4 +140,4 @@ pub returns-in_err-write_reftable_pointer-clause-header_cluster : goal.returns-i
 returns-in_err-write_reftable_pointer-clause-header_cluster g c = λ above bits. spares_pointer g.S.Storage.view c.args.self.now.reftable c.args.file.now c.set_reftable.new.self c.args.file.now.caches (storage_of c.will_write.new.self) c.write_reftable_pointer.new.self _ _ c.write_reftable_pointer.result c.in_ok-set_reftable.ensures.ok (λ bits are. are) c.will_write.ensures.storage c.write_reftable_pointer.ensures.written c.write_reftable_pointer.ensures.calls c.args.self.now.reftable (λ n stands. (stands.reftable_bits, stands.elsewhere))
 
 pub returns-clause-header_cluster : goal.returns-clause-header_cluster
-returns-clause-header_cluster g c = λ above bits. spares_pointer g.S.Storage.view c.args.self.now.reftable c.args.file.now c.set_reftable.new.self c.args.file.now.caches (storage_of c.will_write.new.self) c.write_reftable_pointer.new.self _ _ c.write_reftable_pointer.result c.in_ok-set_reftable.ensures.ok (λ bits are. are) c.will_write.ensures.storage c.write_reftable_pointer.ensures.written c.write_reftable_pointer.ensures.calls c.args.table (λ n stands. (bits ∙ stands.header, placed_above c.args.table.cluster above))
+returns-clause-header_cluster g c = λ above bits. spares_pointer g.S.Storage.view c.args.self.now.reftable c.args.file.now c.set_reftable.new.self c.args.file.now.caches (storage_of c.will_write.new.self) c.write_reftable_pointer.new.self _ _ c.write_reftable_pointer.result c.in_ok-set_reftable.ensures.ok (λ bits are. are) c.will_write.ensures.storage c.write_reftable_pointer.ensures.written c.write_reftable_pointer.ensures.calls c.args.table (λ n stands. (bits ∙ stands.header, λ has. placed_above c.args.table.cluster above))

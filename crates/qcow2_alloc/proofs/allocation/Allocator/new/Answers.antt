@@ -1,12 +1,12 @@
 use Rattle.qcow2_alloc.proofs.AllocationSteps.{table_loaded, handed_on}
-use Rattle.std.proofs.Common.{◌≡◌, ℕ, ◌+◌, ◌*◌, ◌<◌, ◌≤◌, ◌^◌, Ok, Result, Some, sym, ap, ◌∙◌, subst, refl}
+use Rattle.std.proofs.Common.{◌≡◌, inl, inr, ℕ, ◌+◌, ◌*◌, ◌/◌, ◌<◌, ◌≤◌, ◌^◌, Ok, Result, Some, sym, ap, ◌∙◌, subst, refl, arith}
 use Rattle.std.specs.Prelude.{MatchResult}
 use Rattle.image_access.specs.Contents.{bytes_at}
 use Rattle.qcow2_metadata.specs.Bytes.{byte_at}
-use Rattle.qcow2_metadata.specs.EntryTable.{SomeUnread, EntryTableView}
+use Rattle.qcow2_metadata.specs.EntryTable.{SomeUnread, EntryTableView, entry_count}
 use Rattle.qcow2_metadata.specs.TableBytes.{entry_at}
 use Rattle.qcow2_metadata.specs.Entries.{reftable_entry, ReftableEntryReads}
-use Rattle.qcow2_metadata.specs.Header.{reftable_entries, cluster_size}
+use Rattle.qcow2_metadata.specs.Header.{reftable_entries, cluster_size, entries_per_cluster}
 use Rattle.qcow2_metadata.proofs.EntryTables.{reftable_entries-loaded}
 use Rattle.qcow2_alloc.specs.declared.allocation.Allocator.{Allocator}
 use Rattle.qcow2_alloc.specs.declared.error.ImageError.{ImageError}
@@ -55,13 +55,21 @@ returns-in_err-reftable-clause-why g c = λ honest.
     (subst (λ m. IsReasonAgainst h h.reftable_offset (2 ^ 64 ≤ h.reftable_offset + 8 * m) ((h.reftable_offset + 8 * m < 2 ^ 64) × HasUnreadEntry m (λ k. ReftableEntryReads (reftable_entry h b k))) (of_metadata e)) entries why)
 
 pub returns-clause-header_cluster : goal.returns-clause-header_cluster
-returns-clause-header_cluster g c = λ some are.
+returns-clause-header_cluster g c = λ named are.
+    let h = c.args.file.now.header.fields in
     let t = c.in_ok-reftable.reftable in
-    let at : c.in-Some.cluster * 2 ^ c.cluster_bits-bits.result ≡ c.args.file.now.header.fields.reftable_offset = c.in-Some.ensures.cluster ∙ c.reftable_offset.ensures in
-    let above = not_first c.in-Some.cluster (2 ^ c.cluster_bits-bits.result) c.args.file.now.header.fields.reftable_offset some at in
+    let at : c.in-Some.cluster * 2 ^ c.cluster_bits-bits.result ≡ h.reftable_offset = c.in-Some.ensures.cluster ∙ c.reftable_offset.ensures in
+    let above : 0 < entry_count t → 0 < c.in-Some.cluster = λ has. elim named [
+      | inl none ↦
+          let entries : c.reftable_entries-entries.result ≡ reftable_entries h = c.reftable_entries-entries.ensures.value in
+          let empty : reftable_entries h ≡ 0 * entries_per_cluster h = ap (λ n. n * entries_per_cluster h) none in
+          let long = c.in_ok-reftable.ensures.length in
+          absurd (omega (arith, has, long, entries, empty))
+      | inr some ↦ not_first c.in-Some.cluster (2 ^ c.cluster_bits-bits.result) h.reftable_offset some at
+    ] in
     record {
       header = refl;
       caches = are;
       reftable_bits = ap (λ (x : EntryTableView). x.cluster_bits) c.in_ok-reftable.ensures.table;
-      elsewhere = λ is. placed_above (Some c.in-Some.cluster) above (sym (ap (λ (x : EntryTableView). x.cluster) c.in_ok-reftable.ensures.table) ∙ is);
+      elsewhere = λ has is. placed_above (Some c.in-Some.cluster) (above has) (sym (ap (λ (x : EntryTableView). x.cluster) c.in_ok-reftable.ensures.table) ∙ is);
     }

@@ -197,10 +197,10 @@ pub returns-in_err-write_block-clause-header_cluster : goal.returns-in_err-write
 returns-in_err-write_block-clause-header_cluster g c = c.write_block.ensures.header_cluster c.args.self.now.reftable c.in_ok-block.ensures.format.bits
 
 pub returns-in_err-write_reftable_entry-clause-header_cluster : goal.returns-in_err-write_reftable_entry-clause-header_cluster
-returns-in_err-write_reftable_entry-clause-header_cluster g c = spares_then (c.write_block.ensures.header_cluster c.args.self.now.reftable c.in_ok-block.ensures.format.bits) (spares_entry g.S.Storage.view c.args.self.now.reftable c.enter_refblock.new.self c.write_block.new.file c.write_block.new.file.caches (storage_of c.will_write.new.self) c.write_reftable_entry.new.self _ _ c.write_reftable_entry.result (λ bits are. are) (ap (λ (t : EntryTableView). t.cluster_bits) c.enter_refblock.ensures.rest) (ap (λ (t : EntryTableView). t.cluster) c.enter_refblock.ensures.rest) c.will_write.ensures.storage c.write_reftable_entry.ensures.written c.write_reftable_entry.ensures.calls (subst (λ (t : EntryTableView). IsSome t.cluster) (sym c.enter_refblock.ensures.rest) c.requires.placed))
+returns-in_err-write_reftable_entry-clause-header_cluster g c = spares_then (c.write_block.ensures.header_cluster c.args.self.now.reftable c.in_ok-block.ensures.format.bits) (spares_entry g.S.Storage.view c.args.self.now.reftable c.enter_refblock.new.self c.write_block.new.file c.write_block.new.file.caches (storage_of c.will_write.new.self) c.write_reftable_entry.new.self _ _ c.write_reftable_entry.result (λ bits are. are) (ap (λ (t : EntryTableView). t.cluster_bits) c.enter_refblock.ensures.rest) (ap (λ (t : EntryTableView). t.cluster) c.enter_refblock.ensures.rest) c.will_write.ensures.storage c.write_reftable_entry.ensures.written c.write_reftable_entry.ensures.calls (let within = c.requires.within in omega (arith, within)) (subst (λ (t : EntryTableView). IsSome t.cluster) (sym c.enter_refblock.ensures.rest) c.requires.placed))
 
 pub returns-clause-header_cluster : goal.returns-clause-header_cluster
-returns-clause-header_cluster g c = spares_then (c.write_block.ensures.header_cluster c.args.self.now.reftable c.in_ok-block.ensures.format.bits) (spares_entry g.S.Storage.view c.args.self.now.reftable c.enter_refblock.new.self c.write_block.new.file c.write_block.new.file.caches (storage_of c.will_write.new.self) c.write_reftable_entry.new.self _ _ c.write_reftable_entry.result (λ bits are. are) (ap (λ (t : EntryTableView). t.cluster_bits) c.enter_refblock.ensures.rest) (ap (λ (t : EntryTableView). t.cluster) c.enter_refblock.ensures.rest) c.will_write.ensures.storage c.write_reftable_entry.ensures.written c.write_reftable_entry.ensures.calls (subst (λ (t : EntryTableView). IsSome t.cluster) (sym c.enter_refblock.ensures.rest) c.requires.placed))
+returns-clause-header_cluster g c = spares_then (c.write_block.ensures.header_cluster c.args.self.now.reftable c.in_ok-block.ensures.format.bits) (spares_entry g.S.Storage.view c.args.self.now.reftable c.enter_refblock.new.self c.write_block.new.file c.write_block.new.file.caches (storage_of c.will_write.new.self) c.write_reftable_entry.new.self _ _ c.write_reftable_entry.result (λ bits are. are) (ap (λ (t : EntryTableView). t.cluster_bits) c.enter_refblock.ensures.rest) (ap (λ (t : EntryTableView). t.cluster) c.enter_refblock.ensures.rest) c.will_write.ensures.storage c.write_reftable_entry.ensures.written c.write_reftable_entry.ensures.calls (let within = c.requires.within in omega (arith, within)) (subst (λ (t : EntryTableView). IsSome t.cluster) (sym c.enter_refblock.ensures.rest) c.requires.placed))
 
 pub returns-in_err-write_block-clause-has : goal.returns-in_err-write_block-clause-has
 returns-in_err-write_block-clause-has g c = on_no_ok _ c.from_residual-in_err-write_block.result c.in_err-write_block.field-0.0 c.from_residual-in_err-write_block.ensures

@@ -352,13 +352,13 @@ pub returns-in_err-flush_rb-clause-header_cluster : goal.returns-in_err-flush_rb
 returns-in_err-flush_rb-clause-header_cluster g c = spares_less (spares_cached c.args.self.now.reftable c.args.file.now c.flush_rb.new.storage c.flush_rb.new.self c.flush_rb.ensures.header_cluster)
 
 pub returns-in_err-place_blocks-clause-header_cluster : goal.returns-in_err-place_blocks-clause-header_cluster
-returns-in_err-place_blocks-clause-header_cluster g c = spares_less (spares_then (spares_cached c.args.self.now.reftable c.args.file.now c.flush_rb.new.storage c.flush_rb.new.self c.flush_rb.ensures.header_cluster) (spares_parts c.args.self.now.reftable c.args.self.now.reftable (record c.args.file.now { storage = c.flush_rb.new.storage; caches = c.flush_rb.new.self }) c.place_blocks.new.file (ap (λ (x : HeaderView). x.fields.cluster_bits) c.place_blocks.ensures.header) refl refl c.place_blocks.ensures.behind_header (λ n stands. subst (λ m. KeepsHeaderCluster m (view_in g.S.Storage.view (record c.args.file.now { storage = c.flush_rb.new.storage; caches = c.flush_rb.new.self })) (view_in g.S.Storage.view c.place_blocks.new.file)) stands.header c.place_blocks.ensures.header_cluster)))
+returns-in_err-place_blocks-clause-header_cluster g c = spares_less (spares_then (spares_cached c.args.self.now.reftable c.args.file.now c.flush_rb.new.storage c.flush_rb.new.self c.flush_rb.ensures.header_cluster) (spares_parts c.args.self.now.reftable c.args.self.now.reftable (record c.args.file.now { storage = c.flush_rb.new.storage; caches = c.flush_rb.new.self }) c.place_blocks.new.file (ap (λ (x : HeaderView). x.fields.cluster_bits) c.place_blocks.ensures.header) refl refl (λ has. has) c.place_blocks.ensures.behind_header (λ n stands. subst (λ m. KeepsHeaderCluster m (view_in g.S.Storage.view (record c.args.file.now { storage = c.flush_rb.new.storage; caches = c.flush_rb.new.self })) (view_in g.S.Storage.view c.place_blocks.new.file)) stands.header c.place_blocks.ensures.header_cluster)))
 
 pub returns-in_err-place_table-clause-header_cluster : goal.returns-in_err-place_table-clause-header_cluster
-returns-in_err-place_table-clause-header_cluster g c = spares_less (spares_then (spares_then (spares_cached c.args.self.now.reftable c.args.file.now c.flush_rb.new.storage c.flush_rb.new.self c.flush_rb.ensures.header_cluster) (spares_parts c.args.self.now.reftable c.args.self.now.reftable (record c.args.file.now { storage = c.flush_rb.new.storage; caches = c.flush_rb.new.self }) c.place_blocks.new.file (ap (λ (x : HeaderView). x.fields.cluster_bits) c.place_blocks.ensures.header) refl refl c.place_blocks.ensures.behind_header (λ n stands. subst (λ m. KeepsHeaderCluster m (view_in g.S.Storage.view (record c.args.file.now { storage = c.flush_rb.new.storage; caches = c.flush_rb.new.self })) (view_in g.S.Storage.view c.place_blocks.new.file)) stands.header c.place_blocks.ensures.header_cluster))) (spares_parts c.args.self.now.reftable c.args.self.now.reftable c.place_blocks.new.file c.place_table.new.file (ap (λ (x : HeaderView). x.fields.cluster_bits) c.place_table.ensures.header) refl refl (λ n are. subst (AreBehindHeader n) (sym c.place_table.ensures.caches) are) (λ n stands. subst (λ m. KeepsHeaderCluster m (view_in g.S.Storage.view c.place_blocks.new.file) (view_in g.S.Storage.view c.place_table.new.file)) ((ap (λ (x : EntryTableView). x.cluster_bits) c.place_blocks.ensures.rest ∙ c.requires.bits ∙ sym (ap (λ (x : HeaderView). x.fields.cluster_bits) c.place_blocks.ensures.header)) ∙ stands.header) c.place_table.ensures.header_cluster)))
+returns-in_err-place_table-clause-header_cluster g c = spares_less (spares_then (spares_then (spares_cached c.args.self.now.reftable c.args.file.now c.flush_rb.new.storage c.flush_rb.new.self c.flush_rb.ensures.header_cluster) (spares_parts c.args.self.now.reftable c.args.self.now.reftable (record c.args.file.now { storage = c.flush_rb.new.storage; caches = c.flush_rb.new.self }) c.place_blocks.new.file (ap (λ (x : HeaderView). x.fields.cluster_bits) c.place_blocks.ensures.header) refl refl (λ has. has) c.place_blocks.ensures.behind_header (λ n stands. subst (λ m. KeepsHeaderCluster m (view_in g.S.Storage.view (record c.args.file.now { storage = c.flush_rb.new.storage; caches = c.flush_rb.new.self })) (view_in g.S.Storage.view c.place_blocks.new.file)) stands.header c.place_blocks.ensures.header_cluster))) (spares_parts c.args.self.now.reftable c.args.self.now.reftable c.place_blocks.new.file c.place_table.new.file (ap (λ (x : HeaderView). x.fields.cluster_bits) c.place_table.ensures.header) refl refl (λ has. has) (λ n are. subst (AreBehindHeader n) (sym c.place_table.ensures.caches) are) (λ n stands. subst (λ m. KeepsHeaderCluster m (view_in g.S.Storage.view c.place_blocks.new.file) (view_in g.S.Storage.view c.place_table.new.file)) ((ap (λ (x : EntryTableView). x.cluster_bits) c.place_blocks.ensures.rest ∙ c.requires.bits ∙ sym (ap (λ (x : HeaderView). x.fields.cluster_bits) c.place_blocks.ensures.header)) ∙ stands.header) c.place_table.ensures.header_cluster)))
 
 pub returns-clause-header_cluster : goal.returns-clause-header_cluster
-returns-clause-header_cluster g c = spares_then (spares_less (spares_then (spares_then (spares_cached c.args.self.now.reftable c.args.file.now c.flush_rb.new.storage c.flush_rb.new.self c.flush_rb.ensures.header_cluster) (spares_parts c.args.self.now.reftable c.args.self.now.reftable (record c.args.file.now { storage = c.flush_rb.new.storage; caches = c.flush_rb.new.self }) c.place_blocks.new.file (ap (λ (x : HeaderView). x.fields.cluster_bits) c.place_blocks.ensures.header) refl refl c.place_blocks.ensures.behind_header (λ n stands. subst (λ m. KeepsHeaderCluster m (view_in g.S.Storage.view (record c.args.file.now { storage = c.flush_rb.new.storage; caches = c.flush_rb.new.self })) (view_in g.S.Storage.view c.place_blocks.new.file)) stands.header c.place_blocks.ensures.header_cluster))) (spares_parts c.args.self.now.reftable c.args.self.now.reftable c.place_blocks.new.file c.place_table.new.file (ap (λ (x : HeaderView). x.fields.cluster_bits) c.place_table.ensures.header) refl refl (λ n are. subst (AreBehindHeader n) (sym c.place_table.ensures.caches) are) (λ n stands. subst (λ m. KeepsHeaderCluster m (view_in g.S.Storage.view c.place_blocks.new.file) (view_in g.S.Storage.view c.place_table.new.file)) ((ap (λ (x : EntryTableView). x.cluster_bits) c.place_blocks.ensures.rest ∙ c.requires.bits ∙ sym (ap (λ (x : HeaderView). x.fields.cluster_bits) c.place_blocks.ensures.header)) ∙ stands.header) c.place_table.ensures.header_cluster)))) (c.name_reftable.ensures.header_cluster (subst (λ (t : EntryTableView). IfSome t.cluster (λ k. 0 < k)) (sym c.place_table.ensures.table) (let above = c.requires.above in let at = c.new.ensures in omega (arith, above, at))) (ap (λ (x : EntryTableView). x.cluster_bits) c.place_table.ensures.table ∙ (ap (λ (x : EntryTableView). x.cluster_bits) c.place_blocks.ensures.rest ∙ c.requires.bits ∙ sym (ap (λ (x : HeaderView). x.fields.cluster_bits) c.place_blocks.ensures.header)) ∙ sym (ap (λ (x : HeaderView). x.fields.cluster_bits) c.place_table.ensures.header)))
+returns-clause-header_cluster g c = spares_then (spares_less (spares_then (spares_then (spares_cached c.args.self.now.reftable c.args.file.now c.flush_rb.new.storage c.flush_rb.new.self c.flush_rb.ensures.header_cluster) (spares_parts c.args.self.now.reftable c.args.self.now.reftable (record c.args.file.now { storage = c.flush_rb.new.storage; caches = c.flush_rb.new.self }) c.place_blocks.new.file (ap (λ (x : HeaderView). x.fields.cluster_bits) c.place_blocks.ensures.header) refl refl (λ has. has) c.place_blocks.ensures.behind_header (λ n stands. subst (λ m. KeepsHeaderCluster m (view_in g.S.Storage.view (record c.args.file.now { storage = c.flush_rb.new.storage; caches = c.flush_rb.new.self })) (view_in g.S.Storage.view c.place_blocks.new.file)) stands.header c.place_blocks.ensures.header_cluster))) (spares_parts c.args.self.now.reftable c.args.self.now.reftable c.place_blocks.new.file c.place_table.new.file (ap (λ (x : HeaderView). x.fields.cluster_bits) c.place_table.ensures.header) refl refl (λ has. has) (λ n are. subst (AreBehindHeader n) (sym c.place_table.ensures.caches) are) (λ n stands. subst (λ m. KeepsHeaderCluster m (view_in g.S.Storage.view c.place_blocks.new.file) (view_in g.S.Storage.view c.place_table.new.file)) ((ap (λ (x : EntryTableView). x.cluster_bits) c.place_blocks.ensures.rest ∙ c.requires.bits ∙ sym (ap (λ (x : HeaderView). x.fields.cluster_bits) c.place_blocks.ensures.header)) ∙ stands.header) c.place_table.ensures.header_cluster)))) (c.name_reftable.ensures.header_cluster (subst (λ (t : EntryTableView). IfSome t.cluster (λ k. 0 < k)) (sym c.place_table.ensures.table) (let above = c.requires.above in let at = c.new.ensures in omega (arith, above, at))) (ap (λ (x : EntryTableView). x.cluster_bits) c.place_table.ensures.table ∙ (ap (λ (x : EntryTableView). x.cluster_bits) c.place_blocks.ensures.rest ∙ c.requires.bits ∙ sym (ap (λ (x : HeaderView). x.fields.cluster_bits) c.place_blocks.ensures.header)) ∙ sym (ap (λ (x : HeaderView). x.fields.cluster_bits) c.place_table.ensures.header)))
 
 pub returns-clause-noted : goal.returns-clause-noted
 returns-clause-noted g c = on_ok _ c.name_reftable.result (or_left (is_changed_of c.name_reftable.new.file.storage) c.name_reftable.new.file.caches.is_changed (c.name_reftable.ensures.marks.notes.changes.noted c.in_ok-place_table.ensures.noted))
