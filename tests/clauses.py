@@ -68,11 +68,11 @@ def is_never_reached(lines):
 
 
 def declarations(text):
-    """The parts of a proof, each from a line at the margin that begins a declaration: a line that closes a bracket, or a declaration's second one, goes on with what stands before it."""
+    """The parts of a proof, each from a line at the margin that begins a declaration: a line that closes a bracket, one with `unfolding`, or a declaration's second one, goes on with what stands before it."""
     found, name = [[]], None
     for line in text.split("\n"):
         begun = ANSWER.match(line) if line[:1].strip() and line[0] not in ")]}" else None
-        if begun and (begun[1] != name or line.startswith("pub ")):
+        if begun and begun[1] != "unfolding" and (begun[1] != name or line.startswith("pub ")):
             found.append([])
             name = begun[1]
         found[-1].append(line)

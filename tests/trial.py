@@ -21,9 +21,11 @@ BODIES = [
     ("unchanged", "memory::overwrite", MEMORY, "grow(bytes, at, new_bytes.len())?;", "grow(bytes, at, new_bytes.len())?;"),
     ("with_answers_that_cannot_be_read", "memory::grow", MEMORY, "let end = end.max(bytes.len());", "let end = bytes.len().max(end);"),
     ("cannot_be_compiled", "memory::put_zeroes", MEMORY, "within[at..end].fill(0);", "within[at..end].fill(no_number);"),
+    ("breaks_a_clause_alone", "memory::grow", MEMORY, "bytes.resize(end, 0)", "bytes.resize(end, 1)"),
     ("stands_nowhere", "memory::put", MEMORY, "within[at..end].copy_to_slice(bytes);", ""),
     ("stands_in_another_one", "memory::grow", MEMORY, "within[at..end].fill(0);", "within[at..end].fill(1);"),
 ]
+NEEDS = {"breaks_a_clause_alone": "resize"}
 WANTED = {
     "wrong": r"refused: ",
     "stands_on_a_wrong_one": r"NOT REFUSED: .*: it is proved",
@@ -32,6 +34,7 @@ WANTED = {
     "unchanged": r"NOT REFUSED: .*: it is proved",
     "with_answers_that_cannot_be_read": r"NOT REFUSED: .*is never closed",
     "cannot_be_compiled": r"NOT REFUSED: .*error",
+    "breaks_a_clause_alone": r"NOT REFUSED: .*: it is proved",
     "stands_nowhere": r"BAD EDIT: ",
     "stands_in_another_one": r"BAD EDIT: ",
 }
@@ -48,7 +51,7 @@ def main():
     rt = toolchain()
     rt.rtlib.guarded()
     crate = next(it for it in rt.rtlib.crates_below(ROOT) if it.name == CRATE)
-    tried = [bodies.WrongBody(name, number, function, file, pairs=[(old, new)]) for number, (name, function, file, old, new) in enumerate(BODIES, 1)]
+    tried = [bodies.WrongBody(name, number, function, file, needs=NEEDS.get(name, ""), pairs=[(old, new)]) for number, (name, function, file, old, new) in enumerate(BODIES, 1)]
     printed = io.StringIO()
     with tempfile.TemporaryDirectory() as room, contextlib.redirect_stdout(printed):
         trial = Trial(rt, crate, room, tried)
