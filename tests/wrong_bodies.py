@@ -26,7 +26,7 @@ from promises import read, take_promises
 
 ROOT = os.path.dirname(os.path.dirname(os.path.abspath(__file__)))
 HOW_MANY_LINES = 8
-MOST_IN_A_CHECK = 210
+MOST_IN_A_CHECK = 160
 LEAST_IN_A_CHECK = 70
 FIRST_IN_A_CHECK = 40
 SECONDS_TO_LOOK_AGAIN = 5
