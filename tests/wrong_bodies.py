@@ -4,7 +4,7 @@
 A check takes many bodies. Each stands in a copy of its function, which nothing else calls (tests/bodies.py); where a function can't be copied, it is changed in its place. What the crate's
 other functions and its lemmas state is taken as it stands (tests/promises.py), over the libraries that the gate has just proved; where it hasn't run, they are proved first. Each body must
 be refused for itself, by what its contract says: not only because a proof names what the body took away, and not because a proof can't be read. One of which a check says too little is
-tried once more, alone. A check begins with what earlier ones of its crate have read. Checks run side by side, one a processor. Words CRATE and CRATE/BODY choose what is tried. With
+tried once more, alone. A check begins with what earlier ones of its crate have read. Checks run side by side, fewer than there are processors. Words CRATE and CRATE/BODY choose what is tried. With
 --beside FILE the gate runs beside it, and the file gets a line for each crate that is proved, and a line `end` where nothing runs beside it any more. The last line counts."""
 
 import importlib.machinery
@@ -331,8 +331,8 @@ def is_built(crate):
 def tried_in(trials, gate):
     """Tries the wrong bodies of crates, and answers how many were refused and how many weren't."""
     lanes = Lanes(trials, gate)
-    # one processor is the gate's, and that of what comes behind it
-    workers = [threading.Thread(target=lanes.work) for _ in range(len(os.sched_getaffinity(0)) - 1)]
+    # one processor is the gate's, and that of what comes behind it; of more than two another one stays free, since four checks side by side take a quarter longer each
+    workers = [threading.Thread(target=lanes.work) for _ in range(max(len(os.sched_getaffinity(0)) - 2, 1))]
     for it in workers:
         it.start()
     while gate.file and not gate.is_over():
