@@ -63,6 +63,11 @@ class WrongBody:
         indent = len(lines[first]) - len(lines[first].lstrip())
         return range(above, lines.index(" " * indent + "}", self.place(text)) + 1)
 
+    def code(self, text):
+        """Its function as it stands in the file's text."""
+        lines = text.split("\n")
+        return "\n".join(lines[i] for i in self.lines(text))
+
     def is_copied(self, text):
         """Whether its function can be copied: a method of a trait or of its impl can't, and neither can `main`."""
         lines, first = text.split("\n"), self.first(text)

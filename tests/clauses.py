@@ -68,7 +68,8 @@ def is_never_reached(lines):
 
 
 def declarations(text):
-    """The parts of a proof, each from a line at the margin that begins a declaration: a line that closes a bracket, one with `unfolding`, or a declaration's second one, goes on with what stands before it."""
+    """The parts of a proof, each from a line at the margin that begins a declaration: a line that closes a bracket, one with `unfolding`, or a declaration's second one, goes on with what
+    stands before it."""
     found, name = [[]], None
     for line in text.split("\n"):
         begun = ANSWER.match(line) if line[:1].strip() and line[0] not in ")]}" else None

@@ -22,10 +22,11 @@ BODIES = [
     ("with_answers_that_cannot_be_read", "memory::grow", MEMORY, "let end = end.max(bytes.len());", "let end = bytes.len().max(end);"),
     ("cannot_be_compiled", "memory::put_zeroes", MEMORY, "within[at..end].fill(0);", "within[at..end].fill(no_number);"),
     ("breaks_a_clause_alone", "memory::grow", MEMORY, "bytes.resize(end, 0)", "bytes.resize(end, 1)"),
+    ("needs_what_is_not_called", "memory::grow", MEMORY, "bytes.resize(end, 0)", "bytes.resize(end, 2)"),
     ("stands_nowhere", "memory::put", MEMORY, "within[at..end].copy_to_slice(bytes);", ""),
     ("stands_in_another_one", "memory::grow", MEMORY, "within[at..end].fill(0);", "within[at..end].fill(1);"),
 ]
-NEEDS = {"breaks_a_clause_alone": "resize"}
+NEEDS = {"breaks_a_clause_alone": "resize", "needs_what_is_not_called": "push"}
 WANTED = {
     "wrong": r"refused: ",
     "stands_on_a_wrong_one": r"NOT REFUSED: .*: it is proved",
@@ -35,6 +36,7 @@ WANTED = {
     "with_answers_that_cannot_be_read": r"NOT REFUSED: .*is never closed",
     "cannot_be_compiled": r"NOT REFUSED: .*error",
     "breaks_a_clause_alone": r"NOT REFUSED: .*: it is proved",
+    "needs_what_is_not_called": r"BAD EDIT: ",
     "stands_nowhere": r"BAD EDIT: ",
     "stands_in_another_one": r"BAD EDIT: ",
 }

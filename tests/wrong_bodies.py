@@ -4,8 +4,9 @@
 A check takes many bodies. Each stands in a copy of its function, which nothing else calls (tests/bodies.py); where a function can't be copied, it is changed in its place. What the crate's
 other functions and its lemmas state is taken as it stands (tests/promises.py), over the libraries that the gate has just proved; where it hasn't run, they are proved first. Each body must
 be refused for itself, by what its contract says: not only because a proof names what the body took away, and not because a proof can't be read. One of which a check says too little is
-tried once more, alone. A check begins with what earlier ones of its crate have read. Checks run side by side, fewer than there are processors. Words CRATE and CRATE/BODY choose what is tried. With
---beside FILE the gate runs beside it, and the file gets a line for each crate that is proved, and a line `end` where nothing runs beside it any more. The last line counts."""
+tried once more, alone. A check begins with what earlier ones of its crate have read. Checks run side by side; of more than two processors one stays free. Words CRATE and CRATE/BODY choose
+what is tried. With --beside FILE the gate runs beside it, and the file gets a line for each crate that is proved, and a line `end` where nothing runs beside it any more. The last line
+counts."""
 
 import importlib.machinery
 import importlib.util
@@ -247,7 +248,7 @@ def reasons_of(it, said, printed):
 
 
 def fitting(crate, bodies):
-    """The wrong bodies of a crate that can be tried, and how many can't, which are told: each changes what stands in its file once, in its function."""
+    """The wrong bodies of a crate that can be tried, and how many can't, which are told: each changes what stands in its file once, in its function, which calls what the body names."""
     fits = []
     for body in bodies:
         text = read(f"{crate.folder}/{body.file}") if os.path.isfile(f"{crate.folder}/{body.file}") else ""
@@ -255,6 +256,8 @@ def fitting(crate, bodies):
             print(f"wrong body {crate.name}/{body.name}: BAD EDIT: what it changes doesn't stand in {body.file} once", flush=True)
         elif body.first(text) is None:
             print(f"wrong body {crate.name}/{body.name}: BAD EDIT: what it changes doesn't stand in {body.function}", flush=True)
+        elif body.needs and f"{body.needs}(" not in body.code(text):
+            print(f"wrong body {crate.name}/{body.name}: BAD EDIT: {body.function} doesn't call {body.needs}", flush=True)
         else:
             fits.append(body)
     return fits, len(bodies) - len(fits)
