@@ -22,4 +22,5 @@ pub mod Flush
 pub mod Call
 pub mod Clear
 pub mod Sizing
+pub mod Turns
 pub mod Preallocate

@@ -29,6 +29,7 @@ pub mod L1Entries
 pub mod PinnedTables
 pub mod ListedClusters
 pub mod LowestPlaces
+pub mod Turns
 pub mod MetAlone
 pub mod LackedPlaces
 pub mod LackedTables
