@@ -2,7 +2,7 @@
 use Rattle.std.specs.Prelude.{◌≡◌, List, [], ◌∷◌}
 
 -- Between a first state and a last one lie these, and each turn goes from one to the next. With none of them nothing changes.
-pub AreTurns : {A : Type 0} → (A → A → Type 0) → A → List A → A → Type 0
+abbrev pub AreTurns : {A : Type 0} → (A → A → Type 0) → A → List A → A → Type 0
 AreTurns IsTurn old [] new = new ≡ old
 AreTurns IsTurn old (next ∷ rest) new = IsTurn old next × AreTurns IsTurn next rest new
 

@@ -56,7 +56,7 @@ impl<S: Storage, F: WrappedFormat<S>> Qcow2<S, F> {
         ensures image { size < size_of self.old → IsResized (size_after result (size_of self.old) size) self.old self.new }
         ensures sees { Shrinks S.view F.backing self.old self.new size result }
         ensures covers { (out : List (Option Prepared)) → (abstract_of S.view F.backing self.old out).is_sound → IfOk result (λ answer. UncoversClusters S.view size answer self.old self.new) }
-        ensures stops { (out : List (Option Prepared)) → (abstract_of S.view F.backing self.old out).is_sound → IfOk result (EndsTail S.view self.old self.new size) }
+        ensures stops { (out : List (Option Prepared)) → (abstract_of S.view F.backing self.old out).is_sound → IfOk result (EndsTail S.view F.backing out self.old self.new size) }
         ensures last { (out : List (Option Prepared)) → (abstract_of S.view F.backing self.old out).is_sound → WritesSizeLast S.view F.backing self.old self.new }
         ensures once_written { FailsOnceWritten S.view self.old self.new result }
         ensures length { (out : List (Option Prepared)) → (abstract_of S.view F.backing self.old out).is_sound → IsLongerByNeed (size_of self.old - 1) self.old.file.header.fields self.new.file.header.fields }
@@ -95,7 +95,7 @@ impl<S: Storage, F: WrappedFormat<S>> Qcow2<S, F> {
         ensures sees { Shrinks S.view F.backing self.old self.new size result }
         ensures covers { (out : List (Option Prepared)) → (abstract_of S.view F.backing self.old out).is_sound → IfOk result (λ answer. UncoversClusters S.view size answer self.old self.new) }
         ensures stops { refuses_to_resize self.old ≡ None → (out : List (Option Prepared)) → (abstract_of S.view F.backing self.old out).is_sound → (HasPrepared out → ⊥)
-            → IfOk result (EndsTail S.view self.old self.new size) }
+            → IfOk result (EndsTail S.view F.backing out self.old self.new size) }
         ensures last { (out : List (Option Prepared)) → (abstract_of S.view F.backing self.old out).is_sound → WritesSizeLast S.view F.backing self.old self.new }
         ensures once_written { FailsOnceWritten S.view self.old self.new result }
         ensures length { (out : List (Option Prepared)) → (abstract_of S.view F.backing self.old out).is_sound → IsLongerByNeed (size_of self.old - 1) self.old.file.header.fields self.new.file.header.fields }

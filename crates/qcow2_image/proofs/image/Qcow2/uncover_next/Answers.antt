@@ -6,7 +6,7 @@ use Rattle.qcow2_image.specs.Image.{size_of}
 use Rattle.qcow2_image.specs.Resizing.{IsFaultOrCantUncover, UncoversNext}
 use Rattle.qcow2_image.proofs.Call.FaultCounts.{counted_on, untouched}
 use Rattle.qcow2_image.proofs.Clear.ClearCalls.{err_is}
-use Rattle.qcow2_image.proofs.Sizing.Turns.{none_early, turn_done, turn_frees, turn_refused, turn_stops, turn_touches, turn_ends}
+use Rattle.qcow2_image.proofs.Sizing.Turns.{none_early, turn_answered, turn_frees, turn_refused, turn_stops, turn_touches}
 use Rattle.qcow2_image.specs.Clearing.{refuses_to_clear}
 use Rattle.qcow2_image.specs.declared.discarding.Clearance.TheVariants.{Uncovered}
 use Rattle.qcow2_image.proofs.image.Qcow2.uncover_next.Goals as goal
@@ -25,32 +25,19 @@ returns-in_err-from-clause-uncovers g c =
     (turn_refused view below old new c.args.at c.size-end.result e c.size-end.ensures c.requires.inside c.in_err-from.ensures.sees c.in_err-from.ensures.refused.ungiven)
 
 pub returns-then-next-end-clause-uncovers : goal.returns-then-next-end-clause-uncovers
-returns-then-next-end-clause-uncovers g c = λ out sound.
-    let done = turn_done g.S.Storage.view g.F.BackingDisk.backing c.args.self.now c.clear_range.new.self c.args.at c.size-end.result (c.in_ok-from.from, c.in_ok-from.count) c.size-end.ensures c.requires.inside (omega (arith, c.size-end.type_inv)) c.in_ok-from.ensures.sees c.saturating_add-next.result
-    (inl (c.saturating_add-next.ensures, c.if-at-next.true, c.if-next-end.true)) out sound (c.in_ok-from.ensures.covers out sound) in
-    let view = g.S.Storage.view in
+returns-then-next-end-clause-uncovers g c =
     let old = c.args.self.now in
-    let touches = turn_touches view g.F.BackingDisk.backing old c.clear_range.new.self c.args.at c.size-end.result c.size-end.ensures c.requires.inside out sound in (
-      done.0,
-      done.1,
-      turn_ends g.S.Storage.view g.F.BackingDisk.backing c.args.self.now c.clear_range.new.self c.args.at c.size-end.result (c.in_ok-from.from, c.in_ok-from.count) c.size-end.ensures c.requires.inside (omega (arith, c.size-end.type_inv)) c.in_ok-from.ensures.sees c.saturating_add-next.result
-          (inl (c.saturating_add-next.ensures, c.if-at-next.true, c.if-next-end.true)) out sound,
-      λ before under. c.in_ok-from.ensures.lowest_tables (touches before) out sound,
-    )
+    let none = none_early _ (refuses_to_clear old c.args.at (c.size-end.result - c.args.at) Uncovered) (c.in_ok-from.from, c.in_ok-from.count) c.clear_range.result c.clear_range.ensures.early c.in_ok-from.was in
+    turn_answered g.S.Storage.view g.F.BackingDisk.backing old c.clear_range.new.self c.args.at c.size-end.result (c.in_ok-from.from, c.in_ok-from.count) c.size-end.ensures c.requires.inside (omega (arith, c.size-end.type_inv)) c.in_ok-from.ensures.sees c.in_ok-from.ensures.covers c.in_ok-from.ensures.lowest_tables
+    c.in_ok-from.ensures.emptied (λ least. (c.in_ok-from.ensures.nothing none least).1) c.saturating_add-next.result (inl (c.saturating_add-next.ensures, c.if-at-next.true, c.if-next-end.true))
 
 pub returns-else-at-next-clause-uncovers : goal.returns-else-at-next-clause-uncovers
-returns-else-at-next-clause-uncovers g c = λ out sound.
-    let done = turn_done g.S.Storage.view g.F.BackingDisk.backing c.args.self.now c.clear_range.new.self c.args.at c.size-end.result (c.in_ok-from.from, c.in_ok-from.count) c.size-end.ensures c.requires.inside (omega (arith, c.size-end.type_inv)) c.in_ok-from.ensures.sees c.size-end.result
-    (inr (refl, (let h = c.saturating_add-next.ensures in elim c.else-at-next.branch [ else-at-next-via-then-at-next+else-next-end w ↦ inr (subst (λ n. c.size-end.result ≤ n) h w.if-next-end.false) | else-at-next-via-else-at-next w ↦ inl (subst (λ n. n ≤ c.args.at) h w.if-at-next.false) ]))) out sound (c.in_ok-from.ensures.covers out sound) in
-    let view = g.S.Storage.view in
+returns-else-at-next-clause-uncovers g c =
     let old = c.args.self.now in
-    let touches = turn_touches view g.F.BackingDisk.backing old c.clear_range.new.self c.args.at c.size-end.result c.size-end.ensures c.requires.inside out sound in (
-      done.0,
-      done.1,
-      turn_ends g.S.Storage.view g.F.BackingDisk.backing c.args.self.now c.clear_range.new.self c.args.at c.size-end.result (c.in_ok-from.from, c.in_ok-from.count) c.size-end.ensures c.requires.inside (omega (arith, c.size-end.type_inv)) c.in_ok-from.ensures.sees c.size-end.result
-          (inr (refl, (let h = c.saturating_add-next.ensures in elim c.else-at-next.branch [ else-at-next-via-then-at-next+else-next-end w ↦ inr (subst (λ n. c.size-end.result ≤ n) h w.if-next-end.false) | else-at-next-via-else-at-next w ↦ inl (subst (λ n. n ≤ c.args.at) h w.if-at-next.false) ]))) out sound,
-      λ before under. c.in_ok-from.ensures.lowest_tables (touches before) out sound,
-    )
+    let none = none_early _ (refuses_to_clear old c.args.at (c.size-end.result - c.args.at) Uncovered) (c.in_ok-from.from, c.in_ok-from.count) c.clear_range.result c.clear_range.ensures.early c.in_ok-from.was in
+    turn_answered g.S.Storage.view g.F.BackingDisk.backing old c.clear_range.new.self c.args.at c.size-end.result (c.in_ok-from.from, c.in_ok-from.count) c.size-end.ensures c.requires.inside (omega (arith, c.size-end.type_inv)) c.in_ok-from.ensures.sees c.in_ok-from.ensures.covers c.in_ok-from.ensures.lowest_tables
+    c.in_ok-from.ensures.emptied (λ least. (c.in_ok-from.ensures.nothing none least).1) c.size-end.result
+    (inr (refl, (let h = c.saturating_add-next.ensures in elim c.else-at-next.branch [ else-at-next-via-then-at-next+else-next-end w ↦ inr (subst (λ n. c.size-end.result ≤ n) h w.if-next-end.false) | else-at-next-via-else-at-next w ↦ inl (subst (λ n. n ≤ c.args.at) h w.if-at-next.false) ])))
 
 pub returns-in_err-from-clause-stops : goal.returns-in_err-from-clause-stops
 returns-in_err-from-clause-stops g c = λ none out sound unprepared.

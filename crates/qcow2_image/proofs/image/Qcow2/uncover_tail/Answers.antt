@@ -25,7 +25,7 @@ loop-at-init g c =
     let view = g.S.Storage.view in
     let below = g.F.BackingDisk.backing in
     record {
-      turns = none_so_far view below c.args.self.now c.begin.new.self c.args.size c.size-end.result c.begin.ensures.stays.image c.begin.ensures.stays.failed (c.size-end.ensures ∙ c.begin.ensures.stays.image.size) c.requires.smaller
+      turns = none_so_far view below c.args.self.now c.begin.new.self c.args.size c.size-end.result c.begin.ensures.begun c.begin.ensures.stays.image c.begin.ensures.stays.failed (c.size-end.ensures ∙ c.begin.ensures.stays.image.size) c.requires.smaller
           (λ out sound. record { keeps = c.begin.ensures.keeps (pending_in view below c.args.self.now out) out sound; list = c.begin.ensures.list })
           (λ out sound. record { rest = c.begin.ensures.rest; used = begun_used view c.args.self.now c.begin.new.self (ap (λ (i : Qcow2 _ _). i.file.header) c.begin.ensures.rest) (c.begin.ensures.known (pending_in view below c.args.self.now out) out sound) });
       faults = c.begin.ensures.faults;
@@ -82,6 +82,7 @@ returns-clause-uncovers g c = λ out sound.
       part.0,
       part.1,
       λ whole before under. elim (so.lowest out sound before under) [ inl begun ↦ let at = begun.0 in let smaller = c.requires.smaller in absurd (omega (arith, at, whole, smaller)) | inr done ↦ done.1 ],
+      record { uncovered = c.loop-at.self; turns = so.turns out sound; rest = inl (let last = so.last in let within = so.within in omega (arith, last, within, c.loop-at-test.false), refl) },
     )
 
 pub returns-clause-stops : goal.returns-clause-stops
