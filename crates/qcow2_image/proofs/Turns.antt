@@ -1,5 +1,5 @@
 -- Calls that go in turns: none, one, and turns after turns.
-use Rattle.std.proofs.Common.{◌≡◌, List, [], ◌∷◌, ◌++◌, refl, subst}
+use Rattle.std.proofs.Common.{List, [], ◌∷◌, ◌++◌, refl, subst}
 use Rattle.qcow2_image.specs.Turns.{AreTurns, GoesInTurns}
 
 -- turns after turns, and turns of another kind

@@ -247,7 +247,7 @@ module _ {S F : Type 0} (view : S → StorageView) (backing : F → BackingView)
     pub turns : EndsInTurns out old uncovered size answer
     pub sized : SetsSizeAlone out size uncovered new
 
-  -- Why the tail is uncovered up to an answer alone, in which turns, and that no cluster is left to be freed where a whole one lay behind the new end.
+  -- Why the tail is uncovered up to an answer alone, and in which turns. Where a whole cluster lay behind the new end, none is left to be freed.
   -- Where the answer is the old size, and one L2 table covers the tail, the tables that this took lie lowest.
   pub record EndsTail (out : List (Option Prepared)) (old new : Qcow2 S F) (size answer : ℕ) : Type 0 where
     pub tables : answer ≡ size_of old → TakesLowestBehind view size old new
