@@ -38,9 +38,10 @@ module _ {S F : Type 0} where
   abbrev pub TellsData : Qcow2 S F → Qcow2 S F → Type 0
   TellsData old new = Rose (data_changes_of old.file.storage) (data_changes_of new.file.storage)
 
-  -- no change of the storage was counted, or a single one, which was told as data
-  abbrev pub TellsDataAlone : Qcow2 S F → Qcow2 S F → Type 0
-  TellsDataAlone old new = (changes_of new.file.storage ≡ changes_of old.file.storage) ⊎ (TellsData old new × (changes_of new.file.storage ≤ changes_of old.file.storage + 1))
+  -- No change of the storage was counted, or a single one, which was told as data. In all one more is told so at most.
+  pub record TellsDataAlone (old new : Qcow2 S F) : Type 0 where
+    pub changes : (changes_of new.file.storage ≡ changes_of old.file.storage) ⊎ (TellsData old new × (changes_of new.file.storage ≤ changes_of old.file.storage + 1))
+    pub told : data_changes_of new.file.storage ≤ data_changes_of old.file.storage + 1
 
 -- what preparing may tell as data: nothing, where it answers an existing mapping
 abbrev pub DataUnlessExisting : Result Prepared ImageError → Type 0
@@ -88,7 +89,7 @@ module _ {S F : Type 0} (view : S → StorageView) (old new : Qcow2 S F) where
     pub kinds : TellsNoData old new
 
 -- There is an image `before`, up to which no write was told as data. From there on the put's bytes are written by a single write, at their place in the mapping.
--- Into a mapping that isn't existing nothing else is written.
+-- So the put tells one change as data at most. Into a mapping that isn't existing nothing else is written.
 pub record TellsPut {S F : Type 0} (view : S → StorageView) (p : Prepared) (at : ℕ) (bytes : List ℕ) (old new : Qcow2 S F) (result : Result (Unit {0}) ImageError) : Type 0 where
   pub before : Qcow2 S F
   pub honest : (view_in view old.file).is_honest → (view_in view before.file).is_honest

@@ -1,5 +1,5 @@
 -- What calls tell as data: a write, parts that tell nothing so, a call that begins, does a part, and is marked, and a put.
-use Rattle.std.proofs.Common.{◌≡◌, ◌⊎◌, ℕ, ◌+◌, ◌≤◌, Bool, true, false, List, [], Option, Some, None, IsSome, Result, Ok, Err, inl, inr, refl, sym, ap, ◌∙◌, subst}
+use Rattle.std.proofs.Common.{◌≡◌, ◌⊎◌, ℕ, ◌+◌, ◌≤◌, Bool, true, false, List, [], Option, Some, None, IsSome, Result, Ok, Err, inl, inr, refl, sym, ap, ◌∙◌, subst, arith}
 use Rattle.image_access.specs.Contents.{overwritten}
 use Rattle.image_access.specs.Moments.{StorageView, Rose}
 use Rattle.image_access.specs.declared.error.StorageError.{StorageError}
@@ -19,7 +19,7 @@ use Rattle.qcow2_image.specs.declared.prepared.Prepared.{Prepared}
 use Rattle.qcow2_image.specs.CallParts.{IsWriteOutcome}
 use Rattle.qcow2_image.specs.Image.{IsBegun, storage_of_image}
 use Rattle.std.specs.Prelude.{IfOk}
-use Rattle.qcow2_image.specs.Noted.{DataUnlessExisting, TellsData, TellsNoData, TellsPut}
+use Rattle.qcow2_image.specs.Noted.{DataUnlessExisting, TellsData, TellsDataAlone, TellsNoData, TellsPut}
 use Rattle.qcow2_image.specs.Prepared.{offset_of, table_of}
 
 module _ {S : Type 0} {view : S → StorageView} where
@@ -38,6 +38,10 @@ module _ {S : Type 0} {view : S → StorageView} where
 pub some_under : (p : Prepared) {table : ℕ} → p.table ≡ Some table → IsSome (table_of p)
 some_under p under = subst (λ (t : Option ℕ). IsSome t) (sym under) refl
 
+-- what stays is one more at most
+none_more : {m n : ℕ} → m ≡ n → m ≤ n + 1
+none_more is = omega (arith, is)
+
 -- a write that the storage was told of before as data
 module _ {S : Type 0} (before mid now : ImageStorage S) (noted : SameNotes before mid) (told : kind_of mid ≡ Data) where
   pub data_told : CountsKind (kind_of mid) (data_changes_of mid) (data_changes_of now) → Rose (data_changes_of before) (data_changes_of now)
@@ -45,13 +49,25 @@ module _ {S : Type 0} (before mid now : ImageStorage S) (noted : SameNotes befor
       let as_data : CountsKind Data (data_changes_of mid) (data_changes_of now) = subst (λ k. CountsKind k (data_changes_of mid) (data_changes_of now)) told counts in
       subst (λ n. Rose n (data_changes_of now)) noted.kinds as_data.2
 
-  one_write : CountsWrite mid now → Rose (data_changes_of before) (data_changes_of now) × (changes_of now ≤ changes_of before + 1)
-  one_write counts = (data_told counts.1, subst (λ n. changes_of now ≤ n + 1) noted.count counts.0.3)
+  one_write : CountsWrite mid now → ((changes_of now ≡ changes_of before) ⊎ (Rose (data_changes_of before) (data_changes_of now) × (changes_of now ≤ changes_of before + 1))) × (data_changes_of now ≤ data_changes_of before + 1)
+  one_write counts =
+      let as_data : CountsKind Data (data_changes_of mid) (data_changes_of now) = subst (λ k. CountsKind k (data_changes_of mid) (data_changes_of now)) told counts.1 in
+      (inr (data_told counts.1, subst (λ n. changes_of now ≤ n + 1) noted.count counts.0.3), subst (λ n. data_changes_of now ≤ n + 1) noted.kinds as_data.3)
 
-  pub data_alone_told : (r : Result (Unit {0}) StorageError) → NotesWrite mid now r → (changes_of now ≡ changes_of before) ⊎ (Rose (data_changes_of before) (data_changes_of now) × (changes_of now ≤ changes_of before + 1))
-  data_alone_told (Ok _) notes = inr (one_write notes)
-  data_alone_told (Err Fault) notes = inr (one_write notes)
-  data_alone_told (Err Memory) notes = inl (notes.count ∙ noted.count)
+  pub data_alone_told : (r : Result (Unit {0}) StorageError) → NotesWrite mid now r
+      → ((changes_of now ≡ changes_of before) ⊎ (Rose (data_changes_of before) (data_changes_of now) × (changes_of now ≤ changes_of before + 1))) × (data_changes_of now ≤ data_changes_of before + 1)
+  data_alone_told (Ok _) notes = one_write notes
+  data_alone_told (Err Fault) notes = one_write notes
+  data_alone_told (Err Memory) notes = (inl (notes.count ∙ noted.count), none_more (notes.kinds ∙ noted.kinds))
+
+module _ {S F : Type 0} {old new : Qcow2 S F} where
+  -- no change at all, and a single write
+  pub none_alone : changes_of new.file.storage ≡ changes_of old.file.storage → data_changes_of new.file.storage ≡ data_changes_of old.file.storage → TellsDataAlone old new
+  none_alone same kinds = record { changes = inl same; told = none_more kinds }
+
+  pub alone_of : ((changes_of new.file.storage ≡ changes_of old.file.storage) ⊎ (TellsData old new × (changes_of new.file.storage ≤ changes_of old.file.storage + 1))) × (data_changes_of new.file.storage ≤ data_changes_of old.file.storage + 1)
+      → TellsDataAlone old new
+  alone_of is = record { changes = is.0; told = is.1 }
 
 module _ {S F : Type 0} where
   -- what makes an image so tells nothing
@@ -113,7 +129,7 @@ module _ {S F : Type 0} (view : S → StorageView) (p : Prepared) (at : ℕ) (by
     honest = honest;
     earlier = none;
     idle = λ some. (ap (λ (i : Qcow2 S F). storage_of_image i) (idle some), ap (λ (i : Qcow2 S F). changes_of i.file.storage) (idle some));
-    alone = inl refl;
+    alone = none_alone refl refl;
     time = λ _. passes_none (view_in view now.file) _;
     written = λ _. outcome_none e _ _;
   }
@@ -128,7 +144,7 @@ module _ {S F : Type 0} (view : S → StorageView) (p : Prepared) (at : ℕ) (by
     honest = λ h. h;
     earlier = refl;
     idle = λ _. (refl, refl);
-    alone = inl refl;
+    alone = none_alone refl refl;
     time = λ _. passes_none (view_in view old.file) _;
     written = λ _. subst (λ (b : List ℕ). (view_in view old.file).contents ≡ overwritten (view_in view old.file).contents (offset_of p + at) b) (sym empty) refl;
   }
@@ -141,7 +157,7 @@ module _ {S F : Type 0} (view : S → StorageView) (p : Prepared) (at : ℕ) (by
         honest = λ h. puts.honest (subst (λ (s : S). (view s).is_honest) (sym begins.storage) h);
         earlier = puts.earlier ∙ begins.kinds;
         idle = λ some. ((puts.idle some).0 ∙ begins.storage, (puts.idle some).1 ∙ begins.counts);
-        alone = puts.alone;
+        alone = alone_of (puts.alone.changes, puts.alone.told);
         time = puts.time;
         written = puts.written;
       })
