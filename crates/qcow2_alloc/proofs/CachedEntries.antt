@@ -9,3 +9,4 @@ pub mod Putting
 pub mod Room
 pub mod Turns
 pub mod Staying
+pub mod Hits

@@ -44,3 +44,4 @@ pub mod KeptNotes
 pub mod MetFaults
 pub mod KeptMarks
 pub mod QuietSearches
+pub mod HeldRanges

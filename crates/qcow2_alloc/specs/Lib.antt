@@ -41,3 +41,4 @@ pub mod MetFaults
 pub mod WriteKinds
 pub mod HeaderClusters
 pub mod SparedHeaders
+pub mod HeldRanges

@@ -1,7 +1,7 @@
 //! Taking clusters of the image's file.
 ghost use Rattle.std.specs.Prelude.{◌≡◌, ◌≢◌, max, ℕ, false, ◌+◌, ◌*◌, ◌/◌, ◌^◌, ◌<◌, ◌≤◌, ◌⊎◌, Bool, IsNone, IfOk, IfErr, OnOk, IsErrOf, IsErrAnd, IsSome, IsTrue, MatchResult};
 ghost use Rattle.image_access.specs.Moments.{ContentsStay, EachMomentSince};
-ghost use Rattle.qcow2_laws.specs.Clusters.{L2DependsOnRb};
+ghost use Rattle.qcow2_laws.specs.Clusters.{L2DependsOnRb, RbDependsOnL2};
 ghost use Rattle.qcow2_laws.specs.CrashInvariant.{Pending};
 ghost use Rattle.qcow2_alloc.specs.Allocation.{MayTake, HasAlignedBlock, AvoidsUnaligned, IsUnaligned, LacksFirst, LacksBlock, TakesCluster, TakesRun, TakesSomeRun, is_data, Allocates, AllocatesAt, SameLeaks};
 ghost use Rattle.qcow2_alloc.specs.FreeList.{pending_then, run_of, ListsTables, ListsReftables};
@@ -13,6 +13,7 @@ ghost use Rattle.qcow2_alloc.specs.CachePins.{KeepsPinsAndNotes};
 ghost use Rattle.qcow2_alloc.specs.Faults.{CountsFaults};
 ghost use Rattle.qcow2_alloc.specs.SparedHeaders.{AreBehindHeader, NamesReftableBehind, StandsBehindHeader, SparesHeaderButPointer};
 ghost use Rattle.qcow2_alloc.specs.QuietSearches.{CountsOrMakes, CountsRunOrMakes, SearchesQuietly};
+ghost use Rattle.qcow2_alloc.specs.HeldRanges.{range_end, StaysHeld, SearchesHeld};
 ghost use Rattle.qcow2_alloc.specs.Limits.{IsFaultOr, IsOfTaking, EndsAtFirst, IsOfSearch, HasNoPlace, CantCount, CantCountRun, nameable_clusters};
 ghost use Rattle.qcow2_alloc.specs.SoundAllocators.{SoundAllocator};
 ghost use Rattle.qcow2_alloc.specs.LowestRuns.{NoFreeBelowHint, IsLowestRun, IsUsed, KeepsNoFreeBelowHint, KeepsUsed, StaysUsed};
@@ -117,6 +118,7 @@ impl Allocator {
         ensures uses { (p : Pending) → AllocatorInvariant S.view self.old p file.old → OnOk result (StaysUsed S.view file.old file.new) }
         ensures hint { (p : Pending) → SoundAllocator S.view self.old p file.old → KeepsNoFreeBelowHint S.view self.new file.new result }
         ensures quiet { count ≤ 1 → OnOk result (SearchesQuietly S.view file.old file.new self.old.reftable self.new.reftable) }
+        ensures held_range { SearchesHeld (λ run. run.first_cluster) self.old.reftable file.old self.new.reftable file.new (max self.old.first_free_cluster 1) count result }
         ensures header_cluster { SparesHeaderButPointer S.view self.old.reftable file.old self.new.reftable file.new }
     {
         self.allocate(file, count, ClusterKind::Metadata)
@@ -151,6 +153,7 @@ impl Allocator {
         ensures uses { (p : Pending) → AllocatorInvariant S.view self.old p file.old → OnOk result (StaysUsed S.view file.old file.new) }
         ensures hint { (p : Pending) → SoundAllocator S.view self.old p file.old → KeepsNoFreeBelowHint S.view self.new file.new result }
         ensures quiet { count ≤ 1 → OnOk result (SearchesQuietly S.view file.old file.new self.old.reftable self.new.reftable) }
+        ensures held_range { order_of file.old.caches ≢ RbDependsOnL2 → SearchesHeld (λ run. run.first_cluster) self.old.reftable file.old self.new.reftable file.new (max self.old.first_free_cluster 1) count result }
         ensures header_cluster { SparesHeaderButPointer S.view self.old.reftable file.old self.new.reftable file.new }
     {
         file.caches.l2_depends_on_rb(&mut file.storage)?;
@@ -190,6 +193,7 @@ impl Allocator {
         ensures uses { (p : Pending) → AllocatorInvariant S.view self.old p file.old → OnOk result (StaysUsed S.view file.old file.new) }
         ensures hint { (p : Pending) → SoundAllocator S.view self.old p file.old → KeepsNoFreeBelowHint S.view self.new file.new result }
         ensures quiet { OnOk result (SearchesQuietly S.view file.old file.new self.old.reftable self.new.reftable) }
+        ensures held_range { order_of file.old.caches ≢ RbDependsOnL2 → StaysHeld self.old.reftable file.old self.new.reftable file.new (cluster / counts_per_block file.old.header.fields) }
         ensures header_cluster { SparesHeaderButPointer S.view self.old.reftable file.old self.new.reftable file.new }
     {
         file.caches.l2_depends_on_rb(&mut file.storage)?;
@@ -243,6 +247,7 @@ impl Allocator {
         ensures uses { (p : Pending) → AllocatorInvariant S.view self.old p file.old → MayTake (is_data kind) file.old → OnOk result (StaysUsed S.view file.old file.new) }
         ensures hint { (p : Pending) → AllocatorInvariant S.view self.old p file.old → MayTake (is_data kind) file.old → NoFreeBelowHint S.view self.old file.old → KeepsNoFreeBelowHint S.view self.new file.new result }
         ensures quiet { count ≤ 1 → OnOk result (SearchesQuietly S.view file.old file.new self.old.reftable self.new.reftable) }
+        ensures held_range { SearchesHeld (λ run. run.first_cluster) self.old.reftable file.old self.new.reftable file.new (max self.old.first_free_cluster 1) count result }
         ensures header_cluster { SparesHeaderButPointer S.view self.old.reftable file.old self.new.reftable file.new }
     {
         let entry = ClustersToFreeEntry {
@@ -283,6 +288,7 @@ impl Allocator {
         ensures uses { (p : Pending) (is_data : Bool) → AllocatorInvariant S.view self.old p file.old → MayTake is_data file.old → OnOk result (StaysUsed S.view file.old file.new) }
         ensures hint { (p : Pending) (is_data : Bool) → AllocatorInvariant S.view self.old p file.old → MayTake is_data file.old → NoFreeBelowHint S.view self.old file.old → KeepsNoFreeBelowHint S.view self.new file.new result }
         ensures quiet { n ≤ 1 → OnOk result (SearchesQuietly S.view file.old file.new self.old.reftable self.new.reftable) }
+        ensures held_range { SearchesHeld (λ first. first) self.old.reftable file.old self.new.reftable file.new (max self.old.first_free_cluster 1) n result }
         ensures header_cluster { SparesHeaderButPointer S.view self.old.reftable file.old self.new.reftable file.new }
     {
         let limit = (MAX_HOST_OFFSET >> file.header.cluster_bits()) + 1;
@@ -324,6 +330,8 @@ impl Allocator {
         ensures hint { (p : Pending) (is_data : Bool) → AllocatorInvariant S.view self.old p file.old → MayTake is_data file.old → NoFreeBelowHint S.view self.old file.old → KeepsNoFreeBelowHint S.view self.new file.new result }
         ensures uses { (p : Pending) (is_data : Bool) → AllocatorInvariant S.view self.old p file.old → MayTake is_data file.old → KeepsUsed S.view file.old file.new result }
         ensures quiet { n ≤ 1 → IfOk result (CountsRunOrMakes S.view file.old file.new self.old.reftable self.new.reftable n) }
+        ensures held_range { first + n ≤ range_end file.old.header.fields first → StaysHeld self.old.reftable file.old self.new.reftable file.new (first / counts_per_block file.old.header.fields) }
+        ensures held_used { IfOk result (λ taken. taken ≢ n → first + taken < range_end file.old.header.fields first → StaysHeld self.old.reftable file.old self.new.reftable file.new (first / counts_per_block file.old.header.fields)) }
         ensures header_cluster { SparesHeaderButPointer S.view self.old.reftable file.old self.new.reftable file.new }
     {
         'taking: for taken in 0..n {
@@ -371,6 +379,7 @@ impl Allocator {
         ensures uses { (p : Pending) (is_data : Bool) → AllocatorInvariant S.view self.old p file.old → MayTake is_data file.old → KeepsUsed S.view file.old file.new result }
         ensures free { (p : Pending) → AllocatorInvariant S.view self.old p file.old → IfOk result (λ taken. IsTrue taken → ¬ IsUsed S.view file.old cluster) }
         ensures quiet { IfOk result (CountsOrMakes S.view file.old file.new self.old.reftable self.new.reftable) }
+        ensures held_range { StaysHeld self.old.reftable file.old self.new.reftable file.new (cluster / counts_per_block file.old.header.fields) }
         ensures header_cluster { SparesHeaderButPointer S.view self.old.reftable file.old self.new.reftable file.new }
     {
         self.reach_block(file, cluster)?;

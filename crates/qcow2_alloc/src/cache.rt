@@ -154,6 +154,7 @@ impl<S: Storage> MetadataCaches<S> {
         ensures ordered { WritesInOrder S.view storage.old self.old storage.new }
         ensures blocks { self.new.rb ≡ self.old.rb }
         ensures quiet { BlocksMayGo (order_of self.old) (l2_tables self.old) → WritesNothing S.view storage.old storage.new }
+        ensures same { order_of self.old ≢ RbDependsOnL2 → storage.new ≡ storage.old }
         ensures all_written { KeepAllWritten S.view storage.old self.old storage.new self.new }
         ensures header_cluster { CachesSpareHeader S.view storage.old self.old storage.new self.new }
     {
@@ -353,6 +354,7 @@ impl<S: Storage> MetadataCaches<S> {
         ensures apart { KeepsKnownApart S.view storage.old self.old storage.new self.new }
         ensures ordered { WritesInOrder S.view storage.old self.old storage.new }
         ensures quiet { GetsBlockQuietly self.old cluster → WritesNothing S.view storage.old storage.new }
+        ensures held { IsSome (rb_at self.old cluster) → IsSome (rb_at self.new cluster) × (storage.new ≡ storage.old) }
         ensures blocks_stay { OtherBlocksStay self.old self.new cluster }
         ensures tables_stay { order_of self.old ≢ RbDependsOnL2 → self.new.l2 ≡ self.old.l2 }
         ensures all_written { KeepAllWritten S.view storage.old self.old storage.new self.new }

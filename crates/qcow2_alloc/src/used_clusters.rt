@@ -2,7 +2,7 @@
 ghost use Rattle.std.specs.Prelude.{◌≡◌, ◌+◌, ◌/◌, ◌^◌, ◌<◌, ◌≤◌, IfOk, IfErr, IsErrOf};
 ghost use Rattle.qcow2_laws.specs.CrashInvariant.{Pending};
 ghost use Rattle.qcow2_metadata.specs.Header.{counts_per_block};
-ghost use Rattle.qcow2_alloc.specs.Allocation.{IsUnaligned};
+ghost use Rattle.qcow2_alloc.specs.Allocation.{IsUnaligned, HasNone};
 ghost use Rattle.qcow2_alloc.specs.KeptMarks.{KeepsMarks};
 ghost use Rattle.qcow2_alloc.specs.Faults.{CountsFaults};
 ghost use Rattle.qcow2_alloc.specs.SparedHeaders.{SparesHeader};
@@ -10,6 +10,7 @@ ghost use Rattle.qcow2_alloc.specs.ImageError.{IsOfTables};
 ghost use Rattle.qcow2_alloc.specs.ImageFile.{AllocatorInvariant};
 ghost use Rattle.qcow2_alloc.specs.LowestRuns.{NoFreeBelowHint, KeepsNoFreeBelowHint};
 ghost use Rattle.qcow2_alloc.specs.QuietSearches.{LooksQuietly};
+ghost use Rattle.qcow2_alloc.specs.HeldRanges.{StaysHeld};
 ghost use Rattle.qcow2_alloc.specs.UsedCounts.{passed_hint, PassesUsed, GoesFar};
 
 use crate::{Allocator, ImageError, ImageFile};
@@ -35,7 +36,9 @@ impl Allocator {
         ensures far { IfOk result (GoesFar file.old.header.fields self.old.reftable file.new.caches cluster) }
         ensures hint { (p : Pending) → AllocatorInvariant S.view self.old p file.old → NoFreeBelowHint S.view self.old file.old → KeepsNoFreeBelowHint S.view self.new file.new result }
         ensures unaligned { IsUnaligned file.old.header.fields self.old.reftable (cluster / counts_per_block file.old.header.fields) → IsErrOf result ImageError.UnalignedTable × (file.new ≡ file.old) }
+        ensures none { HasNone self.old.reftable (cluster / counts_per_block file.old.header.fields) → file.new ≡ file.old }
         ensures quiet { LooksQuietly S.view file.old file.new }
+        ensures held_range { StaysHeld self.old.reftable file.old self.new.reftable file.new (cluster / counts_per_block file.old.header.fields) }
         ensures header_cluster { SparesHeader S.view self.old.reftable file.old self.new.reftable file.new }
     {
         let next = self.behind_used(file, cluster)?;
@@ -61,7 +64,9 @@ impl Allocator {
         ensures behind { IfOk result (λ next. cluster ≤ next) }
         ensures far { IfOk result (GoesFar file.old.header.fields self.now.reftable file.new.caches cluster) }
         ensures unaligned { IsUnaligned file.old.header.fields self.now.reftable (cluster / counts_per_block file.old.header.fields) → IsErrOf result ImageError.UnalignedTable × (file.new ≡ file.old) }
+        ensures none { HasNone self.now.reftable (cluster / counts_per_block file.old.header.fields) → file.new ≡ file.old }
         ensures quiet { LooksQuietly S.view file.old file.new }
+        ensures held_range { StaysHeld self.now.reftable file.old self.now.reftable file.new (cluster / counts_per_block file.old.header.fields) }
         ensures header_cluster { SparesHeader S.view self.now.reftable file.old self.now.reftable file.new }
     {
         let bits = file.header.rb_bits();

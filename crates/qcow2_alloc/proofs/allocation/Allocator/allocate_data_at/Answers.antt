@@ -29,6 +29,7 @@ use Rattle.qcow2_alloc.specs.MadeClusters.{run_in, IsMadeOnTheWay, TakesAlone}
 use Rattle.qcow2_alloc.proofs.TurnedCaches.{turned}
 use Rattle.qcow2_alloc.specs.TurnedCaches.{IsOfTurning, TurnsAlone}
 use Rattle.qcow2_alloc.proofs.QuietSearches.{count_after}
+use Rattle.qcow2_alloc.proofs.HeldRanges.{held_at, held_then, held_turned}
 use Rattle.qcow2_alloc.proofs.allocation.Allocator.allocate_data_at.Goals as goal
 
 pub returns-in_err-l2_depends_on_rb-clause-sound : goal.returns-in_err-l2_depends_on_rb-clause-sound
@@ -622,3 +623,25 @@ returns-in-Ok-true-clause-quiet g c = count_after g.S.Storage.view c.args.file.n
 
 pub returns-in-Ok-false-clause-quiet : goal.returns-in-Ok-false-clause-quiet
 returns-in-Ok-false-clause-quiet g c = count_after g.S.Storage.view c.args.file.now (record c.args.file.now { storage = c.l2_depends_on_rb.new.storage; caches = c.l2_depends_on_rb.new.self }) c.take.new.file c.args.self.now.reftable c.take.new.self.reftable false c.l2_depends_on_rb.ensures.all_written (rw c.in-Ok-false.field-0-test at c.in-Ok-false.ensures.quiet)
+
+-- ---- the range's refblock stays held, where no L2 table has to be written before
+pub returns-in_err-l2_depends_on_rb-clause-held_range : goal.returns-in_err-l2_depends_on_rb-clause-held_range
+returns-in_err-l2_depends_on_rb-clause-held_range g c = λ other. absurd (other c.in_err-l2_depends_on_rb.ensures.turned)
+
+pub returns-then-at-eq0-clause-held_range : goal.returns-then-at-eq0-clause-held_range
+returns-then-at-eq0-clause-held_range g c = λ other. held_turned c.args.self.now.reftable c.args.file.now c.l2_depends_on_rb.new.storage c.l2_depends_on_rb.new.self (c.args.cluster / counts_per_block c.args.file.now.header.fields) (c.l2_depends_on_rb.ensures.same other) c.l2_depends_on_rb.ensures.blocks
+
+pub returns-then-not-is_nameable-clause-held_range : goal.returns-then-not-is_nameable-clause-held_range
+returns-then-not-is_nameable-clause-held_range g c = λ other. held_turned c.args.self.now.reftable c.args.file.now c.l2_depends_on_rb.new.storage c.l2_depends_on_rb.new.self (c.args.cluster / counts_per_block c.args.file.now.header.fields) (c.l2_depends_on_rb.ensures.same other) c.l2_depends_on_rb.ensures.blocks
+
+pub returns-in_default-clause-held_range : goal.returns-in_default-clause-held_range
+returns-in_default-clause-held_range g c = λ other. held_turned c.args.self.now.reftable c.args.file.now c.l2_depends_on_rb.new.storage c.l2_depends_on_rb.new.self (c.args.cluster / counts_per_block c.args.file.now.header.fields) (c.l2_depends_on_rb.ensures.same other) c.l2_depends_on_rb.ensures.blocks
+
+pub returns-in-Ok-true-clause-held_range : goal.returns-in-Ok-true-clause-held_range
+returns-in-Ok-true-clause-held_range g c = λ other. held_then (held_turned c.args.self.now.reftable c.args.file.now c.l2_depends_on_rb.new.storage c.l2_depends_on_rb.new.self (c.args.cluster / counts_per_block c.args.file.now.header.fields) (c.l2_depends_on_rb.ensures.same other) c.l2_depends_on_rb.ensures.blocks) (held_at (ap (λ n. n / counts_per_block c.args.file.now.header.fields) (sym c.value.ensures)) c.take.ensures.held_range)
+
+pub returns-in-Ok-false-clause-held_range : goal.returns-in-Ok-false-clause-held_range
+returns-in-Ok-false-clause-held_range g c = λ other. held_then (held_turned c.args.self.now.reftable c.args.file.now c.l2_depends_on_rb.new.storage c.l2_depends_on_rb.new.self (c.args.cluster / counts_per_block c.args.file.now.header.fields) (c.l2_depends_on_rb.ensures.same other) c.l2_depends_on_rb.ensures.blocks) (held_at (ap (λ n. n / counts_per_block c.args.file.now.header.fields) (sym c.value.ensures)) c.take.ensures.held_range)
+
+pub returns-in-Err-clause-held_range : goal.returns-in-Err-clause-held_range
+returns-in-Err-clause-held_range g c = λ other. held_then (held_turned c.args.self.now.reftable c.args.file.now c.l2_depends_on_rb.new.storage c.l2_depends_on_rb.new.self (c.args.cluster / counts_per_block c.args.file.now.header.fields) (c.l2_depends_on_rb.ensures.same other) c.l2_depends_on_rb.ensures.blocks) (held_at (ap (λ n. n / counts_per_block c.args.file.now.header.fields) (sym c.value.ensures)) c.take.ensures.held_range)

@@ -34,3 +34,6 @@ returns-clause-aligned g c = c.allocate.ensures.aligned
 
 pub returns-clause-quiet : goal.returns-clause-quiet
 returns-clause-quiet g c = c.allocate.ensures.quiet
+
+pub returns-clause-held_range : goal.returns-clause-held_range
+returns-clause-held_range g c = c.allocate.ensures.held_range

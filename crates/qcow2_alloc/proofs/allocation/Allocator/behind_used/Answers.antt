@@ -17,6 +17,7 @@ use Rattle.qcow2_alloc.proofs.CachedEntries.Putting.{some_of}
 use Rattle.qcow2_alloc.proofs.Outcomes.{handed_unaligned, if_no_ok, ok_no_err}
 use Rattle.qcow2_alloc.specs.declared.error.ImageError.TheVariants as I
 use Rattle.qcow2_alloc.proofs.AlignedBlocks.{unaligned_as}
+use Rattle.qcow2_alloc.proofs.HeldRanges.{held_at}
 use Rattle.qcow2_alloc.proofs.allocation.Allocator.behind_used.Goals as goal
 
 -- a cluster behind another one in its range
@@ -138,3 +139,23 @@ returns-in_default-clause-quiet g c = c.load_block.ensures.quiet
 
 pub returns-clause-quiet : goal.returns-clause-quiet
 returns-clause-quiet g c = rw c.rb_used_from-used.ensures.same c.load_block.ensures.quiet
+
+-- ---- the range's refblock stays held
+pub returns-in_err-block-clause-held_range : goal.returns-in_err-block-clause-held_range
+returns-in_err-block-clause-held_range g c = held_at (ap (λ n. c.args.cluster / n) c.rb_bits-bits.ensures.counts) c.load_block.ensures.held_range
+
+pub returns-in_default-clause-held_range : goal.returns-in_default-clause-held_range
+returns-in_default-clause-held_range g c = held_at (ap (λ n. c.args.cluster / n) c.rb_bits-bits.ensures.counts) c.load_block.ensures.held_range
+
+pub returns-clause-held_range : goal.returns-clause-held_range
+returns-clause-held_range g c = rw c.rb_used_from-used.ensures.same (held_at (ap (λ n. c.args.cluster / n) c.rb_bits-bits.ensures.counts) c.load_block.ensures.held_range)
+
+-- ---- without a refblock nothing changes
+pub returns-in_err-block-clause-none : goal.returns-in_err-block-clause-none
+returns-in_err-block-clause-none g c = λ none. (c.in_err-block.ensures.none (subst (λ n. HasNone c.args.self.now.reftable (c.args.cluster / n)) c.rb_bits-bits.ensures.counts none)).1
+
+pub returns-in_default-clause-none : goal.returns-in_default-clause-none
+returns-in_default-clause-none g c = λ none. (c.in_ok-block.ensures.none (subst (λ n. HasNone c.args.self.now.reftable (c.args.cluster / n)) c.rb_bits-bits.ensures.counts none)).1
+
+pub returns-clause-none : goal.returns-clause-none
+returns-clause-none g c = λ none. rw c.rb_used_from-used.ensures.same (c.in_ok-block.ensures.none (subst (λ n. HasNone c.args.self.now.reftable (c.args.cluster / n)) c.rb_bits-bits.ensures.counts none)).1

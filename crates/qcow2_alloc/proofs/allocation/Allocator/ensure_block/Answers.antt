@@ -22,6 +22,7 @@ use Rattle.qcow2_metadata.specs.L2Mapping.{IsHostCluster}
 use Rattle.qcow2_alloc.proofs.SparedHeaders.{spares_then}
 use Rattle.qcow2_alloc.proofs.KeptMarks.{kept_marks_then}
 use Rattle.std.specs.Option.{is_some}
+use Rattle.qcow2_alloc.proofs.HeldRanges.{held_at, held_not}
 use Rattle.qcow2_alloc.proofs.allocation.Allocator.ensure_block.Goals as goal
 
 is_unaligned : (h : HeaderFields) (t : EntryTableView) (cluster counts n : ℕ) → n ≡ counts → IsUnaligned h t (cluster / n) → IsUnaligned h t (cluster / counts)
@@ -477,3 +478,25 @@ returns-in-Ok-None-clause-quiet g c = ok_as _ _ c.cover_range.result (λ has. in
 
 pub returns-else-is_fault-clause-quiet : goal.returns-else-is_fault-clause-quiet
 returns-else-is_fault-clause-quiet g c = ok_as _ _ c.cover_range-in-Err.result (λ has. inr (inl (c.args.cluster / 2 ^ c.rb_bits-bits.result, none_named c.args.file.now.header.fields c.args.self.now.reftable (c.args.cluster / 2 ^ c.rb_bits-bits.result) c.in_ok-load_block.field-0 (sym c.is_some.ensures ∙ c.if-is_some.false) c.in_ok-load_block.ensures.names, has))) c.cover_range-in-Err.ensures.has
+
+-- ---- the range's refblock stays held
+pub returns-in_err-load_block-clause-held_range : goal.returns-in_err-load_block-clause-held_range
+returns-in_err-load_block-clause-held_range g c = held_at (ap (λ n. c.args.cluster / n) c.rb_bits-bits.ensures.counts) c.load_block.ensures.held_range
+
+pub returns-then-is_some-clause-held_range : goal.returns-then-is_some-clause-held_range
+returns-then-is_some-clause-held_range g c = held_at (ap (λ n. c.args.cluster / n) c.rb_bits-bits.ensures.counts) c.load_block.ensures.held_range
+
+pub returns-then-not-can_name-clause-held_range : goal.returns-then-not-can_name-clause-held_range
+returns-then-not-can_name-clause-held_range g c = held_not (subst (λ n. HasNone c.args.self.now.reftable (c.args.cluster / n)) (sym c.rb_bits-bits.ensures.counts) (none_named c.args.file.now.header.fields c.args.self.now.reftable (c.args.cluster / 2 ^ c.rb_bits-bits.result) c.in_ok-load_block.field-0 (sym c.is_some.ensures ∙ c.if-is_some.false) c.in_ok-load_block.ensures.names))
+
+pub returns-in-Ok-Some-clause-held_range : goal.returns-in-Ok-Some-clause-held_range
+returns-in-Ok-Some-clause-held_range g c = held_not (subst (λ n. HasNone c.args.self.now.reftable (c.args.cluster / n)) (sym c.rb_bits-bits.ensures.counts) (none_named c.args.file.now.header.fields c.args.self.now.reftable (c.args.cluster / 2 ^ c.rb_bits-bits.result) c.in_ok-load_block.field-0 (sym c.is_some.ensures ∙ c.if-is_some.false) c.in_ok-load_block.ensures.names))
+
+pub returns-in-Ok-None-clause-held_range : goal.returns-in-Ok-None-clause-held_range
+returns-in-Ok-None-clause-held_range g c = held_not (subst (λ n. HasNone c.args.self.now.reftable (c.args.cluster / n)) (sym c.rb_bits-bits.ensures.counts) (none_named c.args.file.now.header.fields c.args.self.now.reftable (c.args.cluster / 2 ^ c.rb_bits-bits.result) c.in_ok-load_block.field-0 (sym c.is_some.ensures ∙ c.if-is_some.false) c.in_ok-load_block.ensures.names))
+
+pub returns-then-is_fault-clause-held_range : goal.returns-then-is_fault-clause-held_range
+returns-then-is_fault-clause-held_range g c = held_not (subst (λ n. HasNone c.args.self.now.reftable (c.args.cluster / n)) (sym c.rb_bits-bits.ensures.counts) (none_named c.args.file.now.header.fields c.args.self.now.reftable (c.args.cluster / 2 ^ c.rb_bits-bits.result) c.in_ok-load_block.field-0 (sym c.is_some.ensures ∙ c.if-is_some.false) c.in_ok-load_block.ensures.names))
+
+pub returns-else-is_fault-clause-held_range : goal.returns-else-is_fault-clause-held_range
+returns-else-is_fault-clause-held_range g c = held_not (subst (λ n. HasNone c.args.self.now.reftable (c.args.cluster / n)) (sym c.rb_bits-bits.ensures.counts) (none_named c.args.file.now.header.fields c.args.self.now.reftable (c.args.cluster / 2 ^ c.rb_bits-bits.result) c.in_ok-load_block.field-0 (sym c.is_some.ensures ∙ c.if-is_some.false) c.in_ok-load_block.ensures.names))

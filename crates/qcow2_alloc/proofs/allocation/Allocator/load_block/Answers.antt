@@ -1,4 +1,4 @@
-use Rattle.std.proofs.Common.{◌≡◌, ◌*◌, ◌%◌, ℕ, refl, inl, subst, ◌∙◌, ◌^◌}
+use Rattle.std.proofs.Common.{◌≡◌, ◌*◌, ◌%◌, ℕ, refl, sym, ap, inl, subst, ◌∙◌, ◌^◌}
 use Rattle.qcow2_alloc.specs.Allocation.{LoadsBlock}
 use Rattle.qcow2_alloc.proofs.KeptTables.Getting.{cluster_aligned}
 use Rattle.qcow2_alloc.proofs.FileSteps.{file_step_cached, reftable_cached}
@@ -6,6 +6,7 @@ use Rattle.qcow2_alloc.proofs.AllocationSteps.{handed_on, place_fits, stands}
 use Rattle.qcow2_alloc.proofs.SparedHeaders.{spares_cached, not_first}
 use Rattle.qcow2_alloc.proofs.KeptMarks.{marks_of_both}
 use Rattle.qcow2_alloc.proofs.AlignedBlocks.{not_off}
+use Rattle.qcow2_alloc.proofs.HeldRanges.{held_none, held_loaded}
 use Rattle.qcow2_alloc.proofs.allocation.Allocator.load_block.Goals as goal
 
 pub returns-in_err-rb_get_or_insert-clause-sound : goal.returns-in_err-rb_get_or_insert-clause-sound
@@ -53,3 +54,17 @@ returns-in_err-rb_get_or_insert-clause-quiet g c = c.rb_get_or_insert.ensures.al
 
 pub returns-clause-quiet : goal.returns-clause-quiet
 returns-clause-quiet g c = c.rb_get_or_insert.ensures.all_written
+
+pub returns-in_default-clause-held_range : goal.returns-in_default-clause-held_range
+returns-in_default-clause-held_range g c = held_none
+
+pub returns-in_default-checked_cluster-clause-held_range : goal.returns-in_default-checked_cluster-clause-held_range
+returns-in_default-checked_cluster-clause-held_range g c = held_none
+
+pub returns-in_err-rb_get_or_insert-clause-held_range : goal.returns-in_err-rb_get_or_insert-clause-held_range
+returns-in_err-rb_get_or_insert-clause-held_range g c = held_loaded c.args.self.now.reftable c.args.file.now c.rb_get_or_insert.new.storage c.rb_get_or_insert.new.self c.args.range c.in-Some-checked_cluster.cluster
+    (ap (λ b. c.in-Some-checked_cluster.cluster * 2 ^ b) (sym c.cluster_bits.ensures.value) ∙ c.in-Some-checked_cluster.ensures.cluster ∙ c.in-Some.ensures.offset) c.rb_get_or_insert.ensures.held
+
+pub returns-clause-held_range : goal.returns-clause-held_range
+returns-clause-held_range g c = held_loaded c.args.self.now.reftable c.args.file.now c.rb_get_or_insert.new.storage c.rb_get_or_insert.new.self c.args.range c.in-Some-checked_cluster.cluster
+    (ap (λ b. c.in-Some-checked_cluster.cluster * 2 ^ b) (sym c.cluster_bits.ensures.value) ∙ c.in-Some-checked_cluster.ensures.cluster ∙ c.in-Some.ensures.offset) c.rb_get_or_insert.ensures.held

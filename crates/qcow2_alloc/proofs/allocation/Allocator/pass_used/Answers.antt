@@ -8,6 +8,7 @@ use Rattle.qcow2_alloc.proofs.allocation.Allocator.pass_used.Goals.{then-cluster
 use Rattle.qcow2_alloc.proofs.SparedHeaders.{spares_as}
 use Rattle.qcow2_alloc.proofs.Outcomes.{handed_unaligned, if_no_ok, ok_no_err}
 use Rattle.qcow2_alloc.specs.declared.error.ImageError.TheVariants as I
+use Rattle.qcow2_alloc.proofs.HeldRanges.{held_as}
 use Rattle.qcow2_alloc.proofs.allocation.Allocator.pass_used.Goals as goal
 
 pub returns-in_err-next-clause-sound : goal.returns-in_err-next-clause-sound
@@ -65,3 +66,21 @@ returns-in_err-next-clause-quiet g c = c.behind_used.ensures.quiet
 
 pub returns-clause-quiet : goal.returns-clause-quiet
 returns-clause-quiet g c = c.behind_used.ensures.quiet
+
+-- ---- the range's refblock stays held
+pub returns-in_err-next-clause-held_range : goal.returns-in_err-next-clause-held_range
+returns-in_err-next-clause-held_range g c = c.behind_used.ensures.held_range
+
+pub returns-clause-held_range : goal.returns-clause-held_range
+returns-clause-held_range g c = 
+    let same : c.if-cluster-self.self.reftable ≡ c.args.self.now.reftable = elim c.if-cluster-self.branch [
+      | then-cluster-self w ↦ ap (λ (t : Allocator). t.reftable) w.self-is
+      | else-cluster-self w ↦ ap (λ (t : Allocator). t.reftable) w.self-is
+    ] in
+    held_as same c.behind_used.ensures.held_range
+
+pub returns-in_err-next-clause-none : goal.returns-in_err-next-clause-none
+returns-in_err-next-clause-none g c = c.behind_used.ensures.none
+
+pub returns-clause-none : goal.returns-clause-none
+returns-clause-none g c = c.behind_used.ensures.none

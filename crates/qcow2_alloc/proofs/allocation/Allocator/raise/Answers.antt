@@ -19,6 +19,7 @@ use Rattle.qcow2_alloc.proofs.SparedHeaders.{spares_then, spares_tables}
 use Rattle.qcow2_alloc.specs.SparedHeaders.{SparesHeader}
 use Rattle.qcow2_alloc.specs.declared.image_file.ImageFile.{ImageFile}
 use Rattle.qcow2_alloc.proofs.QuietSearches.{counts_held}
+use Rattle.qcow2_alloc.proofs.HeldRanges.{held_at, held_by, held_then, held_changed, more_held}
 use Rattle.qcow2_alloc.specs.QuietSearches.{CountsQuietly}
 use Rattle.qcow2_alloc.proofs.allocation.Allocator.raise.Goals as goal
 
@@ -145,3 +146,18 @@ returns-clause-quiet g c = elim c.if-rb_is_zero.branch [
       (counts_held g.S.Storage.view c.args.file.now c.load_block.new.file w.rb_increment.new.self w.rb_increment.result w.rb_increment.ensures.refused c.load_block.ensures.quiet)
   | else-rb_is_zero w ↦ of_equal (λ (f : ImageFile g.row.S.Denot) r. CountsQuietly g.S.Storage.view c.args.file.now f r) c.if-rb_is_zero.file c.load_block.new.file c.if-rb_is_zero.result false w.file-is (w.result-is ∙ w.if-rb_is_zero.false) c.load_block.ensures.quiet
 ]
+
+-- ---- the range's refblock stays held
+pub returns-in_err-block-clause-held_range : goal.returns-in_err-block-clause-held_range
+returns-in_err-block-clause-held_range g c = held_at (ap (λ n. c.args.cluster / n) c.rb_bits-bits.ensures.counts) c.load_block.ensures.held_range
+
+pub returns-in_default-clause-held_range : goal.returns-in_default-clause-held_range
+returns-in_default-clause-held_range g c = held_at (ap (λ n. c.args.cluster / n) c.rb_bits-bits.ensures.counts) c.load_block.ensures.held_range
+
+pub returns-clause-held_range : goal.returns-clause-held_range
+returns-clause-held_range g c = held_at (ap (λ n. c.args.cluster / n) c.rb_bits-bits.ensures.counts) (elim c.if-rb_is_zero.branch [
+  | then-rb_is_zero w ↦
+      held_by w.file-is (held_then c.load_block.ensures.held_range (held_changed c.args.self.now.reftable c.load_block.new.file w.rb_increment.new.self (c.args.cluster / 2 ^ c.rb_bits-bits.result)
+      (more_held c.load_block.new.file.caches w.rb_increment.new.self c.in-Some.block c.rb_index-index.result w.rb_increment.result w.rb_increment.ensures.counts w.rb_increment.ensures.missing w.rb_increment.ensures.refused)))
+  | else-rb_is_zero w ↦ held_by w.file-is c.load_block.ensures.held_range
+])

@@ -20,6 +20,7 @@ use Rattle.qcow2_alloc.proofs.SparedHeaders.{spares_then, spares_less}
 use Rattle.qcow2_alloc.proofs.KeptMarks.{kept_marks_then}
 use Rattle.std.proofs.Math.Nat.{div-eq_of_lt}
 use Rattle.qcow2_alloc.proofs.MadeClusters.{lists_used_none, lists_used_one, lists_used_still}
+use Rattle.qcow2_alloc.proofs.HeldRanges.{held_past}
 use Rattle.qcow2_alloc.proofs.allocation.Allocator.reach_block.Goals as goal
 
 pub returns-then-in_bounds-clause-sound : goal.returns-then-in_bounds-clause-sound
@@ -230,3 +231,13 @@ returns-clause-quiet g c =
     let within = c.in_ok-grow_reftable.ensures.length.enough.above in
     let count = c.ensure_block-2.ensures.named.count in
     ok_as _ _ c.ensure_block-2.result (λ has. inr (inr (omega (arith, past, within, count)))) c.ensure_block-2.ensures.has
+
+-- ---- the range's refblock stays held
+pub returns-then-in_bounds-clause-held_range : goal.returns-then-in_bounds-clause-held_range
+returns-then-in_bounds-clause-held_range g c = c.ensure_block.ensures.held_range
+
+pub returns-in_err-grow_reftable-clause-held_range : goal.returns-in_err-grow_reftable-clause-held_range
+returns-in_err-grow_reftable-clause-held_range g c = held_past (let past = not_below (c.args.cluster / 2 ^ c.rb_bits.result) (entry_count c.args.self.now.reftable) c.in_bounds.result c.in_bounds.ensures c.if-in_bounds.false in let range = ap (λ n. c.args.cluster / n) c.rb_bits.ensures.counts in omega (arith, past, range))
+
+pub returns-clause-held_range : goal.returns-clause-held_range
+returns-clause-held_range g c = held_past (let past = not_below (c.args.cluster / 2 ^ c.rb_bits.result) (entry_count c.args.self.now.reftable) c.in_bounds.result c.in_bounds.ensures c.if-in_bounds.false in let range = ap (λ n. c.args.cluster / n) c.rb_bits.ensures.counts in omega (arith, past, range))

@@ -21,6 +21,7 @@ use Rattle.qcow2_alloc.specs.declared.error.ImageError.TheVariants as I
 use Rattle.qcow2_alloc.proofs.SparedHeaders.{spares_then, spares_less, spares_as}
 use Rattle.qcow2_alloc.proofs.MadeClusters.{lists_used_still}
 use Rattle.qcow2_alloc.proofs.QuietSearches.{counts_then}
+use Rattle.qcow2_alloc.proofs.HeldRanges.{held_as, held_next}
 use Rattle.qcow2_alloc.proofs.allocation.Allocator.take.Goals as goal
 
 pub returns-in_err-reach_block-clause-sound : goal.returns-in_err-reach_block-clause-sound
@@ -286,3 +287,18 @@ returns-clause-quiet g c =
     ] in
     counts_then g.S.Storage.view c.args.file.now c.reach_block.new.file c.raise.new.file c.args.self.now.reftable c.reach_block.new.self.reftable c.if-cluster-self.self.reftable c.in_ok-taken.taken
     (same ∙ ap (λ (t : Allocator). t.reftable) c.raise.ensures.same) c.in_ok-reach_block.ensures.quiet c.in_ok-taken.ensures.quiet
+
+-- ---- the range's refblock stays held
+pub returns-in_err-reach_block-clause-held_range : goal.returns-in_err-reach_block-clause-held_range
+returns-in_err-reach_block-clause-held_range g c = c.reach_block.ensures.held_range
+
+pub returns-in_err-taken-clause-held_range : goal.returns-in_err-taken-clause-held_range
+returns-in_err-taken-clause-held_range g c = held_next c.args.cluster c.args.cluster c.reach_block.ensures.header refl c.reach_block.ensures.held_range c.raise.ensures.held_range
+
+pub returns-clause-held_range : goal.returns-clause-held_range
+returns-clause-held_range g c = 
+    let same : c.if-cluster-self.self.reftable ≡ c.raise.new.self.reftable = elim c.if-cluster-self.branch [
+      | then-cluster-self w ↦ ap (λ (t : Allocator). t.reftable) w.self-is
+      | else-cluster-self w ↦ ap (λ (t : Allocator). t.reftable) w.self-is
+    ] in
+    held_as same (held_next c.args.cluster c.args.cluster c.reach_block.ensures.header refl c.reach_block.ensures.held_range c.raise.ensures.held_range)

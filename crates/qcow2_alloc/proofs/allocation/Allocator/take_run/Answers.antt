@@ -32,6 +32,7 @@ use Rattle.qcow2_metadata.specs.EntryTable.{EntryTableView}
 use Rattle.qcow2_metadata.specs.declared.header.HeaderFields.{HeaderFields}
 use Rattle.qcow2_alloc.specs.declared.error.ImageError.TheVariants as I
 use Rattle.qcow2_alloc.proofs.QuietSearches.{first_free, first_used, run_ends}
+use Rattle.qcow2_alloc.proofs.HeldRanges.{held_as, held_by, held_none, held_taken, held_stopped}
 use Rattle.qcow2_alloc.proofs.allocation.Allocator.take_run.Goals as goal
 
 -- none, where there aren't some
@@ -81,6 +82,7 @@ taking-init g c = record {
   lacking = λ e lacks. (refl, refl, refl);
   still = λ none. (refl, refl);
   one = λ some. absurd (omega (arith, some));
+  held = λ within. held_none;
   aligned = avoids_none c.args.file.now.header.fields c.args.self.now.reftable c.args.first;
   sound = λ p d sound may.
       subst (λ (r : Pending). UnseenAllocatorGrowth g.S.Storage.view p c.args.file.now c.args.self.now c.args.file.now r)
@@ -173,6 +175,7 @@ taking-preserved g c = record {
       let at = c.taking.invariant.still (omega (arith, one)) in
       first_free g.S.Storage.view c.args.file.now c.taking.file c.take.new.file c.take.new.file c.args.self.now.reftable c.taking.self.reftable c.take.new.self.reftable c.take.new.self.reftable at.0 at.1
       (rw c.in-Ok-true.field-0-test at c.in-Ok-true.ensures.quiet);
+  held = λ within. held_taken c.args.first c.taking.taken c.taking.invariant.header (omega (arith, within)) c.taking.invariant.held c.take.ensures.held_range;
   aligned = avoids_more c.args.file.now.header.fields c.take.new.self.reftable c.args.first c.taking.taken (avoids_then c.args.file.now.header.fields c.taking.self.reftable c.take.new.self.reftable c.args.first c.taking.taken c.take.ensures.former.ranges c.taking.invariant.aligned)
       (aligned_as c.args.file.now.header c.taking.file.header c.take.new.self.reftable c.take.new.self.reftable (c.args.first + c.taking.taken) c.taking.invariant.header refl (c.in-Ok-true.ensures.aligned c.in-Ok-true.field-0-test));
   leaks = λ p sound.
@@ -645,3 +648,34 @@ pub returns-clause-quiet : goal.returns-clause-quiet
 returns-clause-quiet g c = λ few.
     let all : c.taking.taken ≡ c.args.n = let le = c.taking.auto.taken-end in let past = c.taking-test.false in omega arith in
     run_ends g.S.Storage.view c.args.file.now c.taking.file c.args.self.now.reftable c.taking.self.reftable c.args.n c.taking.taken all few c.taking.invariant.still c.taking.invariant.one
+
+-- ---- the range's refblock stays held
+pub returns-in_err-give_back-in-Ok-false-clause-held_range : goal.returns-in_err-give_back-in-Ok-false-clause-held_range
+returns-in_err-give_back-in-Ok-false-clause-held_range g c = λ within. held_stopped c.args.first c.taking.taken c.taking.invariant.header c.take.ensures.header (let lt = c.taking-test.true in omega (arith, lt, within)) c.taking.invariant.held c.take.ensures.held_range c.give_back.ensures.held_range
+
+pub returns-in-Ok-false-clause-held_range : goal.returns-in-Ok-false-clause-held_range
+returns-in-Ok-false-clause-held_range g c = λ within. held_stopped c.args.first c.taking.taken c.taking.invariant.header c.take.ensures.header (let lt = c.taking-test.true in omega (arith, lt, within)) c.taking.invariant.held c.take.ensures.held_range c.give_back.ensures.held_range
+
+pub returns-in_err-give_back-in-Err-clause-held_range : goal.returns-in_err-give_back-in-Err-clause-held_range
+returns-in_err-give_back-in-Err-clause-held_range g c = λ within. held_stopped c.args.first c.taking.taken c.taking.invariant.header c.take.ensures.header (let lt = c.taking-test.true in omega (arith, lt, within)) c.taking.invariant.held c.take.ensures.held_range c.give_back-then-not-is_fault.ensures.held_range
+
+pub returns-in-Err-clause-held_range : goal.returns-in-Err-clause-held_range
+returns-in-Err-clause-held_range g c = λ within. elim c.if-not-is_fault.branch [
+  | then-not-is_fault+in_ok-give_back-in-Err w ↦ held_by w.file-is (held_as (ap (λ (t : Allocator). t.reftable) w.self-is) (held_stopped {a = c.args.file.now} c.args.first c.taking.taken c.taking.invariant.header c.take.ensures.header (let lt = c.taking-test.true in omega (arith, lt, within)) c.taking.invariant.held c.take.ensures.held_range w.give_back-then-not-is_fault.ensures.held_range))
+  | else-not-is_fault w ↦ held_by w.file-is (held_as (ap (λ (t : Allocator). t.reftable) w.self-is) (held_taken {a = c.args.file.now} c.args.first c.taking.taken c.taking.invariant.header (let lt = c.taking-test.true in omega (arith, lt, within)) c.taking.invariant.held c.take.ensures.held_range))
+]
+
+pub returns-clause-held_range : goal.returns-clause-held_range
+returns-clause-held_range g c = λ within. c.taking.invariant.held (let past = c.taking-test.false in let most = c.taking.auto.taken-end in omega (arith, past, most, within))
+
+pub returns-in_err-give_back-in-Ok-false-clause-held_used : goal.returns-in_err-give_back-in-Ok-false-clause-held_used
+returns-in_err-give_back-in-Ok-false-clause-held_used g c = if_no_ok _ c.from_residual.result c.in_err-give_back-in-Ok-false.field-0.0 c.from_residual.ensures
+
+pub returns-in_err-give_back-in-Err-clause-held_used : goal.returns-in_err-give_back-in-Err-clause-held_used
+returns-in_err-give_back-in-Err-clause-held_used g c = if_no_ok _ c.from_residual-in_err-give_back-in-Err.result c.in_err-give_back-in-Err.field-0.0 c.from_residual-in_err-give_back-in-Err.ensures
+
+pub returns-in-Ok-false-clause-held_used : goal.returns-in-Ok-false-clause-held_used
+returns-in-Ok-false-clause-held_used g c = λ short within. held_stopped c.args.first c.taking.taken c.taking.invariant.header c.take.ensures.header (within) c.taking.invariant.held c.take.ensures.held_range c.give_back.ensures.held_range
+
+pub returns-clause-held_used : goal.returns-clause-held_used
+returns-clause-held_used g c = λ short within. absurd (short refl)

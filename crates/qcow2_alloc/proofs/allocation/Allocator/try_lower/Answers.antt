@@ -14,6 +14,7 @@ use Rattle.qcow2_alloc.proofs.KeptMarks.{kept_marks_then, marks_of_caches}
 use Rattle.qcow2_alloc.specs.declared.error.ImageError.TheVariants as I
 use Rattle.qcow2_alloc.proofs.AlignedBlocks.{unaligned_as}
 use Rattle.qcow2_alloc.proofs.Outcomes.{handed_unaligned, ok_no_err}
+use Rattle.qcow2_alloc.proofs.HeldRanges.{held_as, held_at, held_then, held_changed, less_held}
 use Rattle.qcow2_alloc.proofs.allocation.Allocator.try_lower.Goals as goal
 
 pub returns-in_err-block-clause-sound : goal.returns-in_err-block-clause-sound
@@ -88,3 +89,16 @@ returns-in_default-clause-unaligned g c = λ u. ok_no_err _ I.UnalignedTable (c.
 
 pub returns-clause-unaligned : goal.returns-clause-unaligned
 returns-clause-unaligned g c = λ u. ok_no_err _ I.UnalignedTable (c.in_ok-block.ensures.unaligned (unaligned_as c.args.file.now.header.fields c.args.self.now.reftable c.args.cluster _ c.rb_bits-bits.ensures.counts u)).0
+
+-- ---- the range's refblock stays held
+pub returns-in_err-block-clause-held_range : goal.returns-in_err-block-clause-held_range
+returns-in_err-block-clause-held_range g c = held_at (ap (λ n. c.args.cluster / n) c.rb_bits-bits.ensures.counts) c.load_block.ensures.held_range
+
+pub returns-in_default-clause-held_range : goal.returns-in_default-clause-held_range
+returns-in_default-clause-held_range g c = held_at (ap (λ n. c.args.cluster / n) c.rb_bits-bits.ensures.counts) c.load_block.ensures.held_range
+
+pub returns-clause-held_range : goal.returns-clause-held_range
+returns-clause-held_range g c = 
+    held_as c.note_lowered.ensures.reftable (held_at (ap (λ n. c.args.cluster / n) c.rb_bits-bits.ensures.counts) (held_then c.load_block.ensures.held_range
+    (held_changed c.args.self.now.reftable c.load_block.new.file c.rb_decrement-lowered.new.self (c.args.cluster / 2 ^ c.rb_bits-bits.result)
+    (less_held c.load_block.new.file.caches c.rb_decrement-lowered.new.self c.in-Some.block c.rb_index-index.result c.rb_decrement-lowered.result c.rb_decrement-lowered.ensures.counts c.rb_decrement-lowered.ensures.missing c.rb_decrement-lowered.ensures.refused))))

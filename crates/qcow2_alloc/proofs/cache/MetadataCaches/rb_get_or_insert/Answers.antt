@@ -1,4 +1,4 @@
-use Rattle.std.proofs.Common.{arith, refl, true, false, Ok, ap, ◌∙◌}
+use Rattle.std.proofs.Common.{arith, refl, true, false, Ok, ap, sym, ◌∙◌}
 use Rattle.qcow2_alloc.proofs.KeptTables.Fetching.{block_got}
 use Rattle.qcow2_alloc.proofs.KeptTables.Turning.{keep_then}
 use Rattle.qcow2_alloc.proofs.CachePins.{marks_blocks, marks_then}
@@ -9,6 +9,7 @@ use Rattle.qcow2_alloc.specs.ImageStorage.{storage_of}
 use Rattle.qcow2_alloc.proofs.KeptTables.InOrder.{order_then, block_got_in_order}
 use Rattle.qcow2_alloc.proofs.KeptTables.Quiet.{quiet_then, next_block, block_got_quietly, block_waits, block_got_same}
 use Rattle.std.proofs.Common.{eqb}
+use Rattle.qcow2_alloc.proofs.CachedEntries.Hits.{got_there}
 use Rattle.qcow2_alloc.proofs.CachedEntries.Staying.{stays_same, stays_then, values_stay}
 use Rattle.qcow2_alloc.specs.Faults.{faults_of}
 use Rattle.qcow2_alloc.proofs.Faults.{told_ok, told_on, told_since, cache_told, rb_get_tells}
@@ -233,3 +234,18 @@ returns-in_err-get_or_insert-2-clause-all_written g c = written_then g.S.Storage
 
 pub returns-clause-all_written : goal.returns-clause-all_written
 returns-clause-all_written g c = written_then g.S.Storage.view (written_then g.S.Storage.view (block_got_written g.S.Storage.view c.args.storage.now c.get_or_insert.new.store c.args.self.now false c.args.cluster c.get_or_insert.new.self c.get_or_insert.result c.get_or_insert.ensures.hit c.get_or_insert.ensures.miss) c.before_rb.ensures.all_written) (block_got_written g.S.Storage.view c.before_rb.new.storage c.get_or_insert-2.new.store c.before_rb.new.self true c.args.cluster c.get_or_insert-2.new.self c.get_or_insert-2.result c.get_or_insert-2.ensures.hit c.get_or_insert-2.ensures.miss)
+
+pub returns-then-branch-clause-held : goal.returns-then-branch-clause-held
+returns-then-branch-clause-held g c = λ there. let got = got_there c.args.cluster c.args.self.now.rb.entries c.get_or_insert.new.self.entries c.args.storage.now c.get_or_insert.new.store c.get_or_insert.result c.get_or_insert.ensures.hit c.get_or_insert.ensures.front there in (got.1, got.2)
+
+pub returns-in_err-get_or_insert-clause-held : goal.returns-in_err-get_or_insert-clause-held
+returns-in_err-get_or_insert-clause-held g c = λ there. absurd (let bad = sym (got_there c.args.cluster c.args.self.now.rb.entries c.get_or_insert.new.self.entries c.args.storage.now c.get_or_insert.new.store c.get_or_insert.result c.get_or_insert.ensures.hit c.get_or_insert.ensures.front there).0 ∙ c.in_err-get_or_insert.was in cc)
+
+pub returns-in_err-before_rb-clause-held : goal.returns-in_err-before_rb-clause-held
+returns-in_err-before_rb-clause-held g c = λ there. absurd (let bad = sym (got_there c.args.cluster c.args.self.now.rb.entries c.get_or_insert.new.self.entries c.args.storage.now c.get_or_insert.new.store c.get_or_insert.result c.get_or_insert.ensures.hit c.get_or_insert.ensures.front there).0 ∙ c.in_ok-get_or_insert.was ∙ ap Ok c.if-branch.false in cc)
+
+pub returns-in_err-get_or_insert-2-clause-held : goal.returns-in_err-get_or_insert-2-clause-held
+returns-in_err-get_or_insert-2-clause-held g c = λ there. absurd (let bad = sym (got_there c.args.cluster c.args.self.now.rb.entries c.get_or_insert.new.self.entries c.args.storage.now c.get_or_insert.new.store c.get_or_insert.result c.get_or_insert.ensures.hit c.get_or_insert.ensures.front there).0 ∙ c.in_ok-get_or_insert.was ∙ ap Ok c.if-branch.false in cc)
+
+pub returns-clause-held : goal.returns-clause-held
+returns-clause-held g c = λ there. absurd (let bad = sym (got_there c.args.cluster c.args.self.now.rb.entries c.get_or_insert.new.self.entries c.args.storage.now c.get_or_insert.new.store c.get_or_insert.result c.get_or_insert.ensures.hit c.get_or_insert.ensures.front there).0 ∙ c.in_ok-get_or_insert.was ∙ ap Ok c.if-branch.false in cc)
