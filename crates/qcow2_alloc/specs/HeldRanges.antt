@@ -25,7 +25,7 @@ pub record HoldsRange {S : Type 0} (h : HeaderFields) (reftable : EntryTableView
   pub named : HasAlignedBlock h reftable range
   pub held : IsSome (rb_at caches named.block)
 
--- Nothing is asked of the storage, and nothing changes but the caches, not the reftable either. The refblock of the range is held.
+-- Nothing is asked of the storage, and of the file only the caches change. The reftable stays, and the refblock of the range is held.
 pub record ChangesCachesAlone {S : Type 0} (reftable : EntryTableView) (old : ImageFile S) (reftable' : EntryTableView) (new : ImageFile S) (range : ℕ) : Type 0 where
   pub rest : new ≡ record old { caches = new.caches }
   pub table : reftable' ≡ reftable
@@ -35,7 +35,7 @@ pub record ChangesCachesAlone {S : Type 0} (reftable : EntryTableView) (old : Im
 pub record StaysHeld {S : Type 0} (reftable : EntryTableView) (old : ImageFile S) (reftable' : EntryTableView) (new : ImageFile S) (range : ℕ) : Type 0 where
   pub stays : HoldsRange old.header.fields reftable old.caches range → ChangesCachesAlone reftable old reftable' new range
 
--- So it is of a search for n clusters within the range that it begins in: its run ends there, or it is refused and there is no range behind, or n is 0.
+-- So it is of a search for n clusters that ends in the range that it begins in. Refused, it does where that is the last range, or n is 0.
 abbrev pub SearchesHeld : {S A : Type 0} → (A → ℕ) → EntryTableView → ImageFile S → EntryTableView → ImageFile S → (from n : ℕ) → Result A ImageError → Type 0
 SearchesHeld begin_of reftable old reftable' new from n (Ok run) = begin_of run + n ≤ range_end old.header.fields from → StaysHeld reftable old reftable' new (from / counts_per_block old.header.fields)
 SearchesHeld begin_of reftable old reftable' new from n (Err e) = (n ≡ 0) ⊎ IsInLastRange old.header.fields reftable from → StaysHeld reftable old reftable' new (from / counts_per_block old.header.fields)

@@ -89,7 +89,8 @@ impl Allocator {
     }
 
     /// Takes the lowest run of so many free clusters for metadata; the count is to be 1 at least. For one
-    /// cluster, passing clusters in use writes nothing where no cached table is modified.
+    /// cluster, passing clusters in use writes nothing where no cached table is modified. Nothing is asked of the storage within the range
+    /// that the search begins in, where its refblock is held.
     /// Refused 13 (limit) where there is no such run up to the greatest host offset, for no clusters, or where a refblock or a longer
     /// reftable has no place. Refused 4 (unaligned table) where a refblock that is needed isn't on a cluster. Refused
     /// 8 (everything is in use) by a cache without room for a refblock. Where the work meets them: 14 (memory), 15 (storage).
@@ -161,8 +162,8 @@ impl Allocator {
     }
 
     /// Takes just the cluster that is asked for, for data: None where it is cluster 0, is in use, or passes the greatest offset of a host
-    /// cluster. From here on refblocks are written before L2 tables. Refused as `allocate_meta` is, 13 (limit) where a refblock or a
-    /// longer reftable has no place.
+    /// cluster. From here on refblocks are written before L2 tables. Where the refblock of its range is held, nothing is asked of the storage
+    /// but what this turn needs. Refused as `allocate_meta` is, 13 (limit) where a refblock or a longer reftable has no place.
     pub fn allocate_data_at<S: Storage>(
         &mut self,
         file: &mut ImageFile<S>,

@@ -154,7 +154,7 @@ impl<S: Storage> MetadataCaches<S> {
         ensures ordered { WritesInOrder S.view storage.old self.old storage.new }
         ensures blocks { self.new.rb ≡ self.old.rb }
         ensures quiet { BlocksMayGo (order_of self.old) (l2_tables self.old) → WritesNothing S.view storage.old storage.new }
-        ensures same { order_of self.old ≢ RbDependsOnL2 → storage.new ≡ storage.old }
+        ensures storage_stays { order_of self.old ≢ RbDependsOnL2 → storage.new ≡ storage.old }
         ensures all_written { KeepAllWritten S.view storage.old self.old storage.new self.new }
         ensures header_cluster { CachesSpareHeader S.view storage.old self.old storage.new self.new }
     {

@@ -629,19 +629,19 @@ pub returns-in_err-l2_depends_on_rb-clause-held_range : goal.returns-in_err-l2_d
 returns-in_err-l2_depends_on_rb-clause-held_range g c = λ other. absurd (other c.in_err-l2_depends_on_rb.ensures.turned)
 
 pub returns-then-at-eq0-clause-held_range : goal.returns-then-at-eq0-clause-held_range
-returns-then-at-eq0-clause-held_range g c = λ other. held_turned c.args.self.now.reftable c.args.file.now c.l2_depends_on_rb.new.storage c.l2_depends_on_rb.new.self (c.args.cluster / counts_per_block c.args.file.now.header.fields) (c.l2_depends_on_rb.ensures.same other) c.l2_depends_on_rb.ensures.blocks
+returns-then-at-eq0-clause-held_range g c = λ other. held_turned c.args.self.now.reftable c.args.file.now c.l2_depends_on_rb.new.storage c.l2_depends_on_rb.new.self (c.args.cluster / counts_per_block c.args.file.now.header.fields) (c.l2_depends_on_rb.ensures.storage_stays other) c.l2_depends_on_rb.ensures.blocks
 
 pub returns-then-not-is_nameable-clause-held_range : goal.returns-then-not-is_nameable-clause-held_range
-returns-then-not-is_nameable-clause-held_range g c = λ other. held_turned c.args.self.now.reftable c.args.file.now c.l2_depends_on_rb.new.storage c.l2_depends_on_rb.new.self (c.args.cluster / counts_per_block c.args.file.now.header.fields) (c.l2_depends_on_rb.ensures.same other) c.l2_depends_on_rb.ensures.blocks
+returns-then-not-is_nameable-clause-held_range g c = λ other. held_turned c.args.self.now.reftable c.args.file.now c.l2_depends_on_rb.new.storage c.l2_depends_on_rb.new.self (c.args.cluster / counts_per_block c.args.file.now.header.fields) (c.l2_depends_on_rb.ensures.storage_stays other) c.l2_depends_on_rb.ensures.blocks
 
 pub returns-in_default-clause-held_range : goal.returns-in_default-clause-held_range
-returns-in_default-clause-held_range g c = λ other. held_turned c.args.self.now.reftable c.args.file.now c.l2_depends_on_rb.new.storage c.l2_depends_on_rb.new.self (c.args.cluster / counts_per_block c.args.file.now.header.fields) (c.l2_depends_on_rb.ensures.same other) c.l2_depends_on_rb.ensures.blocks
+returns-in_default-clause-held_range g c = λ other. held_turned c.args.self.now.reftable c.args.file.now c.l2_depends_on_rb.new.storage c.l2_depends_on_rb.new.self (c.args.cluster / counts_per_block c.args.file.now.header.fields) (c.l2_depends_on_rb.ensures.storage_stays other) c.l2_depends_on_rb.ensures.blocks
 
 pub returns-in-Ok-true-clause-held_range : goal.returns-in-Ok-true-clause-held_range
-returns-in-Ok-true-clause-held_range g c = λ other. held_then (held_turned c.args.self.now.reftable c.args.file.now c.l2_depends_on_rb.new.storage c.l2_depends_on_rb.new.self (c.args.cluster / counts_per_block c.args.file.now.header.fields) (c.l2_depends_on_rb.ensures.same other) c.l2_depends_on_rb.ensures.blocks) (held_at (ap (λ n. n / counts_per_block c.args.file.now.header.fields) (sym c.value.ensures)) c.take.ensures.held_range)
+returns-in-Ok-true-clause-held_range g c = λ other. held_then (held_turned c.args.self.now.reftable c.args.file.now c.l2_depends_on_rb.new.storage c.l2_depends_on_rb.new.self (c.args.cluster / counts_per_block c.args.file.now.header.fields) (c.l2_depends_on_rb.ensures.storage_stays other) c.l2_depends_on_rb.ensures.blocks) (held_at (ap (λ n. n / counts_per_block c.args.file.now.header.fields) (sym c.value.ensures)) c.take.ensures.held_range)
 
 pub returns-in-Ok-false-clause-held_range : goal.returns-in-Ok-false-clause-held_range
-returns-in-Ok-false-clause-held_range g c = λ other. held_then (held_turned c.args.self.now.reftable c.args.file.now c.l2_depends_on_rb.new.storage c.l2_depends_on_rb.new.self (c.args.cluster / counts_per_block c.args.file.now.header.fields) (c.l2_depends_on_rb.ensures.same other) c.l2_depends_on_rb.ensures.blocks) (held_at (ap (λ n. n / counts_per_block c.args.file.now.header.fields) (sym c.value.ensures)) c.take.ensures.held_range)
+returns-in-Ok-false-clause-held_range g c = λ other. held_then (held_turned c.args.self.now.reftable c.args.file.now c.l2_depends_on_rb.new.storage c.l2_depends_on_rb.new.self (c.args.cluster / counts_per_block c.args.file.now.header.fields) (c.l2_depends_on_rb.ensures.storage_stays other) c.l2_depends_on_rb.ensures.blocks) (held_at (ap (λ n. n / counts_per_block c.args.file.now.header.fields) (sym c.value.ensures)) c.take.ensures.held_range)
 
 pub returns-in-Err-clause-held_range : goal.returns-in-Err-clause-held_range
-returns-in-Err-clause-held_range g c = λ other. held_then (held_turned c.args.self.now.reftable c.args.file.now c.l2_depends_on_rb.new.storage c.l2_depends_on_rb.new.self (c.args.cluster / counts_per_block c.args.file.now.header.fields) (c.l2_depends_on_rb.ensures.same other) c.l2_depends_on_rb.ensures.blocks) (held_at (ap (λ n. n / counts_per_block c.args.file.now.header.fields) (sym c.value.ensures)) c.take.ensures.held_range)
+returns-in-Err-clause-held_range g c = λ other. held_then (held_turned c.args.self.now.reftable c.args.file.now c.l2_depends_on_rb.new.storage c.l2_depends_on_rb.new.self (c.args.cluster / counts_per_block c.args.file.now.header.fields) (c.l2_depends_on_rb.ensures.storage_stays other) c.l2_depends_on_rb.ensures.blocks) (held_at (ap (λ n. n / counts_per_block c.args.file.now.header.fields) (sym c.value.ensures)) c.take.ensures.held_range)

@@ -87,11 +87,11 @@ returns-clause-all_written g c = elim c.match-self.branch [
   | in-RbDependsOnL2+in_ok-write_tables-in-RbDependsOnL2 w ↦ rw (w.self-is, w.storage-is) (written_turned D.L2DependsOnRb w.write_tables.ensures.all_written)
 ]
 
-pub returns-in_err-write_tables-in-RbDependsOnL2-clause-same : goal.returns-in_err-write_tables-in-RbDependsOnL2-clause-same
-returns-in_err-write_tables-in-RbDependsOnL2-clause-same g c = λ other. absurd (other (ap order c.in-RbDependsOnL2.is))
+pub returns-in_err-write_tables-in-RbDependsOnL2-clause-storage_stays : goal.returns-in_err-write_tables-in-RbDependsOnL2-clause-storage_stays
+returns-in_err-write_tables-in-RbDependsOnL2-clause-storage_stays g c = λ other. absurd (other (ap order c.in-RbDependsOnL2.is))
 
-pub returns-clause-same : goal.returns-clause-same
-returns-clause-same g c = elim c.match-self.branch [
+pub returns-clause-storage_stays : goal.returns-clause-storage_stays
+returns-clause-storage_stays g c = elim c.match-self.branch [
   | in-L2DependsOnRb w ↦ λ _. w.storage-is
   | in-None w ↦ λ _. w.storage-is
   | in-RbDependsOnL2+in_ok-write_tables-in-RbDependsOnL2 w ↦ λ other. absurd (other (ap order w.in-RbDependsOnL2.is))
