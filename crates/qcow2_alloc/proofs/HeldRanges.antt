@@ -1,5 +1,5 @@
 -- Ranges of counts whose refblock is held, one part of a call after another.
-use Rattle.std.proofs.Common.{◌≡◌, ℕ, ◌+◌, ◌*◌, ◌/◌, ◌^◌, ◌<◌, ◌≤◌, ◌==◌, ◌⊎◌, Bool, true, false, suc, zero, Option, Some, None, Result, Ok, Err, IsSome, inl, inr, refl, sym, ap, ◌∙◌, subst, arith}
+use Rattle.std.proofs.Common.{◌≡◌, ℕ, ◌+◌, ◌*◌, ◌/◌, ◌<◌, ◌≤◌, ◌==◌, ◌⊎◌, Bool, true, false, suc, zero, Option, Some, None, Result, Ok, Err, IsSome, inl, inr, refl, sym, ap, ◌∙◌, subst, arith}
 use Rattle.std.specs.Option.{IfSome, IsNone, is_some}
 use Rattle.std.specs.Prelude.{IsFalse}
 use Rattle.std.proofs.Math.Nat.{div-eq_of_lt-le, div-mul-le_self, mul-div_left}
@@ -13,12 +13,12 @@ use Rattle.qcow2_metadata.specs.RefBlock.{RefBlockView}
 use Rattle.qcow2_metadata.specs.TableBytes.{entry_at}
 use Rattle.qcow2_metadata.specs.declared.header.HeaderFields.{HeaderFields}
 use Rattle.qcow2_alloc.specs.AsyncLruCache.{value_at}
-use Rattle.qcow2_alloc.specs.Allocation.{HasNone, HasAlignedBlock}
-use Rattle.qcow2_alloc.specs.HeldRanges.{range_end, IsInLastRange, HoldsRange, ChangesCachesAlone, StaysHeld, SearchesHeld}
+use Rattle.qcow2_alloc.specs.Allocation.{HasNone}
+use Rattle.qcow2_alloc.specs.HeldRanges.{range_end, IsInLastRange, StaysHeld, SearchesHeld}
 use Rattle.qcow2_alloc.specs.ImageFile.{KeepsHeader}
 use Rattle.qcow2_alloc.specs.Limits.{nameable_clusters}
 use Rattle.qcow2_alloc.specs.MetadataCaches.{rb_at}
-use Rattle.qcow2_alloc.specs.TableChanges.{ChangesHeld, SetsCount, CountsMore, CountsLess}
+use Rattle.qcow2_alloc.specs.TableChanges.{SetsCount, CountsMore, CountsLess}
 use Rattle.qcow2_alloc.specs.declared.cache.MetadataCaches.{MetadataCaches}
 use Rattle.qcow2_alloc.specs.declared.error.ImageError.{ImageError}
 use Rattle.qcow2_alloc.specs.declared.image_file.ImageFile.{ImageFile}

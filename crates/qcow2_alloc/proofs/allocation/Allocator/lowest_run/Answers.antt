@@ -89,11 +89,11 @@ search-preserved g c = record {
   behind = let so_far = c.search.invariant.behind in let behind = c.in_ok-first.ensures.behind in omega (arith, so_far, behind);
   held = λ ends. elim ends [
     | inl before ↦ held_passed (max c.args.self.now.first_free_cluster 1) c.search.first c.args.n c.in_ok-taken.taken c.search.invariant.header c.take_run.ensures.header (ap (λ (t : Allocator). t.reftable) c.pass_used.ensures.moves) c.search.invariant.behind (let le = c.in_ok-taken.ensures.within in let not = c.if-taken-n.false in omega (arith, le, not)) (let few = c.if-n-limit.true in let below = c.if-first-limit.true in let limit = c.search.invariant.limit in omega (arith, few, below, limit))
-      (inl (let behind = c.in_ok-first.ensures.behind in omega (arith, behind, before))) (c.search.invariant.held (inl (let behind = c.in_ok-first.ensures.behind in omega (arith, behind, before)))) (c.in_ok-taken.ensures.held_used c.if-taken-n.false) c.pass_used.ensures.held_range c.pass_used.ensures.none
+        (inl (let behind = c.in_ok-first.ensures.behind in omega (arith, behind, before))) (c.search.invariant.held (inl (let behind = c.in_ok-first.ensures.behind in omega (arith, behind, before)))) (c.in_ok-taken.ensures.held_used c.if-taken-n.false) c.pass_used.ensures.held_range c.pass_used.ensures.none
     | inr ends ↦ elim ends [
       | inl none ↦ absurd (let some = c.search-test.true in omega (arith, none, some))
       | inr last ↦ held_passed (max c.args.self.now.first_free_cluster 1) c.search.first c.args.n c.in_ok-taken.taken c.search.invariant.header c.take_run.ensures.header (ap (λ (t : Allocator). t.reftable) c.pass_used.ensures.moves) c.search.invariant.behind (let le = c.in_ok-taken.ensures.within in let not = c.if-taken-n.false in omega (arith, le, not)) (let few = c.if-n-limit.true in let below = c.if-first-limit.true in let limit = c.search.invariant.limit in omega (arith, few, below, limit))
-      (inr last) (c.search.invariant.held (inr (inr last))) (c.in_ok-taken.ensures.held_used c.if-taken-n.false) c.pass_used.ensures.held_range c.pass_used.ensures.none
+          (inr last) (c.search.invariant.held (inr (inr last))) (c.in_ok-taken.ensures.held_used c.if-taken-n.false) c.pass_used.ensures.held_range c.pass_used.ensures.none
     ]
   ];
   quiet = λ few.
@@ -496,7 +496,7 @@ returns-then-taken-n-clause-quiet g c = λ few.
 
 -- ---- the refblock of the first range stays held
 pub returns-in_err-taken-clause-held_range : goal.returns-in_err-taken-clause-held_range
-returns-in_err-taken-clause-held_range g c = 
+returns-in_err-taken-clause-held_range g c =
     handed_on (SearchesHeld (λ (first : ℕ). first) c.args.self.now.reftable c.args.file.now c.take_run.new.self.reftable c.take_run.new.file (max c.args.self.now.first_free_cluster 1) c.args.n) c.from_residual.result c.in_err-taken.field-0.0 c.from_residual.ensures
     (λ ends. elim ends [
       | inl none ↦ absurd (let some = c.search-test.true in omega (arith, none, some))
@@ -507,12 +507,12 @@ pub returns-then-taken-n-clause-held_range : goal.returns-then-taken-n-clause-he
 returns-then-taken-n-clause-held_range g c = λ within. held_run (max c.args.self.now.first_free_cluster 1) c.search.first (c.search.first + c.args.n) c.search.invariant.header c.search.invariant.behind (let some = c.search-test.true in omega (arith, some)) (within) (c.search.invariant.held (inl (let some = c.search-test.true in omega (arith, some, within)))) c.take_run.ensures.held_range
 
 pub returns-in_err-first-clause-held_range : goal.returns-in_err-first-clause-held_range
-returns-in_err-first-clause-held_range g c = 
+returns-in_err-first-clause-held_range g c =
     handed_on (SearchesHeld (λ (first : ℕ). first) c.args.self.now.reftable c.args.file.now c.pass_used.new.self.reftable c.pass_used.new.file (max c.args.self.now.first_free_cluster 1) c.args.n) c.from_residual-in_err-first.result c.in_err-first.field-0.0 c.from_residual-in_err-first.ensures
     (λ ends. elim ends [
       | inl none ↦ absurd (let some = c.search-test.true in omega (arith, none, some))
       | inr last ↦ held_passed (max c.args.self.now.first_free_cluster 1) c.search.first c.args.n c.in_ok-taken.taken c.search.invariant.header c.take_run.ensures.header (ap (λ (t : Allocator). t.reftable) c.pass_used.ensures.moves) c.search.invariant.behind (let le = c.in_ok-taken.ensures.within in let not = c.if-taken-n.false in omega (arith, le, not)) (let few = c.if-n-limit.true in let below = c.if-first-limit.true in let limit = c.search.invariant.limit in omega (arith, few, below, limit))
-      (inr last) (c.search.invariant.held (inr (inr last))) (c.in_ok-taken.ensures.held_used c.if-taken-n.false) c.pass_used.ensures.held_range c.pass_used.ensures.none
+          (inr last) (c.search.invariant.held (inr (inr last))) (c.in_ok-taken.ensures.held_used c.if-taken-n.false) c.pass_used.ensures.held_range c.pass_used.ensures.none
     ])
 
 pub returns-clause-held_range : goal.returns-clause-held_range

@@ -72,7 +72,7 @@ pub returns-in_err-next-clause-held_range : goal.returns-in_err-next-clause-held
 returns-in_err-next-clause-held_range g c = c.behind_used.ensures.held_range
 
 pub returns-clause-held_range : goal.returns-clause-held_range
-returns-clause-held_range g c = 
+returns-clause-held_range g c =
     let same : c.if-cluster-self.self.reftable ≡ c.args.self.now.reftable = elim c.if-cluster-self.branch [
       | then-cluster-self w ↦ ap (λ (t : Allocator). t.reftable) w.self-is
       | else-cluster-self w ↦ ap (λ (t : Allocator). t.reftable) w.self-is

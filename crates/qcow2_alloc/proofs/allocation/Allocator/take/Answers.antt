@@ -296,7 +296,7 @@ pub returns-in_err-taken-clause-held_range : goal.returns-in_err-taken-clause-he
 returns-in_err-taken-clause-held_range g c = held_next c.args.cluster c.args.cluster c.reach_block.ensures.header refl c.reach_block.ensures.held_range c.raise.ensures.held_range
 
 pub returns-clause-held_range : goal.returns-clause-held_range
-returns-clause-held_range g c = 
+returns-clause-held_range g c =
     let same : c.if-cluster-self.self.reftable ≡ c.raise.new.self.reftable = elim c.if-cluster-self.branch [
       | then-cluster-self w ↦ ap (λ (t : Allocator). t.reftable) w.self-is
       | else-cluster-self w ↦ ap (λ (t : Allocator). t.reftable) w.self-is
