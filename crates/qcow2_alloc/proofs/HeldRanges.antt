@@ -14,7 +14,7 @@ use Rattle.qcow2_metadata.specs.TableBytes.{entry_at}
 use Rattle.qcow2_metadata.specs.declared.header.HeaderFields.{HeaderFields}
 use Rattle.qcow2_alloc.specs.AsyncLruCache.{value_at}
 use Rattle.qcow2_alloc.specs.Allocation.{HasNone}
-use Rattle.qcow2_alloc.specs.HeldRanges.{range_end, IsInLastRange, StaysHeld, SearchesHeld}
+use Rattle.qcow2_alloc.specs.HeldRanges.{range_end, IsInLastRange, HoldsRange, StaysHeld, SearchesHeld}
 use Rattle.qcow2_alloc.specs.ImageFile.{KeepsHeader}
 use Rattle.qcow2_alloc.specs.Limits.{nameable_clusters}
 use Rattle.qcow2_alloc.specs.MetadataCaches.{rb_at}
@@ -47,6 +47,10 @@ module _ {S : Type 0} where
   -- no call at all
   pub held_none : {t : EntryTableView} {a : ImageFile S} {range : ℕ} → StaysHeld t a t a range
   held_none = record { stays = λ held. record { rest = refl; table = refl; held = held } }
+
+  -- a refblock that is held, in an equal range
+  pub holds_at : {h : HeaderFields} {t : EntryTableView} {caches : MetadataCaches S} {range range' : ℕ} → range' ≡ range → HoldsRange h t caches range → HoldsRange h t caches range'
+  holds_at {h = h} {t = t} {caches = caches} same held = subst (HoldsRange h t caches) (sym same) held
 
   -- one call after another
   pub held_then : {t u v : EntryTableView} {a b c : ImageFile S} {range : ℕ} → StaysHeld t a u b range → StaysHeld u b v c range → StaysHeld t a v c range

@@ -25,6 +25,10 @@ pub record HoldsRange {S : Type 0} (h : HeaderFields) (reftable : EntryTableView
   pub named : HasAlignedBlock h reftable range
   pub held : IsSome (rb_at caches named.block)
 
+-- the refblock that counts a cluster is held
+abbrev pub HoldsCountOf : {S : Type 0} → EntryTableView → ImageFile S → ℕ → Type 0
+HoldsCountOf reftable file cluster = HoldsRange file.header.fields reftable file.caches (cluster / counts_per_block file.header.fields)
+
 -- Nothing is asked of the storage, and of the file only the caches change. The reftable stays, and the refblock of the range is held.
 pub record ChangesCachesAlone {S : Type 0} (reftable : EntryTableView) (old : ImageFile S) (reftable' : EntryTableView) (new : ImageFile S) (range : ℕ) : Type 0 where
   pub rest : new ≡ record old { caches = new.caches }

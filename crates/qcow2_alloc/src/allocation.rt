@@ -1,5 +1,5 @@
 //! Taking clusters of the image's file.
-ghost use Rattle.std.specs.Prelude.{◌≡◌, ◌≢◌, max, ℕ, false, ◌+◌, ◌*◌, ◌/◌, ◌^◌, ◌<◌, ◌≤◌, ◌⊎◌, Bool, IsNone, IfOk, IfErr, OnOk, IsErrOf, IsErrAnd, IsSome, IsTrue, MatchResult};
+ghost use Rattle.std.specs.Prelude.{◌≡◌, ◌≢◌, max, ℕ, false, ◌+◌, ◌-◌, ◌*◌, ◌/◌, ◌^◌, ◌<◌, ◌≤◌, ◌⊎◌, Bool, IsNone, IfOk, IfErr, OnOk, IsErrOf, IsErrAnd, IsSome, IsTrue, MatchResult};
 ghost use Rattle.image_access.specs.Moments.{ContentsStay, EachMomentSince};
 ghost use Rattle.qcow2_laws.specs.Clusters.{L2DependsOnRb, RbDependsOnL2};
 ghost use Rattle.qcow2_laws.specs.CrashInvariant.{Pending};
@@ -13,7 +13,7 @@ ghost use Rattle.qcow2_alloc.specs.CachePins.{KeepsPinsAndNotes};
 ghost use Rattle.qcow2_alloc.specs.Faults.{CountsFaults};
 ghost use Rattle.qcow2_alloc.specs.SparedHeaders.{AreBehindHeader, NamesReftableBehind, StandsBehindHeader, SparesHeaderButPointer};
 ghost use Rattle.qcow2_alloc.specs.QuietSearches.{CountsOrMakes, CountsRunOrMakes, SearchesQuietly};
-ghost use Rattle.qcow2_alloc.specs.HeldRanges.{range_end, StaysHeld, SearchesHeld};
+ghost use Rattle.qcow2_alloc.specs.HeldRanges.{range_end, HoldsCountOf, StaysHeld, SearchesHeld};
 ghost use Rattle.qcow2_alloc.specs.Limits.{IsFaultOr, IsOfTaking, EndsAtFirst, IsOfSearch, HasNoPlace, CantCount, CantCountRun, nameable_clusters};
 ghost use Rattle.qcow2_alloc.specs.SoundAllocators.{SoundAllocator};
 ghost use Rattle.qcow2_alloc.specs.LowestRuns.{NoFreeBelowHint, IsLowestRun, IsUsed, KeepsNoFreeBelowHint, KeepsUsed, StaysUsed};
@@ -120,6 +120,7 @@ impl Allocator {
         ensures hint { (p : Pending) → SoundAllocator S.view self.old p file.old → KeepsNoFreeBelowHint S.view self.new file.new result }
         ensures quiet { count ≤ 1 → OnOk result (SearchesQuietly S.view file.old file.new self.old.reftable self.new.reftable) }
         ensures held_range { SearchesHeld (λ run. run.first_cluster) self.old.reftable file.old self.new.reftable file.new (max self.old.first_free_cluster 1) count result }
+        ensures holds { IfOk result (λ run. HoldsCountOf self.new.reftable file.new (run.first_cluster + count - 1)) }
         ensures header_cluster { SparesHeaderButPointer S.view self.old.reftable file.old self.new.reftable file.new }
     {
         self.allocate(file, count, ClusterKind::Metadata)
@@ -155,6 +156,7 @@ impl Allocator {
         ensures hint { (p : Pending) → SoundAllocator S.view self.old p file.old → KeepsNoFreeBelowHint S.view self.new file.new result }
         ensures quiet { count ≤ 1 → OnOk result (SearchesQuietly S.view file.old file.new self.old.reftable self.new.reftable) }
         ensures held_range { order_of file.old.caches ≢ RbDependsOnL2 → SearchesHeld (λ run. run.first_cluster) self.old.reftable file.old self.new.reftable file.new (max self.old.first_free_cluster 1) count result }
+        ensures holds { IfOk result (λ run. HoldsCountOf self.new.reftable file.new (run.first_cluster + count - 1)) }
         ensures header_cluster { SparesHeaderButPointer S.view self.old.reftable file.old self.new.reftable file.new }
     {
         file.caches.l2_depends_on_rb(&mut file.storage)?;
@@ -195,6 +197,7 @@ impl Allocator {
         ensures hint { (p : Pending) → SoundAllocator S.view self.old p file.old → KeepsNoFreeBelowHint S.view self.new file.new result }
         ensures quiet { OnOk result (SearchesQuietly S.view file.old file.new self.old.reftable self.new.reftable) }
         ensures held_range { order_of file.old.caches ≢ RbDependsOnL2 → StaysHeld self.old.reftable file.old self.new.reftable file.new (cluster / counts_per_block file.old.header.fields) }
+        ensures holds { IfOk result (λ run. IsSome run → HoldsCountOf self.new.reftable file.new cluster) }
         ensures header_cluster { SparesHeaderButPointer S.view self.old.reftable file.old self.new.reftable file.new }
     {
         file.caches.l2_depends_on_rb(&mut file.storage)?;
@@ -249,6 +252,7 @@ impl Allocator {
         ensures hint { (p : Pending) → AllocatorInvariant S.view self.old p file.old → MayTake (is_data kind) file.old → NoFreeBelowHint S.view self.old file.old → KeepsNoFreeBelowHint S.view self.new file.new result }
         ensures quiet { count ≤ 1 → OnOk result (SearchesQuietly S.view file.old file.new self.old.reftable self.new.reftable) }
         ensures held_range { SearchesHeld (λ run. run.first_cluster) self.old.reftable file.old self.new.reftable file.new (max self.old.first_free_cluster 1) count result }
+        ensures holds { IfOk result (λ run. HoldsCountOf self.new.reftable file.new (run.first_cluster + count - 1)) }
         ensures header_cluster { SparesHeaderButPointer S.view self.old.reftable file.old self.new.reftable file.new }
     {
         let entry = ClustersToFreeEntry {
@@ -290,6 +294,7 @@ impl Allocator {
         ensures hint { (p : Pending) (is_data : Bool) → AllocatorInvariant S.view self.old p file.old → MayTake is_data file.old → NoFreeBelowHint S.view self.old file.old → KeepsNoFreeBelowHint S.view self.new file.new result }
         ensures quiet { n ≤ 1 → OnOk result (SearchesQuietly S.view file.old file.new self.old.reftable self.new.reftable) }
         ensures held_range { SearchesHeld (λ first. first) self.old.reftable file.old self.new.reftable file.new (max self.old.first_free_cluster 1) n result }
+        ensures holds { IfOk result (λ first. HoldsCountOf self.new.reftable file.new (first + n - 1)) }
         ensures header_cluster { SparesHeaderButPointer S.view self.old.reftable file.old self.new.reftable file.new }
     {
         let limit = (MAX_HOST_OFFSET >> file.header.cluster_bits()) + 1;
@@ -333,6 +338,7 @@ impl Allocator {
         ensures quiet { n ≤ 1 → IfOk result (CountsRunOrMakes S.view file.old file.new self.old.reftable self.new.reftable n) }
         ensures held_range { first + n ≤ range_end file.old.header.fields first → StaysHeld self.old.reftable file.old self.new.reftable file.new (first / counts_per_block file.old.header.fields) }
         ensures held_used { IfOk result (λ taken. taken ≢ n → first + taken < range_end file.old.header.fields first → StaysHeld self.old.reftable file.old self.new.reftable file.new (first / counts_per_block file.old.header.fields)) }
+        ensures holds { IfOk result (λ taken. taken ≡ n → 0 < n → HoldsCountOf self.new.reftable file.new (first + n - 1)) }
         ensures header_cluster { SparesHeaderButPointer S.view self.old.reftable file.old self.new.reftable file.new }
     {
         'taking: for taken in 0..n {
@@ -381,6 +387,7 @@ impl Allocator {
         ensures free { (p : Pending) → AllocatorInvariant S.view self.old p file.old → IfOk result (λ taken. IsTrue taken → ¬ IsUsed S.view file.old cluster) }
         ensures quiet { IfOk result (CountsOrMakes S.view file.old file.new self.old.reftable self.new.reftable) }
         ensures held_range { StaysHeld self.old.reftable file.old self.new.reftable file.new (cluster / counts_per_block file.old.header.fields) }
+        ensures holds { IfOk result (λ taken. IsTrue taken → HoldsCountOf self.new.reftable file.new cluster) }
         ensures header_cluster { SparesHeaderButPointer S.view self.old.reftable file.old self.new.reftable file.new }
     {
         self.reach_block(file, cluster)?;

@@ -9,7 +9,7 @@ ghost use Rattle.qcow2_alloc.specs.CachePins.{LeavesPinned};
 ghost use Rattle.qcow2_alloc.specs.Faults.{CountsFaults};
 ghost use Rattle.qcow2_alloc.specs.SparedHeaders.{KeepBehindHeader, SparesHeader, SparesHeaderButPointer};
 ghost use Rattle.qcow2_alloc.specs.QuietSearches.{CountsQuietly, LooksOrMakes, LooksQuietly};
-ghost use Rattle.qcow2_alloc.specs.HeldRanges.{StaysHeld};
+ghost use Rattle.qcow2_alloc.specs.HeldRanges.{HoldsRange, HoldsCountOf, StaysHeld};
 ghost use Rattle.qcow2_alloc.specs.Limits.{IsFaultOr, CantCount};
 ghost use Rattle.qcow2_alloc.specs.LowestRuns.{NoFreeBelowHint, IsUsed, KeepsNoFreeBelowHint, KeepsUsed};
 ghost use Rattle.qcow2_alloc.specs.ImageError.{IsOfTables, IsFault};
@@ -118,6 +118,7 @@ impl Allocator {
         ensures storage_faults { CountsFaults S.view file.old.storage file.new.storage result }
         ensures quiet { LooksQuietly S.view file.old file.new }
         ensures held_range { StaysHeld self.now.reftable file.old self.now.reftable file.new range }
+        ensures holds { IfOk result (λ block. IsSome block → HoldsRange file.new.header.fields self.now.reftable file.new.caches range) }
         ensures header_cluster { SparesHeader S.view self.now.reftable file.old self.now.reftable file.new }
     {
         let Some(offset) = self.reftable.get(range as usize) else {
@@ -152,6 +153,7 @@ impl Allocator {
         ensures aligned { IfOk result (λ taken. IsTrue taken → HasAlignedBlock file.old.header.fields self.old.reftable (cluster / counts_per_block file.old.header.fields)) }
         ensures quiet { IfOk result (CountsQuietly S.view file.old file.new) }
         ensures held_range { StaysHeld self.old.reftable file.old self.new.reftable file.new (cluster / counts_per_block file.old.header.fields) }
+        ensures holds { IfOk result (λ taken. IsTrue taken → HoldsCountOf self.new.reftable file.new cluster) }
         ensures header_cluster { SparesHeader S.view self.old.reftable file.old self.new.reftable file.new }
     {
         let bits = file.header.rb_bits();

@@ -1,4 +1,4 @@
-use Rattle.std.proofs.Common.{◌≤◌, ℕ, max, sym, ap, ◌∙◌, inl, inr, refl, subst, arith, ◌<◌}
+use Rattle.std.proofs.Common.{◌≤◌, ◌+◌, ◌-◌, ℕ, max, sym, ap, ◌∙◌, inl, inr, refl, subst, arith, ◌<◌}
 use Rattle.qcow2_alloc.specs.declared.clusters_to_free.ClustersToFreeEntry.{ClustersToFreeEntry}
 use Rattle.qcow2_alloc.specs.Allocation.{AvoidsUnaligned, run_at, taken_as, is_data, UnseenAllocatorGrowth}
 use Rattle.qcow2_alloc.specs.FreeList.{pending_then}
@@ -13,6 +13,7 @@ use Rattle.qcow2_alloc.proofs.SparedHeaders.{spares_none}
 use Rattle.qcow2_alloc.proofs.KeptMarks.{kept_marks_none}
 use Rattle.qcow2_alloc.specs.declared.error.ImageError.TheVariants as I
 use Rattle.qcow2_alloc.proofs.HeldRanges.{held_none}
+use Rattle.qcow2_alloc.specs.HeldRanges.{HoldsCountOf}
 use Rattle.qcow2_alloc.proofs.allocation.Allocator.allocate.Goals as goal
 
 pub returns-in-Ok-lowest_run-clause-sound : goal.returns-in-Ok-lowest_run-clause-sound
@@ -158,3 +159,15 @@ returns-in-Ok-lowest_run-clause-held_range g c = λ within.
 
 pub returns-in-Err-clause-held_range : goal.returns-in-Err-clause-held_range
 returns-in-Err-clause-held_range g c = λ ends. c.in-Err.ensures.held_range (elim ends [ inl none ↦ inl (let n = c.value.ensures in omega (arith, n, none)) | inr last ↦ inr last ])
+
+-- ---- the refblock that counts its last cluster is held
+pub returns-in-Ok-lowest_run-clause-holds : goal.returns-in-Ok-lowest_run-clause-holds
+returns-in-Ok-lowest_run-clause-holds g c =
+    let first = ap (λ (r : ClustersToFreeEntry). r.first_cluster) c.placed_at.ensures ∙ c.new-in-Ok-lowest_run.ensures in
+    of_equal (λ f n. HoldsCountOf c.lowest_run.new.self.reftable c.lowest_run.new.file (f + n - 1)) c.placed_at.result.first_cluster c.in-Ok-lowest_run.first c.args.count c.value.result first (sym c.value.ensures) c.in-Ok-lowest_run.ensures.holds
+
+pub returns-in_default-clause-holds : goal.returns-in_default-clause-holds
+returns-in_default-clause-holds g c = tt
+
+pub returns-in-Err-clause-holds : goal.returns-in-Err-clause-holds
+returns-in-Err-clause-holds g c = tt

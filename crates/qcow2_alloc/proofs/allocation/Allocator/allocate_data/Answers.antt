@@ -234,3 +234,10 @@ pub returns-clause-held_range : goal.returns-clause-held_range
 returns-clause-held_range g c = λ other.
     search_turned (λ (run : ClustersToFreeEntry). run.first_cluster) c.args.self.now.reftable c.allocate.new.self.reftable c.args.file.now (record c.args.file.now { storage = c.l2_depends_on_rb.new.storage; caches = c.l2_depends_on_rb.new.self }) c.allocate.new.file (max c.args.self.now.first_free_cluster 1) c.args.count c.allocate.result refl
     (λ range. held_turned c.args.self.now.reftable c.args.file.now c.l2_depends_on_rb.new.storage c.l2_depends_on_rb.new.self range (c.l2_depends_on_rb.ensures.storage_stays other) c.l2_depends_on_rb.ensures.blocks) c.allocate.ensures.held_range
+
+-- ---- the refblock that counts its last cluster is held
+pub returns-in_err-l2_depends_on_rb-clause-holds : goal.returns-in_err-l2_depends_on_rb-clause-holds
+returns-in_err-l2_depends_on_rb-clause-holds g c = if_no_ok _ c.from_residual.result c.in_err-l2_depends_on_rb.field-0.0 c.from_residual.ensures
+
+pub returns-clause-holds : goal.returns-clause-holds
+returns-clause-holds g c = c.allocate.ensures.holds

@@ -30,6 +30,7 @@ use Rattle.qcow2_alloc.proofs.TurnedCaches.{turned}
 use Rattle.qcow2_alloc.specs.TurnedCaches.{IsOfTurning, TurnsAlone}
 use Rattle.qcow2_alloc.proofs.QuietSearches.{count_after}
 use Rattle.qcow2_alloc.proofs.HeldRanges.{held_at, held_then, held_turned}
+use Rattle.qcow2_alloc.specs.HeldRanges.{HoldsCountOf}
 use Rattle.qcow2_alloc.proofs.allocation.Allocator.allocate_data_at.Goals as goal
 
 pub returns-in_err-l2_depends_on_rb-clause-sound : goal.returns-in_err-l2_depends_on_rb-clause-sound
@@ -645,3 +646,10 @@ returns-in-Ok-false-clause-held_range g c = λ other. held_then (held_turned c.a
 
 pub returns-in-Err-clause-held_range : goal.returns-in-Err-clause-held_range
 returns-in-Err-clause-held_range g c = λ other. held_then (held_turned c.args.self.now.reftable c.args.file.now c.l2_depends_on_rb.new.storage c.l2_depends_on_rb.new.self (c.args.cluster / counts_per_block c.args.file.now.header.fields) (c.l2_depends_on_rb.ensures.storage_stays other) c.l2_depends_on_rb.ensures.blocks) (held_at (ap (λ n. n / counts_per_block c.args.file.now.header.fields) (sym c.value.ensures)) c.take.ensures.held_range)
+
+-- ---- the refblock that counts it is held
+pub returns-in_err-l2_depends_on_rb-clause-holds : goal.returns-in_err-l2_depends_on_rb-clause-holds
+returns-in_err-l2_depends_on_rb-clause-holds g c = if_no_ok _ c.from_residual.result c.in_err-l2_depends_on_rb.field-0.0 c.from_residual.ensures
+
+pub returns-in-Ok-true-clause-holds : goal.returns-in-Ok-true-clause-holds
+returns-in-Ok-true-clause-holds g c = λ some. subst (HoldsCountOf c.take.new.self.reftable c.take.new.file) c.value.ensures (c.in-Ok-true.ensures.holds c.in-Ok-true.field-0-test)

@@ -37,3 +37,6 @@ returns-clause-quiet g c = c.allocate.ensures.quiet
 
 pub returns-clause-held_range : goal.returns-clause-held_range
 returns-clause-held_range g c = c.allocate.ensures.held_range
+
+pub returns-clause-holds : goal.returns-clause-holds
+returns-clause-holds g c = c.allocate.ensures.holds

@@ -1,4 +1,4 @@
-use Rattle.std.proofs.Common.{◌≡◌, ◌*◌, ◌%◌, ℕ, refl, sym, ap, inl, subst, ◌∙◌, ◌^◌}
+use Rattle.std.proofs.Common.{◌≡◌, ◌*◌, ◌%◌, ℕ, refl, sym, ap, inl, subst, arith, true, false, ◌∙◌, ◌^◌}
 use Rattle.qcow2_alloc.specs.Allocation.{LoadsBlock}
 use Rattle.qcow2_alloc.proofs.KeptTables.Getting.{cluster_aligned}
 use Rattle.qcow2_alloc.proofs.FileSteps.{file_step_cached, reftable_cached}
@@ -7,6 +7,7 @@ use Rattle.qcow2_alloc.proofs.SparedHeaders.{spares_cached, not_first}
 use Rattle.qcow2_alloc.proofs.KeptMarks.{marks_of_both}
 use Rattle.qcow2_alloc.proofs.AlignedBlocks.{not_off}
 use Rattle.qcow2_alloc.proofs.HeldRanges.{held_none, held_loaded}
+use Rattle.qcow2_alloc.proofs.Outcomes.{if_no_ok}
 use Rattle.qcow2_alloc.proofs.allocation.Allocator.load_block.Goals as goal
 
 pub returns-in_err-rb_get_or_insert-clause-sound : goal.returns-in_err-rb_get_or_insert-clause-sound
@@ -68,3 +69,24 @@ returns-in_err-rb_get_or_insert-clause-held_range g c = held_loaded c.args.self.
 pub returns-clause-held_range : goal.returns-clause-held_range
 returns-clause-held_range g c = held_loaded c.args.self.now.reftable c.args.file.now c.rb_get_or_insert.new.storage c.rb_get_or_insert.new.self c.args.range c.in-Some-checked_cluster.cluster
     (ap (λ b. c.in-Some-checked_cluster.cluster * 2 ^ b) (sym c.cluster_bits.ensures.value) ∙ c.in-Some-checked_cluster.ensures.cluster ∙ c.in-Some.ensures.offset) c.rb_get_or_insert.ensures.held
+
+-- ---- what was loaded is held
+pub returns-in_err-rb_get_or_insert-clause-holds : goal.returns-in_err-rb_get_or_insert-clause-holds
+returns-in_err-rb_get_or_insert-clause-holds g c = if_no_ok _ c.from_residual.result c.in_err-rb_get_or_insert.field-0.0 c.from_residual.ensures
+
+pub returns-in_default-clause-holds : goal.returns-in_default-clause-holds
+returns-in_default-clause-holds g c = λ some. absurd (let bad : false ≡ true = some in cc)
+
+pub returns-in_default-checked_cluster-clause-holds : goal.returns-in_default-checked_cluster-clause-holds
+returns-in_default-checked_cluster-clause-holds g c = tt
+
+pub returns-clause-holds : goal.returns-clause-holds
+returns-clause-holds g c = λ some. record {
+  within = c.in-Some.ensures.within;
+  named = record {
+    some = λ none. (let positive = c.in-Some.ensures.some in let entry = c.in-Some.ensures.offset in omega (arith, positive, entry, none));
+    block = c.in-Some-checked_cluster.cluster;
+    names = ap (λ b. c.in-Some-checked_cluster.cluster * 2 ^ b) (sym c.cluster_bits.ensures.value) ∙ c.in-Some-checked_cluster.ensures.cluster ∙ c.in-Some.ensures.offset;
+  };
+  held = c.in_ok-rb_get_or_insert.ensures.cached;
+}

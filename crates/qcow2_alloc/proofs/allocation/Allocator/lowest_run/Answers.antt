@@ -517,3 +517,16 @@ returns-in_err-first-clause-held_range g c =
 
 pub returns-clause-held_range : goal.returns-clause-held_range
 returns-clause-held_range g c = λ ends. c.search.invariant.held (inr ends)
+
+-- ---- the refblock that counts its last cluster is held
+pub returns-in_err-taken-clause-holds : goal.returns-in_err-taken-clause-holds
+returns-in_err-taken-clause-holds g c = if_no_ok _ c.from_residual.result c.in_err-taken.field-0.0 c.from_residual.ensures
+
+pub returns-in_err-first-clause-holds : goal.returns-in_err-first-clause-holds
+returns-in_err-first-clause-holds g c = if_no_ok _ c.from_residual-in_err-first.result c.in_err-first.field-0.0 c.from_residual-in_err-first.ensures
+
+pub returns-then-taken-n-clause-holds : goal.returns-then-taken-n-clause-holds
+returns-then-taken-n-clause-holds g c = c.in_ok-taken.ensures.holds c.if-taken-n.true c.search-test.true
+
+pub returns-clause-holds : goal.returns-clause-holds
+returns-clause-holds g c = tt

@@ -21,6 +21,10 @@ use Rattle.qcow2_alloc.specs.declared.image_file.ImageFile.{ImageFile}
 use Rattle.qcow2_alloc.proofs.QuietSearches.{counts_held}
 use Rattle.qcow2_alloc.proofs.HeldRanges.{held_at, held_by, held_then, held_changed, more_held}
 use Rattle.qcow2_alloc.specs.QuietSearches.{CountsQuietly}
+use Rattle.std.specs.Option.{is_some}
+use Rattle.qcow2_metadata.specs.Header.{counts_per_block}
+use Rattle.qcow2_alloc.specs.HeldRanges.{HoldsCountOf, StaysHeld}
+use Rattle.qcow2_alloc.proofs.HeldRanges.{holds_at}
 use Rattle.qcow2_alloc.proofs.allocation.Allocator.raise.Goals as goal
 
 zero_of : (n : _) → (n == 0) ≡ true → n ≡ 0
@@ -161,3 +165,23 @@ returns-clause-held_range g c = held_at (ap (λ n. c.args.cluster / n) c.rb_bits
       (more_held c.load_block.new.file.caches w.rb_increment.new.self c.in-Some.block c.rb_index-index.result w.rb_increment.result w.rb_increment.ensures.counts w.rb_increment.ensures.missing w.rb_increment.ensures.refused)))
   | else-rb_is_zero w ↦ held_by w.file-is c.load_block.ensures.held_range
 ])
+
+-- ---- where it was counted, its refblock is held
+pub returns-in_err-block-clause-holds : goal.returns-in_err-block-clause-holds
+returns-in_err-block-clause-holds g c = if_no_ok _ c.from_residual.result c.in_err-block.field-0.0 c.from_residual.ensures
+
+pub returns-in_default-clause-holds : goal.returns-in_default-clause-holds
+returns-in_default-clause-holds g c = λ taken. absurd (let bad : false ≡ true = taken in cc)
+
+pub returns-clause-holds : goal.returns-clause-holds
+returns-clause-holds g c = λ taken.
+    let range = ap (λ h. c.args.cluster / counts_per_block h.fields) c.load_block.ensures.header ∙ ap (λ n. c.args.cluster / n) c.rb_bits-bits.ensures.counts in
+    let held = c.in_ok-block.ensures.holds (ap is_some c.in-Some.is) in
+    elim c.if-rb_is_zero.branch [
+      | then-rb_is_zero w ↦
+          let raised : StaysHeld c.args.self.now.reftable c.load_block.new.file c.args.self.now.reftable (record c.load_block.new.file { caches = w.rb_increment.new.self }) (c.args.cluster / 2 ^ c.rb_bits-bits.result) =
+          held_changed c.args.self.now.reftable c.load_block.new.file w.rb_increment.new.self (c.args.cluster / 2 ^ c.rb_bits-bits.result)
+          (more_held c.load_block.new.file.caches w.rb_increment.new.self c.in-Some.block c.rb_index-index.result w.rb_increment.result w.rb_increment.ensures.counts w.rb_increment.ensures.missing w.rb_increment.ensures.refused) in
+          subst (λ (f : ImageFile g.row.S.Denot). HoldsCountOf c.args.self.now.reftable f c.args.cluster) (sym w.file-is) (holds_at range (raised.stays held).held)
+      | else-rb_is_zero w ↦ absurd (not_both c.if-rb_is_zero.result taken (w.result-is ∙ w.if-rb_is_zero.false))
+    ]

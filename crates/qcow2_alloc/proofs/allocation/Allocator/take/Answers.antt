@@ -22,6 +22,8 @@ use Rattle.qcow2_alloc.proofs.SparedHeaders.{spares_then, spares_less, spares_as
 use Rattle.qcow2_alloc.proofs.MadeClusters.{lists_used_still}
 use Rattle.qcow2_alloc.proofs.QuietSearches.{counts_then}
 use Rattle.qcow2_alloc.proofs.HeldRanges.{held_as, held_next}
+use Rattle.qcow2_metadata.specs.EntryTable.{EntryTableView}
+use Rattle.qcow2_alloc.specs.HeldRanges.{HoldsCountOf}
 use Rattle.qcow2_alloc.proofs.allocation.Allocator.take.Goals as goal
 
 pub returns-in_err-reach_block-clause-sound : goal.returns-in_err-reach_block-clause-sound
@@ -302,3 +304,18 @@ returns-clause-held_range g c =
       | else-cluster-self w ↦ ap (λ (t : Allocator). t.reftable) w.self-is
     ] in
     held_as same (held_next c.args.cluster c.args.cluster c.reach_block.ensures.header refl c.reach_block.ensures.held_range c.raise.ensures.held_range)
+
+-- ---- the refblock that counts it is held
+pub returns-in_err-reach_block-clause-holds : goal.returns-in_err-reach_block-clause-holds
+returns-in_err-reach_block-clause-holds g c = if_no_ok _ c.from_residual.result c.in_err-reach_block.field-0.0 c.from_residual.ensures
+
+pub returns-in_err-taken-clause-holds : goal.returns-in_err-taken-clause-holds
+returns-in_err-taken-clause-holds g c = if_no_ok _ c.from_residual-in_err-taken.result c.in_err-taken.field-0.0 c.from_residual-in_err-taken.ensures
+
+pub returns-clause-holds : goal.returns-clause-holds
+returns-clause-holds g c = λ taken.
+    let same : c.if-cluster-self.self.reftable ≡ c.raise.new.self.reftable = elim c.if-cluster-self.branch [
+      | then-cluster-self w ↦ ap (λ (t : Allocator). t.reftable) w.self-is
+      | else-cluster-self w ↦ ap (λ (t : Allocator). t.reftable) w.self-is
+    ] in
+    subst (λ (t : EntryTableView). HoldsCountOf t c.raise.new.file c.args.cluster) (sym same) (c.in_ok-taken.ensures.holds taken)

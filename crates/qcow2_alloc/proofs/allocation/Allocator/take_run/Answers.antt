@@ -1,4 +1,4 @@
-use Rattle.std.proofs.Common.{Ok, ◌/◌, ◌≡◌, ◌⊎◌, inl, inr, ℕ, ◌+◌, ◌<◌, Bool, false, IsTrue, refl, sym, ap, ◌∙◌, subst, arith, Result, Err}
+use Rattle.std.proofs.Common.{Ok, ◌/◌, ◌≡◌, ◌⊎◌, inl, inr, ℕ, ◌+◌, ◌-◌, ◌<◌, Bool, false, IsTrue, refl, sym, ap, ◌∙◌, subst, arith, Result, Err}
 use Rattle.std.proofs.lemmas.Bool.{cases_eq, cases_lt}
 use Rattle.image_access.specs.Moments.{StorageView}
 use Rattle.qcow2_laws.specs.CrashInvariant.{Pending}
@@ -33,6 +33,7 @@ use Rattle.qcow2_metadata.specs.declared.header.HeaderFields.{HeaderFields}
 use Rattle.qcow2_alloc.specs.declared.error.ImageError.TheVariants as I
 use Rattle.qcow2_alloc.proofs.QuietSearches.{first_free, first_used, run_ends}
 use Rattle.qcow2_alloc.proofs.HeldRanges.{held_as, held_by, held_none, held_taken, held_stopped}
+use Rattle.qcow2_alloc.specs.HeldRanges.{HoldsCountOf}
 use Rattle.qcow2_alloc.proofs.allocation.Allocator.take_run.Goals as goal
 
 -- none, where there aren't some
@@ -83,6 +84,7 @@ taking-init g c = record {
   still = λ none. (refl, refl);
   one = λ some. absurd (omega (arith, some));
   held = λ within. held_none;
+  holds = λ some. absurd (omega (arith, some));
   aligned = avoids_none c.args.file.now.header.fields c.args.self.now.reftable c.args.first;
   sound = λ p d sound may.
       subst (λ (r : Pending). UnseenAllocatorGrowth g.S.Storage.view p c.args.file.now c.args.self.now c.args.file.now r)
@@ -176,6 +178,9 @@ taking-preserved g c = record {
       first_free g.S.Storage.view c.args.file.now c.taking.file c.take.new.file c.take.new.file c.args.self.now.reftable c.taking.self.reftable c.take.new.self.reftable c.take.new.self.reftable at.0 at.1
       (rw c.in-Ok-true.field-0-test at c.in-Ok-true.ensures.quiet);
   held = λ within. held_taken c.args.first c.taking.taken c.taking.invariant.header (omega (arith, within)) c.taking.invariant.held c.take.ensures.held_range;
+  holds = λ some.
+      let last : c.args.first + c.taking.taken ≡ c.args.first + (c.taking.taken + 1) - 1 = omega arith in
+      subst (HoldsCountOf c.take.new.self.reftable c.take.new.file) last (c.in-Ok-true.ensures.holds c.in-Ok-true.field-0-test);
   aligned = avoids_more c.args.file.now.header.fields c.take.new.self.reftable c.args.first c.taking.taken (avoids_then c.args.file.now.header.fields c.taking.self.reftable c.take.new.self.reftable c.args.first c.taking.taken c.take.ensures.former.ranges c.taking.invariant.aligned)
       (aligned_as c.args.file.now.header c.taking.file.header c.take.new.self.reftable c.take.new.self.reftable (c.args.first + c.taking.taken) c.taking.invariant.header refl (c.in-Ok-true.ensures.aligned c.in-Ok-true.field-0-test));
   leaks = λ p sound.
@@ -679,3 +684,18 @@ returns-in-Ok-false-clause-held_used g c = λ short within. held_stopped c.args.
 
 pub returns-clause-held_used : goal.returns-clause-held_used
 returns-clause-held_used g c = λ short within. absurd (short refl)
+
+-- ---- the refblock that counts its last cluster is held
+pub returns-in_err-give_back-in-Ok-false-clause-holds : goal.returns-in_err-give_back-in-Ok-false-clause-holds
+returns-in_err-give_back-in-Ok-false-clause-holds g c = if_no_ok _ c.from_residual.result c.in_err-give_back-in-Ok-false.field-0.0 c.from_residual.ensures
+
+pub returns-in_err-give_back-in-Err-clause-holds : goal.returns-in_err-give_back-in-Err-clause-holds
+returns-in_err-give_back-in-Err-clause-holds g c = if_no_ok _ c.from_residual-in_err-give_back-in-Err.result c.in_err-give_back-in-Err.field-0.0 c.from_residual-in_err-give_back-in-Err.ensures
+
+pub returns-in-Ok-false-clause-holds : goal.returns-in-Ok-false-clause-holds
+returns-in-Ok-false-clause-holds g c = λ all some. absurd (let lt = c.taking-test.true in omega (arith, all, lt))
+
+pub returns-clause-holds : goal.returns-clause-holds
+returns-clause-holds g c = λ all some.
+    let whole : c.taking.taken ≡ c.args.n = (let past = c.taking-test.false in let most = c.taking.auto.taken-end in omega (arith, past, most)) in
+    subst (λ n. HoldsCountOf c.taking.self.reftable c.taking.file (c.args.first + n - 1)) whole (c.taking.invariant.holds (omega (arith, whole, some)))
