@@ -9,6 +9,7 @@ pub mod ShrinkCalls
 pub mod Growing
 pub mod GrowCalls
 pub mod GrownTables
+pub mod GrownInTurns
 pub mod CountedTurns
 pub mod LackedTables
 pub mod NeededLengths

@@ -36,3 +36,4 @@ pub mod LackedTables
 pub mod Noted
 pub mod BehindHeader
 pub mod PreparedPlaces
+pub mod FilledTurns

@@ -9,6 +9,7 @@ use Rattle.qcow2_metadata.specs.declared.header.HeaderFields.{HeaderFields}
 use Rattle.qcow2_metadata.specs.Guest.{known_byte}
 use Rattle.qcow2_metadata.specs.Header.{cluster_size, rounded_up}
 use Rattle.qcow2_disk.specs.AbstractImages.{guest_of}
+use Rattle.qcow2_disk.specs.Alike.{AreDataAt}
 use Rattle.qcow2_disk.specs.Calls.{MayGrow, EffectOnSound, given_by_grow, shows_old, with_disk, with_slot}
 use Rattle.qcow2_disk.specs.Disk.{Disk, zeroed_between}
 pub use Rattle.qcow2_disk.specs.GrownCovers.{Touches, FilledCovers, GrownCovers, first_zeros}
@@ -140,6 +141,7 @@ module _ {S F : Type 0} (view : S → StorageView) (backing : F → BackingView)
     pub shows : guest_of (abstract_of view backing new free) ≡ with_slot (with_disk (guest_of (abstract_of view backing old out)) (committed (guest_of (abstract_of view backing old out)).disk (meaning view backing old p))) k None
     pub beside : StaysBeside view p.guest (p.guest + p.length) old new
     pub copied : IsSome p.table → AreCopied view p.guest (p.guest + p.length) new
+    pub placed : IsSome p.table → AreDataAt new.file.header.fields (known_in view new.file) true p.guest p.offset p.length
     pub still : p.table ≡ None → CoversStay old.file.header.fields (known_in view old.file) new.file.header.fields (known_in view new.file)
     pub allocator : new.allocator ≡ old.allocator
 

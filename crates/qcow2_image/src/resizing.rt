@@ -1,6 +1,7 @@
 //! A disk of another size: what lies behind a smaller one is dropped first, and the size is written last.
 ghost use Rattle.qcow2_alloc.specs.LowestRuns.{StaysUsed};
 ghost use Rattle.image_access.specs.declared.storage.PreallocateMode.TheVariants.{None as PreallocateNone};
+ghost use Rattle.qcow2_image.specs.FilledTurns.{GrowsInTurns};
 ghost use Rattle.qcow2_image.specs.LowestPlaces.{GrowsFromLowest};
 ghost use Rattle.qcow2_image.specs.BehindHeader.{StaysBehindHeader};
 ghost use Rattle.qcow2_image.specs.Noted.{ChangesRose, FailsOnceWritten, NotesChanges, NotesPart, TellsNoData};
@@ -226,6 +227,7 @@ impl<S: Storage, F: WrappedFormat<S>> Qcow2<S, F> {
         ensures last { (out : List (Option Prepared)) → (abstract_of S.view F.backing self.old out).is_sound → WritesSizeLast S.view F.backing self.old self.new }
         ensures tables { refuses_to_resize self.old ≡ None → size_of self.old < size → (out : List (Option Prepared)) → (abstract_of S.view F.backing self.old out).is_sound → GrowsTables S.view F.backing self.old self.new size mode out result }
         ensures lowest { refuses_to_resize self.old ≡ None → size_of self.old < size → (out : List (Option Prepared)) → (abstract_of S.view F.backing self.old out).is_sound → OnOk result (GrowsFromLowest S.view self.old self.new) }
+        ensures turns { refuses_to_resize self.old ≡ None → size_of self.old < size → (out : List (Option Prepared)) → (abstract_of S.view F.backing self.old out).is_sound → OnOk result (GrowsInTurns S.view F.backing out size self.old self.new) }
         ensures freed { refuses_to_resize self.old ≡ None → size_of self.old < size → ¬ IsTrue (takes_over self.old mode) → (out : List (Option Prepared)) → (abstract_of S.view F.backing self.old out).is_sound → IfErr result (FreesRefused self.new) }
         ensures once_written { FailsOnceWritten S.view self.old self.new result }
         ensures header_cluster { StaysBehindHeader S.view self.old self.new }
@@ -268,6 +270,7 @@ impl<S: Storage, F: WrappedFormat<S>> Qcow2<S, F> {
         ensures last { (out : List (Option Prepared)) → (abstract_of S.view F.backing self.old out).is_sound → WritesSizeLast S.view F.backing self.old self.new }
         ensures tables { (out : List (Option Prepared)) → (abstract_of S.view F.backing self.old out).is_sound → GrowsTables S.view F.backing self.old self.new size mode out result }
         ensures lowest { (out : List (Option Prepared)) → (abstract_of S.view F.backing self.old out).is_sound → OnOk result (GrowsFromLowest S.view self.old self.new) }
+        ensures turns { (out : List (Option Prepared)) → (abstract_of S.view F.backing self.old out).is_sound → OnOk result (GrowsInTurns S.view F.backing out size self.old self.new) }
         ensures freed { (out : List (Option Prepared)) → (abstract_of S.view F.backing self.old out).is_sound → IfErr result (FreesRefused self.new) }
         ensures once_written { FailsOnceWritten S.view self.old self.new result }
         ensures header_cluster { StaysBehindHeader S.view self.old self.new }

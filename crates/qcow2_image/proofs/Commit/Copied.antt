@@ -44,6 +44,21 @@ module _ (h : HeaderFields) (p : Prepared) (known on_storage : Bytes) where
   stand_all each None some ready = absurd (let e : false ≡ true = some in cc)
   stand_all each (Some t) some ready = λ i lt. stands t ready i lt each
 
+module _ {S F : Type 0} (view : S → StorageView) where
+  -- so are those of a mapping whose shares were entered
+  pub stands_entered : (entered : Qcow2 S F) (p q : Prepared) → IsSome p.table → IsEntered p q → IsReadyWith entered.file.header.fields (known_in view entered.file) (contents_in view entered.file) q q.table → AreDataAt entered.file.header.fields (known_in view entered.file) true p.guest p.offset p.length
+  stands_entered entered p q some whole ready =
+      let many = whole.many in
+      let there : AreDataAt entered.file.header.fields (known_in view entered.file) true q.guest q.offset q.length =
+      stand_all entered.file.header.fields q (known_in view entered.file) (contents_in view entered.file) (λ j lt. whole.in_place j (omega (arith, lt, many))) q.table (subst (λ (x : Option ℕ). IsSome x) (sym whole.table) some) ready in
+      subst (λ (x : Prepared). AreDataAt entered.file.header.fields (known_in view entered.file) true x.guest x.offset x.length) whole.mapping there
+
+  -- and once it was let go
+  pub stands_released : (guest offset n : ℕ) (old new : Qcow2 S F) → ReleasesOneMapping view old new → AreDataAt old.file.header.fields (known_in view old.file) true guest offset n → AreDataAt new.file.header.fields (known_in view new.file) true guest offset n
+  stands_released guest offset n old new released there =
+      let kept : AreDataAt old.file.header.fields (known_in view new.file) true guest offset n = subst (λ (b : Bytes). AreDataAt old.file.header.fields b true guest offset n) (sym released.known) there in
+      subst (λ (h : HeaderFields). AreDataAt h (known_in view new.file) true guest offset n) (sym (ap (λ (i : Qcow2 S F). i.file.header.fields) released.rest)) kept
+
 -- once clusters were freed and it was let go, too
 module _ {S F : Type 0} (view : S → StorageView) (backing : F → BackingView) (old begun entered freed new : Qcow2 S F) (p q : Prepared) (changed : Bool) where
   pub stands_copied : IsSome p.table → (r : Result (Unit {0}) ImageError) → ((out : List (Option Prepared)) → ImageInvariant view backing (pending_in view backing old out) old out → Quietly view backing out old begun)
@@ -54,11 +69,7 @@ module _ {S F : Type 0} (view : S → StorageView) (backing : F → BackingView)
       let all : CommitsAll view backing begun entered out k p q = (enters out k placed some (quiet_sound view backing out old begun (begins out) sound)).0 in
       let left = slice_set out k (Some q) in
       let freeing : UnseenCall view backing entered freed (slice_set out k (Some q)) = subst (EndsFreeing view backing entered freed (slice_set out k (Some q))) ok (ends (slice_set out k (Some q)) all.part.sound) in
-      let many = whole.many in
-      let there : AreDataAt entered.file.header.fields (known_in view entered.file) true q.guest q.offset q.length =
-      stand_all entered.file.header.fields q (known_in view entered.file) (contents_in view entered.file) (λ j lt. whole.in_place j (omega (arith, lt, many))) q.table (subst (λ (x : Option ℕ). IsSome x) (sym whole.table) some) (all.part.sound.ready k q (get_set_same out k (Some q) (Some p) placed)).mapped in
-      let told : AreDataAt entered.file.header.fields (known_in view entered.file) true p.guest p.offset p.length = subst (λ (x : Prepared). AreDataAt entered.file.header.fields (known_in view entered.file) true x.guest x.offset x.length) whole.mapping there in
+      let told = stands_entered view entered p q some whole (all.part.sound.ready k q (get_set_same out k (Some q) (Some p) placed)).mapped in
       let moved : AreDataAt freed.file.header.fields (known_in view freed.file) true p.guest p.offset p.length =
       λ i lt. data_moved entered.file.header.fields freed.file.header.fields (known_in view entered.file) (known_in view freed.file) freeing.header freeing.covers (p.guest + i) (p.offset + i) (told i lt) in
-      let kept : AreDataAt freed.file.header.fields (known_in view new.file) true p.guest p.offset p.length = subst (λ (b : Bytes). AreDataAt freed.file.header.fields b true p.guest p.offset p.length) (sym released.known) moved in
-      subst (λ (h : HeaderFields). AreDataAt h (known_in view new.file) true p.guest p.offset p.length) (sym (ap (λ (i : Qcow2 S F). i.file.header.fields) released.rest)) kept
+      stands_released view p.guest p.offset p.length freed new released moved

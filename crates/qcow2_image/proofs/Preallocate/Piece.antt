@@ -43,6 +43,7 @@ use Rattle.qcow2_image.proofs.Clear.ClearCalls.{under_after}
 use Rattle.qcow2_image.proofs.Moved.{data_moved}
 use Rattle.qcow2_image.proofs.Call.Slots.{get_set_same, set_set}
 use Rattle.qcow2_image.proofs.Commit.CommitCalls.{all_shown, commit_existing}
+use Rattle.qcow2_image.proofs.Commit.Copied.{stands_entered, stands_released}
 use Rattle.qcow2_image.proofs.Free.{free_places}
 use Rattle.qcow2_image.proofs.Preallocate.Covers.{boundary, covers_own}
 use Rattle.qcow2_image.proofs.Grow.Lengths.{index_moved, place_same, reaching_stays}
@@ -151,6 +152,7 @@ module _ {S F : Type 0} (view : S → StorageView) (backing : F → BackingView)
           shows = answer.1;
           beside = beside_still p.guest (p.guest + p.length) old old new (ap (λ (image : Qcow2 S F). image.file.header) image_step.rest) image_step.known (λ g outside. refl);
           copied = λ some. absurd (let e : false ≡ true = subst (λ (x : Option ℕ). IsSome x) none some in cc);
+          placed = λ some. absurd (let e : false ≡ true = subst (λ (x : Option ℕ). IsSome x) none some in cc);
           still = λ _ g. sym (ap (λ (h : HeaderFields). cover h (known_in view new.file) g) (ap (λ (image : Qcow2 S F). image.file.header.fields) image_step.rest) ∙ ap (λ k. cover old.file.header.fields k g) image_step.known);
           allocator = ap (λ (image : Qcow2 S F). image.allocator) image_step.rest;
         }
@@ -175,6 +177,7 @@ module _ {S F : Type 0} (view : S → StorageView) (backing : F → BackingView)
           beside = beside_still p.guest (p.guest + p.length) old entered new (ap (λ (image : Qcow2 S F). image.file.header) image_step.rest) image_step.known all.part.beside;
           copied = λ _. copied_still p.guest (p.guest + p.length) entered new (ap (λ (image : Qcow2 S F). image.file.header) image_step.rest) image_step.known
               (copied_with entered p q all.part.shows.from all.part.shows.length whole q.table refl (subst (λ (x : Option ℕ). IsSome x) (sym whole.table) some) (all.part.sound.ready k q (get_set_same out k (Some q) (Some p) placed)).mapped);
+          placed = λ _. stands_released view p.guest p.offset p.length entered new image_step (stands_entered view entered p q some whole (all.part.sound.ready k q (get_set_same out k (Some q) (Some p) placed)).mapped);
           still = λ none. absurd (let e : false ≡ true = subst (λ (x : Option ℕ). IsSome x) none some in cc);
           allocator = ap (λ (image : Qcow2 S F). image.allocator) image_step.rest ∙ same;
         }
@@ -340,17 +343,21 @@ module _ {S F : Type 0} (view : S → StorageView) (backing : F → BackingView)
     pub all_header : (mid2 : Qcow2 S F) (r : Result (Unit {0}) ImageError) → WritesBytes view mid mid2 p.offset (replicate count 0) r → mid2.file.header ≡ mid.file.header
     all_header mid2 r w = ap (λ (image : Qcow2 S F). image.file.header) w.rest
 
+    -- what stands for each guest cluster stays
+    all_still : (mid2 : Qcow2 S F) → WritesBytes view mid mid2 p.offset (replicate count 0) (Ok tt) → (g : ℕ) → cover mid.file.header.fields (known_in view mid.file) g ≡ cover mid2.file.header.fields (known_in view mid2.file) g
+    all_still mid2 w =
+        let storage = mid2.file.storage in
+        let contents = (view_in view mid.file).contents in
+        subst (λ (image : Qcow2 S F). (g : ℕ) → cover mid.file.header.fields (known_in view mid.file) g ≡ cover image.file.header.fields (known_in view image.file) g) (sym w.rest)
+        (zeros_covers out old mid p from n sound ready answered all_fits storage (w.honest ready.sound.file.honest) (w.time ready.sound.file.honest)
+        (w.written ready.sound.file.honest ∙ ap (λ k. overwritten contents p.offset (zeros_of k)) all_counted))
+
     -- what stands for guest clusters then
     all_covers : 0 < p.length → (mid2 new : Qcow2 S F) → WritesBytes view mid mid2 p.offset (replicate count 0) (Ok tt) → CommitsWhole view backing mid2 new (Some p ∷ out) 0 p (None ∷ out) → (first : ℕ) → from + p.length ≤ first
         → FilledCovers (cluster_size old.file.header.fields) first from (from + p.length) old.file.header.fields (known_in view old.file) new.file.header.fields (known_in view new.file)
     all_covers some mid2 new w commits first high =
         let h = old.file.header.fields in
-        let storage = mid2.file.storage in
-        let contents = (view_in view mid.file).contents in
-        let put : (g : ℕ) → cover mid.file.header.fields (known_in view mid.file) g ≡ cover mid2.file.header.fields (known_in view mid2.file) g =
-        subst (λ (image : Qcow2 S F). (g : ℕ) → cover mid.file.header.fields (known_in view mid.file) g ≡ cover image.file.header.fields (known_in view image.file) g) (sym w.rest)
-        (zeros_covers out old mid p from n sound ready answered all_fits storage (w.honest ready.sound.file.honest) (w.time ready.sound.file.honest)
-        (w.written ready.sound.file.honest ∙ ap (λ k. overwritten contents p.offset (zeros_of k)) all_counted)) in
+        let put = all_still mid2 w in
         let so_far : (g : ℕ) → cover h (known_in view old.file) g ≡ cover mid2.file.header.fields (known_in view mid2.file) g = λ g. ready.covers g ∙ put g in
         let from_is : p.guest ≡ from = ready.prepared.from in
         let size2 : cluster_size mid2.file.header.fields ≡ cluster_size old.file.header.fields = ap (λ (image : Qcow2 S F). cluster_size image.file.header.fields) w.rest ∙ ap (λ (x : HeaderFields). cluster_size x) ready.header in
@@ -373,6 +380,21 @@ module _ {S F : Type 0} (view : S → StorageView) (backing : F → BackingView)
             commits.copied (subst (λ (x : Option ℕ). IsSome x) (sym is) refl) g
             (subst (λ s. p.guest < g * s + s) (sym size3) (subst (λ f. f < g * cluster_size old.file.header.fields + cluster_size old.file.header.fields) (sym from_is) low))
             (subst (λ s. g * s < p.guest + p.length) (sym size3) (subst (λ f. g * cluster_size old.file.header.fields < f + p.length) (sym from_is) up))) first high
+
+    -- the bytes stand where the mapping has them
+    pub all_placed : (mid2 new : Qcow2 S F) → WritesBytes view mid mid2 p.offset (replicate count 0) (Ok tt) → ((o : List (Option Prepared)) (k : ℕ) → slice_get o k ≡ Some (Some p) → ImageInvariant view backing (pending_in view backing mid2 o) mid2 o → CommitsWhole view backing mid2 new o k p (slice_set o k None))
+        → new.file.header ≡ mid2.file.header → AreDataAt new.file.header.fields (known_in view new.file) true from p.offset p.length
+    all_placed mid2 new w commits header = by_kind p.table refl (commits (Some p ∷ out) 0 refl (all_put mid2 (Ok tt) w).sound)
+      where
+        by_kind : (t : Option ℕ) → p.table ≡ t → CommitsWhole view backing mid2 new (Some p ∷ out) 0 p (None ∷ out) → AreDataAt new.file.header.fields (known_in view new.file) true from p.offset p.length
+        by_kind None none done = λ i lt.
+            let h = mid.file.header.fields in
+            let shares = subst (IsReadyWith mid.file.header.fields (known_in view mid.file) (contents_in view mid.file) p) none (ready.sound.ready 0 p refl).mapped in
+            let moves : MovesTables mid.file.header.fields new.file.header.fields = subst (λ (k : HeaderFields). MovesTables mid.file.header.fields k) (ap (λ x. x.fields) (sym (header ∙ all_header mid2 (Ok tt) w))) refl in
+            data_moved mid.file.header.fields new.file.header.fields (known_in view mid.file) (known_in view new.file) moves (λ g. all_still mid2 w g ∙ done.still none g) (from + i) (p.offset + i) (answered.stays i lt (never_private view backing mid p shares (from + i)))
+        by_kind (Some t) is done =
+            let from_is : p.guest ≡ from = ready.prepared.from in
+            subst (λ f. AreDataAt new.file.header.fields (known_in view new.file) true f p.offset p.length) from_is (done.placed (subst (λ (x : Option ℕ). IsSome x) (sym is) refl))
 
     pub all_filled : 0 < p.length → (mid2 new : Qcow2 S F) → WritesBytes view mid mid2 p.offset (replicate count 0) (Ok tt) → ((o : List (Option Prepared)) (k : ℕ) → slice_get o k ≡ Some (Some p) → ImageInvariant view backing (pending_in view backing mid2 o) mid2 o → CommitsWhole view backing mid2 new o k p (slice_set o k None))
         → new.file.header ≡ mid2.file.header → (l1_index_of old.file.header.fields from < entry_count old.l1_table → KeepsL1Place old.file.header.fields mid.file.header.fields) → SomeGaveWay old mid → FillsPart view backing to from (from + p.length) old new out

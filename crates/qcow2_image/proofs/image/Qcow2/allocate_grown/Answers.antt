@@ -31,6 +31,14 @@ returns-clause-fills g c = λ out sound le.
     subst (λ n. FillsOrRefuses view below n c.args.old n old c.fill_range.new.self out c.fill_range.result) end
     (c.fill_range.ensures.fills out sound (subst (λ n. c.args.old ≤ n) (sym end) (up_to_end cs c.args.old c.args.size some le)) (subst (λ n. n % cs ≡ 0) (sym end) (up_whole cs c.args.size some)))
 
+pub returns-clause-turns : goal.returns-clause-turns
+returns-clause-turns g c = λ out sound le.
+    let old = c.args.self.now in
+    let cs = cluster_size old.file.header.fields in
+    let some = pow_pos old.file.header.fields.cluster_bits in
+    let end : c.in-Some.end ≡ rounded_up (cluster_size c.args.self.now.file.header.fields) c.args.size = c.in-Some.ensures.some ∙ ap (λ s. rounded_up s c.args.size) c.cluster_size.ensures.value in
+    c.fill_range.ensures.turns out sound (subst (λ n. c.args.old ≤ n) (sym end) (up_to_end cs c.args.old c.args.size some le)) (subst (λ n. n % cs ≡ 0) (sym end) (up_whole cs c.args.size some))
+
 pub returns-in_default-clause-header_cluster : goal.returns-in_default-clause-header_cluster
 returns-in_default-clause-header_cluster g c = behind_none
 

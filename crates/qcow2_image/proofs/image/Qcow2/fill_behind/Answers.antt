@@ -2,6 +2,8 @@ use Rattle.std.proofs.Common.{◌<◌, inl, inr, ap, refl, subst, sym, arith}
 use Rattle.qcow2_disk.specs.Calls.{shows_old}
 use Rattle.qcow2_alloc.proofs.AllocationSteps.{handed_on}
 use Rattle.qcow2_metadata.specs.Header.{cluster_size, rounded_up}
+use Rattle.qcow2_image.specs.FilledTurns.{FillsTurn}
+use Rattle.qcow2_image.proofs.Turns.{no_turn}
 use Rattle.qcow2_image.specs.Preallocation.{first_zeros, FillsGrownOrRefuses}
 use Rattle.qcow2_image.proofs.Preallocate.Grown.{early_refused, grown_none, grown_or_refused}
 use Rattle.qcow2_image.proofs.Call.BehindHeader.{behind_none}
@@ -51,6 +53,29 @@ returns-in_err-writes-in-WriteData-clause-fills g c = λ out sound.
     let e = c.in_err-writes-in-WriteData.field-0.0 in
     handed_on (λ r. FillsGrownOrRefuses view below c.args.size c.args.mode old old out r) c.from_residual.result e c.from_residual.ensures
     (early_refused view below out old sound c.args.size c.args.mode (subst (λ n. n < c.args.size) c.requires.end c.requires.larger) (ap shows_old c.in-WriteData.is) e c.in_err-writes-in-WriteData.ensures.cause c.in_err-writes-in-WriteData.ensures.limited)
+
+pub returns-in-None-clause-turns : goal.returns-in-None-clause-turns
+returns-in-None-clause-turns g c = λ out sound. no_turn (FillsTurn g.S.Storage.view g.F.BackingDisk.backing out) c.args.self.now
+
+pub returns-in-Zero-clause-turns : goal.returns-in-Zero-clause-turns
+returns-in-Zero-clause-turns g c = λ out sound.
+    let larger = c.requires.larger in
+    c.zero_grown.ensures.turns out sound (omega (arith, larger))
+
+pub returns-in-FormatAllocate-clause-turns : goal.returns-in-FormatAllocate-clause-turns
+returns-in-FormatAllocate-clause-turns g c = λ out sound.
+    let larger = c.requires.larger in
+    c.allocate_grown.ensures.turns out sound (omega (arith, larger))
+
+pub returns-in-FullAllocate-clause-turns : goal.returns-in-FullAllocate-clause-turns
+returns-in-FullAllocate-clause-turns g c = λ out sound.
+    let larger = c.requires.larger in
+    c.allocate_grown-in-FullAllocate.ensures.turns out sound (omega (arith, larger))
+
+pub returns-in_ok-writes-in-WriteData-clause-turns : goal.returns-in_ok-writes-in-WriteData-clause-turns
+returns-in_ok-writes-in-WriteData-clause-turns g c = λ out sound.
+    let larger = c.requires.larger in
+    c.allocate_grown-in-WriteData.ensures.turns out sound (omega (arith, larger))
 
 pub returns-in-None-clause-header_cluster : goal.returns-in-None-clause-header_cluster
 returns-in-None-clause-header_cluster g c = behind_none

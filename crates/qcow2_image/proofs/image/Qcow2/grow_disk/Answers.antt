@@ -20,11 +20,13 @@ use Rattle.qcow2_image.specs.Image.{HasNothingToFree, is_failed, size_of, with_m
 use Rattle.qcow2_image.specs.ImageInvariant.{ImageInvariant, pending_in}
 use Rattle.qcow2_image.specs.LongerTables.{MakesEntry}
 use Rattle.qcow2_image.specs.L1Entries.{ReachesOffset}
+use Rattle.qcow2_image.specs.FilledTurns.{FillsTurn, GrowsInTurns}
 use Rattle.qcow2_image.specs.Preallocation.{FillsGrown, FillsGrownOrRefuses}
+use Rattle.qcow2_image.specs.Turns.{GoesInTurns}
 use Rattle.qcow2_image.specs.Refusals.{FreesRefused, IsFaultOrLimit, IsMet, IsUnlimited}
 use Rattle.qcow2_image.proofs.Prepare.Taken.{if_err}
 use Rattle.qcow2_image.proofs.Call.Marked.{MayMarkBy, marks_memory, may_mark}
-use Rattle.qcow2_image.specs.Resizing.{GrowsTables, GrowsTo, LacksZeros, RefusesUnchanged, WritesSizeLast}
+use Rattle.qcow2_image.specs.Resizing.{GrowsTables, GrowsTo, LacksZeros, RefusesUnchanged, WritesSize, WritesSizeLast}
 use Rattle.image_access.specs.declared.storage.PreallocateMode.TheVariants.{None as PreallocateNone, Zero}
 use Rattle.qcow2_image.proofs.Call.Refused.{stays_then}
 use Rattle.qcow2_image.proofs.Clear.ClearCalls.{err_is}
@@ -36,6 +38,7 @@ use Rattle.qcow2_image.proofs.Preallocate.Filled.{met_taken}
 use Rattle.qcow2_image.proofs.Preallocate.Turns.{same_version}
 use Rattle.qcow2_image.proofs.Preallocate.Untaken.{untaken_grown}
 use Rattle.qcow2_image.proofs.Sizing.Growing.{grows_in_part, grows_not, grows_sized, last_in_part, last_not, last_sized, reaches_lengthened, unchanged_not}
+use Rattle.qcow2_image.proofs.Sizing.GrownInTurns.{grows_in_turns}
 use Rattle.qcow2_image.proofs.Sizing.GrownTables.{leaves_sized, reaches_filled, refuses_version, tables_sized, taken_behind}
 use Rattle.qcow2_image.proofs.Sizing.Noted.{counted_noted, grows_noted, tables_noted, unchanged_noted}
 use Rattle.qcow2_image.proofs.Sizing.Shrinking.{begun_call}
@@ -589,3 +592,38 @@ returns-clause-lowest g c = λ out sound.
     subst (λ (image : Qcow2 _ _). OnOk c.mark_fault-2.result (GrowsFromLowest view old image)) (sym c.mark_fault-2.ensures.rest)
     (subst (λ (r : Result _ _). OnOk r (GrowsFromLowest view old (with_marks new (is_changed_of c.mark_fault-2.new.self.file.storage) marked))) (sym c.mark_fault-2.ensures.answer)
     (grows_sized_lowest view old filled new c.args.size (is_changed_of c.mark_fault-2.new.self.file.storage) marked c.write_size-written.result (ap (λ (i : Qcow2 _ _). i.allocator) kept_size) uses header as_begun))
+
+pub returns-clause-turns : goal.returns-clause-turns
+returns-clause-turns g c = λ out sound.
+    let view = g.S.Storage.view in
+    let below = g.F.BackingDisk.backing in
+    let old = c.args.self.now in
+    let begun = c.begin.new.self in
+    let mid = c.renew_l1_table-longer.new.self in
+    let first = begun_call view below old begun (λ out sound. record { keeps = c.begin.ensures.keeps (pending_in view below old out) out sound; list = c.begin.ensures.list }) in
+    let long = c.mark_failure.new.self in
+    let made : c.renew_l1_table-longer.result ≡ Ok c.in_ok-mark_failure.field-0 = sym c.mark_failure.ensures.answer ∙ c.in_ok-mark_failure.was in
+    let kept = subst (λ (r : Result _ _). MayMarkBy r (is_failed mid) (is_failed long)) made (may_mark c.renew_l1_table-longer.new.self c.mark_failure.new.self c.renew_l1_table-longer.result c.mark_failure.ensures.marks) in
+    let same : c.mark_failure.new.self ≡ c.renew_l1_table-longer.new.self = c.mark_failure.ensures.rest ∙ ap (λ f. record mid { is_failed = f }) kept in
+    let begins = first out sound in
+    let lengthens = subst (MakesEntry view below begun mid out) made (c.renew_l1_table-longer.ensures.makes out begins.sound) in
+    let filled = c.fill_grown-filled.new.self in
+    let put : c.fill_grown-filled.result ≡ Ok c.in_ok-mark_fault.field-0 = sym c.mark_fault.ensures.answer ∙ c.in_ok-mark_fault.was in
+    let whole : c.mark_fault.new.self ≡ c.fill_grown-filled.new.self = subst (λ (r : Result _ _). OnOk r (c.mark_fault.new.self ≡ c.fill_grown-filled.new.self)) put c.mark_fault.ensures.same in
+    let sound_long = subst (λ (i : Qcow2 _ _). ImageInvariant view below (pending_in view below i out) i out) (sym same) lengthens.sound in
+    let fills = subst (FillsGrownOrRefuses view below c.args.size c.args.mode long filled out) put (c.fill_grown-filled.ensures.fills out sound_long) in
+    let low = subst (λ (r : Result _ _). OnOk r (GrowsFromLowest view begun mid)) made (c.renew_l1_table-longer.ensures.lowest out begins.sound) in
+    let length = subst (λ (r : Result _ _). OnOk r (entry_count mid.l1_table ≡ max (entry_count begun.l1_table) (l1_index_of begun.file.header.fields (c.args.size - 1) + 1))) made c.renew_l1_table-longer.ensures.length in
+    let step = c.begin.ensures.keeps (pending_in view below old out) out sound in
+    let told = reaches_begun old.file.header.fields begun.file.header.fields mid.file.header.fields (c.args.size - 1) step.unseen.header
+    (reaches_told view below out (pending_in view below begun out) (pending_in view below mid out) begun mid (c.args.size - 1) begins.sound lengthens.sound length) in
+    let empty = subst (λ (r : Result _ _). OnOk r (HasNothingToFree mid)) made c.renew_l1_table-longer.ensures.emptied in
+    let known = c.begin.ensures.known (pending_in view below old out) out sound in
+    let as_begun = grows_alike view old begun mid c.begin.ensures.rest (begun_used view old begun (ap (λ (i : Qcow2 _ _). i.file.header) c.begin.ensures.rest) known) low in
+    let turns = subst (λ (r : Result _ _). OnOk r (GoesInTurns (FillsTurn view below out) long filled)) put (c.fill_grown-filled.ensures.turns out sound_long) in
+    let written = c.write_size-written.new.self in
+    let kept_size = subst (λ (i : Qcow2 _ _). written ≡ record i { file = record i.file { storage = written.file.storage; header = written.file.header } }) whole c.write_size-written.ensures.rest in
+    let sized = subst (λ (i : Qcow2 _ _). ImageInvariant view below (pending_in view below i out) i out → WritesSize view below i written out c.args.size c.write_size-written.result) whole (c.write_size-written.ensures.writes out) fills.sound in
+    subst (λ (r : Result _ _). OnOk r (GrowsInTurns view below out c.args.size old c.mark_fault-2.new.self)) (sym c.mark_fault-2.ensures.answer)
+    (grows_in_turns view below out c.args.size old mid filled written c.mark_fault-2.new.self c.write_size-written.result (stays_then view below out old begun mid begins lengthens) told as_begun empty
+    (subst (λ (i : Qcow2 _ _). GoesInTurns (FillsTurn view below out) i filled) same turns) sized kept_size c.mark_fault-2.ensures.same)

@@ -77,3 +77,6 @@ returns-clause-kinds g c = c.grow_disk.ensures.kinds
 
 pub returns-clause-lowest : goal.returns-clause-lowest
 returns-clause-lowest g c = λ allowed larger. c.grow_disk.ensures.lowest
+
+pub returns-clause-turns : goal.returns-clause-turns
+returns-clause-turns g c = λ allowed larger. c.grow_disk.ensures.turns

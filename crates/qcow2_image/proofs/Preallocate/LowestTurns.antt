@@ -1,0 +1,81 @@
+-- A turn that fills a part of a range takes the lowest places, and so does each of many.
+use Rattle.std.proofs.Common.{◌≡◌, inl, inr, ℕ, ◌+◌, ◌-◌, ◌%◌, ◌<◌, ◌≤◌, true, List, ◌∷◌, Option, Some, None, refl, sym, ap, subst, arith}
+use Rattle.std.specs.Prelude.{Ok, OnOk, Result}
+use Rattle.image_access.specs.Backing.{BackingView}
+use Rattle.image_access.specs.Moments.{StorageView}
+use Rattle.qcow2_metadata.specs.Header.{cluster_size}
+use Rattle.qcow2_disk.specs.Alike.{AreDataAt}
+use Rattle.qcow2_disk.specs.Found.{rest_of_table}
+use Rattle.qcow2_alloc.specs.ImageFile.{known_in}
+use Rattle.qcow2_image.specs.declared.image.Qcow2.{Qcow2}
+use Rattle.qcow2_image.specs.declared.prepared.Prepared.{Prepared}
+use Rattle.qcow2_image.specs.CallParts.{UnseenCall}
+use Rattle.qcow2_image.specs.FilledTurns.{FillsTurn, PreparesLowest}
+use Rattle.qcow2_image.specs.Image.{HasNothingToFree}
+use Rattle.qcow2_image.specs.ImageInvariant.{ImageInvariant, pending_in}
+use Rattle.qcow2_image.specs.LowestPlaces.{TakesLowestTables}
+use Rattle.qcow2_image.specs.Preallocation.{FillsPart, IsWholeRange}
+use Rattle.qcow2_image.specs.Turns.{GoesInTurns}
+use Rattle.qcow2_image.proofs.Moved.{data_moved}
+use Rattle.qcow2_image.proofs.Preallocate.Turns.{FilledTo, ZeroedTo, same_version, still_at}
+use Rattle.qcow2_image.proofs.Turns.{turn_more, turns_then}
+
+module _ {S F : Type 0} (view : S → StorageView) (backing : F → BackingView) where
+  -- so it is of the turns of a range that is filled, and of one that becomes explicit zeros
+  abbrev pub FillsLowest : (to : ℕ) → Qcow2 S F → Qcow2 S F → Type 0
+  FillsLowest to old new = (out : List (Option Prepared)) → ImageInvariant view backing (pending_in view backing old out) old out → to % cluster_size old.file.header.fields ≡ 0 → GoesInTurns (FillsTurn view backing out) old new
+
+  abbrev pub ZeroesLowest : (from to : ℕ) → Qcow2 S F → Qcow2 S F → Type 0
+  ZeroesLowest from to old new = (out : List (Option Prepared)) → ImageInvariant view backing (pending_in view backing old out) old out → from ≤ to → IsWholeRange old.file.header.fields from to → 3 ≤ old.file.header.fields.version → GoesInTurns (FillsTurn view backing out) old new
+
+  module _ (out : List (Option Prepared)) (old new : Qcow2 S F) (from next : ℕ) (within : next ≤ from + rest_of_table old.file.header.fields from) (emptied : HasNothingToFree new) where
+    -- whole clusters become zeros
+    pub turn_of_zeros : from < next → FillsPart view backing 0 from next old new out → TakesLowestTables view from old new → FillsTurn view backing out old new
+    turn_of_zeros lt part tables = record {
+      first = 0;
+      from = from;
+      to = next;
+      some = lt;
+      within = within;
+      part = part;
+      lowest = inl (record { zeros = refl; tables = tables });
+      emptied = emptied;
+    }
+
+    -- a mapping was committed, and then clusters were freed
+    pub turn_of_mapping : (ready done : Qcow2 S F) (p : Prepared) (first asked : ℕ) → next ≡ from + p.length → 0 < p.length → FillsPart view backing first from next old new out → PreparesLowest view backing out from asked old ready p
+        → AreDataAt done.file.header.fields (known_in view done.file) true from p.offset p.length → UnseenCall view backing done new out → FillsTurn view backing out old new
+    turn_of_mapping ready done p first asked is some part prepares placed freed = record {
+      first = first;
+      from = from;
+      to = next;
+      some = omega (arith, is, some);
+      within = within;
+      part = part;
+      lowest = inr (record {
+        asked = asked;
+        ready = ready;
+        mapping = p;
+        prepares = prepares;
+        whole = sym is;
+        placed = λ i lt. data_moved done.file.header.fields new.file.header.fields (known_in view done.file) (known_in view new.file) freed.header freed.covers (from + i) (p.offset + i) (placed i (omega (arith, is, lt)));
+      });
+      emptied = emptied;
+    }
+
+  -- ---- turn by turn
+  module _ (from to at : ℕ) (old now new : Qcow2 S F) (lt : at < to) where
+    pub fills_lowest_next : FilledTo view backing from to at old now → FillsLowest to old now
+        → ((out : List (Option Prepared)) → ImageInvariant view backing (pending_in view backing now out) now out → to % cluster_size now.file.header.fields ≡ 0 → FillsTurn view backing out now new) → FillsLowest to old new
+    fills_lowest_next before so_far turn out sound whole =
+        let so = before.so_far out sound whole in
+        turn_more (FillsTurn view backing out) old now new (so_far out sound whole) (turn out so.sound (still_at old.file.header.fields now.file.header.fields to so.header whole))
+
+    pub zeroes_lowest_next : ZeroedTo view backing from to at old now → ZeroesLowest from to old now → ZeroesLowest at to now new → ZeroesLowest from to old new
+    zeroes_lowest_next before so_far turns out sound le whole version =
+        let so = before.so_far out sound le whole version in
+        let h = old.file.header.fields in
+        let h' = now.file.header.fields in
+        let file_step = so.0.header in
+        turns_then (FillsTurn view backing out) old now new (so_far out sound le whole version)
+        (turns out so.0.sound (omega (arith, lt)) (still_at h h' at file_step so.1, still_at h h' to file_step whole.1) (subst (λ v. 3 ≤ v) (sym (same_version h h' file_step)) version))

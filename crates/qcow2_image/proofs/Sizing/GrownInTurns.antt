@@ -1,0 +1,32 @@
+-- A larger disk takes its places turn by turn, behind a longer L1 table.
+use Rattle.std.proofs.Common.{◌≡◌, ℕ, ◌-◌, List, Option, Result, Ok, Err, sym, subst}
+use Rattle.std.specs.Prelude.{OnOk}
+use Rattle.image_access.specs.Backing.{BackingView}
+use Rattle.image_access.specs.Moments.{StorageView}
+use Rattle.qcow2_alloc.specs.declared.error.ImageError.{ImageError}
+use Rattle.qcow2_image.specs.declared.image.Qcow2.{Qcow2}
+use Rattle.qcow2_image.specs.declared.prepared.Prepared.{Prepared}
+use Rattle.qcow2_image.specs.CallParts.{UnseenCall}
+use Rattle.qcow2_image.specs.FilledTurns.{FillsTurn, GrowsInTurns}
+use Rattle.qcow2_image.specs.Image.{HasNothingToFree}
+use Rattle.qcow2_image.specs.L1Entries.{ReachesOffset}
+use Rattle.qcow2_image.specs.LowestPlaces.{GrowsFromLowest}
+use Rattle.qcow2_image.specs.Resizing.{WritesSize}
+use Rattle.qcow2_image.specs.Turns.{GoesInTurns}
+
+module _ {S F : Type 0} (view : S → StorageView) (backing : F → BackingView) (out : List (Option Prepared)) where
+  pub grows_in_turns : (size : ℕ) (old longer filled written new : Qcow2 S F) (r : Result (Unit {0}) ImageError) → UnseenCall view backing old longer out → ReachesOffset (size - 1) old.file.header.fields longer.file.header.fields → GrowsFromLowest view old longer → HasNothingToFree longer
+      → GoesInTurns (FillsTurn view backing out) longer filled → WritesSize view backing filled written out size r → written ≡ record filled { file = record filled.file { storage = written.file.storage; header = written.file.header } } → OnOk r (new ≡ written)
+      → OnOk r (GrowsInTurns view backing out size old new)
+  grows_in_turns size old longer filled written new (Ok done) unseen reaches lowest emptied turns sized rest same = subst (λ (image : Qcow2 S F). GrowsInTurns view backing out size old image) (sym same) (record {
+    longer = longer;
+    unseen = unseen;
+    reaches = reaches;
+    l1_table = lowest;
+    emptied = emptied;
+    filled = filled;
+    turns = turns;
+    sized = sized;
+    rest = rest;
+  })
+  grows_in_turns size old longer filled written new (Err e) unseen reaches lowest emptied turns sized rest same = tt

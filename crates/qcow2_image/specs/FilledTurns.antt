@@ -1,0 +1,64 @@
+-- A disk is made larger in turns: a longer L1 table, then one turn after another that puts zeros behind its old end, and then the size. Each turn takes the lowest places, seen from its own begin.
+use Rattle.std.specs.Prelude.{ℕ, ◌+◌, ◌-◌, ◌≡◌, ◌<◌, ◌≤◌, ◌⊎◌, true, List, ◌∷◌, Option, None}
+use Rattle.image_access.specs.Backing.{BackingView}
+use Rattle.image_access.specs.Moments.{StorageView}
+use Rattle.qcow2_disk.specs.Alike.{AreDataAt}
+use Rattle.qcow2_disk.specs.Found.{rest_of_table}
+use Rattle.qcow2_alloc.specs.ImageFile.{known_in}
+use Rattle.qcow2_image.specs.declared.image.Qcow2.{Qcow2}
+use Rattle.qcow2_image.specs.declared.prepared.Prepared.{Prepared}
+use Rattle.qcow2_image.specs.CallParts.{IsReadied, UnseenCall}
+use Rattle.qcow2_image.specs.Image.{HasNothingToFree}
+use Rattle.qcow2_image.specs.L1Entries.{ReachesOffset}
+use Rattle.qcow2_image.specs.ListedClusters.{PreparesTable}
+use Rattle.qcow2_image.specs.LowestPlaces.{BeginsLowest, GrowsFromLowest, TakesLowestTables}
+use Rattle.qcow2_image.specs.Preallocation.{FillsPart}
+use Rattle.qcow2_image.specs.Prepared.{length_of, offset_of}
+use Rattle.qcow2_image.specs.Resizing.{SetsSize}
+use Rattle.qcow2_image.specs.Turns.{GoesInTurns}
+
+module _ {S F : Type 0} (view : S → StorageView) (backing : F → BackingView) (out : List (Option Prepared)) where
+  -- A mapping of n bytes at an offset is prepared, to be overwritten whole. Tables that were made for it lie lowest, and it begins lowest.
+  pub record PreparesLowest (offset n : ℕ) (old new : Qcow2 S F) (p : Prepared) : Type 0 where
+    pub readied : IsReadied view backing old new (None ∷ out) 0 offset n true p
+    pub leaves : PreparesTable offset old new
+    pub tables : TakesLowestTables view offset old new
+    pub begins : BeginsLowest view new p
+
+  -- Bytes from one offset up to another have a prepared mapping, whose places are the lowest right after it was prepared. Once it is committed they are data, each at its place in the mapping.
+  pub record FillsByMapping (from to : ℕ) (old new : Qcow2 S F) : Type 0 where
+    pub asked : ℕ
+    pub ready : Qcow2 S F
+    pub mapping : Prepared
+    pub prepares : PreparesLowest from asked old ready mapping
+    pub whole : from + length_of mapping ≡ to
+    pub placed : AreDataAt new.file.header.fields (known_in view new.file) true from (offset_of mapping) (to - from)
+
+  -- They are whole clusters that become explicit zeros, without a place for data. Tables that were made for them lie lowest.
+  pub record FillsByZeroEntries (first from : ℕ) (old new : Qcow2 S F) : Type 0 where
+    pub zeros : first ≡ 0
+    pub tables : TakesLowestTables view from old new
+
+  -- One turn: zeros stand from one offset up to another, under one L2 table. What it takes lies lowest, and nothing is left to be freed.
+  pub record FillsTurn (old new : Qcow2 S F) : Type 0 where
+    pub first : ℕ
+    pub from : ℕ
+    pub to : ℕ
+    pub some : from < to
+    pub within : to ≤ from + rest_of_table old.file.header.fields from
+    pub part : FillsPart view backing first from to old new out
+    pub lowest : FillsByZeroEntries first from old new ⊎ FillsByMapping from to old new
+    pub emptied : HasNothingToFree new
+
+  -- A larger size is set in turns. Right after the L1 table was made longer it lies lowest, and nothing is to be freed.
+  -- The turns that fill the range behind the old end follow, and then the size is written, and nothing else.
+  pub record GrowsInTurns (size : ℕ) (old new : Qcow2 S F) : Type 0 where
+    pub longer : Qcow2 S F
+    pub unseen : UnseenCall view backing old longer out
+    pub reaches : ReachesOffset (size - 1) old.file.header.fields longer.file.header.fields
+    pub l1_table : GrowsFromLowest view old longer
+    pub emptied : HasNothingToFree longer
+    pub filled : Qcow2 S F
+    pub turns : GoesInTurns FillsTurn longer filled
+    pub sized : SetsSize view backing size filled new out
+    pub rest : new ≡ record filled { file = record filled.file { storage = new.file.storage; header = new.file.header } }
