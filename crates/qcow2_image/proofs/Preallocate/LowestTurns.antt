@@ -1,6 +1,5 @@
 -- A turn that fills a part of a range takes the lowest places, and so does each of many.
-use Rattle.std.proofs.Common.{◌≡◌, inl, inr, ℕ, ◌+◌, ◌-◌, ◌%◌, ◌<◌, ◌≤◌, true, List, ◌∷◌, Option, Some, None, refl, sym, ap, subst, arith}
-use Rattle.std.specs.Prelude.{Ok, OnOk, Result}
+use Rattle.std.proofs.Common.{◌≡◌, inl, inr, ℕ, ◌+◌, ◌%◌, ◌<◌, ◌≤◌, true, List, Option, refl, sym, subst, arith}
 use Rattle.image_access.specs.Backing.{BackingView}
 use Rattle.image_access.specs.Moments.{StorageView}
 use Rattle.qcow2_metadata.specs.Header.{cluster_size}
@@ -69,7 +68,7 @@ module _ {S F : Type 0} (view : S → StorageView) (backing : F → BackingView)
         → ((out : List (Option Prepared)) → ImageInvariant view backing (pending_in view backing now out) now out → to % cluster_size now.file.header.fields ≡ 0 → FillsTurn view backing out now new) → FillsLowest to old new
     fills_lowest_next before so_far turn out sound whole =
         let so = before.so_far out sound whole in
-        turn_more (FillsTurn view backing out) old now new (so_far out sound whole) (turn out so.sound (still_at old.file.header.fields now.file.header.fields to so.header whole))
+        turn_more {IsTurn = FillsTurn view backing out} old now new (so_far out sound whole) (turn out so.sound (still_at old.file.header.fields now.file.header.fields to so.header whole))
 
     pub zeroes_lowest_next : ZeroedTo view backing from to at old now → ZeroesLowest from to old now → ZeroesLowest at to now new → ZeroesLowest from to old new
     zeroes_lowest_next before so_far turns out sound le whole version =
@@ -77,5 +76,5 @@ module _ {S F : Type 0} (view : S → StorageView) (backing : F → BackingView)
         let h = old.file.header.fields in
         let h' = now.file.header.fields in
         let file_step = so.0.header in
-        turns_then (FillsTurn view backing out) old now new (so_far out sound le whole version)
+        turns_then {IsTurn = FillsTurn view backing out} old now new (so_far out sound le whole version)
         (turns out so.0.sound (omega (arith, lt)) (still_at h h' at file_step so.1, still_at h h' to file_step whole.1) (subst (λ v. 3 ≤ v) (sym (same_version h h' file_step)) version))

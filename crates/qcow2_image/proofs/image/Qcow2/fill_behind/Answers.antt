@@ -55,7 +55,7 @@ returns-in_err-writes-in-WriteData-clause-fills g c = λ out sound.
     (early_refused view below out old sound c.args.size c.args.mode (subst (λ n. n < c.args.size) c.requires.end c.requires.larger) (ap shows_old c.in-WriteData.is) e c.in_err-writes-in-WriteData.ensures.cause c.in_err-writes-in-WriteData.ensures.limited)
 
 pub returns-in-None-clause-turns : goal.returns-in-None-clause-turns
-returns-in-None-clause-turns g c = λ out sound. no_turn (FillsTurn g.S.Storage.view g.F.BackingDisk.backing out) c.args.self.now
+returns-in-None-clause-turns g c = λ out sound. no_turn {IsTurn = FillsTurn g.S.Storage.view g.F.BackingDisk.backing out} c.args.self.now
 
 pub returns-in-Zero-clause-turns : goal.returns-in-Zero-clause-turns
 returns-in-Zero-clause-turns g c = λ out sound.

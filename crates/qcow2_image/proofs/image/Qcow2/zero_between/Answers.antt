@@ -73,7 +73,7 @@ returns-clause-turns g c = λ out sound low high whole version.
     let both = fills_before view below out a b d c.args.from c.args.old c.args.from c.in_ok-next.next low next.0 first second in
     let ends = c.in_ok-next.ensures.whole out sound whole in
     on_ok_weaker c.zero_range.result
-    (turns_then (FillsTurn view below out) a d c.zero_range.new.self (turns_then (FillsTurn view below out) a b d (c.in_ok-next.ensures.turns out sound high whole version) (c.in_ok-fill_range.ensures.turns out first.sound low (still_at a.file.header.fields b.file.header.fields c.args.from first.header whole.0))))
+    (turns_then {IsTurn = FillsTurn view below out} a d c.zero_range.new.self (turns_then {IsTurn = FillsTurn view below out} a b d (c.in_ok-next.ensures.turns out sound high whole version) (c.in_ok-fill_range.ensures.turns out first.sound low (still_at a.file.header.fields b.file.header.fields c.args.from first.header whole.0))))
     (c.zero_range.ensures.turns out both.sound (omega (arith, next.2, high)) (still_at a.file.header.fields d.file.header.fields c.in_ok-next.next both.header ends, still_at a.file.header.fields d.file.header.fields c.args.end both.header whole.1)
     (subst (λ v. 3 ≤ v) (sym (same_version a.file.header.fields d.file.header.fields both.header)) version))
 
