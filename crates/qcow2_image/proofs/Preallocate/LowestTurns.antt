@@ -20,7 +20,7 @@ use Rattle.qcow2_image.proofs.Preallocate.Turns.{FilledTo, ZeroedTo, same_versio
 use Rattle.qcow2_image.proofs.Turns.{turn_more, turns_then}
 
 module _ {S F : Type 0} (view : S → StorageView) (backing : F → BackingView) where
-  -- so it is of the turns of a range that is filled, and of one that becomes explicit zeros
+  -- a range is filled in turns, each of which takes the lowest places; or whole clusters become zeros so
   abbrev pub FillsLowest : (to : ℕ) → Qcow2 S F → Qcow2 S F → Type 0
   FillsLowest to old new = (out : List (Option Prepared)) → ImageInvariant view backing (pending_in view backing old out) old out → to % cluster_size old.file.header.fields ≡ 0 → GoesInTurns (FillsTurn view backing out) old new
 
