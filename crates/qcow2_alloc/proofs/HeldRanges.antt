@@ -14,7 +14,7 @@ use Rattle.qcow2_metadata.specs.TableBytes.{entry_at}
 use Rattle.qcow2_metadata.specs.declared.header.HeaderFields.{HeaderFields}
 use Rattle.qcow2_alloc.specs.AsyncLruCache.{value_at}
 use Rattle.qcow2_alloc.specs.Allocation.{HasNone}
-use Rattle.qcow2_alloc.specs.HeldRanges.{range_end, IsInLastRange, HoldsRange, StaysHeld, SearchesHeld}
+use Rattle.qcow2_alloc.specs.HeldRanges.{range_end, IsInLastRange, HoldsRange, KeepsRangeHeld, SearchesHeld}
 use Rattle.qcow2_alloc.specs.ImageFile.{KeepsHeader}
 use Rattle.qcow2_alloc.specs.Limits.{nameable_clusters}
 use Rattle.qcow2_alloc.specs.MetadataCaches.{rb_at}
@@ -45,7 +45,7 @@ same_key key k is = grind (arith, nat_tests)
 
 module _ {S : Type 0} where
   -- no call at all
-  pub held_none : {t : EntryTableView} {a : ImageFile S} {range : ℕ} → StaysHeld t a t a range
+  pub held_none : {t : EntryTableView} {a : ImageFile S} {range : ℕ} → KeepsRangeHeld t a t a range
   held_none = record { stays = λ held. record { rest = refl; table = refl; held = held } }
 
   -- a refblock that is held, in an equal range
@@ -53,7 +53,7 @@ module _ {S : Type 0} where
   holds_at {h = h} {t = t} {caches = caches} same held = subst (HoldsRange h t caches) (sym same) held
 
   -- one call after another
-  pub held_then : {t u v : EntryTableView} {a b c : ImageFile S} {range : ℕ} → StaysHeld t a u b range → StaysHeld u b v c range → StaysHeld t a v c range
+  pub held_then : {t u v : EntryTableView} {a b c : ImageFile S} {range : ℕ} → KeepsRangeHeld t a u b range → KeepsRangeHeld u b v c range → KeepsRangeHeld t a v c range
   held_then {c = c} first then = record {
     stays = λ held.
         let one = first.stays held in
@@ -62,26 +62,26 @@ module _ {S : Type 0} where
   }
 
   -- the allocator keeps its reftable then
-  pub held_as : {t u v : EntryTableView} {a b : ImageFile S} {range : ℕ} → v ≡ u → StaysHeld t a u b range → StaysHeld t a v b range
-  held_as {t = t} {a = a} {b = b} {range = range} same kept = subst (λ (x : EntryTableView). StaysHeld t a x b range) (sym same) kept
+  pub held_as : {t u v : EntryTableView} {a b : ImageFile S} {range : ℕ} → v ≡ u → KeepsRangeHeld t a u b range → KeepsRangeHeld t a v b range
+  held_as {t = t} {a = a} {b = b} {range = range} same kept = subst (λ (x : EntryTableView). KeepsRangeHeld t a x b range) (sym same) kept
 
-  pub held_by : {t u : EntryTableView} {a b c : ImageFile S} {range : ℕ} → c ≡ b → StaysHeld t a u b range → StaysHeld t a u c range
-  held_by {t = t} {u = u} {a = a} {range = range} same kept = subst (λ (x : ImageFile S). StaysHeld t a u x range) (sym same) kept
+  pub held_by : {t u : EntryTableView} {a b c : ImageFile S} {range : ℕ} → c ≡ b → KeepsRangeHeld t a u b range → KeepsRangeHeld t a u c range
+  held_by {t = t} {u = u} {a = a} {range = range} same kept = subst (λ (x : ImageFile S). KeepsRangeHeld t a u x range) (sym same) kept
 
-  pub held_at : {t u : EntryTableView} {a b : ImageFile S} {range range' : ℕ} → range' ≡ range → StaysHeld t a u b range → StaysHeld t a u b range'
-  held_at {t = t} {u = u} {a = a} {b = b} same kept = subst (StaysHeld t a u b) (sym same) kept
+  pub held_at : {t u : EntryTableView} {a b : ImageFile S} {range range' : ℕ} → range' ≡ range → KeepsRangeHeld t a u b range → KeepsRangeHeld t a u b range'
+  held_at {t = t} {u = u} {a = a} {b = b} same kept = subst (KeepsRangeHeld t a u b) (sym same) kept
 
   -- the range has no refblock
-  pub held_not : {t u : EntryTableView} {a b : ImageFile S} {range : ℕ} → HasNone t range → StaysHeld t a u b range
+  pub held_not : {t u : EntryTableView} {a b : ImageFile S} {range : ℕ} → HasNone t range → KeepsRangeHeld t a u b range
   held_not none = record { stays = λ held. absurd (held.named.some none) }
 
   -- the reftable has no entry for it
-  pub held_past : {t u : EntryTableView} {a b : ImageFile S} {range : ℕ} → entry_count t ≤ range → StaysHeld t a u b range
+  pub held_past : {t u : EntryTableView} {a b : ImageFile S} {range : ℕ} → entry_count t ≤ range → KeepsRangeHeld t a u b range
   held_past past = record { stays = λ held. absurd (let within = held.within in omega (arith, past, within)) }
 
   -- its refblock is loaded
   pub held_loaded : (t : EntryTableView) (file : ImageFile S) (storage : ImageStorage S) (caches : MetadataCaches S) (range cluster : ℕ) → cluster * cluster_size file.header.fields ≡ block_offset (entry_at t.bytes range)
-      → (IsSome (rb_at file.caches cluster) → IsSome (rb_at caches cluster) × (storage ≡ file.storage)) → StaysHeld t file t (record file { storage = storage; caches = caches }) range
+      → (IsSome (rb_at file.caches cluster) → IsSome (rb_at caches cluster) × (storage ≡ file.storage)) → KeepsRangeHeld t file t (record file { storage = storage; caches = caches }) range
   held_loaded t file storage caches range cluster names got = record {
     stays = λ held.
         let size : 0 < cluster_size file.header.fields = pow_pos file.header.fields.cluster_bits in
@@ -96,17 +96,17 @@ module _ {S : Type 0} where
 
   -- another call for a cluster of the range, by the header then
   pub held_next : {t u v : EntryTableView} {a b c : ImageFile S} (first k : ℕ) → KeepsHeader a.header b.header → k / counts_per_block a.header.fields ≡ first / counts_per_block a.header.fields
-      → StaysHeld t a u b (first / counts_per_block a.header.fields) → StaysHeld u b v c (k / counts_per_block b.header.fields) → StaysHeld t a v c (first / counts_per_block a.header.fields)
+      → KeepsRangeHeld t a u b (first / counts_per_block a.header.fields) → KeepsRangeHeld u b v c (k / counts_per_block b.header.fields) → KeepsRangeHeld t a v c (first / counts_per_block a.header.fields)
   held_next {a = a} {b = b} first k keeps same one two = held_then one (held_at (sym same ∙ ap (λ n. k / n) (sym (header_counts a.header b.header keeps))) two)
 
   -- one cluster more of a run is taken, or it stops the run, and those before are given back
   pub held_taken : {t u v : EntryTableView} {a b c : ImageFile S} (first taken : ℕ) → KeepsHeader a.header b.header → first + taken < range_end a.header.fields first
-      → (first + taken ≤ range_end a.header.fields first → StaysHeld t a u b (first / counts_per_block a.header.fields)) → StaysHeld u b v c ((first + taken) / counts_per_block b.header.fields) → StaysHeld t a v c (first / counts_per_block a.header.fields)
+      → (first + taken ≤ range_end a.header.fields first → KeepsRangeHeld t a u b (first / counts_per_block a.header.fields)) → KeepsRangeHeld u b v c ((first + taken) / counts_per_block b.header.fields) → KeepsRangeHeld t a v c (first / counts_per_block a.header.fields)
   held_taken {a = a} first taken keeps within so_far one = held_next first (first + taken) keeps (in_range a.header.fields first (first + taken) (omega arith) within) (so_far (omega (arith, within))) one
 
   pub held_stopped : {t u v w : EntryTableView} {a b c d : ImageFile S} (first taken : ℕ) → KeepsHeader a.header b.header → KeepsHeader b.header c.header → first + taken < range_end a.header.fields first
-      → (first + taken ≤ range_end a.header.fields first → StaysHeld t a u b (first / counts_per_block a.header.fields)) → StaysHeld u b v c ((first + taken) / counts_per_block b.header.fields)
-      → (first + taken ≤ range_end c.header.fields first → StaysHeld v c w d (first / counts_per_block c.header.fields)) → StaysHeld t a w d (first / counts_per_block a.header.fields)
+      → (first + taken ≤ range_end a.header.fields first → KeepsRangeHeld t a u b (first / counts_per_block a.header.fields)) → KeepsRangeHeld u b v c ((first + taken) / counts_per_block b.header.fields)
+      → (first + taken ≤ range_end c.header.fields first → KeepsRangeHeld v c w d (first / counts_per_block c.header.fields)) → KeepsRangeHeld t a w d (first / counts_per_block a.header.fields)
   held_stopped {a = a} {b = b} {c = c} first taken keeps keeps' within so_far one back =
       let keep = header_then a.header b.header c.header keeps keeps' in
       let end = end_as a.header c.header first keep in
@@ -114,7 +114,7 @@ module _ {S : Type 0} where
 
   -- a search that began at a cluster looks at more of its range, up to before an end
   pub held_run : {t u v : EntryTableView} {a b c : ImageFile S} (from first end : ℕ) → KeepsHeader a.header b.header → from ≤ first → first < end → end ≤ range_end a.header.fields from
-      → StaysHeld t a u b (from / counts_per_block a.header.fields) → (end ≤ range_end b.header.fields first → StaysHeld u b v c (first / counts_per_block b.header.fields)) → StaysHeld t a v c (from / counts_per_block a.header.fields)
+      → KeepsRangeHeld t a u b (from / counts_per_block a.header.fields) → (end ≤ range_end b.header.fields first → KeepsRangeHeld u b v c (first / counts_per_block b.header.fields)) → KeepsRangeHeld t a v c (from / counts_per_block a.header.fields)
   held_run {a = a} {b = b} from first end keeps behind some within so_far run =
       let range = in_range a.header.fields from first behind (omega (arith, some, within)) in
       let ends = end_as a.header b.header first keeps ∙ ap (λ n. (n + 1) * counts_per_block a.header.fields) range in
@@ -122,9 +122,9 @@ module _ {S : Type 0} where
 
   -- it goes on behind a cluster that is in use, perhaps in the next range, which has no refblock
   pub held_passed : {t u v w : EntryTableView} {a b c d : ImageFile S} (from first n taken : ℕ) → KeepsHeader a.header b.header → KeepsHeader b.header c.header → w ≡ v → from ≤ first → taken < n → first + n ≤ nameable_clusters a.header.fields
-      → (first + taken + 1 < range_end a.header.fields from) ⊎ IsInLastRange a.header.fields t from → StaysHeld t a u b (from / counts_per_block a.header.fields)
-      → (first + taken < range_end b.header.fields first → StaysHeld u b v c (first / counts_per_block b.header.fields)) → StaysHeld v c w d ((first + taken + 1) / counts_per_block c.header.fields)
-      → (HasNone v ((first + taken + 1) / counts_per_block c.header.fields) → d ≡ c) → StaysHeld t a w d (from / counts_per_block a.header.fields)
+      → (first + taken + 1 < range_end a.header.fields from) ⊎ IsInLastRange a.header.fields t from → KeepsRangeHeld t a u b (from / counts_per_block a.header.fields)
+      → (first + taken < range_end b.header.fields first → KeepsRangeHeld u b v c (first / counts_per_block b.header.fields)) → KeepsRangeHeld v c w d ((first + taken + 1) / counts_per_block c.header.fields)
+      → (HasNone v ((first + taken + 1) / counts_per_block c.header.fields) → d ≡ c) → KeepsRangeHeld t a w d (from / counts_per_block a.header.fields)
   held_passed {t = t} {v = v} {a = a} {b = b} {c = c} from first n taken keeps keeps' same behind less fits may so_far run pass none =
       let keep = header_then a.header b.header c.header keeps keeps' in
       let end : first + taken + 1 ≤ range_end a.header.fields from = elim may [
@@ -149,7 +149,7 @@ module _ {S : Type 0} where
       ]
 
   -- its caches were turned before, without a write
-  pub held_turned : (t : EntryTableView) (file : ImageFile S) (storage : ImageStorage S) (caches : MetadataCaches S) (range : ℕ) → storage ≡ file.storage → caches.rb ≡ file.caches.rb → StaysHeld t file t (record file { storage = storage; caches = caches }) range
+  pub held_turned : (t : EntryTableView) (file : ImageFile S) (storage : ImageStorage S) (caches : MetadataCaches S) (range : ℕ) → storage ≡ file.storage → caches.rb ≡ file.caches.rb → KeepsRangeHeld t file t (record file { storage = storage; caches = caches }) range
   held_turned t file storage caches range still blocks = record {
     stays = λ held. record {
       rest = ap (λ (s : ImageStorage S). record file { storage = s; caches = caches }) still;
@@ -158,13 +158,13 @@ module _ {S : Type 0} where
     };
   }
 
-  pub search_turned : {A : Type 0} (begin_of : A → ℕ) (t u : EntryTableView) (a b c : ImageFile S) (from n : ℕ) (r : Result A ImageError) → b.header ≡ a.header → ((range : ℕ) → StaysHeld t a t b range)
+  pub search_turned : {A : Type 0} (begin_of : A → ℕ) (t u : EntryTableView) (a b c : ImageFile S) (from n : ℕ) (r : Result A ImageError) → b.header ≡ a.header → ((range : ℕ) → KeepsRangeHeld t a t b range)
       → SearchesHeld begin_of t b u c from n r → SearchesHeld begin_of t a u c from n r
   search_turned begin_of t u a b c from n (Ok run) same one two = λ within. held_then (one (from / counts_per_block a.header.fields)) (held_at (ap (λ (h : HeaderView). from / counts_per_block h.fields) (sym same)) (two (subst (λ (h : HeaderView). begin_of run + n ≤ range_end h.fields from) (sym same) within)))
   search_turned begin_of t u a b c from n (Err e) same one two = λ ends. held_then (one (from / counts_per_block a.header.fields)) (held_at (ap (λ (h : HeaderView). from / counts_per_block h.fields) (sym same)) (two (subst (λ (h : HeaderView). (n ≡ 0) ⊎ IsInLastRange h.fields t from) (sym same) ends)))
 
   -- a held refblock is changed, and each that was held is
-  pub held_changed : (t : EntryTableView) (file : ImageFile S) (caches : MetadataCaches S) (range : ℕ) → ((k : ℕ) → IsSome (rb_at file.caches k) → IsSome (rb_at caches k)) → StaysHeld t file t (record file { caches = caches }) range
+  pub held_changed : (t : EntryTableView) (file : ImageFile S) (caches : MetadataCaches S) (range : ℕ) → ((k : ℕ) → IsSome (rb_at file.caches k) → IsSome (rb_at caches k)) → KeepsRangeHeld t file t (record file { caches = caches }) range
   held_changed t file caches range each = record {
     stays = λ held. record { rest = refl; table = refl; held = record { within = held.within; named = held.named; held = each held.named.block held.held } };
   }

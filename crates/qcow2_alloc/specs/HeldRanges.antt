@@ -36,10 +36,10 @@ pub record ChangesCachesAlone {S : Type 0} (reftable : EntryTableView) (old : Im
   pub held : HoldsRange new.header.fields reftable' new.caches range
 
 -- so it is where that refblock was held
-pub record StaysHeld {S : Type 0} (reftable : EntryTableView) (old : ImageFile S) (reftable' : EntryTableView) (new : ImageFile S) (range : ℕ) : Type 0 where
+pub record KeepsRangeHeld {S : Type 0} (reftable : EntryTableView) (old : ImageFile S) (reftable' : EntryTableView) (new : ImageFile S) (range : ℕ) : Type 0 where
   pub stays : HoldsRange old.header.fields reftable old.caches range → ChangesCachesAlone reftable old reftable' new range
 
 -- So it is of a search for n clusters that ends in the range that it begins in. Refused, it does where that is the last range, or n is 0.
 abbrev pub SearchesHeld : {S A : Type 0} → (A → ℕ) → EntryTableView → ImageFile S → EntryTableView → ImageFile S → (from n : ℕ) → Result A ImageError → Type 0
-SearchesHeld begin_of reftable old reftable' new from n (Ok run) = begin_of run + n ≤ range_end old.header.fields from → StaysHeld reftable old reftable' new (from / counts_per_block old.header.fields)
-SearchesHeld begin_of reftable old reftable' new from n (Err e) = (n ≡ 0) ⊎ IsInLastRange old.header.fields reftable from → StaysHeld reftable old reftable' new (from / counts_per_block old.header.fields)
+SearchesHeld begin_of reftable old reftable' new from n (Ok run) = begin_of run + n ≤ range_end old.header.fields from → KeepsRangeHeld reftable old reftable' new (from / counts_per_block old.header.fields)
+SearchesHeld begin_of reftable old reftable' new from n (Err e) = (n ≡ 0) ⊎ IsInLastRange old.header.fields reftable from → KeepsRangeHeld reftable old reftable' new (from / counts_per_block old.header.fields)

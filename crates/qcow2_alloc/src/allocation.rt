@@ -13,7 +13,7 @@ ghost use Rattle.qcow2_alloc.specs.CachePins.{KeepsPinsAndNotes};
 ghost use Rattle.qcow2_alloc.specs.Faults.{CountsFaults};
 ghost use Rattle.qcow2_alloc.specs.SparedHeaders.{AreBehindHeader, NamesReftableBehind, StandsBehindHeader, SparesHeaderButPointer};
 ghost use Rattle.qcow2_alloc.specs.QuietSearches.{CountsOrMakes, CountsRunOrMakes, SearchesQuietly};
-ghost use Rattle.qcow2_alloc.specs.HeldRanges.{range_end, HoldsCountOf, StaysHeld, SearchesHeld};
+ghost use Rattle.qcow2_alloc.specs.HeldRanges.{range_end, HoldsCountOf, KeepsRangeHeld, SearchesHeld};
 ghost use Rattle.qcow2_alloc.specs.Limits.{IsFaultOr, IsOfTaking, EndsAtFirst, IsOfSearch, HasNoPlace, CantCount, CantCountRun, nameable_clusters};
 ghost use Rattle.qcow2_alloc.specs.SoundAllocators.{SoundAllocator};
 ghost use Rattle.qcow2_alloc.specs.LowestRuns.{NoFreeBelowHint, IsLowestRun, IsUsed, KeepsNoFreeBelowHint, KeepsUsed, StaysUsed};
@@ -196,7 +196,7 @@ impl Allocator {
         ensures uses { (p : Pending) → AllocatorInvariant S.view self.old p file.old → OnOk result (StaysUsed S.view file.old file.new) }
         ensures hint { (p : Pending) → SoundAllocator S.view self.old p file.old → KeepsNoFreeBelowHint S.view self.new file.new result }
         ensures quiet { OnOk result (SearchesQuietly S.view file.old file.new self.old.reftable self.new.reftable) }
-        ensures held_range { order_of file.old.caches ≢ RbDependsOnL2 → StaysHeld self.old.reftable file.old self.new.reftable file.new (cluster / counts_per_block file.old.header.fields) }
+        ensures held_range { order_of file.old.caches ≢ RbDependsOnL2 → KeepsRangeHeld self.old.reftable file.old self.new.reftable file.new (cluster / counts_per_block file.old.header.fields) }
         ensures holds { IfOk result (λ run. IsSome run → HoldsCountOf self.new.reftable file.new cluster) }
         ensures header_cluster { SparesHeaderButPointer S.view self.old.reftable file.old self.new.reftable file.new }
     {
@@ -336,8 +336,8 @@ impl Allocator {
         ensures hint { (p : Pending) (is_data : Bool) → AllocatorInvariant S.view self.old p file.old → MayTake is_data file.old → NoFreeBelowHint S.view self.old file.old → KeepsNoFreeBelowHint S.view self.new file.new result }
         ensures uses { (p : Pending) (is_data : Bool) → AllocatorInvariant S.view self.old p file.old → MayTake is_data file.old → KeepsUsed S.view file.old file.new result }
         ensures quiet { n ≤ 1 → IfOk result (CountsRunOrMakes S.view file.old file.new self.old.reftable self.new.reftable n) }
-        ensures held_range { first + n ≤ range_end file.old.header.fields first → StaysHeld self.old.reftable file.old self.new.reftable file.new (first / counts_per_block file.old.header.fields) }
-        ensures held_used { IfOk result (λ taken. taken ≢ n → first + taken < range_end file.old.header.fields first → StaysHeld self.old.reftable file.old self.new.reftable file.new (first / counts_per_block file.old.header.fields)) }
+        ensures held_range { first + n ≤ range_end file.old.header.fields first → KeepsRangeHeld self.old.reftable file.old self.new.reftable file.new (first / counts_per_block file.old.header.fields) }
+        ensures held_used { IfOk result (λ taken. taken ≢ n → first + taken < range_end file.old.header.fields first → KeepsRangeHeld self.old.reftable file.old self.new.reftable file.new (first / counts_per_block file.old.header.fields)) }
         ensures holds { IfOk result (λ taken. taken ≡ n → 0 < n → HoldsCountOf self.new.reftable file.new (first + n - 1)) }
         ensures header_cluster { SparesHeaderButPointer S.view self.old.reftable file.old self.new.reftable file.new }
     {
@@ -386,7 +386,7 @@ impl Allocator {
         ensures uses { (p : Pending) (is_data : Bool) → AllocatorInvariant S.view self.old p file.old → MayTake is_data file.old → KeepsUsed S.view file.old file.new result }
         ensures free { (p : Pending) → AllocatorInvariant S.view self.old p file.old → IfOk result (λ taken. IsTrue taken → ¬ IsUsed S.view file.old cluster) }
         ensures quiet { IfOk result (CountsOrMakes S.view file.old file.new self.old.reftable self.new.reftable) }
-        ensures held_range { StaysHeld self.old.reftable file.old self.new.reftable file.new (cluster / counts_per_block file.old.header.fields) }
+        ensures held_range { KeepsRangeHeld self.old.reftable file.old self.new.reftable file.new (cluster / counts_per_block file.old.header.fields) }
         ensures holds { IfOk result (λ taken. IsTrue taken → HoldsCountOf self.new.reftable file.new cluster) }
         ensures header_cluster { SparesHeaderButPointer S.view self.old.reftable file.old self.new.reftable file.new }
     {

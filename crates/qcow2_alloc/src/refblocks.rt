@@ -9,7 +9,7 @@ ghost use Rattle.qcow2_alloc.specs.CachePins.{LeavesPinned};
 ghost use Rattle.qcow2_alloc.specs.Faults.{CountsFaults};
 ghost use Rattle.qcow2_alloc.specs.SparedHeaders.{KeepBehindHeader, SparesHeader, SparesHeaderButPointer};
 ghost use Rattle.qcow2_alloc.specs.QuietSearches.{CountsQuietly, LooksOrMakes, LooksQuietly};
-ghost use Rattle.qcow2_alloc.specs.HeldRanges.{HoldsRange, HoldsCountOf, StaysHeld};
+ghost use Rattle.qcow2_alloc.specs.HeldRanges.{HoldsRange, HoldsCountOf, KeepsRangeHeld};
 ghost use Rattle.qcow2_alloc.specs.Limits.{IsFaultOr, CantCount};
 ghost use Rattle.qcow2_alloc.specs.LowestRuns.{NoFreeBelowHint, IsUsed, KeepsNoFreeBelowHint, KeepsUsed};
 ghost use Rattle.qcow2_alloc.specs.ImageError.{IsOfTables, IsFault};
@@ -117,7 +117,7 @@ impl Allocator {
         ensures none { HasNone self.now.reftable range → (result ≡ Ok None) × (file.new ≡ file.old) }
         ensures storage_faults { CountsFaults S.view file.old.storage file.new.storage result }
         ensures quiet { LooksQuietly S.view file.old file.new }
-        ensures held_range { StaysHeld self.now.reftable file.old self.now.reftable file.new range }
+        ensures held_range { KeepsRangeHeld self.now.reftable file.old self.now.reftable file.new range }
         ensures holds { IfOk result (λ block. IsSome block → HoldsRange file.new.header.fields self.now.reftable file.new.caches range) }
         ensures header_cluster { SparesHeader S.view self.now.reftable file.old self.now.reftable file.new }
     {
@@ -152,7 +152,7 @@ impl Allocator {
         ensures unaligned { IsUnaligned file.old.header.fields self.old.reftable (cluster / counts_per_block file.old.header.fields) → IsErrOf result ImageError.UnalignedTable × (file.new ≡ file.old) }
         ensures aligned { IfOk result (λ taken. IsTrue taken → HasAlignedBlock file.old.header.fields self.old.reftable (cluster / counts_per_block file.old.header.fields)) }
         ensures quiet { IfOk result (CountsQuietly S.view file.old file.new) }
-        ensures held_range { StaysHeld self.old.reftable file.old self.new.reftable file.new (cluster / counts_per_block file.old.header.fields) }
+        ensures held_range { KeepsRangeHeld self.old.reftable file.old self.new.reftable file.new (cluster / counts_per_block file.old.header.fields) }
         ensures holds { IfOk result (λ taken. IsTrue taken → HoldsCountOf self.new.reftable file.new cluster) }
         ensures header_cluster { SparesHeader S.view self.old.reftable file.old self.new.reftable file.new }
     {
@@ -188,7 +188,7 @@ impl Allocator {
         ensures hint { (p : Pending) → AllocatorInvariant S.view self.old p file.old → NoFreeBelowHint S.view self.old file.old → KeepsNoFreeBelowHint S.view self.new file.new result }
         ensures uses { (p : Pending) → AllocatorInvariant S.view self.old p file.old → KeepsUsed S.view file.old file.new result }
         ensures quiet { OnOk result (LooksOrMakes S.view file.old file.new self.old.reftable self.new.reftable) }
-        ensures held_range { StaysHeld self.old.reftable file.old self.new.reftable file.new (cluster / counts_per_block file.old.header.fields) }
+        ensures held_range { KeepsRangeHeld self.old.reftable file.old self.new.reftable file.new (cluster / counts_per_block file.old.header.fields) }
         ensures header_cluster { SparesHeaderButPointer S.view self.old.reftable file.old self.new.reftable file.new }
     {
         let range = (cluster >> file.header.rb_bits()) as usize;
@@ -220,7 +220,7 @@ impl Allocator {
         ensures has { OnOk result (HasNone self.new.reftable (cluster / counts_per_block file.old.header.fields) → ⊥) }
         ensures hint { (p : Pending) → AllocatorInvariant S.view self.old p file.old → NoFreeBelowHint S.view self.old file.old → KeepsNoFreeBelowHint S.view self.new file.new result }
         ensures quiet { OnOk result (LooksOrMakes S.view file.old file.new self.old.reftable self.new.reftable) }
-        ensures held_range { StaysHeld self.old.reftable file.old self.new.reftable file.new (cluster / counts_per_block file.old.header.fields) }
+        ensures held_range { KeepsRangeHeld self.old.reftable file.old self.new.reftable file.new (cluster / counts_per_block file.old.header.fields) }
         ensures header_cluster { SparesHeader S.view self.old.reftable file.old self.new.reftable file.new }
     {
         let bits = file.header.rb_bits();

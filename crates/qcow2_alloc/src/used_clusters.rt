@@ -10,7 +10,7 @@ ghost use Rattle.qcow2_alloc.specs.ImageError.{IsOfTables};
 ghost use Rattle.qcow2_alloc.specs.ImageFile.{AllocatorInvariant};
 ghost use Rattle.qcow2_alloc.specs.LowestRuns.{NoFreeBelowHint, KeepsNoFreeBelowHint};
 ghost use Rattle.qcow2_alloc.specs.QuietSearches.{LooksQuietly};
-ghost use Rattle.qcow2_alloc.specs.HeldRanges.{StaysHeld};
+ghost use Rattle.qcow2_alloc.specs.HeldRanges.{KeepsRangeHeld};
 ghost use Rattle.qcow2_alloc.specs.UsedCounts.{passed_hint, PassesUsed, GoesFar};
 
 use crate::{Allocator, ImageError, ImageFile};
@@ -38,7 +38,7 @@ impl Allocator {
         ensures unaligned { IsUnaligned file.old.header.fields self.old.reftable (cluster / counts_per_block file.old.header.fields) → IsErrOf result ImageError.UnalignedTable × (file.new ≡ file.old) }
         ensures none { HasNone self.old.reftable (cluster / counts_per_block file.old.header.fields) → file.new ≡ file.old }
         ensures quiet { LooksQuietly S.view file.old file.new }
-        ensures held_range { StaysHeld self.old.reftable file.old self.new.reftable file.new (cluster / counts_per_block file.old.header.fields) }
+        ensures held_range { KeepsRangeHeld self.old.reftable file.old self.new.reftable file.new (cluster / counts_per_block file.old.header.fields) }
         ensures header_cluster { SparesHeader S.view self.old.reftable file.old self.new.reftable file.new }
     {
         let next = self.behind_used(file, cluster)?;
@@ -66,7 +66,7 @@ impl Allocator {
         ensures unaligned { IsUnaligned file.old.header.fields self.now.reftable (cluster / counts_per_block file.old.header.fields) → IsErrOf result ImageError.UnalignedTable × (file.new ≡ file.old) }
         ensures none { HasNone self.now.reftable (cluster / counts_per_block file.old.header.fields) → file.new ≡ file.old }
         ensures quiet { LooksQuietly S.view file.old file.new }
-        ensures held_range { StaysHeld self.now.reftable file.old self.now.reftable file.new (cluster / counts_per_block file.old.header.fields) }
+        ensures held_range { KeepsRangeHeld self.now.reftable file.old self.now.reftable file.new (cluster / counts_per_block file.old.header.fields) }
         ensures header_cluster { SparesHeader S.view self.now.reftable file.old self.now.reftable file.new }
     {
         let bits = file.header.rb_bits();

@@ -5,7 +5,7 @@ use Rattle.qcow2_laws.specs.CrashInvariant.{Pending}
 use Rattle.qcow2_alloc.specs.Allocation.{LacksBlock, UnseenAllocatorGrowth, MayTake, SameLeaks}
 use Rattle.qcow2_alloc.specs.KeptMarks.{KeepsMarks}
 use Rattle.qcow2_alloc.specs.Faults.{faults_of}
-use Rattle.qcow2_alloc.specs.HeldRanges.{range_end, IsInLastRange, StaysHeld}
+use Rattle.qcow2_alloc.specs.HeldRanges.{range_end, IsInLastRange, KeepsRangeHeld}
 use Rattle.qcow2_alloc.specs.ImageFile.{AllocatorInvariant, KeepsHeader}
 use Rattle.qcow2_alloc.specs.FreeList.{pending_then, ListsTables, ListsReftables}
 use Rattle.qcow2_alloc.specs.LowestRuns.{NoFreeBelowHint, IsLowestRun, IsUsed, StaysUsed}
@@ -25,7 +25,7 @@ invariant-search g l = record {
   above : 0 < l.first;
   behind : max l.fn.self.first_free_cluster 1 ≤ l.first;
   held : (l.first < range_end l.fn.file.header.fields (max l.fn.self.first_free_cluster 1)) ⊎ ((l.fn.n ≡ 0) ⊎ IsInLastRange l.fn.file.header.fields l.fn.self.reftable (max l.fn.self.first_free_cluster 1))
-      → StaysHeld l.fn.self.reftable l.fn.file l.self.reftable l.file (max l.fn.self.first_free_cluster 1 / counts_per_block l.fn.file.header.fields);
+      → KeepsRangeHeld l.fn.self.reftable l.fn.file l.self.reftable l.file (max l.fn.self.first_free_cluster 1 / counts_per_block l.fn.file.header.fields);
   quiet : l.fn.n ≤ 1 → LooksOrMakes g.S.Storage.view l.fn.file l.file l.fn.self.reftable l.self.reftable;
   marks : KeepsMarks g.S.Storage.view l.fn.file l.file;
   faults : faults_of g.S.Storage.view l.file.storage ≡ faults_of g.S.Storage.view l.fn.file.storage;
