@@ -2,3 +2,4 @@ pub mod Written
 pub mod Hosted
 pub mod Put
 pub mod PutParts
+pub mod ToldPuts

@@ -1,5 +1,6 @@
 -- What want of memory leaves of an image, and what a call counts of changes.
-use Rattle.std.specs.Prelude.{◌≡◌, ◌⊎◌, ℕ, ◌+◌, ◌<◌, ◌≤◌, List, Result, Ok, Err, IfErr, IsErrOf, IsSome, IsTrue}
+use Rattle.std.specs.Prelude.{◌≡◌, ◌⊎◌, ℕ, ◌+◌, ◌<◌, ◌≤◌, List, Option, Result, Ok, Err, IfErr, IsErrOf, IsSome, IsTrue}
+use Rattle.image_access.specs.Backing.{BackingView}
 use Rattle.image_access.specs.Contents.{overwritten}
 use Rattle.image_access.specs.Moments.{StorageView, ContentsStay, EachMomentSince, Rose}
 use Rattle.qcow2_alloc.specs.declared.error.ImageError.{ImageError}
@@ -8,8 +9,9 @@ use Rattle.qcow2_alloc.specs.ImageFile.{view_in}
 use Rattle.qcow2_image.specs.declared.image.Qcow2.{Qcow2}
 use Rattle.qcow2_image.specs.declared.prepared.CommitRefused.{CommitRefused}
 use Rattle.qcow2_image.specs.declared.prepared.Prepared.{Prepared}
-use Rattle.qcow2_image.specs.CallParts.{IsWriteOutcome}
+use Rattle.qcow2_image.specs.CallParts.{IsWriteOutcome, UnseenCall}
 use Rattle.qcow2_image.specs.Calls.{reason_of}
+use Rattle.qcow2_image.specs.ImageInvariant.{abstract_of}
 use Rattle.qcow2_image.specs.Prepared.{offset_of, table_of}
 use Rattle.qcow2_alloc.specs.ImageStorage.{changes_of, data_changes_of}
 use Rattle.qcow2_alloc.specs.KeptMarks.{HaveRisen, changes_in}
@@ -40,7 +42,7 @@ module _ {S F : Type 0} where
 
   -- No change of the storage was counted, or a single one, which was told as data. In all one more is told so at most.
   pub record TellsDataAlone (old new : Qcow2 S F) : Type 0 where
-    pub changes : (changes_of new.file.storage ≡ changes_of old.file.storage) ⊎ (TellsData old new × (changes_of new.file.storage ≤ changes_of old.file.storage + 1))
+    pub changes : ((changes_of new.file.storage ≡ changes_of old.file.storage) × TellsNoData old new) ⊎ (TellsData old new × (changes_of new.file.storage ≤ changes_of old.file.storage + 1))
     pub told : data_changes_of new.file.storage ≤ data_changes_of old.file.storage + 1
 
 -- what preparing may tell as data: nothing, where it answers an existing mapping
@@ -88,12 +90,14 @@ module _ {S F : Type 0} (view : S → StorageView) (old new : Qcow2 S F) where
     pub contents : ¬ IsTrue (has_noted_change old) → ¬ ChangesRose old new → ContentsStay (view_in view old.file) (view_in view new.file)
     pub kinds : TellsNoData old new
 
--- There is an image `before`, up to which no write was told as data. From there on the put's bytes are written by a single write, at their place in the mapping.
--- So the put tells one change as data at most. Into a mapping that isn't existing nothing else is written.
-pub record TellsPut {S F : Type 0} (view : S → StorageView) (p : Prepared) (at : ℕ) (bytes : List ℕ) (old new : Qcow2 S F) (result : Result (Unit {0}) ImageError) : Type 0 where
+-- There is an image `before`, up to which no write was told as data. On a sound image it is sound, and the guest sees what it saw.
+-- From there on the put's bytes are written by a single write, at their place in the mapping. So the put tells one change as data at most.
+-- Into a mapping that isn't existing nothing else is written.
+pub record TellsPut {S F : Type 0} (view : S → StorageView) (backing : F → BackingView) (p : Prepared) (at : ℕ) (bytes : List ℕ) (old new : Qcow2 S F) (result : Result (Unit {0}) ImageError) : Type 0 where
   pub before : Qcow2 S F
   pub honest : (view_in view old.file).is_honest → (view_in view before.file).is_honest
   pub earlier : TellsNoData old before
+  pub unseen : (out : List (Option Prepared)) → (abstract_of view backing old out).is_sound → UnseenCall view backing old before out
   pub idle : IsSome (table_of p) → (storage_of_image before ≡ storage_of_image old) × (changes_of before.file.storage ≡ changes_of old.file.storage)
   pub alone : TellsDataAlone before new
   pub time : (view_in view before.file).is_honest → EachMomentSince (view_in view before.file) (view_in view new.file) (λ c. c ≡ (view_in view new.file).contents)

@@ -356,7 +356,7 @@ impl<S: Storage, F: WrappedFormat<S>> Qcow2<S, F> {
         ensures held { refuses_mapping self.old (image_of prepared.now) ≡ None → table_of prepared.now ≡ None → 0 < length bytes.now → HeedsHeld self.new (prepared.now.guest + at) (Raw Image (prepared.now.offset + at) true) (length bytes.now) result }
         ensures freeing { ListStays self.old self.new }
         ensures header_cluster { StaysBehindHeader S.view self.old self.new }
-        ensures kinds { TellsPut S.view prepared.now at bytes.now self.old self.new result }
+        ensures kinds { TellsPut S.view F.backing prepared.now at bytes.now self.old self.new result }
         ensures told { 0 < length bytes.now → OnOk result (TellsData self.old self.new) }
     {
         self.check_usable()?;
@@ -396,7 +396,7 @@ impl<S: Storage, F: WrappedFormat<S>> Qcow2<S, F> {
         ensures list { ListStays self.old self.new }
         ensures held { table_of prepared.now ≡ None → 0 < length bytes.now → HeedsHeld self.new (prepared.now.guest + at) (Raw Image (prepared.now.offset + at) true) (length bytes.now) result }
         ensures header_cluster { StaysBehindHeader S.view self.old self.new }
-        ensures kinds { TellsPut S.view prepared.now at bytes.now self.old self.new result }
+        ensures kinds { TellsPut S.view F.backing prepared.now at bytes.now self.old self.new result }
         ensures told { OnOk result (TellsData self.old self.new) }
     {
         let Some(host) = prepared.offset.checked_add(at) else {

@@ -1,13 +1,9 @@
--- What calls tell as data: a write, parts that tell nothing so, a call that begins, does a part, and is marked, and a put.
+-- What calls tell as data: a write, parts that tell nothing so, and a call that begins, does a part, and is marked.
 use Rattle.std.proofs.Common.{◌≡◌, ◌⊎◌, ℕ, ◌+◌, ◌≤◌, Bool, true, false, List, [], Option, Some, None, IsSome, Result, Ok, Err, inl, inr, refl, sym, ap, ◌∙◌, subst, arith}
-use Rattle.image_access.specs.Contents.{overwritten}
 use Rattle.image_access.specs.Moments.{StorageView, Rose}
 use Rattle.image_access.specs.declared.error.StorageError.{StorageError}
 use Rattle.image_access.specs.declared.error.StorageError.TheVariants.{Fault, Memory}
-use Rattle.image_access.proofs.EachMomentSince.{passes_none}
 use Rattle.qcow2_alloc.specs.declared.error.ImageError.{ImageError}
-use Rattle.qcow2_alloc.specs.declared.error.ImageError.TheVariants as I
-use Rattle.qcow2_alloc.specs.ImageFile.{view_in}
 use Rattle.qcow2_alloc.specs.ImageStorage.{kind_of, changes_of, data_changes_of, CountsKind, CountsWrite, NotesWrite, SameNotes}
 use Rattle.qcow2_alloc.specs.KeptMarks.{KeepNotes}
 use Rattle.qcow2_alloc.specs.KeptNotes.{NoData}
@@ -16,11 +12,10 @@ use Rattle.qcow2_alloc.specs.declared.image_storage.ImageStorage.{ImageStorage}
 use Rattle.qcow2_alloc.specs.declared.image_storage.WriteKind.TheVariants.{Data}
 use Rattle.qcow2_image.specs.declared.image.Qcow2.{Qcow2}
 use Rattle.qcow2_image.specs.declared.prepared.Prepared.{Prepared}
-use Rattle.qcow2_image.specs.CallParts.{IsWriteOutcome}
-use Rattle.qcow2_image.specs.Image.{IsBegun, storage_of_image}
+use Rattle.qcow2_image.specs.Image.{IsBegun}
 use Rattle.std.specs.Prelude.{IfOk}
-use Rattle.qcow2_image.specs.Noted.{DataUnlessExisting, TellsData, TellsDataAlone, TellsNoData, TellsPut}
-use Rattle.qcow2_image.specs.Prepared.{offset_of, table_of}
+use Rattle.qcow2_image.specs.Noted.{DataUnlessExisting, TellsData, TellsDataAlone, TellsNoData}
+use Rattle.qcow2_image.specs.Prepared.{table_of}
 
 module _ {S : Type 0} {view : S → StorageView} where
   -- a part that tells nothing as data
@@ -49,23 +44,23 @@ module _ {S : Type 0} (before mid now : ImageStorage S) (noted : SameNotes befor
       let as_data : CountsKind Data (data_changes_of mid) (data_changes_of now) = subst (λ k. CountsKind k (data_changes_of mid) (data_changes_of now)) told counts in
       subst (λ n. Rose n (data_changes_of now)) noted.kinds as_data.2
 
-  one_write : CountsWrite mid now → ((changes_of now ≡ changes_of before) ⊎ (Rose (data_changes_of before) (data_changes_of now) × (changes_of now ≤ changes_of before + 1))) × (data_changes_of now ≤ data_changes_of before + 1)
+  one_write : CountsWrite mid now → (((changes_of now ≡ changes_of before) × (data_changes_of now ≡ data_changes_of before)) ⊎ (Rose (data_changes_of before) (data_changes_of now) × (changes_of now ≤ changes_of before + 1))) × (data_changes_of now ≤ data_changes_of before + 1)
   one_write counts =
       let as_data : CountsKind Data (data_changes_of mid) (data_changes_of now) = subst (λ k. CountsKind k (data_changes_of mid) (data_changes_of now)) told counts.1 in
       (inr (data_told counts.1, subst (λ n. changes_of now ≤ n + 1) noted.count counts.0.3), subst (λ n. data_changes_of now ≤ n + 1) noted.kinds as_data.3)
 
   pub data_alone_told : (r : Result (Unit {0}) StorageError) → NotesWrite mid now r
-      → ((changes_of now ≡ changes_of before) ⊎ (Rose (data_changes_of before) (data_changes_of now) × (changes_of now ≤ changes_of before + 1))) × (data_changes_of now ≤ data_changes_of before + 1)
+      → (((changes_of now ≡ changes_of before) × (data_changes_of now ≡ data_changes_of before)) ⊎ (Rose (data_changes_of before) (data_changes_of now) × (changes_of now ≤ changes_of before + 1))) × (data_changes_of now ≤ data_changes_of before + 1)
   data_alone_told (Ok _) notes = one_write notes
   data_alone_told (Err Fault) notes = one_write notes
-  data_alone_told (Err Memory) notes = (inl (notes.count ∙ noted.count), none_more (notes.kinds ∙ noted.kinds))
+  data_alone_told (Err Memory) notes = (inl (notes.count ∙ noted.count, notes.kinds ∙ noted.kinds), none_more (notes.kinds ∙ noted.kinds))
 
 module _ {S F : Type 0} {old new : Qcow2 S F} where
   -- no change at all, and a single write
   pub none_alone : changes_of new.file.storage ≡ changes_of old.file.storage → data_changes_of new.file.storage ≡ data_changes_of old.file.storage → TellsDataAlone old new
-  none_alone same kinds = record { changes = inl same; told = none_more kinds }
+  none_alone same kinds = record { changes = inl (same, kinds); told = none_more kinds }
 
-  pub alone_of : ((changes_of new.file.storage ≡ changes_of old.file.storage) ⊎ (TellsData old new × (changes_of new.file.storage ≤ changes_of old.file.storage + 1))) × (data_changes_of new.file.storage ≤ data_changes_of old.file.storage + 1)
+  pub alone_of : (((changes_of new.file.storage ≡ changes_of old.file.storage) × TellsNoData old new) ⊎ (TellsData old new × (changes_of new.file.storage ≤ changes_of old.file.storage + 1))) × (data_changes_of new.file.storage ≤ data_changes_of old.file.storage + 1)
       → TellsDataAlone old new
   alone_of is = record { changes = is.0; told = is.1 }
 
@@ -96,68 +91,3 @@ module _ {S F : Type 0} (view : S → StorageView) (old begun is new : Qcow2 S F
     | inr same ↦ none_told_by marked ∙ same ∙ begins.kinds
   ]
   existing_in_call (Err e) begins kept marked = tt
-
--- a refused write of which nothing is there
-outcome_none : (e : ImageError) (old changed : List ℕ) → IsWriteOutcome (Err e) old changed old
-outcome_none I.ReadOnly old changed = refl
-outcome_none I.BeyondSize old changed = refl
-outcome_none I.Version old changed = refl
-outcome_none I.UnalignedTable old changed = refl
-outcome_none I.InvalidOption old changed = refl
-outcome_none I.Preallocation old changed = refl
-outcome_none I.Compressed old changed = refl
-outcome_none I.InUse old changed = refl
-outcome_none I.TablePrepared old changed = refl
-outcome_none I.OutdatedMapping old changed = refl
-outcome_none I.ForeignState old changed = refl
-outcome_none I.Dependency old changed = refl
-outcome_none I.Limit old changed = refl
-outcome_none I.Memory old changed = refl
-outcome_none I.Storage old changed = inl refl
-outcome_none I.Failed old changed = refl
-outcome_none I.MappingPrepared old changed = refl
-outcome_none (I.NotCompressed offset) old changed = refl
-outcome_none I.Metadata old changed = refl
-outcome_none I.Overflow old changed = refl
-outcome_none (I.StillInUse tables) old changed = refl
-
-module _ {S F : Type 0} (view : S → StorageView) (p : Prepared) (at : ℕ) (bytes : List ℕ) where
-  -- a put that is refused before its bytes are written, and one of no bytes
-  pub put_unwritten : (old now : Qcow2 S F) (e : ImageError) → ((view_in view old.file).is_honest → (view_in view now.file).is_honest) → TellsNoData old now → (IsSome (table_of p) → now ≡ old) → TellsPut view p at bytes old now (Err e)
-  put_unwritten old now e honest none idle = record {
-    before = now;
-    honest = honest;
-    earlier = none;
-    idle = λ some. (ap (λ (i : Qcow2 S F). storage_of_image i) (idle some), ap (λ (i : Qcow2 S F). changes_of i.file.storage) (idle some));
-    alone = none_alone refl refl;
-    time = λ _. passes_none (view_in view now.file) _;
-    written = λ _. outcome_none e _ _;
-  }
-
-  pub put_refused : (old : Qcow2 S F) (e : ImageError) → TellsPut view p at bytes old old (Err e)
-  put_refused old e = put_unwritten old old e (λ h. h) refl (λ _. refl)
-
-  pub put_nothing : (old : Qcow2 S F) → bytes ≡ [] → TellsPut view p at bytes old old (Ok tt)
-  unfolding overwritten
-  put_nothing old empty = record {
-    before = old;
-    honest = λ h. h;
-    earlier = refl;
-    idle = λ _. (refl, refl);
-    alone = none_alone refl refl;
-    time = λ _. passes_none (view_in view old.file) _;
-    written = λ _. subst (λ (b : List ℕ). (view_in view old.file).contents ≡ overwritten (view_in view old.file).contents (offset_of p + at) b) (sym empty) refl;
-  }
-
-  -- a call of one part that puts them, whose end is marked
-  pub put_in_call : (old begun is new : Qcow2 S F) (r : Result (Unit {0}) ImageError) → IsBegun old begun → TellsPut view p at bytes begun is r → (failed : Bool) → new ≡ record is { is_failed = failed } → TellsPut view p at bytes old new r
-  put_in_call old begun is new r begins puts failed marked =
-      subst (λ (i : Qcow2 S F). TellsPut view p at bytes old i r) (sym marked) (record {
-        before = puts.before;
-        honest = λ h. puts.honest (subst (λ (s : S). (view s).is_honest) (sym begins.storage) h);
-        earlier = puts.earlier ∙ begins.kinds;
-        idle = λ some. ((puts.idle some).0 ∙ begins.storage, (puts.idle some).1 ∙ begins.counts);
-        alone = alone_of (puts.alone.changes, puts.alone.told);
-        time = puts.time;
-        written = puts.written;
-      })

@@ -28,7 +28,8 @@ use Rattle.image_access.specs.Moments.{Rose}
 use Rattle.qcow2_alloc.specs.ImageStorage.{changes_of, data_changes_of}
 use Rattle.qcow2_image.specs.Image.{storage_of_image}
 use Rattle.qcow2_image.specs.Noted.{TellsPut}
-use Rattle.qcow2_image.proofs.Call.ToldData.{none_told, put_refused, put_unwritten}
+use Rattle.qcow2_image.proofs.Call.ToldData.{none_told}
+use Rattle.qcow2_image.proofs.Write.ToldPuts.{checked_unseen, put_refused, put_unwritten}
 
 pub returns-in_err-check_in_place-clause-puts : goal.returns-in_err-check_in_place-clause-puts
 returns-in_err-check_in_place-clause-puts g c = λ some fits out k placed sound.
@@ -137,15 +138,16 @@ returns-clause-met g c = λ fits some out k placed sound.
     met_as IsFault (IsMetPutting (IsCacheHeld c.args.self.now out) p c.args.at) c.write_data.result (λ e fault. inl fault) (c.write_data.ensures.fault (omega (arith, behind, host_is)))
 
 pub returns-in_default-clause-kinds : goal.returns-in_default-clause-kinds
-returns-in_default-clause-kinds g c = put_refused g.S.Storage.view c.args.prepared.now c.args.at c.args.bytes.now c.args.self.now Overflow
+returns-in_default-clause-kinds g c = put_refused g.S.Storage.view g.F.BackingDisk.backing c.args.prepared.now c.args.at c.args.bytes.now c.args.self.now Overflow
 
 pub returns-in_err-check_in_place-clause-kinds : goal.returns-in_err-check_in_place-clause-kinds
 returns-in_err-check_in_place-clause-kinds g c =
     let p = c.args.prepared.now in
     let new = c.check_in_place.new.self in
     let e = c.in_err-check_in_place.field-0.0 in
-    handed_on (TellsPut g.S.Storage.view p c.args.at c.args.bytes.now c.args.self.now new) c.from_residual.result e c.from_residual.ensures
-    (put_unwritten g.S.Storage.view p c.args.at c.args.bytes.now c.args.self.now new e c.check_in_place.ensures.notes.storage.honest (none_told c.check_in_place.ensures.notes) c.check_in_place.ensures.idle)
+    handed_on (TellsPut g.S.Storage.view g.F.BackingDisk.backing p c.args.at c.args.bytes.now c.args.self.now new) c.from_residual.result e c.from_residual.ensures
+    (put_unwritten g.S.Storage.view g.F.BackingDisk.backing p c.args.at c.args.bytes.now c.args.self.now new e c.check_in_place.ensures.notes.storage.honest (none_told c.check_in_place.ensures.notes) c.check_in_place.ensures.idle
+    (λ out sound. checked_unseen g.S.Storage.view g.F.BackingDisk.backing c.args.self.now new out c.check_in_place.ensures.keeps c.check_in_place.ensures.list sound))
 
 pub returns-clause-kinds : goal.returns-clause-kinds
 returns-clause-kinds g c =
@@ -158,6 +160,7 @@ returns-clause-kinds g c =
       before = mid;
       honest = c.check_in_place.ensures.notes.storage.honest;
       earlier = none_told c.check_in_place.ensures.notes;
+      unseen = λ out sound. checked_unseen view g.F.BackingDisk.backing c.args.self.now mid out c.check_in_place.ensures.keeps c.check_in_place.ensures.list sound;
       idle = λ some. let same = c.check_in_place.ensures.idle some in (ap (λ (i : Qcow2 _ _). storage_of_image i) same, ap (λ (i : Qcow2 _ _). changes_of i.file.storage) same);
       alone = c.write_data.ensures.kinds;
       time = w.time;

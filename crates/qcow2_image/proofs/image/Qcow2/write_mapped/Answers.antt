@@ -25,7 +25,8 @@ use Rattle.qcow2_image.proofs.Map.MetLooking.{held_since}
 use Rattle.qcow2_image.specs.MetAlone.{IsCacheHeld, IsMetPutting}
 use Rattle.qcow2_alloc.proofs.AllocationSteps.{handed_on}
 use Rattle.qcow2_image.specs.Noted.{TellsData, TellsPut}
-use Rattle.qcow2_image.proofs.Call.ToldData.{data_told_in_call, put_in_call, put_nothing, put_refused}
+use Rattle.qcow2_image.proofs.Call.ToldData.{data_told_in_call}
+use Rattle.qcow2_image.proofs.Write.ToldPuts.{checked_unseen, put_in_call, put_nothing, put_refused}
 
 pub returns-then-is_empty-clause-sees : goal.returns-then-is_empty-clause-sees
 returns-then-is_empty-clause-sees g c =
@@ -128,22 +129,22 @@ returns-clause-met g c = λ out k placed sound writable.
 
 pub returns-in_err-check_usable-clause-kinds : goal.returns-in_err-check_usable-clause-kinds
 returns-in_err-check_usable-clause-kinds g c =
-    handed_on (TellsPut g.S.Storage.view c.args.prepared.now c.args.at c.args.bytes.now c.args.self.now c.args.self.now) c.from_residual.result c.in_err-check_usable.field-0.0 c.from_residual.ensures
-    (put_refused g.S.Storage.view c.args.prepared.now c.args.at c.args.bytes.now c.args.self.now c.in_err-check_usable.field-0.0)
+    handed_on (TellsPut g.S.Storage.view g.F.BackingDisk.backing c.args.prepared.now c.args.at c.args.bytes.now c.args.self.now c.args.self.now) c.from_residual.result c.in_err-check_usable.field-0.0 c.from_residual.ensures
+    (put_refused g.S.Storage.view g.F.BackingDisk.backing c.args.prepared.now c.args.at c.args.bytes.now c.args.self.now c.in_err-check_usable.field-0.0)
 
 pub returns-then-prepared-self-clause-kinds : goal.returns-then-prepared-self-clause-kinds
-returns-then-prepared-self-clause-kinds g c = put_refused g.S.Storage.view c.args.prepared.now c.args.at c.args.bytes.now c.args.self.now ForeignState
+returns-then-prepared-self-clause-kinds g c = put_refused g.S.Storage.view g.F.BackingDisk.backing c.args.prepared.now c.args.at c.args.bytes.now c.args.self.now ForeignState
 
 pub returns-then-is_empty-clause-kinds : goal.returns-then-is_empty-clause-kinds
-returns-then-is_empty-clause-kinds g c = put_nothing g.S.Storage.view c.args.prepared.now c.args.at c.args.bytes.now c.args.self.now (nil_from_length c.args.bytes.now (search rules))
+returns-then-is_empty-clause-kinds g c = put_nothing g.S.Storage.view g.F.BackingDisk.backing c.args.prepared.now c.args.at c.args.bytes.now c.args.self.now (nil_from_length c.args.bytes.now (search rules))
 
 pub returns-then-not-writable-clause-kinds : goal.returns-then-not-writable-clause-kinds
-returns-then-not-writable-clause-kinds g c = put_refused g.S.Storage.view c.args.prepared.now c.args.at c.args.bytes.now c.args.self.now ReadOnly
+returns-then-not-writable-clause-kinds g c = put_refused g.S.Storage.view g.F.BackingDisk.backing c.args.prepared.now c.args.at c.args.bytes.now c.args.self.now ReadOnly
 
 pub returns-clause-kinds : goal.returns-clause-kinds
 returns-clause-kinds g c =
-    subst (λ (r : Result _ _). TellsPut g.S.Storage.view c.args.prepared.now c.args.at c.args.bytes.now c.args.self.now c.mark_failure.new.self r) (sym c.mark_failure.ensures.answer)
-    (put_in_call g.S.Storage.view c.args.prepared.now c.args.at c.args.bytes.now c.args.self.now c.begin.new.self c.write_current-done.new.self c.mark_failure.new.self c.write_current-done.result c.begin.ensures.begun c.write_current-done.ensures.kinds (is_failed c.mark_failure.new.self) c.mark_failure.ensures.rest)
+    subst (λ (r : Result _ _). TellsPut g.S.Storage.view g.F.BackingDisk.backing c.args.prepared.now c.args.at c.args.bytes.now c.args.self.now c.mark_failure.new.self r) (sym c.mark_failure.ensures.answer)
+    (put_in_call g.S.Storage.view g.F.BackingDisk.backing c.args.prepared.now c.args.at c.args.bytes.now c.args.self.now c.begin.new.self c.write_current-done.new.self c.mark_failure.new.self c.write_current-done.result c.begin.ensures.begun (λ out sound. checked_unseen g.S.Storage.view g.F.BackingDisk.backing c.args.self.now c.begin.new.self out c.begin.ensures.keeps c.begin.ensures.list sound) c.write_current-done.ensures.kinds (is_failed c.mark_failure.new.self) c.mark_failure.ensures.rest)
 
 pub returns-then-is_empty-clause-told : goal.returns-then-is_empty-clause-told
 returns-then-is_empty-clause-told g c = λ some. absurd (let no : length c.args.bytes.now ≡ 0 = search rules in omega (arith, no, some))
