@@ -4,12 +4,12 @@ use Rattle.std.specs.Prelude.{OnOk, Result, IfErr}
 use Rattle.std.proofs.lemmas.List.{nil_from_length}
 use Rattle.qcow2_image.specs.declared.image.Qcow2.{Qcow2}
 use Rattle.qcow2_image.specs.Calls.{Puts}
-use Rattle.qcow2_alloc.specs.declared.error.ImageError.TheVariants.{OutdatedMapping, ForeignState, ReadOnly}
+use Rattle.qcow2_alloc.specs.declared.error.ImageError.TheVariants.{ForeignState, ReadOnly}
 use Rattle.qcow2_image.specs.declared.mapping.MappingKind.TheVariants.{Raw}
 use Rattle.qcow2_image.specs.declared.mapping.Place.TheVariants.{Image}
 use Rattle.qcow2_image.specs.Found.{IsFoundWhole}
 use Rattle.qcow2_image.specs.Image.{is_failed}
-use Rattle.qcow2_image.proofs.Call.Marked.{MayMarkBy, may_mark}
+use Rattle.qcow2_image.proofs.Call.Marked.{may_mark}
 use Rattle.qcow2_image.specs.ImageInvariant.{pending_in}
 use Rattle.qcow2_image.proofs.Call.Answers.{usable_works}
 use Rattle.qcow2_image.proofs.Call.Called.{Quietly, quiet_sound}
