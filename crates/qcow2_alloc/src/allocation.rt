@@ -13,7 +13,7 @@ ghost use Rattle.qcow2_alloc.specs.CachePins.{KeepsPinsAndNotes};
 ghost use Rattle.qcow2_alloc.specs.Faults.{CountsFaults};
 ghost use Rattle.qcow2_alloc.specs.SparedHeaders.{AreBehindHeader, NamesReftableBehind, StandsBehindHeader, SparesHeaderButPointer};
 ghost use Rattle.qcow2_alloc.specs.QuietSearches.{CountsOrMakes, CountsRunOrMakes, SearchesQuietly};
-ghost use Rattle.qcow2_alloc.specs.HeldRanges.{range_end, HoldsCountOf, KeepsRangeHeld, SearchesHeld};
+ghost use Rattle.qcow2_alloc.specs.HeldRanges.{HoldsCountOf, KeepsRangeHeld, KeepsRangesHeld, SearchesHeld};
 ghost use Rattle.qcow2_alloc.specs.Limits.{IsFaultOr, IsOfTaking, EndsAtFirst, IsOfSearch, HasNoPlace, CantCount, CantCountRun, nameable_clusters};
 ghost use Rattle.qcow2_alloc.specs.SoundAllocators.{SoundAllocator};
 ghost use Rattle.qcow2_alloc.specs.LowestRuns.{NoFreeBelowHint, IsLowestRun, IsUsed, KeepsNoFreeBelowHint, KeepsUsed, StaysUsed};
@@ -89,8 +89,8 @@ impl Allocator {
     }
 
     /// Takes the lowest run of so many free clusters for metadata; the count is to be 1 at least. For one
-    /// cluster, passing clusters in use writes nothing where no cached table is modified. Nothing is asked of the storage within the range
-    /// that the search begins in, where its refblock is held.
+    /// cluster, passing clusters in use writes nothing where no cached table is modified. Where the refblocks of all ranges that the search
+    /// passes are held, nothing is asked of the storage.
     /// Refused 13 (limit) where there is no such run up to the greatest host offset, for no clusters, or where a refblock or a longer
     /// reftable has no place. Refused 4 (unaligned table) where a refblock that is needed isn't on a cluster. Refused
     /// 8 (everything is in use) by a cache without room for a refblock. Where the work meets them: 14 (memory), 15 (storage).
@@ -127,7 +127,8 @@ impl Allocator {
     }
 
     /// Takes the lowest run of so many free clusters for data; the count is to be 1 at least. From here on refblocks are written before
-    /// L2 tables. Refused as `allocate_meta` is.
+    /// L2 tables. Where the refblocks of all ranges that the search passes are held, and L2 tables weren't written before refblocks up to
+    /// then, nothing is asked of the storage. Refused as `allocate_meta` is.
     pub fn allocate_data<S: Storage>(
         &mut self,
         file: &mut ImageFile<S>,
@@ -164,8 +165,9 @@ impl Allocator {
     }
 
     /// Takes just the cluster that is asked for, for data: None where it is cluster 0, is in use, or passes the greatest offset of a host
-    /// cluster. From here on refblocks are written before L2 tables. Where the refblock of its range is held, nothing is asked of the storage
-    /// but what this turn needs. Refused as `allocate_meta` is, 13 (limit) where a refblock or a longer reftable has no place.
+    /// cluster. From here on refblocks are written before L2 tables. Where the refblock of its range is held, and L2 tables weren't written
+    /// before refblocks up to then, nothing is asked of the storage. Refused as `allocate_meta` is, 13 (limit) where a refblock or a longer
+    /// reftable has no place.
     pub fn allocate_data_at<S: Storage>(
         &mut self,
         file: &mut ImageFile<S>,
@@ -336,8 +338,7 @@ impl Allocator {
         ensures hint { (p : Pending) (is_data : Bool) → AllocatorInvariant S.view self.old p file.old → MayTake is_data file.old → NoFreeBelowHint S.view self.old file.old → KeepsNoFreeBelowHint S.view self.new file.new result }
         ensures uses { (p : Pending) (is_data : Bool) → AllocatorInvariant S.view self.old p file.old → MayTake is_data file.old → KeepsUsed S.view file.old file.new result }
         ensures quiet { n ≤ 1 → IfOk result (CountsRunOrMakes S.view file.old file.new self.old.reftable self.new.reftable n) }
-        ensures held_range { first + n ≤ range_end file.old.header.fields first → KeepsRangeHeld self.old.reftable file.old self.new.reftable file.new (first / counts_per_block file.old.header.fields) }
-        ensures held_used { IfOk result (λ taken. taken ≢ n → first + taken < range_end file.old.header.fields first → KeepsRangeHeld self.old.reftable file.old self.new.reftable file.new (first / counts_per_block file.old.header.fields)) }
+        ensures held_range { KeepsRangesHeld self.old.reftable file.old self.new.reftable file.new first (first + n) }
         ensures holds { IfOk result (λ taken. taken ≡ n → 0 < n → HoldsCountOf self.new.reftable file.new (first + n - 1)) }
         ensures header_cluster { SparesHeaderButPointer S.view self.old.reftable file.old self.new.reftable file.new }
     {

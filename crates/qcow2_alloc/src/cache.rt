@@ -354,7 +354,7 @@ impl<S: Storage> MetadataCaches<S> {
         ensures apart { KeepsKnownApart S.view storage.old self.old storage.new self.new }
         ensures ordered { WritesInOrder S.view storage.old self.old storage.new }
         ensures quiet { GetsBlockQuietly self.old cluster → WritesNothing S.view storage.old storage.new }
-        ensures held { IsSome (rb_at self.old cluster) → IsSome (rb_at self.new cluster) × (storage.new ≡ storage.old) }
+        ensures held { IsSome (rb_at self.old cluster) → (storage.new ≡ storage.old) × ((c : ℕ) → rb_at self.new c ≡ rb_at self.old c) }
         ensures blocks_stay { OtherBlocksStay self.old self.new cluster }
         ensures tables_stay { order_of self.old ≢ RbDependsOnL2 → self.new.l2 ≡ self.old.l2 }
         ensures all_written { KeepAllWritten S.view storage.old self.old storage.new self.new }

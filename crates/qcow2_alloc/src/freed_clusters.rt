@@ -11,7 +11,7 @@ ghost use Rattle.qcow2_alloc.specs.CachePins.{KeepsPinsAndNotes};
 ghost use Rattle.qcow2_alloc.specs.Faults.{CountsFaults};
 ghost use Rattle.qcow2_alloc.specs.SparedHeaders.{SparesHeader};
 ghost use Rattle.qcow2_alloc.specs.Leaks.{LeaksOne, LeaksUnaligned, TriesToLower, LowersOrLeaks};
-ghost use Rattle.qcow2_alloc.specs.HeldRanges.{range_end, KeepsRangeHeld};
+ghost use Rattle.qcow2_alloc.specs.HeldRanges.{KeepsRangeHeld, KeepsRangesHeld};
 ghost use Rattle.qcow2_alloc.specs.SoundAllocators.{SoundAllocator};
 ghost use Rattle.qcow2_alloc.specs.LowestRuns.{NoFreeBelowHint, KeepsNoFreeBelowHint, KeepsUsedBut};
 ghost use Rattle.qcow2_alloc.specs.ImageError.{IsOfTables};
@@ -42,7 +42,7 @@ impl Allocator {
         ensures leaks { (p : Pending) (is_data : Bool) → AllocatorInvariant S.view self.old (taken_as is_data p (run_at first n)) file.old → SameLeaks self.old self.new }
         ensures hint { (p : Pending) (is_data : Bool) → AllocatorInvariant S.view self.old (taken_as is_data p (run_at first n)) file.old → NoFreeBelowHint S.view self.old file.old → KeepsNoFreeBelowHint S.view self.new file.new result }
         ensures kept { (p : Pending) (is_data : Bool) → AllocatorInvariant S.view self.old (taken_as is_data p (run_at first n)) file.old → KeepsUsedBut S.view (run_at first n) file.old file.new result }
-        ensures held_range { first + n ≤ range_end file.old.header.fields first → KeepsRangeHeld self.old.reftable file.old self.new.reftable file.new (first / counts_per_block file.old.header.fields) }
+        ensures held_range { KeepsRangesHeld self.old.reftable file.old self.new.reftable file.new first (first + n) }
         ensures header_cluster { SparesHeader S.view self.old.reftable file.old self.new.reftable file.new }
     {
         if n == 0 {

@@ -1,4 +1,4 @@
-use Rattle.std.proofs.Common.{◌≤◌, ◌+◌, ◌-◌, ℕ, max, sym, ap, ◌∙◌, inl, inr, refl, subst, arith, ◌<◌}
+use Rattle.std.proofs.Common.{◌≤◌, ◌+◌, ◌-◌, ℕ, max, sym, ap, ◌∙◌, inl, inr, refl, subst, ◌<◌}
 use Rattle.qcow2_alloc.specs.declared.clusters_to_free.ClustersToFreeEntry.{ClustersToFreeEntry}
 use Rattle.qcow2_alloc.specs.Allocation.{AvoidsUnaligned, run_at, taken_as, is_data, UnseenAllocatorGrowth}
 use Rattle.qcow2_alloc.specs.FreeList.{pending_then}
@@ -12,8 +12,8 @@ use Rattle.qcow2_alloc.proofs.Outcomes.{ok_no_err, refused_as, told_memory, told
 use Rattle.qcow2_alloc.proofs.SparedHeaders.{spares_none}
 use Rattle.qcow2_alloc.proofs.KeptMarks.{kept_marks_none}
 use Rattle.qcow2_alloc.specs.declared.error.ImageError.TheVariants as I
-use Rattle.qcow2_alloc.proofs.HeldRanges.{held_none}
-use Rattle.qcow2_alloc.specs.HeldRanges.{HoldsCountOf}
+use Rattle.qcow2_alloc.proofs.HeldRanges.{alone_none}
+use Rattle.qcow2_alloc.specs.HeldRanges.{HoldsCountOf, KeepsRangesHeld, NeedsNoLoad}
 use Rattle.qcow2_alloc.proofs.allocation.Allocator.allocate.Goals as goal
 
 pub returns-in-Ok-lowest_run-clause-sound : goal.returns-in-Ok-lowest_run-clause-sound
@@ -148,17 +148,17 @@ returns-in-Err-clause-quiet g c = λ few. tt
 pub returns-in-Ok-lowest_run-clause-quiet : goal.returns-in-Ok-lowest_run-clause-quiet
 returns-in-Ok-lowest_run-clause-quiet g c = λ few. c.in-Ok-lowest_run.ensures.quiet (subst (λ n. n ≤ 1) (sym c.value.ensures) few)
 
--- ---- the refblock of the first range stays held
+-- ---- the refblocks of all ranges that are passed stay held
 pub returns-in_default-clause-held_range : goal.returns-in_default-clause-held_range
-returns-in_default-clause-held_range g c = λ ends. held_none
+returns-in_default-clause-held_range g c = λ none. alone_none
 
 pub returns-in-Ok-lowest_run-clause-held_range : goal.returns-in-Ok-lowest_run-clause-held_range
-returns-in-Ok-lowest_run-clause-held_range g c = λ within.
+returns-in-Ok-lowest_run-clause-held_range g c =
     let first = ap (λ (r : ClustersToFreeEntry). r.first_cluster) c.placed_at.ensures ∙ c.new-in-Ok-lowest_run.ensures in
-    c.in-Ok-lowest_run.ensures.held_range (let n = c.value.ensures in omega (arith, first, n, within))
+    of_equal (λ f n. KeepsRangesHeld c.args.self.now.reftable c.args.file.now c.lowest_run.new.self.reftable c.lowest_run.new.file (max c.args.self.now.first_free_cluster 1) (f + n)) c.placed_at.result.first_cluster c.in-Ok-lowest_run.first c.args.count c.value.result first (sym c.value.ensures) c.in-Ok-lowest_run.ensures.held_range
 
 pub returns-in-Err-clause-held_range : goal.returns-in-Err-clause-held_range
-returns-in-Err-clause-held_range g c = λ ends. c.in-Err.ensures.held_range (elim ends [ inl none ↦ inl (let n = c.value.ensures in omega (arith, n, none)) | inr last ↦ inr last ])
+returns-in-Err-clause-held_range g c = λ none. c.in-Err.ensures.held_range (subst (NeedsNoLoad c.args.self.now.reftable c.args.file.now (max c.args.self.now.first_free_cluster 1)) (sym c.value.ensures) none)
 
 -- ---- the refblock that counts its last cluster is held
 pub returns-in-Ok-lowest_run-clause-holds : goal.returns-in-Ok-lowest_run-clause-holds

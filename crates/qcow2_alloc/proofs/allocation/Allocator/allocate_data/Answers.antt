@@ -29,7 +29,7 @@ use Rattle.image_access.specs.Moments.{StorageView}
 use Rattle.qcow2_alloc.specs.declared.error.ImageError.TheVariants as I
 use Rattle.std.specs.Result.{IsErrAnd}
 use Rattle.qcow2_alloc.proofs.QuietSearches.{search_after}
-use Rattle.qcow2_alloc.proofs.HeldRanges.{held_turned, search_turned}
+use Rattle.qcow2_alloc.proofs.HeldRanges.{alone_turned, search_turned}
 use Rattle.qcow2_alloc.proofs.allocation.Allocator.allocate_data.Goals as goal
 
 -- the caches were turned before
@@ -226,14 +226,14 @@ returns-in_err-l2_depends_on_rb-clause-quiet g c = λ few. on_no_ok _ c.from_res
 pub returns-clause-quiet : goal.returns-clause-quiet
 returns-clause-quiet g c = λ few. ok_as _ _ c.allocate.result (search_after g.S.Storage.view c.args.file.now (record c.args.file.now { storage = c.l2_depends_on_rb.new.storage; caches = c.l2_depends_on_rb.new.self }) c.allocate.new.file c.args.self.now.reftable c.allocate.new.self.reftable c.l2_depends_on_rb.ensures.all_written) (c.allocate.ensures.quiet few)
 
--- ---- the refblock of the first range stays held, where no L2 table has to be written before
+-- ---- the refblocks of all ranges that are passed stay held, where no L2 table has to be written before
 pub returns-in_err-l2_depends_on_rb-clause-held_range : goal.returns-in_err-l2_depends_on_rb-clause-held_range
 returns-in_err-l2_depends_on_rb-clause-held_range g c = λ other. absurd (other c.in_err-l2_depends_on_rb.ensures.turned)
 
 pub returns-clause-held_range : goal.returns-clause-held_range
 returns-clause-held_range g c = λ other.
-    search_turned (λ (run : ClustersToFreeEntry). run.first_cluster) c.args.self.now.reftable c.allocate.new.self.reftable c.args.file.now (record c.args.file.now { storage = c.l2_depends_on_rb.new.storage; caches = c.l2_depends_on_rb.new.self }) c.allocate.new.file (max c.args.self.now.first_free_cluster 1) c.args.count c.allocate.result refl
-    (λ range. held_turned c.args.self.now.reftable c.args.file.now c.l2_depends_on_rb.new.storage c.l2_depends_on_rb.new.self range (c.l2_depends_on_rb.ensures.storage_stays other) c.l2_depends_on_rb.ensures.blocks) c.allocate.ensures.held_range
+    search_turned (λ (run : ClustersToFreeEntry). run.first_cluster) c.args.self.now.reftable c.args.self.now.reftable c.allocate.new.self.reftable c.args.file.now (record c.args.file.now { storage = c.l2_depends_on_rb.new.storage; caches = c.l2_depends_on_rb.new.self }) c.allocate.new.file (max c.args.self.now.first_free_cluster 1) c.args.count c.allocate.result refl
+    (alone_turned c.args.self.now.reftable c.args.file.now c.l2_depends_on_rb.new.storage c.l2_depends_on_rb.new.self (c.l2_depends_on_rb.ensures.storage_stays other) c.l2_depends_on_rb.ensures.blocks) c.allocate.ensures.held_range
 
 -- ---- the refblock that counts its last cluster is held
 pub returns-in_err-l2_depends_on_rb-clause-holds : goal.returns-in_err-l2_depends_on_rb-clause-holds

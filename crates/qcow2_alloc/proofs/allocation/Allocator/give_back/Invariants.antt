@@ -1,11 +1,10 @@
-use Rattle.std.proofs.Common.{◌≡◌, ℕ, ◌+◌, ◌-◌, ◌/◌, ◌<◌, ◌≤◌, Bool}
-use Rattle.qcow2_metadata.specs.Header.{counts_per_block}
+use Rattle.std.proofs.Common.{◌≡◌, ℕ, ◌+◌, ◌-◌, ◌<◌, Bool}
 use Rattle.qcow2_laws.specs.CrashInvariant.{Pending}
 use Rattle.qcow2_alloc.specs.Allocation.{run_at, taken_as, SameLeaks, UnseenAllocatorGrowth}
 use Rattle.qcow2_alloc.specs.KeptMarks.{KeepsMarks}
 use Rattle.qcow2_alloc.specs.Faults.{faults_of}
 use Rattle.qcow2_alloc.specs.declared.image_file.ImageFile.{ImageFile}
-use Rattle.qcow2_alloc.specs.HeldRanges.{range_end, KeepsRangeHeld}
+use Rattle.qcow2_alloc.specs.HeldRanges.{KeepsRangesHeld}
 use Rattle.qcow2_alloc.specs.ImageFile.{AllocatorInvariant}
 use Rattle.qcow2_alloc.specs.LowestRuns.{NoFreeBelowHint, IsUsed}
 use Rattle.qcow2_alloc.specs.SparedHeaders.{SparesHeader}
@@ -20,7 +19,7 @@ invariant-lowering g l = record {
   faults : faults_of g.S.Storage.view l.file.storage ≡ faults_of g.S.Storage.view l.fn.file.storage;
   spared : SparesHeader g.S.Storage.view l.fn.self.reftable l.fn.file l.self.reftable l.file;
   reftable : l.self.reftable ≡ l.fn.self.reftable;
-  held : l.fn.first + l.fn.n ≤ range_end l.fn.file.header.fields l.fn.first → KeepsRangeHeld l.fn.self.reftable l.fn.file l.self.reftable l.file (l.fn.first / counts_per_block l.fn.file.header.fields);
+  held : KeepsRangesHeld l.fn.self.reftable l.fn.file l.self.reftable l.file l.fn.first l.cluster;
   sound : (p p' : Pending) (d : Bool) (start : ImageFile g.row.S.Denot) → ((k : ℕ) → 0 < p.new_data k → 0 < p'.new_data k) → UnseenAllocatorGrowth g.S.Storage.view p start l.fn.self l.fn.file (taken_as d p' (run_at l.fn.first l.fn.n))
       → UnseenAllocatorGrowth g.S.Storage.view p start l.self l.file (taken_as d p' (run_at l.cluster (l.fn.first + l.fn.n - l.cluster)));
   leaks : (p : Pending) (d : Bool) → AllocatorInvariant g.S.Storage.view l.fn.self (taken_as d p (run_at l.fn.first l.fn.n)) l.fn.file → SameLeaks l.fn.self l.self;

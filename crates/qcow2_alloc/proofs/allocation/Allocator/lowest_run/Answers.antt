@@ -27,7 +27,7 @@ use Rattle.qcow2_metadata.specs.declared.header.HeaderFields.{HeaderFields}
 use Rattle.qcow2_alloc.specs.declared.error.ImageError.TheVariants as I
 use Rattle.qcow2_alloc.proofs.QuietSearches.{looks_none, search_ends, search_on}
 use Rattle.qcow2_alloc.specs.HeldRanges.{SearchesHeld}
-use Rattle.qcow2_alloc.proofs.HeldRanges.{held_none, held_run, held_passed}
+use Rattle.qcow2_alloc.proofs.HeldRanges.{alone_none, none_run, held_more, held_run, rest_run, rest_passed}
 use Rattle.qcow2_alloc.proofs.allocation.Allocator.lowest_run.Goals as goal
 
 pub returns-in_err-taken-clause-sound : goal.returns-in_err-taken-clause-sound
@@ -66,7 +66,8 @@ search-init g c = record {
       (on_none g.S.Storage.view p c.args.file.now (record c.args.self.now { first_free_cluster = c.max-self.result }) (record { sound = sound.sound; reftable = sound.reftable }));
   above = let first = c.max-self.ensures in omega (arith, first);
   behind = let first = c.max-self.ensures in omega (arith, first);
-  held = λ within. held_none;
+  held = none_run;
+  held_rest = λ none. alone_none;
   quiet = λ few. inl (looks_none g.S.Storage.view c.args.file.now c.args.file.now refl);
   lacking = λ e lacks. (c.max-self.ensures, refl, refl);
   leaks = λ p sound. refl;
@@ -87,15 +88,10 @@ search-preserved g c = record {
   near = c.search.invariant.near;
   above = let behind = c.in_ok-first.ensures.behind in omega (arith, behind);
   behind = let so_far = c.search.invariant.behind in let behind = c.in_ok-first.ensures.behind in omega (arith, so_far, behind);
-  held = λ ends. elim ends [
-    | inl before ↦ held_passed (max c.args.self.now.first_free_cluster 1) c.search.first c.args.n c.in_ok-taken.taken c.search.invariant.header c.take_run.ensures.header (ap (λ (t : Allocator). t.reftable) c.pass_used.ensures.moves) c.search.invariant.behind (let le = c.in_ok-taken.ensures.within in let not = c.if-taken-n.false in omega (arith, le, not)) (let few = c.if-n-limit.true in let below = c.if-first-limit.true in let limit = c.search.invariant.limit in omega (arith, few, below, limit))
-        (inl (let behind = c.in_ok-first.ensures.behind in omega (arith, behind, before))) (c.search.invariant.held (inl (let behind = c.in_ok-first.ensures.behind in omega (arith, behind, before)))) (c.in_ok-taken.ensures.held_used c.if-taken-n.false) c.pass_used.ensures.held_range c.pass_used.ensures.none
-    | inr ends ↦ elim ends [
-      | inl none ↦ absurd (let some = c.search-test.true in omega (arith, none, some))
-      | inr last ↦ held_passed (max c.args.self.now.first_free_cluster 1) c.search.first c.args.n c.in_ok-taken.taken c.search.invariant.header c.take_run.ensures.header (ap (λ (t : Allocator). t.reftable) c.pass_used.ensures.moves) c.search.invariant.behind (let le = c.in_ok-taken.ensures.within in let not = c.if-taken-n.false in omega (arith, le, not)) (let few = c.if-n-limit.true in let below = c.if-first-limit.true in let limit = c.search.invariant.limit in omega (arith, few, below, limit))
-          (inr last) (c.search.invariant.held (inr (inr last))) (c.in_ok-taken.ensures.held_used c.if-taken-n.false) c.pass_used.ensures.held_range c.pass_used.ensures.none
-    ]
-  ];
+  held = held_more (max c.args.self.now.first_free_cluster 1) (c.search.first + c.args.n) (c.search.first + c.in_ok-taken.taken + 1) (c.in_ok-first.first + c.args.n) (let behind = c.in_ok-first.ensures.behind in omega (arith, behind)) (let behind = c.search.invariant.behind in omega (arith, behind)) (let behind = c.in_ok-first.ensures.behind in let some = c.search-test.true in omega (arith, behind, some))
+      (held_run (max c.args.self.now.first_free_cluster 1) (c.search.first + c.args.n) c.search.first (c.search.first + c.args.n) (c.search.first + c.args.n) (omega arith) c.search.invariant.behind (omega arith) c.search.invariant.held c.take_run.ensures.held_range) c.pass_used.ensures.held_range;
+  held_rest = rest_passed (max c.args.self.now.first_free_cluster 1) c.search.first c.args.n (c.search.first + c.in_ok-taken.taken + 1) c.search-test.true c.search.invariant.behind (let few = c.if-n-limit.true in let below = c.if-first-limit.true in let limit = c.search.invariant.limit in omega (arith, few, below, limit)) (omega arith) (let le = c.in_ok-taken.ensures.within in let not = c.if-taken-n.false in omega (arith, le, not)) (ap (λ (t : Allocator). t.reftable) c.pass_used.ensures.moves)
+      (rest_run (max c.args.self.now.first_free_cluster 1) c.search.first c.args.n c.search-test.true c.search.invariant.behind (let few = c.if-n-limit.true in let below = c.if-first-limit.true in let limit = c.search.invariant.limit in omega (arith, few, below, limit)) c.search.invariant.held_rest c.take_run.ensures.held_range) c.pass_used.ensures.held_range c.pass_used.ensures.none;
   quiet = λ few.
       search_on g.S.Storage.view c.args.file.now c.search.file c.take_run.new.file c.args.self.now.reftable c.search.self.reftable c.take_run.new.self.reftable c.args.n c.in_ok-taken.taken c.args.file.now.free_list c.search.file.free_list c.take_run.new.file.free_list
       c.search.invariant.former c.take_run.ensures.former (c.search.invariant.quiet few) (c.in_ok-taken.ensures.quiet few) c.pass_used.new.file c.pass_used.new.self.reftable c.if-taken-n.false c.pass_used.ensures.quiet (ap (λ (t : Allocator). t.reftable) c.pass_used.ensures.moves);
@@ -494,29 +490,23 @@ returns-then-taken-n-clause-quiet g c = λ few.
     search_ends g.S.Storage.view c.args.file.now c.search.file c.take_run.new.file c.args.self.now.reftable c.search.self.reftable c.take_run.new.self.reftable c.args.n c.in_ok-taken.taken c.args.file.now.free_list c.search.file.free_list c.take_run.new.file.free_list
     c.search.invariant.former c.take_run.ensures.former (c.search.invariant.quiet few) (c.in_ok-taken.ensures.quiet few) c.if-taken-n.true
 
--- ---- the refblock of the first range stays held
+-- ---- the refblocks of all ranges that are passed stay held
 pub returns-in_err-taken-clause-held_range : goal.returns-in_err-taken-clause-held_range
 returns-in_err-taken-clause-held_range g c =
     handed_on (SearchesHeld (λ (first : ℕ). first) c.args.self.now.reftable c.args.file.now c.take_run.new.self.reftable c.take_run.new.file (max c.args.self.now.first_free_cluster 1) c.args.n) c.from_residual.result c.in_err-taken.field-0.0 c.from_residual.ensures
-    (λ ends. elim ends [
-      | inl none ↦ absurd (let some = c.search-test.true in omega (arith, none, some))
-      | inr last ↦ held_run (max c.args.self.now.first_free_cluster 1) c.search.first (c.search.first + c.args.n) c.search.invariant.header c.search.invariant.behind (let some = c.search-test.true in omega (arith, some)) (let ends = last.ends in let few = c.if-n-limit.true in let below = c.if-first-limit.true in let limit = c.search.invariant.limit in omega (arith, ends, few, below, limit)) (c.search.invariant.held (inr (inr last))) c.take_run.ensures.held_range
-    ])
+    (rest_run (max c.args.self.now.first_free_cluster 1) c.search.first c.args.n c.search-test.true c.search.invariant.behind (let few = c.if-n-limit.true in let below = c.if-first-limit.true in let limit = c.search.invariant.limit in omega (arith, few, below, limit)) c.search.invariant.held_rest c.take_run.ensures.held_range)
 
 pub returns-then-taken-n-clause-held_range : goal.returns-then-taken-n-clause-held_range
-returns-then-taken-n-clause-held_range g c = λ within. held_run (max c.args.self.now.first_free_cluster 1) c.search.first (c.search.first + c.args.n) c.search.invariant.header c.search.invariant.behind (let some = c.search-test.true in omega (arith, some)) (within) (c.search.invariant.held (inl (let some = c.search-test.true in omega (arith, some, within)))) c.take_run.ensures.held_range
+returns-then-taken-n-clause-held_range g c = held_run (max c.args.self.now.first_free_cluster 1) (c.search.first + c.args.n) c.search.first (c.search.first + c.args.n) (c.search.first + c.args.n) (omega arith) c.search.invariant.behind (omega arith) c.search.invariant.held c.take_run.ensures.held_range
 
 pub returns-in_err-first-clause-held_range : goal.returns-in_err-first-clause-held_range
 returns-in_err-first-clause-held_range g c =
     handed_on (SearchesHeld (λ (first : ℕ). first) c.args.self.now.reftable c.args.file.now c.pass_used.new.self.reftable c.pass_used.new.file (max c.args.self.now.first_free_cluster 1) c.args.n) c.from_residual-in_err-first.result c.in_err-first.field-0.0 c.from_residual-in_err-first.ensures
-    (λ ends. elim ends [
-      | inl none ↦ absurd (let some = c.search-test.true in omega (arith, none, some))
-      | inr last ↦ held_passed (max c.args.self.now.first_free_cluster 1) c.search.first c.args.n c.in_ok-taken.taken c.search.invariant.header c.take_run.ensures.header (ap (λ (t : Allocator). t.reftable) c.pass_used.ensures.moves) c.search.invariant.behind (let le = c.in_ok-taken.ensures.within in let not = c.if-taken-n.false in omega (arith, le, not)) (let few = c.if-n-limit.true in let below = c.if-first-limit.true in let limit = c.search.invariant.limit in omega (arith, few, below, limit))
-          (inr last) (c.search.invariant.held (inr (inr last))) (c.in_ok-taken.ensures.held_used c.if-taken-n.false) c.pass_used.ensures.held_range c.pass_used.ensures.none
-    ])
+    (rest_passed (max c.args.self.now.first_free_cluster 1) c.search.first c.args.n (c.search.first + c.in_ok-taken.taken + 1) c.search-test.true c.search.invariant.behind (let few = c.if-n-limit.true in let below = c.if-first-limit.true in let limit = c.search.invariant.limit in omega (arith, few, below, limit)) (omega arith) (let le = c.in_ok-taken.ensures.within in let not = c.if-taken-n.false in omega (arith, le, not)) (ap (λ (t : Allocator). t.reftable) c.pass_used.ensures.moves)
+    (rest_run (max c.args.self.now.first_free_cluster 1) c.search.first c.args.n c.search-test.true c.search.invariant.behind (let few = c.if-n-limit.true in let below = c.if-first-limit.true in let limit = c.search.invariant.limit in omega (arith, few, below, limit)) c.search.invariant.held_rest c.take_run.ensures.held_range) c.pass_used.ensures.held_range c.pass_used.ensures.none)
 
 pub returns-clause-held_range : goal.returns-clause-held_range
-returns-clause-held_range g c = λ ends. c.search.invariant.held (inr ends)
+returns-clause-held_range g c = c.search.invariant.held_rest
 
 -- ---- the refblock that counts its last cluster is held
 pub returns-in_err-taken-clause-holds : goal.returns-in_err-taken-clause-holds

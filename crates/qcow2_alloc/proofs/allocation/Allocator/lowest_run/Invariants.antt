@@ -1,11 +1,10 @@
-use Rattle.std.proofs.Common.{max, ◌≡◌, ◌+◌, ◌-◌, ◌/◌, ◌^◌, ◌<◌, ◌≤◌, ◌⊎◌, Bool}
-use Rattle.qcow2_metadata.specs.Header.{counts_per_block}
+use Rattle.std.proofs.Common.{max, ◌≡◌, ◌+◌, ◌-◌, ◌/◌, ◌^◌, ◌<◌, ◌≤◌, Bool}
 use Rattle.qcow2_metadata.specs.L2Mapping.{greatest_offset}
 use Rattle.qcow2_laws.specs.CrashInvariant.{Pending}
 use Rattle.qcow2_alloc.specs.Allocation.{LacksBlock, UnseenAllocatorGrowth, MayTake, SameLeaks}
 use Rattle.qcow2_alloc.specs.KeptMarks.{KeepsMarks}
 use Rattle.qcow2_alloc.specs.Faults.{faults_of}
-use Rattle.qcow2_alloc.specs.HeldRanges.{range_end, IsInLastRange, KeepsRangeHeld}
+use Rattle.qcow2_alloc.specs.HeldRanges.{ChangesCachesAlone, KeepsRangesHeld, NeedsNoLoad}
 use Rattle.qcow2_alloc.specs.ImageFile.{AllocatorInvariant, KeepsHeader}
 use Rattle.qcow2_alloc.specs.FreeList.{pending_then, ListsTables, ListsReftables}
 use Rattle.qcow2_alloc.specs.LowestRuns.{NoFreeBelowHint, IsLowestRun, IsUsed, StaysUsed}
@@ -24,8 +23,8 @@ invariant-search g l = record {
   near : l.limit ≤ 2 ^ 57;
   above : 0 < l.first;
   behind : max l.fn.self.first_free_cluster 1 ≤ l.first;
-  held : (l.first < range_end l.fn.file.header.fields (max l.fn.self.first_free_cluster 1)) ⊎ ((l.fn.n ≡ 0) ⊎ IsInLastRange l.fn.file.header.fields l.fn.self.reftable (max l.fn.self.first_free_cluster 1))
-      → KeepsRangeHeld l.fn.self.reftable l.fn.file l.self.reftable l.file (max l.fn.self.first_free_cluster 1 / counts_per_block l.fn.file.header.fields);
+  held : KeepsRangesHeld l.fn.self.reftable l.fn.file l.self.reftable l.file (max l.fn.self.first_free_cluster 1) (l.first + l.fn.n);
+  held_rest : NeedsNoLoad l.fn.self.reftable l.fn.file (max l.fn.self.first_free_cluster 1) l.fn.n → ChangesCachesAlone l.fn.self.reftable l.fn.file l.self.reftable l.file;
   quiet : l.fn.n ≤ 1 → LooksOrMakes g.S.Storage.view l.fn.file l.file l.fn.self.reftable l.self.reftable;
   marks : KeepsMarks g.S.Storage.view l.fn.file l.file;
   faults : faults_of g.S.Storage.view l.file.storage ≡ faults_of g.S.Storage.view l.fn.file.storage;

@@ -24,7 +24,7 @@ use Rattle.qcow2_alloc.specs.QuietSearches.{CountsQuietly}
 use Rattle.std.specs.Option.{is_some}
 use Rattle.qcow2_metadata.specs.Header.{counts_per_block}
 use Rattle.qcow2_alloc.specs.HeldRanges.{HoldsCountOf, KeepsRangeHeld}
-use Rattle.qcow2_alloc.proofs.HeldRanges.{holds_at}
+use Rattle.qcow2_alloc.proofs.HeldRanges.{holds_at, range_still}
 use Rattle.qcow2_alloc.proofs.allocation.Allocator.raise.Goals as goal
 
 zero_of : (n : _) → (n == 0) ≡ true → n ≡ 0
@@ -182,6 +182,6 @@ returns-clause-holds g c = λ taken.
           let raised : KeepsRangeHeld c.args.self.now.reftable c.load_block.new.file c.args.self.now.reftable (record c.load_block.new.file { caches = w.rb_increment.new.self }) (c.args.cluster / 2 ^ c.rb_bits-bits.result) =
           held_changed c.args.self.now.reftable c.load_block.new.file w.rb_increment.new.self (c.args.cluster / 2 ^ c.rb_bits-bits.result)
           (more_held c.load_block.new.file.caches w.rb_increment.new.self c.in-Some.block c.rb_index-index.result w.rb_increment.result w.rb_increment.ensures.counts w.rb_increment.ensures.missing w.rb_increment.ensures.refused) in
-          subst (λ (f : ImageFile g.row.S.Denot). HoldsCountOf c.args.self.now.reftable f c.args.cluster) (sym w.file-is) (holds_at range (raised.stays held).held)
+          subst (λ (f : ImageFile g.row.S.Denot). HoldsCountOf c.args.self.now.reftable f c.args.cluster) (sym w.file-is) (holds_at range (range_still (raised.stays held) (c.args.cluster / 2 ^ c.rb_bits-bits.result) held))
       | else-rb_is_zero w ↦ absurd (not_both c.if-rb_is_zero.result taken (w.result-is ∙ w.if-rb_is_zero.false))
     ]

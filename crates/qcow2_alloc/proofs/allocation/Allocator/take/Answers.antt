@@ -295,7 +295,7 @@ pub returns-in_err-reach_block-clause-held_range : goal.returns-in_err-reach_blo
 returns-in_err-reach_block-clause-held_range g c = c.reach_block.ensures.held_range
 
 pub returns-in_err-taken-clause-held_range : goal.returns-in_err-taken-clause-held_range
-returns-in_err-taken-clause-held_range g c = held_next c.args.cluster c.args.cluster c.reach_block.ensures.header refl c.reach_block.ensures.held_range c.raise.ensures.held_range
+returns-in_err-taken-clause-held_range g c = held_next c.args.cluster c.reach_block.ensures.held_range c.raise.ensures.held_range
 
 pub returns-clause-held_range : goal.returns-clause-held_range
 returns-clause-held_range g c =
@@ -303,7 +303,7 @@ returns-clause-held_range g c =
       | then-cluster-self w ↦ ap (λ (t : Allocator). t.reftable) w.self-is
       | else-cluster-self w ↦ ap (λ (t : Allocator). t.reftable) w.self-is
     ] in
-    held_as same (held_next c.args.cluster c.args.cluster c.reach_block.ensures.header refl c.reach_block.ensures.held_range c.raise.ensures.held_range)
+    held_as same (held_next c.args.cluster c.reach_block.ensures.held_range c.raise.ensures.held_range)
 
 -- ---- the refblock that counts it is held
 pub returns-in_err-reach_block-clause-holds : goal.returns-in_err-reach_block-clause-holds

@@ -32,7 +32,7 @@ use Rattle.qcow2_metadata.specs.EntryTable.{EntryTableView}
 use Rattle.qcow2_metadata.specs.declared.header.HeaderFields.{HeaderFields}
 use Rattle.qcow2_alloc.specs.declared.error.ImageError.TheVariants as I
 use Rattle.qcow2_alloc.proofs.QuietSearches.{first_free, first_used, run_ends}
-use Rattle.qcow2_alloc.proofs.HeldRanges.{held_as, held_by, held_none, held_taken, held_stopped}
+use Rattle.qcow2_alloc.proofs.HeldRanges.{none_run, run_held_as, held_more, held_run, held_wide}
 use Rattle.qcow2_alloc.specs.HeldRanges.{HoldsCountOf}
 use Rattle.qcow2_alloc.proofs.allocation.Allocator.take_run.Goals as goal
 
@@ -83,7 +83,7 @@ taking-init g c = record {
   lacking = λ e lacks. (refl, refl, refl);
   still = λ none. (refl, refl);
   one = λ some. absurd (omega (arith, some));
-  held = λ within. held_none;
+  held = none_run;
   holds = λ some. absurd (omega (arith, some));
   aligned = avoids_none c.args.file.now.header.fields c.args.self.now.reftable c.args.first;
   sound = λ p d sound may.
@@ -177,7 +177,7 @@ taking-preserved g c = record {
       let at = c.taking.invariant.still (omega (arith, one)) in
       first_free g.S.Storage.view c.args.file.now c.taking.file c.take.new.file c.take.new.file c.args.self.now.reftable c.taking.self.reftable c.take.new.self.reftable c.take.new.self.reftable at.0 at.1
       (rw c.in-Ok-true.field-0-test at c.in-Ok-true.ensures.quiet);
-  held = λ within. held_taken c.args.first c.taking.taken c.taking.invariant.header (omega (arith, within)) c.taking.invariant.held c.take.ensures.held_range;
+  held = held_more c.args.first (c.args.first + c.taking.taken) (c.args.first + c.taking.taken) (c.args.first + (c.taking.taken + 1)) (omega arith) (omega arith) (omega arith) c.taking.invariant.held c.take.ensures.held_range;
   holds = λ some.
       let last : c.args.first + c.taking.taken ≡ c.args.first + (c.taking.taken + 1) - 1 = omega arith in
       subst (HoldsCountOf c.take.new.self.reftable c.take.new.file) last (c.in-Ok-true.ensures.holds c.in-Ok-true.field-0-test);
@@ -654,36 +654,24 @@ returns-clause-quiet g c = λ few.
     let all : c.taking.taken ≡ c.args.n = let le = c.taking.auto.taken-end in let past = c.taking-test.false in omega arith in
     run_ends g.S.Storage.view c.args.file.now c.taking.file c.args.self.now.reftable c.taking.self.reftable c.args.n c.taking.taken all few c.taking.invariant.still c.taking.invariant.one
 
--- ---- the range's refblock stays held
+-- ---- the refblocks of all its ranges stay held
 pub returns-in_err-give_back-in-Ok-false-clause-held_range : goal.returns-in_err-give_back-in-Ok-false-clause-held_range
-returns-in_err-give_back-in-Ok-false-clause-held_range g c = λ within. held_stopped c.args.first c.taking.taken c.taking.invariant.header c.take.ensures.header (let lt = c.taking-test.true in omega (arith, lt, within)) c.taking.invariant.held c.take.ensures.held_range c.give_back.ensures.held_range
+returns-in_err-give_back-in-Ok-false-clause-held_range g c = held_run c.args.first (c.args.first + c.args.n) c.args.first (c.args.first + c.taking.taken) (c.args.first + c.args.n) (omega arith) (omega arith) (let lt = c.taking-test.true in omega (arith, lt)) (held_more c.args.first (c.args.first + c.taking.taken) (c.args.first + c.taking.taken) (c.args.first + c.args.n) (let lt = c.taking-test.true in omega (arith, lt)) (omega arith) (let lt = c.taking-test.true in omega (arith, lt)) c.taking.invariant.held c.take.ensures.held_range) c.give_back.ensures.held_range
 
 pub returns-in-Ok-false-clause-held_range : goal.returns-in-Ok-false-clause-held_range
-returns-in-Ok-false-clause-held_range g c = λ within. held_stopped c.args.first c.taking.taken c.taking.invariant.header c.take.ensures.header (let lt = c.taking-test.true in omega (arith, lt, within)) c.taking.invariant.held c.take.ensures.held_range c.give_back.ensures.held_range
+returns-in-Ok-false-clause-held_range g c = held_run c.args.first (c.args.first + c.args.n) c.args.first (c.args.first + c.taking.taken) (c.args.first + c.args.n) (omega arith) (omega arith) (let lt = c.taking-test.true in omega (arith, lt)) (held_more c.args.first (c.args.first + c.taking.taken) (c.args.first + c.taking.taken) (c.args.first + c.args.n) (let lt = c.taking-test.true in omega (arith, lt)) (omega arith) (let lt = c.taking-test.true in omega (arith, lt)) c.taking.invariant.held c.take.ensures.held_range) c.give_back.ensures.held_range
 
 pub returns-in_err-give_back-in-Err-clause-held_range : goal.returns-in_err-give_back-in-Err-clause-held_range
-returns-in_err-give_back-in-Err-clause-held_range g c = λ within. held_stopped c.args.first c.taking.taken c.taking.invariant.header c.take.ensures.header (let lt = c.taking-test.true in omega (arith, lt, within)) c.taking.invariant.held c.take.ensures.held_range c.give_back-then-not-is_fault.ensures.held_range
+returns-in_err-give_back-in-Err-clause-held_range g c = held_run c.args.first (c.args.first + c.args.n) c.args.first (c.args.first + c.taking.taken) (c.args.first + c.args.n) (omega arith) (omega arith) (let lt = c.taking-test.true in omega (arith, lt)) (held_more c.args.first (c.args.first + c.taking.taken) (c.args.first + c.taking.taken) (c.args.first + c.args.n) (let lt = c.taking-test.true in omega (arith, lt)) (omega arith) (let lt = c.taking-test.true in omega (arith, lt)) c.taking.invariant.held c.take.ensures.held_range) c.give_back-then-not-is_fault.ensures.held_range
 
 pub returns-in-Err-clause-held_range : goal.returns-in-Err-clause-held_range
-returns-in-Err-clause-held_range g c = λ within. elim c.if-not-is_fault.branch [
-  | then-not-is_fault+in_ok-give_back-in-Err w ↦ held_by w.file-is (held_as (ap (λ (t : Allocator). t.reftable) w.self-is) (held_stopped {a = c.args.file.now} c.args.first c.taking.taken c.taking.invariant.header c.take.ensures.header (let lt = c.taking-test.true in omega (arith, lt, within)) c.taking.invariant.held c.take.ensures.held_range w.give_back-then-not-is_fault.ensures.held_range))
-  | else-not-is_fault w ↦ held_by w.file-is (held_as (ap (λ (t : Allocator). t.reftable) w.self-is) (held_taken {a = c.args.file.now} c.args.first c.taking.taken c.taking.invariant.header (let lt = c.taking-test.true in omega (arith, lt, within)) c.taking.invariant.held c.take.ensures.held_range))
+returns-in-Err-clause-held_range g c = elim c.if-not-is_fault.branch [
+  | then-not-is_fault+in_ok-give_back-in-Err w ↦ run_held_as (ap (λ (t : Allocator). t.reftable) w.self-is) w.file-is (held_run c.args.first (c.args.first + c.args.n) c.args.first (c.args.first + c.taking.taken) (c.args.first + c.args.n) (omega arith) (omega arith) (let lt = c.taking-test.true in omega (arith, lt)) (held_more c.args.first (c.args.first + c.taking.taken) (c.args.first + c.taking.taken) (c.args.first + c.args.n) (let lt = c.taking-test.true in omega (arith, lt)) (omega arith) (let lt = c.taking-test.true in omega (arith, lt)) c.taking.invariant.held c.take.ensures.held_range) w.give_back-then-not-is_fault.ensures.held_range)
+  | else-not-is_fault w ↦ run_held_as (ap (λ (t : Allocator). t.reftable) w.self-is) w.file-is (held_more c.args.first (c.args.first + c.taking.taken) (c.args.first + c.taking.taken) (c.args.first + c.args.n) (let lt = c.taking-test.true in omega (arith, lt)) (omega arith) (let lt = c.taking-test.true in omega (arith, lt)) c.taking.invariant.held c.take.ensures.held_range)
 ]
 
 pub returns-clause-held_range : goal.returns-clause-held_range
-returns-clause-held_range g c = λ within. c.taking.invariant.held (let past = c.taking-test.false in let most = c.taking.auto.taken-end in omega (arith, past, most, within))
-
-pub returns-in_err-give_back-in-Ok-false-clause-held_used : goal.returns-in_err-give_back-in-Ok-false-clause-held_used
-returns-in_err-give_back-in-Ok-false-clause-held_used g c = if_no_ok _ c.from_residual.result c.in_err-give_back-in-Ok-false.field-0.0 c.from_residual.ensures
-
-pub returns-in_err-give_back-in-Err-clause-held_used : goal.returns-in_err-give_back-in-Err-clause-held_used
-returns-in_err-give_back-in-Err-clause-held_used g c = if_no_ok _ c.from_residual-in_err-give_back-in-Err.result c.in_err-give_back-in-Err.field-0.0 c.from_residual-in_err-give_back-in-Err.ensures
-
-pub returns-in-Ok-false-clause-held_used : goal.returns-in-Ok-false-clause-held_used
-returns-in-Ok-false-clause-held_used g c = λ short within. held_stopped c.args.first c.taking.taken c.taking.invariant.header c.take.ensures.header (within) c.taking.invariant.held c.take.ensures.held_range c.give_back.ensures.held_range
-
-pub returns-clause-held_used : goal.returns-clause-held_used
-returns-clause-held_used g c = λ short within. absurd (short refl)
+returns-clause-held_range g c = held_wide c.args.first (c.args.first + c.taking.taken) (c.args.first + c.args.n) (let most = c.taking.auto.taken-end in omega (arith, most)) c.taking.invariant.held
 
 -- ---- the refblock that counts its last cluster is held
 pub returns-in_err-give_back-in-Ok-false-clause-holds : goal.returns-in_err-give_back-in-Ok-false-clause-holds

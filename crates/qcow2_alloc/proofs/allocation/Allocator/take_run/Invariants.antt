@@ -1,10 +1,9 @@
-use Rattle.std.proofs.Common.{◌≡◌, ℕ, ◌+◌, ◌-◌, ◌/◌, ◌<◌, ◌≤◌, Bool, IsTrue}
-use Rattle.qcow2_metadata.specs.Header.{counts_per_block}
+use Rattle.std.proofs.Common.{◌≡◌, ℕ, ◌+◌, ◌-◌, ◌<◌, Bool, IsTrue}
 use Rattle.qcow2_laws.specs.CrashInvariant.{Pending}
 use Rattle.qcow2_alloc.specs.Allocation.{run_at, taken_as, AvoidsUnaligned, LacksBlock, MayTake, SameLeaks, UnseenAllocatorGrowth}
 use Rattle.qcow2_alloc.specs.KeptMarks.{KeepsMarks}
 use Rattle.qcow2_alloc.specs.Faults.{faults_of}
-use Rattle.qcow2_alloc.specs.HeldRanges.{range_end, HoldsCountOf, KeepsRangeHeld}
+use Rattle.qcow2_alloc.specs.HeldRanges.{HoldsCountOf, KeepsRangesHeld}
 use Rattle.qcow2_alloc.specs.ImageFile.{AllocatorInvariant, KeepsHeader}
 use Rattle.qcow2_alloc.specs.FreeList.{pending_then, ListsTables, ListsReftables}
 use Rattle.qcow2_alloc.specs.LowestRuns.{NoFreeBelowHint, IsUsed}
@@ -31,7 +30,7 @@ invariant-taking g l = record {
   lacking : (e : ImageError) → LacksBlock l.fn.file.header.fields l.fn.self.reftable l.fn.first e → (l.taken ≡ 0) × (l.self.reftable ≡ l.fn.self.reftable) × (l.file ≡ l.fn.file);
   still : l.taken ≡ 0 → (l.file ≡ l.fn.file) × (l.self.reftable ≡ l.fn.self.reftable);
   one : l.taken ≡ 1 → SearchesQuietly g.S.Storage.view l.fn.file l.file l.fn.self.reftable l.self.reftable;
-  held : l.fn.first + l.taken ≤ range_end l.fn.file.header.fields l.fn.first → KeepsRangeHeld l.fn.self.reftable l.fn.file l.self.reftable l.file (l.fn.first / counts_per_block l.fn.file.header.fields);
+  held : KeepsRangesHeld l.fn.self.reftable l.fn.file l.self.reftable l.file l.fn.first (l.fn.first + l.taken);
   holds : 0 < l.taken → HoldsCountOf l.self.reftable l.file (l.fn.first + l.taken - 1);
   aligned : AvoidsUnaligned l.fn.file.header.fields l.self.reftable l.fn.first l.taken;
 }

@@ -236,16 +236,16 @@ pub returns-clause-all_written : goal.returns-clause-all_written
 returns-clause-all_written g c = written_then g.S.Storage.view (written_then g.S.Storage.view (block_got_written g.S.Storage.view c.args.storage.now c.get_or_insert.new.store c.args.self.now false c.args.cluster c.get_or_insert.new.self c.get_or_insert.result c.get_or_insert.ensures.hit c.get_or_insert.ensures.miss) c.before_rb.ensures.all_written) (block_got_written g.S.Storage.view c.before_rb.new.storage c.get_or_insert-2.new.store c.before_rb.new.self true c.args.cluster c.get_or_insert-2.new.self c.get_or_insert-2.result c.get_or_insert-2.ensures.hit c.get_or_insert-2.ensures.miss)
 
 pub returns-then-branch-clause-held : goal.returns-then-branch-clause-held
-returns-then-branch-clause-held g c = λ there. let got = got_there c.args.cluster c.args.self.now.rb.entries c.get_or_insert.new.self.entries c.args.storage.now c.get_or_insert.new.store c.get_or_insert.result c.get_or_insert.ensures.hit c.get_or_insert.ensures.front there in (got.1, got.2)
+returns-then-branch-clause-held g c = λ there. let got = got_there c.args.cluster c.args.self.now.rb.entries c.get_or_insert.new.self.entries c.args.storage.now c.get_or_insert.new.store c.get_or_insert.result c.get_or_insert.ensures.hit there in (got.1, got.2)
 
 pub returns-in_err-get_or_insert-clause-held : goal.returns-in_err-get_or_insert-clause-held
-returns-in_err-get_or_insert-clause-held g c = λ there. absurd (let bad = sym (got_there c.args.cluster c.args.self.now.rb.entries c.get_or_insert.new.self.entries c.args.storage.now c.get_or_insert.new.store c.get_or_insert.result c.get_or_insert.ensures.hit c.get_or_insert.ensures.front there).0 ∙ c.in_err-get_or_insert.was in cc)
+returns-in_err-get_or_insert-clause-held g c = λ there. absurd (let bad = sym (got_there c.args.cluster c.args.self.now.rb.entries c.get_or_insert.new.self.entries c.args.storage.now c.get_or_insert.new.store c.get_or_insert.result c.get_or_insert.ensures.hit there).0 ∙ c.in_err-get_or_insert.was in cc)
 
 pub returns-in_err-before_rb-clause-held : goal.returns-in_err-before_rb-clause-held
-returns-in_err-before_rb-clause-held g c = λ there. absurd (let bad = sym (got_there c.args.cluster c.args.self.now.rb.entries c.get_or_insert.new.self.entries c.args.storage.now c.get_or_insert.new.store c.get_or_insert.result c.get_or_insert.ensures.hit c.get_or_insert.ensures.front there).0 ∙ c.in_ok-get_or_insert.was ∙ ap Ok c.if-branch.false in cc)
+returns-in_err-before_rb-clause-held g c = λ there. absurd (let bad = sym (got_there c.args.cluster c.args.self.now.rb.entries c.get_or_insert.new.self.entries c.args.storage.now c.get_or_insert.new.store c.get_or_insert.result c.get_or_insert.ensures.hit there).0 ∙ c.in_ok-get_or_insert.was ∙ ap Ok c.if-branch.false in cc)
 
 pub returns-in_err-get_or_insert-2-clause-held : goal.returns-in_err-get_or_insert-2-clause-held
-returns-in_err-get_or_insert-2-clause-held g c = λ there. absurd (let bad = sym (got_there c.args.cluster c.args.self.now.rb.entries c.get_or_insert.new.self.entries c.args.storage.now c.get_or_insert.new.store c.get_or_insert.result c.get_or_insert.ensures.hit c.get_or_insert.ensures.front there).0 ∙ c.in_ok-get_or_insert.was ∙ ap Ok c.if-branch.false in cc)
+returns-in_err-get_or_insert-2-clause-held g c = λ there. absurd (let bad = sym (got_there c.args.cluster c.args.self.now.rb.entries c.get_or_insert.new.self.entries c.args.storage.now c.get_or_insert.new.store c.get_or_insert.result c.get_or_insert.ensures.hit there).0 ∙ c.in_ok-get_or_insert.was ∙ ap Ok c.if-branch.false in cc)
 
 pub returns-clause-held : goal.returns-clause-held
-returns-clause-held g c = λ there. absurd (let bad = sym (got_there c.args.cluster c.args.self.now.rb.entries c.get_or_insert.new.self.entries c.args.storage.now c.get_or_insert.new.store c.get_or_insert.result c.get_or_insert.ensures.hit c.get_or_insert.ensures.front there).0 ∙ c.in_ok-get_or_insert.was ∙ ap Ok c.if-branch.false in cc)
+returns-clause-held g c = λ there. absurd (let bad = sym (got_there c.args.cluster c.args.self.now.rb.entries c.get_or_insert.new.self.entries c.args.storage.now c.get_or_insert.new.store c.get_or_insert.result c.get_or_insert.ensures.hit there).0 ∙ c.in_ok-get_or_insert.was ∙ ap Ok c.if-branch.false in cc)
