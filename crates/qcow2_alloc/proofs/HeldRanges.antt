@@ -131,6 +131,10 @@ module _ {S : Type 0} where
         alone_then two (run.stays (λ j low high. count_still two j (held j (omega (arith, behind, low)) (omega (arith, within, high)))));
   }
 
+  -- a cluster ends a run, whose clusters are given back
+  pub held_back : {t u v w : EntryTableView} {a b c d : ImageFile S} (first k end : ℕ) → first ≤ k → k < end → KeepsRangesHeld t a u b first k → KeepsRangeHeld u b v c (k / counts_per_block b.header.fields) → KeepsRangesHeld v c w d first k → KeepsRangesHeld t a w d first end
+  held_back first k end from before so_far one back = held_run first end first k end (omega arith) (omega arith) (omega (arith, before)) (held_more first k k end (omega (arith, before)) from before so_far one) back
+
   -- so far up to before an end
   pub held_wide : {t u : EntryTableView} {a b : ImageFile S} (first m end : ℕ) → m ≤ end → KeepsRangesHeld t a u b first m → KeepsRangesHeld t a u b first end
   held_wide first m end wide so_far = record { stays = λ held. so_far.stays (λ j low high. held j low (omega (arith, wide, high))) }

@@ -339,6 +339,7 @@ impl Allocator {
         ensures uses { (p : Pending) (is_data : Bool) → AllocatorInvariant S.view self.old p file.old → MayTake is_data file.old → KeepsUsed S.view file.old file.new result }
         ensures quiet { n ≤ 1 → IfOk result (CountsRunOrMakes S.view file.old file.new self.old.reftable self.new.reftable n) }
         ensures held_range { KeepsRangesHeld self.old.reftable file.old self.new.reftable file.new first (first + n) }
+        ensures held_used { IfOk result (λ taken. taken ≢ n → KeepsRangesHeld self.old.reftable file.old self.new.reftable file.new first (first + taken + 1)) }
         ensures holds { IfOk result (λ taken. taken ≡ n → 0 < n → HoldsCountOf self.new.reftable file.new (first + n - 1)) }
         ensures header_cluster { SparesHeaderButPointer S.view self.old.reftable file.old self.new.reftable file.new }
     {

@@ -32,7 +32,7 @@ use Rattle.qcow2_metadata.specs.EntryTable.{EntryTableView}
 use Rattle.qcow2_metadata.specs.declared.header.HeaderFields.{HeaderFields}
 use Rattle.qcow2_alloc.specs.declared.error.ImageError.TheVariants as I
 use Rattle.qcow2_alloc.proofs.QuietSearches.{first_free, first_used, run_ends}
-use Rattle.qcow2_alloc.proofs.HeldRanges.{none_run, run_held_as, held_more, held_run, held_wide}
+use Rattle.qcow2_alloc.proofs.HeldRanges.{none_run, run_held_as, held_more, held_back, held_wide}
 use Rattle.qcow2_alloc.specs.HeldRanges.{HoldsCountOf}
 use Rattle.qcow2_alloc.proofs.allocation.Allocator.take_run.Goals as goal
 
@@ -656,22 +656,34 @@ returns-clause-quiet g c = λ few.
 
 -- ---- the refblocks of all its ranges stay held
 pub returns-in_err-give_back-in-Ok-false-clause-held_range : goal.returns-in_err-give_back-in-Ok-false-clause-held_range
-returns-in_err-give_back-in-Ok-false-clause-held_range g c = held_run c.args.first (c.args.first + c.args.n) c.args.first (c.args.first + c.taking.taken) (c.args.first + c.args.n) (omega arith) (omega arith) (let lt = c.taking-test.true in omega (arith, lt)) (held_more c.args.first (c.args.first + c.taking.taken) (c.args.first + c.taking.taken) (c.args.first + c.args.n) (let lt = c.taking-test.true in omega (arith, lt)) (omega arith) (let lt = c.taking-test.true in omega (arith, lt)) c.taking.invariant.held c.take.ensures.held_range) c.give_back.ensures.held_range
+returns-in_err-give_back-in-Ok-false-clause-held_range g c = held_back c.args.first (c.args.first + c.taking.taken) (c.args.first + c.args.n) (omega arith) (let lt = c.taking-test.true in omega (arith, lt)) c.taking.invariant.held c.take.ensures.held_range c.give_back.ensures.held_range
 
 pub returns-in-Ok-false-clause-held_range : goal.returns-in-Ok-false-clause-held_range
-returns-in-Ok-false-clause-held_range g c = held_run c.args.first (c.args.first + c.args.n) c.args.first (c.args.first + c.taking.taken) (c.args.first + c.args.n) (omega arith) (omega arith) (let lt = c.taking-test.true in omega (arith, lt)) (held_more c.args.first (c.args.first + c.taking.taken) (c.args.first + c.taking.taken) (c.args.first + c.args.n) (let lt = c.taking-test.true in omega (arith, lt)) (omega arith) (let lt = c.taking-test.true in omega (arith, lt)) c.taking.invariant.held c.take.ensures.held_range) c.give_back.ensures.held_range
+returns-in-Ok-false-clause-held_range g c = held_back c.args.first (c.args.first + c.taking.taken) (c.args.first + c.args.n) (omega arith) (let lt = c.taking-test.true in omega (arith, lt)) c.taking.invariant.held c.take.ensures.held_range c.give_back.ensures.held_range
 
 pub returns-in_err-give_back-in-Err-clause-held_range : goal.returns-in_err-give_back-in-Err-clause-held_range
-returns-in_err-give_back-in-Err-clause-held_range g c = held_run c.args.first (c.args.first + c.args.n) c.args.first (c.args.first + c.taking.taken) (c.args.first + c.args.n) (omega arith) (omega arith) (let lt = c.taking-test.true in omega (arith, lt)) (held_more c.args.first (c.args.first + c.taking.taken) (c.args.first + c.taking.taken) (c.args.first + c.args.n) (let lt = c.taking-test.true in omega (arith, lt)) (omega arith) (let lt = c.taking-test.true in omega (arith, lt)) c.taking.invariant.held c.take.ensures.held_range) c.give_back-then-not-is_fault.ensures.held_range
+returns-in_err-give_back-in-Err-clause-held_range g c = held_back c.args.first (c.args.first + c.taking.taken) (c.args.first + c.args.n) (omega arith) (let lt = c.taking-test.true in omega (arith, lt)) c.taking.invariant.held c.take.ensures.held_range c.give_back-then-not-is_fault.ensures.held_range
 
 pub returns-in-Err-clause-held_range : goal.returns-in-Err-clause-held_range
 returns-in-Err-clause-held_range g c = elim c.if-not-is_fault.branch [
-  | then-not-is_fault+in_ok-give_back-in-Err w ↦ run_held_as (ap (λ (t : Allocator). t.reftable) w.self-is) w.file-is (held_run c.args.first (c.args.first + c.args.n) c.args.first (c.args.first + c.taking.taken) (c.args.first + c.args.n) (omega arith) (omega arith) (let lt = c.taking-test.true in omega (arith, lt)) (held_more c.args.first (c.args.first + c.taking.taken) (c.args.first + c.taking.taken) (c.args.first + c.args.n) (let lt = c.taking-test.true in omega (arith, lt)) (omega arith) (let lt = c.taking-test.true in omega (arith, lt)) c.taking.invariant.held c.take.ensures.held_range) w.give_back-then-not-is_fault.ensures.held_range)
+  | then-not-is_fault+in_ok-give_back-in-Err w ↦ run_held_as (ap (λ (t : Allocator). t.reftable) w.self-is) w.file-is (held_back c.args.first (c.args.first + c.taking.taken) (c.args.first + c.args.n) (omega arith) (let lt = c.taking-test.true in omega (arith, lt)) c.taking.invariant.held c.take.ensures.held_range w.give_back-then-not-is_fault.ensures.held_range)
   | else-not-is_fault w ↦ run_held_as (ap (λ (t : Allocator). t.reftable) w.self-is) w.file-is (held_more c.args.first (c.args.first + c.taking.taken) (c.args.first + c.taking.taken) (c.args.first + c.args.n) (let lt = c.taking-test.true in omega (arith, lt)) (omega arith) (let lt = c.taking-test.true in omega (arith, lt)) c.taking.invariant.held c.take.ensures.held_range)
 ]
 
 pub returns-clause-held_range : goal.returns-clause-held_range
 returns-clause-held_range g c = held_wide c.args.first (c.args.first + c.taking.taken) (c.args.first + c.args.n) (let most = c.taking.auto.taken-end in omega (arith, most)) c.taking.invariant.held
+
+pub returns-in_err-give_back-in-Ok-false-clause-held_used : goal.returns-in_err-give_back-in-Ok-false-clause-held_used
+returns-in_err-give_back-in-Ok-false-clause-held_used g c = if_no_ok _ c.from_residual.result c.in_err-give_back-in-Ok-false.field-0.0 c.from_residual.ensures
+
+pub returns-in_err-give_back-in-Err-clause-held_used : goal.returns-in_err-give_back-in-Err-clause-held_used
+returns-in_err-give_back-in-Err-clause-held_used g c = if_no_ok _ c.from_residual-in_err-give_back-in-Err.result c.in_err-give_back-in-Err.field-0.0 c.from_residual-in_err-give_back-in-Err.ensures
+
+pub returns-in-Ok-false-clause-held_used : goal.returns-in-Ok-false-clause-held_used
+returns-in-Ok-false-clause-held_used g c = λ short. held_back c.args.first (c.args.first + c.taking.taken) (c.args.first + c.taking.taken + 1) (omega arith) (omega arith) c.taking.invariant.held c.take.ensures.held_range c.give_back.ensures.held_range
+
+pub returns-clause-held_used : goal.returns-clause-held_used
+returns-clause-held_used g c = λ short. absurd (short refl)
 
 -- ---- the refblock that counts its last cluster is held
 pub returns-in_err-give_back-in-Ok-false-clause-holds : goal.returns-in_err-give_back-in-Ok-false-clause-holds
