@@ -2,6 +2,7 @@
 use Rattle.std.specs.Prelude.{ℕ, ◌+◌, ◌-◌, ◌≡◌, ◌<◌, ◌≤◌, ◌⊎◌, true, List, ◌∷◌, Option, None}
 use Rattle.image_access.specs.Backing.{BackingView}
 use Rattle.image_access.specs.Moments.{StorageView}
+use Rattle.qcow2_metadata.specs.TableBytes.{entry_at}
 use Rattle.qcow2_disk.specs.Alike.{AreDataAt}
 use Rattle.qcow2_disk.specs.Found.{rest_of_table}
 use Rattle.qcow2_alloc.specs.ImageFile.{known_in}
@@ -14,7 +15,7 @@ use Rattle.qcow2_image.specs.ListedClusters.{PreparesTable}
 use Rattle.qcow2_image.specs.LowestPlaces.{BeginsLowest, GrowsFromLowest, TakesLowestTables}
 use Rattle.qcow2_image.specs.Preallocation.{FillsPart}
 use Rattle.qcow2_image.specs.Prepared.{length_of, offset_of}
-use Rattle.qcow2_image.specs.Resizing.{SetsSize}
+use Rattle.qcow2_image.specs.Resizing.{SetsSizeAlone}
 use Rattle.qcow2_image.specs.Turns.{GoesInTurns}
 
 module _ {S F : Type 0} (view : S → StorageView) (backing : F → BackingView) (out : List (Option Prepared)) where
@@ -50,15 +51,15 @@ module _ {S F : Type 0} (view : S → StorageView) (backing : F → BackingView)
     pub lowest : FillsByZeroEntries first from old new ⊎ FillsByMapping from to old new
     pub emptied : HasNothingToFree new
 
-  -- A larger size is set in turns. Right after the L1 table was made longer it lies lowest, and nothing is to be freed.
-  -- The turns that fill the range behind the old end follow, and then the size is written, and nothing else.
+  -- A larger size is set in turns. Right after the L1 table was made longer it lies lowest, its entries are as before, and nothing is to be freed.
+  -- The turns that fill the range behind the old end follow, and then the size alone is written.
   pub record GrowsInTurns (size : ℕ) (old new : Qcow2 S F) : Type 0 where
     pub longer : Qcow2 S F
     pub unseen : UnseenCall view backing old longer out
     pub reaches : ReachesOffset (size - 1) old.file.header.fields longer.file.header.fields
+    pub kept : (i : ℕ) → entry_at longer.l1_table.bytes i ≡ entry_at old.l1_table.bytes i
     pub l1_table : GrowsFromLowest view old longer
     pub emptied : HasNothingToFree longer
     pub filled : Qcow2 S F
     pub turns : GoesInTurns FillsTurn longer filled
-    pub sized : SetsSize view backing size filled new out
-    pub rest : new ≡ record filled { file = record filled.file { storage = new.file.storage; header = new.file.header } }
+    pub sized : SetsSizeAlone view backing out size filled new

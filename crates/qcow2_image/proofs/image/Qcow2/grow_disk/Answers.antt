@@ -617,6 +617,8 @@ returns-clause-turns g c = λ out sound.
     let step = c.begin.ensures.keeps (pending_in view below old out) out sound in
     let told = reaches_begun old.file.header.fields begun.file.header.fields mid.file.header.fields (c.args.size - 1) step.unseen.header
     (reaches_told view below out (pending_in view below begun out) (pending_in view below mid out) begun mid (c.args.size - 1) begins.sound lengthens.sound length) in
+    let entries = subst (λ (r : Result _ _). OnOk r ((i : _) → entry_at mid.l1_table.bytes i ≡ entry_at begun.l1_table.bytes i)) made c.renew_l1_table-longer.ensures.kept in
+    let as_before = subst (λ (b : Qcow2 _ _). (i : _) → entry_at mid.l1_table.bytes i ≡ entry_at b.l1_table.bytes i) c.begin.ensures.rest entries in
     let empty = subst (λ (r : Result _ _). OnOk r (HasNothingToFree mid)) made c.renew_l1_table-longer.ensures.emptied in
     let known = c.begin.ensures.known (pending_in view below old out) out sound in
     let as_begun = grows_alike view old begun mid c.begin.ensures.rest (begun_used view old begun (ap (λ (i : Qcow2 _ _). i.file.header) c.begin.ensures.rest) known) low in
@@ -624,6 +626,7 @@ returns-clause-turns g c = λ out sound.
     let written = c.write_size-written.new.self in
     let kept_size = subst (λ (i : Qcow2 _ _). written ≡ record i { file = record i.file { storage = written.file.storage; header = written.file.header } }) whole c.write_size-written.ensures.rest in
     let sized = subst (λ (i : Qcow2 _ _). ImageInvariant view below (pending_in view below i out) i out → WritesSize view below i written out c.args.size c.write_size-written.result) whole (c.write_size-written.ensures.writes out) fills.sound in
+    let header = subst (λ (i : Qcow2 _ _). OnOk c.write_size-written.result (written.file.header ≡ with_fields i.file.header (with_size i.file.header.fields c.args.size))) whole c.write_size-written.ensures.header in
     subst (λ (r : Result _ _). OnOk r (GrowsInTurns view below out c.args.size old c.mark_fault-2.new.self)) (sym c.mark_fault-2.ensures.answer)
-    (grows_in_turns view below out c.args.size old mid filled written c.mark_fault-2.new.self c.write_size-written.result (stays_then view below out old begun mid begins lengthens) told as_begun empty
-    (subst (λ (i : Qcow2 _ _). GoesInTurns (FillsTurn view below out) i filled) same turns) sized kept_size c.mark_fault-2.ensures.same)
+    (grows_in_turns view below out c.args.size old mid filled written c.mark_fault-2.new.self c.write_size-written.result (stays_then view below out old begun mid begins lengthens) told as_before as_begun empty
+    (subst (λ (i : Qcow2 _ _). GoesInTurns (FillsTurn view below out) i filled) same turns) sized kept_size header c.mark_fault-2.ensures.same)
