@@ -1,4 +1,4 @@
--- A disk is made larger in turns: a longer L1 table, then one turn after another that puts zeros behind its old end, and then the size. Each turn takes the lowest places, seen from its own begin.
+-- A disk is made larger in turns: a longer L1 table, then one turn after another that puts zeros behind its old end, and then the size. In each turn the tables that it makes lie lowest, and so does the first new cluster of a mapping that begins in one.
 use Rattle.std.specs.Prelude.{ℕ, ◌+◌, ◌-◌, ◌≡◌, ◌<◌, ◌≤◌, ◌⊎◌, true, List, ◌∷◌, Option, None}
 use Rattle.image_access.specs.Backing.{BackingView}
 use Rattle.image_access.specs.Moments.{StorageView}
@@ -19,28 +19,31 @@ use Rattle.qcow2_image.specs.Resizing.{SetsSizeAlone}
 use Rattle.qcow2_image.specs.Turns.{GoesInTurns}
 
 module _ {S F : Type 0} (view : S → StorageView) (backing : F → BackingView) (out : List (Option Prepared)) where
-  -- A mapping of n bytes at an offset is prepared, to be overwritten whole. Tables that were made for it lie lowest, and it begins lowest.
+  -- A mapping of n bytes at an offset is prepared, to be overwritten whole. Tables that were made for it lie lowest. Where it begins in a new cluster, that is the lowest free one.
   pub record PreparesLowest (offset n : ℕ) (old new : Qcow2 S F) (p : Prepared) : Type 0 where
     pub readied : IsReadied view backing old new (None ∷ out) 0 offset n true p
     pub leaves : PreparesTable offset old new
     pub tables : TakesLowestTables view offset old new
     pub begins : BeginsLowest view new p
 
-  -- Bytes from one offset up to another have a prepared mapping, whose places are the lowest right after it was prepared. Once it is committed they are data, each at its place in the mapping.
+  -- Bytes from one offset up to another have a prepared mapping. Right after it was prepared, the tables that were made for it lie lowest; and where it begins in a new cluster, so does that one.
+  -- Once it is committed the bytes are data, each at its place in the mapping. The header, and the L1 table in memory, are then as they were right after it was prepared.
   pub record FillsByMapping (from to : ℕ) (old new : Qcow2 S F) : Type 0 where
     pub asked : ℕ
     pub ready : Qcow2 S F
     pub mapping : Prepared
     pub prepares : PreparesLowest from asked old ready mapping
     pub whole : from + length_of mapping ≡ to
+    pub header : new.file.header ≡ ready.file.header
+    pub table : new.l1_table ≡ ready.l1_table
     pub placed : AreDataAt new.file.header.fields (known_in view new.file) true from (offset_of mapping) (to - from)
 
-  -- They are whole clusters that become explicit zeros, without a place for data. Tables that were made for them lie lowest.
+  -- They are whole clusters that become explicit zeros by their entries, without a new place for data. Tables that were made for them lie lowest.
   pub record FillsByZeroEntries (first from : ℕ) (old new : Qcow2 S F) : Type 0 where
     pub zeros : first ≡ 0
     pub tables : TakesLowestTables view from old new
 
-  -- One turn: zeros stand from one offset up to another, under one L2 table. What it takes lies lowest, and nothing is left to be freed.
+  -- One turn: zeros stand from one offset up to another, under one L2 table. The tables that it made lie lowest, and nothing is left to be freed.
   pub record FillsTurn (old new : Qcow2 S F) : Type 0 where
     pub first : ℕ
     pub from : ℕ

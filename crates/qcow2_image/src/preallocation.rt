@@ -351,6 +351,7 @@ impl<S: Storage, F: WrappedFormat<S>> Qcow2<S, F> {
     fn commit_filled(&mut self, mut prepared: Prepared)
         ensures stays { ImageStays self.old self.new }
         ensures header { self.new.file.header ≡ self.old.file.header }
+        ensures table { self.new.l1_table ≡ self.old.l1_table }
         ensures commits { (out : List (Option Prepared)) (k : ℕ) → slice_get out k ≡ Some (Some prepared) → ImageInvariant S.view F.backing (pending_in S.view F.backing self.old out) self.old out
             → CommitsWhole S.view F.backing self.old self.new out k prepared (slice_set out k None) }
         ensures notes { KeepsFileNotes S.view NoData self.old.file self.new.file }

@@ -43,8 +43,8 @@ module _ {S F : Type 0} (view : S → StorageView) (backing : F → BackingView)
 
     -- a mapping was committed, and then clusters were freed
     pub turn_of_mapping : (ready done : Qcow2 S F) (p : Prepared) (first asked : ℕ) → next ≡ from + p.length → 0 < p.length → FillsPart view backing first from next old new out → PreparesLowest view backing out from asked old ready p
-        → AreDataAt done.file.header.fields (known_in view done.file) true from p.offset p.length → UnseenCall view backing done new out → FillsTurn view backing out old new
-    turn_of_mapping ready done p first asked is some part prepares placed freed = record {
+        → new.file.header ≡ ready.file.header → new.l1_table ≡ ready.l1_table → AreDataAt done.file.header.fields (known_in view done.file) true from p.offset p.length → UnseenCall view backing done new out → FillsTurn view backing out old new
+    turn_of_mapping ready done p first asked is some part prepares header table placed freed = record {
       first = first;
       from = from;
       to = next;
@@ -57,6 +57,8 @@ module _ {S F : Type 0} (view : S → StorageView) (backing : F → BackingView)
         mapping = p;
         prepares = prepares;
         whole = sym is;
+        header = header;
+        table = table;
         placed = λ i lt. data_moved done.file.header.fields new.file.header.fields (known_in view done.file) (known_in view new.file) freed.header freed.covers (from + i) (p.offset + i) (placed i (omega (arith, is, lt)));
       });
       emptied = emptied;

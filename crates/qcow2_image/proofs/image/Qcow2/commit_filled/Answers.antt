@@ -23,6 +23,12 @@ returns-then-is_none-clause-header g c = ap (λ (image : Qcow2 _ _). image.file.
 pub returns-clause-header : goal.returns-clause-header
 returns-clause-header g c = ap (λ (image : Qcow2 _ _). image.file.header) c.release_prepared-2.ensures.rest.rest ∙ c.enter_shares-entered.ensures.header
 
+pub returns-then-is_none-clause-table : goal.returns-then-is_none-clause-table
+returns-then-is_none-clause-table g c = ap (λ (image : Qcow2 _ _). image.l1_table) c.release_prepared.ensures.rest.rest
+
+pub returns-clause-table : goal.returns-clause-table
+returns-clause-table g c = ap (λ (image : Qcow2 _ _). image.l1_table) c.release_prepared-2.ensures.rest.rest ∙ ap (λ (image : Qcow2 _ _). image.l1_table) c.enter_shares-entered.ensures.rest
+
 pub returns-then-is_none-clause-header_cluster : goal.returns-then-is_none-clause-header_cluster
 returns-then-is_none-clause-header_cluster g c = c.release_prepared.ensures.header_cluster
 

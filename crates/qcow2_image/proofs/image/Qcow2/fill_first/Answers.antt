@@ -175,6 +175,8 @@ returns-clause-turns g c = λ out sound whole.
     (subst (λ k. FillsPart view below to from k old new out) (sym next)
     (fills_stays view below out old done new to from (from + p.length) part tidy c.free_listed.ensures.keeps_rest.header c.free_listed.ensures.former))
     (record { readied = ready; leaves = c.in_ok-prepared.ensures.listed some out sound; tables = c.in_ok-prepared.ensures.lowest_tables out sound; begins = c.in_ok-prepared.ensures.lowest out sound })
+    (c.free_listed.ensures.keeps_rest.header ∙ c.commit_filled.ensures.header ∙ ap (λ (i : Qcow2 _ _). i.file.header) c.in_default.ensures.written.rest)
+    (c.free_listed.ensures.table ∙ c.commit_filled.ensures.table ∙ ap (λ (i : Qcow2 _ _). i.l1_table) c.in_default.ensures.written.rest)
     (all_placed view below out old mid p from to c.most.result n c.min-count.result sound ready answered lt whole few asked counted c.put_zeros.new.self done c.in_default.ensures.written c.commit_filled.ensures.commits c.commit_filled.ensures.header) tidy
 
 pub returns-in-Err-clause-faults : goal.returns-in-Err-clause-faults
