@@ -2,6 +2,9 @@
 use Rattle.std.specs.Prelude.{ℕ, ◌+◌, ◌-◌, ◌≡◌, ◌<◌, ◌≤◌, ◌⊎◌, true, List, ◌∷◌, Option, None}
 use Rattle.image_access.specs.Backing.{BackingView}
 use Rattle.image_access.specs.Moments.{StorageView}
+use Rattle.image_access.specs.declared.storage.PreallocateMode.{PreallocateMode}
+use Rattle.image_access.specs.declared.storage.PreallocateMode.TheVariants.{Zero}
+use Rattle.qcow2_metadata.specs.Header.{cluster_size, rounded_up}
 use Rattle.qcow2_metadata.specs.TableBytes.{entry_at}
 use Rattle.qcow2_disk.specs.Alike.{AreDataAt}
 use Rattle.qcow2_disk.specs.Found.{rest_of_table}
@@ -9,7 +12,7 @@ use Rattle.qcow2_alloc.specs.ImageFile.{known_in}
 use Rattle.qcow2_image.specs.declared.image.Qcow2.{Qcow2}
 use Rattle.qcow2_image.specs.declared.prepared.Prepared.{Prepared}
 use Rattle.qcow2_image.specs.CallParts.{IsReadied, UnseenCall}
-use Rattle.qcow2_image.specs.Image.{HasNothingToFree}
+use Rattle.qcow2_image.specs.Image.{HasNothingToFree, size_of}
 use Rattle.qcow2_image.specs.L1Entries.{ReachesOffset}
 use Rattle.qcow2_image.specs.ListedClusters.{PreparesTable}
 use Rattle.qcow2_image.specs.LowestPlaces.{BeginsLowest, GrowsFromLowest, TakesLowestTables}
@@ -43,20 +46,23 @@ module _ {S F : Type 0} (view : S → StorageView) (backing : F → BackingView)
     pub zeros : first ≡ 0
     pub tables : TakesLowestTables view from old new
 
-  -- One turn: zeros stand from one offset up to another, under one L2 table. The tables that it made lie lowest, and nothing is left to be freed.
-  pub record FillsTurn (old new : Qcow2 S F) : Type 0 where
+  -- One turn in a range: zeros stand from one of its offsets up to another, under one L2 table. Only where the call may do so, they stand by zero entries.
+  -- The tables that it made lie lowest, and nothing is left to be freed.
+  pub record FillsTurn (low high : ℕ) (MayZero : Type 0) (old new : Qcow2 S F) : Type 0 where
     pub first : ℕ
     pub from : ℕ
     pub to : ℕ
     pub some : from < to
+    pub begins : low ≤ from
+    pub ends : to ≤ high
     pub within : to ≤ from + rest_of_table old.file.header.fields from
     pub part : FillsPart view backing first from to old new out
-    pub lowest : FillsByZeroEntries first from old new ⊎ FillsByMapping from to old new
+    pub lowest : (MayZero × FillsByZeroEntries first from old new) ⊎ FillsByMapping from to old new
     pub emptied : HasNothingToFree new
 
   -- A larger size is set in turns. Right after the L1 table was made longer it lies lowest, its entries are as before, and nothing is to be freed.
-  -- The turns that fill the range behind the old end follow, and then the size alone is written.
-  pub record GrowsInTurns (size : ℕ) (old new : Qcow2 S F) : Type 0 where
+  -- The turns that fill the range behind the old end follow, up to the new end rounded up. Zero entries are for one mode alone. Then the size alone is written.
+  pub record GrowsInTurns (size : ℕ) (mode : PreallocateMode) (old new : Qcow2 S F) : Type 0 where
     pub longer : Qcow2 S F
     pub unseen : UnseenCall view backing old longer out
     pub reaches : ReachesOffset (size - 1) old.file.header.fields longer.file.header.fields
@@ -64,5 +70,5 @@ module _ {S F : Type 0} (view : S → StorageView) (backing : F → BackingView)
     pub l1_table : GrowsFromLowest view old longer
     pub emptied : HasNothingToFree longer
     pub filled : Qcow2 S F
-    pub turns : GoesInTurns FillsTurn longer filled
+    pub turns : GoesInTurns (FillsTurn (size_of old) (rounded_up (cluster_size old.file.header.fields) size) (mode ≡ Zero)) longer filled
     pub sized : SetsSizeAlone view backing out size filled new

@@ -170,7 +170,8 @@ returns-clause-turns g c = λ out sound whole.
     let listed = subst (λ (x : Pending). ImageInvariant view below x done out) (all_listed view below done out) part.sound in
     let tidy = tidy_stays view below done out new part.sound (c.in_ok-free_listed.ensures.frees (beside view below done out) out listed) in
     let within = answered.within in
-    turn_of_mapping view below out old new from c.min-next.result (omega (arith, next, within)) (c.in_ok-free_listed.ensures.emptied (subst IsTrue (sym (c.commit_filled.ensures.stays.image.writable ∙ c.put_zeros.ensures.stays.image.writable ∙ c.prepare.ensures.stays.image.writable)) c.requires.writable)) mid done p to n next
+    let most : c.min-next.result ≤ c.args.to = let is = c.min-next.ensures in omega (arith, is) in
+    turn_of_mapping view below out old new from c.min-next.result to most (omega (arith, next, within)) (c.in_ok-free_listed.ensures.emptied (subst IsTrue (sym (c.commit_filled.ensures.stays.image.writable ∙ c.put_zeros.ensures.stays.image.writable ∙ c.prepare.ensures.stays.image.writable)) c.requires.writable)) mid done p to n next
     (c.in_ok-prepared.ensures.some some).some
     (subst (λ k. FillsPart view below to from k old new out) (sym next)
     (fills_stays view below out old done new to from (from + p.length) part tidy c.free_listed.ensures.keeps_rest.header c.free_listed.ensures.former))

@@ -19,6 +19,7 @@ use Rattle.qcow2_image.specs.Growing.{ReachesSize}
 use Rattle.qcow2_image.specs.Image.{HasNothingToFree, is_failed, size_of, with_marks, has_noted_change}
 use Rattle.qcow2_image.specs.ImageInvariant.{ImageInvariant, pending_in}
 use Rattle.qcow2_image.specs.LongerTables.{MakesEntry}
+use Rattle.qcow2_image.specs.MovedTables.{MovesTables}
 use Rattle.qcow2_image.specs.L1Entries.{ReachesOffset}
 use Rattle.qcow2_image.specs.FilledTurns.{FillsTurn, GrowsInTurns}
 use Rattle.qcow2_image.specs.Preallocation.{FillsGrown, FillsGrownOrRefuses}
@@ -35,7 +36,7 @@ use Rattle.qcow2_image.proofs.Grow.TakenForTables.{grown_lowest}
 use Rattle.qcow2_metadata.specs.TableBytes.{entry_at}
 use Rattle.qcow2_image.proofs.Moved.{file_step_then}
 use Rattle.qcow2_image.proofs.Preallocate.Filled.{met_taken}
-use Rattle.qcow2_image.proofs.Preallocate.Turns.{same_version}
+use Rattle.qcow2_image.proofs.Preallocate.Turns.{same_size, same_version}
 use Rattle.qcow2_image.proofs.Preallocate.Untaken.{untaken_grown}
 use Rattle.qcow2_image.proofs.Sizing.Growing.{grows_in_part, grows_not, grows_sized, last_in_part, last_not, last_sized, reaches_lengthened, unchanged_not}
 use Rattle.qcow2_image.proofs.Sizing.GrownInTurns.{grows_in_turns}
@@ -622,11 +623,17 @@ returns-clause-turns g c = λ out sound.
     let empty = subst (λ (r : Result _ _). OnOk r (HasNothingToFree mid)) made c.renew_l1_table-longer.ensures.emptied in
     let known = c.begin.ensures.known (pending_in view below old out) out sound in
     let as_begun = grows_alike view old begun mid c.begin.ensures.rest (begun_used view old begun (ap (λ (i : Qcow2 _ _). i.file.header) c.begin.ensures.rest) known) low in
-    let turns = subst (λ (r : Result _ _). OnOk r (GoesInTurns (FillsTurn view below out) long filled)) put (c.fill_grown-filled.ensures.turns out sound_long) in
+    let call : UnseenCall view below old mid out = stays_then view below out old begun mid begins lengthens in
+    let header_long : MovesTables old.file.header.fields long.file.header.fields = subst (λ (i : Qcow2 _ _). MovesTables old.file.header.fields i.file.header.fields) (sym same) call.header in
+    let low_is : c.size-end.result ≡ size_of c.args.self.now = c.size-end.ensures ∙ ap (λ (x : HeaderFields). x.size) header_long in
+    let high_is : rounded_up (cluster_size long.file.header.fields) c.args.size ≡ rounded_up (cluster_size old.file.header.fields) c.args.size = ap (λ s. rounded_up s c.args.size) (same_size old.file.header.fields long.file.header.fields header_long) in
+    let turns = subst (λ (r : Result _ _). OnOk r (GoesInTurns (FillsTurn view below out c.size-end.result (rounded_up (cluster_size long.file.header.fields) c.args.size) (c.args.mode ≡ Zero)) long filled)) put (c.fill_grown-filled.ensures.turns out sound_long) in
+    let from_end = subst (λ n. GoesInTurns (FillsTurn view below out n (rounded_up (cluster_size long.file.header.fields) c.args.size) (c.args.mode ≡ Zero)) long filled) low_is turns in
+    let to_end = subst (λ n. GoesInTurns (FillsTurn view below out (size_of c.args.self.now) n (c.args.mode ≡ Zero)) long filled) high_is from_end in
     let written = c.write_size-written.new.self in
     let kept_size = subst (λ (i : Qcow2 _ _). written ≡ record i { file = record i.file { storage = written.file.storage; header = written.file.header } }) whole c.write_size-written.ensures.rest in
     let sized = subst (λ (i : Qcow2 _ _). ImageInvariant view below (pending_in view below i out) i out → WritesSize view below i written out c.args.size c.write_size-written.result) whole (c.write_size-written.ensures.writes out) fills.sound in
     let header = subst (λ (i : Qcow2 _ _). OnOk c.write_size-written.result (written.file.header ≡ with_fields i.file.header (with_size i.file.header.fields c.args.size))) whole c.write_size-written.ensures.header in
-    subst (λ (r : Result _ _). OnOk r (GrowsInTurns view below out c.args.size old c.mark_fault-2.new.self)) (sym c.mark_fault-2.ensures.answer)
-    (grows_in_turns view below out c.args.size old mid filled written c.mark_fault-2.new.self c.write_size-written.result (stays_then view below out old begun mid begins lengthens) told as_before as_begun empty
-    (subst (λ (i : Qcow2 _ _). GoesInTurns (FillsTurn view below out) i filled) same turns) sized kept_size header c.mark_fault-2.ensures.same)
+    subst (λ (r : Result _ _). OnOk r (GrowsInTurns view below out c.args.size c.args.mode old c.mark_fault-2.new.self)) (sym c.mark_fault-2.ensures.answer)
+    (grows_in_turns view below out c.args.size c.args.mode old mid filled written c.mark_fault-2.new.self c.write_size-written.result call told as_before as_begun empty
+    (subst (λ (i : Qcow2 _ _). GoesInTurns (FillsTurn view below out (size_of c.args.self.now) (rounded_up (cluster_size c.args.self.now.file.header.fields) c.args.size) (c.args.mode ≡ Zero)) i filled) same to_end) sized kept_size header c.mark_fault-2.ensures.same)

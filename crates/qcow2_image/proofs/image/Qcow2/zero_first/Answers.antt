@@ -1,5 +1,5 @@
 use Rattle.qcow2_alloc.proofs.KeptMarks.{notes_none, notes_then}
-use Rattle.std.proofs.Common.{◌≡◌, ◌∙◌, ◌+◌, ◌-◌, ◌^◌, ◌<◌, inl, min, ap, subst, sym, arith, rules}
+use Rattle.std.proofs.Common.{◌≡◌, ◌∙◌, ◌+◌, ◌-◌, ◌^◌, ◌<◌, ◌≤◌, inl, min, ap, subst, sym, arith, rules}
 use Rattle.std.specs.Prelude.{IsTrue}
 use Rattle.qcow2_disk.specs.Found.{rest_of_table}
 use Rattle.qcow2_metadata.specs.EntryTable.{entry_count}
@@ -166,13 +166,14 @@ returns-clause-turns g c = λ out sound le whole version.
     (untaken_cleared h (known_in view old.file) sizes out from next (next_within h sizes.some sizes.entries from to next whole.1 is high) (c.in_ok-clear_between.ensures.free out sound)) in
     let listed = subst (λ (x : Pending). ImageInvariant view below x mid out) (all_listed view below mid out) part.sound in
     let lt : c.args.from < c.min-next.result = let lt = c.if-to-from.false in let some = c.rest_of_table.ensures.some in omega (arith, is, lt, some, rest, high) in
-    one_turn {IsTurn = FillsTurn view below out} old new
-    (turn_of_zeros view below out old new from next (next_within h sizes.some sizes.entries from to next whole.1 is high) (c.in_ok-free_listed.ensures.emptied (subst IsTrue (sym c.clear_between.ensures.stays.image.writable) c.requires.writable)) lt
+    let most : c.min-next.result ≤ c.args.to = omega (arith, is) in
+    one_turn {IsTurn = FillsTurn view below out from to (Unit {0})} old new
+    (turn_of_zeros view below out old new from next to most (next_within h sizes.some sizes.entries from to next whole.1 is high) (c.in_ok-free_listed.ensures.emptied (subst IsTrue (sym c.clear_between.ensures.stays.image.writable) c.requires.writable)) lt
     (fills_stays view below out old mid new 0 from next part (tidy_stays view below mid out new part.sound (c.in_ok-free_listed.ensures.frees (beside view below mid out) out listed)) c.free_listed.ensures.keeps_rest.header c.free_listed.ensures.former)
     (tables_freed view from old mid new c.free_listed.ensures.keeps_rest.header c.free_listed.ensures.table (c.in_ok-free_listed.ensures.uses (beside view below mid out) out listed) (c.in_ok-clear_between.ensures.lowest_tables out sound can)))
 
 pub returns-then-to-from-clause-turns : goal.returns-then-to-from-clause-turns
-returns-then-to-from-clause-turns g c = λ out sound le whole version. no_turn {IsTurn = FillsTurn g.S.Storage.view g.F.BackingDisk.backing out} c.args.self.now
+returns-then-to-from-clause-turns g c = λ out sound le whole version. no_turn {IsTurn = FillsTurn g.S.Storage.view g.F.BackingDisk.backing out c.args.from c.args.to (Unit {0})} c.args.self.now
 
 pub returns-clause-emptied : goal.returns-clause-emptied
 returns-clause-emptied g c = λ none. c.in_ok-free_listed.ensures.emptied (subst IsTrue (sym c.clear_between.ensures.stays.image.writable) c.requires.writable)

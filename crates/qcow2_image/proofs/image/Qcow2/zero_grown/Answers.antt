@@ -3,11 +3,13 @@ use Rattle.std.proofs.Common.{◌≡◌, ◌≤◌, ◌%◌, ◌∙◌, ap, refl
 use Rattle.std.proofs.lemmas.Nat.{pow_pos}
 use Rattle.qcow2_metadata.specs.Header.{cluster_size, rounded_up}
 use Rattle.qcow2_alloc.specs.declared.error.ImageError.TheVariants.{Overflow, Version}
+use Rattle.qcow2_image.specs.FilledTurns.{FillsTurn}
+use Rattle.qcow2_image.specs.Turns.{GoesInTurns}
 use Rattle.qcow2_image.specs.Preallocation.{FillsOrRefuses}
 use Rattle.qcow2_image.proofs.Preallocate.Filled.{refused_here}
 use Rattle.qcow2_image.proofs.Preallocate.Grown.{up_least, up_rising, up_whole}
 use Rattle.qcow2_image.proofs.Call.BehindHeader.{behind_none}
-use Rattle.std.specs.Prelude.{IfErr}
+use Rattle.std.specs.Prelude.{IfErr, OnOk}
 use Rattle.qcow2_alloc.specs.ImageFile.{known_in}
 use Rattle.qcow2_image.specs.ImageInvariant.{pending_in}
 use Rattle.qcow2_image.specs.MetAlone.{HasCompressedIn, HasNearEntries, IsMetTaking}
@@ -58,7 +60,8 @@ returns-clause-turns g c = λ out sound le.
     let version : 3 ≤ c.args.self.now.file.header.fields.version = subst (λ v. 3 ≤ v) c.version.ensures.value c.if-version-lt3.false in
     let least = up_least cs c.args.old some in
     let rising = up_rising cs c.args.old c.args.size some le in
-    c.zero_between.ensures.turns out sound (omega (arith, from, least)) (omega (arith, from, end, rising)) (subst (λ n. n % cs ≡ 0) (sym from) (up_whole cs c.args.old some), subst (λ n. n % cs ≡ 0) (sym end) (up_whole cs c.args.size some)) version
+    subst (λ n. OnOk c.zero_between.result (GoesInTurns (FillsTurn g.S.Storage.view g.F.BackingDisk.backing out c.args.old n (Unit {0})) old c.zero_between.new.self)) end
+    (c.zero_between.ensures.turns out sound (omega (arith, from, least)) (omega (arith, from, end, rising)) (subst (λ n. n % cs ≡ 0) (sym from) (up_whole cs c.args.old some), subst (λ n. n % cs ≡ 0) (sym end) (up_whole cs c.args.size some)) version)
 
 pub returns-then-version-lt3-clause-header_cluster : goal.returns-then-version-lt3-clause-header_cluster
 returns-then-version-lt3-clause-header_cluster g c = behind_none

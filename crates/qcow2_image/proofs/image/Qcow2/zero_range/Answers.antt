@@ -17,7 +17,7 @@ use Rattle.qcow2_image.proofs.image.Qcow2.zero_range.Goals as goal
 pub loop-at-init : goal.loop-at-init
 loop-at-init g c = record {
   turns = zeroed_first g.S.Storage.view g.F.BackingDisk.backing c.args.from c.args.to c.args.self.now;
-  lowest = λ out sound le whole version. no_turn {IsTurn = FillsTurn g.S.Storage.view g.F.BackingDisk.backing out} c.args.self.now;
+  lowest = λ out sound le whole version. no_turn {IsTurn = FillsTurn g.S.Storage.view g.F.BackingDisk.backing out c.args.from c.args.to (Unit {0})} c.args.self.now;
   faults = untouched g.S.Storage.view g.F.BackingDisk.backing c.args.self.now c.args.self.now refl refl;
   emptied = λ none. none;
   behind = behind_none;
