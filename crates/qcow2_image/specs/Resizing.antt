@@ -1,5 +1,5 @@
 -- What a disk of another size is: the tail is uncovered, or the L1 table made longer, and the size is written last.
-use Rattle.std.specs.Prelude.{ℕ, ◌+◌, ◌-◌, ◌^◌, ◌≡◌, ◌⊎◌, ◌<◌, ◌≤◌, Bool, false, is_some, not, true, List, [], ◌∷◌, Option, Some, None, IsTrue, Result, Ok, Err}
+use Rattle.std.specs.Prelude.{ℕ, ◌+◌, ◌-◌, ◌^◌, ◌≡◌, ◌⊎◌, ◌<◌, ◌≤◌, Bool, false, is_some, min, not, true, List, [], ◌∷◌, Option, Some, None, IsTrue, Result, Ok, Err}
 use Rattle.std.specs.Option.{option_or}
 use Rattle.image_access.specs.Backing.{BackingView}
 use Rattle.image_access.specs.Moments.{StorageView, EachMomentSince}
@@ -179,12 +179,13 @@ module _ {S F : Type 0} (view : S → StorageView) (backing : F → BackingView)
     pub shows : ShowsBelow at next old new out
     pub covers : UncoversClusters view at next old new
 
-  -- One turn, from an offset and an image to the next ones: whole clusters within one L2 table are uncovered. The tables that it made lie lowest, and no cluster is left to be freed.
+  -- One turn, from an offset and an image to the next ones: all whole clusters are uncovered that the L2 table of the first one covers, up to the disk's end.
+  -- The tables that it made lie lowest, and no cluster is left to be freed.
   -- Where no whole cluster lies behind the offset, the image stays as it is.
   pub record UncoversTurn (out : List (Option Prepared)) (old new : ℕ × Qcow2 S F) : Type 0 where
     pub part : UncoversPart old.0 new.0 old.1 new.1 out
     pub ends : IsTurnEnd (cluster_size old.1.file.header.fields) (size_of old.1) old.0 new.0
-    pub one_table : boundary_in old.1 new.0 ≤ boundary_in old.1 old.0 + rest_of_table old.1.file.header.fields (boundary_in old.1 old.0)
+    pub one_table : boundary_in old.1 new.0 ≡ min (boundary_in old.1 (size_of old.1)) (boundary_in old.1 old.0 + rest_of_table old.1.file.header.fields (boundary_in old.1 old.0))
     pub tables : boundary_in old.1 old.0 < size_of old.1 → TakesLowestTables view (boundary_in old.1 old.0) old.1 new.1
     pub emptied : boundary_in old.1 old.0 < size_of old.1 → HasNothingToFree new.1
     pub nothing : size_of old.1 ≤ boundary_in old.1 old.0 → new.1 ≡ old.1

@@ -1,5 +1,5 @@
 -- One turn uncovers whole clusters up to the end of an L2 table, or is refused.
-use Rattle.std.proofs.Common.{◌≡◌, ◌⊎◌, inl, inr, refl, Bool, true, false, None, ℕ, ◌+◌, ◌-◌, ◌^◌, ◌<◌, ◌≤◌, List, [], sym, ap, ◌∙◌, subst, arith, min}
+use Rattle.std.proofs.Common.{◌≡◌, ◌⊎◌, inl, inr, refl, Bool, true, false, None, ℕ, ◌+◌, ◌-◌, ◌*◌, ◌/◌, ◌^◌, ◌<◌, ◌≤◌, List, [], sym, ap, ◌∙◌, subst, arith, min}
 use Rattle.std.specs.Prelude.{◌||◌, ◌&&◌, ◌==◌, IfSome, Option, Some, Result, Ok, Err, nat_le, nat_lt, not}
 use Rattle.std.specs.Option.{option_or}
 use Rattle.std.proofs.lemmas.Bool.{cases_lt, le-ltb, leb-true}
@@ -8,7 +8,7 @@ use Rattle.image_access.specs.Backing.{BackingView}
 use Rattle.image_access.specs.Moments.{StorageView}
 use Rattle.qcow2_metadata.specs.Guest.{Value}
 use Rattle.qcow2_metadata.specs.declared.header.HeaderFields.{HeaderFields}
-use Rattle.qcow2_metadata.specs.Header.{cluster_size, entries_per_cluster, rounded_up}
+use Rattle.qcow2_metadata.specs.Header.{cluster_size, entries_per_cluster, rounded_down, rounded_up}
 use Rattle.qcow2_disk.specs.AbstractImages.{AbstractImage, Setting, guest_of}
 use Rattle.qcow2_disk.specs.Calls.{Refusal, RefusedEffect, EffectOnSound, with_disk}
 use Rattle.qcow2_disk.specs.Disk.{Disk}
@@ -32,10 +32,10 @@ use Rattle.qcow2_image.specs.LowestPlaces.{TakesLowestTables}
 use Rattle.qcow2_image.specs.NewTables.{LacksTable}
 use Rattle.qcow2_image.specs.Refusals.{passes, refuse_if}
 use Rattle.qcow2_image.specs.Resizing.{IsFaultOrCantUncover, IsTurnEnd, IsUnderOneTable, UncoversNext, UncoversPart, boundary_in, refuses_to_resize}
-use Rattle.qcow2_image.proofs.Clear.Ranges.{to_within}
+use Rattle.qcow2_image.proofs.Clear.Ranges.{table_end}
 use Rattle.qcow2_image.proofs.Clear.Touched.{rounded_from}
 use Rattle.qcow2_image.proofs.Sizes.{disk_size}
-use Rattle.qcow2_image.proofs.Sizing.Tails.{given_as, given_below, given_is, mono_up, passes_boundary, shown_below, to_at_most, touched_before, touches_before, turn_numbers}
+use Rattle.qcow2_image.proofs.Sizing.Tails.{given_as, given_below, given_is, mono_up, passes_boundary, shown_below, to_at_most, touched_before, touched_is, touches_before, turn_numbers}
 use Rattle.qcow2_image.proofs.Sizing.UncoveredTails.{uncovers_as_many}
 use Rattle.qcow2_image.proofs.UngivenCovers.{touches_less}
 
@@ -76,8 +76,8 @@ last_turn : (from to next up end size bound : ℕ) {X : Type 0} → end ≡ size
 last_turn from to next up end size bound is touched covered least within whole numbers = elim whole [ inl last ↦ last ∙ is | inr boundary ↦ let same = boundary.0 in omega (arith, is, touched, covered, least, within, same, numbers) ]
 
 -- as much behind an offset reaches as far
-less_by : (to up from rest : ℕ) → to - from ≡ up - from → to ≤ from + rest → up ≤ from + rest
-less_by to up from rest many most = omega (arith, many, most)
+ends_at : (to up from last table : ℕ) → to - from ≡ up - from → to ≡ min last (from + table) → from ≤ last → from ≤ up → up ≡ min last (from + table)
+ends_at to up from last table many is least on = omega (arith, many, is, least, on)
 
 module _ {S F : Type 0} (view : S → StorageView) (backing : F → BackingView) (old new : Qcow2 S F) (at end : ℕ) where
   abbrev h : HeaderFields
@@ -186,17 +186,22 @@ module _ {S F : Type 0} (view : S → StorageView) (backing : F → BackingView)
       let covered = subst (λ n. touched_to (cluster_size h) n at (n - at) ≡ boundary_in old (size_of old)) (sym is) under in
       last_turn (touched_from (cluster_size h) at) (touched_to (cluster_size h) end at (end - at)) next (boundary_in old next) end (size_of old) (boundary_in old (size_of old)) is touched covered (rounded_from (cluster_size h) (size_of old) (some out sound)) numbers.0.within numbers.0.whole numbers.1
 
-  -- it stays within one L2 table
+  -- it goes up to the end of the L2 table of its first cluster, or to the end of the disk
   pub turn_within : (range : ℕ × ℕ) → end ≡ size_of old → at < size_of old → end < 2 ^ 64 → Clears view backing Uncovered old new at (end - at) (Ok range) → (next : ℕ)
       → ((next ≡ min (range.0 + range.1) (2 ^ 64 - 1)) × (at < next) × (next < end)) ⊎ ((next ≡ end) × ((min (range.0 + range.1) (2 ^ 64 - 1) ≤ at) ⊎ (end ≤ min (range.0 + range.1) (2 ^ 64 - 1))))
-      → (out : List (Option Prepared)) → ImageInvariant view backing (pending_in view backing old out) old out → boundary_in old next ≤ boundary_in old at + rest_of_table h (boundary_in old at)
+      → (out : List (Option Prepared)) → ImageInvariant view backing (pending_in view backing old out) old out → boundary_in old next ≡ min (boundary_in old (size_of old)) (boundary_in old at + rest_of_table h (boundary_in old at))
   turn_within range is lt near clears next branch out sound =
       let size : d.size ≡ end = sym (shown_end out sound) ∙ sym is in
       let range_is : range ≡ answered (cluster_size h) end at (end - at) = ((clears out).answer sound).1.0 ∙ ap (λ n. answered (cluster_size h) n at (end - at)) size in
       let numbers = turn_numbers h (some out sound) (rows out sound) end at (omega (arith, lt, is)) range range_is near next branch in
       let many : touched_to (cluster_size h) end at (end - at) - boundary_in old at ≡ boundary_in old next - boundary_in old at = numbers.1 in
-      let most : touched_to (cluster_size h) end at (end - at) ≤ boundary_in old at + rest_of_table h (boundary_in old at) = to_within h (some out sound) (rows out sound) end at (end - at) in
-      less_by (touched_to (cluster_size h) end at (end - at)) (boundary_in old next) (boundary_in old at) (rest_of_table h (boundary_in old at)) many most
+      let to_is : touched_to (cluster_size h) end at (end - at) ≡ min (boundary_in old (size_of old)) (boundary_in old at + rest_of_table h (boundary_in old at)) =
+      touched_is (cluster_size h) (some out sound) end at (omega (arith, lt, is)) ∙ ap (λ n. min (rounded_up (cluster_size h) n) (rounded_down (cluster_size h / 8 * cluster_size h) (boundary_in old at) + cluster_size h / 8 * cluster_size h)) is
+      ∙ ap (min (boundary_in old (size_of old))) (sym (table_end h (some out sound) (rows out sound) (boundary_in old at))) in
+      let last = mono_up (cluster_size h) (some out sound) at (size_of old) (omega (arith, lt)) in
+      let on = numbers.0.on in
+      let more = mono_up (cluster_size h) (some out sound) at next (omega (arith, on)) in
+      ends_at (touched_to (cluster_size h) end at (end - at)) (boundary_in old next) (boundary_in old at) (boundary_in old (size_of old)) (rest_of_table h (boundary_in old at)) many to_is last more
 
   -- what an answered turn leaves to be freed: nothing, where it cleared a cluster, or where nothing was listed and it cleared none
   pub turn_frees : end ≡ size_of old → at < size_of old → (touched_from (cluster_size h) at < touched_to (cluster_size h) (size_of old) at (end - at) → HasNothingToFree new)
