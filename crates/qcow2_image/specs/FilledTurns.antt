@@ -1,5 +1,5 @@
 -- A disk is made larger in turns: a longer L1 table, then one turn after another that puts zeros behind its old end, and then the size. In each turn the tables that it makes lie lowest, and so does the first new cluster of a mapping that begins in one.
-use Rattle.std.specs.Prelude.{ℕ, ◌+◌, ◌-◌, ◌≡◌, ◌<◌, ◌≤◌, ◌⊎◌, true, List, ◌∷◌, Option, None}
+use Rattle.std.specs.Prelude.{ℕ, ◌+◌, ◌-◌, ◌≡◌, ◌<◌, ◌≤◌, ◌⊎◌, min, true, List, ◌∷◌, Option, None}
 use Rattle.image_access.specs.Backing.{BackingView}
 use Rattle.image_access.specs.Moments.{StorageView}
 use Rattle.image_access.specs.declared.storage.PreallocateMode.{PreallocateMode}
@@ -41,9 +41,11 @@ module _ {S F : Type 0} (view : S → StorageView) (backing : F → BackingView)
     pub table : new.l1_table ≡ ready.l1_table
     pub placed : AreDataAt new.file.header.fields (known_in view new.file) true from (offset_of mapping) (to - from)
 
-  -- They are whole clusters that become explicit zeros by their entries, without a new place for data. Tables that were made for them lie lowest.
-  pub record FillsByZeroEntries (first from : ℕ) (old new : Qcow2 S F) : Type 0 where
+  -- They are whole clusters that become explicit zeros by their entries, without a new place for data. They go on up to the end of their L2 table, or of the range.
+  -- Tables that were made for them lie lowest.
+  pub record FillsByZeroEntries (first from to high : ℕ) (old new : Qcow2 S F) : Type 0 where
     pub zeros : first ≡ 0
+    pub whole : to ≡ min high (from + rest_of_table old.file.header.fields from)
     pub tables : TakesLowestTables view from old new
 
   -- One turn in a range: zeros stand from one of its offsets up to another, under one L2 table. Only where the call may do so, they stand by zero entries.
@@ -57,7 +59,7 @@ module _ {S F : Type 0} (view : S → StorageView) (backing : F → BackingView)
     pub ends : to ≤ high
     pub within : to ≤ from + rest_of_table old.file.header.fields from
     pub part : FillsPart view backing first from to old new out
-    pub lowest : (MayZero × FillsByZeroEntries first from old new) ⊎ FillsByMapping from to old new
+    pub lowest : (MayZero × FillsByZeroEntries first from to high old new) ⊎ FillsByMapping from to old new
     pub emptied : HasNothingToFree new
 
   -- A larger size is set in turns. Right after the L1 table was made longer it lies lowest, its entries are as before, and nothing is to be freed.

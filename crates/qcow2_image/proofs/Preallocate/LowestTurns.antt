@@ -1,5 +1,5 @@
 -- A turn that fills a part of a range takes the lowest places, and so does each of many.
-use Rattle.std.proofs.Common.{◌≡◌, inl, inr, ℕ, ◌+◌, ◌%◌, ◌<◌, ◌≤◌, true, List, Option, refl, sym, subst, arith}
+use Rattle.std.proofs.Common.{◌≡◌, inl, inr, ℕ, ◌+◌, ◌%◌, ◌<◌, ◌≤◌, min, true, List, Option, refl, sym, ap, ◌∙◌, subst, arith}
 use Rattle.image_access.specs.Backing.{BackingView}
 use Rattle.image_access.specs.Moments.{StorageView}
 use Rattle.qcow2_metadata.specs.Header.{cluster_size}
@@ -27,8 +27,8 @@ module _ {S F : Type 0} (view : S → StorageView) (backing : F → BackingView)
   abbrev pub ZeroesLowest : (from to : ℕ) → Qcow2 S F → Qcow2 S F → Type 0
   ZeroesLowest from to old new = (out : List (Option Prepared)) → ImageInvariant view backing (pending_in view backing old out) old out → from ≤ to → IsWholeRange old.file.header.fields from to → 3 ≤ old.file.header.fields.version → GoesInTurns (FillsTurn view backing out from to (Unit {0})) old new
 
-  -- a turn in a range is one in a wider range, of a call that may do more
-  pub turn_wider : (out : List (Option Prepared)) (low high low' high' : ℕ) (MayZero MayZero' : Type 0) → low' ≤ low → high ≤ high' → (MayZero → MayZero') → (old new : Qcow2 S F) → FillsTurn view backing out low high MayZero old new → FillsTurn view backing out low' high' MayZero' old new
+  -- a turn in a range is one in a wider range, of a call that may do more; by zero entries, where the range ends at the same offset
+  pub turn_wider : (out : List (Option Prepared)) (low high low' high' : ℕ) (MayZero MayZero' : Type 0) → low' ≤ low → high ≤ high' → (MayZero → MayZero' × (high ≡ high')) → (old new : Qcow2 S F) → FillsTurn view backing out low high MayZero old new → FillsTurn view backing out low' high' MayZero' old new
   turn_wider out low high low' high' MayZero MayZero' least most may old new turn =
       let begins = turn.begins in
       let ends = turn.ends in
@@ -42,20 +42,21 @@ module _ {S F : Type 0} (view : S → StorageView) (backing : F → BackingView)
         within = turn.within;
         part = turn.part;
         lowest = elim turn.lowest [
-          | inl zeros ↦ inl (may zeros.0, zeros.1)
+          | inl zeros ↦ let so = may zeros.0 in
+              inl (so.0, record { zeros = zeros.1.zeros; whole = zeros.1.whole ∙ ap (λ n. min n (turn.from + rest_of_table old.file.header.fields turn.from)) so.1; tables = zeros.1.tables })
           | inr mapping ↦ inr mapping
         ];
         emptied = turn.emptied;
       }
 
-  pub turns_wider : (out : List (Option Prepared)) (low high low' high' : ℕ) (MayZero MayZero' : Type 0) → low' ≤ low → high ≤ high' → (MayZero → MayZero') → (old new : Qcow2 S F) → GoesInTurns (FillsTurn view backing out low high MayZero) old new → GoesInTurns (FillsTurn view backing out low' high' MayZero') old new
+  pub turns_wider : (out : List (Option Prepared)) (low high low' high' : ℕ) (MayZero MayZero' : Type 0) → low' ≤ low → high ≤ high' → (MayZero → MayZero' × (high ≡ high')) → (old new : Qcow2 S F) → GoesInTurns (FillsTurn view backing out low high MayZero) old new → GoesInTurns (FillsTurn view backing out low' high' MayZero') old new
   turns_wider out low high low' high' MayZero MayZero' least most may =
       turns_as {IsTurn = FillsTurn view backing out low high MayZero} {IsOther = FillsTurn view backing out low' high' MayZero'} (turn_wider out low high low' high' MayZero MayZero' least most may)
 
   module _ (out : List (Option Prepared)) (old new : Qcow2 S F) (from next high : ℕ) (most : next ≤ high) (within : next ≤ from + rest_of_table old.file.header.fields from) (emptied : HasNothingToFree new) where
     -- whole clusters become zeros
-    pub turn_of_zeros : from < next → FillsPart view backing 0 from next old new out → TakesLowestTables view from old new → FillsTurn view backing out from high (Unit {0}) old new
-    turn_of_zeros lt part tables = record {
+    pub turn_of_zeros : next ≡ min high (from + rest_of_table old.file.header.fields from) → from < next → FillsPart view backing 0 from next old new out → TakesLowestTables view from old new → FillsTurn view backing out from high (Unit {0}) old new
+    turn_of_zeros whole lt part tables = record {
       first = 0;
       from = from;
       to = next;
@@ -64,7 +65,7 @@ module _ {S F : Type 0} (view : S → StorageView) (backing : F → BackingView)
       ends = most;
       within = within;
       part = part;
-      lowest = inl (tt, record { zeros = refl; tables = tables });
+      lowest = inl (tt, record { zeros = refl; whole = whole; tables = tables });
       emptied = emptied;
     }
 
@@ -100,7 +101,7 @@ module _ {S F : Type 0} (view : S → StorageView) (backing : F → BackingView)
     fills_lowest_next before so_far turn out sound whole =
         let so = before.so_far out sound whole in
         turn_more {IsTurn = FillsTurn view backing out from to ⊥} old now new (so_far out sound whole)
-        (turn_wider out at to from to ⊥ ⊥ before.low (omega arith) (λ no. no) now new (turn out so.sound (still_at old.file.header.fields now.file.header.fields to so.header whole)))
+        (turn_wider out at to from to ⊥ ⊥ before.low (omega arith) (λ no. absurd no) now new (turn out so.sound (still_at old.file.header.fields now.file.header.fields to so.header whole)))
 
     pub zeroes_lowest_next : ZeroedTo view backing from to at old now → ZeroesLowest from to old now → ZeroesLowest at to now new → ZeroesLowest from to old new
     zeroes_lowest_next before so_far turns out sound le whole version =
@@ -109,5 +110,5 @@ module _ {S F : Type 0} (view : S → StorageView) (backing : F → BackingView)
         let h' = now.file.header.fields in
         let file_step = so.0.header in
         turns_then {IsTurn = FillsTurn view backing out from to (Unit {0})} old now new (so_far out sound le whole version)
-        (turns_wider out at to from to (Unit {0}) (Unit {0}) before.low (omega arith) (λ may. may) now new
+        (turns_wider out at to from to (Unit {0}) (Unit {0}) before.low (omega arith) (λ may. (may, refl)) now new
         (turns out so.0.sound (omega (arith, lt)) (still_at h h' at file_step so.1, still_at h h' to file_step whole.1) (subst (λ v. 3 ≤ v) (sym (same_version h h' file_step)) version)))

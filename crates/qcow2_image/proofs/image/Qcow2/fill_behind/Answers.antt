@@ -64,7 +64,7 @@ pub returns-in-Zero-clause-turns : goal.returns-in-Zero-clause-turns
 returns-in-Zero-clause-turns g c = λ out sound.
     let larger = c.requires.larger in
     on_ok_weaker c.zero_grown.result
-    (turns_wider g.S.Storage.view g.F.BackingDisk.backing out c.args.old (rounded_up (cluster_size c.args.self.now.file.header.fields) c.args.size) c.args.old (rounded_up (cluster_size c.args.self.now.file.header.fields) c.args.size) (Unit {0}) (c.args.mode ≡ Zero) (omega arith) (omega arith) (λ may. c.in-Zero.is) c.args.self.now c.zero_grown.new.self)
+    (turns_wider g.S.Storage.view g.F.BackingDisk.backing out c.args.old (rounded_up (cluster_size c.args.self.now.file.header.fields) c.args.size) c.args.old (rounded_up (cluster_size c.args.self.now.file.header.fields) c.args.size) (Unit {0}) (c.args.mode ≡ Zero) (omega arith) (omega arith) (λ may. (c.in-Zero.is, refl)) c.args.self.now c.zero_grown.new.self)
     (c.zero_grown.ensures.turns out sound (omega (arith, larger)))
 
 pub returns-in-FormatAllocate-clause-turns : goal.returns-in-FormatAllocate-clause-turns

@@ -1,6 +1,6 @@
 use Rattle.qcow2_image.proofs.image.Qcow2.zero_between.Goals as goal
 use Rattle.qcow2_alloc.proofs.KeptMarks.{notes_then, notes_for}
-use Rattle.std.proofs.Common.{◌≤◌, subst, sym, arith}
+use Rattle.std.proofs.Common.{◌≤◌, refl, subst, sym, arith}
 use Rattle.std.proofs.lemmas.Result.{on_ok_weaker}
 use Rattle.qcow2_alloc.proofs.AllocationSteps.{handed_on}
 use Rattle.qcow2_image.specs.ImageInvariant.{abstract_of, pending_in}
@@ -76,11 +76,11 @@ returns-clause-turns g c = λ out sound low high whole version.
     let old = c.args.old in
     let from = c.args.from in
     let end = c.args.end in
-    let one = turns_wider view below out from end old end (Unit {0}) (Unit {0}) low (omega arith) (λ may. may) a b (c.in_ok-next.ensures.turns out sound high whole version) in
-    let two = turns_wider view below out old from old end ⊥ (Unit {0}) (omega arith) high (λ no. tt) b d (c.in_ok-fill_range.ensures.turns out first.sound low (still_at a.file.header.fields b.file.header.fields from first.header whole.0)) in
+    let one = turns_wider view below out from end old end (Unit {0}) (Unit {0}) low (omega arith) (λ may. (may, refl)) a b (c.in_ok-next.ensures.turns out sound high whole version) in
+    let two = turns_wider view below out old from old end ⊥ (Unit {0}) (omega arith) high (λ no. absurd no) b d (c.in_ok-fill_range.ensures.turns out first.sound low (still_at a.file.header.fields b.file.header.fields from first.header whole.0)) in
     on_ok_weaker c.zero_range.result
     (λ last. turns_then {IsTurn = FillsTurn view below out old end (Unit {0})} a d c.zero_range.new.self (turns_then {IsTurn = FillsTurn view below out old end (Unit {0})} a b d one two)
-    (turns_wider view below out c.in_ok-next.next end old end (Unit {0}) (Unit {0}) (let on = next.0 in omega (arith, low, on)) (omega arith) (λ may. may) d c.zero_range.new.self last))
+    (turns_wider view below out c.in_ok-next.next end old end (Unit {0}) (Unit {0}) (let on = next.0 in omega (arith, low, on)) (omega arith) (λ may. (may, refl)) d c.zero_range.new.self last))
     (c.zero_range.ensures.turns out both.sound (omega (arith, next.2, high)) (still_at a.file.header.fields d.file.header.fields c.in_ok-next.next both.header ends, still_at a.file.header.fields d.file.header.fields c.args.end both.header whole.1)
     (subst (λ v. 3 ≤ v) (sym (same_version a.file.header.fields d.file.header.fields both.header)) version))
 

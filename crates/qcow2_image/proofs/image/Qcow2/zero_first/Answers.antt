@@ -168,7 +168,7 @@ returns-clause-turns g c = λ out sound le whole version.
     let lt : c.args.from < c.min-next.result = let lt = c.if-to-from.false in let some = c.rest_of_table.ensures.some in omega (arith, is, lt, some, rest, high) in
     let most : c.min-next.result ≤ c.args.to = omega (arith, is) in
     one_turn {IsTurn = FillsTurn view below out from to (Unit {0})} old new
-    (turn_of_zeros view below out old new from next to most (next_within h sizes.some sizes.entries from to next whole.1 is high) (c.in_ok-free_listed.ensures.emptied (subst IsTrue (sym c.clear_between.ensures.stays.image.writable) c.requires.writable)) lt
+    (turn_of_zeros view below out old new from next to most (next_within h sizes.some sizes.entries from to next whole.1 is high) (c.in_ok-free_listed.ensures.emptied (subst IsTrue (sym c.clear_between.ensures.stays.image.writable) c.requires.writable)) (omega (arith, is, high)) lt
     (fills_stays view below out old mid new 0 from next part (tidy_stays view below mid out new part.sound (c.in_ok-free_listed.ensures.frees (beside view below mid out) out listed)) c.free_listed.ensures.keeps_rest.header c.free_listed.ensures.former)
     (tables_freed view from old mid new c.free_listed.ensures.keeps_rest.header c.free_listed.ensures.table (c.in_ok-free_listed.ensures.uses (beside view below mid out) out listed) (c.in_ok-clear_between.ensures.lowest_tables out sound can)))
 
