@@ -41,8 +41,7 @@ module _ {S F : Type 0} (view : S → StorageView) (backing : F → BackingView)
     pub table : new.l1_table ≡ ready.l1_table
     pub placed : AreDataAt new.file.header.fields (known_in view new.file) true from (offset_of mapping) (to - from)
 
-  -- They are whole clusters that become explicit zeros by their entries, without a new place for data. They go on up to the end of their L2 table, or of the range.
-  -- Tables that were made for them lie lowest.
+  -- Their entries say explicit zeros then. They go on up to the end of their L2 table, or of the range, and tables that were made for them lie lowest.
   pub record FillsByZeroEntries (first from to high : ℕ) (old new : Qcow2 S F) : Type 0 where
     pub zeros : first ≡ 0
     pub whole : to ≡ min high (from + rest_of_table old.file.header.fields from)
