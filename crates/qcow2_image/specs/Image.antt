@@ -4,7 +4,7 @@ use Rattle.std.specs.Option.{option_map_or}
 use Rattle.qcow2_metadata.specs.Header.{has_data_file}
 use Rattle.qcow2_alloc.specs.declared.allocation.Allocator.{Allocator}
 use Rattle.qcow2_alloc.specs.ImageFile.{KeepsHeader, has_noted}
-use Rattle.qcow2_alloc.specs.ImageStorage.{changes_of, is_changed_of, storage_of, data_changes_of}
+use Rattle.qcow2_alloc.specs.ImageStorage.{changes_of, is_changed_of, storage_of}
 use Rattle.qcow2_image.specs.declared.image.Qcow2.{Qcow2}
 
 -- how many clusters an allocator couldn't free, where there is one
@@ -69,7 +69,6 @@ module _ {S F : Type 0} where
     pub storage : storage_of_image new ≡ storage_of_image old
     pub unnoted : is_changed_of new.file.storage ≡ false
     pub counts : changes_of new.file.storage ≡ changes_of old.file.storage
-    pub kinds : data_changes_of new.file.storage ≡ data_changes_of old.file.storage
     pub caches : new.file.caches ≡ record old.file.caches { is_changed = false }
     pub rest : new ≡ record old { file = record old.file { storage = new.file.storage; caches = new.file.caches } }
 

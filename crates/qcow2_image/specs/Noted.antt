@@ -2,7 +2,7 @@
 use Rattle.std.specs.Prelude.{◌≡◌, ◌⊎◌, ℕ, ◌+◌, ◌<◌, ◌≤◌, List, Option, Result, Ok, Err, IfErr, IsErrOf, IsSome, IsTrue}
 use Rattle.image_access.specs.Backing.{BackingView}
 use Rattle.image_access.specs.Contents.{overwritten}
-use Rattle.image_access.specs.Moments.{StorageView, ContentsStay, EachMomentSince, Rose}
+use Rattle.image_access.specs.Moments.{StorageView, ContentsStay, EachMomentSince}
 use Rattle.qcow2_alloc.specs.declared.error.ImageError.{ImageError}
 use Rattle.qcow2_alloc.specs.declared.error.ImageError.TheVariants.{Memory}
 use Rattle.qcow2_alloc.specs.ImageFile.{view_in}
@@ -13,7 +13,7 @@ use Rattle.qcow2_image.specs.CallParts.{IsWriteOutcome, UnseenCall}
 use Rattle.qcow2_image.specs.Calls.{reason_of}
 use Rattle.qcow2_image.specs.ImageInvariant.{abstract_of}
 use Rattle.qcow2_image.specs.Prepared.{offset_of, table_of}
-use Rattle.qcow2_alloc.specs.ImageStorage.{changes_of, data_changes_of}
+use Rattle.qcow2_alloc.specs.ImageStorage.{changes_of}
 use Rattle.qcow2_alloc.specs.KeptMarks.{HaveRisen, changes_in}
 use Rattle.qcow2_alloc.specs.KeptNotes.{AlsoData}
 use Rattle.qcow2_image.specs.Image.{has_noted_change, is_failed, storage_of_image}
@@ -31,19 +31,6 @@ module _ {S F : Type 0} where
   pub record NoFewerChanges (old new : Qcow2 S F) : Type 0 where
     pub storage : changes_of old.file.storage ≤ changes_of new.file.storage
     pub tables : old.file.caches.changes ≤ new.file.caches.changes
-
-  -- no write was told as data: the number of such changes stays
-  abbrev pub TellsNoData : Qcow2 S F → Qcow2 S F → Type 0
-  TellsNoData old new = data_changes_of new.file.storage ≡ data_changes_of old.file.storage
-
-  -- one was: the number of such changes rose, or stood at the greatest u64
-  abbrev pub TellsData : Qcow2 S F → Qcow2 S F → Type 0
-  TellsData old new = Rose (data_changes_of old.file.storage) (data_changes_of new.file.storage)
-
-  -- No change of the storage was counted, or a single one, which was told as data. In all one more is told so at most.
-  pub record TellsDataAlone (old new : Qcow2 S F) : Type 0 where
-    pub changes : ((changes_of new.file.storage ≡ changes_of old.file.storage) × TellsNoData old new) ⊎ (TellsData old new × (changes_of new.file.storage ≤ changes_of old.file.storage + 1))
-    pub told : data_changes_of new.file.storage ≤ data_changes_of old.file.storage + 1
 
 -- what preparing may tell as data: nothing, where it answers an existing mapping
 abbrev pub DataUnlessExisting : Result Prepared ImageError → Type 0
@@ -74,13 +61,12 @@ module _ {S F : Type 0} (view : S → StorageView) (old new : Qcow2 S F) where
     pub memory : IfErr result (λ refused. reason_of refused ≡ Memory → MarksOnceChanged view old new)
 
 module _ {S F : Type 0} (view : S → StorageView) (old new : Qcow2 S F) where
-  -- A call notes and counts what it changes: an honest storage stays honest, what is noted in it was counted, and where nothing was counted the contents stayed. It tells nothing as data.
+  -- A call notes and counts what it changes: an honest storage stays honest, what is noted in it was counted, and where nothing was counted the contents stayed.
   pub record NotesChanges : Type 0 where
     pub honest : (view_in view old.file).is_honest → (view_in view new.file).is_honest
     pub no_fewer : NoFewerChanges old new
     pub why : IsTrue (has_noted_change new) → ChangesRose old new
     pub contents : ¬ ChangesRose old new → ContentsStay (view_in view old.file) (view_in view new.file)
-    pub kinds : TellsNoData old new
 
   -- so does a part of a call, before which no change may have been noted
   pub record NotesPart : Type 0 where
@@ -88,17 +74,14 @@ module _ {S F : Type 0} (view : S → StorageView) (old new : Qcow2 S F) where
     pub no_fewer : NoFewerChanges old new
     pub why : IsTrue (has_noted_change new) → IsTrue (has_noted_change old) ⊎ ChangesRose old new
     pub contents : ¬ IsTrue (has_noted_change old) → ¬ ChangesRose old new → ContentsStay (view_in view old.file) (view_in view new.file)
-    pub kinds : TellsNoData old new
 
--- There is an image `before`, up to which no write was told as data. On a sound image it is sound, and the guest sees what it saw.
--- From there on the put's bytes are written by a single write, at their place in the mapping. So the put tells one change as data at most.
+-- There is an image `before`. On a sound image it is sound, and the guest sees what it saw.
+-- From there on the put's bytes are written by a single write, at their place in the mapping.
 -- Into a mapping that isn't existing nothing else is written.
-pub record TellsPut {S F : Type 0} (view : S → StorageView) (backing : F → BackingView) (p : Prepared) (at : ℕ) (bytes : List ℕ) (old new : Qcow2 S F) (result : Result (Unit {0}) ImageError) : Type 0 where
+pub record PutsOnce {S F : Type 0} (view : S → StorageView) (backing : F → BackingView) (p : Prepared) (at : ℕ) (bytes : List ℕ) (old new : Qcow2 S F) (result : Result (Unit {0}) ImageError) : Type 0 where
   pub before : Qcow2 S F
   pub honest : (view_in view old.file).is_honest → (view_in view before.file).is_honest
-  pub earlier : TellsNoData old before
   pub unseen : (out : List (Option Prepared)) → (abstract_of view backing old out).is_sound → UnseenCall view backing old before out
   pub idle : IsSome (table_of p) → (storage_of_image before ≡ storage_of_image old) × (changes_of before.file.storage ≡ changes_of old.file.storage)
-  pub alone : TellsDataAlone before new
   pub time : (view_in view before.file).is_honest → EachMomentSince (view_in view before.file) (view_in view new.file) (λ c. c ≡ (view_in view new.file).contents)
   pub written : (view_in view before.file).is_honest → IsWriteOutcome result (view_in view before.file).contents (overwritten (view_in view before.file).contents (offset_of p + at) bytes) (view_in view new.file).contents

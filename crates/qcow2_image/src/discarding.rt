@@ -2,20 +2,17 @@
 ghost use Rattle.qcow2_image.specs.LowestPlaces.{LeavesLowestTables, TakesLowestTables};
 ghost use Rattle.qcow2_image.specs.LackedPlaces.{IsLimitedByTable};
 ghost use Rattle.qcow2_image.specs.BehindHeader.{StaysBehindHeader};
-ghost use Rattle.qcow2_image.specs.Noted.{ChangesRose, FailsOnceWritten, NotesPart, TellsNoData};
+ghost use Rattle.qcow2_image.specs.Noted.{ChangesRose, FailsOnceWritten, NotesPart};
 ghost use Rattle.qcow2_alloc.specs.KeptMarks.{KeepsFileNotes};
 ghost use Rattle.qcow2_alloc.specs.KeptNotes.{NoData};
-ghost use Rattle.std.specs.Prelude.{ℕ, List, Option, ◌≡◌, ◌+◌, ◌-◌, ◌*◌, ◌/◌, ◌%◌, ◌^◌, ◌<◌, ◌≤◌, ◌≢◌, ◌++◌, true, false, not, Some, None, Ok, Err, IfOk, IfErr, IfSome, OnOk, IsOk, IsSome, IsTrue, MatchOption, nat_le, nat_lt, if◌then◌else◌, ◌⊎◌, IsErrAnd};
+ghost use Rattle.std.specs.Prelude.{ℕ, List, Option, ◌≡◌, ◌+◌, ◌-◌, ◌/◌, ◌%◌, ◌^◌, ◌<◌, ◌≤◌, ◌++◌, true, false, Some, None, Ok, Err, IfOk, IfErr, IfSome, OnOk, IsSome, IsTrue, MatchOption, if◌then◌else◌, ◌⊎◌, IsErrAnd};
 ghost use Rattle.qcow2_image.specs.Found.{l1_index_of};
 ghost use Rattle.qcow2_metadata.specs.EntryTable.{entry_count};
 ghost use Rattle.qcow2_image.specs.MetAlone.{KeepsL1Place, IsMetTaking};
 ghost use Rattle.qcow2_metadata.specs.Header.{cluster_size, entries_per_cluster, rounded_up as rounded_up_to};
-ghost use Rattle.qcow2_metadata.specs.Cover.{cover};
 ghost use Rattle.qcow2_metadata.specs.L2Mapping.{IsInReach, old_data_run};
-ghost use Rattle.qcow2_metadata.specs.L2Table.{copied_host};
 ghost use Rattle.qcow2_laws.specs.CrashInvariant.{Pending};
-ghost use Rattle.qcow2_disk.specs.Rules.{answered, touched_from, touched_to};
-ghost use Rattle.qcow2_alloc.specs.CachePins.{l2_pins};
+ghost use Rattle.qcow2_disk.specs.Rules.{answered};
 ghost use Rattle.qcow2_alloc.specs.ImageError.{IsFault, IsOfTables};
 ghost use Rattle.qcow2_alloc.specs.ImageFile.{known_in, FileInvariant};
 ghost use Rattle.qcow2_alloc.specs.MetadataCaches.{IsEntryAt, l2_at};
@@ -25,11 +22,10 @@ ghost use Rattle.qcow2_image.specs.Backings.{HasPrepared};
 ghost use Rattle.qcow2_image.specs.L1Entries.{IsRefusedAsFar, HasOwnTable, NeedsFarEntry, ReachesOffset, RefusesFarEntryFreeing, ReachesAtMost};
 ghost use Rattle.qcow2_image.specs.NewTables.{IsFaultOrLacksTable};
 ghost use Rattle.qcow2_image.specs.PinnedTables.{HeedsPins};
-ghost use Rattle.qcow2_image.specs.Image.{HasNothingToFree, IsSameImage, ImageStays, is_failed, is_writable, size_of};
+ghost use Rattle.qcow2_image.specs.Image.{HasNothingToFree, IsSameImage, ImageStays, is_writable, size_of};
 ghost use Rattle.qcow2_image.specs.ImageInvariant.{ImageInvariant, abstract_of, pending_in, listed_run};
-ghost use Rattle.qcow2_image.specs.UnseenSteps.{FreesLater, HoldsTable};
 ghost use Rattle.qcow2_image.specs.Refusals.{FreesRefused, IsMet, IsMetPreparing, MarksFailed, passes as passes_size};
-ghost use Rattle.qcow2_image.specs.Clearing.{Clears, ClearsImageCovers, ClearsEntry, ClearsOrRefuses, ClearsTable, IsUnderMapping, IsClearable, ReadsAll, ReadsDropped, RefusesClearing, cover_once_cleared, from_in, to_in, listed_by, needs_zero_entries, refuses_to_clear, rounds_past};
+ghost use Rattle.qcow2_image.specs.Clearing.{Clears, ClearsImageCovers, ClearsEntry, ClearsOrRefuses, ClearsTable, IsUnderMapping, IsClearable, ReadsAll, ReadsDropped, RefusesClearing, cover_once_cleared, from_in, to_in, needs_zero_entries, refuses_to_clear, rounds_past};
 ghost use Rattle.qcow2_image.specs.Faults.{CountsImageFaults, IsNotOfStorage};
 
 use crate::Qcow2;
@@ -150,7 +146,6 @@ impl<S: Storage, F: WrappedFormat<S>> Qcow2<S, F> {
         ensures once_written { FailsOnceWritten S.view self.old self.new result }
         ensures no_longer { ReachesAtMost (from_in self.old offset length) self.old self.new }
         ensures header_cluster { StaysBehindHeader S.view self.old self.new }
-        ensures kinds { TellsNoData self.old self.new }
         ensures faults { CountsImageFaults S.view F.backing self.old self.new result }
     {
         self.clear_range(offset, length, Clearance::Uncovered)
@@ -193,7 +188,6 @@ impl<S: Storage, F: WrappedFormat<S>> Qcow2<S, F> {
         ensures once_written { FailsOnceWritten S.view self.old self.new result }
         ensures no_longer { ReachesAtMost (from_in self.old offset length) self.old self.new }
         ensures header_cluster { StaysBehindHeader S.view self.old self.new }
-        ensures kinds { TellsNoData self.old self.new }
         ensures faults { CountsImageFaults S.view F.backing self.old self.new result }
     {
         self.clear_range(offset, length, Clearance::Zeros)
@@ -236,7 +230,6 @@ impl<S: Storage, F: WrappedFormat<S>> Qcow2<S, F> {
         ensures once_written { FailsOnceWritten S.view self.old self.new result }
         ensures no_longer { ReachesAtMost (from_in self.old offset length) self.old self.new }
         ensures header_cluster { StaysBehindHeader S.view self.old self.new }
-        ensures kinds { TellsNoData self.old self.new }
         ensures faults { CountsImageFaults S.view F.backing self.old self.new result }
     {
         self.discard_to_zero_unsafe(offset, length)
@@ -279,7 +272,6 @@ impl<S: Storage, F: WrappedFormat<S>> Qcow2<S, F> {
         ensures once_written { FailsOnceWritten S.view self.old self.new result }
         ensures no_longer { ReachesAtMost (from_in self.old offset length) self.old self.new }
         ensures header_cluster { StaysBehindHeader S.view self.old self.new }
-        ensures kinds { TellsNoData self.old self.new }
         ensures faults { CountsImageFaults S.view F.backing self.old self.new result }
     {
         self.clear_range(offset, length, Clearance::KeptZeros)

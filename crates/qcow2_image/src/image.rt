@@ -99,7 +99,7 @@ impl<S: Storage, F: WrappedFormat<S>> Qcow2<S, F> {
     ghost use Rattle.qcow2_alloc.specs.KeptAllocators.{IsAllocatorOf};
     ghost use Rattle.qcow2_alloc.specs.KeptMarks.{KeepsFileNotes};
     ghost use Rattle.qcow2_alloc.specs.KeptNotes.{NoData};
-    ghost use Rattle.qcow2_image.specs.Noted.{FailsOnceWritten, TellsNoData};
+    ghost use Rattle.qcow2_image.specs.Noted.{FailsOnceWritten};
     ghost use Rattle.qcow2_image.specs.Created.{begins_image};
     ghost use Rattle.qcow2_image.specs.Growing.{SameFormat, WritesBack};
     ghost use Rattle.qcow2_image.specs.Unwritten.{ContentsStayThroughout, HoldsNothingModified, OnlyReadsImage, ReadsQuietly};
@@ -479,7 +479,6 @@ impl<S: Storage, F: WrappedFormat<S>> Qcow2<S, F> {
         ensures once_written { FailsOnceWritten S.view self.old self.new result }
         ensures quiet { is_writable self.old ≡ false → ReadsQuietly S.view self.old self.new }
         ensures header_cluster { StaysBehindHeader S.view self.old self.new }
-        ensures kinds { TellsNoData self.old self.new }
         ensures faults { CountsImageFaults S.view F.backing self.old self.new result }
     {
         if self.is_failed {

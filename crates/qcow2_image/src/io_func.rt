@@ -17,7 +17,7 @@ ghost use Rattle.qcow2_image.specs.ImageInvariant.{IsHonestBacking, ImageInvaria
 ghost use Rattle.qcow2_image.specs.declared.mapping.MappingKind.TheVariants.{Eof, Raw};
 ghost use Rattle.qcow2_image.specs.declared.mapping.Place.TheVariants.{Image};
 ghost use Rattle.qcow2_image.specs.declared.prepared.Prepared.{Prepared};
-ghost use Rattle.qcow2_image.specs.Image.{ImageStays, IsSameImage, is_failed, is_writable, size_of, KeepsWholeHeader};
+ghost use Rattle.qcow2_image.specs.Image.{ImageStays, IsSameImage, is_writable, size_of, KeepsWholeHeader};
 ghost use Rattle.qcow2_image.specs.Prepared.{image_of, table_of};
 ghost use Rattle.qcow2_image.specs.Refusals.{unusable, refuses_mapping, refuses_to_read, IsMet, IsUnlimited, MarksFailed};
 ghost use Rattle.qcow2_image.specs.SpecialReads.{TellsCompressed, TellsWhether};
@@ -25,7 +25,7 @@ ghost use Rattle.qcow2_image.specs.Unwritten.{OnlyReadsImage, ReadsQuietly};
 ghost use Rattle.qcow2_alloc.specs.declared.error.ImageError.TheVariants.{Compressed, NotCompressed, OutdatedMapping, ReadOnly};
 ghost use Rattle.qcow2_alloc.specs.KeptMarks.{KeepsFileNotes};
 ghost use Rattle.qcow2_alloc.specs.KeptNotes.{AlsoData, NoData};
-ghost use Rattle.qcow2_image.specs.Noted.{FailsOnceWritten, TellsData, TellsDataAlone, TellsNoData, TellsPut};
+ghost use Rattle.qcow2_image.specs.Noted.{FailsOnceWritten, PutsOnce};
 ghost use Rattle.qcow2_alloc.specs.ImageFile.{known_in};
 
 use crate::mappings::passes;
@@ -78,7 +78,6 @@ impl<S: Storage, F: WrappedFormat<S>> Qcow2<S, F> {
         ensures quiet { ReadsQuietly S.view self.old self.new }
         ensures held { refuses_mapping self.old mapping.now.image ≡ None → 0 < length bytes.old → HeedsHeld self.new (mapping.now.offset + at) (further_by at mapping.now.kind) (length bytes.old) result }
         ensures header_cluster { StaysBehindHeader S.view self.old self.new }
-        ensures kinds { TellsNoData self.old self.new }
         ensures unwritten { OnlyReadsImage S.view F.backing self.old self.new }
     {
         self.check_usable()?;
@@ -257,7 +256,6 @@ impl<S: Storage, F: WrappedFormat<S>> Qcow2<S, F> {
         ensures once_written { FailsOnceWritten S.view self.old self.new result }
         ensures quiet { ReadsQuietly S.view self.old self.new }
         ensures header_cluster { StaysBehindHeader S.view self.old self.new }
-        ensures kinds { TellsNoData self.old self.new }
         ensures unwritten { OnlyReadsImage S.view F.backing self.old self.new }
     {
         match self.try_readv_special(bytes, offset)? {
@@ -289,7 +287,6 @@ impl<S: Storage, F: WrappedFormat<S>> Qcow2<S, F> {
         ensures once_written { FailsOnceWritten S.view self.old self.new result }
         ensures quiet { ReadsQuietly S.view self.old self.new }
         ensures header_cluster { StaysBehindHeader S.view self.old self.new }
-        ensures kinds { TellsNoData self.old self.new }
         ensures unwritten { OnlyReadsImage S.view F.backing self.old self.new }
     {
         self.check_usable()?;
@@ -356,8 +353,7 @@ impl<S: Storage, F: WrappedFormat<S>> Qcow2<S, F> {
         ensures held { refuses_mapping self.old (image_of prepared.now) ≡ None → table_of prepared.now ≡ None → 0 < length bytes.now → HeedsHeld self.new (prepared.now.guest + at) (Raw Image (prepared.now.offset + at) true) (length bytes.now) result }
         ensures freeing { ListStays self.old self.new }
         ensures header_cluster { StaysBehindHeader S.view self.old self.new }
-        ensures kinds { TellsPut S.view F.backing prepared.now at bytes.now self.old self.new result }
-        ensures told { 0 < length bytes.now → OnOk result (TellsData self.old self.new) }
+        ensures once { PutsOnce S.view F.backing prepared.now at bytes.now self.old self.new result }
     {
         self.check_usable()?;
         if prepared.image != self.number {
@@ -396,8 +392,7 @@ impl<S: Storage, F: WrappedFormat<S>> Qcow2<S, F> {
         ensures list { ListStays self.old self.new }
         ensures held { table_of prepared.now ≡ None → 0 < length bytes.now → HeedsHeld self.new (prepared.now.guest + at) (Raw Image (prepared.now.offset + at) true) (length bytes.now) result }
         ensures header_cluster { StaysBehindHeader S.view self.old self.new }
-        ensures kinds { TellsPut S.view F.backing prepared.now at bytes.now self.old self.new result }
-        ensures told { OnOk result (TellsData self.old self.new) }
+        ensures once { PutsOnce S.view F.backing prepared.now at bytes.now self.old self.new result }
     {
         let Some(host) = prepared.offset.checked_add(at) else {
             return Err(ImageError::Overflow);
@@ -455,8 +450,6 @@ impl<S: Storage, F: WrappedFormat<S>> Qcow2<S, F> {
         ensures faults { CountsImageFaults S.view F.backing self.old self.new result }
         ensures notes { KeepsFileNotes S.view AlsoData self.old.file self.new.file }
         ensures header_cluster { StaysBehindHeader S.view self.old self.new }
-        ensures kinds { TellsDataAlone self.old self.new }
-        ensures told { OnOk result (TellsData self.old self.new) }
     {
         if host < self.file.header.cluster_size() {
             return Err(ImageError::Metadata);

@@ -18,7 +18,7 @@ ghost use Rattle.qcow2_laws.specs.CrashInvariant.{Pending};
 ghost use Rattle.qcow2_alloc.specs.MetadataCaches.{IsEntryAt, l2_at};
 ghost use Rattle.qcow2_alloc.specs.KeptMarks.{KeepsFileNotes};
 ghost use Rattle.qcow2_alloc.specs.KeptNotes.{NoData};
-ghost use Rattle.qcow2_image.specs.Noted.{CommitFailsOnceWritten, FailsOnceWritten, TellsNoData, DataUnlessExisting};
+ghost use Rattle.qcow2_image.specs.Noted.{CommitFailsOnceWritten, FailsOnceWritten, DataUnlessExisting};
 ghost use Rattle.qcow2_alloc.specs.ImageFile.{known_in, FileInvariant, KeepsHeader};
 ghost use Rattle.qcow2_image.specs.L1Entries.{HasOwnTable, IsRefusedAsFar, NeedsFarEntry, RefusesFarEntryFreeing, ReachesAtMost};
 ghost use Rattle.qcow2_image.specs.LowestPlaces.{BeginsLowest, TakesLowestTables};
@@ -182,7 +182,6 @@ impl<S: Storage, F: WrappedFormat<S>> Qcow2<S, F> {
         ensures far_refused { 0 < length → refuses_to_prepare self.old offset length ≡ None → NeedsFarEntry self.old offset → IsErrAnd result (λ e. (e ≡ ImageError.Overflow) ⊎ IsOfTables e) }
         ensures pinned { 0 < length → refuses_to_prepare self.old offset length ≡ None → HasOwnTable self.old offset → PreparesUnpinned self.old offset result }
         ensures once_written { FailsOnceWritten S.view self.old self.new result }
-        ensures kinds { IfOk result (λ p. table_of p ≡ None → TellsNoData self.old self.new) }
         ensures no_longer { ReachesAtMost offset self.old self.new }
         ensures header_cluster { StaysBehindHeader S.view self.old self.new }
         ensures faults { CountsImageFaults S.view F.backing self.old self.new result }
@@ -466,7 +465,6 @@ impl<S: Storage, F: WrappedFormat<S>> Qcow2<S, F> {
         ensures quiet { HasNothingToFree self.old → DropsNothing prepared → storage_of self.new.file.storage ≡ storage_of self.old.file.storage }
         ensures once_written { CommitFailsOnceWritten S.view self.old self.new result }
         ensures header_cluster { StaysBehindHeader S.view self.old self.new }
-        ensures kinds { TellsNoData self.old self.new }
         ensures faults { NoFewerFaults S.view F.backing self.old self.new × IfErr result (λ r. TellsFault S.view F.backing self.old self.new (reason_of r)) × TellsEachBy S.view F.backing reason_of self.old self.new result }
     {
         if prepared.image != self.number {
@@ -564,7 +562,6 @@ impl<S: Storage, F: WrappedFormat<S>> Qcow2<S, F> {
         ensures sees { IfOk result (λ done. Discards S.view F.backing self.old self.new prepared) }
         ensures rest { IfOk result (λ done. ReleasesOneMapping S.view self.old self.new) }
         ensures header_cluster { StaysBehindHeader S.view self.old self.new }
-        ensures kinds { TellsNoData self.old self.new }
         ensures faults { SameFaults S.view F.backing self.old self.new }
     {
         if prepared.image != self.number {

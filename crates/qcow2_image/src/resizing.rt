@@ -1,20 +1,19 @@
 //! A disk of another size: what lies behind a smaller one is dropped first, and the size is written last.
 ghost use Rattle.qcow2_alloc.specs.LowestRuns.{StaysUsed};
-ghost use Rattle.image_access.specs.declared.storage.PreallocateMode.TheVariants.{None as PreallocateNone};
 ghost use Rattle.qcow2_image.specs.FilledTurns.{GrowsInTurns};
 ghost use Rattle.qcow2_image.specs.LowestPlaces.{GrowsFromLowest};
 ghost use Rattle.qcow2_image.specs.BehindHeader.{StaysBehindHeader};
-ghost use Rattle.qcow2_image.specs.Noted.{ChangesRose, FailsOnceWritten, NotesChanges, NotesPart, TellsNoData};
+ghost use Rattle.qcow2_image.specs.Noted.{ChangesRose, FailsOnceWritten, NotesChanges, NotesPart};
 ghost use Rattle.qcow2_alloc.specs.KeptMarks.{HaveRisen, KeepsFileNotes};
 ghost use Rattle.qcow2_alloc.specs.KeptNotes.{NoData};
-ghost use Rattle.std.specs.Prelude.{ℕ, List, Option, ◌≡◌, ◌↔◌, ◌⊎◌, ◌+◌, ◌-◌, ◌<◌, ◌≤◌, max, nat_lt, [], Some, None, Ok, Err, IfOk, IfErr, IfSome, OnOk, OnErr, IsTrue, MatchOption, false};
+ghost use Rattle.std.specs.Prelude.{ℕ, List, Option, ◌≡◌, ◌↔◌, ◌⊎◌, ◌+◌, ◌-◌, ◌<◌, ◌≤◌, max, [], Some, None, Ok, Err, IfOk, IfErr, IfSome, OnOk, OnErr, IsTrue, MatchOption, false};
 ghost use Rattle.qcow2_image.specs.LackedPlaces.{IsPlacedNear};
 ghost use Rattle.qcow2_image.specs.MetAlone.{IsMetGrowing};
 ghost use Rattle.image_access.specs.Moments.{EachMomentSince};
 ghost use Rattle.qcow2_metadata.specs.EntryTable.{entry_count};
 ghost use Rattle.qcow2_metadata.specs.TableBytes.{entry_at};
 ghost use Rattle.qcow2_image.specs.Found.{l1_index_of};
-ghost use Rattle.qcow2_metadata.specs.Header.{cluster_size, rounded_up as rounded_up_to, with_fields, with_size, rounded_up};
+ghost use Rattle.qcow2_metadata.specs.Header.{cluster_size, with_fields, with_size, rounded_up};
 ghost use Rattle.qcow2_laws.specs.CrashInvariant.{Pending};
 ghost use Rattle.qcow2_alloc.specs.declared.error.ImageError.TheVariants.{Limit, MappingPrepared, Preallocation};
 ghost use Rattle.qcow2_alloc.specs.ImageError.{IsFault};
@@ -62,7 +61,6 @@ impl<S: Storage, F: WrappedFormat<S>> Qcow2<S, F> {
         ensures once_written { FailsOnceWritten S.view self.old self.new result }
         ensures length { (out : List (Option Prepared)) → (abstract_of S.view F.backing self.old out).is_sound → IsLongerByNeed (size_of self.old - 1) self.old.file.header.fields self.new.file.header.fields }
         ensures header_cluster { StaysBehindHeader S.view self.old self.new }
-        ensures kinds { TellsNoData self.old self.new }
         ensures faults { CountsImageFaults S.view F.backing self.old self.new result }
     {
         self.check_resize()?;
@@ -101,7 +99,6 @@ impl<S: Storage, F: WrappedFormat<S>> Qcow2<S, F> {
         ensures once_written { FailsOnceWritten S.view self.old self.new result }
         ensures length { (out : List (Option Prepared)) → (abstract_of S.view F.backing self.old out).is_sound → IsLongerByNeed (size_of self.old - 1) self.old.file.header.fields self.new.file.header.fields }
         ensures header_cluster { StaysBehindHeader S.view self.old self.new }
-        ensures kinds { TellsNoData self.old self.new }
         ensures faults { CountsImageFaults S.view F.backing self.old self.new result }
     {
         let before = self.file.changes();
@@ -231,7 +228,6 @@ impl<S: Storage, F: WrappedFormat<S>> Qcow2<S, F> {
         ensures freed { refuses_to_resize self.old ≡ None → size_of self.old < size → ¬ IsTrue (takes_over self.old mode) → (out : List (Option Prepared)) → (abstract_of S.view F.backing self.old out).is_sound → IfErr result (FreesRefused self.new) }
         ensures once_written { FailsOnceWritten S.view self.old self.new result }
         ensures header_cluster { StaysBehindHeader S.view self.old self.new }
-        ensures kinds { mode ≡ PreallocateNone → TellsNoData self.old self.new }
         ensures faults { CountsImageFaults S.view F.backing self.old self.new result }
     {
         self.check_resize()?;
@@ -274,7 +270,6 @@ impl<S: Storage, F: WrappedFormat<S>> Qcow2<S, F> {
         ensures freed { (out : List (Option Prepared)) → (abstract_of S.view F.backing self.old out).is_sound → IfErr result (FreesRefused self.new) }
         ensures once_written { FailsOnceWritten S.view self.old self.new result }
         ensures header_cluster { StaysBehindHeader S.view self.old self.new }
-        ensures kinds { mode ≡ PreallocateNone → TellsNoData self.old self.new }
         ensures faults { CountsImageFaults S.view F.backing self.old self.new result }
     {
         self.begin();

@@ -20,7 +20,6 @@ use Rattle.qcow2_image.specs.Noted.{ChangesRose, CommitFailsOnceWritten, CountsI
 use Rattle.qcow2_image.specs.Ranges.{ReleasesOneMapping}
 use Rattle.qcow2_image.specs.declared.prepared.CommitRefused.{CommitRefused}
 use Rattle.qcow2_image.specs.Refusals.{MarksFailed}
-use Rattle.qcow2_image.proofs.Call.ToldData.{none_told}
 
 -- a number that rose has risen since before, and goes on having risen
 rose_later : (a b c : ℕ) → b ≤ c → Rose a b → Rose a c
@@ -56,7 +55,7 @@ module _ {S F : Type 0} where
 module _ {S F : Type 0} (view : S → StorageView) where
   -- ---- nothing at all was done
   pub part_none : (image : Qcow2 S F) → NotesPart view image image
-  part_none image = record { honest = λ h. h; no_fewer = fewer_none image; why = λ noted. inl noted; contents = λ none few honest. refl; kinds = refl }
+  part_none image = record { honest = λ h. h; no_fewer = fewer_none image; why = λ noted. inl noted; contents = λ none few honest. refl }
 
   pub once_none : (image : Qcow2 S F) → MarksOnceChanged view image image
   once_none image = record {
@@ -132,7 +131,6 @@ module _ {S F : Type 0} (view : S → StorageView) where
     no_fewer = kept_fewer old new kept;
     why = kept_why old new kept;
     contents = λ none few. kept_contents old new kept (λ noted. elim (kept_why old new kept noted) [ inl was ↦ none was | inr rose ↦ few rose ]);
-    kinds = none_told kept;
   }
 
   -- ---- one part behind another, and a part behind a call
@@ -148,7 +146,6 @@ module _ {S F : Type 0} (view : S → StorageView) where
         let few_first : ¬ ChangesRose a b = λ rose. few (changes_later a b c then'.no_fewer rose) in
         then'.contents (λ noted. elim (first.why noted) [ inl was ↦ none was | inr rose ↦ few_first rose ]) (λ rose. few (changes_before a b c first.no_fewer rose)) (first.honest honest)
         ∙ first.contents none few_first honest;
-    kinds = then'.kinds ∙ first.kinds;
   }
 
   pub call_then : (a b c : Qcow2 S F) → NotesChanges view a b → NotesPart view b c → NotesChanges view a c
@@ -163,7 +160,6 @@ module _ {S F : Type 0} (view : S → StorageView) where
         let few_first : ¬ ChangesRose a b = λ rose. few (changes_later a b c then'.no_fewer rose) in
         then'.contents (λ noted. few_first (first.why noted)) (λ rose. few (changes_before a b c first.no_fewer rose)) (first.honest honest)
         ∙ first.contents few_first honest;
-    kinds = then'.kinds ∙ first.kinds;
   }
 
   -- ---- a call that begins
@@ -205,11 +201,10 @@ module _ {S F : Type 0} (view : S → StorageView) where
       };
       why = λ noted. elim (part.why noted) [ inl was ↦ absurd (nothing_noted was) | inr rose ↦ rose_begun new rose ];
       contents = λ few. subst (λ (s : S). ContentsStay (view s) (view_in view new.file)) begins.storage (part.contents nothing_noted (λ rose. few (rose_begun new rose)));
-      kinds = part.kinds ∙ begins.kinds;
     }
 
     pub part_of_call : (new : Qcow2 S F) → NotesChanges view old new → NotesPart view old new
-    part_of_call new call = record { honest = call.honest; no_fewer = call.no_fewer; why = λ noted. inr (call.why noted); contents = λ none. call.contents; kinds = call.kinds }
+    part_of_call new call = record { honest = call.honest; no_fewer = call.no_fewer; why = λ noted. inr (call.why noted); contents = λ none. call.contents }
 
     pub notes_since : (new : Qcow2 S F) → KeepsFileNotes view NoData begun.file new.file → NotesPart view old new
     notes_since new kept = part_of_call new (notes_begun new (notes_part begun new kept))

@@ -1,4 +1,4 @@
--- What a put tells as data, and what it leaves before that.
+-- What a put writes by one write, and what it leaves before that.
 use Rattle.std.proofs.Common.{◌≡◌, ℕ, ◌+◌, Bool, List, [], Option, IsSome, Result, Ok, Err, inl, refl, sym, ap, ◌∙◌, subst}
 use Rattle.image_access.specs.Backing.{BackingView}
 use Rattle.image_access.specs.Contents.{overwritten}
@@ -13,13 +13,12 @@ use Rattle.qcow2_image.specs.declared.prepared.Prepared.{Prepared}
 use Rattle.qcow2_image.specs.CallParts.{IsWriteOutcome, UnseenCall}
 use Rattle.qcow2_image.specs.Image.{IsBegun, storage_of_image}
 use Rattle.qcow2_image.specs.ImageInvariant.{ImageInvariant, abstract_of, pending_in}
-use Rattle.qcow2_image.specs.Noted.{TellsNoData, TellsPut}
+use Rattle.qcow2_image.specs.Noted.{PutsOnce}
 use Rattle.qcow2_image.specs.Prepared.{offset_of, table_of}
 use Rattle.qcow2_image.specs.UnseenSteps.{UnseenFillingStep, UnseenStep}
 use Rattle.qcow2_laws.specs.CrashInvariant.{Pending}
 use Rattle.qcow2_image.proofs.Call.Called.{Quietly, listed}
 use Rattle.qcow2_image.proofs.Call.Refused.{image_step_stays, stays_kept, stays_then}
-use Rattle.qcow2_image.proofs.Call.ToldData.{alone_of, none_alone}
 use Rattle.qcow2_image.proofs.Prepare.Filling.{image_step_none}
 use Rattle.qcow2_image.proofs.Prepare.Gaining.{listed_after_same}
 
@@ -66,44 +65,38 @@ module _ {S F : Type 0} (view : S → StorageView) (backing : F → BackingView)
   IsUnseen old now = (out : List (Option Prepared)) → (abstract_of view backing old out).is_sound → UnseenCall view backing old now out
 
   -- a put that is refused before its bytes are written, and one of no bytes
-  pub put_unwritten : (old now : Qcow2 S F) (e : ImageError) → ((view_in view old.file).is_honest → (view_in view now.file).is_honest) → TellsNoData old now → (IsSome (table_of p) → now ≡ old) → IsUnseen old now → TellsPut view backing p at bytes old now (Err e)
-  put_unwritten old now e honest none idle unseen = record {
+  pub put_unwritten : (old now : Qcow2 S F) (e : ImageError) → ((view_in view old.file).is_honest → (view_in view now.file).is_honest) → (IsSome (table_of p) → now ≡ old) → IsUnseen old now → PutsOnce view backing p at bytes old now (Err e)
+  put_unwritten old now e honest idle unseen = record {
     before = now;
     honest = honest;
-    earlier = none;
     unseen = unseen;
     idle = λ some. (ap (λ (i : Qcow2 S F). storage_of_image i) (idle some), ap (λ (i : Qcow2 S F). changes_of i.file.storage) (idle some));
-    alone = none_alone refl refl;
     time = λ _. passes_none (view_in view now.file) _;
     written = λ _. outcome_none e _ _;
   }
 
-  pub put_refused : (old : Qcow2 S F) (e : ImageError) → TellsPut view backing p at bytes old old (Err e)
-  put_refused old e = put_unwritten old old e (λ h. h) refl (λ _. refl) (λ out sound. unseen_none view backing old out sound)
+  pub put_refused : (old : Qcow2 S F) (e : ImageError) → PutsOnce view backing p at bytes old old (Err e)
+  put_refused old e = put_unwritten old old e (λ h. h) (λ _. refl) (λ out sound. unseen_none view backing old out sound)
 
-  pub put_nothing : (old : Qcow2 S F) → bytes ≡ [] → TellsPut view backing p at bytes old old (Ok tt)
+  pub put_nothing : (old : Qcow2 S F) → bytes ≡ [] → PutsOnce view backing p at bytes old old (Ok tt)
   unfolding overwritten
   put_nothing old empty = record {
     before = old;
     honest = λ h. h;
-    earlier = refl;
     unseen = λ out sound. unseen_none view backing old out sound;
     idle = λ _. (refl, refl);
-    alone = none_alone refl refl;
     time = λ _. passes_none (view_in view old.file) _;
     written = λ _. subst (λ (b : List ℕ). (view_in view old.file).contents ≡ overwritten (view_in view old.file).contents (offset_of p + at) b) (sym empty) refl;
   }
 
   -- a call of one part that puts them, whose end is marked
-  pub put_in_call : (old begun is new : Qcow2 S F) (r : Result (Unit {0}) ImageError) → IsBegun old begun → IsUnseen old begun → TellsPut view backing p at bytes begun is r → (failed : Bool) → new ≡ record is { is_failed = failed } → TellsPut view backing p at bytes old new r
+  pub put_in_call : (old begun is new : Qcow2 S F) (r : Result (Unit {0}) ImageError) → IsBegun old begun → IsUnseen old begun → PutsOnce view backing p at bytes begun is r → (failed : Bool) → new ≡ record is { is_failed = failed } → PutsOnce view backing p at bytes old new r
   put_in_call old begun is new r begins quiet puts failed marked =
-      subst (λ (i : Qcow2 S F). TellsPut view backing p at bytes old i r) (sym marked) (record {
+      subst (λ (i : Qcow2 S F). PutsOnce view backing p at bytes old i r) (sym marked) (record {
         before = puts.before;
         honest = λ h. puts.honest (subst (λ (s : S). (view s).is_honest) (sym begins.storage) h);
-        earlier = puts.earlier ∙ begins.kinds;
         unseen = λ out sound. let first = quiet out sound in stays_then view backing out old begun puts.before first (puts.unseen out first.sound);
         idle = λ some. ((puts.idle some).0 ∙ begins.storage, (puts.idle some).1 ∙ begins.counts);
-        alone = alone_of (puts.alone.changes, puts.alone.told);
         time = puts.time;
         written = puts.written;
       })

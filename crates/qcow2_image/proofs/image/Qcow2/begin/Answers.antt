@@ -18,4 +18,4 @@ returns-clause-known g c = λ p out sound.
     (ap g.S.Storage.view c.begin.ensures.storage) sound.file.honest sound.file.caches).known
 
 pub returns-clause-begun : goal.returns-clause-begun
-returns-clause-begun g c = record { storage = c.begin.ensures.storage; unnoted = c.begin.ensures.unchanged; counts = c.begin.ensures.changes; kinds = c.begin.ensures.kinds; caches = c.begin-2.ensures.same; rest = refl }
+returns-clause-begun g c = record { storage = c.begin.ensures.storage; unnoted = c.begin.ensures.unchanged; counts = c.begin.ensures.changes; caches = c.begin-2.ensures.same; rest = refl }

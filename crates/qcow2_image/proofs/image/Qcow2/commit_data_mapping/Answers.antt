@@ -23,7 +23,6 @@ use Rattle.qcow2_image.proofs.Call.BehindHeader.{behind_begun, behind_then}
 use Rattle.qcow2_image.proofs.Commit.Copied.{stands_copied}
 use Rattle.qcow2_image.proofs.image.Qcow2.commit_data_mapping.Goals.{then-entered, else-entered}
 use Rattle.qcow2_disk.proofs.Compose.{rests_none}
-use Rattle.qcow2_image.proofs.Call.ToldData.{none_told}
 
 pub returns-then-prepared-self-clause-sees : goal.returns-then-prepared-self-clause-sees
 returns-then-prepared-self-clause-sees g c = λ out k placed.
@@ -158,15 +157,6 @@ returns-in-Ok-clause-copied g c = λ out k placed sound some.
     stands_copied g.S.Storage.view g.F.BackingDisk.backing c.args.self.now c.begin.new.self c.enter_shares-entered.new.self c.end_freeing.new.self c.release_prepared-in-Ok.new.self c.args.prepared c.enter_shares-entered.new.prepared c.enter_shares-entered.result some c.end_freeing.result
     (λ out sound. record { keeps = c.begin.ensures.keeps (pending_in g.S.Storage.view g.F.BackingDisk.backing c.args.self.now out) out sound; list = c.begin.ensures.list }) c.enter_shares-entered.ensures.enters c.enter_shares-entered.ensures.in_place c.end_freeing.ensures.frees c.in-Ok.is
     c.release_prepared-in-Ok.ensures.rest out k placed sound
-
-pub returns-then-is_none-clause-kinds : goal.returns-then-is_none-clause-kinds
-returns-then-is_none-clause-kinds g c = none_told c.release_prepared.ensures.notes
-
-pub returns-in-Ok-clause-kinds : goal.returns-in-Ok-clause-kinds
-returns-in-Ok-clause-kinds g c = none_told c.release_prepared-in-Ok.ensures.notes ∙ none_told c.end_freeing.ensures.notes ∙ none_told c.enter_shares-entered.ensures.notes ∙ c.begin.ensures.begun.kinds
-
-pub returns-after-entered-clause-kinds : goal.returns-after-entered-clause-kinds
-returns-after-entered-clause-kinds g c = none_told c.end_freeing.ensures.notes ∙ none_told c.enter_shares-entered.ensures.notes ∙ c.begin.ensures.begun.kinds
 
 pub returns-then-is_none-clause-freeing : goal.returns-then-is_none-clause-freeing
 returns-then-is_none-clause-freeing g c = λ out k placed sound existing.

@@ -57,9 +57,6 @@ returns-clause-limit g c = c.discard_to_zero_unsafe.ensures.limit
 pub returns-clause-refused : goal.returns-clause-refused
 returns-clause-refused g c = c.discard_to_zero_unsafe.ensures.refused
 
-pub returns-clause-kinds : goal.returns-clause-kinds
-returns-clause-kinds g c = c.discard_to_zero_unsafe.ensures.kinds
-
 pub returns-clause-no_longer : goal.returns-clause-no_longer
 returns-clause-no_longer g c = c.discard_to_zero_unsafe.ensures.no_longer
 

@@ -1,5 +1,4 @@
 use Rattle.qcow2_image.proofs.image.Qcow2.discard_to_backing_unsafe.Goals as goal
-use Rattle.qcow2_image.specs.declared.discarding.Clearance.TheVariants.{Uncovered}
 
 pub returns-clause-far : goal.returns-clause-far
 returns-clause-far g c = c.clear_range.ensures.far
@@ -57,9 +56,6 @@ returns-clause-limit g c = c.clear_range.ensures.limit
 
 pub returns-clause-refused : goal.returns-clause-refused
 returns-clause-refused g c = c.clear_range.ensures.refused
-
-pub returns-clause-kinds : goal.returns-clause-kinds
-returns-clause-kinds g c = c.clear_range.ensures.since.kinds
 
 pub returns-clause-no_longer : goal.returns-clause-no_longer
 returns-clause-no_longer g c = c.clear_range.ensures.no_longer

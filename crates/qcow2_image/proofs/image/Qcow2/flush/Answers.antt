@@ -17,7 +17,6 @@ use Rattle.std.specs.Prelude.{IfErr}
 use Rattle.qcow2_alloc.specs.ImageError.{IsFault}
 use Rattle.qcow2_image.proofs.Call.Called.{quiet_sound}
 use Rattle.qcow2_image.proofs.Map.Quiet.{reads_call}
-use Rattle.qcow2_image.proofs.Call.ToldData.{none_told_in_call}
 use Rattle.qcow2_image.proofs.image.Qcow2.flush.Goals as goal
 
 pub returns-clause-sees : goal.returns-clause-sees
@@ -84,6 +83,3 @@ returns-then-self-clause-fault g c = λ out sound. absurd (let no : true ≡ fal
 pub returns-clause-quiet : goal.returns-clause-quiet
 returns-clause-quiet g c = λ reading.
     reads_call g.S.Storage.view c.args.self.now c.begin.new.self c.write_back-done.new.self c.mark_failure.new.self _ c.begin.ensures.begun (c.write_back-done.ensures.quiet (c.begin.ensures.stays.image.writable ∙ reading)) c.mark_failure.ensures.rest
-
-pub returns-clause-kinds : goal.returns-clause-kinds
-returns-clause-kinds g c = none_told_in_call c.begin.ensures.begun c.write_back-done.ensures.notes c.mark_failure.ensures.rest

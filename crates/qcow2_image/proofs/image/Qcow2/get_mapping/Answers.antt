@@ -31,7 +31,6 @@ use Rattle.qcow2_image.proofs.Map.Quiet.{reads_call}
 use Rattle.qcow2_image.specs.HeldMappings.{IsHeldRun}
 use Rattle.qcow2_image.specs.Image.{size_of}
 use Rattle.std.proofs.Common.{◌<◌}
-use Rattle.qcow2_image.proofs.Call.ToldData.{none_told_in_call}
 use Rattle.qcow2_image.proofs.image.Qcow2.get_mapping.Goals as goal
 
 pub returns-in_err-kind-clause-sees : goal.returns-in_err-kind-clause-sees
@@ -136,9 +135,3 @@ returns-clause-held g c = λ lt.
     let held : IsHeldRun c.look_up-found.new.self c.args.offset c.args.max c.in_ok-kind.kind c.in_ok-kind.length =
     rw (sym c.mark_failure.ensures.answer ∙ c.in_ok-kind.was) at (c.look_up-found.ensures.held below) in
     subst (λ (image : Qcow2 _ _). IsHeldRun image c.args.offset c.args.max c.in_ok-kind.kind c.in_ok-kind.length) (sym c.mark_failure.ensures.rest) held
-
-pub returns-in_err-kind-clause-kinds : goal.returns-in_err-kind-clause-kinds
-returns-in_err-kind-clause-kinds g c = none_told_in_call c.begin.ensures.begun c.look_up-found.ensures.notes c.mark_failure.ensures.rest
-
-pub returns-clause-kinds : goal.returns-clause-kinds
-returns-clause-kinds g c = none_told_in_call c.begin.ensures.begun c.look_up-found.ensures.notes c.mark_failure.ensures.rest

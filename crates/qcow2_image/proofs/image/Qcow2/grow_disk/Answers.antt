@@ -58,7 +58,6 @@ use Rattle.qcow2_image.specs.MetAlone.{IsMetGrowing}
 use Rattle.qcow2_alloc.specs.LowestRuns.{StaysUsed}
 use Rattle.qcow2_image.specs.LowestPlaces.{GrowsFromLowest}
 use Rattle.qcow2_image.proofs.Prepare.LowestTables.{begun_used, grows_alike, grows_sized_lowest}
-use Rattle.qcow2_image.proofs.Call.ToldData.{none_told, none_told_by, none_told_in_call}
 use Rattle.qcow2_image.proofs.Grow.NoLonger.{reaches_behind}
 use Rattle.qcow2_image.proofs.Sizing.NeededLengths.{longer_kept, longer_reached, longer_told}
 
@@ -545,16 +544,6 @@ returns-clause-met g c = λ out sound.
     let h = old.file.header.fields in
     subst (λ (r : Result _ _). IfErr r (IsMetGrowing out c.args.mode (size_of old) (rounded_up (cluster_size h) c.args.size) h (known_in g.S.Storage.view old.file))) (sym c.mark_fault-2.ensures.answer)
     (if_err c.write_size-written.result (λ e fault. inl (inl (inl (inl fault)))) c.write_size-written.ensures.cause)
-
-pub returns-in_err-mark_failure-clause-kinds : goal.returns-in_err-mark_failure-clause-kinds
-returns-in_err-mark_failure-clause-kinds g c = λ mode. none_told_in_call c.begin.ensures.begun c.renew_l1_table-longer.ensures.notes c.mark_failure.ensures.rest
-
-pub returns-in_err-mark_fault-clause-kinds : goal.returns-in_err-mark_fault-clause-kinds
-returns-in_err-mark_fault-clause-kinds g c = λ mode. none_told_by c.mark_fault.ensures.rest ∙ none_told_by (c.fill_grown-filled.ensures.unfilled mode).1 ∙ none_told_in_call c.begin.ensures.begun c.renew_l1_table-longer.ensures.notes c.mark_failure.ensures.rest
-
-pub returns-clause-kinds : goal.returns-clause-kinds
-returns-clause-kinds g c = λ mode.
-    none_told_by c.mark_fault-2.ensures.rest ∙ none_told c.write_size-written.ensures.notes ∙ none_told_by c.mark_fault.ensures.rest ∙ none_told_by (c.fill_grown-filled.ensures.unfilled mode).1 ∙ none_told_in_call c.begin.ensures.begun c.renew_l1_table-longer.ensures.notes c.mark_failure.ensures.rest
 
 pub returns-clause-lowest : goal.returns-clause-lowest
 returns-clause-lowest g c = λ out sound.

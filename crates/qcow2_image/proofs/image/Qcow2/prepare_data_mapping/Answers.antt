@@ -1,5 +1,5 @@
 use Rattle.qcow2_image.proofs.image.Qcow2.prepare_data_mapping.Goals as goal
-use Rattle.std.proofs.Common.{◌≡◌, ◌⊎◌, ◌<◌, sym, ◌∙◌, subst, arith, ap, refl, ◌+◌, ⊎_elim, inl, inr, ◌≤◌}
+use Rattle.std.proofs.Common.{◌≡◌, ◌⊎◌, ◌<◌, sym, ◌∙◌, subst, arith, ap, refl, ⊎_elim, inl, inr, ◌≤◌}
 use Rattle.std.specs.Prelude.{IfErr, IfOk, IsErrAnd, None, Result, Some, OnOk, IsNone}
 use Rattle.qcow2_alloc.specs.declared.error.ImageError.TheVariants.{Overflow, TablePrepared, Limit}
 use Rattle.qcow2_alloc.specs.ImageFile.{known_in}
@@ -43,10 +43,7 @@ use Rattle.qcow2_image.specs.Backings.{HasPrepared}
 use Rattle.qcow2_image.proofs.Prepare.MetTaking.{taking_as}
 use Rattle.qcow2_image.proofs.Grow.NoLonger.{length_then, reaches_behind}
 use Rattle.std.specs.Prelude.{IfOk, None}
-use Rattle.qcow2_alloc.proofs.Outcomes.{if_no_ok}
-use Rattle.qcow2_image.specs.Noted.{TellsNoData}
 use Rattle.qcow2_image.specs.Prepared.{table_of}
-use Rattle.qcow2_image.proofs.Call.ToldData.{existing_in_call}
 
 pub returns-then-length-eq0-clause-sees : goal.returns-then-length-eq0-clause-sees
 returns-then-length-eq0-clause-sees g c =
@@ -290,14 +287,3 @@ returns-clause-lowest_tables g c = λ some out sound.
     subst (λ (image : Qcow2 _ _). OnOk c.mark_failure.result (TakesLowestTables view c.args.offset old image)) (sym c.mark_failure.ensures.rest)
     (subst (λ r. OnOk r (TakesLowestTables view c.args.offset old (record new { is_failed = is_failed c.mark_failure.new.self }))) (sym c.mark_failure.ensures.answer)
     (tables_begun view c.args.offset old mid new (is_failed c.mark_failure.new.self) c.prepare-prepared.result c.begin.ensures.rest (begun_used view old mid (ap (λ (i : Qcow2 _ _). i.file.header) c.begin.ensures.rest) known) (c.prepare-prepared.ensures.lowest_tables out stays.sound)))
-
-pub returns-in_err-check_prepare-clause-kinds : goal.returns-in_err-check_prepare-clause-kinds
-returns-in_err-check_prepare-clause-kinds g c = if_no_ok _ c.from_residual.result c.in_err-check_prepare.field-0.0 c.from_residual.ensures
-
-pub returns-then-length-eq0-clause-kinds : goal.returns-then-length-eq0-clause-kinds
-returns-then-length-eq0-clause-kinds g c = λ none. refl
-
-pub returns-clause-kinds : goal.returns-clause-kinds
-returns-clause-kinds g c =
-    subst (λ (r : Result _ _). IfOk r (λ p. table_of p ≡ None → TellsNoData c.args.self.now c.mark_failure.new.self)) (sym c.mark_failure.ensures.answer)
-    (existing_in_call g.S.Storage.view c.args.self.now c.begin.new.self c.prepare-prepared.new.self c.mark_failure.new.self c.prepare-prepared.result c.begin.ensures.begun c.prepare-prepared.ensures.notes c.mark_failure.ensures.rest)

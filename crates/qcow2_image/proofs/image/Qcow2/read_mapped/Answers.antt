@@ -1,13 +1,12 @@
-use Rattle.std.proofs.Common.{◌≡◌, ◌+◌, ◌<◌, [], Err, sym, ap, ◌∙◌, subst, rules, arith, length}
+use Rattle.std.proofs.Common.{◌≡◌, ◌+◌, ◌<◌, [], sym, ◌∙◌, subst, rules, arith, length}
 use Rattle.std.specs.Prelude.{OnOk, Result}
 use Rattle.qcow2_disk.specs.Calls.{Shows, IsSame}
 use Rattle.qcow2_disk.specs.AbstractImages.{guest_of}
 use Rattle.qcow2_image.specs.Calls.{AnswersCall}
 use Rattle.qcow2_image.specs.declared.image.Qcow2.{Qcow2}
-use Rattle.qcow2_alloc.specs.declared.error.ImageError.TheVariants.{OutdatedMapping}
 use Rattle.qcow2_image.specs.Found.{IsFoundWhole, further_by}
 use Rattle.qcow2_image.specs.Image.{is_failed}
-use Rattle.qcow2_image.proofs.Call.Marked.{MayMarkBy, may_mark}
+use Rattle.qcow2_image.proofs.Call.Marked.{may_mark}
 use Rattle.qcow2_image.specs.ImageInvariant.{pending_in}
 use Rattle.qcow2_image.proofs.Call.Answers.{usable_works}
 use Rattle.qcow2_image.proofs.Call.Called.{told_answers, tells_quietly, quietly_then}
@@ -28,7 +27,6 @@ use Rattle.std.proofs.Common.{◌+◌, sym, subst}
 use Rattle.std.specs.Prelude.{Result}
 use Rattle.qcow2_image.specs.Found.{further_by}
 use Rattle.qcow2_image.specs.HeldMappings.{HeedsHeld}
-use Rattle.qcow2_image.proofs.Call.ToldData.{none_told_in_call}
 use Rattle.qcow2_image.proofs.image.Qcow2.read_mapped.Goals as goal
 
 pub returns-clause-sees : goal.returns-clause-sees
@@ -124,6 +122,3 @@ returns-clause-held g c = λ usable some.
 
 pub returns-then-is_empty-clause-held : goal.returns-then-is_empty-clause-held
 returns-then-is_empty-clause-held g c = λ usable some. absurd (let none : length c.args.bytes.now ≡ 0 = search rules in omega (arith, none, some))
-
-pub returns-clause-kinds : goal.returns-clause-kinds
-returns-clause-kinds g c = none_told_in_call c.begin.ensures.begun c.read_current-done.ensures.notes c.mark_failure.ensures.rest

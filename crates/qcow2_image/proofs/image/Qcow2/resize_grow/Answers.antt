@@ -72,9 +72,6 @@ returns-then-takes_over-clause-met g c = λ works larger out sound. inr (refl, s
 pub returns-clause-met : goal.returns-clause-met
 returns-clause-met g c = λ works larger out sound. if_err c.grow_disk.result (λ e why. inl why) (c.grow_disk.ensures.met out sound)
 
-pub returns-clause-kinds : goal.returns-clause-kinds
-returns-clause-kinds g c = c.grow_disk.ensures.kinds
-
 pub returns-clause-lowest : goal.returns-clause-lowest
 returns-clause-lowest g c = λ allowed larger. c.grow_disk.ensures.lowest
 

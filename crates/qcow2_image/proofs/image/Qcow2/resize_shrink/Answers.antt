@@ -107,9 +107,6 @@ returns-clause-pinned g c = λ none smaller. (
   λ has. absurd (let unpinned = c.first_pinned_l2.ensures.none (sym c.is_some.ensures ∙ c.if-is_some.false) has.cluster in let some = has.pins in omega arith),
 )
 
-pub returns-clause-kinds : goal.returns-clause-kinds
-returns-clause-kinds g c = c.shrink.ensures.kinds
-
 pub returns-in_err-check_resize-clause-length : goal.returns-in_err-check_resize-clause-length
 returns-in_err-check_resize-clause-length g c = λ out sound. longer_none c.args.self.now.file.header.fields (size_of c.args.self.now - 1)
 

@@ -1,12 +1,12 @@
 use Rattle.std.proofs.Common.{◌≡◌, ◌∙◌, ◌-◌, inl, inr, sym, ap, subst}
-use Rattle.std.specs.Prelude.{Err, IfSome, MatchOption, nat_lt}
+use Rattle.std.specs.Prelude.{Err, IfSome, MatchOption}
 use Rattle.image_access.proofs.EachMomentSince.{passes_none}
 use Rattle.qcow2_metadata.specs.Header.{HeaderView, cluster_size, rounded_up}
 use Rattle.qcow2_alloc.specs.KeptMarks.{HaveRisen}
 use Rattle.std.proofs.lemmas.Bool.{ltb-true}
 use Rattle.qcow2_alloc.specs.ImageError.{IsFault}
 use Rattle.qcow2_alloc.specs.ImageFile.{view_in}
-use Rattle.qcow2_alloc.specs.ImageStorage.{is_changed_of, storage_of}
+use Rattle.qcow2_alloc.specs.ImageStorage.{is_changed_of}
 use Rattle.qcow2_image.specs.declared.image.Qcow2.{Qcow2}
 use Rattle.qcow2_image.specs.Image.{is_failed, size_of}
 use Rattle.qcow2_image.specs.Refusals.{MarksRefused}
@@ -22,7 +22,6 @@ use Rattle.qcow2_image.proofs.Call.FaultCounts.{counted_as, counted_still}
 use Rattle.qcow2_image.specs.Faults.{TellsEachIn, TellsFault}
 use Rattle.qcow2_image.proofs.Call.OnceWritten.{call_then, changes_later, failed_part, kept_fewer, notes_part, refused_once, answered_counts, counts_noted}
 use Rattle.qcow2_image.proofs.Call.BehindHeader.{behind_by, behind_none, behind_then}
-use Rattle.qcow2_image.proofs.Call.ToldData.{none_told, none_told_by}
 use Rattle.qcow2_image.proofs.image.Qcow2.shrink.Goals as goal
 use Rattle.qcow2_image.proofs.Sizing.NeededLengths.{longer_kept}
 
@@ -191,15 +190,6 @@ returns-in-Err-clause-header_cluster g c = behind_then (behind_then c.uncover_ta
 
 pub returns-clause-header_cluster : goal.returns-clause-header_cluster
 returns-clause-header_cluster g c = behind_then c.uncover_tail-end.ensures.header_cluster c.write_size.ensures.header_cluster
-
-pub returns-in-Some-clause-kinds : goal.returns-in-Some-clause-kinds
-returns-in-Some-clause-kinds g c = none_told_by c.mark_refused.ensures.rest ∙ c.uncover_tail-end.ensures.since.kinds
-
-pub returns-in-Err-clause-kinds : goal.returns-in-Err-clause-kinds
-returns-in-Err-clause-kinds g c = none_told_by c.mark_refused-in-Err.ensures.rest ∙ none_told c.write_size.ensures.notes ∙ c.uncover_tail-end.ensures.since.kinds
-
-pub returns-clause-kinds : goal.returns-clause-kinds
-returns-clause-kinds g c = none_told c.write_size.ensures.notes ∙ c.uncover_tail-end.ensures.since.kinds
 
 pub returns-in-Some-clause-length : goal.returns-in-Some-clause-length
 returns-in-Some-clause-length g c = λ out sound.

@@ -24,7 +24,6 @@ use Rattle.qcow2_image.proofs.Clear.ClearCalls.{refused_for}
 use Rattle.qcow2_image.specs.Refusals.{unusable}
 use Rattle.std.specs.Prelude.{None, Some}
 use Rattle.qcow2_image.proofs.Map.Quiet.{reads_call}
-use Rattle.qcow2_image.proofs.Call.ToldData.{none_told_in_call}
 use Rattle.qcow2_image.proofs.image.Qcow2.try_readv_special.Goals as goal
 
 pub returns-clause-sees : goal.returns-clause-sees
@@ -80,6 +79,3 @@ returns-in_err-check_usable-clause-met g c = λ out sound.
 
 pub returns-clause-quiet : goal.returns-clause-quiet
 returns-clause-quiet g c = reads_call g.S.Storage.view c.args.self.now c.begin.new.self c.plain_at-plain.new.self c.mark_failure.new.self _ c.begin.ensures.begun c.plain_at-plain.ensures.quiet c.mark_failure.ensures.rest
-
-pub returns-clause-kinds : goal.returns-clause-kinds
-returns-clause-kinds g c = none_told_in_call c.begin.ensures.begun c.plain_at-plain.ensures.notes c.mark_failure.ensures.rest

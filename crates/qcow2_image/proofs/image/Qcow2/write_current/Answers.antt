@@ -17,18 +17,16 @@ use Rattle.qcow2_alloc.proofs.KeptMarks.{notes_then, notes_for}
 use Rattle.qcow2_image.proofs.Call.BehindHeader.{behind_then}
 use Rattle.qcow2_image.proofs.Map.Held.{heeds_then, held_as, keeps_storage}
 use Rattle.qcow2_image.specs.HeldMappings.{HeedsHeld, IsHeldAs}
-use Rattle.std.specs.Prelude.{Result, OnOk}
+use Rattle.std.specs.Prelude.{Result}
 use Rattle.std.proofs.lemmas.Bool.{cases_lt}
 use Rattle.qcow2_alloc.specs.ImageError.{IsFault}
 use Rattle.qcow2_image.specs.MetAlone.{IsCacheHeld, IsMetPutting}
 use Rattle.qcow2_image.proofs.Prepare.Met.{hands_met, met_as, told_sum}
 use Rattle.qcow2_image.proofs.Prepare.NearPlaces.{past_existing}
 use Rattle.qcow2_image.proofs.Write.Hosted.{hosts_behind_header}
-use Rattle.image_access.specs.Moments.{Rose}
-use Rattle.qcow2_alloc.specs.ImageStorage.{changes_of, data_changes_of}
+use Rattle.qcow2_alloc.specs.ImageStorage.{changes_of}
 use Rattle.qcow2_image.specs.Image.{storage_of_image}
-use Rattle.qcow2_image.specs.Noted.{TellsPut}
-use Rattle.qcow2_image.proofs.Call.ToldData.{none_told}
+use Rattle.qcow2_image.specs.Noted.{PutsOnce}
 use Rattle.qcow2_image.proofs.Write.ToldPuts.{checked_unseen, put_refused, put_unwritten}
 
 pub returns-in_err-check_in_place-clause-puts : goal.returns-in_err-check_in_place-clause-puts
@@ -137,20 +135,20 @@ returns-clause-met g c = λ fits some out k placed sound.
     let host_is = c.in-Some.ensures.1 in
     met_as IsFault (IsMetPutting (IsCacheHeld c.args.self.now out) p c.args.at) c.write_data.result (λ e fault. inl fault) (c.write_data.ensures.fault (omega (arith, behind, host_is)))
 
-pub returns-in_default-clause-kinds : goal.returns-in_default-clause-kinds
-returns-in_default-clause-kinds g c = put_refused g.S.Storage.view g.F.BackingDisk.backing c.args.prepared.now c.args.at c.args.bytes.now c.args.self.now Overflow
+pub returns-in_default-clause-once : goal.returns-in_default-clause-once
+returns-in_default-clause-once g c = put_refused g.S.Storage.view g.F.BackingDisk.backing c.args.prepared.now c.args.at c.args.bytes.now c.args.self.now Overflow
 
-pub returns-in_err-check_in_place-clause-kinds : goal.returns-in_err-check_in_place-clause-kinds
-returns-in_err-check_in_place-clause-kinds g c =
+pub returns-in_err-check_in_place-clause-once : goal.returns-in_err-check_in_place-clause-once
+returns-in_err-check_in_place-clause-once g c =
     let p = c.args.prepared.now in
     let new = c.check_in_place.new.self in
     let e = c.in_err-check_in_place.field-0.0 in
-    handed_on (TellsPut g.S.Storage.view g.F.BackingDisk.backing p c.args.at c.args.bytes.now c.args.self.now new) c.from_residual.result e c.from_residual.ensures
-    (put_unwritten g.S.Storage.view g.F.BackingDisk.backing p c.args.at c.args.bytes.now c.args.self.now new e c.check_in_place.ensures.notes.storage.honest (none_told c.check_in_place.ensures.notes) c.check_in_place.ensures.idle
+    handed_on (PutsOnce g.S.Storage.view g.F.BackingDisk.backing p c.args.at c.args.bytes.now c.args.self.now new) c.from_residual.result e c.from_residual.ensures
+    (put_unwritten g.S.Storage.view g.F.BackingDisk.backing p c.args.at c.args.bytes.now c.args.self.now new e c.check_in_place.ensures.notes.storage.honest c.check_in_place.ensures.idle
     (λ out sound. checked_unseen g.S.Storage.view g.F.BackingDisk.backing c.args.self.now new out c.check_in_place.ensures.keeps c.check_in_place.ensures.list sound))
 
-pub returns-clause-kinds : goal.returns-clause-kinds
-returns-clause-kinds g c =
+pub returns-clause-once : goal.returns-clause-once
+returns-clause-once g c =
     let view = g.S.Storage.view in
     let mid = c.check_in_place.new.self in
     let new = c.write_data.new.self in
@@ -159,16 +157,11 @@ returns-clause-kinds g c =
     record {
       before = mid;
       honest = c.check_in_place.ensures.notes.storage.honest;
-      earlier = none_told c.check_in_place.ensures.notes;
       unseen = λ out sound. checked_unseen view g.F.BackingDisk.backing c.args.self.now mid out c.check_in_place.ensures.keeps c.check_in_place.ensures.list sound;
       idle = λ some. let same = c.check_in_place.ensures.idle some in (ap (λ (i : Qcow2 _ _). storage_of_image i) same, ap (λ (i : Qcow2 _ _). changes_of i.file.storage) same);
-      alone = c.write_data.ensures.kinds;
       time = w.time;
       written = λ honest. subst (λ o. IsWriteOutcome c.write_data.result contents (overwritten contents o c.args.bytes.now) (view_in view new.file).contents) c.in-Some.ensures.1 (w.written honest);
     }
-
-pub returns-clause-told : goal.returns-clause-told
-returns-clause-told g c = subst (λ n. OnOk c.write_data.result (Rose n (data_changes_of c.write_data.new.self.file.storage))) (none_told c.check_in_place.ensures.notes) c.write_data.ensures.told
 
 pub returns-clause-list : goal.returns-clause-list
 returns-clause-list g c = ap (λ (image : Qcow2 _ _). image.file.free_list) c.write_data.ensures.written.rest ∙ c.check_in_place.ensures.list

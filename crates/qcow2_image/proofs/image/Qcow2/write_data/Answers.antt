@@ -1,10 +1,9 @@
 use Rattle.qcow2_alloc.proofs.KeptMarks.{any_told_kept, notes_none, notes_of_storage}
 use Rattle.qcow2_image.proofs.Call.BehindHeader.{behind_none, behind_guard, behind_wrote}
-use Rattle.std.proofs.Common.{ap, refl}
+use Rattle.std.proofs.Common.{ap}
 use Rattle.qcow2_image.proofs.Prepare.Lacked.{hands_unlimited, hands_fault}
 use Rattle.qcow2_image.proofs.Call.Unlimited.{storage_unlimited, storage_fault}
 use Rattle.qcow2_alloc.specs.ImageError.{of_storage}
-use Rattle.qcow2_image.proofs.Call.ToldData.{alone_of, data_alone_told, data_told, none_alone}
 use Rattle.qcow2_image.proofs.image.Qcow2.write_data.Goals as goal
 
 pub returns-in_err-write_data-clause-notes : goal.returns-in_err-write_data-clause-notes
@@ -30,15 +29,3 @@ returns-in_err-write_data-clause-limited g c = hands_unlimited c.from_residual.r
 
 pub returns-in_err-write_data-clause-fault : goal.returns-in_err-write_data-clause-fault
 returns-in_err-write_data-clause-fault g c = λ behind. hands_fault c.from_residual.result (of_storage c.in_err-write_data.field-0.0) c.from_residual.ensures (storage_fault c.in_err-write_data.field-0.0)
-
-pub returns-then-host-cluster_size-clause-kinds : goal.returns-then-host-cluster_size-clause-kinds
-returns-then-host-cluster_size-clause-kinds g c = none_alone refl refl
-
-pub returns-in_err-write_data-clause-kinds : goal.returns-in_err-write_data-clause-kinds
-returns-in_err-write_data-clause-kinds g c = alone_of (data_alone_told c.args.self.now.file.storage c.will_write.new.self c.write_data.new.self c.will_write.ensures.changed c.will_write.ensures.kind c.write_data.result c.write_data.ensures.noted)
-
-pub returns-clause-kinds : goal.returns-clause-kinds
-returns-clause-kinds g c = alone_of (data_alone_told c.args.self.now.file.storage c.will_write.new.self c.write_data.new.self c.will_write.ensures.changed c.will_write.ensures.kind c.write_data.result c.write_data.ensures.noted)
-
-pub returns-clause-told : goal.returns-clause-told
-returns-clause-told g c = data_told c.args.self.now.file.storage c.will_write.new.self c.write_data.new.self c.will_write.ensures.changed c.will_write.ensures.kind c.in_ok-write_data.ensures.noted.1

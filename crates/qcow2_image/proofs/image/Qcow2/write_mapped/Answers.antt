@@ -24,8 +24,7 @@ use Rattle.qcow2_image.specs.HeldMappings.{HeedsHeld}
 use Rattle.qcow2_image.proofs.Map.MetLooking.{held_since}
 use Rattle.qcow2_image.specs.MetAlone.{IsCacheHeld, IsMetPutting}
 use Rattle.qcow2_alloc.proofs.AllocationSteps.{handed_on}
-use Rattle.qcow2_image.specs.Noted.{TellsData, TellsPut}
-use Rattle.qcow2_image.proofs.Call.ToldData.{data_told_in_call}
+use Rattle.qcow2_image.specs.Noted.{PutsOnce}
 use Rattle.qcow2_image.proofs.Write.ToldPuts.{checked_unseen, put_in_call, put_nothing, put_refused}
 
 pub returns-then-is_empty-clause-sees : goal.returns-then-is_empty-clause-sees
@@ -127,31 +126,24 @@ returns-clause-met g c = λ out k placed sound writable.
     subst (λ (r : Result _ _). IfErr r (IsMetPutting (IsCacheHeld c.args.self.now out) c.args.prepared.now c.args.at)) (sym c.mark_failure.ensures.answer)
     (held_since old c.begin.new.self out c.begin.ensures.begun (λ held. IfErr c.write_current-done.result (IsMetPutting held c.args.prepared.now c.args.at)) (c.write_current-done.ensures.met c.requires some out k placed (quiet_sound view below out old c.begin.new.self (λ _. quiet) sound)))
 
-pub returns-in_err-check_usable-clause-kinds : goal.returns-in_err-check_usable-clause-kinds
-returns-in_err-check_usable-clause-kinds g c =
-    handed_on (TellsPut g.S.Storage.view g.F.BackingDisk.backing c.args.prepared.now c.args.at c.args.bytes.now c.args.self.now c.args.self.now) c.from_residual.result c.in_err-check_usable.field-0.0 c.from_residual.ensures
+pub returns-in_err-check_usable-clause-once : goal.returns-in_err-check_usable-clause-once
+returns-in_err-check_usable-clause-once g c =
+    handed_on (PutsOnce g.S.Storage.view g.F.BackingDisk.backing c.args.prepared.now c.args.at c.args.bytes.now c.args.self.now c.args.self.now) c.from_residual.result c.in_err-check_usable.field-0.0 c.from_residual.ensures
     (put_refused g.S.Storage.view g.F.BackingDisk.backing c.args.prepared.now c.args.at c.args.bytes.now c.args.self.now c.in_err-check_usable.field-0.0)
 
-pub returns-then-prepared-self-clause-kinds : goal.returns-then-prepared-self-clause-kinds
-returns-then-prepared-self-clause-kinds g c = put_refused g.S.Storage.view g.F.BackingDisk.backing c.args.prepared.now c.args.at c.args.bytes.now c.args.self.now ForeignState
+pub returns-then-prepared-self-clause-once : goal.returns-then-prepared-self-clause-once
+returns-then-prepared-self-clause-once g c = put_refused g.S.Storage.view g.F.BackingDisk.backing c.args.prepared.now c.args.at c.args.bytes.now c.args.self.now ForeignState
 
-pub returns-then-is_empty-clause-kinds : goal.returns-then-is_empty-clause-kinds
-returns-then-is_empty-clause-kinds g c = put_nothing g.S.Storage.view g.F.BackingDisk.backing c.args.prepared.now c.args.at c.args.bytes.now c.args.self.now (nil_from_length c.args.bytes.now (search rules))
+pub returns-then-is_empty-clause-once : goal.returns-then-is_empty-clause-once
+returns-then-is_empty-clause-once g c = put_nothing g.S.Storage.view g.F.BackingDisk.backing c.args.prepared.now c.args.at c.args.bytes.now c.args.self.now (nil_from_length c.args.bytes.now (search rules))
 
-pub returns-then-not-writable-clause-kinds : goal.returns-then-not-writable-clause-kinds
-returns-then-not-writable-clause-kinds g c = put_refused g.S.Storage.view g.F.BackingDisk.backing c.args.prepared.now c.args.at c.args.bytes.now c.args.self.now ReadOnly
+pub returns-then-not-writable-clause-once : goal.returns-then-not-writable-clause-once
+returns-then-not-writable-clause-once g c = put_refused g.S.Storage.view g.F.BackingDisk.backing c.args.prepared.now c.args.at c.args.bytes.now c.args.self.now ReadOnly
 
-pub returns-clause-kinds : goal.returns-clause-kinds
-returns-clause-kinds g c =
-    subst (λ (r : Result _ _). TellsPut g.S.Storage.view g.F.BackingDisk.backing c.args.prepared.now c.args.at c.args.bytes.now c.args.self.now c.mark_failure.new.self r) (sym c.mark_failure.ensures.answer)
-    (put_in_call g.S.Storage.view g.F.BackingDisk.backing c.args.prepared.now c.args.at c.args.bytes.now c.args.self.now c.begin.new.self c.write_current-done.new.self c.mark_failure.new.self c.write_current-done.result c.begin.ensures.begun (λ out sound. checked_unseen g.S.Storage.view g.F.BackingDisk.backing c.args.self.now c.begin.new.self out c.begin.ensures.keeps c.begin.ensures.list sound) c.write_current-done.ensures.kinds (is_failed c.mark_failure.new.self) c.mark_failure.ensures.rest)
-
-pub returns-then-is_empty-clause-told : goal.returns-then-is_empty-clause-told
-returns-then-is_empty-clause-told g c = λ some. absurd (let no : length c.args.bytes.now ≡ 0 = search rules in omega (arith, no, some))
-
-pub returns-clause-told : goal.returns-clause-told
-returns-clause-told g c = λ some. subst (λ (r : Result _ _). OnOk r (TellsData c.args.self.now c.mark_failure.new.self)) (sym c.mark_failure.ensures.answer)
-    (on_ok c.write_current-done.result (λ rose. data_told_in_call c.args.self.now c.begin.new.self c.mark_failure.new.self (record c.write_current-done.new.self { is_failed = c.mark_failure.new.self.is_failed }) c.begin.ensures.begun rose c.mark_failure.ensures.rest) c.write_current-done.ensures.told)
+pub returns-clause-once : goal.returns-clause-once
+returns-clause-once g c =
+    subst (λ (r : Result _ _). PutsOnce g.S.Storage.view g.F.BackingDisk.backing c.args.prepared.now c.args.at c.args.bytes.now c.args.self.now c.mark_failure.new.self r) (sym c.mark_failure.ensures.answer)
+    (put_in_call g.S.Storage.view g.F.BackingDisk.backing c.args.prepared.now c.args.at c.args.bytes.now c.args.self.now c.begin.new.self c.write_current-done.new.self c.mark_failure.new.self c.write_current-done.result c.begin.ensures.begun (λ out sound. checked_unseen g.S.Storage.view g.F.BackingDisk.backing c.args.self.now c.begin.new.self out c.begin.ensures.keeps c.begin.ensures.list sound) c.write_current-done.ensures.once (is_failed c.mark_failure.new.self) c.mark_failure.ensures.rest)
 
 pub returns-clause-freeing : goal.returns-clause-freeing
 returns-clause-freeing g c = ap (λ (image : Qcow2 _ _). image.file.free_list) c.mark_failure.ensures.rest ∙ c.write_current-done.ensures.list ∙ c.begin.ensures.list
