@@ -4,4 +4,3 @@ pub mod Lengthened
 pub mod Grown
 pub mod Lengths
 pub mod NoLonger
-pub mod TakenForTables

@@ -22,5 +22,4 @@ pub mod Flush
 pub mod Call
 pub mod Clear
 pub mod Sizing
-pub mod Turns
 pub mod Preallocate

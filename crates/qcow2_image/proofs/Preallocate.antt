@@ -5,7 +5,6 @@ pub mod Untaken
 pub mod Filled
 pub mod Piece
 pub mod Turns
-pub mod LowestTurns
 pub mod Grown
 pub mod FreedBehind
 pub mod Met

@@ -9,8 +9,6 @@ pub mod ShrinkCalls
 pub mod Growing
 pub mod GrowCalls
 pub mod GrownTables
-pub mod GrownInTurns
 pub mod CountedTurns
 pub mod LackedTables
 pub mod NeededLengths
-pub mod LowestTail

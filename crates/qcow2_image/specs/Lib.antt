@@ -29,11 +29,9 @@ pub mod L1Entries
 pub mod PinnedTables
 pub mod ListedClusters
 pub mod LowestPlaces
-pub mod Turns
 pub mod MetAlone
 pub mod LackedPlaces
 pub mod LackedTables
 pub mod Noted
 pub mod BehindHeader
 pub mod PreparedPlaces
-pub mod FilledTurns

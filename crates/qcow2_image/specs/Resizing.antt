@@ -1,16 +1,15 @@
 -- What a disk of another size is: the tail is uncovered, or the L1 table made longer, and the size is written last.
-use Rattle.std.specs.Prelude.{ℕ, ◌+◌, ◌-◌, ◌^◌, ◌≡◌, ◌⊎◌, ◌<◌, ◌≤◌, Bool, false, is_some, min, not, true, List, [], ◌∷◌, Option, Some, None, IsTrue, Result, Ok, Err}
+use Rattle.std.specs.Prelude.{ℕ, ◌-◌, ◌^◌, ◌≡◌, ◌⊎◌, ◌<◌, ◌≤◌, Bool, false, is_some, not, true, List, [], ◌∷◌, Option, Some, None, IsTrue, Result, Ok, Err}
 use Rattle.std.specs.Option.{option_or}
 use Rattle.image_access.specs.Backing.{BackingView}
 use Rattle.image_access.specs.Moments.{StorageView, EachMomentSince}
 use Rattle.image_access.specs.declared.storage.PreallocateMode.{PreallocateMode}
 use Rattle.image_access.specs.declared.storage.PreallocateMode.TheVariants as Mode
 use Rattle.qcow2_metadata.specs.Bytes.{byte_at}
-use Rattle.qcow2_metadata.specs.Header.{header, cluster_size, rounded_up, with_fields, with_size}
+use Rattle.qcow2_metadata.specs.Header.{header, cluster_size, rounded_up}
 use Rattle.qcow2_disk.specs.AbstractImages.{guest_of}
 use Rattle.qcow2_disk.specs.Calls.{AnsweredEffect, RefusedEffect, EffectOnSound, IsSame, IsShrinkEnd, IsShrunk, MayGrow, cleared, given_by_grow, given_by_shrink, given_by_shrunk, grown_to, shows_old, to_backing, with_disk}
 use Rattle.qcow2_disk.specs.Disk.{Disk}
-use Rattle.qcow2_disk.specs.Found.{rest_of_table}
 use Rattle.qcow2_disk.specs.GrownCovers.{GrownCovers}
 use Rattle.qcow2_disk.specs.Stops.{GivenBytes}
 use Rattle.qcow2_alloc.specs.ImageError.{IsFault as IsFaultOfTables}
@@ -21,21 +20,19 @@ use Rattle.qcow2_alloc.specs.declared.error.ImageError.TheVariants as I
 use Rattle.qcow2_image.specs.Backings.{HasPrepared}
 use Rattle.qcow2_image.specs.CallParts.{UnseenCall}
 use Rattle.qcow2_image.specs.Calls.{refusal_of}
-use Rattle.qcow2_image.specs.Clearing.{ClearsImageCovers, RefusesUngiven, given_bytes_between, setting_of, to_in}
+use Rattle.qcow2_image.specs.Clearing.{ClearsImageCovers, RefusesUngiven, given_bytes_between, setting_of}
 use Rattle.qcow2_image.specs.declared.discarding.Clearance.TheVariants.{Uncovered}
 use Rattle.qcow2_image.specs.declared.image.Qcow2.{Qcow2}
 use Rattle.qcow2_image.specs.declared.prepared.Prepared.{Prepared}
 use Rattle.qcow2_image.specs.Growing.{ReachesSize, SameFormat}
-use Rattle.qcow2_image.specs.Image.{HasNothingToFree, IsBegun, is_external, is_failed, is_writable, number_of, size_of}
+use Rattle.qcow2_image.specs.Image.{HasNothingToFree, is_external, is_failed, is_writable, number_of, size_of}
 use Rattle.qcow2_image.specs.ImageInvariant.{ImageInvariant, abstract_of, disk_of, pending_in}
 use Rattle.qcow2_image.specs.L1Entries.{IsLongerByNeed, ReachesOffset}
 use Rattle.qcow2_image.specs.LackedTables.{LacksTableReaching}
-use Rattle.qcow2_image.specs.LowestPlaces.{TakesLowestTables}
 use Rattle.qcow2_image.specs.MovedTables.{CoversStay}
 use Rattle.qcow2_image.specs.NewTables.{LacksTable}
 use Rattle.qcow2_image.specs.Preallocation.{GrownFree, IsUnderMappingIn}
 use Rattle.qcow2_image.specs.Refusals.{refuse_if, unusable}
-use Rattle.qcow2_image.specs.Turns.{GoesInTurns}
 
 -- the size that it has afterwards: the one asked for, or the old one where that was refused
 abbrev pub size_after : {A : Type 0} → Result A ImageError → (old asked : ℕ) → ℕ
@@ -68,10 +65,6 @@ module _ {S F : Type 0} where
   abbrev pub boundary_in : Qcow2 S F → ℕ → ℕ
   boundary_in image offset = rounded_up (cluster_size image.file.header.fields) offset
 
-  -- one L2 table covers all whole clusters from an offset on
-  abbrev pub IsUnderOneTable : Qcow2 S F → ℕ → Type 0
-  IsUnderOneTable image at = to_in image at (size_of image - at) ≡ boundary_in image (size_of image)
-
 -- What a turn from an offset on leaves on the list. Nothing, where it was empty before or a whole cluster was uncovered, nor where the turn was refused, but after a fault.
 abbrev pub FreesTurn : {S F : Type 0} → Qcow2 S F → Qcow2 S F → ℕ → Result ℕ ImageError → Type 0
 FreesTurn old new at (Ok next) = (boundary_in old at < size_of old) ⊎ HasNothingToFree old → HasNothingToFree new
@@ -90,10 +83,6 @@ pub record IsTurnEnd (cluster_size end at next : ℕ) : Type 0 where
   pub whole : (next ≡ end) ⊎ ((rounded_up cluster_size next ≡ next) × (rounded_up cluster_size at < next))
 
 module _ {S F : Type 0} (view : S → StorageView) where
-  -- where one L2 table covers all whole clusters behind an offset, and there is one, the tables that a call made for them lie lowest
-  abbrev pub TakesLowestBehind : ℕ → Qcow2 S F → Qcow2 S F → Type 0
-  TakesLowestBehind at old new = boundary_in old at < size_of old → IsUnderOneTable old at → TakesLowestTables view (boundary_in old at) old new
-
   -- Why the tail isn't uncovered from an offset on. The disk's end, rounded up, passes 64 bits; or the first whole cluster has no L2 table of its own.
   abbrev pub CantUncover : (end : ℕ) → Qcow2 S F → ℕ → Type 0
   CantUncover end image offset = (2 ^ 64 ≤ boundary_in image end) ⊎ LacksTable view image (boundary_in image offset)
@@ -179,38 +168,9 @@ module _ {S F : Type 0} (view : S → StorageView) (backing : F → BackingView)
     pub shows : ShowsBelow at next old new out
     pub covers : UncoversClusters view at next old new
 
-  -- One turn, from an offset and an image to the next ones: all whole clusters are uncovered that the L2 table of the first one covers, up to the disk's end.
-  -- The tables that it made lie lowest, and no cluster is left to be freed.
-  -- Where no whole cluster lies behind the offset, the image stays as it is.
-  pub record UncoversTurn (out : List (Option Prepared)) (old new : ℕ × Qcow2 S F) : Type 0 where
-    pub part : UncoversPart old.0 new.0 old.1 new.1 out
-    pub ends : IsTurnEnd (cluster_size old.1.file.header.fields) (size_of old.1) old.0 new.0
-    pub one_table : boundary_in old.1 new.0 ≡ min (boundary_in old.1 (size_of old.1)) (boundary_in old.1 old.0 + rest_of_table old.1.file.header.fields (boundary_in old.1 old.0))
-    pub tables : boundary_in old.1 old.0 < size_of old.1 → TakesLowestTables view (boundary_in old.1 old.0) old.1 new.1
-    pub emptied : boundary_in old.1 old.0 < size_of old.1 → HasNothingToFree new.1
-    pub nothing : size_of old.1 ≤ boundary_in old.1 old.0 → new.1 ≡ old.1
-
-  -- a turn that is refused, but by no fault, changes no byte of the disk
-  pub record RefusesTurn (out : List (Option Prepared)) (old new : Qcow2 S F) : Type 0 where
-    pub cause : ImageError
-    pub no_fault : ¬ IsFaultOfTables cause
-    pub unchanged : RefusesUnchanged old new out cause
-
-  -- from an image on which a call began, turns uncover the tail from a size up to an offset
-  pub record UncoversInTurns (out : List (Option Prepared)) (old new : Qcow2 S F) (size at : ℕ) : Type 0 where
-    pub begun : Qcow2 S F
-    pub begins : IsBegun old begun
-    pub turns : GoesInTurns (UncoversTurn out) (size, begun) (at, new)
-
-  -- all turns that are answered, and behind them one that is refused, where they end before the disk's end
-  pub record EndsInTurns (out : List (Option Prepared)) (old new : Qcow2 S F) (size at : ℕ) : Type 0 where
-    pub uncovered : Qcow2 S F
-    pub turns : UncoversInTurns out old uncovered size at
-    pub rest : ((at ≡ size_of old) × (new ≡ uncovered)) ⊎ ((at < size_of old) × RefusesTurn out uncovered new)
-
-  -- one turn of a call, which goes up to the end where one L2 table covers the rest
+  -- one turn of a call
   abbrev pub UncoversNext : Qcow2 S F → Qcow2 S F → ℕ → Result ℕ ImageError → Type 0
-  UncoversNext old new at (Ok next) = (out : List (Option Prepared)) → ImageInvariant view backing (pending_in view backing old out) old out → UncoversTurn out (at, old) (next, new) × (boundary_in old at < size_of old → IsUnderOneTable old at → next ≡ size_of old)
+  UncoversNext old new at (Ok next) = (out : List (Option Prepared)) → ImageInvariant view backing (pending_in view backing old out) old out → UncoversPart at next old new out × IsTurnEnd (cluster_size old.file.header.fields) (size_of old) at next
   UncoversNext old new at (Err e) =
       ((out : List (Option Prepared)) → let v = abstract_of view backing old out in let w = abstract_of view backing new out in
       RefusedEffect v w (given_bytes_between view backing old Uncovered (boundary_in old at) (boundary_in old (size_of old))) [] (refusal_of e) (IsSame v w))
@@ -219,7 +179,7 @@ module _ {S F : Type 0} (view : S → StorageView) (backing : F → BackingView)
   -- All turns: up to an offset the tail is uncovered. A fault ended them, and the image failed then, unless memory was refused before the last turn changed anything.
   abbrev pub UncoversTail : Qcow2 S F → Qcow2 S F → (size at : ℕ) → Option ImageError → List (Option Prepared) → Type 0
   UncoversTail old new size at None out =
-      UncoversPart size at old new out × IsShrinkEnd (cluster_size old.file.header.fields) (size_of old) size at × (at ≡ size_of old → TakesLowestBehind view size old new) × EndsInTurns out old new size at
+      UncoversPart size at old new out × IsShrinkEnd (cluster_size old.file.header.fields) (size_of old) size at
   UncoversTail old new size at (Some e) out =
       EffectOnSound (abstract_of view backing old out) (abstract_of view backing new out) (given_bytes_between view backing old Uncovered (boundary_in old size) (boundary_in old (size_of old))) []
       × ((ImageInvariant view backing (pending_in view backing new out) new out × ShowsBelow size at old new out × IsShrinkEnd (cluster_size old.file.header.fields) (size_of old) size at) ⊎ IsTrue (is_failed new))
@@ -236,23 +196,8 @@ module _ {S F : Type 0} (view : S → StorageView) (backing : F → BackingView)
     pub shows : guest_of (abstract_of view backing new out) ≡ with_disk (guest_of (abstract_of view backing old out)) (record (disk_of view backing old) { size = size })
     pub covers : CoversStay old.file.header.fields (known_in view old.file) new.file.header.fields (known_in view new.file)
 
-  -- so it is, and of what is held in memory the header alone changed
-  pub record SetsSizeAlone (out : List (Option Prepared)) (size : ℕ) (old new : Qcow2 S F) : Type 0 where
-    pub sets : SetsSize size old new out
-    pub header : new.file.header ≡ with_fields old.file.header (with_size old.file.header.fields size)
-    pub rest : new ≡ record old { file = record old.file { storage = new.file.storage; header = new.file.header } }
-
-  -- the tail is uncovered in turns, and then the size is written
-  pub record ShrinksInTurns (out : List (Option Prepared)) (old new : Qcow2 S F) (size answer : ℕ) : Type 0 where
-    pub uncovered : Qcow2 S F
-    pub turns : EndsInTurns out old uncovered size answer
-    pub sized : SetsSizeAlone out size uncovered new
-
-  -- Why the tail is uncovered up to an answer alone, and in which turns. Where a whole cluster lay behind the new end, none is left to be freed.
-  -- Where the answer is the old size, and one L2 table covers the tail, the tables that this took lie lowest.
+  -- Why the tail is uncovered up to an answer alone. Where a whole cluster lay behind the new end, none is left to be freed.
   pub record EndsTail (out : List (Option Prepared)) (old new : Qcow2 S F) (size answer : ℕ) : Type 0 where
-    pub tables : answer ≡ size_of old → TakesLowestBehind view size old new
-    pub turns : size < size_of old → ShrinksInTurns out old new size answer
     pub stops : answer < size_of old → CantUncover view (size_of old) new answer
     pub emptied : boundary_in old size < size_of old → HasNothingToFree new
 

@@ -1,5 +1,5 @@
 //! Clearing the whole clusters of a range: to zeros, or to what the disk below shows.
-ghost use Rattle.qcow2_image.specs.LowestPlaces.{LeavesLowestTables, TakesLowestTables};
+ghost use Rattle.qcow2_image.specs.ListedClusters.{SomeGaveWay};
 ghost use Rattle.qcow2_image.specs.LackedPlaces.{IsLimitedByTable};
 ghost use Rattle.qcow2_image.specs.BehindHeader.{StaysBehindHeader};
 ghost use Rattle.qcow2_image.specs.Noted.{ChangesRose, FailsOnceWritten, NotesPart};
@@ -136,8 +136,6 @@ impl<S: Storage, F: WrappedFormat<S>> Qcow2<S, F> {
         ensures emptied { from_in self.old offset length < to_in self.old offset length → OnOk result (HasNothingToFree self.new) }
         ensures reaches { from_in self.old offset length < to_in self.old offset length → (out : List (Option Prepared)) → (abstract_of S.view F.backing self.old out).is_sound
             → OnOk result (ReachesOffset (from_in self.old offset length) self.old.file.header.fields self.new.file.header.fields) }
-        ensures lowest_tables { from_in self.old offset length < to_in self.old offset length → (out : List (Option Prepared)) → (abstract_of S.view F.backing self.old out).is_sound
-            → OnOk result (TakesLowestTables S.view (from_in self.old offset length) self.old self.new) }
         ensures far { from_in self.old offset length < to_in self.old offset length → RefusesFarEntryFreeing S.view F.backing (refuses_to_clear self.old offset length Clearance.Uncovered) (from_in self.old offset length) self.old self.new result }
         ensures far_refused { from_in self.old offset length < to_in self.old offset length → refuses_to_clear self.old offset length Clearance.Uncovered ≡ None → NeedsFarEntry self.old (from_in self.old offset length) → IsErrAnd result (λ e. (e ≡ ImageError.Overflow) ⊎ IsOfTables e) }
         ensures range { IfOk result (λ range. range ≡ answered (cluster_size self.old.file.header.fields) (size_of self.old) offset length) }
@@ -178,8 +176,6 @@ impl<S: Storage, F: WrappedFormat<S>> Qcow2<S, F> {
         ensures emptied { from_in self.old offset length < to_in self.old offset length → OnOk result (HasNothingToFree self.new) }
         ensures reaches { from_in self.old offset length < to_in self.old offset length → (out : List (Option Prepared)) → (abstract_of S.view F.backing self.old out).is_sound
             → OnOk result (ReachesOffset (from_in self.old offset length) self.old.file.header.fields self.new.file.header.fields) }
-        ensures lowest_tables { from_in self.old offset length < to_in self.old offset length → (out : List (Option Prepared)) → (abstract_of S.view F.backing self.old out).is_sound
-            → OnOk result (TakesLowestTables S.view (from_in self.old offset length) self.old self.new) }
         ensures far { from_in self.old offset length < to_in self.old offset length → RefusesFarEntryFreeing S.view F.backing (refuses_to_clear self.old offset length Clearance.Zeros) (from_in self.old offset length) self.old self.new result }
         ensures far_refused { from_in self.old offset length < to_in self.old offset length → refuses_to_clear self.old offset length Clearance.Zeros ≡ None → NeedsFarEntry self.old (from_in self.old offset length) → IsErrAnd result (λ e. (e ≡ ImageError.Overflow) ⊎ IsOfTables e) }
         ensures range { IfOk result (λ range. range ≡ answered (cluster_size self.old.file.header.fields) (size_of self.old) offset length) }
@@ -220,8 +216,6 @@ impl<S: Storage, F: WrappedFormat<S>> Qcow2<S, F> {
         ensures emptied { from_in self.old offset length < to_in self.old offset length → OnOk result (HasNothingToFree self.new) }
         ensures reaches { from_in self.old offset length < to_in self.old offset length → (out : List (Option Prepared)) → (abstract_of S.view F.backing self.old out).is_sound
             → OnOk result (ReachesOffset (from_in self.old offset length) self.old.file.header.fields self.new.file.header.fields) }
-        ensures lowest_tables { from_in self.old offset length < to_in self.old offset length → (out : List (Option Prepared)) → (abstract_of S.view F.backing self.old out).is_sound
-            → OnOk result (TakesLowestTables S.view (from_in self.old offset length) self.old self.new) }
         ensures far { from_in self.old offset length < to_in self.old offset length → RefusesFarEntryFreeing S.view F.backing (refuses_to_clear self.old offset length Clearance.Zeros) (from_in self.old offset length) self.old self.new result }
         ensures far_refused { from_in self.old offset length < to_in self.old offset length → refuses_to_clear self.old offset length Clearance.Zeros ≡ None → NeedsFarEntry self.old (from_in self.old offset length) → IsErrAnd result (λ e. (e ≡ ImageError.Overflow) ⊎ IsOfTables e) }
         ensures range { IfOk result (λ range. range ≡ answered (cluster_size self.old.file.header.fields) (size_of self.old) offset length) }
@@ -262,8 +256,6 @@ impl<S: Storage, F: WrappedFormat<S>> Qcow2<S, F> {
         ensures emptied { from_in self.old offset length < to_in self.old offset length → OnOk result (HasNothingToFree self.new) }
         ensures reaches { from_in self.old offset length < to_in self.old offset length → (out : List (Option Prepared)) → (abstract_of S.view F.backing self.old out).is_sound
             → OnOk result (ReachesOffset (from_in self.old offset length) self.old.file.header.fields self.new.file.header.fields) }
-        ensures lowest_tables { from_in self.old offset length < to_in self.old offset length → (out : List (Option Prepared)) → (abstract_of S.view F.backing self.old out).is_sound
-            → OnOk result (TakesLowestTables S.view (from_in self.old offset length) self.old self.new) }
         ensures far { from_in self.old offset length < to_in self.old offset length → RefusesFarEntryFreeing S.view F.backing (refuses_to_clear self.old offset length Clearance.KeptZeros) (from_in self.old offset length) self.old self.new result }
         ensures far_refused { from_in self.old offset length < to_in self.old offset length → refuses_to_clear self.old offset length Clearance.KeptZeros ≡ None → NeedsFarEntry self.old (from_in self.old offset length) → IsErrAnd result (λ e. (e ≡ ImageError.Overflow) ⊎ IsOfTables e) }
         ensures range { IfOk result (λ range. range ≡ answered (cluster_size self.old.file.header.fields) (size_of self.old) offset length) }
@@ -297,8 +289,6 @@ impl<S: Storage, F: WrappedFormat<S>> Qcow2<S, F> {
         ensures emptied { from_in self.old offset length < to_in self.old offset length → OnOk result (HasNothingToFree self.new) }
         ensures reaches { from_in self.old offset length < to_in self.old offset length → (out : List (Option Prepared)) → (abstract_of S.view F.backing self.old out).is_sound
             → OnOk result (ReachesOffset (from_in self.old offset length) self.old.file.header.fields self.new.file.header.fields) }
-        ensures lowest_tables { from_in self.old offset length < to_in self.old offset length → (out : List (Option Prepared)) → (abstract_of S.view F.backing self.old out).is_sound
-            → OnOk result (TakesLowestTables S.view (from_in self.old offset length) self.old self.new) }
         ensures far { from_in self.old offset length < to_in self.old offset length → RefusesFarEntryFreeing S.view F.backing (refuses_to_clear self.old offset length how) (from_in self.old offset length) self.old self.new result }
         ensures far_refused { from_in self.old offset length < to_in self.old offset length → refuses_to_clear self.old offset length how ≡ None → NeedsFarEntry self.old (from_in self.old offset length) → IsErrAnd result (λ e. (e ≡ ImageError.Overflow) ⊎ IsOfTables e) }
         ensures freed { refuses_to_clear self.old offset length how ≡ None → from_in self.old offset length < to_in self.old offset length → (out : List (Option Prepared)) → (abstract_of S.view F.backing self.old out).is_sound → IfErr result (FreesRefused self.new) }
@@ -394,7 +384,7 @@ impl<S: Storage, F: WrappedFormat<S>> Qcow2<S, F> {
         ensures free { (out : List (Option Prepared)) → ImageInvariant S.view F.backing (pending_in S.view F.backing self.old out) self.old out
             → IfOk result (λ done. IsUnderMapping self.old.file.header.fields from out → ⊥) }
         ensures reaches { (out : List (Option Prepared)) → ImageInvariant S.view F.backing (pending_in S.view F.backing self.old out) self.old out → OnOk result (ReachesOffset from self.old.file.header.fields self.new.file.header.fields) }
-        ensures lowest_tables { (out : List (Option Prepared)) → ImageInvariant S.view F.backing (pending_in S.view F.backing self.old out) self.old out → IsClearable self.old.file.header.fields how from to → OnOk result (LeavesLowestTables S.view from self.old self.new) }
+        ensures gave { (out : List (Option Prepared)) → ImageInvariant S.view F.backing (pending_in S.view F.backing self.old out) self.old out → OnOk result (SomeGaveWay self.old self.new) }
         ensures freed { (out : List (Option Prepared)) → ImageInvariant S.view F.backing (pending_in S.view F.backing self.old out) self.old out → IsClearable self.old.file.header.fields how from to
             → IfErr result (FreesRefused self.new) }
         ensures far { NeedsFarEntry self.old from → IsRefusedAsFar S.view F.backing self.old self.new result }
@@ -429,7 +419,7 @@ impl<S: Storage, F: WrappedFormat<S>> Qcow2<S, F> {
         ensures free { (out : List (Option Prepared)) → ImageInvariant S.view F.backing (pending_in S.view F.backing self.old out) self.old out
             → IfOk result (λ done. IsUnderMapping self.old.file.header.fields from out → ⊥) }
         ensures reaches { (out : List (Option Prepared)) → ImageInvariant S.view F.backing (pending_in S.view F.backing self.old out) self.old out → OnOk result (ReachesOffset from self.old.file.header.fields self.new.file.header.fields) }
-        ensures lowest_tables { (out : List (Option Prepared)) → ImageInvariant S.view F.backing (pending_in S.view F.backing self.old out) self.old out → IsClearable self.old.file.header.fields how from to → OnOk result (LeavesLowestTables S.view from self.old self.new) }
+        ensures gave { (out : List (Option Prepared)) → ImageInvariant S.view F.backing (pending_in S.view F.backing self.old out) self.old out → OnOk result (SomeGaveWay self.old self.new) }
         ensures far { NeedsFarEntry self.old from → (result ≡ Err ImageError.Overflow) × (self.new ≡ self.old) }
         ensures pinned { HasOwnTable self.old from → HeedsPins self.old from result }
         ensures faults { CountsImageFaults S.view F.backing self.old self.new result }

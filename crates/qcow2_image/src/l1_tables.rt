@@ -1,7 +1,5 @@
 //! A longer L1 table, in the place of the former one.
-ghost use Rattle.qcow2_image.specs.LowestPlaces.{LiesLowestForL1, IsL1InUse};
 ghost use Rattle.qcow2_metadata.specs.TableBytes.{entry_at};
-ghost use Rattle.qcow2_alloc.specs.LowestRuns.{StaysUsed};
 ghost use Rattle.qcow2_image.specs.BehindHeader.{KeepsL1TableBehind, StaysBehindHeader};
 ghost use Rattle.qcow2_alloc.specs.ImageError.{IsFault};
 ghost use Rattle.qcow2_alloc.specs.KeptMarks.{KeepsFileNotes};
@@ -19,7 +17,7 @@ ghost use Rattle.qcow2_image.specs.ListedClusters.{SomeGaveWay};
 ghost use Rattle.qcow2_image.specs.LongerTables.{run_of_table, listed, with_table, IsLongerL1, StandsWhole, PlacesTable, NamesTable, NamesTaken, TakesTable, Lengthens, MakesEntry};
 ghost use Rattle.qcow2_image.specs.NewTables.{IsFaultOrLacksTable};
 ghost use Rattle.qcow2_alloc.specs.declared.error.ImageError.TheVariants.{Limit};
-ghost use Rattle.qcow2_image.specs.LackedPlaces.{EndsBefore, HasNoTablePlace, IsPlacedNear, LacksLongerTable, StandsInWay, listed_or_l1};
+ghost use Rattle.qcow2_image.specs.LackedPlaces.{EndsBefore, HasNoTablePlace, IsPlacedNear, LacksLongerTable, StandsInWay};
 ghost use Rattle.qcow2_image.specs.Refusals.{IsFaultOrLimit, IsMet};
 ghost use Rattle.qcow2_image.specs.UnseenSteps.{ListGrows};
 ghost use Rattle.qcow2_image.specs.Faults.{CountsImageFaults, IsNotOfStorage};
@@ -51,8 +49,6 @@ impl<S: Storage, F: WrappedFormat<S>> Qcow2<S, F> {
         ensures emptied { entry_count self.old.l1_table ≤ l1_index_of self.old.file.header.fields offset → OnOk result (HasNothingToFree self.new) }
         ensures makes { (out : List (Option Prepared)) → ImageInvariant S.view F.backing (pending_in S.view F.backing self.old out) self.old out → MakesEntry S.view F.backing self.old self.new out result }
         ensures kept { OnOk result ((i : ℕ) → entry_at self.new.l1_table.bytes i ≡ entry_at self.old.l1_table.bytes i) }
-        ensures lowest { EndsBefore offset self.old → (out : List (Option Prepared)) → ImageInvariant S.view F.backing (pending_in S.view F.backing self.old out) self.old out → OnOk result (LiesLowestForL1 S.view (listed_or_l1 self.old) self.old self.new) }
-        ensures in_use { EndsBefore offset self.old → (out : List (Option Prepared)) → ImageInvariant S.view F.backing (pending_in S.view F.backing self.old out) self.old out → OnOk result (IsL1InUse S.view self.old) }
         ensures faults { CountsImageFaults S.view F.backing self.old self.new result }
     {
         let index = GuestOffset::new(offset).l1_index(self.file.header.cluster_bits());
@@ -79,8 +75,6 @@ impl<S: Storage, F: WrappedFormat<S>> Qcow2<S, F> {
         ensures placed { self.old.l1_table.cluster_bits ≡ self.old.file.header.fields.cluster_bits → OnOk result (IsPlacedNear self.new.l1_table) }
         ensures list { OnOk result (ListGrows self.old self.new) }
         ensures kept { OnOk result ((i : ℕ) → entry_at self.new.l1_table.bytes i ≡ entry_at self.old.l1_table.bytes i) }
-        ensures lowest { (p : Pending) (out : List (Option Prepared)) → ImageInvariant S.view F.backing p self.old out → OnOk result (LiesLowestForL1 S.view (listed_or_l1 self.old) self.old self.new) }
-        ensures in_use { (p : Pending) (out : List (Option Prepared)) → ImageInvariant S.view F.backing p self.old out → OnOk result (IsL1InUse S.view self.old) }
         ensures faults { CountsImageFaults S.view F.backing self.old self.new result }
     {
         if index >= MAX_L1_ENTRIES {
@@ -132,7 +126,6 @@ impl<S: Storage, F: WrappedFormat<S>> Qcow2<S, F> {
         ensures placed { entry_count table ≤ 4194304 → table.cluster_bits ≡ self.old.file.header.fields.cluster_bits → OnOk result (IsPlacedNear self.new.l1_table) }
         ensures list { OnOk result (ListGrows self.old self.new) }
         ensures bytes { OnOk result (self.new.l1_table.bytes ≡ table.bytes) }
-        ensures lowest { (p : Pending) (out : List (Option Prepared)) → ImageInvariant S.view F.backing p self.old out → IsLongerL1 self.old table → OnOk result (LiesLowestForL1 S.view self.old.file.free_list self.old self.new) }
         ensures faults { CountsImageFaults S.view F.backing self.old self.new result }
     {
         let Some(allocator) = &mut self.allocator else {
@@ -158,7 +151,6 @@ impl<S: Storage, F: WrappedFormat<S>> Qcow2<S, F> {
         ensures placed { OnOk result (self.new.l1_table ≡ record table { cluster = Some taken.first_cluster }) }
         ensures kept { OnOk result (self.new.file.free_list ≡ self.old.file.free_list) }
         ensures listed { OnErr result (self.new.file.free_list ≡ self.old.file.free_list ++ taken ∷ []) }
-        ensures uses { IsTrue (is_writable self.old) → (p : Pending) (out : List (Option Prepared)) → ImageInvariant S.view F.backing (with_table p table taken.first_cluster) self.old out → IsLongerL1 self.old table → OnOk result (StaysUsed S.view self.old.file self.new.file) }
         ensures faults { CountsImageFaults S.view F.backing self.old self.new result }
     {
         let done = self.write_l1_table(table, taken.cluster());
@@ -180,7 +172,6 @@ impl<S: Storage, F: WrappedFormat<S>> Qcow2<S, F> {
         ensures entries { OnOk result (entry_count self.new.l1_table ≡ entry_count table) }
         ensures placed { OnOk result (self.new.l1_table ≡ record table { cluster = Some cluster }) }
         ensures list { self.new.file.free_list ≡ self.old.file.free_list }
-        ensures uses { IsTrue (is_writable self.old) → (p : Pending) (out : List (Option Prepared)) → ImageInvariant S.view F.backing (with_table p table cluster) self.old out → IsLongerL1 self.old table → OnOk result (StaysUsed S.view self.old.file self.new.file) }
         ensures faults { CountsImageFaults S.view F.backing self.old self.new result }
     {
         self.place_l1_table(&mut table, cluster)?;
@@ -229,7 +220,6 @@ impl<S: Storage, F: WrappedFormat<S>> Qcow2<S, F> {
         ensures entries { OnOk result (entry_count self.new.l1_table ≡ entry_count table) }
         ensures table { OnOk result (self.new.l1_table ≡ table) }
         ensures list { self.new.file.free_list ≡ self.old.file.free_list }
-        ensures uses { (p : Pending) (out : List (Option Prepared)) → ImageInvariant S.view F.backing (with_table p table cluster) self.old out → StandsWhole S.view self.old table cluster → OnOk result (StaysUsed S.view self.old.file self.new.file) }
         ensures faults { CountsImageFaults S.view F.backing self.old self.new result }
     {
         let offset = cluster.offset(self.file.header.cluster_bits());

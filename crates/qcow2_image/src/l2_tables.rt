@@ -1,11 +1,8 @@
 //! The L2 table of a range: found, made, or put in the place of one that others may name too.
-ghost use Rattle.qcow2_image.specs.LowestPlaces.{MovesLowest, TakesLowestLeaving, TakesLowestOf};
-ghost use Rattle.qcow2_alloc.specs.ClustersToFree.{metadata_entry};
-ghost use Rattle.qcow2_alloc.specs.LowestRuns.{StaysUsed};
 ghost use Rattle.qcow2_image.specs.BehindHeader.{StaysBehindHeader};
 ghost use Rattle.qcow2_alloc.specs.KeptMarks.{KeepsFileNotes};
 ghost use Rattle.qcow2_alloc.specs.KeptNotes.{NoData};
-ghost use Rattle.std.specs.Prelude.{ℕ, List, Option, is_some, ◌≡◌, ◌≢◌, ◌-◌, ◌*◌, ◌/◌, Some, ◌^◌, ◌<◌, ◌↔◌, IfOk, IfErr, OnOk, IsSome, IsTrue, Ok, Err, length, ◌⊎◌, ◌++◌, ◌∷◌, []};
+ghost use Rattle.std.specs.Prelude.{List, Option, is_some, ◌≡◌, ◌≢◌, ◌-◌, ◌*◌, Some, ◌^◌, ◌<◌, ◌↔◌, IfOk, IfErr, OnOk, IsSome, IsTrue, Ok, Err, length, ◌⊎◌};
 ghost use Rattle.qcow2_image.specs.MetAlone.{KeepsL1Place, IsMetLooking, IsMetTaking};
 ghost use Rattle.qcow2_metadata.specs.L2Mapping.{IsHostCluster};
 ghost use Rattle.qcow2_metadata.specs.EntryTable.{entry_count, HasRoomIfPlaced};
@@ -19,10 +16,8 @@ ghost use Rattle.qcow2_laws.specs.Clusters.{RbDependsOnL2};
 ghost use Rattle.qcow2_image.specs.declared.prepared.Prepared.{Prepared};
 ghost use Rattle.qcow2_image.specs.CallParts.{FindsTable};
 ghost use Rattle.qcow2_image.specs.Found.{l1_index_of};
-ghost use Rattle.qcow2_image.specs.UnseenSteps.{Ensures, UnseenStep};
+ghost use Rattle.qcow2_image.specs.UnseenSteps.{Ensures};
 ghost use Rattle.qcow2_image.specs.ImageInvariant.{ImageInvariant, pending_in};
-ghost use Rattle.qcow2_metadata.specs.Cover.{cover};
-ghost use Rattle.qcow2_image.specs.declared.mapping.Place.TheVariants.{Image};
 ghost use Rattle.qcow2_image.specs.L1Entries.{HasFarEntry, HasOwnTable, NeedsFarEntry, ReachesOffset, ReachesAtMost};
 ghost use Rattle.qcow2_image.specs.ListedClusters.{KeepsList, ListsSinceTable, SomeGaveWay, ListsNoMore};
 ghost use Rattle.qcow2_image.specs.NewTables.{IsFaultOrKeepsL1Table, IsFaultOrLacksTable, SaysKnown, IsStored, StandsReady, MayName, NamesShared, PlacesNewTable, Stores, NamesNew, WritesNew, EntersTable, OwnsTable};
@@ -59,8 +54,6 @@ impl<S: Storage, F: WrappedFormat<S>> Qcow2<S, F> {
         ensures finds { (out : List (Option Prepared)) → ImageInvariant S.view F.backing (pending_in S.view F.backing self.old out) self.old out → FindsTable S.view F.backing self.old self.new out offset result }
         ensures reaches { (out : List (Option Prepared)) → ImageInvariant S.view F.backing (pending_in S.view F.backing self.old out) self.old out → OnOk result (ReachesOffset offset self.old.file.header.fields self.new.file.header.fields) }
         ensures freed { (out : List (Option Prepared)) → ImageInvariant S.view F.backing (pending_in S.view F.backing self.old out) self.old out → OnOk result (ListsSinceTable offset self.old self.new) }
-        ensures lowest { (out : List (Option Prepared)) → ImageInvariant S.view F.backing (pending_in S.view F.backing self.old out) self.old out → IfOk result (λ table. ¬ HasOwnTable self.old offset → TakesLowestLeaving S.view table 1 self.old self.new) }
-        ensures moves { (out : List (Option Prepared)) → ImageInvariant S.view F.backing (pending_in S.view F.backing self.old out) self.old out → OnOk result (MovesLowest S.view self.old self.new) }
         ensures freeing { (out : List (Option Prepared)) → ImageInvariant S.view F.backing (pending_in S.view F.backing self.old out) self.old out → OnOk result (ListsNoMore self.old self.new) }
         ensures far { NeedsFarEntry self.old offset → (result ≡ Err ImageError.Overflow) × (self.new ≡ self.old) }
         ensures own { HasOwnTable self.old offset → FindsOwn self.old self.new offset result }
@@ -138,8 +131,6 @@ impl<S: Storage, F: WrappedFormat<S>> Qcow2<S, F> {
         ensures former { OnOk result (SomeGaveWay self.old self.new) }
         ensures lacks { (p : Pending) (out : List (Option Prepared)) → ImageInvariant S.view F.backing p self.old out → IfErr result (IsFaultOrLacksTable S.view self.new offset) }
         ensures owns { (p : Pending) (out : List (Option Prepared)) → ImageInvariant S.view F.backing p self.old out → OwnsTable S.view F.backing p self.old self.new out (l1_index_of self.old.file.header.fields offset) result }
-        ensures lowest { (p : Pending) (out : List (Option Prepared)) → ImageInvariant S.view F.backing p self.old out → IfOk result (λ table. ¬ HasOwnTable self.old offset → TakesLowestOf S.view table 1 (self.old.file.free_list ++ metadata_entry (own_table self.old offset) 1 ∷ []) self.old self.new) }
-        ensures uses { (p : Pending) (out : List (Option Prepared)) → ImageInvariant S.view F.backing p self.old out → OnOk result (StaysUsed S.view self.old.file self.new.file) }
         ensures quiet { HasOwnTable self.old offset → self.new ≡ self.old }
         ensures own { HasOwnTable self.old offset → IfOk result (λ table. table ≡ own_table self.old offset) }
         ensures faults { CountsImageFaults S.view F.backing self.old self.new result }
@@ -176,8 +167,6 @@ impl<S: Storage, F: WrappedFormat<S>> Qcow2<S, F> {
         ensures former { OnOk result (SomeGaveWay self.old self.new) }
         ensures l1_table { IfErr result (IsFaultOrKeepsL1Table self.old self.new) }
         ensures owns { (p : Pending) (out : List (Option Prepared)) → ImageInvariant S.view F.backing p self.old out → NamesShared S.view self.old index old → OwnsTable S.view F.backing p self.old self.new out index result }
-        ensures lowest { (p : Pending) (out : List (Option Prepared)) → ImageInvariant S.view F.backing p self.old out → NamesShared S.view self.old index old → IfOk result (λ cluster. TakesLowestOf S.view cluster 1 (self.old.file.free_list ++ metadata_entry old 1 ∷ []) self.old self.new) }
-        ensures uses { (p : Pending) (out : List (Option Prepared)) → ImageInvariant S.view F.backing p self.old out → NamesShared S.view self.old index old → OnOk result (StaysUsed S.view self.old.file self.new.file) }
         ensures faults { CountsImageFaults S.view F.backing self.old self.new result }
     {
         self.file
@@ -209,8 +198,6 @@ impl<S: Storage, F: WrappedFormat<S>> Qcow2<S, F> {
         ensures former { OnOk result (SomeGaveWay self.old self.new) }
         ensures l1_table { IfErr result (IsFaultOrKeepsL1Table self.old self.new) }
         ensures owns { (p : Pending) (out : List (Option Prepared)) → ImageInvariant S.view F.backing p self.old out → NamesShared S.view self.old index old → SaysKnown self.old.file.header.fields (known_in S.view self.old.file) index table → OwnsTable S.view F.backing p self.old self.new out index result }
-        ensures lowest { (p : Pending) (out : List (Option Prepared)) → ImageInvariant S.view F.backing p self.old out → NamesShared S.view self.old index old → SaysKnown self.old.file.header.fields (known_in S.view self.old.file) index table → IfOk result (λ cluster. TakesLowestOf S.view cluster 1 (self.old.file.free_list ++ metadata_entry old 1 ∷ []) self.old self.new) }
-        ensures uses { (p : Pending) (out : List (Option Prepared)) → ImageInvariant S.view F.backing p self.old out → NamesShared S.view self.old index old → SaysKnown self.old.file.header.fields (known_in S.view self.old.file) index table → OnOk result (StaysUsed S.view self.old.file self.new.file) }
         ensures faults { CountsImageFaults S.view F.backing self.old self.new result }
     {
         let entry = ClustersToFreeEntry::metadata(old, ClusterCount::new(1));
@@ -241,8 +228,6 @@ impl<S: Storage, F: WrappedFormat<S>> Qcow2<S, F> {
         ensures former { OnOk result (SomeGaveWay self.old self.new) }
         ensures l1_table { IfErr result (IsFaultOrKeepsL1Table self.old self.new) }
         ensures enters { (p : Pending) (out : List (Option Prepared)) → ImageInvariant S.view F.backing p self.old out → MayName S.view self.old index → SaysKnown self.old.file.header.fields (known_in S.view self.old.file) index table → EntersTable S.view F.backing p self.old self.new out index result }
-        ensures lowest { (p : Pending) (out : List (Option Prepared)) → ImageInvariant S.view F.backing p self.old out → MayName S.view self.old index → SaysKnown self.old.file.header.fields (known_in S.view self.old.file) index table → IfOk result (λ cluster. TakesLowestOf S.view cluster 1 self.old.file.free_list self.old self.new) }
-        ensures uses { (p : Pending) (out : List (Option Prepared)) → ImageInvariant S.view F.backing p self.old out → MayName S.view self.old index → SaysKnown self.old.file.header.fields (known_in S.view self.old.file) index table → OnOk result (StaysUsed S.view self.old.file self.new.file) }
         ensures faults { CountsImageFaults S.view F.backing self.old self.new result }
     {
         let Some(allocator) = &mut self.allocator else {
@@ -280,8 +265,6 @@ impl<S: Storage, F: WrappedFormat<S>> Qcow2<S, F> {
         ensures allocator { self.new.allocator ≡ self.old.allocator }
         ensures l1_table { IfErr result (IsFaultOrKeepsL1Table self.old self.new) }
         ensures list { self.new.file.free_list ≡ self.old.file.free_list }
-        ensures uses { IsTrue (is_writable self.old) → (p : Pending) (out : List (Option Prepared)) → ImageInvariant S.view F.backing (with_new_tables p (one_at cluster)) self.old out → MayName S.view self.old index
-            → SaysKnown self.old.file.header.fields (known_in S.view self.old.file) index table → OnOk result (StaysUsed S.view self.old.file self.new.file) }
         ensures writes { (p : Pending) (out : List (Option Prepared)) → ImageInvariant S.view F.backing (with_new_tables p (one_at cluster)) self.old out → MayName S.view self.old index → IsTrue self.old.file.caches.is_changed
             → SaysKnown self.old.file.header.fields (known_in S.view self.old.file) index table → WritesNew S.view F.backing p self.old self.new out index cluster result }
         ensures faults { CountsImageFaults S.view F.backing self.old self.new result }
@@ -355,8 +338,6 @@ impl<S: Storage, F: WrappedFormat<S>> Qcow2<S, F> {
         ensures allocator { self.new.allocator ≡ self.old.allocator }
         ensures fault { IfErr result IsFault }
         ensures list { self.new.file.free_list ≡ self.old.file.free_list }
-        ensures uses { (p : Pending) (out : List (Option Prepared)) (table : L2TableView) → ImageInvariant S.view F.backing (with_new_tables p (one_at cluster)) self.old out → MayName S.view self.old index
-            → SaysKnown self.old.file.header.fields (known_in S.view self.old.file) index table → length table.bytes ≡ 2 ^ table.cluster_bits → StandsReady S.view self.old cluster table.bytes → OnOk result (StaysUsed S.view self.old.file self.new.file) }
         ensures names { (p : Pending) (out : List (Option Prepared)) (table : L2TableView) → ImageInvariant S.view F.backing (with_new_tables p (one_at cluster)) self.old out → MayName S.view self.old index → IsTrue self.old.file.caches.is_changed
             → SaysKnown self.old.file.header.fields (known_in S.view self.old.file) index table → length table.bytes ≡ 2 ^ table.cluster_bits → StandsReady S.view self.old cluster table.bytes → NamesNew S.view F.backing p self.old self.new out index cluster result }
         ensures faults { CountsImageFaults S.view F.backing self.old self.new result }

@@ -1,5 +1,4 @@
 //! Making a guest range writable, and entering what was prepared.
-ghost use Rattle.qcow2_alloc.specs.LowestRuns.{StaysUsed};
 ghost use Rattle.qcow2_disk.specs.Alike.{AreDataAt};
 ghost use Rattle.qcow2_image.specs.LackedPlaces.{FreesJustListed, LacksData, LacksPlaceFor, LacksRange};
 ghost use Rattle.qcow2_image.specs.BehindHeader.{StaysBehindHeader};
@@ -21,7 +20,6 @@ ghost use Rattle.qcow2_alloc.specs.KeptNotes.{NoData};
 ghost use Rattle.qcow2_image.specs.Noted.{CommitFailsOnceWritten, FailsOnceWritten, DataUnlessExisting};
 ghost use Rattle.qcow2_alloc.specs.ImageFile.{known_in, FileInvariant, KeepsHeader};
 ghost use Rattle.qcow2_image.specs.L1Entries.{HasOwnTable, IsRefusedAsFar, NeedsFarEntry, RefusesFarEntryFreeing, ReachesAtMost};
-ghost use Rattle.qcow2_image.specs.LowestPlaces.{BeginsLowest, TakesLowestTables};
 ghost use Rattle.qcow2_image.specs.ListedClusters.{ListsFormer, PreparesList, PreparesTable, ListStays, ListsNoMore};
 ghost use Rattle.qcow2_image.specs.PinnedTables.{PreparesUnpinned, own_table};
 ghost use Rattle.qcow2_alloc.specs.ImageStorage.{storage_of};
@@ -176,8 +174,6 @@ impl<S: Storage, F: WrappedFormat<S>> Qcow2<S, F> {
         ensures listed { refuses_to_prepare self.old offset length ≡ None → 0 < length → (out : List (Option Prepared)) → (abstract_of S.view F.backing self.old out).is_sound → PreparesList offset self.old self.new result }
         ensures freeing { (out : List (Option Prepared)) → (abstract_of S.view F.backing self.old out).is_sound → IfOk result (λ p. IsNone (table_of p) → ListsNoMore self.old self.new) }
         ensures maps { 0 < length → (out : List (Option Prepared)) → (abstract_of S.view F.backing self.old out).is_sound → IfOk result (λ p. IsAnswered self.old.file.header.fields (known_in S.view self.old.file) offset length self.new.file.header.fields (known_in S.view self.new.file) p (meaning S.view F.backing self.new p)) }
-        ensures lowest { 0 < length → (out : List (Option Prepared)) → (abstract_of S.view F.backing self.old out).is_sound → IfOk result (BeginsLowest S.view self.new) }
-        ensures lowest_tables { 0 < length → (out : List (Option Prepared)) → (abstract_of S.view F.backing self.old out).is_sound → OnOk result (TakesLowestTables S.view offset self.old self.new) }
         ensures far { 0 < length → RefusesFarEntryFreeing S.view F.backing (refuses_to_prepare self.old offset length) offset self.old self.new result }
         ensures far_refused { 0 < length → refuses_to_prepare self.old offset length ≡ None → NeedsFarEntry self.old offset → IsErrAnd result (λ e. (e ≡ ImageError.Overflow) ⊎ IsOfTables e) }
         ensures pinned { 0 < length → refuses_to_prepare self.old offset length ≡ None → HasOwnTable self.old offset → PreparesUnpinned self.old offset result }
@@ -250,8 +246,6 @@ impl<S: Storage, F: WrappedFormat<S>> Qcow2<S, F> {
         ensures some { IfOk result (λ p. 0 < length → HasBytesBehind self.new.file.header.fields p) }
         ensures readies { 0 < length → (out : List (Option Prepared)) → ImageInvariant S.view F.backing (pending_in S.view F.backing self.old out) self.old out → PreparesRange S.view F.backing self.old self.new out offset length overwrite result }
         ensures answers { 0 < length → (out : List (Option Prepared)) → ImageInvariant S.view F.backing (pending_in S.view F.backing self.old out) self.old out → IfOk result (λ q. IsAnswered self.old.file.header.fields (known_in S.view self.old.file) offset length self.new.file.header.fields (known_in S.view self.new.file) q (meaning S.view F.backing self.new q)) }
-        ensures lowest { (out : List (Option Prepared)) → ImageInvariant S.view F.backing (pending_in S.view F.backing self.old out) self.old out → IfOk result (BeginsLowest S.view self.new) }
-        ensures lowest_tables { (out : List (Option Prepared)) → ImageInvariant S.view F.backing (pending_in S.view F.backing self.old out) self.old out → OnOk result (TakesLowestTables S.view offset self.old self.new) }
         ensures listed { 0 < length → (out : List (Option Prepared)) → ImageInvariant S.view F.backing (pending_in S.view F.backing self.old out) self.old out → PreparesList offset self.old self.new result }
         ensures freeing { 0 < length → (out : List (Option Prepared)) → ImageInvariant S.view F.backing (pending_in S.view F.backing self.old out) self.old out → IfOk result (λ p. IsNone (table_of p) → ListsNoMore self.old self.new) }
         ensures far { NeedsFarEntry self.old offset → IsRefusedAsFar S.view F.backing self.old self.new result }
@@ -286,8 +280,6 @@ impl<S: Storage, F: WrappedFormat<S>> Qcow2<S, F> {
         ensures some { IfOk result (λ p. 0 < length → HasBytesBehind self.new.file.header.fields p) }
         ensures readies { 0 < length → (out : List (Option Prepared)) → ImageInvariant S.view F.backing (pending_in S.view F.backing self.old out) self.old out → PreparesRange S.view F.backing self.old self.new out offset length overwrite result }
         ensures answers { 0 < length → (out : List (Option Prepared)) → ImageInvariant S.view F.backing (pending_in S.view F.backing self.old out) self.old out → IfOk result (λ q. IsAnswered self.old.file.header.fields (known_in S.view self.old.file) offset length self.new.file.header.fields (known_in S.view self.new.file) q (meaning S.view F.backing self.new q)) }
-        ensures lowest { (out : List (Option Prepared)) → ImageInvariant S.view F.backing (pending_in S.view F.backing self.old out) self.old out → IfOk result (BeginsLowest S.view self.new) }
-        ensures lowest_tables { (out : List (Option Prepared)) → ImageInvariant S.view F.backing (pending_in S.view F.backing self.old out) self.old out → OnOk result (TakesLowestTables S.view offset self.old self.new) }
         ensures tables { (out : List (Option Prepared)) → ImageInvariant S.view F.backing (pending_in S.view F.backing self.old out) self.old out → OnOk result (PreparesTable offset self.old self.new) }
         ensures freeing { 0 < length → (out : List (Option Prepared)) → ImageInvariant S.view F.backing (pending_in S.view F.backing self.old out) self.old out → IfOk result (λ p. IsNone (table_of p) → ListsNoMore self.old self.new) }
         ensures far { NeedsFarEntry self.old offset → (result ≡ Err ImageError.Overflow) × (self.new ≡ self.old) }
@@ -377,9 +369,6 @@ impl<S: Storage, F: WrappedFormat<S>> Qcow2<S, F> {
             → HoldsTable S.view F.backing self.old offset table → IfOk result (Reaches S.view self.new offset length) }
         ensures header { KeepsHeader self.old.file.header self.new.file.header }
         ensures former { OnOk result (ListsFormer self.old self.new) }
-        ensures lowest { (out : List (Option Prepared)) (k : ℕ) → slice_get out k ≡ Some None → ImageInvariant S.view F.backing (pending_in S.view F.backing self.old out) self.old out
-            → HoldsTable S.view F.backing self.old offset table → IfOk result (BeginsLowest S.view self.new) }
-        ensures uses { (out : List (Option Prepared)) (k : ℕ) → slice_get out k ≡ Some None → ImageInvariant S.view F.backing (pending_in S.view F.backing self.old out) self.old out → HoldsTable S.view F.backing self.old offset table → OnOk result (StaysUsed S.view self.old.file self.new.file) }
         ensures under { (out : List (Option Prepared)) (k : ℕ) → slice_get out k ≡ Some None → ImageInvariant S.view F.backing (pending_in S.view F.backing self.old out) self.old out → HoldsTable S.view F.backing self.old offset table → OnOk result (own_table self.new offset ≡ table) }
         ensures faults { CountsImageFaults S.view F.backing self.old self.new result }
     {

@@ -23,8 +23,6 @@ ghost use Rattle.qcow2_image.specs.ImageInvariant.{ImageInvariant, pending_in};
 ghost use Rattle.qcow2_image.specs.Preallocation.{AreZeros, CommitsWhole, FillsFirst, FillsGrownOrRefuses, FillsOrRefuses, IsWholeRange, most_of};
 ghost use Rattle.qcow2_image.specs.Refusals.{FreesRefused, IsMet, IsMetPreparing, IsUnlimited};
 ghost use Rattle.qcow2_image.specs.Faults.{CountsImageFaults, IsNotOfStorage, SameFaults};
-ghost use Rattle.qcow2_image.specs.FilledTurns.{FillsTurn};
-ghost use Rattle.qcow2_image.specs.Turns.{GoesInTurns};
 
 use crate::discarding::{Clearance, rounded_up};
 use crate::{Prepared, Qcow2};
@@ -114,7 +112,6 @@ impl<S: Storage, F: WrappedFormat<S>> Qcow2<S, F> {
         ensures fills { (out : List (Option Prepared)) → ImageInvariant S.view F.backing (pending_in S.view F.backing self.old out) self.old out
             → FillsGrownOrRefuses S.view F.backing size mode self.old self.new out result }
         ensures freed { (out : List (Option Prepared)) → ImageInvariant S.view F.backing (pending_in S.view F.backing self.old out) self.old out → IfErr result (FreesRefused self.new) }
-        ensures turns { (out : List (Option Prepared)) → ImageInvariant S.view F.backing (pending_in S.view F.backing self.old out) self.old out → OnOk result (GoesInTurns (FillsTurn S.view F.backing out old (rounded_up_to (cluster_size self.old.file.header.fields) size) (mode ≡ Zero)) self.old self.new) }
         ensures notes { KeepsFileNotes S.view AlsoData self.old.file self.new.file }
         ensures header_cluster { StaysBehindHeader S.view self.old self.new }
         ensures faults { CountsImageFaults S.view F.backing self.old self.new result }
@@ -138,7 +135,6 @@ impl<S: Storage, F: WrappedFormat<S>> Qcow2<S, F> {
         ensures version { mode ≡ Zero → self.old.file.header.fields.version < 3 → (result ≡ Err Version) × (self.new ≡ self.old) }
         ensures fills { (out : List (Option Prepared)) → ImageInvariant S.view F.backing (pending_in S.view F.backing self.old out) self.old out
             → FillsGrownOrRefuses S.view F.backing size mode self.old self.new out result }
-        ensures turns { (out : List (Option Prepared)) → ImageInvariant S.view F.backing (pending_in S.view F.backing self.old out) self.old out → OnOk result (GoesInTurns (FillsTurn S.view F.backing out old (rounded_up_to (cluster_size self.old.file.header.fields) size) (mode ≡ Zero)) self.old self.new) }
         ensures notes { KeepsFileNotes S.view AlsoData self.old.file self.new.file }
         ensures header_cluster { StaysBehindHeader S.view self.old self.new }
         ensures faults { CountsImageFaults S.view F.backing self.old self.new result }
@@ -166,7 +162,6 @@ impl<S: Storage, F: WrappedFormat<S>> Qcow2<S, F> {
         ensures emptied { HasNothingToFree self.old → OnOk result (HasNothingToFree self.new) }
         ensures fills { (out : List (Option Prepared)) → ImageInvariant S.view F.backing (pending_in S.view F.backing self.old out) self.old out
             → old ≤ size → FillsOrRefuses S.view F.backing (rounded_up_to (cluster_size self.old.file.header.fields) size) old (rounded_up_to (cluster_size self.old.file.header.fields) size) self.old self.new out result }
-        ensures turns { (out : List (Option Prepared)) → ImageInvariant S.view F.backing (pending_in S.view F.backing self.old out) self.old out → old ≤ size → OnOk result (GoesInTurns (FillsTurn S.view F.backing out old (rounded_up_to (cluster_size self.old.file.header.fields) size) ⊥) self.old self.new) }
         ensures notes { KeepsFileNotes S.view AlsoData self.old.file self.new.file }
         ensures header_cluster { StaysBehindHeader S.view self.old self.new }
         ensures faults { CountsImageFaults S.view F.backing self.old self.new result }
@@ -187,7 +182,6 @@ impl<S: Storage, F: WrappedFormat<S>> Qcow2<S, F> {
         ensures version { self.old.file.header.fields.version < 3 → (result ≡ Err Version) × (self.new ≡ self.old) }
         ensures fills { (out : List (Option Prepared)) → ImageInvariant S.view F.backing (pending_in S.view F.backing self.old out) self.old out
             → old ≤ size → FillsOrRefuses S.view F.backing (rounded_up_to (cluster_size self.old.file.header.fields) old) old (rounded_up_to (cluster_size self.old.file.header.fields) size) self.old self.new out result }
-        ensures turns { (out : List (Option Prepared)) → ImageInvariant S.view F.backing (pending_in S.view F.backing self.old out) self.old out → old ≤ size → OnOk result (GoesInTurns (FillsTurn S.view F.backing out old (rounded_up_to (cluster_size self.old.file.header.fields) size) (Unit {0})) self.old self.new) }
         ensures notes { KeepsFileNotes S.view AlsoData self.old.file self.new.file }
         ensures header_cluster { StaysBehindHeader S.view self.old self.new }
         ensures faults { CountsImageFaults S.view F.backing self.old self.new result }
@@ -214,7 +208,6 @@ impl<S: Storage, F: WrappedFormat<S>> Qcow2<S, F> {
         ensures emptied { HasNothingToFree self.old → OnOk result (HasNothingToFree self.new) }
         ensures fills { (out : List (Option Prepared)) → ImageInvariant S.view F.backing (pending_in S.view F.backing self.old out) self.old out → old ≤ from → from ≤ end → IsWholeRange self.old.file.header.fields from end
             → 3 ≤ self.old.file.header.fields.version → FillsOrRefuses S.view F.backing from old end self.old self.new out result }
-        ensures turns { (out : List (Option Prepared)) → ImageInvariant S.view F.backing (pending_in S.view F.backing self.old out) self.old out → old ≤ from → from ≤ end → IsWholeRange self.old.file.header.fields from end → 3 ≤ self.old.file.header.fields.version → OnOk result (GoesInTurns (FillsTurn S.view F.backing out old end (Unit {0})) self.old self.new) }
         ensures notes { KeepsFileNotes S.view AlsoData self.old.file self.new.file }
         ensures header_cluster { StaysBehindHeader S.view self.old self.new }
         ensures faults { CountsImageFaults S.view F.backing self.old self.new result }
@@ -233,7 +226,6 @@ impl<S: Storage, F: WrappedFormat<S>> Qcow2<S, F> {
         ensures emptied { HasNothingToFree self.old → OnOk result (HasNothingToFree self.new) }
         ensures fills { (out : List (Option Prepared)) → ImageInvariant S.view F.backing (pending_in S.view F.backing self.old out) self.old out → from ≤ to → IsWholeRange self.old.file.header.fields from to
             → 3 ≤ self.old.file.header.fields.version → FillsOrRefuses S.view F.backing 0 from to self.old self.new out result }
-        ensures turns { (out : List (Option Prepared)) → ImageInvariant S.view F.backing (pending_in S.view F.backing self.old out) self.old out → from ≤ to → IsWholeRange self.old.file.header.fields from to → 3 ≤ self.old.file.header.fields.version → OnOk result (GoesInTurns (FillsTurn S.view F.backing out from to (Unit {0})) self.old self.new) }
         ensures notes { KeepsFileNotes S.view NoData self.old.file self.new.file }
         ensures header_cluster { StaysBehindHeader S.view self.old self.new }
         ensures faults { CountsImageFaults S.view F.backing self.old self.new result }
@@ -257,7 +249,6 @@ impl<S: Storage, F: WrappedFormat<S>> Qcow2<S, F> {
         ensures whole { (out : List (Option Prepared)) → ImageInvariant S.view F.backing (pending_in S.view F.backing self.old out) self.old out → IsWholeRange self.old.file.header.fields from to → IfOk result (λ next. next % cluster_size self.old.file.header.fields ≡ 0) }
         ensures fills { (out : List (Option Prepared)) → ImageInvariant S.view F.backing (pending_in S.view F.backing self.old out) self.old out → from ≤ to → IsWholeRange self.old.file.header.fields from to
             → 3 ≤ self.old.file.header.fields.version → FillsFirst S.view F.backing 0 from to self.old self.new out result }
-        ensures turns { (out : List (Option Prepared)) → ImageInvariant S.view F.backing (pending_in S.view F.backing self.old out) self.old out → from ≤ to → IsWholeRange self.old.file.header.fields from to → 3 ≤ self.old.file.header.fields.version → OnOk result (GoesInTurns (FillsTurn S.view F.backing out from to (Unit {0})) self.old self.new) }
         ensures notes { KeepsFileNotes S.view NoData self.old.file self.new.file }
         ensures header_cluster { StaysBehindHeader S.view self.old self.new }
         ensures faults { CountsImageFaults S.view F.backing self.old self.new result }
@@ -283,7 +274,6 @@ impl<S: Storage, F: WrappedFormat<S>> Qcow2<S, F> {
         ensures emptied { HasNothingToFree self.old → OnOk result (HasNothingToFree self.new) }
         ensures fills { (out : List (Option Prepared)) → ImageInvariant S.view F.backing (pending_in S.view F.backing self.old out) self.old out
             → from ≤ to → to % cluster_size self.old.file.header.fields ≡ 0 → FillsOrRefuses S.view F.backing to from to self.old self.new out result }
-        ensures turns { (out : List (Option Prepared)) → ImageInvariant S.view F.backing (pending_in S.view F.backing self.old out) self.old out → from ≤ to → to % cluster_size self.old.file.header.fields ≡ 0 → OnOk result (GoesInTurns (FillsTurn S.view F.backing out from to ⊥) self.old self.new) }
         ensures notes { KeepsFileNotes S.view AlsoData self.old.file self.new.file }
         ensures header_cluster { StaysBehindHeader S.view self.old self.new }
         ensures faults { CountsImageFaults S.view F.backing self.old self.new result }
@@ -309,7 +299,6 @@ impl<S: Storage, F: WrappedFormat<S>> Qcow2<S, F> {
         ensures next { IfOk result (λ next. (from < next) × (next ≤ to)) }
         ensures fills { (out : List (Option Prepared)) → ImageInvariant S.view F.backing (pending_in S.view F.backing self.old out) self.old out
             → to % cluster_size self.old.file.header.fields ≡ 0 → FillsFirst S.view F.backing to from to self.old self.new out result }
-        ensures turns { (out : List (Option Prepared)) → ImageInvariant S.view F.backing (pending_in S.view F.backing self.old out) self.old out → to % cluster_size self.old.file.header.fields ≡ 0 → OnOk result (FillsTurn S.view F.backing out from to ⊥ self.old self.new) }
         ensures notes { KeepsFileNotes S.view AlsoData self.old.file self.new.file }
         ensures header_cluster { StaysBehindHeader S.view self.old self.new }
         ensures faults { CountsImageFaults S.view F.backing self.old self.new result }

@@ -1,7 +1,4 @@
 //! A disk of another size: what lies behind a smaller one is dropped first, and the size is written last.
-ghost use Rattle.qcow2_alloc.specs.LowestRuns.{StaysUsed};
-ghost use Rattle.qcow2_image.specs.FilledTurns.{GrowsInTurns};
-ghost use Rattle.qcow2_image.specs.LowestPlaces.{GrowsFromLowest};
 ghost use Rattle.qcow2_image.specs.BehindHeader.{StaysBehindHeader};
 ghost use Rattle.qcow2_image.specs.Noted.{ChangesRose, FailsOnceWritten, NotesChanges, NotesPart};
 ghost use Rattle.qcow2_alloc.specs.KeptMarks.{HaveRisen, KeepsFileNotes};
@@ -223,8 +220,6 @@ impl<S: Storage, F: WrappedFormat<S>> Qcow2<S, F> {
         ensures sees { GrowsTo S.view F.backing self.old self.new size mode result }
         ensures last { (out : List (Option Prepared)) → (abstract_of S.view F.backing self.old out).is_sound → WritesSizeLast S.view F.backing self.old self.new }
         ensures tables { refuses_to_resize self.old ≡ None → size_of self.old < size → (out : List (Option Prepared)) → (abstract_of S.view F.backing self.old out).is_sound → GrowsTables S.view F.backing self.old self.new size mode out result }
-        ensures lowest { refuses_to_resize self.old ≡ None → size_of self.old < size → (out : List (Option Prepared)) → (abstract_of S.view F.backing self.old out).is_sound → OnOk result (GrowsFromLowest S.view self.old self.new) }
-        ensures turns { refuses_to_resize self.old ≡ None → size_of self.old < size → (out : List (Option Prepared)) → (abstract_of S.view F.backing self.old out).is_sound → OnOk result (GrowsInTurns S.view F.backing out size mode self.old self.new) }
         ensures freed { refuses_to_resize self.old ≡ None → size_of self.old < size → ¬ IsTrue (takes_over self.old mode) → (out : List (Option Prepared)) → (abstract_of S.view F.backing self.old out).is_sound → IfErr result (FreesRefused self.new) }
         ensures once_written { FailsOnceWritten S.view self.old self.new result }
         ensures header_cluster { StaysBehindHeader S.view self.old self.new }
@@ -265,8 +260,6 @@ impl<S: Storage, F: WrappedFormat<S>> Qcow2<S, F> {
         ensures sees { GrowsTo S.view F.backing self.old self.new size mode result }
         ensures last { (out : List (Option Prepared)) → (abstract_of S.view F.backing self.old out).is_sound → WritesSizeLast S.view F.backing self.old self.new }
         ensures tables { (out : List (Option Prepared)) → (abstract_of S.view F.backing self.old out).is_sound → GrowsTables S.view F.backing self.old self.new size mode out result }
-        ensures lowest { (out : List (Option Prepared)) → (abstract_of S.view F.backing self.old out).is_sound → OnOk result (GrowsFromLowest S.view self.old self.new) }
-        ensures turns { (out : List (Option Prepared)) → (abstract_of S.view F.backing self.old out).is_sound → OnOk result (GrowsInTurns S.view F.backing out size mode self.old self.new) }
         ensures freed { (out : List (Option Prepared)) → (abstract_of S.view F.backing self.old out).is_sound → IfErr result (FreesRefused self.new) }
         ensures once_written { FailsOnceWritten S.view self.old self.new result }
         ensures header_cluster { StaysBehindHeader S.view self.old self.new }
@@ -313,7 +306,6 @@ impl<S: Storage, F: WrappedFormat<S>> Qcow2<S, F> {
         ensures kept { OnOk result ((i : ℕ) → entry_at self.new.l1_table.bytes i ≡ entry_at self.old.l1_table.bytes i) }
         ensures emptied { OnOk result (HasNothingToFree self.new) }
         ensures makes { (out : List (Option Prepared)) → ImageInvariant S.view F.backing (pending_in S.view F.backing self.old out) self.old out → MakesEntry S.view F.backing self.old self.new out result }
-        ensures lowest { (out : List (Option Prepared)) → ImageInvariant S.view F.backing (pending_in S.view F.backing self.old out) self.old out → OnOk result (GrowsFromLowest S.view self.old self.new) }
         ensures freed { (out : List (Option Prepared)) → ImageInvariant S.view F.backing (pending_in S.view F.backing self.old out) self.old out → IfErr result (FreesRefused self.new) }
         ensures faults { CountsImageFaults S.view F.backing self.old self.new result }
     {
@@ -340,7 +332,6 @@ impl<S: Storage, F: WrappedFormat<S>> Qcow2<S, F> {
         ensures kept { OnOk result ((i : ℕ) → entry_at self.new.l1_table.bytes i ≡ entry_at self.old.l1_table.bytes i) }
         ensures emptied { OnOk result (HasNothingToFree self.new) }
         ensures makes { (out : List (Option Prepared)) → ImageInvariant S.view F.backing (pending_in S.view F.backing self.old out) self.old out → MakesEntry S.view F.backing self.old self.new out result }
-        ensures lowest { (out : List (Option Prepared)) → ImageInvariant S.view F.backing (pending_in S.view F.backing self.old out) self.old out → OnOk result (GrowsFromLowest S.view self.old self.new) }
         ensures faults { CountsImageFaults S.view F.backing self.old self.new result }
     {
         let index = GuestOffset::new(offset).l1_index(self.file.header.cluster_bits());
@@ -370,7 +361,6 @@ impl<S: Storage, F: WrappedFormat<S>> Qcow2<S, F> {
         ensures restored { OnErr result (self.new.file.header ≡ self.old.file.header) }
         ensures time { (view_in S.view self.old.file).is_honest → EachMomentSince (view_in S.view self.old.file) (view_in S.view self.new.file) (λ c. c ≡ (view_in S.view self.new.file).contents) }
         ensures writes { (out : List (Option Prepared)) → ImageInvariant S.view F.backing (pending_in S.view F.backing self.old out) self.old out → WritesSize S.view F.backing self.old self.new out size result }
-        ensures uses { (out : List (Option Prepared)) → ImageInvariant S.view F.backing (pending_in S.view F.backing self.old out) self.old out → OnOk result (StaysUsed S.view self.old.file self.new.file) }
         ensures resizes { (p : Pending) → ImageInvariant S.view F.backing p self.old [] → Resizes S.view F.backing p self.old self.new size result }
         ensures notes { KeepsFileNotes S.view NoData self.old.file self.new.file }
         ensures header_cluster { StaysBehindHeader S.view self.old self.new }

@@ -36,7 +36,6 @@ use Rattle.qcow2_image.specs.Prepared.{guest_offset_of, length_of, offset_of}
 use Rattle.qcow2_image.specs.Preparing.{IsAnswered}
 use Rattle.qcow2_image.proofs.Preallocate.Grown.{up_least}
 use Rattle.qcow2_image.specs.Calls.{Prepares}
-use Rattle.qcow2_image.specs.LowestPlaces.{BeginsLowest, TakesLowestTables}
 use Rattle.qcow2_session.specs.Sessions.{StandsByPart, LeavesCopied, Writes}
 use Rattle.qcow2_session.proofs.WrittenParts.{writes_none, writes_on}
 use Rattle.qcow2_image.specs.Ranges.{ReleasesOneMapping}
@@ -293,9 +292,9 @@ module _ {S F : Type 0} (view : S → StorageView) (backing : F → BackingView)
   -- the first part of a write: a mapping was prepared and put, and its first bytes are copied data where it stands
   pub part_copied : (offset : ℕ) (p : Prepared) (bytes chunk : List ℕ) → 0 < length chunk → length chunk ≤ length_of p → guest_offset_of p ≡ offset
       → IsAnswered old.file.header.fields (known_in view old.file) offset (length bytes) mid.file.header.fields (known_in view mid.file) p (meaning view backing mid p)
-      → Prepares view backing old mid offset (length bytes) true (Ok p) → BeginsLowest view mid p → TakesLowestTables view offset old mid → EffectOnSound (abstract_of view backing old out) (abstract_of view backing new out) (given_of offset chunk ∷ []) []
+      → Prepares view backing old mid offset (length bytes) true (Ok p) → EffectOnSound (abstract_of view backing old out) (abstract_of view backing new out) (given_of offset chunk ∷ []) []
       → AreDataAt new.file.header.fields (known_in view new.file) true offset (offset_of p) (length chunk) → LeavesCopied view backing old new offset bytes (length chunk)
-  part_copied offset p bytes chunk some fits begins answered prepares lowest tables effect stood =
+  part_copied offset p bytes chunk some fits begins answered prepares effect stood =
       let here : offset ≡ offset + 0 = omega arith in
       let all : length bytes ≡ length bytes - 0 = omega arith in
       record {
@@ -309,8 +308,6 @@ module _ {S F : Type 0} (view : S → StorageView) (backing : F → BackingView)
             begun = λ none. refl;
             ready = mid;
             prepares = subst (λ o. Prepares view backing old mid o (length bytes - 0) true (Ok p)) here (subst (λ k. Prepares view backing old mid offset k true (Ok p)) all prepares);
-            lowest = lowest;
-            tables = subst (λ o. TakesLowestTables view o old mid) here tables;
           };
           from = omega arith;
           to = omega (arith, lt, fits);
@@ -377,8 +374,6 @@ module _ {S F : Type 0} (view : S → StorageView) (backing : F → BackingView)
               written = λ out. writes_on offset at done is.done bytes le there (abstract_of view backing begin out) (abstract_of view backing old out) (abstract_of view backing part.before out) (so_far out) (part.written out);
               ready = part.ready;
               prepares = subst (λ o. Prepares view backing part.before part.ready o (length bytes - (done + is.done)) true (Ok is.mapping)) from (subst (λ k. Prepares view backing part.before part.ready (at + is.done) k true (Ok is.mapping)) rest part.prepares);
-              lowest = part.lowest;
-              tables = subst (λ o. TakesLowestTables view o part.before part.ready) from part.tables;
             };
             from = omega (arith, low, behind);
             to = omega (arith, high, behind);

@@ -26,7 +26,6 @@ use Rattle.qcow2_image.specs.Found.{l1_index_of}
 use Rattle.qcow2_image.specs.Image.{size_of}
 use Rattle.qcow2_image.specs.L1Entries.{NeedsFarEntry}
 use Rattle.qcow2_image.specs.LackedPlaces.{LacksPlaceFor}
-use Rattle.qcow2_image.specs.LowestPlaces.{BeginsLowest, TakesLowestTables}
 use Rattle.qcow2_image.specs.Prepared.{length_of, offset_of}
 use Rattle.qcow2_image.specs.Preparing.{IsTaken}
 use Rattle.qcow2_image.specs.Refusals.{passes, IsMet}
@@ -189,15 +188,12 @@ module _ {S F : Type 0} (view : S → StorageView) (backing : F → BackingView)
 
 -- A part of a write, behind so many bytes. There is an image `before` it: these bytes are written there, and nothing else of the disk changed. On that image the rest of the range was prepared.
 -- Where the part is the first, it is the image that the write began with.
--- The tables that this made lie lowest, and so does the mapping's first cluster, where that is a new one.
 pub record PlacesPart {S F : Type 0} (view : S → StorageView) (backing : F → BackingView) (old : Qcow2 S F) (offset : ℕ) (bytes : List ℕ) (done : ℕ) (p : Prepared) : Type 0 where
   pub before : Qcow2 S F
   pub written : Writes view backing old before offset (take done bytes) (Ok tt)
   pub begun : done ≡ 0 → before ≡ old
   pub ready : Qcow2 S F
   pub prepares : Prepares view backing before ready (offset + done) (length bytes - done) true (Ok p)
-  pub lowest : BeginsLowest view ready p
-  pub tables : TakesLowestTables view (offset + done) before ready
 
 module _ {S F : Type 0} (view : S → StorageView) (backing : F → BackingView) (old new : Qcow2 S F) (offset : ℕ) (bytes : List ℕ) where
   -- a byte of a write stands as copied data at its place in the mapping of a part

@@ -1,11 +1,5 @@
 -- The clusters between two offsets are cleared, as a part of a call.
-use Rattle.qcow2_alloc.proofs.PlacedBlocks.{file_sizes}
-use Rattle.qcow2_laws.proofs.Guests.{guest_le, names_within, some_guest}
-use Rattle.qcow2_metadata.specs.Named.{named_by_cover}
-use Rattle.qcow2_image.proofs.Prepare.Lacked.{listed_either, of_both}
-use Rattle.qcow2_image.specs.LackedPlaces.{IsListed}
-use Rattle.qcow2_alloc.specs.LowestRuns.{IsUsed, StaysUsed}
-use Rattle.std.proofs.Common.{◌≡◌, inl, inr, ℕ, suc, ◌+◌, ◌-◌, ◌*◌, ◌/◌, ◌%◌, ◌<◌, ◌≤◌, Bool, true, false, List, [], ◌∷◌, ◌++◌, Option, Some, None, refl, sym, ap, ◌∙◌, subst, arith, cond, mul_assoc, ◌⊎◌}
+use Rattle.std.proofs.Common.{◌≡◌, inl, inr, ℕ, suc, ◌+◌, ◌-◌, ◌*◌, ◌/◌, ◌%◌, ◌<◌, ◌≤◌, Bool, true, false, List, [], ◌∷◌, ◌++◌, Option, Some, None, refl, sym, ap, ◌∙◌, subst, arith, cond, mul_assoc}
 use Rattle.std.specs.Prelude.{IsSome, IsTrue, slice_get, ◌↔◌, Result, Ok, Err, OnOk}
 use Rattle.std.proofs.lemmas.Bool.{cases_eq, cases_lt}
 use Rattle.std.proofs.lemmas.Nat.{div-add-mod', div-mul-add, mod-mul-add, mod_below, pow_pos}
@@ -20,7 +14,7 @@ use Rattle.qcow2_disk.specs.AbstractImages.{Guest, Setting, guest_of}
 use Rattle.qcow2_disk.specs.Calls.{EffectOnSound, cleared, with_disk}
 use Rattle.qcow2_laws.specs.CrashInvariant.{Pending}
 use Rattle.qcow2_disk.specs.Disk.{Disk}
-use Rattle.qcow2_laws.specs.Guests.{table_at, names, over_guests}
+use Rattle.qcow2_laws.specs.Guests.{table_at}
 use Rattle.qcow2_disk.specs.Mappings.{given_shown}
 use Rattle.qcow2_laws.specs.Steps.{guest_at}
 use Rattle.qcow2_disk.proofs.Compose.{works_less, works_then}
@@ -36,11 +30,11 @@ use Rattle.qcow2_image.specs.declared.discarding.Clearance.{Clearance}
 use Rattle.qcow2_image.specs.declared.image.Qcow2.{Qcow2}
 use Rattle.qcow2_image.specs.declared.prepared.Prepared.{Prepared}
 use Rattle.qcow2_image.specs.Found.{l1_index_of, l2_index_of}
-use Rattle.qcow2_image.specs.ImageInvariant.{IsPending, IsReadyWith, abstract_of, disk_of, listed_run, pending_in, pins_by, ImageInvariant}
+use Rattle.qcow2_image.specs.ImageInvariant.{IsPending, IsReadyWith, abstract_of, disk_of, listed_run, pending_in, pins_by}
 use Rattle.qcow2_image.specs.MovedTables.{MovesTables, CoversStay}
 use Rattle.qcow2_image.specs.UnseenSteps.{HoldsTable}
 use Rattle.qcow2_image.proofs.Apart.{pins_own}
-use Rattle.qcow2_image.proofs.Clear.Cleared.{all_cleared, listed_no_table}
+use Rattle.qcow2_image.proofs.Clear.Cleared.{all_cleared}
 use Rattle.qcow2_image.proofs.Moved.{file_step_then}
 use Rattle.qcow2_image.proofs.Prepare.Taken.{in_same, keeper}
 use Rattle.qcow2_image.proofs.Shares.{over_all_at}
@@ -151,14 +145,6 @@ on_ok (Ok x) follows is = follows is
 on_ok (Err e) follows is = tt
 
 -- ---- entries are read one after another
--- what guest clusters name they named before tables moved
-guests_moved : (h h' : HeaderFields) (b b' : Bytes) → Sizes h → MovesTables h h' → CoversStay h b h' b' → (c : ℕ) → 0 < over_guests h' (names h' b' c) → 0 < over_guests h (names h b c)
-guests_moved h h' b b' sizes moves covers c some =
-    let w = some_guest h' (names h' b' c) some in
-    let same : names h' b' c w.0 ≡ names h b c w.0 = ap (λ (k : HeaderFields). named_by_cover k c (cover h' b' w.0)) moves ∙ ap (named_by_cover h c) (sym (covers w.0)) in
-    let named : 0 < names h b c w.0 = subst (λ n. 0 < n) same w.2 in
-    let le = guest_le h (names h b c) w.0 (names_within h b c w.0 sizes named) in
-    omega (arith, named, le)
 
 module _ {S F : Type 0} (view : S → StorageView) (backing : F → BackingView) where
   pub reads_next : (how : Clearance) (table first n : ℕ) (image : Qcow2 S F) (list list' : List ClustersToFreeEntry) → ReadsAll view backing how table first n image list → ReadsDropped view backing how table (first + n) image list list'
@@ -316,34 +302,6 @@ module _ {S F : Type 0} (view : S → StorageView) (backing : F → BackingView)
 
     part : AreCleared view backing how (l1_index_of h from) (l2_index_of h from) count mid b.file.caches out p
     part = clears.part out p (l1_index_of h from) may
-
-    pub clears_uses : StaysUsed view mid.file new.file
-    clears_uses = subst (λ (x : Qcow2 S F). StaysUsed view mid.file x.file) (sym final_is) (λ k used none. used (part.counts k ∙ none))
-
-    -- what is named no longer was named as the call began
-    dropped_used : (sound : ImageInvariant view backing (pending_in view backing old out) old out) (k : ℕ) → IsListed (listed_by how h known g count) k → IsUsed view old.file k
-    dropped_used sound k at zero =
-        let l = listed_by how h known g count in
-        let both = of_both l k in
-        let none = listed_no_table how h known g count k in
-        let before = (found.sound.file.caches.kept.kept.crash_invariant.each_cluster k).tally in
-        let after = (part.sound_now.file.caches.kept.kept.crash_invariant.each_cluster k).tally in
-        let counts = part.counts k in
-        let new_data = part.new_data k in
-        let new_tables = part.new_tables k in
-        let old_tables = part.old_tables k in
-        let old_data = part.old_data k in
-        let surplus = ap (λ (f : ℕ → ℕ). f k) part.surplus in
-        let some : 0 < over_guests h (names h known k) = omega (arith, at, both, none, before, after, counts, new_data, new_tables, old_tables, old_data, surplus) in
-        let named = guests_moved old.file.header.fields h (known_in view old.file) known (file_sizes view (pending_in view backing old out) old.file sound.file) found.header found.covers k some in
-        let tally = (sound.file.caches.kept.kept.crash_invariant.each_cluster k).tally in
-        absurd (omega (arith, named, tally, zero))
-
-    pub clears_listed : ImageInvariant view backing (pending_in view backing old out) old out → (k : ℕ) → IsListed new.file.free_list k → IsListed mid.file.free_list k ⊎ IsUsed view old.file k
-    clears_listed sound k at = elim (listed_either mid.file.free_list (listed_by how h known g count) k (subst (λ (x : Qcow2 S F). IsListed x.file.free_list k) final_is at)) [
-      | inl before ↦ inl before
-      | inr dropped ↦ inr (dropped_used sound k dropped)
-    ]
 
   -- ---- a table that is under a mapping
   module _ (old mid : Qcow2 S F) (from table : ℕ) (found : UnseenCall view backing old mid out) (holds : HoldsTable view backing mid from table) where

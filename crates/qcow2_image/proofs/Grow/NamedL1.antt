@@ -1,5 +1,4 @@
 -- The header is written to name a longer L1 table, which is the image's own then.
-use Rattle.qcow2_alloc.specs.LowestRuns.{StaysUsed}
 use Rattle.std.proofs.lemmas.Bool.{or_right}
 use Rattle.std.proofs.Common.{◌≡◌, ℕ, ◌+◌, ◌*◌, ◌/◌, ◌^◌, ◌<◌, ◌≤◌, List, [], length, Option, Some, Result, Ok, Err, inr, refl, sym, ap, ◌∙◌, subst, arith}
 use Rattle.std.specs.Prelude.{IfSome, IsTrue}
@@ -150,9 +149,6 @@ module _ {S F : Type 0} (view : S → StorageView) (backing : F → BackingView)
         header_known_counts h (with_l1_at h place (entry_count t)) (order_of old.file.caches) q on_storage known (contents_in view now.file) (known_of h old.file.caches (contents_in view now.file)) sound.file.caches.kept.kept.crash_invariant writes_now k
         ∙ sym (counts_too (known_in view now.file) k)
 
-    uses_now : StaysUsed view old.file now.file
-    uses_now k used none = used (counts_now k ∙ none)
-
     reftable_now : (a : Option Allocator) → IfSome a (IsAllocatorOf view old.file) → IfSome a (IsAllocatorOf view now.file)
     reftable_now = allocator_kept view old.file now.file (λ t has. record { cluster = has.cluster; bits = has.bits; count = has.count; entries = λ k. has.entries k ∙ sym (blocks_now k) })
         (λ k. let e = counts_now k in omega arith)
@@ -221,14 +217,6 @@ module _ {S F : Type 0} (view : S → StorageView) (backing : F → BackingView)
         let is = rw done at (subst (λ (s : S). Changes (view s) (view (storage_of storage)) result (l1_table_pointer_written h' (view s).contents)) same wrote' sound.file.honest) in
         subst (λ (v : HeaderView). NamesTable view backing p old (record old { file = record old.file { storage = storage; header = v }; l1_table = t }) out t cluster (Ok x)) (sym header_now)
         (named_file_step storage is (calls.honest sound.file.honest) (lasts_named result asked (storage_of storage) same wrote' called))
-
-    pub uses_so : (result : Result (Unit {0}) StorageError) (storage : ImageStorage S) (asked : S) → asked ≡ storage_of old.file.storage → Changes (view asked) (view (storage_of storage)) result (l1_table_pointer_written header.fields (view asked).contents)
-        → Calls (view asked) (view (storage_of storage)) result → (x : Unit {0}) → result ≡ Ok x → StaysUsed view old.file (record old.file { storage = storage; header = header })
-    uses_so result storage asked same wrote called x done =
-        let wrote' = pointer_written_as result asked (storage_of storage) wrote in
-        let calls : Calls (view_in view old.file) (view (storage_of storage)) result = subst (λ (s : S). Calls (view s) (view (storage_of storage)) result) same called in
-        let is = rw done at (subst (λ (s : S). Changes (view s) (view (storage_of storage)) result (l1_table_pointer_written h' (view s).contents)) same wrote' sound.file.honest) in
-        subst (λ (v : HeaderView). StaysUsed view old.file (record old.file { storage = storage; header = v })) (sym header_now) (uses_now storage is (calls.honest sound.file.honest))
 
     -- the storage failed
     pub named_interruption : {T : Type 0} (result : Result T StorageError) (storage : ImageStorage S) (asked : S) → asked ≡ storage_of old.file.storage → Changes (view asked) (view (storage_of storage)) result (l1_table_pointer_written header.fields (view asked).contents)

@@ -381,21 +381,6 @@ module _ {S F : Type 0} (view : S → StorageView) (backing : F → BackingView)
             (subst (λ s. p.guest < g * s + s) (sym size3) (subst (λ f. f < g * cluster_size old.file.header.fields + cluster_size old.file.header.fields) (sym from_is) low))
             (subst (λ s. g * s < p.guest + p.length) (sym size3) (subst (λ f. g * cluster_size old.file.header.fields < f + p.length) (sym from_is) up))) first high
 
-    -- the bytes stand where the mapping has them
-    pub all_placed : (mid2 new : Qcow2 S F) → WritesBytes view mid mid2 p.offset (replicate count 0) (Ok tt) → ((o : List (Option Prepared)) (k : ℕ) → slice_get o k ≡ Some (Some p) → ImageInvariant view backing (pending_in view backing mid2 o) mid2 o → CommitsWhole view backing mid2 new o k p (slice_set o k None))
-        → new.file.header ≡ mid2.file.header → AreDataAt new.file.header.fields (known_in view new.file) true from p.offset p.length
-    all_placed mid2 new w commits header = by_kind p.table refl (commits (Some p ∷ out) 0 refl (all_put mid2 (Ok tt) w).sound)
-      where
-        by_kind : (t : Option ℕ) → p.table ≡ t → CommitsWhole view backing mid2 new (Some p ∷ out) 0 p (None ∷ out) → AreDataAt new.file.header.fields (known_in view new.file) true from p.offset p.length
-        by_kind None none done = λ i lt.
-            let h = mid.file.header.fields in
-            let shares = subst (IsReadyWith mid.file.header.fields (known_in view mid.file) (contents_in view mid.file) p) none (ready.sound.ready 0 p refl).mapped in
-            let moves : MovesTables mid.file.header.fields new.file.header.fields = subst (λ (k : HeaderFields). MovesTables mid.file.header.fields k) (ap (λ x. x.fields) (sym (header ∙ all_header mid2 (Ok tt) w))) refl in
-            data_moved mid.file.header.fields new.file.header.fields (known_in view mid.file) (known_in view new.file) moves (λ g. all_still mid2 w g ∙ done.still none g) (from + i) (p.offset + i) (answered.stays i lt (never_private view backing mid p shares (from + i)))
-        by_kind (Some t) is done =
-            let from_is : p.guest ≡ from = ready.prepared.from in
-            subst (λ f. AreDataAt new.file.header.fields (known_in view new.file) true f p.offset p.length) from_is (done.placed (subst (λ (x : Option ℕ). IsSome x) (sym is) refl))
-
     pub all_filled : 0 < p.length → (mid2 new : Qcow2 S F) → WritesBytes view mid mid2 p.offset (replicate count 0) (Ok tt) → ((o : List (Option Prepared)) (k : ℕ) → slice_get o k ≡ Some (Some p) → ImageInvariant view backing (pending_in view backing mid2 o) mid2 o → CommitsWhole view backing mid2 new o k p (slice_set o k None))
         → new.file.header ≡ mid2.file.header → (l1_index_of old.file.header.fields from < entry_count old.l1_table → KeepsL1Place old.file.header.fields mid.file.header.fields) → SomeGaveWay old mid → FillsPart view backing to from (from + p.length) old new out
     all_filled some mid2 new w commits header stays gave =

@@ -1,12 +1,12 @@
 -- What is in use stays so while a range is prepared.
-use Rattle.std.proofs.Common.{◌≡◌, ◌≢◌, ◌∙◌, ℕ, ◌+◌, ◌/◌, ◌<◌, ◌≤◌, List, [], ◌∷◌, length, Some, refl, sym, ap, subst, arith}
-use Rattle.std.specs.Prelude.{IfSome, None, Option, slice_get}
+use Rattle.std.proofs.Common.{◌≡◌, ◌≢◌, ◌∙◌, ℕ, ◌+◌, ◌<◌, ◌≤◌, List, [], ◌∷◌, length, Some, refl, sym, ap, subst, arith}
+use Rattle.std.specs.Prelude.{IfSome, Option, slice_get}
 use Rattle.image_access.specs.Backing.{BackingView}
 use Rattle.image_access.specs.Moments.{StorageView}
 use Rattle.qcow2_metadata.specs.Bytes.{Bytes}
 use Rattle.qcow2_metadata.specs.Entries.{count}
 use Rattle.qcow2_metadata.specs.EntryTable.{EntryTableView, IsL1TableOf, IsRefTableOf}
-use Rattle.qcow2_metadata.specs.Header.{HeaderView, cluster_size}
+use Rattle.qcow2_metadata.specs.Header.{HeaderView}
 use Rattle.qcow2_laws.specs.CrashInvariant.{CrashInvariant, Pending, SameCovers}
 use Rattle.qcow2_alloc.specs.ImageFile.{contents_in, known_in, pending_at}
 use Rattle.qcow2_alloc.specs.KeptAllocators.{IsAllocatorOf}
@@ -61,16 +61,6 @@ module _ {S F : Type 0} (view : S → StorageView) (backing : F → BackingView)
 
   pub in_place_lowest : (image : Qcow2 S F) (p : Prepared) → p.shares.items ≡ InPlace ∷ [] → BeginsLowest view image p
   in_place_lowest image p is taken old_data new = absurd (let no : Some InPlace ≡ Some (New taken old_data) = sym (ap (λ (l : List Share). slice_get l 0) is) ∙ new in cc)
-
-  pub none_lowest : (image : Qcow2 S F) (p : Prepared) → p.shares.items ≡ [] → BeginsLowest view image p
-  none_lowest image p is taken old_data new = absurd (let no : None ≡ Some (New taken old_data) = sym (ap (λ (l : List Share). slice_get l 0) is) ∙ new in cc)
-
-  -- a longer one, in an image where what was in use is in use
-  pub longer_lowest : (mid new : Qcow2 S F) (p q : Prepared) (share : Share) → slice_get p.shares.items 0 ≡ Some share → slice_get q.shares.items 0 ≡ Some share → q.offset ≡ p.offset → cluster_size new.file.header.fields ≡ cluster_size mid.file.header.fields
-      → StaysUsed view mid.file new.file → BeginsLowest view mid p → BeginsLowest view new q
-  longer_lowest mid new p q share was is place size stays lowest taken old_data begins k lt =
-      let same : p.offset / cluster_size mid.file.header.fields ≡ q.offset / cluster_size new.file.header.fields = ap (λ n. n / cluster_size mid.file.header.fields) (sym place) ∙ ap (λ n. q.offset / n) (sym size) in
-      stays k (lowest taken old_data (was ∙ sym is ∙ begins) k (subst (λ n. k < n) (sym same) lt))
 
 pub first_of : (l : List Share) → length l ≡ 1 → (share : Share) × (slice_get l 0 ≡ Some share)
 first_of [] one = absurd (let no : 0 ≡ 1 = one in omega (arith, no))

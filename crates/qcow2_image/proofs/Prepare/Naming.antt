@@ -1,5 +1,4 @@
 -- An L1 entry is written that names a new L2 table, which stands in its cluster.
-use Rattle.qcow2_alloc.specs.LowestRuns.{StaysUsed}
 use Rattle.std.proofs.Common.{◌≡◌, ◌≢◌, ◌⊎◌, inl, inr, ℕ, ◌+◌, ◌*◌, ◌/◌, ◌%◌, ◌^◌, ◌<◌, ◌≤◌, true, List, [], ◌∷◌, length, Option, Result, Ok, refl, sym, ap, ◌∙◌, subst, arith}
 use Rattle.std.proofs.lemmas.Bool.{cases_eq, eq-eqb, ne_eqb, cond-true, cond-false}
 use Rattle.std.proofs.lemmas.List.{append-nil}
@@ -318,9 +317,6 @@ module _ {S F : Type 0} (view : S → StorageView) (backing : F → BackingView)
         let after = clean_counts h (order_of old.file.caches) (replacing view p old index) (l2_tables old.file.caches) (refblocks old.file.caches) on_storage' caches_named.kept.kept ready.stored.counts k in
         sym before ∙ storage_counts k ∙ after
 
-    uses_named : StaysUsed view old.file named.file
-    uses_named k used none = used (counts_named k ∙ none)
-
     reftable_named : (a : Option Allocator) → IfSome a (IsAllocatorOf view old.file) → IfSome a (IsAllocatorOf view named.file)
     reftable_named = allocator_kept view old.file named.file (λ t has. record { cluster = has.cluster; bits = has.bits; count = has.count; entries = λ k. has.entries k ∙ reftable_same k })
         (λ k. let e = counts_named k in omega arith)
@@ -386,6 +382,3 @@ module _ {S F : Type 0} (view : S → StorageView) (backing : F → BackingView)
 
     pub named_so : (x : Unit {0}) → result ≡ Ok x → UnseenStep view backing q (replacing view p old index) old (record old { file = record old.file { storage = storage }; l1_table = t' }) out × NamesCopied view (record old { file = record old.file { storage = storage }; l1_table = t' }) index at
     named_so x done = let is = rw done at (changes sound.file.honest) in (keeps_named storage is (calls.honest sound.file.honest) (calls.time sound.file.honest), names_copied storage is)
-
-    pub uses_so : (x : Unit {0}) → result ≡ Ok x → StaysUsed view old.file (record old.file { storage = storage })
-    uses_so x done = let is = rw done at (changes sound.file.honest) in uses_named storage is

@@ -27,18 +27,14 @@ use Rattle.qcow2_image.specs.Clearing.{setting_of}
 use Rattle.qcow2_image.specs.declared.image.Qcow2.{Qcow2}
 use Rattle.qcow2_image.specs.declared.prepared.Prepared.{Prepared}
 use Rattle.qcow2_image.specs.Found.{l1_index_of}
-use Rattle.qcow2_image.specs.Image.{IsBegun, IsSameImage, is_external, is_failed, is_writable, number_of, size_of}
+use Rattle.qcow2_image.specs.Image.{IsSameImage, is_external, is_failed, is_writable, number_of, size_of}
 use Rattle.qcow2_image.specs.L1Entries.{IsLongerByNeed}
 use Rattle.qcow2_image.proofs.Sizing.NeededLengths.{longer_then}
 use Rattle.qcow2_image.specs.ImageInvariant.{ImageInvariant, abstract_of, disk_of, pending_in}
-use Rattle.qcow2_alloc.specs.LowestRuns.{IsUsed}
-use Rattle.qcow2_disk.specs.Rules.{touched_to}
-use Rattle.qcow2_image.specs.LowestPlaces.{TakesLowestTables}
-use Rattle.qcow2_image.proofs.Prepare.LowestTables.{tables_alike}
 use Rattle.qcow2_image.specs.NewTables.{MayName}
 use Rattle.qcow2_image.specs.Refusals.{refuse_if}
 use Rattle.qcow2_image.proofs.Call.Marked.{MayMark}
-use Rattle.qcow2_image.specs.Resizing.{CantUncover, IsFaultOrCantUncover, IsTurnEnd, SetsSize, ShowsBelow, Shrinks, UncoversInTurns, UncoversNext, UncoversPart, UncoversTail, WritesSize, WritesSizeLast, boundary_in, all_given_by_shrink, all_given_by_shrunk, refuses_to_resize, IsUnderOneTable}
+use Rattle.qcow2_image.specs.Resizing.{CantUncover, IsFaultOrCantUncover, IsTurnEnd, SetsSize, ShowsBelow, Shrinks, UncoversNext, UncoversPart, UncoversTail, WritesSize, WritesSizeLast, boundary_in, all_given_by_shrink, all_given_by_shrunk, refuses_to_resize}
 use Rattle.qcow2_image.proofs.Call.Called.{Quietly, listed}
 use Rattle.qcow2_image.proofs.Call.Refused.{stays_kept}
 use Rattle.qcow2_image.proofs.Call.CallOutcomes.{is_fault, outcome}
@@ -46,7 +42,6 @@ use Rattle.qcow2_image.proofs.Clear.Touched.{rounded_from}
 use Rattle.qcow2_image.proofs.Prepare.Entering.{may_still}
 use Rattle.qcow2_image.proofs.Sizes.{disk_size}
 use Rattle.qcow2_image.proofs.Sizing.Tails.{end_so_far, given_as, given_below, given_is, mono_up, none_below, none_between, shown_below, uncovers_none, uncovers_still, uncovers_then, works_asking}
-use Rattle.qcow2_image.proofs.Turns.{no_turn, turn_more}
 use Rattle.qcow2_image.proofs.UngivenCovers.{touches_part}
 
 -- ---- refusals
@@ -86,11 +81,6 @@ marks_nothing e before now none marks = elim (outcome e before now marks) [
 
 module _ {S F : Type 0} (view : S → StorageView) (backing : F → BackingView) where
   -- ---- turns
-  -- a call began
-  pub record HasBegun (old now : Qcow2 S F) : Type 0 where
-    pub rest : now ≡ record old { file = record old.file { storage = now.file.storage; caches = now.file.caches } }
-    pub used : (k : ℕ) → IsUsed view now.file k → IsUsed view old.file k
-
   -- from a size on the tail is uncovered up to an offset, in one turn where one L2 table covers it
   pub record IsUncoveredSoFar (old now : Qcow2 S F) (size at end : ℕ) : Type 0 where
     pub image : IsSameImage old now
@@ -99,26 +89,20 @@ module _ {S F : Type 0} (view : S → StorageView) (backing : F → BackingView)
     pub from : size ≤ at
     pub within : at ≤ end
     pub so_far : (out : List (Option Prepared)) → ImageInvariant view backing (pending_in view backing old out) old out → UncoversPart view backing size at old now out × IsShrinkEnd (cluster_size old.file.header.fields) (size_of old) size at
-    pub lowest : (out : List (Option Prepared)) → ImageInvariant view backing (pending_in view backing old out) old out → boundary_in old size < size_of old → IsUnderOneTable old size
-        → ((at ≡ size) × HasBegun old now) ⊎ ((at ≡ size_of old) × TakesLowestTables view (boundary_in old size) old now)
-    pub turns : (out : List (Option Prepared)) → ImageInvariant view backing (pending_in view backing old out) old out → UncoversInTurns view backing out old now size at
 
   pub begun_call : (old begun : Qcow2 S F) → ((out : List (Option Prepared)) → ImageInvariant view backing (pending_in view backing old out) old out → Quietly view backing out old begun)
       → (out : List (Option Prepared)) → ImageInvariant view backing (pending_in view backing old out) old out → UnseenCall view backing old begun out
   begun_call old begun quiet out sound = stays_kept view backing out old begun sound (listed view backing out old begun (quiet out) sound)
 
-  pub none_so_far : (old begun : Qcow2 S F) (size end : ℕ) → IsBegun old begun → IsSameImage old begun → is_failed begun ≡ is_failed old → end ≡ size_of old → size < size_of old
-      → ((out : List (Option Prepared)) → ImageInvariant view backing (pending_in view backing old out) old out → Quietly view backing out old begun)
-      → ((out : List (Option Prepared)) → ImageInvariant view backing (pending_in view backing old out) old out → HasBegun old begun) → IsUncoveredSoFar old begun size size end
-  none_so_far old begun size end marks image failed last smaller quiet begins = record {
+  pub none_so_far : (old begun : Qcow2 S F) (size end : ℕ) → IsSameImage old begun → is_failed begun ≡ is_failed old → end ≡ size_of old → size < size_of old
+      → ((out : List (Option Prepared)) → ImageInvariant view backing (pending_in view backing old out) old out → Quietly view backing out old begun) → IsUncoveredSoFar old begun size size end
+  none_so_far old begun size end image failed last smaller quiet = record {
     image = image;
     failed = failed;
     last = last;
     from = omega arith;
     within = omega (arith, last, smaller);
     so_far = λ out sound. (uncovers_none view backing out size old begun (begun_call old begun quiet out sound), inr (inl refl));
-    lowest = λ out sound before under. inl (refl, begins out sound);
-    turns = λ out sound. record { begun = begun; begins = marks; turns = no_turn (size, begun) };
   }
 
   module _ (old now new : Qcow2 S F) (size at end : ℕ) (so : IsUncoveredSoFar old now size at end) where
@@ -149,29 +133,10 @@ module _ {S F : Type 0} (view : S → StorageView) (backing : F → BackingView)
               let before = so.so_far out sound in
               let then' = turn out before.0.sound in
               let cs = cluster_size old.file.header.fields in
-              let ends : IsTurnEnd (cluster_size old.file.header.fields) (size_of old) at next = subst (λ n. IsTurnEnd n (size_of old) at next) (same_size out sound) (subst (λ n. IsTurnEnd (cluster_size now.file.header.fields) n at next) first.size then'.0.ends) in (
-                uncovers_then view backing out size at next old now new before.0 then'.0.part (mono_up cs (some out sound) size at so.from) (mono_up cs (some out sound) at next (omega (arith, on))),
+              let ends : IsTurnEnd (cluster_size old.file.header.fields) (size_of old) at next = subst (λ n. IsTurnEnd n (size_of old) at next) (same_size out sound) (subst (λ n. IsTurnEnd (cluster_size now.file.header.fields) n at next) first.size then'.1) in (
+                uncovers_then view backing out size at next old now new before.0 then'.0 (mono_up cs (some out sound) size at so.from) (mono_up cs (some out sound) at next (omega (arith, on))),
                 end_so_far cs (some out sound) (size_of old) size at next so.from ends,
               );
-          lowest = λ out sound before under.
-              let then' = turn out (so.so_far out sound).0.sound in
-              let size_is = first.size in
-              let clusters = same_size out sound in
-              elim (so.lowest out sound before under) [
-                | inl begun ↦
-                    let cs = cluster_size old.file.header.fields in
-                    let here : boundary_in now at ≡ boundary_in old size = ap (λ n. rounded_up n at) clusters ∙ ap (boundary_in old) begun.0 in
-                    let there : boundary_in now (size_of now) ≡ boundary_in old (size_of old) = ap (λ n. rounded_up n (size_of now)) clusters ∙ ap (boundary_in old) size_is in
-                    let covered : IsUnderOneTable now at =
-                    ap (λ n. touched_to n (size_of now) at (size_of now - at)) clusters ∙ ap (λ n. touched_to (cluster_size old.file.header.fields) n at (n - at)) size_is
-                    ∙ ap (λ o. touched_to (cluster_size old.file.header.fields) (size_of old) o (size_of old - o)) begun.0 ∙ under ∙ sym there in
-                    let inside : boundary_in now at < size_of now = omega (arith, here, size_is, before) in
-                    inr (then'.1 inside covered ∙ size_is, tables_alike view (boundary_in old size) old now new begun.1.rest begun.1.used (subst (λ o. TakesLowestTables view o now new) here (then'.0.tables inside)))
-                | inr done ↦ let ended = done.0 in absurd (omega (arith, ended, on, within, size_is))
-              ];
-          turns = λ out sound.
-              let so_far = so.turns out sound in
-              record { begun = so_far.begun; begins = so_far.begins; turns = turn_more (size, so_far.begun) (at, now) (next, new) so_far.turns (turn out (so.so_far out sound).0.sound).0 };
         }
 
     module _ (before : at < end) (e : ImageError) (turn : UncoversNext view backing now new at (Err e)) (out : List (Option Prepared)) (sound : ImageInvariant view backing (pending_in view backing old out) old out) where
@@ -233,8 +198,6 @@ module _ {S F : Type 0} (view : S → StorageView) (backing : F → BackingView)
             | inl still ↦ (
               uncovers_still view backing out size at old now new part (refuses.acts.works part.sound) still.0 still.1,
               (so.so_far out sound).1,
-              λ whole. let last = so.last in absurd (omega (arith, before, last, whole)),
-              record { uncovered = now; turns = so.turns out sound; rest = inr (let last = so.last in omega (arith, before, last), record { cause = e; no_fault = none refl; unchanged = refuses }) },
             )
             | inr failed ↦ absurd (none refl (fault_of e failed.0))
           ]

@@ -1,5 +1,4 @@
 -- The size of the disk is written: the image is as sound as before, whatever mappings are out, and shows the same bytes.
-use Rattle.qcow2_alloc.specs.LowestRuns.{StaysUsed}
 use Rattle.std.proofs.Common.{◌≡◌, inl, inr, ℕ, ◌+◌, ◌/◌, ◌^◌, ◌<◌, ◌≢◌, Bool, true, false, List, [], ◌∷◌, Option, Some, None, Result, Ok, Err, refl, sym, ap, ◌∙◌, subst, arith}
 use Rattle.std.specs.Prelude.{IfSome, IsTrue, slice_get}
 use Rattle.std.proofs.lemmas.Bool.{cond-true, cond-false}
@@ -140,9 +139,6 @@ module _ {S F : Type 0} (view : S → StorageView) (backing : F → BackingView)
     counts_sized k =
         header_known_counts h (resized_places h size h.autoclear) (order_of old.file.caches) p on_storage known (contents_in view sized.file) (known_of h old.file.caches (contents_in view sized.file)) sound.file.caches.kept.kept.crash_invariant writes_now k
         ∙ sym (counts_too (known_in view sized.file) k)
-
-    pub uses_sized : StaysUsed view old.file sized.file
-    uses_sized k used none = used (counts_sized k ∙ none)
 
     reftable_now : (a : Option Allocator) → IfSome a (IsAllocatorOf view old.file) → IfSome a (IsAllocatorOf view sized.file)
     reftable_now = allocator_kept view old.file sized.file
@@ -297,11 +293,6 @@ module _ {S F : Type 0} (view : S → StorageView) (backing : F → BackingView)
     size_is_set x done new is =
         let contents = rw done at (changes sound.file.honest) in
         subst (λ (a : Qcow2 S F). SetsSize view backing size old a out) (sym is) (sets_size storage contents (calls.honest sound.file.honest) since)
-
-    pub uses_size : (x : Unit {0}) → result ≡ Ok x → (new : Qcow2 S F) → new ≡ record old { file = record old.file { storage = storage; header = with_fields old.file.header (with_size old.file.header.fields size) } } → StaysUsed view old.file new.file
-    uses_size x done new is =
-        let contents = rw done at (changes sound.file.honest) in
-        subst (λ (a : Qcow2 S F). StaysUsed view old.file a.file) (sym is) (uses_sized view backing out q old sound size fits storage contents (calls.honest sound.file.honest))
 
     pub size_is_refused : (e : StorageError) → result ≡ Err e → (new : Qcow2 S F) → new ≡ record old { file = record old.file { storage = storage } } → WritesSize view backing old new out size (Err (of_storage e))
     size_is_refused SE.Fault done new is = inr (subst (λ (a : Qcow2 S F). MayStand view backing old a out size I.Storage) (sym is) (unsized_fails storage (calls.honest sound.file.honest) since))

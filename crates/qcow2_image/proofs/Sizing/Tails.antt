@@ -69,19 +69,6 @@ module _ (cs : ℕ) (some : 0 < cs) (end at : ℕ) (lt : at < end) where
     | inr past ↦ absurd (let least = least_up cs some end (rounded_up cs at) past (whole_up cs some at) in let is = touched_is in omega (arith, least, is, touched))
   ]
 
-  -- one that touches a cluster passes its boundary
-  pub passes_boundary : (range : ℕ × ℕ) → range ≡ answered cs end at (end - at) → end < 2 ^ 64 → (next : ℕ) → (next ≡ min (range.0 + range.1) (2 ^ 64 - 1)) ⊎ (next ≡ end) → rounded_up cs at < touched_to cs end at (end - at) → rounded_up cs at < next
-  passes_boundary range is near next branch touched =
-      let before = touched_before touched in
-      elim branch [
-        | inl sum ↦
-            let first : range.0 ≡ rounded_up cs at = ap (λ (r : ℕ × ℕ). r.0) is in
-            let many : range.1 ≡ min (touched_to cs end at (end - at)) (at + (end - at)) - rounded_up cs at =
-            ap (λ (r : ℕ × ℕ). r.1) is ∙ cond-true (nat_lt (rounded_up cs at) (touched_to cs end at (end - at))) (min (touched_to cs end at (end - at)) (at + (end - at)) - rounded_up cs at) 0 (lt-ltb (rounded_up cs at) (touched_to cs end at (end - at)) touched) in
-            omega (arith, sum, first, many, before, touched, near, lt)
-        | inr last ↦ omega (arith, last, before)
-      ]
-
 -- ---- where a turn ends
 module _ (h : HeaderFields) (some : 0 < cluster_size h) (rows : 0 < entries_per_cluster h) (end at : ℕ) (lt : at < end) where
   abbrev cs : ℕ

@@ -1,5 +1,5 @@
 -- One turn uncovers whole clusters up to the end of an L2 table, or is refused.
-use Rattle.std.proofs.Common.{◌≡◌, ◌⊎◌, inl, inr, refl, Bool, true, false, None, ℕ, ◌+◌, ◌-◌, ◌*◌, ◌/◌, ◌^◌, ◌<◌, ◌≤◌, List, [], sym, ap, ◌∙◌, subst, arith, min}
+use Rattle.std.proofs.Common.{◌≡◌, ◌⊎◌, inl, inr, refl, Bool, true, false, None, ℕ, ◌+◌, ◌-◌, ◌^◌, ◌<◌, ◌≤◌, List, [], sym, ap, ◌∙◌, subst, arith, min}
 use Rattle.std.specs.Prelude.{◌||◌, ◌&&◌, ◌==◌, IfSome, Option, Some, Result, Ok, Err, nat_le, nat_lt, not}
 use Rattle.std.specs.Option.{option_or}
 use Rattle.std.proofs.lemmas.Bool.{cases_lt, le-ltb, leb-true}
@@ -8,11 +8,10 @@ use Rattle.image_access.specs.Backing.{BackingView}
 use Rattle.image_access.specs.Moments.{StorageView}
 use Rattle.qcow2_metadata.specs.Guest.{Value}
 use Rattle.qcow2_metadata.specs.declared.header.HeaderFields.{HeaderFields}
-use Rattle.qcow2_metadata.specs.Header.{cluster_size, entries_per_cluster, rounded_down, rounded_up}
+use Rattle.qcow2_metadata.specs.Header.{cluster_size, entries_per_cluster, rounded_up}
 use Rattle.qcow2_disk.specs.AbstractImages.{AbstractImage, Setting, guest_of}
 use Rattle.qcow2_disk.specs.Calls.{Refusal, RefusedEffect, EffectOnSound, with_disk}
 use Rattle.qcow2_disk.specs.Disk.{Disk}
-use Rattle.qcow2_disk.specs.Found.{rest_of_table}
 use Rattle.qcow2_disk.specs.Rules.{answered, touched_from, touched_to}
 use Rattle.qcow2_disk.specs.Stops.{GivenBytes, IsGiven}
 use Rattle.qcow2_disk.proofs.Compose.{works_less, TouchesLess}
@@ -28,14 +27,11 @@ use Rattle.qcow2_image.specs.declared.image.Qcow2.{Qcow2}
 use Rattle.qcow2_image.specs.declared.prepared.Prepared.{Prepared}
 use Rattle.qcow2_image.specs.Image.{HasNothingToFree, is_external, is_failed, is_writable, size_of}
 use Rattle.qcow2_image.specs.ImageInvariant.{ImageInvariant, abstract_of, disk_of, pending_in}
-use Rattle.qcow2_image.specs.LowestPlaces.{TakesLowestTables}
 use Rattle.qcow2_image.specs.NewTables.{LacksTable}
 use Rattle.qcow2_image.specs.Refusals.{passes, refuse_if}
-use Rattle.qcow2_image.specs.Resizing.{IsFaultOrCantUncover, IsTurnEnd, IsUnderOneTable, UncoversNext, UncoversPart, boundary_in, refuses_to_resize}
-use Rattle.qcow2_image.proofs.Clear.Ranges.{table_end}
-use Rattle.qcow2_image.proofs.Clear.Touched.{rounded_from}
+use Rattle.qcow2_image.specs.Resizing.{IsFaultOrCantUncover, IsTurnEnd, UncoversNext, UncoversPart, boundary_in, refuses_to_resize}
 use Rattle.qcow2_image.proofs.Sizes.{disk_size}
-use Rattle.qcow2_image.proofs.Sizing.Tails.{given_as, given_below, given_is, mono_up, passes_boundary, shown_below, to_at_most, touched_before, touched_is, touches_before, turn_numbers}
+use Rattle.qcow2_image.proofs.Sizing.Tails.{given_as, given_below, given_is, mono_up, shown_below, to_at_most, touches_before, turn_numbers}
 use Rattle.qcow2_image.proofs.Sizing.UncoveredTails.{uncovers_as_many}
 use Rattle.qcow2_image.proofs.UngivenCovers.{touches_less}
 
@@ -70,14 +66,6 @@ within_end true size n is = le-ltb size n (omega (arith, is))
 pub none_early : {B : Type 0} (P : Type 0) (o : Option ImageError) (b : B) (r : Result B ImageError) → IfSome o (λ e. (r ≡ Err e) × P) → r ≡ Ok b → o ≡ None
 none_early P None b r early was = refl
 none_early P (Some e) b r early was = absurd (let no : Ok b ≡ Err e = sym was ∙ early.0 in cc)
-
--- where the clusters that a turn touched reach the disk's end, so does the turn
-last_turn : (from to next up end size bound : ℕ) {X : Type 0} → end ≡ size → from < to → to ≡ bound → size ≤ bound → next ≤ end → (next ≡ end) ⊎ ((up ≡ next) × X) → to - from ≡ up - from → next ≡ size
-last_turn from to next up end size bound is touched covered least within whole numbers = elim whole [ inl last ↦ last ∙ is | inr boundary ↦ let same = boundary.0 in omega (arith, is, touched, covered, least, within, same, numbers) ]
-
--- as much behind an offset reaches as far
-ends_at : (to up from last table : ℕ) → to - from ≡ up - from → to ≡ min last (from + table) → from ≤ last → from ≤ up → up ≡ min last (from + table)
-ends_at to up from last table many is least on = omega (arith, many, is, least, on)
 
 module _ {S F : Type 0} (view : S → StorageView) (backing : F → BackingView) (old new : Qcow2 S F) (at end : ℕ) where
   abbrev h : HeaderFields
@@ -174,35 +162,6 @@ module _ {S F : Type 0} (view : S → StorageView) (backing : F → BackingView)
       → touched_from (cluster_size h) at < touched_to (cluster_size h) (size_of old) at (end - at)
   turn_touches is lt out sound before = subst (λ n. rounded_up (cluster_size h) at < touched_to (cluster_size h) (size_of old) at (n - at)) (sym is) (touches_before h (some out sound) (rows out sound) (size_of old) at lt before)
 
-  -- a turn goes up to the end where one L2 table covers the rest
-  pub turn_ends : (range : ℕ × ℕ) → end ≡ size_of old → at < size_of old → end < 2 ^ 64 → Clears view backing Uncovered old new at (end - at) (Ok range) → (next : ℕ)
-      → ((next ≡ min (range.0 + range.1) (2 ^ 64 - 1)) × (at < next) × (next < end)) ⊎ ((next ≡ end) × ((min (range.0 + range.1) (2 ^ 64 - 1) ≤ at) ⊎ (end ≤ min (range.0 + range.1) (2 ^ 64 - 1))))
-      → (out : List (Option Prepared)) → ImageInvariant view backing (pending_in view backing old out) old out → boundary_in old at < size_of old → IsUnderOneTable old at → next ≡ size_of old
-  turn_ends range is lt near clears next branch out sound before under =
-      let size : d.size ≡ end = sym (shown_end out sound) ∙ sym is in
-      let range_is : range ≡ answered (cluster_size h) end at (end - at) = ((clears out).answer sound).1.0 ∙ ap (λ n. answered (cluster_size h) n at (end - at)) size in
-      let numbers = turn_numbers h (some out sound) (rows out sound) end at (omega (arith, lt, is)) range range_is near next branch in
-      let touched = subst (λ n. touched_from (cluster_size h) at < touched_to (cluster_size h) n at (end - at)) (sym is) (turn_touches is lt out sound before) in
-      let covered = subst (λ n. touched_to (cluster_size h) n at (n - at) ≡ boundary_in old (size_of old)) (sym is) under in
-      last_turn (touched_from (cluster_size h) at) (touched_to (cluster_size h) end at (end - at)) next (boundary_in old next) end (size_of old) (boundary_in old (size_of old)) is touched covered (rounded_from (cluster_size h) (size_of old) (some out sound)) numbers.0.within numbers.0.whole numbers.1
-
-  -- it goes up to the end of the L2 table of its first cluster, or to the end of the disk
-  pub turn_within : (range : ℕ × ℕ) → end ≡ size_of old → at < size_of old → end < 2 ^ 64 → Clears view backing Uncovered old new at (end - at) (Ok range) → (next : ℕ)
-      → ((next ≡ min (range.0 + range.1) (2 ^ 64 - 1)) × (at < next) × (next < end)) ⊎ ((next ≡ end) × ((min (range.0 + range.1) (2 ^ 64 - 1) ≤ at) ⊎ (end ≤ min (range.0 + range.1) (2 ^ 64 - 1))))
-      → (out : List (Option Prepared)) → ImageInvariant view backing (pending_in view backing old out) old out → boundary_in old next ≡ min (boundary_in old (size_of old)) (boundary_in old at + rest_of_table h (boundary_in old at))
-  turn_within range is lt near clears next branch out sound =
-      let size : d.size ≡ end = sym (shown_end out sound) ∙ sym is in
-      let range_is : range ≡ answered (cluster_size h) end at (end - at) = ((clears out).answer sound).1.0 ∙ ap (λ n. answered (cluster_size h) n at (end - at)) size in
-      let numbers = turn_numbers h (some out sound) (rows out sound) end at (omega (arith, lt, is)) range range_is near next branch in
-      let many : touched_to (cluster_size h) end at (end - at) - boundary_in old at ≡ boundary_in old next - boundary_in old at = numbers.1 in
-      let to_is : touched_to (cluster_size h) end at (end - at) ≡ min (boundary_in old (size_of old)) (boundary_in old at + rest_of_table h (boundary_in old at)) =
-      touched_is (cluster_size h) (some out sound) end at (omega (arith, lt, is)) ∙ ap (λ n. min (rounded_up (cluster_size h) n) (rounded_down (cluster_size h / 8 * cluster_size h) (boundary_in old at) + cluster_size h / 8 * cluster_size h)) is
-      ∙ ap (min (boundary_in old (size_of old))) (sym (table_end h (some out sound) (rows out sound) (boundary_in old at))) in
-      let last = mono_up (cluster_size h) (some out sound) at (size_of old) (omega (arith, lt)) in
-      let on = numbers.0.on in
-      let more = mono_up (cluster_size h) (some out sound) at next (omega (arith, on)) in
-      ends_at (touched_to (cluster_size h) end at (end - at)) (boundary_in old next) (boundary_in old at) (boundary_in old (size_of old)) (rest_of_table h (boundary_in old at)) many to_is last more
-
   -- what an answered turn leaves to be freed: nothing, where it cleared a cluster, or where nothing was listed and it cleared none
   pub turn_frees : end ≡ size_of old → at < size_of old → (touched_from (cluster_size h) at < touched_to (cluster_size h) (size_of old) at (end - at) → HasNothingToFree new)
       → (touched_to (cluster_size h) (size_of old) at (end - at) ≤ touched_from (cluster_size h) at → new ≡ old) → (out : List (Option Prepared)) → ImageInvariant view backing (pending_in view backing old out) old out
@@ -213,32 +172,10 @@ module _ {S F : Type 0} (view : S → StorageView) (backing : F → BackingView)
     | inr least ↦ subst (λ (i : Qcow2 S F). HasNothingToFree i) (sym (nothing least)) none
   ]
 
-  -- where no whole cluster lies behind it, a turn touches none
-  pub turn_idle : end ≡ size_of old → at < size_of old → size_of old ≤ boundary_in old at → touched_to (cluster_size h) (size_of old) at (end - at) ≤ touched_from (cluster_size h) at
-  turn_idle is lt past =
-      subst (λ n. touched_to (cluster_size h) (size_of old) at (n - at) ≤ touched_from (cluster_size h) at) (sym is)
-      (elim (cases_lt (touched_from (cluster_size h) at) (touched_to (cluster_size h) (size_of old) at (size_of old - at))) [
-        | inl touched ↦ let before = touched_before (cluster_size h) (pow_pos h.cluster_bits) (size_of old) at lt touched in absurd (omega (arith, before, past))
-        | inr least ↦ least
-      ])
-
   -- an answered turn, as a whole
   pub turn_answered : (range : ℕ × ℕ) → end ≡ size_of old → at < size_of old → end < 2 ^ 64 → Clears view backing Uncovered old new at (end - at) (Ok range)
       → ((out : List (Option Prepared)) → ImageInvariant view backing (pending_in view backing old out) old out
       → ClearsImageCovers Uncovered (touched_from (cluster_size h) at) (touched_to (cluster_size h) (size_of old) at (end - at)) old.file.header.fields (known_in view old.file) new.file.header.fields (known_in view new.file))
-      → (touched_from (cluster_size h) at < touched_to (cluster_size h) (size_of old) at (end - at) → (out : List (Option Prepared)) → ImageInvariant view backing (pending_in view backing old out) old out → TakesLowestTables view (touched_from (cluster_size h) at) old new)
-      → (touched_from (cluster_size h) at < touched_to (cluster_size h) (size_of old) at (end - at) → HasNothingToFree new) → (touched_to (cluster_size h) (size_of old) at (end - at) ≤ touched_from (cluster_size h) at → new ≡ old) → (next : ℕ)
+      → (next : ℕ)
       → ((next ≡ min (range.0 + range.1) (2 ^ 64 - 1)) × (at < next) × (next < end)) ⊎ ((next ≡ end) × ((min (range.0 + range.1) (2 ^ 64 - 1) ≤ at) ⊎ (end ≤ min (range.0 + range.1) (2 ^ 64 - 1)))) → UncoversNext view backing old new at (Ok next)
-  turn_answered range is lt near clears covers lowest empties nothing next branch = λ out sound.
-      let done = turn_done range is lt near clears next branch out sound (covers out sound) in
-      let touches = turn_touches is lt out sound in (
-        record {
-          part = done.0;
-          ends = done.1;
-          one_table = turn_within range is lt near clears next branch out sound;
-          tables = λ before. lowest (touches before) out sound;
-          emptied = λ before. empties (touches before);
-          nothing = λ past. nothing (turn_idle is lt past);
-        },
-        turn_ends range is lt near clears next branch out sound,
-      )
+  turn_answered range is lt near clears covers next branch = λ out sound. turn_done range is lt near clears next branch out sound (covers out sound)

@@ -458,7 +458,7 @@ returns-in-Ok-clause-copied g c = λ some out sound.
     let all = subst (λ k. AreDataAt new.file.header.fields (known_in view new.file) true offset (offset_of p) k) (sym long) (subst (λ k. AreDataAt new.file.header.fields (known_in view new.file) true k (offset_of p) count) from_is stood) in
     subst (LeavesCopied view below old new offset c.args.bytes.now) long
     (part_copied view below old mid new out sound (done.answer sound).0 offset p c.args.bytes.now chunk (omega (arith, any, long)) (omega (arith, cut)) from_is (c.in_ok-prepared.ensures.maps some out sound) c.in_ok-prepared.ensures.sees
-    (c.in_ok-prepared.ensures.lowest some out sound) (c.in_ok-prepared.ensures.lowest_tables some out sound) (done.acts.works sound) all)
+    (done.acts.works sound) all)
 
 pub returns-in_err-prepared-clause-met : goal.returns-in_err-prepared-clause-met
 returns-in_err-prepared-clause-met g c = λ none out sound.

@@ -3,13 +3,11 @@ use Rattle.std.proofs.Common.{◌≡◌, ◌≤◌, ◌%◌, ◌∙◌, ap, arit
 use Rattle.std.proofs.lemmas.Nat.{pow_pos}
 use Rattle.qcow2_metadata.specs.Header.{cluster_size, rounded_up}
 use Rattle.qcow2_alloc.specs.declared.error.ImageError.TheVariants.{Overflow}
-use Rattle.qcow2_image.specs.FilledTurns.{FillsTurn}
-use Rattle.qcow2_image.specs.Turns.{GoesInTurns}
 use Rattle.qcow2_image.specs.Preallocation.{FillsOrRefuses}
 use Rattle.qcow2_image.proofs.Preallocate.Filled.{refused_here}
 use Rattle.qcow2_image.proofs.Preallocate.Grown.{up_to_end, up_whole}
 use Rattle.qcow2_image.proofs.Call.BehindHeader.{behind_none}
-use Rattle.std.specs.Prelude.{IfErr, OnOk}
+use Rattle.std.specs.Prelude.{IfErr}
 use Rattle.qcow2_alloc.specs.ImageFile.{known_in}
 use Rattle.qcow2_image.specs.ImageInvariant.{pending_in}
 use Rattle.qcow2_image.specs.MetAlone.{HasCompressedIn, HasNearEntries, IsMetTaking}
@@ -32,15 +30,6 @@ returns-clause-fills g c = λ out sound le.
     let end : c.in-Some.end ≡ rounded_up (cluster_size c.args.self.now.file.header.fields) c.args.size = c.in-Some.ensures.some ∙ ap (λ s. rounded_up s c.args.size) c.cluster_size.ensures.value in
     subst (λ n. FillsOrRefuses view below n c.args.old n old c.fill_range.new.self out c.fill_range.result) end
     (c.fill_range.ensures.fills out sound (subst (λ n. c.args.old ≤ n) (sym end) (up_to_end cs c.args.old c.args.size some le)) (subst (λ n. n % cs ≡ 0) (sym end) (up_whole cs c.args.size some)))
-
-pub returns-clause-turns : goal.returns-clause-turns
-returns-clause-turns g c = λ out sound le.
-    let old = c.args.self.now in
-    let cs = cluster_size old.file.header.fields in
-    let some = pow_pos old.file.header.fields.cluster_bits in
-    let end : c.in-Some.end ≡ rounded_up (cluster_size c.args.self.now.file.header.fields) c.args.size = c.in-Some.ensures.some ∙ ap (λ s. rounded_up s c.args.size) c.cluster_size.ensures.value in
-    subst (λ n. OnOk c.fill_range.result (GoesInTurns (FillsTurn g.S.Storage.view g.F.BackingDisk.backing out c.args.old n ⊥) old c.fill_range.new.self)) end
-    (c.fill_range.ensures.turns out sound (subst (λ n. c.args.old ≤ n) (sym end) (up_to_end cs c.args.old c.args.size some le)) (subst (λ n. n % cs ≡ 0) (sym end) (up_whole cs c.args.size some)))
 
 pub returns-in_default-clause-header_cluster : goal.returns-in_default-clause-header_cluster
 returns-in_default-clause-header_cluster g c = behind_none

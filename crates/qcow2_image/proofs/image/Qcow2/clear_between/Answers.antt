@@ -106,5 +106,5 @@ returns-in-Err-clause-far_refused g c = λ needs. elim c.free_after.ensures.hand
   | inr met ↦ inr met
 ]
 
-pub returns-in-Ok-clause-lowest_tables : goal.returns-in-Ok-clause-lowest_tables
-returns-in-Ok-clause-lowest_tables g c = λ out sound whole. c.in-Ok.ensures.lowest_tables out sound whole
+pub returns-in-Ok-clause-gave : goal.returns-in-Ok-clause-gave
+returns-in-Ok-clause-gave g c = λ out sound. c.in-Ok.ensures.gave out sound

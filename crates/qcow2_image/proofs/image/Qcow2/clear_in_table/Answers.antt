@@ -6,7 +6,7 @@ use Rattle.qcow2_alloc.specs.CachePins.{l2_pins}
 use Rattle.qcow2_image.specs.declared.image.Qcow2.{Qcow2}
 use Rattle.qcow2_image.specs.Clearing.{ClearsOrRefuses, ClearsTable, ReadsAll, IsUnderMapping}
 use Rattle.qcow2_image.specs.Found.{l2_index_of}
-use Rattle.qcow2_image.proofs.Clear.Between.{clears_between, no_pins, pinned_under, under_pinned, clears_listed, clears_uses}
+use Rattle.qcow2_image.proofs.Clear.Between.{clears_between, no_pins, pinned_under, under_pinned}
 use Rattle.std.specs.Prelude.{IfErr}
 use Rattle.qcow2_image.specs.NewTables.{IsFaultOrLacksTable}
 use Rattle.qcow2_image.proofs.Backings.{some_prepared}
@@ -20,14 +20,12 @@ use Rattle.qcow2_image.specs.LackedPlaces.{LacksTableFor}
 use Rattle.qcow2_image.proofs.Call.Unlimited.{fault_unlimited}
 use Rattle.qcow2_image.proofs.Prepare.MetTables.{reading_fault}
 use Rattle.qcow2_image.specs.L1Entries.{NeedsFarEntry}
-use Rattle.qcow2_image.specs.PinnedTables.{own_table}
-use Rattle.qcow2_image.specs.ImageInvariant.{pending_in}
-use Rattle.qcow2_image.proofs.Prepare.LowestTables.{own_table_known, tables_listing}
 use Rattle.qcow2_image.specs.Backings.{HasPrepared}
 use Rattle.qcow2_image.specs.MetAlone.{IsMetTaking}
 use Rattle.qcow2_image.proofs.Prepare.Met.{hands_met}
 use Rattle.qcow2_image.proofs.Prepare.MetTaking.{taking_as}
 use Rattle.qcow2_image.proofs.Grow.NoLonger.{length_then}
+use Rattle.qcow2_image.proofs.Prepare.Listing.{gave_still}
 
 pub returns-in_err-table-clause-clears : goal.returns-in_err-table-clause-clears
 returns-in_err-table-clause-clears g c = λ out sound whole.
@@ -202,32 +200,8 @@ returns-in_err-old_data-clause-no_longer g c = c.table_for.ensures.no_longer
 pub returns-clause-no_longer : goal.returns-clause-no_longer
 returns-clause-no_longer g c = length_then c.table_for.ensures.no_longer (ap (λ (v : HeaderView). v.fields.l1_entries) (ap (λ (i : Qcow2 _ _). i.file.header) c.clear_entries.ensures.clears.rest))
 
-pub returns-clause-lowest_tables : goal.returns-clause-lowest_tables
-returns-clause-lowest_tables g c = λ out sound whole.
-    let view = g.S.Storage.view in
-    let below = g.F.BackingDisk.backing in
-    let old = c.args.self.now in
-    let mid = c.table_for.new.self in
-    let b = c.clear_entries.new.self in
-    let how = c.args.how in
-    let from = c.args.from in
-    let to = c.args.to in
-    let table = c.in_ok-table.table in
-    let list = c.in_ok-old_data.old_data in
-    let h = mid.file.header.fields in
-    let found = c.in_ok-table.ensures.finds out sound in
-    let bits = c.cluster_bits-bits.ensures.value in
-    let first : c.cluster-first.result ≡ c.args.from / cluster_size c.table_for.new.self.file.header.fields = c.cluster-first.ensures ∙ ap (λ o. o / 2 ^ c.cluster_bits-bits.result) c.new.ensures ∙ ap (λ n. from / 2 ^ n) bits in
-    let column : c.l2_index.result ≡ l2_index_of c.table_for.new.self.file.header.fields c.args.from = c.l2_index.ensures.value ∙ ap (λ x. x % (2 ^ c.cluster_bits-bits.result / 8)) first ∙ ap (λ n. from / cluster_size h % (2 ^ n / 8)) bits in
-    let count : (c.args.to - c.args.from) / 2 ^ c.cluster_bits-bits.result ≡ (c.args.to - c.args.from) / cluster_size c.table_for.new.self.file.header.fields = ap (λ n. (to - from) / 2 ^ n) bits in
-    let reads = subst (λ n. ReadsAll view below how table (from / cluster_size h) n mid list) count (subst (λ n. ReadsAll view below how table n ((to - from) / 2 ^ c.cluster_bits-bits.result) mid list) first c.in_ok-old_data.ensures.reads) in
-    let clears = subst (λ n. ClearsTable view below how table (l2_index_of h from) n mid b) count (subst (λ n. ClearsTable view below how table n ((to - from) / 2 ^ c.cluster_bits-bits.result) mid b) column c.clear_entries.ensures.clears) in
-    let new = record b { file = record b.file { free_list = c.hand_back.new.list } } in
-    let longer = ap (λ l. record b { file = record b.file { free_list = l } }) (c.hand_back.ensures ∙ ap (λ l. b.file.free_list ++ l) c.take.ensures.taken) in
-    let none = no_pins c.l2_is_pinned.result (l2_pins mid.file.caches table) c.l2_is_pinned.ensures c.if-l2_is_pinned.false in
-    let is : own_table mid from ≡ table = own_table_known view below out (pending_in view below mid out) mid from table found.0.sound found.1.entry.place in
+pub returns-clause-gave : goal.returns-clause-gave
+returns-clause-gave g c = λ out sound.
     let since = c.in_ok-table.ensures.freed out sound in
-    tables_listing view from table old mid new (since.freed ++ since.more, since.gone) is (λ own. (c.in_ok-table.ensures.own own).table) (ap (λ (i : Qcow2 _ _). i.file.header) clears.rest) (ap (λ (i : Qcow2 _ _). i.l1_table) clears.rest) (ap (λ (i : Qcow2 _ _). i.allocator) clears.rest)
-    (clears_uses view below out old mid b new how from to table found.0 found.1 whole c.requires.some none list reads clears longer)
-    (clears_listed view below out old mid b new how from to table found.0 found.1 whole c.requires.some none list reads clears longer sound)
-    (c.in_ok-table.ensures.moves out sound) (c.in_ok-table.ensures.lowest out sound)
+    let new = record c.clear_entries.new.self { file = record c.clear_entries.new.self.file { free_list = c.hand_back.new.list } } in
+    (since.freed ++ since.more, gave_still (since.freed ++ since.more) c.args.self.now c.table_for.new.self new since.gone (ap (λ (i : Qcow2 _ _). i.allocator) c.clear_entries.ensures.clears.rest))

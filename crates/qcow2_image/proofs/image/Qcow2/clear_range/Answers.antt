@@ -33,12 +33,10 @@ use Rattle.qcow2_image.proofs.Prepare.Pinned.{begun_own, heeds_begun, heeds_refu
 use Rattle.qcow2_image.specs.PinnedTables.{HeedsPins}
 use Rattle.qcow2_alloc.specs.declared.error.ImageError.{ImageError}
 use Rattle.qcow2_image.proofs.Prepare.Lacked.{hands_limit, lacks_ended, other_limit}
-use Rattle.qcow2_image.specs.LackedPlaces.{LacksTableFor, FreesJustListed}
+use Rattle.qcow2_image.specs.LackedPlaces.{LacksTableFor}
 use Rattle.qcow2_image.proofs.Call.Unlimited.{fault_unlimited}
 use Rattle.qcow2_image.specs.MetAlone.{IsMetTaking}
 use Rattle.qcow2_image.proofs.Prepare.MetTables.{far_before}
-use Rattle.qcow2_image.specs.LowestPlaces.{LeavesLowestTables}
-use Rattle.qcow2_image.proofs.Prepare.LowestTables.{begun_used, tables_alike, tables_freed}
 use Rattle.qcow2_image.proofs.Prepare.MetTaking.{taking_as}
 use Rattle.qcow2_alloc.specs.ImageError.{IsOfTables}
 use Rattle.qcow2_image.proofs.Grow.NoLonger.{length_then, reaches_behind}
@@ -757,34 +755,3 @@ returns-clause-far_refused g c = λ some none needs.
     let from : c.in_ok-from.from ≡ from_in c.args.self.now c.args.offset c.args.length = ap (λ (r : ℕ × ℕ). r.0) range.1 in
     let refused = (subst (λ n. NeedsFarEntry c.begin.new.self n → IsErrAnd c.clear_between-cleared.result (λ e. (e ≡ Overflow) ⊎ IsOfTables e)) from c.clear_between-cleared.ensures.far_refused) (far_begun old c.begin.new.self (from_in old c.args.offset c.args.length) (from_in old c.args.offset c.args.length) refl c.begin.ensures.begun needs) in
     absurd (subst (λ (r : Result _ _). IsErrAnd r (λ e. (e ≡ Overflow) ⊎ IsOfTables e)) (sym c.mark_failure.ensures.answer ∙ c.in_ok-mark_failure.was) refused)
-
-pub returns-clause-lowest_tables : goal.returns-clause-lowest_tables
-returns-clause-lowest_tables g c = λ lt out sound.
-    let view = g.S.Storage.view in
-    let below = g.F.BackingDisk.backing in
-    let old = c.args.self.now in
-    let begun = c.begin.new.self in
-    let entries = c.clear_between-cleared.new.self in
-    let freed = c.end_freeing.new.self in
-    let how = c.args.how in
-    let offset = c.args.offset in
-    let n = c.args.length in
-    let first = from_in old offset n in
-    let range = not_refused c.check_clear.result _ (refuses_to_clear old c.args.offset c.args.length c.args.how) (c.in_ok-from.from, c.in_ok-from.to) c.check_clear.ensures.refusal c.in_ok-from.was in
-    let from : c.in_ok-from.from ≡ from_in c.args.self.now c.args.offset c.args.length = ap (λ (r : ℕ × ℕ). r.0) range.1 in
-    let to : c.in_ok-from.to ≡ to_in c.args.self.now c.args.offset c.args.length = ap (λ (r : ℕ × ℕ). r.1) range.1 in
-    let works = clear_works old c.args.offset c.args.length c.args.how range.0 in
-    let quiet : (out : _) → _ → Quietly view below out old begun = λ out sound. record { keeps = c.begin.ensures.keeps (pending_in view below old out) out sound; list = c.begin.ensures.list } in
-    let done : c.clear_between-cleared.result ≡ Ok c.in_ok-mark_failure.field-0 = sym c.mark_failure.ensures.answer ∙ c.in_ok-mark_failure.was in
-    let marks = subst (λ (r : Result _ _). MayMarkBy r (is_failed entries) (is_failed c.mark_failure.new.self)) done (may_mark c.clear_between-cleared.new.self c.mark_failure.new.self c.clear_between-cleared.result c.mark_failure.ensures.marks) in
-    let same : c.mark_failure.new.self ≡ c.clear_between-cleared.new.self = c.mark_failure.ensures.rest ∙ ap (λ f. record entries { is_failed = f }) marks in
-    let began = begins view below old c.args.how c.args.offset c.args.length works begun entries quiet out sound in
-    let whole = subst (λ k. IsClearable begun.file.header.fields how k c.in_ok-from.to) (sym from) (subst (λ k. IsClearable begun.file.header.fields how (from_in old offset n) k) (sym to)
-    (whole_in view below old how offset n works begun entries quiet out began c.in_ok-from.ensures.version)) in
-    let cleared = subst (ClearsOrRefuses view below how c.in_ok-from.from c.in_ok-from.to begun entries out) done (c.clear_between-cleared.ensures.clears out began.sound whole) in
-    let leaves = subst (λ k. LeavesLowestTables view k begun entries) from (subst (λ (r : Result _ _). OnOk r (LeavesLowestTables view c.in_ok-from.from begun entries)) done (c.clear_between-cleared.ensures.lowest_tables out began.sound whole)) in
-    let frees = subst (λ (image : Qcow2 _ _). (out : _) → ImageInvariant view below (pending_in view below image out) image out → OnOk c.end_freeing.result (FreesJustListed view image freed)) same c.end_freeing.ensures.uses in
-    let just = subst (λ (r : Result _ _). OnOk r (FreesJustListed view entries freed)) c.in_ok-end_freeing.was (frees out cleared.sound) in
-    let known = c.begin.ensures.known (pending_in view below old out) out sound in
-    tables_alike view first old begun freed c.begin.ensures.rest (begun_used view old begun (ap (λ (i : Qcow2 _ _). i.file.header) c.begin.ensures.rest) known)
-    (tables_freed view first begun entries freed (c.end_freeing.ensures.header ∙ ap (λ (i : Qcow2 _ _). i.file.header) same) (c.end_freeing.ensures.table ∙ ap (λ (i : Qcow2 _ _). i.l1_table) same) just leaves)

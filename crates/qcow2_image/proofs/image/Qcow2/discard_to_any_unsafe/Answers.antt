@@ -62,6 +62,3 @@ returns-clause-no_longer g c = c.discard_to_zero_unsafe.ensures.no_longer
 
 pub returns-clause-far_refused : goal.returns-clause-far_refused
 returns-clause-far_refused g c = c.discard_to_zero_unsafe.ensures.far_refused
-
-pub returns-clause-lowest_tables : goal.returns-clause-lowest_tables
-returns-clause-lowest_tables g c = c.discard_to_zero_unsafe.ensures.lowest_tables

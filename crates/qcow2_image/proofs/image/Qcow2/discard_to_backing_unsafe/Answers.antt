@@ -62,6 +62,3 @@ returns-clause-no_longer g c = c.clear_range.ensures.no_longer
 
 pub returns-clause-far_refused : goal.returns-clause-far_refused
 returns-clause-far_refused g c = c.clear_range.ensures.far_refused
-
-pub returns-clause-lowest_tables : goal.returns-clause-lowest_tables
-returns-clause-lowest_tables g c = c.clear_range.ensures.lowest_tables

@@ -1,5 +1,5 @@
 use Rattle.std.proofs.Common.{refl, sym, ap, ◌∙◌, subst}
-use Rattle.std.specs.Prelude.{Result, OnOk}
+use Rattle.std.specs.Prelude.{Result}
 use Rattle.qcow2_laws.specs.CrashInvariant.{Pending}
 use Rattle.qcow2_image.specs.declared.image.Qcow2.{Qcow2}
 use Rattle.qcow2_image.specs.Image.{is_failed}
@@ -12,8 +12,6 @@ use Rattle.qcow2_image.proofs.Call.Marked.{marks_memory, may_mark}
 use Rattle.qcow2_alloc.proofs.KeptMarks.{notes_then}
 use Rattle.qcow2_image.proofs.Call.Notes.{same_kept}
 use Rattle.qcow2_image.proofs.Call.BehindHeader.{behind_by, behind_none, behind_then}
-use Rattle.qcow2_image.specs.LackedPlaces.{FreesJustListed}
-use Rattle.qcow2_alloc.proofs.Hints.{ok_as}
 use Rattle.qcow2_image.proofs.image.Qcow2.end_freeing.Goals as goal
 
 pub returns-clause-frees : goal.returns-clause-frees
@@ -53,15 +51,3 @@ returns-clause-notes g c = notes_then c.free_listed-freed.ensures.notes (same_ke
 
 pub returns-clause-header_cluster : goal.returns-clause-header_cluster
 returns-clause-header_cluster g c = behind_then c.free_listed-freed.ensures.header_cluster (behind_by g.S.Storage.view c.mark_failure.ensures.rest behind_none)
-
-pub returns-clause-uses : goal.returns-clause-uses
-returns-clause-uses g c = λ out sound.
-    let view = g.S.Storage.view in
-    let below = g.F.BackingDisk.backing in
-    let old = c.args.self.now in
-    let new = c.free_listed-freed.new.self in
-    let listed = subst (λ (x : Pending). ImageInvariant view below x old out) (all_listed view below old out) sound in
-    subst (λ (image : Qcow2 _ _). OnOk c.mark_failure.result (FreesJustListed view old image)) (sym c.mark_failure.ensures.rest)
-    (subst (λ (x : Result _ _). OnOk x (FreesJustListed view old (record new { is_failed = is_failed c.mark_failure.new.self }))) (sym c.mark_failure.ensures.answer)
-    (ok_as (FreesJustListed view old new) (FreesJustListed view old (record new { is_failed = is_failed c.mark_failure.new.self })) c.free_listed-freed.result (λ just. record { reftable = just.reftable; used = just.used; list = just.list })
-    (c.free_listed-freed.ensures.uses (beside view below old out) out listed)))

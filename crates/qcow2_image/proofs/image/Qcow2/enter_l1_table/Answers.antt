@@ -1,8 +1,7 @@
 use Rattle.qcow2_image.proofs.image.Qcow2.enter_l1_table.Goals as goal
 use Rattle.qcow2_alloc.proofs.Outcomes.{on_no_ok, on_ok}
-use Rattle.std.proofs.Common.{refl, ◌∙◌, subst, ◌≡◌, ap, arith, inl, inr, sym, ◌<◌}
-use Rattle.std.specs.Prelude.{IfSome, Some, false}
-use Rattle.qcow2_alloc.specs.Allocation.{run_at, taken_as, UnseenAllocatorGrowth}
+use Rattle.std.proofs.Common.{refl, ◌∙◌, subst, ◌≡◌, ap, inl, inr}
+use Rattle.std.specs.Prelude.{IfSome, Some}
 use Rattle.qcow2_alloc.specs.FreeList.{pending_then}
 use Rattle.qcow2_alloc.specs.KeptAllocators.{IsAllocatorOf}
 use Rattle.qcow2_alloc.proofs.AllocationSteps.{handed_on}
@@ -16,14 +15,11 @@ use Rattle.qcow2_alloc.proofs.KeptTables.Turning.{always_ok}
 use Rattle.qcow2_image.proofs.Prepare.Lacked.{cause_of, faults_or_limit, faults_unlimited, hands_either, hands_limit, placed_near, stands_untaken, table_clusters, table_more, unlimited_all}
 use Rattle.qcow2_metadata.specs.Header.{HeaderView}
 use Rattle.qcow2_metadata.specs.EntryTable.{entry_count, EntryTableView}
-use Rattle.qcow2_metadata.specs.L2Mapping.{IsHostCluster}
 use Rattle.qcow2_alloc.specs.Limits.{HasNoPlace, IsFaultOr}
 use Rattle.qcow2_alloc.specs.LowestRuns.{IsUsed}
 use Rattle.qcow2_image.specs.LackedPlaces.{HasNoTablePlace, StandsInWay}
 use Rattle.qcow2_image.proofs.Call.FaultCounts.{counted_since, same_told}
 use Rattle.qcow2_alloc.proofs.Hints.{ok_as}
-use Rattle.qcow2_image.proofs.Prepare.LowestTables.{lies_lowest, lowest_taken}
-use Rattle.qcow2_alloc.proofs.ListedAfter.{header_same}
 use Rattle.qcow2_image.proofs.Grow.NoLonger.{length_behind}
 
 pub returns-in_default-clause-takes : goal.returns-in_default-clause-takes
@@ -158,24 +154,3 @@ returns-clause-no_longer g c = length_behind (ap (λ (v : HeaderView). v.fields.
 
 pub returns-clause-bytes : goal.returns-clause-bytes
 returns-clause-bytes g c = ok_as (c.write_taken.new.self.l1_table ≡ record c.args.table { cluster = Some c.in_ok-pending.pending.first_cluster }) (c.write_taken.new.self.l1_table.bytes ≡ c.args.table.bytes) c.write_taken.result (λ is. ap (λ (t : EntryTableView). t.bytes) is) c.write_taken.ensures.placed
-
-pub returns-clause-lowest : goal.returns-clause-lowest
-returns-clause-lowest g c = λ p out sound longer.
-    let view = g.S.Storage.view in
-    let below = g.F.BackingDisk.backing in
-    let old = c.args.self.now in
-    let file = c.allocate_meta.new.file in
-    let a = c.allocate_meta.new.self in
-    let mid = record old { file = file; allocator = Some a } in
-    let own = subst (λ o. IfSome o (IsAllocatorOf view old.file)) c.in-Some.is sound.reftable in
-    let took = c.in_ok-pending.ensures.sound p (record { sound = sound.file; reftable = own.reftable }) in
-    let since = pending_then p old.file.free_list file.free_list in
-    let hint = c.in_ok-pending.ensures.hint p (record { sound = record { sound = sound.file; reftable = own.reftable }; hint = own.hint }) in
-    let leaks = leaked_still old c.in-Some.allocator a c.in-Some.is (c.allocate_meta.ensures.leaks p (record { sound = sound.file; reftable = own.reftable })) in
-    let first = c.in_ok-pending.pending.first_cluster in
-    let keeps = keeps_taken view below out p old sound file a c.allocate_meta.ensures.marks.pins c.allocate_meta.ensures.list c.allocate_meta.ensures.header leaks c.args.table first c.cluster_count.result c.cluster_count.ensures took.2 hint longer in
-    let there = longer_taken view below out p old sound file a c.allocate_meta.ensures.marks.pins c.allocate_meta.ensures.list c.allocate_meta.ensures.header leaks c.args.table first c.cluster_count.result c.cluster_count.ensures took.2 hint longer in
-    let many = table_clusters view below out p old sound c.args.table longer old.file.header (header_same old.file.header old.file.header refl) c.cluster_count.result c.cluster_count.ensures in
-    lies_lowest view first c.cluster_count.result c.args.table old.file.free_list old mid c.write_taken.new.self c.write_taken.result many.0 c.write_taken.ensures.allocator c.write_taken.ensures.kept
-    (c.write_taken.ensures.uses refl since out keeps.sound there) c.write_taken.ensures.placed
-    (lowest_taken view first c.cluster_count.result old file c.in-Some.allocator a c.in-Some.is c.allocate_meta.ensures.former (c.in_ok-pending.ensures.lowest p (record { sound = record { sound = sound.file; reftable = own.reftable }; hint = own.hint })))

@@ -7,7 +7,7 @@ use Rattle.qcow2_alloc.specs.KeptAllocators.{IsAllocatorOf}
 use Rattle.qcow2_alloc.proofs.AllocationSteps.{handed_on}
 use Rattle.qcow2_image.specs.NewTables.{EntersTable}
 use Rattle.qcow2_image.proofs.Moving.{leaked_still}
-use Rattle.qcow2_image.proofs.Prepare.Entering.{none_taken, table_entered, table_refused, may_still, keeps_taken, says_still}
+use Rattle.qcow2_image.proofs.Prepare.Entering.{none_taken, table_entered, table_refused, keeps_taken, says_still}
 use Rattle.qcow2_alloc.proofs.KeptMarks.{notes_then, notes_of_marks}
 use Rattle.qcow2_image.proofs.Call.BehindHeader.{behind_allocated, behind_then}
 use Rattle.qcow2_image.proofs.Prepare.Listing.{gave_former, gave_still}
@@ -15,11 +15,10 @@ use Rattle.qcow2_image.proofs.Prepare.Lacked.{cause_of, cluster_more, hands_limi
 use Rattle.qcow2_metadata.specs.Header.{HeaderView}
 use Rattle.qcow2_metadata.specs.L2Mapping.{IsHostCluster}
 use Rattle.qcow2_alloc.specs.Limits.{HasNoPlace, IsFaultOr}
-use Rattle.qcow2_alloc.specs.LowestRuns.{IsUsed, IsLowestRun}
+use Rattle.qcow2_alloc.specs.LowestRuns.{IsUsed}
 use Rattle.qcow2_image.specs.LackedPlaces.{HasNoCluster, StandsInWay}
 use Rattle.qcow2_laws.specs.Changes.{one_at, with_new_tables}
 use Rattle.qcow2_image.proofs.Call.FaultCounts.{counted_as, counted_still, same_told, untouched}
-use Rattle.qcow2_image.proofs.Prepare.LowestTables.{lowest_still, lowest_taken}
 use Rattle.qcow2_image.specs.Backings.{HasPrepared}
 use Rattle.qcow2_image.specs.MetAlone.{IsMetTaking}
 use Rattle.qcow2_image.proofs.Prepare.Met.{hands_met}
@@ -152,44 +151,3 @@ returns-in-Err-clause-faults g c =
     let new = record wrote { file = record wrote.file { free_list = c.hand_back.new.list } } in
     let same = same_told view below old taken c.allocate_meta.result c.in_ok-pending.pending c.allocate_meta.ensures.storage_faults c.in_ok-pending.was refl in
     counted_still view below old wrote new (Err c.in-Err.refusal) (counted_as view below old taken wrote c.write_l2.result c.in-Err.refusal same c.write_l2.ensures.faults c.in-Err.is) (untouched view below wrote new refl refl)
-
-pub returns-in-Ok-clause-uses : goal.returns-in-Ok-clause-uses
-returns-in-Ok-clause-uses g c = λ p out sound may says.
-    let view = g.S.Storage.view in
-    let below = g.F.BackingDisk.backing in
-    let old = c.args.self.now in
-    let file = c.allocate_meta.new.file in
-    let a = c.allocate_meta.new.self in
-    let taken = record old { file = file; allocator = Some a } in
-    let own = subst (λ o. IfSome o (IsAllocatorOf view old.file)) c.in-Some.is sound.reftable in
-    let took = c.in_ok-pending.ensures.sound p (record { sound = sound.file; reftable = own.reftable }) in
-    let since = pending_then p old.file.free_list file.free_list in
-    let allocator_step = subst (λ n. UnseenAllocatorGrowth view p old.file a file (taken_as false since (run_at n c.new.result))) (sym c.cluster-cluster.ensures) took.2 in
-    let keeps = keeps_taken view below out p old sound file a c.allocate_meta.ensures.marks.pins c.allocate_meta.ensures.list (leaked_still old c.in-Some.allocator a c.in-Some.is (c.allocate_meta.ensures.leaks p (record { sound = sound.file; reftable = own.reftable }))) c.cluster-cluster.result c.new.result c.new.ensures allocator_step
-    (c.in_ok-pending.ensures.hint p (record { sound = record { sound = sound.file; reftable = own.reftable }; hint = own.hint })) in
-    let q = with_new_tables since (one_at c.cluster-cluster.result) in
-    let known = says_still view below out p q old taken c.args.index c.args.table keeps says in
-    let then = c.in-Ok.ensures.uses refl since out keeps.sound (may_still view below out p q old taken sound keeps.sound refl c.args.index may) known in
-    λ k used. then k (c.in_ok-pending.ensures.uses p (record { sound = sound.file; reftable = own.reftable }) k used)
-
-pub returns-in-Ok-clause-lowest : goal.returns-in-Ok-clause-lowest
-returns-in-Ok-clause-lowest g c = λ p out sound may says.
-    let view = g.S.Storage.view in
-    let below = g.F.BackingDisk.backing in
-    let old = c.args.self.now in
-    let file = c.allocate_meta.new.file in
-    let a = c.allocate_meta.new.self in
-    let taken = record old { file = file; allocator = Some a } in
-    let own = subst (λ o. IfSome o (IsAllocatorOf view old.file)) c.in-Some.is sound.reftable in
-    let took = c.in_ok-pending.ensures.sound p (record { sound = sound.file; reftable = own.reftable }) in
-    let since = pending_then p old.file.free_list file.free_list in
-    let allocator_step = subst (λ n. UnseenAllocatorGrowth view p old.file a file (taken_as false since (run_at n c.new.result))) (sym c.cluster-cluster.ensures) took.2 in
-    let keeps = keeps_taken view below out p old sound file a c.allocate_meta.ensures.marks.pins c.allocate_meta.ensures.list (leaked_still old c.in-Some.allocator a c.in-Some.is (c.allocate_meta.ensures.leaks p (record { sound = sound.file; reftable = own.reftable }))) c.cluster-cluster.result c.new.result c.new.ensures allocator_step
-    (c.in_ok-pending.ensures.hint p (record { sound = record { sound = sound.file; reftable = own.reftable }; hint = own.hint })) in
-    let q = with_new_tables since (one_at c.cluster-cluster.result) in
-    let known = says_still view below out p q old taken c.args.index c.args.table keeps says in
-    let then = c.in-Ok.ensures.uses refl since out keeps.sound (may_still view below out p q old taken sound keeps.sound refl c.args.index may) known in
-    let first = c.cluster-cluster.result in
-    let low : IsLowestRun (IsUsed view file) first 1 = subst (λ n. IsLowestRun (IsUsed view file) n 1) (sym c.cluster-cluster.ensures)
-    (subst (λ n. IsLowestRun (IsUsed view file) c.in_ok-pending.pending.first_cluster n) c.new.ensures (c.in_ok-pending.ensures.lowest p (record { sound = record { sound = sound.file; reftable = own.reftable }; hint = own.hint }))) in
-    lowest_still view first 1 old.file.free_list old taken c.write_l2.new.self c.write_l2.ensures.allocator c.write_l2.ensures.list then (lowest_taken view first 1 old file c.in-Some.allocator a c.in-Some.is c.allocate_meta.ensures.former low)

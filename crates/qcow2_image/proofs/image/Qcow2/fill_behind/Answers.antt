@@ -1,12 +1,8 @@
-use Rattle.std.proofs.Common.{◌≡◌, ◌<◌, inl, inr, ap, refl, subst, sym, arith}
+use Rattle.std.proofs.Common.{◌<◌, inl, inr, ap, refl, subst, sym, arith}
 use Rattle.qcow2_disk.specs.Calls.{shows_old}
 use Rattle.qcow2_alloc.proofs.AllocationSteps.{handed_on}
 use Rattle.qcow2_metadata.specs.Header.{cluster_size, rounded_up}
-use Rattle.qcow2_image.specs.FilledTurns.{FillsTurn}
-use Rattle.std.proofs.lemmas.Result.{on_ok_weaker}
 use Rattle.image_access.specs.declared.storage.PreallocateMode.TheVariants.{Zero}
-use Rattle.qcow2_image.proofs.Preallocate.LowestTurns.{turns_wider}
-use Rattle.qcow2_image.proofs.Turns.{no_turn}
 use Rattle.qcow2_image.specs.Preallocation.{first_zeros, FillsGrownOrRefuses}
 use Rattle.qcow2_image.proofs.Preallocate.Grown.{early_refused, grown_none, grown_or_refused}
 use Rattle.qcow2_image.proofs.Call.BehindHeader.{behind_none}
@@ -56,37 +52,6 @@ returns-in_err-writes-in-WriteData-clause-fills g c = λ out sound.
     let e = c.in_err-writes-in-WriteData.field-0.0 in
     handed_on (λ r. FillsGrownOrRefuses view below c.args.size c.args.mode old old out r) c.from_residual.result e c.from_residual.ensures
     (early_refused view below out old sound c.args.size c.args.mode (subst (λ n. n < c.args.size) c.requires.end c.requires.larger) (ap shows_old c.in-WriteData.is) e c.in_err-writes-in-WriteData.ensures.cause c.in_err-writes-in-WriteData.ensures.limited)
-
-pub returns-in-None-clause-turns : goal.returns-in-None-clause-turns
-returns-in-None-clause-turns g c = λ out sound. no_turn {IsTurn = FillsTurn g.S.Storage.view g.F.BackingDisk.backing out c.args.old (rounded_up (cluster_size c.args.self.now.file.header.fields) c.args.size) (c.args.mode ≡ Zero)} c.args.self.now
-
-pub returns-in-Zero-clause-turns : goal.returns-in-Zero-clause-turns
-returns-in-Zero-clause-turns g c = λ out sound.
-    let larger = c.requires.larger in
-    on_ok_weaker c.zero_grown.result
-    (turns_wider g.S.Storage.view g.F.BackingDisk.backing out c.args.old (rounded_up (cluster_size c.args.self.now.file.header.fields) c.args.size) c.args.old (rounded_up (cluster_size c.args.self.now.file.header.fields) c.args.size) (Unit {0}) (c.args.mode ≡ Zero) (omega arith) (omega arith) (λ may. (c.in-Zero.is, refl)) c.args.self.now c.zero_grown.new.self)
-    (c.zero_grown.ensures.turns out sound (omega (arith, larger)))
-
-pub returns-in-FormatAllocate-clause-turns : goal.returns-in-FormatAllocate-clause-turns
-returns-in-FormatAllocate-clause-turns g c = λ out sound.
-    let larger = c.requires.larger in
-    on_ok_weaker c.allocate_grown.result
-    (turns_wider g.S.Storage.view g.F.BackingDisk.backing out c.args.old (rounded_up (cluster_size c.args.self.now.file.header.fields) c.args.size) c.args.old (rounded_up (cluster_size c.args.self.now.file.header.fields) c.args.size) ⊥ (c.args.mode ≡ Zero) (omega arith) (omega arith) (λ may. absurd may) c.args.self.now c.allocate_grown.new.self)
-    (c.allocate_grown.ensures.turns out sound (omega (arith, larger)))
-
-pub returns-in-FullAllocate-clause-turns : goal.returns-in-FullAllocate-clause-turns
-returns-in-FullAllocate-clause-turns g c = λ out sound.
-    let larger = c.requires.larger in
-    on_ok_weaker c.allocate_grown-in-FullAllocate.result
-    (turns_wider g.S.Storage.view g.F.BackingDisk.backing out c.args.old (rounded_up (cluster_size c.args.self.now.file.header.fields) c.args.size) c.args.old (rounded_up (cluster_size c.args.self.now.file.header.fields) c.args.size) ⊥ (c.args.mode ≡ Zero) (omega arith) (omega arith) (λ may. absurd may) c.args.self.now c.allocate_grown-in-FullAllocate.new.self)
-    (c.allocate_grown-in-FullAllocate.ensures.turns out sound (omega (arith, larger)))
-
-pub returns-in_ok-writes-in-WriteData-clause-turns : goal.returns-in_ok-writes-in-WriteData-clause-turns
-returns-in_ok-writes-in-WriteData-clause-turns g c = λ out sound.
-    let larger = c.requires.larger in
-    on_ok_weaker c.allocate_grown-in-WriteData.result
-    (turns_wider g.S.Storage.view g.F.BackingDisk.backing out c.args.old (rounded_up (cluster_size c.args.self.now.file.header.fields) c.args.size) c.args.old (rounded_up (cluster_size c.args.self.now.file.header.fields) c.args.size) ⊥ (c.args.mode ≡ Zero) (omega arith) (omega arith) (λ may. absurd may) c.args.self.now c.allocate_grown-in-WriteData.new.self)
-    (c.allocate_grown-in-WriteData.ensures.turns out sound (omega (arith, larger)))
 
 pub returns-in-None-clause-header_cluster : goal.returns-in-None-clause-header_cluster
 returns-in-None-clause-header_cluster g c = behind_none

@@ -10,8 +10,7 @@ use Rattle.qcow2_image.proofs.Call.Called.{works_none}
 use Rattle.qcow2_image.proofs.Flush.Freeing.{all_listed, beside, freed_refused, tidy_stays}
 use Rattle.qcow2_image.proofs.Free.{free_places}
 use Rattle.qcow2_image.proofs.Preallocate.Filled.{fill_unseen, fills_none, fills_refused, fills_stays, lacks_here, met_taken, refused_after, taken_here}
-use Rattle.qcow2_image.proofs.Preallocate.LowestTurns.{turn_of_mapping}
-use Rattle.qcow2_image.proofs.Preallocate.Piece.{all_behind, all_filled, all_fits, all_next, all_placed, all_put, all_within, piece_gone, sound_now}
+use Rattle.qcow2_image.proofs.Preallocate.Piece.{all_behind, all_filled, all_fits, all_next, all_put, all_within, piece_gone, sound_now}
 use Rattle.qcow2_image.proofs.Call.FaultCounts.{counted_as, counted_of, counted_still}
 use Rattle.qcow2_image.specs.Faults.{CountsImageFaults}
 use Rattle.qcow2_image.proofs.Call.MetErrors.{tables_met}
@@ -143,42 +142,6 @@ returns-clause-fills g c = λ out sound whole.
     let listed = subst (λ (x : Pending). ImageInvariant view below x done out) (all_listed view below done out) part.sound in
     subst (λ k. FillsPart view below to from k old new out) (sym next)
     (fills_stays view below out old done new to from (from + p.length) part (tidy_stays view below done out new part.sound (c.in_ok-free_listed.ensures.frees (beside view below done out) out listed)) c.free_listed.ensures.keeps_rest.header c.free_listed.ensures.former)
-
-pub returns-clause-turns : goal.returns-clause-turns
-returns-clause-turns g c = λ out sound whole.
-    let view = g.S.Storage.view in
-    let below = g.F.BackingDisk.backing in
-    let old = c.args.self.now in
-    let mid = c.prepare.new.self in
-    let done = c.commit_filled.new.self in
-    let new = c.free_listed.new.self in
-    let p = c.in_ok-prepared.prepared in
-    let from = c.args.from in
-    let to = c.args.to in
-    let n = c.min.result in
-    let lt = c.requires.some in
-    let few = subst (λ m. 2 ^ 21 ≤ m) (sym c.most.ensures) c.requires.few in
-    let asked = c.min.ensures in
-    let some : 0 < c.min.result = omega (arith, asked, few, lt) in
-    let counted = c.min-count.ensures ∙ ap (min p.length) (c.most-2.ensures ∙ sym c.most.ensures) in
-    let high : c.args.to < 2 ^ 64 = search rules in
-    let ready = c.in_ok-prepared.ensures.readies some (None ∷ out) ((free_places view below).free old [] out sound) 0 refl in
-    let answered = c.in_ok-prepared.ensures.answers some out sound in
-    let next : c.min-next.result ≡ c.args.from + c.in_ok-prepared.prepared.length =
-    all_next view below out old mid p from to c.most.result n c.min-count.result sound ready answered lt whole few asked counted c.min-next.result (c.min-next.ensures ∙ ap (min to) c.saturating_add.ensures) high in
-    let part = all_filled view below out old mid p from to c.most.result n c.min-count.result sound ready answered lt whole few asked counted (c.in_ok-prepared.ensures.some some).some c.put_zeros.new.self done c.in_default.ensures.written c.commit_filled.ensures.commits c.commit_filled.ensures.header c.in_ok-prepared.ensures.l1_place (let lists = (c.in_ok-prepared.ensures.listed some out sound).lists in (lists.freed ++ lists.more, lists.gone)) in
-    let listed = subst (λ (x : Pending). ImageInvariant view below x done out) (all_listed view below done out) part.sound in
-    let tidy = tidy_stays view below done out new part.sound (c.in_ok-free_listed.ensures.frees (beside view below done out) out listed) in
-    let within = answered.within in
-    let most : c.min-next.result ≤ c.args.to = let is = c.min-next.ensures in omega (arith, is) in
-    turn_of_mapping view below out old new from c.min-next.result to most (omega (arith, next, within)) (c.in_ok-free_listed.ensures.emptied (subst IsTrue (sym (c.commit_filled.ensures.stays.image.writable ∙ c.put_zeros.ensures.stays.image.writable ∙ c.prepare.ensures.stays.image.writable)) c.requires.writable)) mid done p to n next
-    (c.in_ok-prepared.ensures.some some).some
-    (subst (λ k. FillsPart view below to from k old new out) (sym next)
-    (fills_stays view below out old done new to from (from + p.length) part tidy c.free_listed.ensures.keeps_rest.header c.free_listed.ensures.former))
-    (record { readied = ready; leaves = c.in_ok-prepared.ensures.listed some out sound; tables = c.in_ok-prepared.ensures.lowest_tables out sound; begins = c.in_ok-prepared.ensures.lowest out sound })
-    (c.free_listed.ensures.keeps_rest.header ∙ c.commit_filled.ensures.header ∙ ap (λ (i : Qcow2 _ _). i.file.header) c.in_default.ensures.written.rest)
-    (c.free_listed.ensures.table ∙ c.commit_filled.ensures.table ∙ ap (λ (i : Qcow2 _ _). i.l1_table) c.in_default.ensures.written.rest)
-    (all_placed view below out old mid p from to c.most.result n c.min-count.result sound ready answered lt whole few asked counted c.put_zeros.new.self done c.in_default.ensures.written c.commit_filled.ensures.commits c.commit_filled.ensures.header) tidy
 
 pub returns-in-Err-clause-faults : goal.returns-in-Err-clause-faults
 returns-in-Err-clause-faults g c =

@@ -28,9 +28,6 @@ returns-in-Err-clause-version g c = λ none zero low.
 pub returns-in-Ok-clause-fills : goal.returns-in-Ok-clause-fills
 returns-in-Ok-clause-fills g c = λ out sound. c.in-Ok.ensures.fills out sound
 
-pub returns-in-Ok-clause-turns : goal.returns-in-Ok-clause-turns
-returns-in-Ok-clause-turns g c = λ out sound. c.in-Ok.ensures.turns out sound
-
 pub returns-in-Err-clause-fills : goal.returns-in-Err-clause-fills
 returns-in-Err-clause-fills g c = λ out sound.
     let view = g.S.Storage.view in

@@ -1,10 +1,7 @@
 use Rattle.qcow2_alloc.proofs.KeptMarks.{notes_none, notes_then}
 use Rattle.std.proofs.Common.{◌≡◌, refl, subst, arith}
 use Rattle.qcow2_alloc.proofs.AllocationSteps.{handed_on}
-use Rattle.qcow2_image.specs.FilledTurns.{FillsTurn}
 use Rattle.qcow2_image.specs.Preallocation.{FillsOrRefuses, FillsPart}
-use Rattle.qcow2_image.proofs.Turns.{no_turn}
-use Rattle.qcow2_image.proofs.Preallocate.LowestTurns.{fills_lowest_next}
 use Rattle.qcow2_image.proofs.Preallocate.Turns.{filled_first, filled_next, filled_refused, still_at}
 use Rattle.qcow2_image.proofs.Call.FaultCounts.{counted_ok, counted_on, faults_then, untouched}
 use Rattle.qcow2_image.proofs.Call.BehindHeader.{behind_none, behind_then}
@@ -17,7 +14,6 @@ use Rattle.qcow2_image.proofs.image.Qcow2.fill_range.Goals as goal
 pub loop-at-init : goal.loop-at-init
 loop-at-init g c = record {
   turns = filled_first g.S.Storage.view g.F.BackingDisk.backing c.args.from c.args.to c.args.self.now;
-  lowest = λ out sound whole. no_turn {IsTurn = FillsTurn g.S.Storage.view g.F.BackingDisk.backing out c.args.from c.args.to ⊥} c.args.self.now;
   faults = untouched g.S.Storage.view g.F.BackingDisk.backing c.args.self.now c.args.self.now refl refl;
   emptied = λ none. none;
   behind = behind_none;
@@ -38,7 +34,6 @@ loop-at-preserved g c =
     let next = c.in_ok-at.ensures.next in
     record {
       turns = filled_next g.S.Storage.view g.F.BackingDisk.backing c.args.from c.args.to c.loop-at.at c.args.self.now c.loop-at.self c.fill_first.new.self c.loop-at-test.true c.loop-at.invariant.turns c.in_ok-at.at c.fill_first.ensures.stays next.0 next.1 c.in_ok-at.ensures.fills;
-      lowest = fills_lowest_next g.S.Storage.view g.F.BackingDisk.backing c.args.from c.args.to c.loop-at.at c.args.self.now c.loop-at.self c.fill_first.new.self c.loop-at-test.true c.loop-at.invariant.turns c.loop-at.invariant.lowest c.in_ok-at.ensures.turns;
       faults = faults_then g.S.Storage.view g.F.BackingDisk.backing c.args.self.now c.loop-at.self c.fill_first.new.self c.loop-at.invariant.faults c.in_ok-at.ensures.faults.told;
       emptied = λ none. c.in_ok-at.ensures.emptied (c.loop-at.invariant.emptied none);
       behind = behind_then c.loop-at.invariant.behind c.fill_first.ensures.header_cluster;
@@ -56,9 +51,6 @@ returns-clause-fills g c = λ out sound le whole.
     let past = c.loop-at-test.false in
     let end : c.loop-at.at ≡ c.args.to = omega (arith, high, past, le) in
     subst (λ n. FillsPart view below c.args.to c.args.from n c.args.self.now c.loop-at.self out) end (c.loop-at.invariant.turns.so_far out sound whole)
-
-pub returns-clause-turns : goal.returns-clause-turns
-returns-clause-turns g c = λ out sound le whole. c.loop-at.invariant.lowest out sound whole
 
 pub returns-in_err-at-clause-faults : goal.returns-in_err-at-clause-faults
 returns-in_err-at-clause-faults g c =

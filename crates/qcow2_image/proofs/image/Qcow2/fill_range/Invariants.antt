@@ -4,7 +4,6 @@ use Rattle.std.proofs.Common.{◌-◌}
 use Rattle.qcow2_image.specs.BehindHeader.{StaysBehindHeader}
 use Rattle.qcow2_image.specs.Faults.{SameFaults}
 use Rattle.qcow2_image.specs.Image.{HasNothingToFree}
-use Rattle.qcow2_image.proofs.Preallocate.LowestTurns.{FillsLowest}
 use Rattle.qcow2_image.proofs.Preallocate.Met.{KeepsPlaceFilling}
 use Rattle.qcow2_image.proofs.Preallocate.Turns.{FilledTo}
 use Rattle.qcow2_image.proofs.image.Qcow2.fill_range.Given as goal
@@ -13,7 +12,6 @@ use Rattle.qcow2_image.proofs.image.Qcow2.fill_range.Given as goal
 abbrev pub invariant-loop-at : goal.invariant-loop-at
 invariant-loop-at g l = record {
   turns : FilledTo g.S.Storage.view g.F.BackingDisk.backing l.from l.to l.at l.fn.self l.self;
-  lowest : FillsLowest g.S.Storage.view g.F.BackingDisk.backing l.from l.to l.fn.self l.self;
   faults : SameFaults g.S.Storage.view g.F.BackingDisk.backing l.fn.self l.self;
   emptied : HasNothingToFree l.fn.self → HasNothingToFree l.self;
   behind : StaysBehindHeader g.S.Storage.view l.fn.self l.self;

@@ -8,7 +8,7 @@ use Rattle.std.proofs.Common.{inl, inr, ◌≡◌, ◌∙◌, ◌+◌, ◌-◌, 
 use Rattle.std.specs.Prelude.{Err, IfErr, IsTrue, Ok, OnOk, Result}
 use Rattle.qcow2_metadata.specs.declared.header.HeaderFields.{HeaderFields}
 use Rattle.qcow2_metadata.specs.EntryTable.{entry_count}
-use Rattle.qcow2_metadata.specs.Header.{with_size, cluster_size, rounded_up, with_fields}
+use Rattle.qcow2_metadata.specs.Header.{with_size, cluster_size, rounded_up}
 use Rattle.qcow2_alloc.specs.declared.error.ImageError.TheVariants.{Memory, Version, Limit}
 use Rattle.qcow2_alloc.specs.ImageError.{IsFault}
 use Rattle.qcow2_alloc.specs.ImageStorage.{is_changed_of}
@@ -19,27 +19,21 @@ use Rattle.qcow2_image.specs.Growing.{ReachesSize}
 use Rattle.qcow2_image.specs.Image.{HasNothingToFree, is_failed, size_of, with_marks, has_noted_change}
 use Rattle.qcow2_image.specs.ImageInvariant.{ImageInvariant, pending_in}
 use Rattle.qcow2_image.specs.LongerTables.{MakesEntry}
-use Rattle.qcow2_image.specs.MovedTables.{MovesTables}
 use Rattle.qcow2_image.specs.L1Entries.{ReachesOffset}
-use Rattle.qcow2_image.specs.FilledTurns.{FillsTurn, GrowsInTurns}
 use Rattle.qcow2_image.specs.Preallocation.{FillsGrown, FillsGrownOrRefuses}
-use Rattle.qcow2_image.specs.Turns.{GoesInTurns}
 use Rattle.qcow2_image.specs.Refusals.{FreesRefused, IsFaultOrLimit, IsMet, IsUnlimited}
 use Rattle.qcow2_image.proofs.Prepare.Taken.{if_err}
 use Rattle.qcow2_image.proofs.Call.Marked.{MayMarkBy, marks_memory, may_mark}
-use Rattle.qcow2_image.specs.Resizing.{GrowsTables, GrowsTo, LacksZeros, RefusesUnchanged, WritesSize, WritesSizeLast}
+use Rattle.qcow2_image.specs.Resizing.{GrowsTables, GrowsTo, LacksZeros, RefusesUnchanged, WritesSizeLast}
 use Rattle.image_access.specs.declared.storage.PreallocateMode.TheVariants.{None as PreallocateNone, Zero}
 use Rattle.qcow2_image.proofs.Call.Refused.{stays_then}
 use Rattle.qcow2_image.proofs.Clear.ClearCalls.{err_is}
-use Rattle.qcow2_image.proofs.Grow.Lengths.{reaches_begun, reaches_end, reaches_on, reaches_told}
-use Rattle.qcow2_image.proofs.Grow.TakenForTables.{grown_lowest}
-use Rattle.qcow2_metadata.specs.TableBytes.{entry_at}
+use Rattle.qcow2_image.proofs.Grow.Lengths.{reaches_begun, reaches_on, reaches_told}
 use Rattle.qcow2_image.proofs.Moved.{file_step_then}
 use Rattle.qcow2_image.proofs.Preallocate.Filled.{met_taken}
-use Rattle.qcow2_image.proofs.Preallocate.Turns.{same_size, same_version}
+use Rattle.qcow2_image.proofs.Preallocate.Turns.{same_version}
 use Rattle.qcow2_image.proofs.Preallocate.Untaken.{untaken_grown}
 use Rattle.qcow2_image.proofs.Sizing.Growing.{grows_in_part, grows_not, grows_sized, last_in_part, last_not, last_sized, reaches_lengthened, unchanged_not}
-use Rattle.qcow2_image.proofs.Sizing.GrownInTurns.{grows_in_turns}
 use Rattle.qcow2_image.proofs.Sizing.GrownTables.{leaves_sized, reaches_filled, refuses_version, tables_sized, taken_behind}
 use Rattle.qcow2_image.proofs.Sizing.Noted.{counted_noted, grows_noted, tables_noted, unchanged_noted}
 use Rattle.qcow2_image.proofs.Sizing.Shrinking.{begun_call}
@@ -55,9 +49,6 @@ use Rattle.qcow2_image.specs.LackedTables.{CantGrowDisk, LacksPlaceBehind, Lacks
 use Rattle.qcow2_image.specs.LackedPlaces.{IsPlacedNear}
 use Rattle.qcow2_image.proofs.Preallocate.Met.{hands_met, met_behind, near_longer_ends}
 use Rattle.qcow2_image.specs.MetAlone.{IsMetGrowing}
-use Rattle.qcow2_alloc.specs.LowestRuns.{StaysUsed}
-use Rattle.qcow2_image.specs.LowestPlaces.{GrowsFromLowest}
-use Rattle.qcow2_image.proofs.Prepare.LowestTables.{begun_used, grows_alike, grows_sized_lowest}
 use Rattle.qcow2_image.proofs.Grow.NoLonger.{reaches_behind}
 use Rattle.qcow2_image.proofs.Sizing.NeededLengths.{longer_kept, longer_reached, longer_told}
 
@@ -544,85 +535,3 @@ returns-clause-met g c = λ out sound.
     let h = old.file.header.fields in
     subst (λ (r : Result _ _). IfErr r (IsMetGrowing out c.args.mode (size_of old) (rounded_up (cluster_size h) c.args.size) h (known_in g.S.Storage.view old.file))) (sym c.mark_fault-2.ensures.answer)
     (if_err c.write_size-written.result (λ e fault. inl (inl (inl (inl fault)))) c.write_size-written.ensures.cause)
-
-pub returns-clause-lowest : goal.returns-clause-lowest
-returns-clause-lowest g c = λ out sound.
-    let view = g.S.Storage.view in
-    let below = g.F.BackingDisk.backing in
-    let old = c.args.self.now in
-    let begun = c.begin.new.self in
-    let mid = c.renew_l1_table-longer.new.self in
-    let first = begun_call view below old begun (λ out sound. record { keeps = c.begin.ensures.keeps (pending_in view below old out) out sound; list = c.begin.ensures.list }) in
-    let long = c.mark_failure.new.self in
-    let made : c.renew_l1_table-longer.result ≡ Ok c.in_ok-mark_failure.field-0 = sym c.mark_failure.ensures.answer ∙ c.in_ok-mark_failure.was in
-    let kept = subst (λ (r : Result _ _). MayMarkBy r (is_failed mid) (is_failed long)) made (may_mark c.renew_l1_table-longer.new.self c.mark_failure.new.self c.renew_l1_table-longer.result c.mark_failure.ensures.marks) in
-    let same : c.mark_failure.new.self ≡ c.renew_l1_table-longer.new.self = c.mark_failure.ensures.rest ∙ ap (λ f. record mid { is_failed = f }) kept in
-    let begins = first out sound in
-    let lengthens = subst (MakesEntry view below begun mid out) made (c.renew_l1_table-longer.ensures.makes out begins.sound) in
-    let filled = c.fill_grown-filled.new.self in
-    let put : c.fill_grown-filled.result ≡ Ok c.in_ok-mark_fault.field-0 = sym c.mark_fault.ensures.answer ∙ c.in_ok-mark_fault.was in
-    let whole : c.mark_fault.new.self ≡ c.fill_grown-filled.new.self = subst (λ (r : Result _ _). OnOk r (c.mark_fault.new.self ≡ c.fill_grown-filled.new.self)) put c.mark_fault.ensures.same in
-    let sound_long = subst (λ (i : Qcow2 _ _). ImageInvariant view below (pending_in view below i out) i out) (sym same) lengthens.sound in
-    let fills = subst (λ (i : Qcow2 _ _). FillsGrown view below c.args.size c.args.mode i filled out) same (subst (FillsGrownOrRefuses view below c.args.size c.args.mode long filled out) put (c.fill_grown-filled.ensures.fills out sound_long)) in
-    let low = subst (λ (r : Result _ _). OnOk r (GrowsFromLowest view begun mid)) made (c.renew_l1_table-longer.ensures.lowest out begins.sound) in
-    let length = subst (λ (r : Result _ _). OnOk r (entry_count mid.l1_table ≡ max (entry_count begun.l1_table) (l1_index_of begun.file.header.fields (c.args.size - 1) + 1))) made c.renew_l1_table-longer.ensures.length in
-    let reach = reaches_told view below out (pending_in view below begun out) (pending_in view below mid out) begun mid (c.args.size - 1) begins.sound lengthens.sound length in
-    let place = fills.l1_table (reaches_end begun.file.header.fields mid.file.header.fields c.args.size (let l = c.requires.larger in omega (arith, l)) lengthens.header reach) in
-    let gave = fills.reftables low.gone.after low.gone.is in
-    let entries = subst (λ (r : Result _ _). OnOk r ((i : _) → entry_at mid.l1_table.bytes i ≡ entry_at begun.l1_table.bytes i)) made c.renew_l1_table-longer.ensures.kept in
-    let empty = subst (λ (r : Result _ _). OnOk r (HasNothingToFree mid)) made c.renew_l1_table-longer.ensures.emptied in
-    let lies = grown_lowest view below out begun mid begins.sound lengthens entries empty (pending_in view below filled out) filled fills.sound fills.header place gave.0 gave.1 low in
-    let known = c.begin.ensures.known (pending_in view below old out) out sound in
-    let as_begun = grows_alike view old begun filled c.begin.ensures.rest (begun_used view old begun (ap (λ (i : Qcow2 _ _). i.file.header) c.begin.ensures.rest) known) lies in
-    let new = c.write_size-written.new.self in
-    let marked = is_failed c.mark_fault-2.new.self in
-    let kept_size = subst (λ (i : Qcow2 _ _). new ≡ record i { file = record i.file { storage = new.file.storage; header = new.file.header } }) whole c.write_size-written.ensures.rest in
-    let uses = subst (λ (i : Qcow2 _ _). OnOk c.write_size-written.result (StaysUsed view i.file new.file)) whole (c.write_size-written.ensures.uses out (subst (λ (i : Qcow2 _ _). ImageInvariant view below (pending_in view below i out) i out) (sym whole) fills.sound)) in
-    let header = subst (λ (i : Qcow2 _ _). OnOk c.write_size-written.result (new.file.header ≡ with_fields i.file.header (with_size i.file.header.fields c.args.size))) whole c.write_size-written.ensures.header in
-    subst (λ (image : Qcow2 _ _). OnOk c.mark_fault-2.result (GrowsFromLowest view old image)) (sym c.mark_fault-2.ensures.rest)
-    (subst (λ (r : Result _ _). OnOk r (GrowsFromLowest view old (with_marks new (is_changed_of c.mark_fault-2.new.self.file.storage) marked))) (sym c.mark_fault-2.ensures.answer)
-    (grows_sized_lowest view old filled new c.args.size (is_changed_of c.mark_fault-2.new.self.file.storage) marked c.write_size-written.result (ap (λ (i : Qcow2 _ _). i.allocator) kept_size) uses header as_begun))
-
-pub returns-clause-turns : goal.returns-clause-turns
-returns-clause-turns g c = λ out sound.
-    let view = g.S.Storage.view in
-    let below = g.F.BackingDisk.backing in
-    let old = c.args.self.now in
-    let begun = c.begin.new.self in
-    let mid = c.renew_l1_table-longer.new.self in
-    let first = begun_call view below old begun (λ out sound. record { keeps = c.begin.ensures.keeps (pending_in view below old out) out sound; list = c.begin.ensures.list }) in
-    let long = c.mark_failure.new.self in
-    let made : c.renew_l1_table-longer.result ≡ Ok c.in_ok-mark_failure.field-0 = sym c.mark_failure.ensures.answer ∙ c.in_ok-mark_failure.was in
-    let kept = subst (λ (r : Result _ _). MayMarkBy r (is_failed mid) (is_failed long)) made (may_mark c.renew_l1_table-longer.new.self c.mark_failure.new.self c.renew_l1_table-longer.result c.mark_failure.ensures.marks) in
-    let same : c.mark_failure.new.self ≡ c.renew_l1_table-longer.new.self = c.mark_failure.ensures.rest ∙ ap (λ f. record mid { is_failed = f }) kept in
-    let begins = first out sound in
-    let lengthens = subst (MakesEntry view below begun mid out) made (c.renew_l1_table-longer.ensures.makes out begins.sound) in
-    let filled = c.fill_grown-filled.new.self in
-    let put : c.fill_grown-filled.result ≡ Ok c.in_ok-mark_fault.field-0 = sym c.mark_fault.ensures.answer ∙ c.in_ok-mark_fault.was in
-    let whole : c.mark_fault.new.self ≡ c.fill_grown-filled.new.self = subst (λ (r : Result _ _). OnOk r (c.mark_fault.new.self ≡ c.fill_grown-filled.new.self)) put c.mark_fault.ensures.same in
-    let sound_long = subst (λ (i : Qcow2 _ _). ImageInvariant view below (pending_in view below i out) i out) (sym same) lengthens.sound in
-    let fills = subst (FillsGrownOrRefuses view below c.args.size c.args.mode long filled out) put (c.fill_grown-filled.ensures.fills out sound_long) in
-    let low = subst (λ (r : Result _ _). OnOk r (GrowsFromLowest view begun mid)) made (c.renew_l1_table-longer.ensures.lowest out begins.sound) in
-    let length = subst (λ (r : Result _ _). OnOk r (entry_count mid.l1_table ≡ max (entry_count begun.l1_table) (l1_index_of begun.file.header.fields (c.args.size - 1) + 1))) made c.renew_l1_table-longer.ensures.length in
-    let step = c.begin.ensures.keeps (pending_in view below old out) out sound in
-    let told = reaches_begun old.file.header.fields begun.file.header.fields mid.file.header.fields (c.args.size - 1) step.unseen.header
-    (reaches_told view below out (pending_in view below begun out) (pending_in view below mid out) begun mid (c.args.size - 1) begins.sound lengthens.sound length) in
-    let entries = subst (λ (r : Result _ _). OnOk r ((i : _) → entry_at mid.l1_table.bytes i ≡ entry_at begun.l1_table.bytes i)) made c.renew_l1_table-longer.ensures.kept in
-    let as_before = subst (λ (b : Qcow2 _ _). (i : _) → entry_at mid.l1_table.bytes i ≡ entry_at b.l1_table.bytes i) c.begin.ensures.rest entries in
-    let empty = subst (λ (r : Result _ _). OnOk r (HasNothingToFree mid)) made c.renew_l1_table-longer.ensures.emptied in
-    let known = c.begin.ensures.known (pending_in view below old out) out sound in
-    let as_begun = grows_alike view old begun mid c.begin.ensures.rest (begun_used view old begun (ap (λ (i : Qcow2 _ _). i.file.header) c.begin.ensures.rest) known) low in
-    let call : UnseenCall view below old mid out = stays_then view below out old begun mid begins lengthens in
-    let header_long : MovesTables old.file.header.fields long.file.header.fields = subst (λ (i : Qcow2 _ _). MovesTables old.file.header.fields i.file.header.fields) (sym same) call.header in
-    let low_is : c.size-end.result ≡ size_of c.args.self.now = c.size-end.ensures ∙ ap (λ (x : HeaderFields). x.size) header_long in
-    let high_is : rounded_up (cluster_size long.file.header.fields) c.args.size ≡ rounded_up (cluster_size old.file.header.fields) c.args.size = ap (λ s. rounded_up s c.args.size) (same_size old.file.header.fields long.file.header.fields header_long) in
-    let turns = subst (λ (r : Result _ _). OnOk r (GoesInTurns (FillsTurn view below out c.size-end.result (rounded_up (cluster_size long.file.header.fields) c.args.size) (c.args.mode ≡ Zero)) long filled)) put (c.fill_grown-filled.ensures.turns out sound_long) in
-    let from_end = subst (λ n. GoesInTurns (FillsTurn view below out n (rounded_up (cluster_size long.file.header.fields) c.args.size) (c.args.mode ≡ Zero)) long filled) low_is turns in
-    let to_end = subst (λ n. GoesInTurns (FillsTurn view below out (size_of c.args.self.now) n (c.args.mode ≡ Zero)) long filled) high_is from_end in
-    let written = c.write_size-written.new.self in
-    let kept_size = subst (λ (i : Qcow2 _ _). written ≡ record i { file = record i.file { storage = written.file.storage; header = written.file.header } }) whole c.write_size-written.ensures.rest in
-    let sized = subst (λ (i : Qcow2 _ _). ImageInvariant view below (pending_in view below i out) i out → WritesSize view below i written out c.args.size c.write_size-written.result) whole (c.write_size-written.ensures.writes out) fills.sound in
-    let header = subst (λ (i : Qcow2 _ _). OnOk c.write_size-written.result (written.file.header ≡ with_fields i.file.header (with_size i.file.header.fields c.args.size))) whole c.write_size-written.ensures.header in
-    subst (λ (r : Result _ _). OnOk r (GrowsInTurns view below out c.args.size c.args.mode old c.mark_fault-2.new.self)) (sym c.mark_fault-2.ensures.answer)
-    (grows_in_turns view below out c.args.size c.args.mode old mid filled written c.mark_fault-2.new.self c.write_size-written.result call told as_before as_begun empty
-    (subst (λ (i : Qcow2 _ _). GoesInTurns (FillsTurn view below out (size_of c.args.self.now) (rounded_up (cluster_size c.args.self.now.file.header.fields) c.args.size) (c.args.mode ≡ Zero)) i filled) same to_end) sized kept_size header c.mark_fault-2.ensures.same)

@@ -1,8 +1,8 @@
 use Rattle.qcow2_image.proofs.image.Qcow2.grow_l1_table.Goals as goal
-use Rattle.std.proofs.Common.{◌≤◌, arith, refl, ap, ◌++◌, ◌≡◌, ◌<◌, ◌+◌, max, inl, inr, ◌∙◌, subst, sym}
+use Rattle.std.proofs.Common.{◌≤◌, arith, refl, ap, ◌≡◌, ◌<◌, ◌+◌, max, inl, inr, ◌∙◌, subst}
 use Rattle.qcow2_metadata.specs.EntryTable.{entry_count, EntryTableView}
 use Rattle.qcow2_alloc.proofs.AllocationSteps.{handed_on}
-use Rattle.qcow2_image.specs.LongerTables.{Lengthens, listed, run_of_table}
+use Rattle.qcow2_image.specs.LongerTables.{Lengthens}
 use Rattle.qcow2_image.proofs.Grow.Lengthened.{is_longer, lengthened, refused_none}
 use Rattle.qcow2_image.proofs.Prepare.Owning.{refused}
 use Rattle.qcow2_alloc.proofs.KeptMarks.{notes_none}
@@ -14,7 +14,6 @@ use Rattle.std.proofs.lemmas.Bool.Decides.{nat_tests}
 use Rattle.qcow2_alloc.specs.ImageError.{of_metadata}
 use Rattle.qcow2_image.specs.LackedPlaces.{HasNoTablePlace, LacksLongerTable, StandsInWay}
 use Rattle.qcow2_metadata.specs.TableBytes.{entry_at}
-use Rattle.qcow2_image.proofs.Prepare.LowestTables.{lies_listing, l1_used}
 use Rattle.qcow2_image.proofs.Grow.NoLonger.{length_as}
 
 pub returns-then-index-ge-MAX_L1_ENTRIES-clause-lengthens : goal.returns-then-index-ge-MAX_L1_ENTRIES-clause-lengthens
@@ -153,15 +152,3 @@ returns-in-Err-clause-no_longer g c = length_as (omega (arith, c.in_ok-table.ens
 
 pub returns-in-Ok-clause-kept : goal.returns-in-Ok-clause-kept
 returns-in-Ok-clause-kept g c = λ i. ap (λ l. entry_at l i) c.in-Ok.ensures.bytes ∙ c.in_ok-table.ensures.entries i
-
-pub returns-in-Ok-clause-lowest : goal.returns-in-Ok-clause-lowest
-returns-in-Ok-clause-lowest g c = λ p out sound.
-    let view = g.S.Storage.view in
-    let old = c.args.self.now in
-    let t = c.in_ok-table.table in
-    let enough : entry_count old.l1_table ≤ c.max-entries.result = omega (arith, c.max-entries.ensures, c.len.ensures.value) in
-    let longer = is_longer view g.F.BackingDisk.backing out p old sound t _ c.max-entries.result c.in_ok-table.ensures.table c.in_ok-table.ensures.length enough c.in_ok-table.ensures.entries in
-    lies_listing view old.file.free_list (listed (run_of_table old.l1_table old.l1_table.cluster)) old c.enter_l1_table.new.self c.hand_back.new.list (c.hand_back.ensures ∙ ap (λ o. c.enter_l1_table.new.self.file.free_list ++ listed o) c.in_ok-old.ensures.run) (c.in-Ok.ensures.lowest p out sound longer)
-
-pub returns-in-Ok-clause-in_use : goal.returns-in-Ok-clause-in_use
-returns-in-Ok-clause-in_use g c = λ p out sound. l1_used g.S.Storage.view g.F.BackingDisk.backing out p c.args.self.now sound c.len.ensures.is_table.table.whole

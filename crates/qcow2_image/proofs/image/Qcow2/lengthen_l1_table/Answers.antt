@@ -1,4 +1,4 @@
-use Rattle.std.proofs.Common.{◌≡◌, ◌+◌, ◌/◌, ◌^◌, max, ap, ◌∙◌, sym, subst, arith, ◌<◌}
+use Rattle.std.proofs.Common.{◌≡◌, ◌+◌, ◌/◌, ◌^◌, max, ap, ◌∙◌, sym, subst}
 use Rattle.std.specs.Prelude.{IsTrue}
 use Rattle.qcow2_metadata.specs.EntryTable.{EntryTableView, entry_count}
 use Rattle.qcow2_metadata.specs.TableBytes.{entry_at}
@@ -14,9 +14,8 @@ use Rattle.qcow2_alloc.proofs.KeptMarks.{notes_then}
 use Rattle.qcow2_alloc.proofs.Outcomes.{on_no_ok, on_ok}
 use Rattle.qcow2_image.proofs.Call.BehindHeader.{behind_then}
 use Rattle.qcow2_image.proofs.Prepare.Lacked.{faults_or_limit, faults_unlimited, hands_either, hands_limit, unlimited_all}
-use Rattle.qcow2_image.specs.LackedPlaces.{IsPlacedNear, LacksLongerTable, listed_or_l1}
+use Rattle.qcow2_image.specs.LackedPlaces.{IsPlacedNear, LacksLongerTable}
 use Rattle.qcow2_image.specs.LackedTables.{LacksTableReaching}
-use Rattle.qcow2_image.proofs.Prepare.LowestTables.{grows_lowest, lies_freed}
 use Rattle.qcow2_image.proofs.image.Qcow2.lengthen_l1_table.Goals as goal
 use Rattle.qcow2_metadata.specs.Header.{HeaderView}
 use Rattle.qcow2_image.proofs.Grow.NoLonger.{length_as, length_then}
@@ -109,20 +108,6 @@ returns-in_err-grow_l1_table-clause-placed g c = λ bits. on_no_ok _ c.from_resi
 
 pub returns-clause-placed : goal.returns-clause-placed
 returns-clause-placed g c = λ bits. on_ok _ c.free_listed.result (subst IsPlacedNear (sym c.free_listed.ensures.table) (c.in_ok-grow_l1_table.ensures.placed bits))
-
-pub returns-clause-lowest : goal.returns-clause-lowest
-returns-clause-lowest g c = λ out sound.
-    let view = g.S.Storage.view in
-    let below = g.F.BackingDisk.backing in
-    let old = c.args.self.now in
-    let mid = c.grow_l1_table.new.self in
-    let new = c.free_listed.new.self in
-    let p = pending_in view below old out in
-    let first = stays_moved view below out old mid sound (c.in_ok-grow_l1_table.ensures.lengthens p out sound) in
-    let listed = subst (λ (x : Pending). ImageInvariant view below x mid out) (all_listed view below mid out) first.sound in
-    grows_lowest view below out old new c.free_listed.result sound (c.in_ok-grow_l1_table.ensures.in_use p out sound) (freed_then view below out old mid new first c.free_listed.result (c.free_listed.ensures.frees (beside view below mid out) out listed))
-    (let many = ap entry_count c.free_listed.ensures.table ∙ c.in_ok-grow_l1_table.ensures.length in omega (arith, many))
-    (lies_freed view (listed_or_l1 old) old mid new c.free_listed.result c.free_listed.ensures.keeps_rest.header c.free_listed.ensures.table (c.free_listed.ensures.uses (beside view below mid out) out listed) (c.in_ok-grow_l1_table.ensures.lowest p out sound))
 
 pub returns-in_err-grow_l1_table-clause-kept : goal.returns-in_err-grow_l1_table-clause-kept
 returns-in_err-grow_l1_table-clause-kept g c = on_no_ok _ c.from_residual.result c.in_err-grow_l1_table.field-0.0 c.from_residual.ensures

@@ -5,7 +5,7 @@ use Rattle.qcow2_alloc.specs.ImageError.{of_storage}
 use Rattle.qcow2_alloc.specs.ImageStorage.{storage_of}
 use Rattle.qcow2_alloc.proofs.AllocationSteps.{handed_on}
 use Rattle.qcow2_image.specs.LongerTables.{NamesTable}
-use Rattle.qcow2_image.proofs.Grow.NamedL1.{named_interruption, named_so, uses_so}
+use Rattle.qcow2_image.proofs.Grow.NamedL1.{named_interruption, named_so}
 use Rattle.qcow2_alloc.proofs.KeptMarks.{notes_none, notes_of_storage, told_kept}
 use Rattle.qcow2_image.proofs.Call.BehindHeader.{behind_bits, behind_l1, behind_pointer, behind_then}
 use Rattle.qcow2_metadata.specs.Header.{HeaderView}
@@ -67,12 +67,3 @@ returns-in_err-write_l1_table_pointer-clause-no_longer g c = inr (ap (λ (v : He
 
 pub returns-clause-no_longer : goal.returns-clause-no_longer
 returns-clause-no_longer g c = inr (ap (λ (v : HeaderView). v.fields.l1_entries) c.in_ok-set_l1_table.ensures.ok ∙ c.len.ensures.value)
-
-pub returns-clause-uses : goal.returns-clause-uses
-returns-clause-uses g c = λ p out sound ready.
-    let old = c.args.self.now in
-    let t = c.args.table in
-    let few : entry_count c.args.table ≤ 4194304 = omega (arith, c.len.ensures.value, c.len.ensures.limit) in
-    let at = c.offset-offset.ensures ∙ ap (λ n. c.args.cluster * 2 ^ n) c.cluster_bits.ensures.value in
-    uses_so g.S.Storage.view g.F.BackingDisk.backing out p old t c.args.cluster sound ready c.requires few c.offset-offset.result c.len.result c.set_l1_table.new.self at c.len.ensures.value c.in_ok-set_l1_table.ensures.ok c.write_l1_table_pointer.result
-    c.write_l1_table_pointer.new.self (storage_of c.will_write.new.self) c.will_write.ensures.storage c.write_l1_table_pointer.ensures.written c.write_l1_table_pointer.ensures.calls c.in_ok-write_l1_table_pointer.field-0 c.in_ok-write_l1_table_pointer.was

@@ -4,7 +4,7 @@ use Rattle.qcow2_alloc.specs.ImageError.{of_storage}
 use Rattle.qcow2_alloc.specs.ImageStorage.{storage_of, is_changed_of}
 use Rattle.qcow2_alloc.proofs.AllocationSteps.{handed_on, fault_of_storage}
 use Rattle.qcow2_image.specs.NewTables.{NamesNew}
-use Rattle.qcow2_image.proofs.Prepare.Naming.{safe_throughout_named, named_so, uses_so}
+use Rattle.qcow2_image.proofs.Prepare.Naming.{safe_throughout_named, named_so}
 use Rattle.qcow2_alloc.proofs.KeptMarks.{placed_kept, notes_of_storage}
 use Rattle.std.proofs.Common.{refl, subst, sym, IsSome, ap, ◌+◌, ◌*◌, ◌^◌}
 use Rattle.qcow2_metadata.specs.EntryTable.{EntryTableView}
@@ -50,9 +50,3 @@ returns-clause-header_cluster g c =
     (behind_placed c.write_l1_entry.result c.enter_l2_table.new.self.cluster (λ k. k * 2 ^ c.enter_l2_table.new.self.cluster_bits + 8 * c.args.index) _ (ap g.S.Storage.view c.will_write.ensures.storage) (subst (λ (x : EntryTableView). IsSome x.cluster) (sym c.enter_l2_table.ensures.rest) c.requires.placed)
     (λ bits lies. entry_behind c.args.self.now.l1_table c.enter_l2_table.new.self c.args.index c.enter_l2_table.ensures.rest bits lies.l1) c.write_l1_entry.ensures.written c.write_l1_entry.ensures.calls)
     (behind_l1 (l1_entered c.args.self.now.l1_table c.enter_l2_table.new.self c.enter_l2_table.ensures.rest))
-
-pub returns-clause-uses : goal.returns-clause-uses
-returns-clause-uses g c = λ p out table sound may says whole ready.
-    uses_so g.S.Storage.view g.F.BackingDisk.backing c.args.self.now out p c.args.index c.args.cluster c.enter_l2_table.new.self table sound may says whole ready c.requires.within c.requires.nameable c.enter_l2_table.ensures.rest
-    c.enter_l2_table.ensures.entry c.enter_l2_table.ensures.offset c.enter_l2_table.ensures.copied c.write_l1_entry.ensures.fits c.write_l1_entry.new.self (storage_of c.will_write.new.self) c.write_l1_entry.result c.will_write.ensures.storage
-    c.write_l1_entry.ensures.written c.write_l1_entry.ensures.calls c.in_ok-write_l1_entry.field-0 c.in_ok-write_l1_entry.was

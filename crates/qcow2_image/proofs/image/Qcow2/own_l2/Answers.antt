@@ -1,8 +1,8 @@
 use Rattle.qcow2_image.proofs.image.Qcow2.own_l2.Goals as goal
-use Rattle.std.proofs.Common.{◌≡◌, ◌*◌, ◌/◌, ◌^◌, Ok, arith, sym, ap, ◌∙◌, subst, ◌≤◌, inr, inl, ◌++◌, ◌∷◌, []}
+use Rattle.std.proofs.Common.{◌≡◌, ◌*◌, ◌/◌, ◌^◌, Ok, arith, sym, ap, ◌∙◌, subst, ◌≤◌, inr, inl}
 use Rattle.qcow2_metadata.specs.Entries.{host_offset, is_copied}
 use Rattle.qcow2_image.specs.Found.{l1_index_of}
-use Rattle.qcow2_image.specs.NewTables.{OwnsTable, MayName, NamesShared}
+use Rattle.qcow2_image.specs.NewTables.{OwnsTable, MayName}
 use Rattle.qcow2_image.proofs.Prepare.Owning.{refused, left_alone, may_none, says_none, entered_owns, owns_already}
 use Rattle.qcow2_metadata.specs.EntryTable.{entry_count}
 use Rattle.qcow2_metadata.specs.TableBytes.{entry_at}
@@ -13,12 +13,6 @@ use Rattle.qcow2_image.proofs.Prepare.Listing.{some_none}
 use Rattle.qcow2_image.proofs.Prepare.Pinned.{whole_quotient}
 use Rattle.qcow2_image.specs.LackedPlaces.{HasNearEntry}
 use Rattle.qcow2_image.specs.UnseenSteps.{NamesOwn}
-use Rattle.qcow2_alloc.specs.ClustersToFree.{metadata_entry}
-use Rattle.qcow2_image.specs.LowestPlaces.{IsLowest, TakesLowestOf}
-use Rattle.qcow2_image.proofs.Prepare.LowestTables.{lowest_by, ok_then}
-use Rattle.qcow2_image.specs.PinnedTables.{own_table}
-use Rattle.qcow2_image.specs.L1Entries.{HasOwnTable}
-use Rattle.qcow2_image.proofs.Prepare.Lacked.{listed_first, stands_wider}
 
 pub returns-then-not-in_bounds-clause-owns : goal.returns-then-not-in_bounds-clause-owns
 returns-then-not-in_bounds-clause-owns g c = λ p out sound. left_alone g.S.Storage.view g.F.BackingDisk.backing out p c.args.self.now sound c.l1_index-index.result _
@@ -262,68 +256,3 @@ returns-clause-met g c = λ p out sound cause.
             may = λ own. absurd (let is = sym own.1 ∙ ap is_copied (sym (sound.l1_table.entries c.l1_index-index.result)) ∙ sym c.in-Some.ensures.copied ∙ c.if-entry.false in cc);
           }) (subst (HasNearEntry old) (sym idx) near)
     ]
-
-pub returns-then-entry-clause-uses : goal.returns-then-entry-clause-uses
-returns-then-entry-clause-uses g c = λ p out sound k used. used
-
-pub returns-in_default-clause-uses : goal.returns-in_default-clause-uses
-returns-in_default-clause-uses g c = λ p out sound.
-    let view = g.S.Storage.view in
-    let below = g.F.BackingDisk.backing in
-    let old = c.args.self.now in
-    let none = ap host_offset (sym (sound.l1_table.entries c.l1_index-index.result)) ∙ c.in_default.ensures.none in
-    let may = may_none view below out p old sound c.l1_index-index.result none in
-    let says = says_none view below out p old sound c.l1_index-index.result none c.in_ok-table.table _ c.in_ok-table.ensures.table c.in_ok-table.ensures.zeros in
-    c.enter_l2.ensures.uses p out sound may says
-
-pub returns-clause-uses : goal.returns-clause-uses
-returns-clause-uses g c = λ p out sound.
-    let view = g.S.Storage.view in
-    let below = g.F.BackingDisk.backing in
-    let old = c.args.self.now in
-    let offset = ap host_offset (sym (sound.l1_table.entries c.l1_index-index.result)) ∙ sym c.in-Some.ensures.offset in
-    let shared : NamesShared view old c.l1_index-index.result c.in-Some-checked_cluster.cluster = record {
-      place = offset ∙ sym c.in-Some-checked_cluster.ensures.cluster ∙ ap (λ b. c.in-Some-checked_cluster.cluster * 2 ^ b) c.cluster_bits-bits.ensures.value;
-      real = λ none. absurd (let some = c.in-Some.ensures.some in omega (arith, some, none, offset));
-      may = λ own. absurd (let is = sym own.1 ∙ ap is_copied (sym (sound.l1_table.entries c.l1_index-index.result)) ∙ sym c.in-Some.ensures.copied ∙ c.if-entry.false in cc);
-    } in
-    c.replace_l2.ensures.uses p out sound shared
-
-pub returns-then-entry-clause-lowest : goal.returns-then-entry-clause-lowest
-returns-then-entry-clause-lowest g c = λ p out sound other.
-    let old = c.args.self.now in
-    let idx : c.l1_index-index.result ≡ l1_index_of old.file.header.fields c.args.offset =
-    c.l1_index-index.ensures ∙ ap (λ n. n / 2 ^ c.cluster_bits-bits.result / (2 ^ c.cluster_bits-bits.result / 8)) c.new.ensures ∙ ap (λ b. c.args.offset / 2 ^ b / (2 ^ b / 8)) c.cluster_bits-bits.ensures.value in
-    absurd (other (subst (λ i. NamesOwn (entry_at old.l1_table.bytes i)) idx ((λ none. absurd (let some = c.in-Some.ensures.some in let at = c.in-Some.ensures.offset in omega (arith, some, none, at))), sym c.in-Some.ensures.copied ∙ c.if-entry.true)))
-
-pub returns-in_default-clause-lowest : goal.returns-in_default-clause-lowest
-returns-in_default-clause-lowest g c = λ p out sound.
-    let view = g.S.Storage.view in
-    let below = g.F.BackingDisk.backing in
-    let old = c.args.self.now in
-    let none = ap host_offset (sym (sound.l1_table.entries c.l1_index-index.result)) ∙ c.in_default.ensures.none in
-    let may = may_none view below out p old sound c.l1_index-index.result none in
-    let says = says_none view below out p old sound c.l1_index-index.result none c.in_ok-table.table _ c.in_ok-table.ensures.table c.in_ok-table.ensures.zeros in
-    let l = old.file.free_list in
-    let es = metadata_entry (own_table old c.args.offset) 1 ∷ [] in
-    ok_then (λ t. TakesLowestOf view t 1 l old c.enter_l2.new.self) (λ t. ¬ HasOwnTable old c.args.offset → TakesLowestOf view t 1 (l ++ es) old c.enter_l2.new.self) c.enter_l2.result
-    (λ t s other. stands_wider view (IsLowest t 1) (lowest_by t 1) l (l ++ es) old c.enter_l2.new.self (λ k at. listed_first l es k at) s) (c.enter_l2.ensures.lowest p out sound may says)
-
-pub returns-clause-lowest : goal.returns-clause-lowest
-returns-clause-lowest g c = λ p out sound.
-    let view = g.S.Storage.view in
-    let below = g.F.BackingDisk.backing in
-    let old = c.args.self.now in
-    let idx : c.l1_index-index.result ≡ l1_index_of old.file.header.fields c.args.offset =
-    c.l1_index-index.ensures ∙ ap (λ n. n / 2 ^ c.cluster_bits-bits.result / (2 ^ c.cluster_bits-bits.result / 8)) c.new.ensures ∙ ap (λ b. c.args.offset / 2 ^ b / (2 ^ b / 8)) c.cluster_bits-bits.ensures.value in
-    let offset = ap host_offset (sym (sound.l1_table.entries c.l1_index-index.result)) ∙ sym c.in-Some.ensures.offset in
-    let shared : NamesShared view old c.l1_index-index.result c.in-Some-checked_cluster.cluster = record {
-      place = offset ∙ sym c.in-Some-checked_cluster.ensures.cluster ∙ ap (λ b. c.in-Some-checked_cluster.cluster * 2 ^ b) c.cluster_bits-bits.ensures.value;
-      real = λ none. absurd (let some = c.in-Some.ensures.some in omega (arith, some, none, offset));
-      may = λ own. absurd (let is = sym own.1 ∙ ap is_copied (sym (sound.l1_table.entries c.l1_index-index.result)) ∙ sym c.in-Some.ensures.copied ∙ c.if-entry.false in cc);
-    } in
-    let place : c.in-Some.entry.offset ≡ host_offset (entry_at old.l1_table.bytes (l1_index_of old.file.header.fields c.args.offset)) = sym (sym (ap (λ i. host_offset (entry_at old.l1_table.bytes i)) idx) ∙ sym c.in-Some.ensures.offset) in
-    let same : c.in-Some-checked_cluster.cluster ≡ own_table old c.args.offset = whole_quotient old.file.header.fields.cluster_bits c.in-Some-checked_cluster.cluster _ (sym (ap (λ b. c.in-Some-checked_cluster.cluster * 2 ^ b) c.cluster_bits-bits.ensures.value) ∙ c.in-Some-checked_cluster.ensures.cluster ∙ place) in
-    let l = old.file.free_list in
-    ok_then (λ t. TakesLowestOf view t 1 (l ++ metadata_entry c.in-Some-checked_cluster.cluster 1 ∷ []) old c.replace_l2.new.self) (λ t. ¬ HasOwnTable old c.args.offset → TakesLowestOf view t 1 (l ++ metadata_entry (own_table old c.args.offset) 1 ∷ []) old c.replace_l2.new.self) c.replace_l2.result
-    (λ t s other. subst (λ n. TakesLowestOf view t 1 (l ++ metadata_entry n 1 ∷ []) old c.replace_l2.new.self) same s) (c.replace_l2.ensures.lowest p out sound shared)

@@ -1,5 +1,5 @@
 use Rattle.qcow2_image.proofs.image.Qcow2.prepare.Goals as goal
-use Rattle.std.proofs.Common.{⊎_elim, inl, inr, ◌∙◌, refl, sym, subst, ◌+◌, ap}
+use Rattle.std.proofs.Common.{⊎_elim, inl, inr, ◌∙◌, refl, sym, subst, ap}
 use Rattle.std.specs.Prelude.{IsTrue}
 use Rattle.qcow2_alloc.specs.ImageError.{IsFault}
 use Rattle.qcow2_image.proofs.Call.Refused.{back_then_freed}
@@ -66,9 +66,6 @@ returns-in-Ok-clause-header_cluster g c = c.prepare_range.ensures.header_cluster
 pub returns-in-Err-clause-header_cluster : goal.returns-in-Err-clause-header_cluster
 returns-in-Err-clause-header_cluster g c = behind_then c.prepare_range.ensures.header_cluster c.free_after.ensures.header_cluster
 
-pub returns-in-Ok-clause-lowest : goal.returns-in-Ok-clause-lowest
-returns-in-Ok-clause-lowest g c = λ out sound. c.in-Ok.ensures.lowest out sound
-
 pub returns-in-Ok-clause-pinned : goal.returns-in-Ok-clause-pinned
 returns-in-Ok-clause-pinned g c = c.in-Ok.ensures.pinned
 
@@ -114,6 +111,3 @@ returns-in-Err-clause-no_longer g c = length_then c.prepare_range.ensures.no_lon
 
 pub returns-in-Ok-clause-freeing : goal.returns-in-Ok-clause-freeing
 returns-in-Ok-clause-freeing g c = λ some out sound. c.in-Ok.ensures.freeing some out sound
-
-pub returns-in-Ok-clause-lowest_tables : goal.returns-in-Ok-clause-lowest_tables
-returns-in-Ok-clause-lowest_tables g c = λ out sound. c.in-Ok.ensures.lowest_tables out sound

@@ -1,6 +1,6 @@
 use Rattle.qcow2_image.proofs.image.Qcow2.prepare_data_mapping.Goals as goal
 use Rattle.std.proofs.Common.{◌≡◌, ◌⊎◌, ◌<◌, sym, ◌∙◌, subst, arith, ap, refl, ⊎_elim, inl, inr, ◌≤◌}
-use Rattle.std.specs.Prelude.{IfErr, IfOk, IsErrAnd, None, Result, Some, OnOk, IsNone}
+use Rattle.std.specs.Prelude.{IfErr, IfOk, IsErrAnd, None, Result, Some, IsNone}
 use Rattle.qcow2_alloc.specs.declared.error.ImageError.TheVariants.{Overflow, TablePrepared, Limit}
 use Rattle.qcow2_alloc.specs.ImageFile.{known_in}
 use Rattle.qcow2_image.specs.Preparing.{IsAnswered, IsTaken}
@@ -27,7 +27,6 @@ use Rattle.qcow2_image.proofs.Call.OnceWritten.{fails_none, fails_once}
 use Rattle.qcow2_image.proofs.Call.BehindHeader.{behind_call, behind_none}
 use Rattle.qcow2_image.proofs.Prepare.Pinned.{begun_own, unpinned_begun}
 use Rattle.qcow2_image.specs.PinnedTables.{PreparesUnpinned}
-use Rattle.qcow2_image.specs.LowestPlaces.{BeginsLowest, TakesLowestTables}
 use Rattle.qcow2_image.proofs.Prepare.Lacked.{limits_as}
 use Rattle.qcow2_image.proofs.Prepare.LackedBehind.{behind_begun, first_begun, place_ended}
 use Rattle.qcow2_image.specs.LackedPlaces.{LacksPlaceFor}
@@ -37,7 +36,6 @@ use Rattle.qcow2_image.specs.L1Entries.{NeedsFarEntry}
 use Rattle.qcow2_image.specs.MetAlone.{CopiesCompressed, IsMetTaking}
 use Rattle.qcow2_image.proofs.Prepare.Unannounced.{compressed_as}
 use Rattle.qcow2_image.proofs.Prepare.MetTables.{far_before}
-use Rattle.qcow2_image.proofs.Prepare.LowestTables.{begun_used, tables_begun}
 use Rattle.qcow2_image.specs.Prepared.{length_of, offset_of, table_of}
 use Rattle.qcow2_image.specs.Backings.{HasPrepared}
 use Rattle.qcow2_image.proofs.Prepare.MetTaking.{taking_as}
@@ -190,20 +188,6 @@ returns-clause-far_refused g c = λ some none needs.
     subst (λ (r : Result _ _). IsErrAnd r (λ e. (e ≡ Overflow) ⊎ IsOfTables e)) (sym c.mark_failure.ensures.answer)
     (c.prepare-prepared.ensures.far_refused (far_begun c.args.self.now c.begin.new.self c.args.offset c.args.offset refl c.begin.ensures.begun needs))
 
-pub returns-then-length-eq0-clause-lowest : goal.returns-then-length-eq0-clause-lowest
-returns-then-length-eq0-clause-lowest g c = λ some out sound. absurd (let none : c.args.length ≡ 0 = c.if-length-eq0.true in omega (arith, none, some))
-
-pub returns-clause-lowest : goal.returns-clause-lowest
-returns-clause-lowest g c = λ some out sound.
-    let view = g.S.Storage.view in
-    let below = g.F.BackingDisk.backing in
-    let old = c.args.self.now in
-    let mid = c.begin.new.self in
-    let new = c.prepare-prepared.new.self in
-    let stays = stays_kept view below out old mid sound (listed view below out old mid (λ s. record { keeps = c.begin.ensures.keeps (pending_in view below old out) out s; list = c.begin.ensures.list }) sound) in
-    subst (λ (image : Qcow2 _ _). IfOk c.mark_failure.result (BeginsLowest view image)) (sym c.mark_failure.ensures.rest)
-    (subst (λ r. IfOk r (BeginsLowest view new)) (sym c.mark_failure.ensures.answer) (c.prepare-prepared.ensures.lowest out stays.sound))
-
 pub returns-in_err-check_prepare-clause-limit : goal.returns-in_err-check_prepare-clause-limit
 returns-in_err-check_prepare-clause-limit g c = λ none some out sound.
     let refused = refused_for c.check_prepare.result tt (refuses_to_prepare c.args.self.now c.args.offset c.args.length) c.in_err-check_prepare.field-0.0 c.check_prepare.ensures.refusal c.in_err-check_prepare.was in
@@ -271,19 +255,3 @@ returns-clause-freeing g c = λ out sound.
     subst (λ (image : Qcow2 _ _). IfOk c.mark_failure.result (λ p. IsNone (table_of p) → ListsNoMore old image)) (sym c.mark_failure.ensures.rest)
     (subst (λ r. IfOk r (λ p. IsNone (table_of p) → ListsNoMore old new)) (sym c.mark_failure.ensures.answer)
     (if_ok c.prepare-prepared.result (λ p less none. ⊎_elim (λ same. inl (same ∙ c.begin.ensures.list)) (λ empty. inr empty) (less none)) (c.prepare-prepared.ensures.freeing some out stays.sound)))
-
-pub returns-then-length-eq0-clause-lowest_tables : goal.returns-then-length-eq0-clause-lowest_tables
-returns-then-length-eq0-clause-lowest_tables g c = λ some out sound. absurd (let none : c.args.length ≡ 0 = c.if-length-eq0.true in omega (arith, none, some))
-
-pub returns-clause-lowest_tables : goal.returns-clause-lowest_tables
-returns-clause-lowest_tables g c = λ some out sound.
-    let view = g.S.Storage.view in
-    let below = g.F.BackingDisk.backing in
-    let old = c.args.self.now in
-    let mid = c.begin.new.self in
-    let new = c.prepare-prepared.new.self in
-    let stays = stays_kept view below out old mid sound (listed view below out old mid (λ s. record { keeps = c.begin.ensures.keeps (pending_in view below old out) out s; list = c.begin.ensures.list }) sound) in
-    let known = c.begin.ensures.known (pending_in view below old out) out sound in
-    subst (λ (image : Qcow2 _ _). OnOk c.mark_failure.result (TakesLowestTables view c.args.offset old image)) (sym c.mark_failure.ensures.rest)
-    (subst (λ r. OnOk r (TakesLowestTables view c.args.offset old (record new { is_failed = is_failed c.mark_failure.new.self }))) (sym c.mark_failure.ensures.answer)
-    (tables_begun view c.args.offset old mid new (is_failed c.mark_failure.new.self) c.prepare-prepared.result c.begin.ensures.rest (begun_used view old mid (ap (λ (i : Qcow2 _ _). i.file.header) c.begin.ensures.rest) known) (c.prepare-prepared.ensures.lowest_tables out stays.sound)))

@@ -1,5 +1,5 @@
 use Rattle.qcow2_image.proofs.image.Qcow2.prepare_in.Goals as goal
-use Rattle.std.proofs.Common.{◌≡◌, ◌+◌, ◌-◌, ◌/◌, ◌%◌, [], ◌∷◌, refl, sym, ap, ◌∙◌, subst, arith, inl, inr, length, ◌<◌, ◌*◌, ◌^◌, Some, min, ◌≢◌}
+use Rattle.std.proofs.Common.{◌≡◌, ◌+◌, ◌-◌, ◌/◌, ◌%◌, [], ◌∷◌, refl, sym, ap, ◌∙◌, subst, arith, inl, inr, length, ◌<◌, ◌*◌, Some, min, ◌≢◌}
 use Rattle.std.specs.Prelude.{None, Err, slice_set}
 use Rattle.qcow2_metadata.specs.Cover.{cover}
 use Rattle.qcow2_metadata.specs.Header.{cluster_size, HeaderView}
@@ -17,7 +17,7 @@ use Rattle.qcow2_image.proofs.Call.FaultCounts.{counted_as, counted_still}
 use Rattle.qcow2_image.proofs.Prepare.Listing.{lists_then}
 use Rattle.qcow2_alloc.proofs.KeptMarks.{notes_then, notes_for}
 use Rattle.qcow2_image.proofs.Call.BehindHeader.{behind_then}
-use Rattle.qcow2_image.proofs.Prepare.InUse.{first_of, longer_lowest}
+use Rattle.qcow2_image.proofs.Prepare.InUse.{first_of}
 use Rattle.qcow2_image.proofs.Prepare.Lacked.{hands_limit}
 use Rattle.qcow2_image.proofs.Prepare.LackedBehind.{cant_go_on, first_begun, first_cluster, lacks_uncounted, own_released}
 use Rattle.std.proofs.lemmas.Nat.{pow_pos, mod_below}
@@ -160,22 +160,6 @@ returns-in-Ok-clause-header_cluster g c = λ some. behind_then (c.prepare_first.
 pub returns-in-Err-clause-header_cluster : goal.returns-in-Err-clause-header_cluster
 returns-in-Err-clause-header_cluster g c = λ some. behind_then (behind_then (c.prepare_first.ensures.header_cluster some) c.prepare_rest.ensures.header_cluster) c.release_prepared.ensures.header_cluster
 
-pub returns-in-Ok-clause-lowest : goal.returns-in-Ok-clause-lowest
-returns-in-Ok-clause-lowest g c = λ out k free sound holds.
-    let view = g.S.Storage.view in
-    let below = g.F.BackingDisk.backing in
-    let old = c.args.self.now in
-    let mid = c.prepare_first.new.self in
-    let new = c.prepare_rest.new.self in
-    let p = c.in_ok-prepared.prepared in
-    let q = c.prepare_rest.new.prepared in
-    let first = c.in_ok-prepared.ensures.first in
-    let longer = c.in-Ok.ensures.longer in
-    let ready = subst (λ o. IsReadied view below old mid out k o c.args.length c.args.overwrite p) (sym first.guest) (c.in_ok-prepared.ensures.readies out sound holds k free) in
-    let size : cluster_size new.file.header.fields ≡ cluster_size mid.file.header.fields = ap (λ (x : HeaderFields). cluster_size x) (header_format mid.file.header new.file.header c.in-Ok.ensures.header) in
-    let one = first_of p.shares.items first.one in
-    longer_lowest view below mid new p q one.0 one.1 (longer.first one.0 one.1) longer.place size (c.in-Ok.ensures.uses old out k free first.under ready) (c.in_ok-prepared.ensures.lowest out sound)
-
 pub returns-in-Ok-clause-unpinned : goal.returns-in-Ok-clause-unpinned
 returns-in-Ok-clause-unpinned g c = c.in_ok-prepared.ensures.unpinned
 
@@ -251,17 +235,6 @@ returns-in-Err-clause-met g c = λ out sound holds some.
     let size : cluster_size hm ≡ cluster_size h = ap (λ (x : HeaderFields). cluster_size x) (header_format old.file.header mid.file.header c.in_ok-prepared.ensures.header) in
     inl (alone_as (λ found. compressed_as h hm (known_in view old.file) (known_in view mid.file) c.args.offset n c.args.overwrite size ready.covers (subst (λ o. CopiesCompressed o n c.args.overwrite hm (known_in view mid.file)) first.guest found)) (λ no. no)
     c.in-Err.refusal (c.in-Err.ensures.met old (None ∷ out) 0 refl first.under ready))
-
-pub returns-in-Ok-clause-uses : goal.returns-in-Ok-clause-uses
-returns-in-Ok-clause-uses g c = λ out k free sound holds j used.
-    let view = g.S.Storage.view in
-    let below = g.F.BackingDisk.backing in
-    let old = c.args.self.now in
-    let mid = c.prepare_first.new.self in
-    let p = c.in_ok-prepared.prepared in
-    let first = c.in_ok-prepared.ensures.first in
-    let ready = subst (λ o. IsReadied view below old mid out k o c.args.length c.args.overwrite p) (sym first.guest) (c.in_ok-prepared.ensures.readies out sound holds k free) in
-    c.in-Ok.ensures.uses old out k free first.under ready j (c.in_ok-prepared.ensures.uses out sound holds j used)
 
 pub returns-in-Ok-clause-under : goal.returns-in-Ok-clause-under
 returns-in-Ok-clause-under g c = λ out k free sound holds.

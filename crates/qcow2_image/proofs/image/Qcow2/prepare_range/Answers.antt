@@ -1,5 +1,5 @@
 use Rattle.qcow2_image.proofs.image.Qcow2.prepare_range.Goals as goal
-use Rattle.std.proofs.Common.{◌≡◌, true, false, inl, inr, refl, sym, ◌∙◌, subst, None, Option, [], ◌∷◌, ◌+◌, ap, ◌<◌, ◌≤◌, ℕ}
+use Rattle.std.proofs.Common.{◌≡◌, true, false, inl, inr, refl, sym, ◌∙◌, subst, None, Option, [], ◌∷◌, ap, ◌<◌, ◌≤◌, ℕ}
 use Rattle.qcow2_alloc.specs.ImageFile.{known_in}
 use Rattle.qcow2_alloc.proofs.AllocationSteps.{handed_on}
 use Rattle.qcow2_image.specs.CallParts.{PreparesRange}
@@ -14,10 +14,9 @@ use Rattle.qcow2_image.proofs.Call.Refused.{prepares_after, readied_after}
 use Rattle.qcow2_image.proofs.Prepare.Taken.{if_err, taken_by}
 use Rattle.qcow2_image.proofs.Prepare.Listing.{lists_since}
 use Rattle.qcow2_image.proofs.Prepare.FarEntries.{far_handed_on, far_unanswered}
-use Rattle.std.specs.Prelude.{IsSome, IsTrue, IfSome}
+use Rattle.std.specs.Prelude.{IsSome, IfSome}
 use Rattle.qcow2_alloc.proofs.KeptMarks.{notes_then, notes_for}
 use Rattle.qcow2_image.proofs.Call.BehindHeader.{behind_then}
-use Rattle.qcow2_image.proofs.Prepare.InUse.{none_lowest}
 use Rattle.qcow2_image.proofs.Prepare.Pinned.{found_pins, met_untaken, prepared_unpinned, unpinned_refused}
 use Rattle.qcow2_image.proofs.Prepare.Lacked.{hands_limit, limits_as, other_limit}
 use Rattle.qcow2_image.proofs.Prepare.LackedBehind.{data_after_table}
@@ -28,8 +27,6 @@ use Rattle.qcow2_image.specs.L1Entries.{NeedsFarEntry}
 use Rattle.qcow2_image.specs.MetAlone.{CopiesCompressed, IsMetTaking}
 use Rattle.qcow2_image.proofs.Prepare.MetRanges.{place_kept, place_then}
 use Rattle.qcow2_image.proofs.Prepare.Unannounced.{compressed_as}
-use Rattle.qcow2_image.specs.PinnedTables.{own_table}
-use Rattle.qcow2_image.proofs.Prepare.LowestTables.{own_table_known, tables_lowest, tables_on}
 use Rattle.qcow2_image.specs.Backings.{HasPrepared}
 use Rattle.qcow2_image.proofs.Prepare.Met.{hands_met}
 use Rattle.qcow2_image.proofs.Prepare.MetTaking.{if_err_both, taking_as, taking_kept}
@@ -170,17 +167,6 @@ returns-in-Some-clause-header_cluster g c = c.table_for.ensures.header_cluster
 pub returns-in-None-clause-header_cluster : goal.returns-in-None-clause-header_cluster
 returns-in-None-clause-header_cluster g c = behind_then c.table_for.ensures.header_cluster (c.prepare_in.ensures.header_cluster c.in_ok-table.ensures.elsewhere)
 
-pub returns-in-Some-clause-lowest : goal.returns-in-Some-clause-lowest
-returns-in-Some-clause-lowest g c = λ out sound. none_lowest g.S.Storage.view g.F.BackingDisk.backing c.table_for.new.self c.existing_at.result c.existing_at.ensures.existing.shares
-
-pub returns-in-None-clause-lowest : goal.returns-in-None-clause-lowest
-returns-in-None-clause-lowest g c = λ out sound.
-    let view = g.S.Storage.view in
-    let below = g.F.BackingDisk.backing in
-    let mid = c.table_for.new.self in
-    let found = c.in_ok-table.ensures.finds out sound in
-    c.prepare_in.ensures.lowest (None ∷ out) 0 refl ((free_places view below).free mid [] out found.0.sound) found.1
-
 pub returns-in_err-table-clause-pinned : goal.returns-in_err-table-clause-pinned
 returns-in_err-table-clause-pinned g c = λ own. unpinned_refused c.args.self.now c.args.offset c.from_residual.result c.in_err-table.field-0.0 c.from_residual.ensures (λ is. absurd (met_untaken c.in_err-table.field-0.0 c.in_err-table.ensures.cause is))
 
@@ -273,28 +259,3 @@ returns-in-None-clause-freeing g c = λ some out sound.
     let never = nowhere_before view old mid c.args.offset c.args.length found.0.header found.0.covers nowhere in
     if_ok c.prepare_in.result
     (λ q is none. let place = is.existing.0 none in absurd (never place.0 place.1)) (returns-in-None-clause-answers g c some out sound)
-
-pub returns-in-Some-clause-lowest_tables : goal.returns-in-Some-clause-lowest_tables
-returns-in-Some-clause-lowest_tables g c = λ out sound.
-    let view = g.S.Storage.view in
-    let below = g.F.BackingDisk.backing in
-    let old = c.args.self.now in
-    let mid = c.table_for.new.self in
-    let found = c.in_ok-table.ensures.finds out sound in
-    let is : own_table mid c.args.offset ≡ c.in_ok-table.table = own_table_known view below out (pending_in view below mid out) mid c.args.offset c.in_ok-table.table found.0.sound found.1.entry.place in
-    let tables = tables_lowest view c.args.offset c.in_ok-table.table old mid is (λ own. (c.in_ok-table.ensures.own own).table) (c.in_ok-table.ensures.moves out sound) (c.in_ok-table.ensures.lowest out sound) in
-    tables
-
-pub returns-in-None-clause-lowest_tables : goal.returns-in-None-clause-lowest_tables
-returns-in-None-clause-lowest_tables g c = λ out sound.
-    let view = g.S.Storage.view in
-    let below = g.F.BackingDisk.backing in
-    let old = c.args.self.now in
-    let mid = c.table_for.new.self in
-    let found = c.in_ok-table.ensures.finds out sound in
-    let is : own_table mid c.args.offset ≡ c.in_ok-table.table = own_table_known view below out (pending_in view below mid out) mid c.args.offset c.in_ok-table.table found.0.sound found.1.entry.place in
-    let tables = tables_lowest view c.args.offset c.in_ok-table.table old mid is (λ own. (c.in_ok-table.ensures.own own).table) (c.in_ok-table.ensures.moves out sound) (c.in_ok-table.ensures.lowest out sound) in
-    let new = c.prepare_in.new.self in
-    let free = (free_places view below).free mid [] out found.0.sound in
-    tables_on view c.args.offset old mid new c.prepare_in.result c.prepare_in.ensures.header c.prepare_in.ensures.former (c.prepare_in.ensures.uses (None ∷ out) 0 refl free found.1)
-    (on_ok c.prepare_in.result (λ at. at ∙ sym is) (c.prepare_in.ensures.under (None ∷ out) 0 refl free found.1)) tables

@@ -16,9 +16,8 @@ use Rattle.qcow2_alloc.proofs.KeptMarks.{notes_none, notes_then}
 use Rattle.qcow2_image.proofs.Call.BehindHeader.{behind_none, behind_then}
 use Rattle.qcow2_image.proofs.Prepare.Listing.{some_kept, some_none}
 use Rattle.qcow2_image.proofs.Prepare.Lacked.{faults_unlimited, hands_limit, unlimited_all, faults_or_limit, hands_either}
-use Rattle.qcow2_image.specs.LackedPlaces.{EndsBefore, IsPlacedNear, LacksLongerTable, listed_or_l1}
+use Rattle.qcow2_image.specs.LackedPlaces.{EndsBefore, IsPlacedNear, LacksLongerTable}
 use Rattle.qcow2_metadata.specs.TableBytes.{entry_at}
-use Rattle.qcow2_image.proofs.Prepare.LowestTables.{lies_freed}
 use Rattle.qcow2_image.proofs.Grow.NoLonger.{length_as, length_then}
 use Rattle.qcow2_metadata.specs.Header.{HeaderView}
 
@@ -183,31 +182,3 @@ returns-then-in_bounds-clause-kept g c = λ i. refl
 
 pub returns-clause-kept : goal.returns-clause-kept
 returns-clause-kept g c = always_ok c.free_listed.result (λ i. ap (λ (t : EntryTableView). entry_at t.bytes i) c.free_listed.ensures.table ∙ c.in_ok-grow_l1_table.ensures.kept i)
-
-pub returns-then-in_bounds-clause-lowest : goal.returns-then-in_bounds-clause-lowest
-returns-then-in_bounds-clause-lowest g c = λ past out sound.
-    let old = c.args.self.now in
-    let idx : c.l1_index-index.result ≡ l1_index_of old.file.header.fields c.args.offset =
-    c.l1_index-index.ensures ∙ ap (λ n. n / 2 ^ c.cluster_bits.result / (2 ^ c.cluster_bits.result / 8)) c.new.ensures ∙ ap (λ b. c.args.offset / 2 ^ b / (2 ^ b / 8)) c.cluster_bits.ensures.value in
-    absurd (let lt = c.in_bounds.ensures.0 c.if-in_bounds.true in omega (arith, lt, idx, past))
-
-pub returns-clause-lowest : goal.returns-clause-lowest
-returns-clause-lowest g c = λ past out sound.
-    let view = g.S.Storage.view in
-    let below = g.F.BackingDisk.backing in
-    let old = c.args.self.now in
-    let mid = c.grow_l1_table.new.self in
-    let first = stays_moved view below out old mid sound (c.in_ok-grow_l1_table.ensures.lengthens (pending_in view below old out) out sound) in
-    let listed = subst (λ (x : Pending). ImageInvariant view below x mid out) (all_listed view below mid out) first.sound in
-    lies_freed view (listed_or_l1 old) old mid c.free_listed.new.self c.free_listed.result c.free_listed.ensures.keeps_rest.header c.free_listed.ensures.table (c.free_listed.ensures.uses (beside view below mid out) out listed)
-    (c.in_ok-grow_l1_table.ensures.lowest (pending_in view below old out) out sound)
-
-pub returns-then-in_bounds-clause-in_use : goal.returns-then-in_bounds-clause-in_use
-returns-then-in_bounds-clause-in_use g c = λ past out sound.
-    let old = c.args.self.now in
-    let idx : c.l1_index-index.result ≡ l1_index_of old.file.header.fields c.args.offset =
-    c.l1_index-index.ensures ∙ ap (λ n. n / 2 ^ c.cluster_bits.result / (2 ^ c.cluster_bits.result / 8)) c.new.ensures ∙ ap (λ b. c.args.offset / 2 ^ b / (2 ^ b / 8)) c.cluster_bits.ensures.value in
-    absurd (let lt = c.in_bounds.ensures.0 c.if-in_bounds.true in omega (arith, lt, idx, past))
-
-pub returns-clause-in_use : goal.returns-clause-in_use
-returns-clause-in_use g c = λ past out sound. always_ok c.free_listed.result (c.in_ok-grow_l1_table.ensures.in_use (pending_in g.S.Storage.view g.F.BackingDisk.backing c.args.self.now out) out sound)

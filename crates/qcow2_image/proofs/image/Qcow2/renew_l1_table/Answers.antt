@@ -63,9 +63,6 @@ returns-in-Err-clause-fault g c = λ out sound.
     either_frees g.S.Storage.view g.F.BackingDisk.backing out c.args.self.now c.lengthen_l1_table.new.self c.free_after.new.self c.in-Err.refusal c.free_after.result
     (c.in-Err.ensures.makes out sound) c.free_after.ensures.fault (c.free_after.ensures.told out) (c.in-Err.ensures.fault out sound)
 
-pub returns-in-Ok-clause-lowest : goal.returns-in-Ok-clause-lowest
-returns-in-Ok-clause-lowest g c = λ out sound. c.in-Ok.ensures.lowest out sound
-
 pub returns-in-Ok-clause-kept : goal.returns-in-Ok-clause-kept
 returns-in-Ok-clause-kept g c = c.in-Ok.ensures.kept
 

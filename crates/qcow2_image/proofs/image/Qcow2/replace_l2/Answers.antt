@@ -1,5 +1,5 @@
 use Rattle.qcow2_image.proofs.image.Qcow2.replace_l2.Goals as goal
-use Rattle.std.proofs.Common.{inl, refl, ◌≢◌, subst, sym, ◌++◌, ◌∷◌, []}
+use Rattle.std.proofs.Common.{inl, refl}
 use Rattle.qcow2_image.specs.NewTables.{OwnsTable}
 use Rattle.qcow2_image.proofs.Prepare.Entering.{as_listed_after}
 use Rattle.qcow2_image.proofs.Map.Loading.{caches_moved, with_caches}
@@ -13,13 +13,6 @@ use Rattle.qcow2_alloc.specs.ImageFile.{contents_in}
 use Rattle.qcow2_image.proofs.Prepare.Lacking.{named_place, loads_looking}
 use Rattle.qcow2_image.proofs.Call.Unlimited.{in_use_unlimited}
 use Rattle.qcow2_image.specs.LackedPlaces.{HasNoCluster, StandsInWay}
-use Rattle.qcow2_metadata.specs.Bytes.{Bytes}
-use Rattle.qcow2_metadata.specs.Entries.{count}
-use Rattle.qcow2_alloc.specs.LowestRuns.{StaysUsed}
-use Rattle.qcow2_alloc.proofs.Hints.{ok_as}
-use Rattle.qcow2_alloc.specs.ClustersToFree.{metadata_entry}
-use Rattle.qcow2_image.specs.LowestPlaces.{IsLowest, TakesLowestOf}
-use Rattle.qcow2_image.proofs.Prepare.LowestTables.{ok_then}
 use Rattle.qcow2_image.specs.Backings.{HasPrepared}
 use Rattle.qcow2_image.specs.MetAlone.{IsMetTaking}
 use Rattle.qcow2_image.proofs.Prepare.Met.{hands_met}
@@ -122,30 +115,3 @@ returns-clause-met g c = λ p out sound shared near.
     let still = shared_still view below out p old sound c.args.index mid kept refl refl c.args.old shared in
     c.swap_l2.ensures.met p out kept.sound still
     (says_copy view below out p mid kept.sound c.args.index c.args.old still c.in-Some.held.now c.in_ok-table.table c.in-Some.ensures.shows c.in_ok-table.ensures.ok) (record { within = near.within; room = near.room })
-
-pub returns-clause-uses : goal.returns-clause-uses
-returns-clause-uses g c = λ p out sound shared.
-    let view = g.S.Storage.view in
-    let below = g.F.BackingDisk.backing in
-    let old = c.args.self.now in
-    let mid = with_caches view below old out p sound c.l2_get_or_insert.new.storage c.l2_get_or_insert.new.self in
-    let stay = c.l2_get_or_insert.ensures.keeps old.file.header.fields p sound.file.honest sound.file.caches in
-    let kept = caches_moved view below old out p sound c.l2_get_or_insert.new.storage c.l2_get_or_insert.new.self stay c.l2_get_or_insert.ensures.marks.room c.l2_get_or_insert.ensures.marks.pins in
-    let still = shared_still view below out p old sound c.args.index mid kept refl refl c.args.old shared in
-    let says = says_copy view below out p mid kept.sound c.args.index c.args.old still c.in-Some.held.now c.in_ok-table.table c.in-Some.ensures.shows c.in_ok-table.ensures.ok in
-    ok_as (StaysUsed view mid.file c.swap_l2.new.self.file) (StaysUsed view old.file c.swap_l2.new.self.file) c.swap_l2.result (λ then k used. then k (subst (λ (b : Bytes). count old.file.header.fields b k ≢ 0) (sym stay.known) used))
-    (c.swap_l2.ensures.uses p out kept.sound still says)
-
-pub returns-clause-lowest : goal.returns-clause-lowest
-returns-clause-lowest g c = λ p out sound shared.
-    let view = g.S.Storage.view in
-    let below = g.F.BackingDisk.backing in
-    let old = c.args.self.now in
-    let mid = with_caches view below old out p sound c.l2_get_or_insert.new.storage c.l2_get_or_insert.new.self in
-    let stay = c.l2_get_or_insert.ensures.keeps old.file.header.fields p sound.file.honest sound.file.caches in
-    let kept = caches_moved view below old out p sound c.l2_get_or_insert.new.storage c.l2_get_or_insert.new.self stay c.l2_get_or_insert.ensures.marks.room c.l2_get_or_insert.ensures.marks.pins in
-    let still = shared_still view below out p old sound c.args.index mid kept refl refl c.args.old shared in
-    let says = says_copy view below out p mid kept.sound c.args.index c.args.old still c.in-Some.held.now c.in_ok-table.table c.in-Some.ensures.shows c.in_ok-table.ensures.ok in
-    let runs = old.file.free_list ++ metadata_entry c.args.old 1 ∷ [] in
-    ok_then (λ t. TakesLowestOf view t 1 runs mid c.swap_l2.new.self) (λ t. TakesLowestOf view t 1 runs old c.swap_l2.new.self) c.swap_l2.result (λ t s. stands_alike view (IsLowest t 1) runs old mid c.swap_l2.new.self refl s)
-    (c.swap_l2.ensures.lowest p out kept.sound still says)

@@ -71,9 +71,3 @@ returns-then-takes_over-clause-met g c = λ works larger out sound. inr (refl, s
 
 pub returns-clause-met : goal.returns-clause-met
 returns-clause-met g c = λ works larger out sound. if_err c.grow_disk.result (λ e why. inl why) (c.grow_disk.ensures.met out sound)
-
-pub returns-clause-lowest : goal.returns-clause-lowest
-returns-clause-lowest g c = λ allowed larger. c.grow_disk.ensures.lowest
-
-pub returns-clause-turns : goal.returns-clause-turns
-returns-clause-turns g c = λ allowed larger. c.grow_disk.ensures.turns

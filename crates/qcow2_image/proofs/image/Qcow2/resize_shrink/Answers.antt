@@ -58,7 +58,7 @@ returns-then-size-clause-stops g c = λ out sound.
     let old = c.args.self.now in
     let le = subst (λ n. n ≤ c.args.size) c.size.ensures c.if-size.true in
     let up = rounded_from (cluster_size old.file.header.fields) c.args.size (pow_pos old.file.header.fields.cluster_bits) in
-    record { tables = λ whole before under. absurd (omega (arith, le, up, before)); turns = λ smaller. absurd (omega (arith, le, smaller)); stops = λ lt. absurd (omega (arith, lt, is)); emptied = λ before. absurd (omega (arith, le, up, before)) }
+    record { stops = λ lt. absurd (omega (arith, lt, is)); emptied = λ before. absurd (omega (arith, le, up, before)) }
 
 pub returns-then-size-clause-covers : goal.returns-then-size-clause-covers
 returns-then-size-clause-covers g c = λ out sound.

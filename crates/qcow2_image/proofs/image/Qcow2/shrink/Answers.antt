@@ -10,7 +10,6 @@ use Rattle.qcow2_alloc.specs.ImageStorage.{is_changed_of}
 use Rattle.qcow2_image.specs.declared.image.Qcow2.{Qcow2}
 use Rattle.qcow2_image.specs.Image.{is_failed, size_of}
 use Rattle.qcow2_image.specs.Refusals.{MarksRefused}
-use Rattle.qcow2_image.proofs.Sizing.LowestTail.{tables_sized}
 use Rattle.qcow2_image.specs.Resizing.{Shrinks, UncoversTail, WritesSizeLast, boundary_in}
 use Rattle.qcow2_image.specs.declared.discarding.Clearance.TheVariants.{Uncovered}
 use Rattle.qcow2_image.proofs.Clear.ClearCalls.{covers_after}
@@ -100,14 +99,6 @@ returns-clause-stops g c = λ none out sound unprepared.
     let at = c.uncover_tail-end.result.0 in
     let tail = subst (λ r. UncoversTail view below old mid c.args.size at r out) c.in_default.is (c.uncover_tail-end.ensures.uncovers out sound) in
     record {
-      tables = λ whole before under.
-          tables_sized view old mid new (ap (λ (i : Qcow2 _ _). i.allocator) c.write_size.ensures.rest) (c.in_default-write_size.ensures.uses out tail.0.sound) (boundary_in old c.args.size) c.args.size (ap (λ (i : Qcow2 _ _). i.l1_table) c.write_size.ensures.rest) c.in_default-write_size.ensures.header
-          (tail.2 whole before under);
-      turns = λ smaller. record {
-        uncovered = mid;
-        turns = tail.3;
-        sized = record { sets = c.in_default-write_size.ensures.writes out tail.0.sound; header = c.in_default-write_size.ensures.header; rest = c.write_size.ensures.rest };
-      };
       stops = λ lt.
           written_stops view below out (size_of old) at c.args.size mid new tail.0.sound (c.in_default-write_size.ensures.writes out tail.0.sound).sound (ap (λ (i : Qcow2 _ _). i.l1_table) c.write_size.ensures.rest) c.in_default-write_size.ensures.header
           (c.uncover_tail-end.ensures.stops none out sound unprepared c.in_default.is lt);

@@ -1,12 +1,11 @@
 use Rattle.qcow2_image.proofs.image.Qcow2.swap_l2.Goals as goal
-use Rattle.std.proofs.Common.{ap, refl, ◌∙◌, ◌++◌, ◌∷◌, []}
+use Rattle.std.proofs.Common.{ap, refl, ◌∙◌}
 use Rattle.qcow2_alloc.specs.ClustersToFree.{metadata_entry}
 use Rattle.qcow2_image.specs.NewTables.{OwnsTable}
 use Rattle.qcow2_image.proofs.Prepare.Owning.{refused, left_alone, swapped_owns}
 use Rattle.qcow2_alloc.proofs.KeptMarks.{notes_none}
 use Rattle.qcow2_image.proofs.Call.BehindHeader.{behind_none}
 use Rattle.qcow2_image.proofs.Prepare.Listing.{some_still}
-use Rattle.qcow2_image.proofs.Prepare.LowestTables.{lowest_listed}
 
 pub returns-in-Err-clause-owns : goal.returns-in-Err-clause-owns
 returns-in-Err-clause-owns g c = λ p out sound shared says. c.in-Err.ensures.enters p out sound shared.may says
@@ -49,11 +48,3 @@ returns-in-Err-clause-limit g c = λ p out sound shared says near. c.in-Err.ensu
 
 pub returns-in-Err-clause-met : goal.returns-in-Err-clause-met
 returns-in-Err-clause-met g c = λ p out sound shared says near. c.in-Err.ensures.met p out sound shared.may says near
-
-pub returns-in-Ok-clause-uses : goal.returns-in-Ok-clause-uses
-returns-in-Ok-clause-uses g c = λ p out sound shared says. c.in-Ok.ensures.uses p out sound shared.may says
-
-pub returns-in-Ok-clause-lowest : goal.returns-in-Ok-clause-lowest
-returns-in-Ok-clause-lowest g c = λ p out sound shared says.
-    lowest_listed g.S.Storage.view c.in-Ok.cluster 1 c.args.self.now.file.free_list (metadata_entry c.args.old 1 ∷ []) c.args.self.now c.enter_l2.new.self c.hand_back.new.list
-    (c.hand_back.ensures ∙ ap (λ e. c.enter_l2.new.self.file.free_list ++ e ∷ []) (c.in_ok-dropped.ensures ∙ c.metadata-entry.ensures ∙ ap (metadata_entry c.args.old) c.new.ensures)) (c.in-Ok.ensures.lowest p out sound shared.may says)

@@ -1,14 +1,14 @@
 use Rattle.qcow2_alloc.specs.declared.error.ImageError.TheVariants as I
 use Rattle.qcow2_image.proofs.image.Qcow2.table_for.Goals as goal
-use Rattle.std.proofs.Common.{◌≡◌, true, false, Err, ◌∙◌, refl, ap, sym, subst, inl, inr, ◌++◌, ◌∷◌, [], ◌/◌, ◌*◌, Some, ℕ, List, arith, ◌+◌}
-use Rattle.qcow2_metadata.specs.Header.{HeaderView, cluster_size}
+use Rattle.std.proofs.Common.{◌≡◌, true, false, Err, ◌∙◌, refl, ap, sym, subst, inl, inr, ◌+◌}
+use Rattle.qcow2_metadata.specs.Header.{HeaderView}
 use Rattle.qcow2_laws.specs.CrashInvariant.{Pending}
 use Rattle.qcow2_alloc.proofs.AllocationSteps.{handed_on}
 use Rattle.qcow2_image.specs.CallParts.{FindsTable}
 use Rattle.qcow2_image.specs.ImageInvariant.{ImageInvariant, pending_in}
 use Rattle.qcow2_image.proofs.Call.Refused.{finds, finds_after, left_refused, stays_kept}
 use Rattle.qcow2_image.proofs.Flush.Freeing.{all_listed, beside, freed_refused, tidy_stays}
-use Rattle.std.specs.Prelude.{IfErr, IsTrue, OnOk, IfOk}
+use Rattle.std.specs.Prelude.{IfErr, IsTrue}
 use Rattle.qcow2_alloc.proofs.KeptTables.Turning.{always_ok}
 use Rattle.qcow2_image.specs.Found.{l1_index_of}
 use Rattle.qcow2_image.specs.UnseenSteps.{NamesOwn, pending_with_listed}
@@ -20,27 +20,11 @@ use Rattle.qcow2_image.proofs.Call.BehindHeader.{behind_none, behind_then}
 use Rattle.qcow2_image.proofs.Prepare.Listing.{lists_made, lists_own, some_kept, some_then}
 use Rattle.qcow2_image.proofs.Call.FaultCounts.{counted_on, counted_since, faults_then, same_of}
 use Rattle.qcow2_image.proofs.Prepare.Lacked.{cluster_more, hands_limit, longer_wider, near_reached, other_limit, reached_runs, stands_then, unlimited_all}
-use Rattle.qcow2_image.specs.LackedPlaces.{HasNearEntry, HasNoCluster, LacksTableFor, listed_or_l1, IsListed, l1_clusters}
+use Rattle.qcow2_image.specs.LackedPlaces.{HasNearEntry, HasNoCluster, LacksTableFor, listed_or_l1}
 use Rattle.qcow2_alloc.proofs.Outcomes.{not_both}
 use Rattle.qcow2_metadata.specs.declared.header.HeaderFields.{HeaderFields}
 use Rattle.qcow2_image.proofs.Call.Unlimited.{fault_unlimited}
-use Rattle.qcow2_image.specs.L1Entries.{NeedsFarEntry, HasOwnTable}
-use Rattle.qcow2_metadata.specs.Entries.{host_offset}
-use Rattle.qcow2_metadata.specs.EntryTable.{EntryTableView, entry_count}
-use Rattle.qcow2_metadata.specs.TableBytes.{entry_at}
-use Rattle.qcow2_laws.specs.Guests.{table_at}
-use Rattle.qcow2_alloc.specs.ClustersToFree.{metadata_entry}
-use Rattle.qcow2_alloc.specs.ImageFile.{contents_in}
-use Rattle.qcow2_alloc.specs.LowestRuns.{StaysUsed, IsUsed}
-use Rattle.qcow2_alloc.specs.declared.allocation.Allocator.{Allocator}
-use Rattle.qcow2_image.specs.PinnedTables.{own_table}
-use Rattle.qcow2_image.specs.LowestPlaces.{MovesLowest, TakesLowestLeaving, TakesLowestOf}
-use Rattle.qcow2_image.proofs.Map.Loading.{if_ok_any}
-use Rattle.qcow2_image.proofs.Prepare.LowestTables.{found_lowest, found_used, l1_lowest, leaves_lowest, listed_or_tables, lowest_freed, lowest_still, ok_then, own_table_is, table_lowest, table_or_list_used, tables_used}
-use Rattle.qcow2_image.specs.declared.image.Qcow2.{Qcow2}
-use Rattle.std.proofs.lemmas.Bool.{cases_lt}
-use Rattle.qcow2_alloc.specs.declared.clusters_to_free.ClustersToFreeEntry.{ClustersToFreeEntry}
-use Rattle.qcow2_alloc.proofs.Hints.{ok_as as ok_more}
+use Rattle.qcow2_image.specs.L1Entries.{NeedsFarEntry}
 use Rattle.qcow2_image.specs.Backings.{HasPrepared}
 use Rattle.qcow2_image.specs.MetAlone.{IsMetTaking}
 use Rattle.qcow2_image.proofs.Prepare.Met.{hands_met, met_as}
@@ -443,108 +427,3 @@ returns-clause-freeing g c = λ out sound.
     let own = own_after view below out (pending_with_listed (pending_in view below long out) long mid) mid freed owned.0.sound c.args.offset (l1_index_of long.file.header.fields c.args.offset) at owned.1.own c.free_listed.ensures.table c.free_listed.ensures.keeps_rest.header in
     let writable = subst IsTrue (sym (c.own_l2.ensures.stays.image.writable ∙ c.reach_entry.ensures.stays.image.writable)) c.requires.writable in
     always_ok c.ensure_l2-2.result (inr ((c.ensure_l2-2.ensures.quiet own).list ∙ c.in_ok-free_listed.ensures.emptied writable))
-
-pub returns-then-has_own_l2-clause-lowest : goal.returns-then-has_own_l2-clause-lowest
-returns-then-has_own_l2-clause-lowest g c = λ out sound. if_ok_any c.ensure_l2.result (λ t other. absurd (other (c.has_own_l2.ensures.0 c.if-has_own_l2.true)))
-
-pub returns-then-has_own_l2-clause-moves : goal.returns-then-has_own_l2-clause-moves
-returns-then-has_own_l2-clause-moves g c = λ out sound. always_ok c.ensure_l2.result (λ moved. absurd (moved (ap (λ (i : Qcow2 _ _). i.file.header.fields.l1_offset) (c.ensure_l2.ensures.rest (c.has_own_l2.ensures.0 c.if-has_own_l2.true)))))
-
-pub returns-clause-lowest : goal.returns-clause-lowest
-returns-clause-lowest g c = λ out sound.
-    let view = g.S.Storage.view in
-    let below = g.F.BackingDisk.backing in
-    let offset = c.args.offset in
-    let old = c.args.self.now in
-    let long = c.reach_entry.new.self in
-    let mid = c.own_l2.new.self in
-    let freed = c.free_listed.new.self in
-    let new = c.ensure_l2-2.new.self in
-    let h = old.file.header.fields in
-    let reached = c.in_ok-reach_entry.ensures.makes out sound in
-    let owned = c.in_ok-own_l2.ensures.owns (pending_in view below long out) out reached.sound in
-    let first = stays_kept view below out long mid reached.sound owned.0 in
-    let listed = subst (λ (x : Pending). ImageInvariant view below x mid out) (all_listed view below mid out) first.sound in
-    let second = tidy_stays view below mid out freed first.sound (c.in_ok-free_listed.ensures.frees (beside view below mid out) out listed) in
-    let at = ap (λ (v : HeaderView). l1_index_of v.fields offset) c.own_l2.ensures.keeps_rest.header in
-    let own = own_after view below out (pending_with_listed (pending_in view below long out) long mid) mid freed owned.0.sound offset (l1_index_of long.file.header.fields offset) at owned.1.own c.free_listed.ensures.table c.free_listed.ensures.keeps_rest.header in
-    let rest = c.ensure_l2-2.ensures.rest own in
-    let none : HasOwnTable old offset → ⊥ = λ has. let some = c.has_own_l2.ensures.1 has in let is = sym c.if-has_own_l2.false ∙ some in cc in
-    let index : l1_index_of long.file.header.fields offset ≡ l1_index_of h offset = ap (λ (x : HeaderFields). l1_index_of x offset) reached.header in
-    let entry : entry_at long.l1_table.bytes (l1_index_of long.file.header.fields offset) ≡ entry_at old.l1_table.bytes (l1_index_of h offset) = c.in_ok-reach_entry.ensures.kept (l1_index_of long.file.header.fields offset) ∙ ap (λ i. entry_at old.l1_table.bytes i) index in
-    let same : own_table long offset ≡ own_table old offset = ap (λ e. host_offset e / cluster_size long.file.header.fields) entry ∙ ap (λ (x : HeaderFields). host_offset (entry_at old.l1_table.bytes (l1_index_of h offset)) / cluster_size x) reached.header in
-    let t = c.in_ok-own_l2.field-0 in
-    let s : TakesLowestOf view t 1 (long.file.free_list ++ metadata_entry (own_table long offset) 1 ∷ []) long mid = c.in_ok-own_l2.ensures.lowest (pending_in view below long out) out reached.sound (λ has. none (subst NamesOwn entry has)) in
-    let gave = c.in_ok-reach_entry.ensures.former in
-    let just = c.in_ok-free_listed.ensures.uses (beside view below mid out) out listed in
-    let header = c.free_listed.ensures.keeps_rest.header in
-    let is_there : own_table freed offset ≡ t = ap (λ (x : EntryTableView). host_offset (entry_at x.bytes (l1_index_of freed.file.header.fields offset)) / cluster_size freed.file.header.fields) c.free_listed.ensures.table
-    ∙ ap (λ (v : HeaderView). host_offset (entry_at mid.l1_table.bytes (l1_index_of v.fields offset)) / cluster_size v.fields) header
-    ∙ own_table_is view below out (pending_with_listed (pending_in view below long out) long mid) mid offset t owned.0.sound (subst (λ i. table_at mid.file.header.fields (contents_in view mid.file) i ≡ t * cluster_size mid.file.header.fields) (sym at) owned.1.place) in
-    let uses : (a : Allocator) → freed.allocator ≡ Some a → OnOk c.ensure_l2-2.result (StaysUsed view freed.file new.file) = λ a is. found_used view below out (pending_in view below freed out) offset a freed new c.ensure_l2-2.result second.sound is rest (c.ensure_l2-2.ensures.ready (pending_in view below freed out) out second.sound) in
-    let ends : (runs : List ClustersToFreeEntry) → ((k : ℕ) → IsListed runs k → IsUsed view old.file k) → TakesLowestOf view t 1 runs old mid → IfOk c.ensure_l2-2.result (λ table. (HasOwnTable old offset → ⊥) → TakesLowestLeaving view table 1 old new) = λ runs used one.
-    let two = lowest_freed view t 1 runs old mid freed header just one in
-    let place : IfOk c.ensure_l2-2.result (λ table. table ≡ t) = ok_then (λ table. table ≡ own_table freed offset) (λ table. table ≡ t) c.ensure_l2-2.result (λ table is. is ∙ is_there) (c.ensure_l2-2.ensures.own own).table in
-    ok_then (λ table. TakesLowestOf view table 1 runs old new) (λ table. (HasOwnTable old offset → ⊥) → TakesLowestLeaving view table 1 old new) c.ensure_l2-2.result (λ table three other. leaves_lowest view table 1 runs old new used three)
-    (found_lowest view t runs old freed new c.ensure_l2-2.result (ap (λ (i : Qcow2 _ _). i.allocator) rest) (ap (λ (i : Qcow2 _ _). i.file.free_list) rest) (uses two.allocator two.is) place two) in
-    elim (cases_lt (l1_index_of h offset) (entry_count old.l1_table)) [
-      | inl within ↦ ends (old.file.free_list ++ metadata_entry (own_table old offset) 1 ∷ []) (table_or_list_used view below out old offset sound)
-          (subst (λ (i : Qcow2 _ _). TakesLowestOf view t 1 (i.file.free_list ++ metadata_entry (own_table i offset) 1 ∷ []) i mid) (c.reach_entry.ensures.none within) s)
-      | inr past ↦ ends (listed_or_tables offset old) (tables_used view below out old offset sound (c.in_ok-reach_entry.ensures.in_use past out sound))
-          (table_lowest view offset old long mid same t s gave.0 gave.1 (reached_runs old long offset gave.0 c.reach_entry.ensures.none c.in_ok-reach_entry.ensures.emptied))
-    ]
-
-pub returns-clause-moves : goal.returns-clause-moves
-returns-clause-moves g c = λ out sound.
-    let view = g.S.Storage.view in
-    let below = g.F.BackingDisk.backing in
-    let offset = c.args.offset in
-    let old = c.args.self.now in
-    let long = c.reach_entry.new.self in
-    let mid = c.own_l2.new.self in
-    let freed = c.free_listed.new.self in
-    let new = c.ensure_l2-2.new.self in
-    let h = old.file.header.fields in
-    let reached = c.in_ok-reach_entry.ensures.makes out sound in
-    let owned = c.in_ok-own_l2.ensures.owns (pending_in view below long out) out reached.sound in
-    let first = stays_kept view below out long mid reached.sound owned.0 in
-    let listed = subst (λ (x : Pending). ImageInvariant view below x mid out) (all_listed view below mid out) first.sound in
-    let second = tidy_stays view below mid out freed first.sound (c.in_ok-free_listed.ensures.frees (beside view below mid out) out listed) in
-    let at = ap (λ (v : HeaderView). l1_index_of v.fields offset) c.own_l2.ensures.keeps_rest.header in
-    let own = own_after view below out (pending_with_listed (pending_in view below long out) long mid) mid freed owned.0.sound offset (l1_index_of long.file.header.fields offset) at owned.1.own c.free_listed.ensures.table c.free_listed.ensures.keeps_rest.header in
-    let rest = c.ensure_l2-2.ensures.rest own in
-    let none : HasOwnTable old offset → ⊥ = λ has. let some = c.has_own_l2.ensures.1 has in let is = sym c.if-has_own_l2.false ∙ some in cc in
-    let index : l1_index_of long.file.header.fields offset ≡ l1_index_of h offset = ap (λ (x : HeaderFields). l1_index_of x offset) reached.header in
-    let entry : entry_at long.l1_table.bytes (l1_index_of long.file.header.fields offset) ≡ entry_at old.l1_table.bytes (l1_index_of h offset) = c.in_ok-reach_entry.ensures.kept (l1_index_of long.file.header.fields offset) ∙ ap (λ i. entry_at old.l1_table.bytes i) index in
-    let same : own_table long offset ≡ own_table old offset = ap (λ e. host_offset e / cluster_size long.file.header.fields) entry ∙ ap (λ (x : HeaderFields). host_offset (entry_at old.l1_table.bytes (l1_index_of h offset)) / cluster_size x) reached.header in
-    let t = c.in_ok-own_l2.field-0 in
-    let s : TakesLowestOf view t 1 (long.file.free_list ++ metadata_entry (own_table long offset) 1 ∷ []) long mid = c.in_ok-own_l2.ensures.lowest (pending_in view below long out) out reached.sound (λ has. none (subst NamesOwn entry has)) in
-    let gave = c.in_ok-reach_entry.ensures.former in
-    let just = c.in_ok-free_listed.ensures.uses (beside view below mid out) out listed in
-    let header = c.free_listed.ensures.keeps_rest.header in
-    let is_there : own_table freed offset ≡ t = ap (λ (x : EntryTableView). host_offset (entry_at x.bytes (l1_index_of freed.file.header.fields offset)) / cluster_size freed.file.header.fields) c.free_listed.ensures.table
-    ∙ ap (λ (v : HeaderView). host_offset (entry_at mid.l1_table.bytes (l1_index_of v.fields offset)) / cluster_size v.fields) header
-    ∙ own_table_is view below out (pending_with_listed (pending_in view below long out) long mid) mid offset t owned.0.sound (subst (λ i. table_at mid.file.header.fields (contents_in view mid.file) i ≡ t * cluster_size mid.file.header.fields) (sym at) owned.1.place) in
-    let uses : (a : Allocator) → freed.allocator ≡ Some a → OnOk c.ensure_l2-2.result (StaysUsed view freed.file new.file) = λ a is. found_used view below out (pending_in view below freed out) offset a freed new c.ensure_l2-2.result second.sound is rest (c.ensure_l2-2.ensures.ready (pending_in view below freed out) out second.sound) in
-    let size : cluster_size long.file.header.fields ≡ cluster_size h = ap (λ (x : HeaderFields). cluster_size x) reached.header in
-    let place : new.file.header.fields.l1_offset ≡ long.file.header.fields.l1_offset = ap (λ (i : Qcow2 _ _). i.file.header.fields.l1_offset) rest ∙ ap (λ (v : HeaderView). v.fields.l1_offset) header ∙ ap (λ (v : HeaderView). v.fields.l1_offset) c.own_l2.ensures.keeps_rest.header in
-    let entries : new.file.header.fields.l1_entries ≡ long.file.header.fields.l1_entries = ap (λ (i : Qcow2 _ _). i.file.header.fields.l1_entries) rest ∙ ap (λ (v : HeaderView). v.fields.l1_entries) header ∙ ap (λ (v : HeaderView). v.fields.l1_entries) c.own_l2.ensures.keeps_rest.header in
-    elim (cases_lt (l1_index_of h offset) (entry_count old.l1_table)) [
-      | inl within ↦ always_ok c.ensure_l2-2.result (λ moved. absurd (moved (place ∙ ap (λ (i : Qcow2 _ _). i.file.header.fields.l1_offset) (c.reach_entry.ensures.none within))))
-      | inr past ↦
-          let runs = listed_or_tables offset old in
-          let count = reached.sound.l1_table.count in
-          let many = c.in_ok-reach_entry.ensures.length in
-          let at_long = reached.sound.l1_table.cluster (omega (arith, count, many)) in
-          let begin = long.file.header.fields.l1_offset / cluster_size long.file.header.fields in
-          let n = l1_clusters h (entry_count long.l1_table) in
-          let one = l1_lowest view offset old long mid same t s begin n (c.in_ok-own_l2.ensures.uses (pending_in view below long out) out reached.sound) (c.in_ok-reach_entry.ensures.lowest past out sound begin at_long) in
-          let two = lowest_freed view begin n runs old mid freed header just one in
-          let there : begin ≡ new.file.header.fields.l1_offset / cluster_size h = ap (λ o. o / cluster_size long.file.header.fields) (sym place) ∙ ap (λ m. new.file.header.fields.l1_offset / m) size in
-          let clusters : n ≡ l1_clusters h new.file.header.fields.l1_entries = ap (l1_clusters h) (count ∙ sym entries) in
-          ok_more (StaysUsed view freed.file new.file) (MovesLowest view old new) c.ensure_l2-2.result
-          (λ still moved. subst (λ b. TakesLowestLeaving view b (l1_clusters h new.file.header.fields.l1_entries) old new) there
-          (subst (λ m. TakesLowestLeaving view begin m old new) clusters
-          (leaves_lowest view begin n runs old new (tables_used view below out old offset sound (c.in_ok-reach_entry.ensures.in_use past out sound))
-          (lowest_still view begin n runs old freed new (ap (λ (i : Qcow2 _ _). i.allocator) rest) (ap (λ (i : Qcow2 _ _). i.file.free_list) rest) still two)))) (uses two.allocator two.is)
-    ]

@@ -27,16 +27,12 @@ returns-in_err-from-clause-uncovers g c =
 pub returns-then-next-end-clause-uncovers : goal.returns-then-next-end-clause-uncovers
 returns-then-next-end-clause-uncovers g c =
     let old = c.args.self.now in
-    let none = none_early _ (refuses_to_clear old c.args.at (c.size-end.result - c.args.at) Uncovered) (c.in_ok-from.from, c.in_ok-from.count) c.clear_range.result c.clear_range.ensures.early c.in_ok-from.was in
-    turn_answered g.S.Storage.view g.F.BackingDisk.backing old c.clear_range.new.self c.args.at c.size-end.result (c.in_ok-from.from, c.in_ok-from.count) c.size-end.ensures c.requires.inside (omega (arith, c.size-end.type_inv)) c.in_ok-from.ensures.sees c.in_ok-from.ensures.covers c.in_ok-from.ensures.lowest_tables
-    c.in_ok-from.ensures.emptied (λ least. (c.in_ok-from.ensures.nothing none least).1) c.saturating_add-next.result (inl (c.saturating_add-next.ensures, c.if-at-next.true, c.if-next-end.true))
+    turn_answered g.S.Storage.view g.F.BackingDisk.backing old c.clear_range.new.self c.args.at c.size-end.result (c.in_ok-from.from, c.in_ok-from.count) c.size-end.ensures c.requires.inside (omega (arith, c.size-end.type_inv)) c.in_ok-from.ensures.sees c.in_ok-from.ensures.covers c.saturating_add-next.result (inl (c.saturating_add-next.ensures, c.if-at-next.true, c.if-next-end.true))
 
 pub returns-else-at-next-clause-uncovers : goal.returns-else-at-next-clause-uncovers
 returns-else-at-next-clause-uncovers g c =
     let old = c.args.self.now in
-    let none = none_early _ (refuses_to_clear old c.args.at (c.size-end.result - c.args.at) Uncovered) (c.in_ok-from.from, c.in_ok-from.count) c.clear_range.result c.clear_range.ensures.early c.in_ok-from.was in
-    turn_answered g.S.Storage.view g.F.BackingDisk.backing old c.clear_range.new.self c.args.at c.size-end.result (c.in_ok-from.from, c.in_ok-from.count) c.size-end.ensures c.requires.inside (omega (arith, c.size-end.type_inv)) c.in_ok-from.ensures.sees c.in_ok-from.ensures.covers c.in_ok-from.ensures.lowest_tables
-    c.in_ok-from.ensures.emptied (λ least. (c.in_ok-from.ensures.nothing none least).1) c.size-end.result
+    turn_answered g.S.Storage.view g.F.BackingDisk.backing old c.clear_range.new.self c.args.at c.size-end.result (c.in_ok-from.from, c.in_ok-from.count) c.size-end.ensures c.requires.inside (omega (arith, c.size-end.type_inv)) c.in_ok-from.ensures.sees c.in_ok-from.ensures.covers c.size-end.result
     (inr (refl, (let h = c.saturating_add-next.ensures in elim c.else-at-next.branch [ else-at-next-via-then-at-next+else-next-end w ↦ inr (subst (λ n. c.size-end.result ≤ n) h w.if-next-end.false) | else-at-next-via-else-at-next w ↦ inl (subst (λ n. n ≤ c.args.at) h w.if-at-next.false) ])))
 
 pub returns-in_err-from-clause-stops : goal.returns-in_err-from-clause-stops

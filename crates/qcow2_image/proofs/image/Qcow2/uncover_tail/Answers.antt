@@ -1,10 +1,9 @@
 use Rattle.qcow2_image.proofs.Call.OnceWritten.{call_then, changes_later, notes_begun, part_none}
-use Rattle.std.proofs.Common.{◌∙◌, ◌-◌, ◌<◌, ap, arith, inl, inr, refl, sym, subst, Some, None, Err}
+use Rattle.std.proofs.Common.{◌∙◌, ◌-◌, ap, arith, inl, inr, refl, sym, subst, Some, None, Err}
 use Rattle.std.specs.Prelude.{IsTrue}
 use Rattle.qcow2_alloc.proofs.Outcomes.{not_both}
 use Rattle.qcow2_image.specs.ImageInvariant.{pending_in}
 use Rattle.qcow2_image.specs.declared.image.Qcow2.{Qcow2}
-use Rattle.qcow2_image.proofs.Prepare.LowestTables.{begun_used}
 use Rattle.qcow2_image.proofs.Sizing.RefusedTurns.{frees_next}
 use Rattle.qcow2_image.proofs.Sizing.Shrinking.{next_so_far, none_so_far, same_size, tail_refused, tail_stops}
 use Rattle.qcow2_image.proofs.Call.FaultCounts.{fewer_of, counted_as, faults_then}
@@ -25,9 +24,8 @@ loop-at-init g c =
     let view = g.S.Storage.view in
     let below = g.F.BackingDisk.backing in
     record {
-      turns = none_so_far view below c.args.self.now c.begin.new.self c.args.size c.size-end.result c.begin.ensures.begun c.begin.ensures.stays.image c.begin.ensures.stays.failed (c.size-end.ensures ∙ c.begin.ensures.stays.image.size) c.requires.smaller
-          (λ out sound. record { keeps = c.begin.ensures.keeps (pending_in view below c.args.self.now out) out sound; list = c.begin.ensures.list })
-          (λ out sound. record { rest = c.begin.ensures.rest; used = begun_used view c.args.self.now c.begin.new.self (ap (λ (i : Qcow2 _ _). i.file.header) c.begin.ensures.rest) (c.begin.ensures.known (pending_in view below c.args.self.now out) out sound) });
+      turns = none_so_far view below c.args.self.now c.begin.new.self c.args.size c.size-end.result c.begin.ensures.stays.image c.begin.ensures.stays.failed (c.size-end.ensures ∙ c.begin.ensures.stays.image.size) c.requires.smaller
+          (λ out sound. record { keeps = c.begin.ensures.keeps (pending_in view below c.args.self.now out) out sound; list = c.begin.ensures.list });
       faults = c.begin.ensures.faults;
       emptied = λ writable out sound before. inl refl;
       since = notes_begun g.S.Storage.view c.args.self.now c.begin.new.self c.begin.ensures.begun c.begin.new.self (part_none g.S.Storage.view c.begin.new.self);
@@ -76,14 +74,7 @@ returns-in-Err-clause-stops g c = λ none out sound unprepared is lt.
     (λ none sound unprepared. c.in-Err.ensures.stops none out sound unprepared) none sound unprepared (λ fault. not_both c.is_fault.result (c.is_fault.ensures.1 fault) c.if-is_fault.false)
 
 pub returns-clause-uncovers : goal.returns-clause-uncovers
-returns-clause-uncovers g c = λ out sound.
-    let so = c.loop-at.invariant.turns in
-    let part = so.so_far out sound in (
-      part.0,
-      part.1,
-      λ whole before under. elim (so.lowest out sound before under) [ inl begun ↦ let at = begun.0 in let smaller = c.requires.smaller in absurd (omega (arith, at, whole, smaller)) | inr done ↦ done.1 ],
-      record { uncovered = c.loop-at.self; turns = so.turns out sound; rest = inl (let last = so.last in let within = so.within in omega (arith, last, within, c.loop-at-test.false), refl) },
-    )
+returns-clause-uncovers g c = λ out sound. c.loop-at.invariant.turns.so_far out sound
 
 pub returns-clause-stops : goal.returns-clause-stops
 returns-clause-stops g c = λ none out sound unprepared is lt.

@@ -3,7 +3,7 @@ use Rattle.std.proofs.Common.{◌∙◌, ◌≡◌, inl, ap, subst, sym}
 use Rattle.std.specs.Prelude.{OnOk}
 use Rattle.qcow2_metadata.specs.EntryTable.{entry_count, EntryTableView}
 use Rattle.qcow2_alloc.proofs.AllocationSteps.{handed_on}
-use Rattle.qcow2_image.specs.LongerTables.{NamesTable, with_table}
+use Rattle.qcow2_image.specs.LongerTables.{NamesTable}
 use Rattle.qcow2_image.proofs.Grow.Lengthened.{named_then}
 use Rattle.qcow2_alloc.proofs.KeptMarks.{notes_then}
 use Rattle.qcow2_image.proofs.Call.BehindHeader.{behind_then, l1_placed}
@@ -11,11 +11,6 @@ use Rattle.qcow2_image.proofs.Call.FaultCounts.{counted_since, same_of}
 use Rattle.qcow2_image.specs.declared.image.Qcow2.{Qcow2}
 use Rattle.qcow2_image.proofs.Prepare.Lacked.{hands_fault}
 use Rattle.qcow2_metadata.specs.L2Mapping.{IsHostCluster}
-use Rattle.qcow2_image.proofs.Prepare.Listing.{lists_none}
-use Rattle.qcow2_image.proofs.Prepare.InUse.{used_stays}
-use Rattle.qcow2_image.specs.ImageInvariant.{ImageInvariant}
-use Rattle.qcow2_alloc.specs.LowestRuns.{StaysUsed}
-use Rattle.qcow2_alloc.proofs.Hints.{ok_as}
 use Rattle.qcow2_image.proofs.Grow.NoLonger.{length_as, length_behind}
 use Rattle.qcow2_metadata.specs.Header.{HeaderView}
 
@@ -75,18 +70,3 @@ returns-in_err-place_l1_table-clause-no_longer g c = inl (ap (λ (v : HeaderView
 
 pub returns-clause-no_longer : goal.returns-clause-no_longer
 returns-clause-no_longer g c = length_behind (ap (λ (v : HeaderView). v.fields.l1_entries) (ap (λ (i : Qcow2 _ _). i.file.header) c.place_l1_table.ensures.rest)) (length_as (ap entry_count c.in_ok-place_l1_table.ensures.table) c.name_l1_table.ensures.no_longer)
-
-pub returns-clause-uses : goal.returns-clause-uses
-returns-clause-uses g c = λ writable p out sound longer.
-    let view = g.S.Storage.view in
-    let below = g.F.BackingDisk.backing in
-    let old = c.args.self.now in
-    let mid = c.place_l1_table.new.self in
-    let rest = c.place_l1_table.ensures.rest in
-    let own = lists_none old writable in
-    let q = with_table p c.args.table c.args.cluster in
-    let placed = c.in_ok-place_l1_table.ensures.places p out sound longer in
-    let first = used_stays view below out q own.before old mid sound placed.0.sound (ap (λ (i : Qcow2 _ _). i.file.header) rest) own.was (ap (λ (i : Qcow2 _ _). i.allocator) rest) (ap (λ (i : Qcow2 _ _). i.l1_table) rest) placed.0.unseen.covers in
-    let same = c.in_ok-place_l1_table.ensures.table in
-    let there : ImageInvariant view below (with_table p c.place_l1_table.new.table c.args.cluster) mid out = subst (λ (t : EntryTableView). ImageInvariant view below (with_table p t c.args.cluster) mid out) (sym same) placed.0.sound in
-    ok_as (StaysUsed view mid.file c.name_l1_table.new.self.file) (StaysUsed view old.file c.name_l1_table.new.self.file) c.name_l1_table.result (λ then k used. then k (first k used)) (c.name_l1_table.ensures.uses p out there placed.1)

@@ -12,10 +12,6 @@ use Rattle.qcow2_image.proofs.Call.BehindHeader.{behind_none, behind_then}
 use Rattle.qcow2_image.proofs.Prepare.Lacked.{faults_unlimited, hands_unlimited, near_placed}
 use Rattle.qcow2_alloc.proofs.Outcomes.{not_both}
 use Rattle.qcow2_metadata.specs.L2Mapping.{IsHostCluster}
-use Rattle.qcow2_image.proofs.Prepare.Listing.{lists_none}
-use Rattle.qcow2_image.proofs.Prepare.InUse.{used_stays}
-use Rattle.qcow2_alloc.specs.LowestRuns.{StaysUsed}
-use Rattle.qcow2_alloc.proofs.Hints.{ok_as}
 use Rattle.qcow2_image.specs.Backings.{HasPrepared}
 use Rattle.qcow2_image.specs.MetAlone.{IsMetLooking}
 use Rattle.qcow2_alloc.specs.ImageError.{IsFault}
@@ -143,23 +139,3 @@ returns-then-not-can_enter-clause-met g c = λ p out sound says near host.
 
 pub returns-clause-met : goal.returns-clause-met
 returns-clause-met g c = λ p out sound says near host. met_as IsFault (IsMetLooking (HasPrepared out)) c.name_l2.result (λ e fault. inl fault) c.name_l2.ensures.fault
-
-pub returns-clause-uses : goal.returns-clause-uses
-returns-clause-uses g c = λ writable p out sound may says.
-    let view = g.S.Storage.view in
-    let below = g.F.BackingDisk.backing in
-    let old = c.args.self.now in
-    let first = c.store_first.new.self in
-    let mid = c.place_l2.new.self in
-    let q = with_new_tables p (one_at c.args.cluster) in
-    let one = one_here c.args.cluster in
-    let own = lists_none old writable in
-    let same = ap (λ (x : Qcow2 _ _). x.l1_table) c.place_l2.ensures.rest ∙ ap (λ (x : Qcow2 _ _). x.l1_table) c.store_first.ensures.rest in
-    let stored = c.in_ok-store_first.ensures.stores q out sound in
-    let format = (says_still view below out q q old first c.args.index c.args.table stored.0 says).format in
-    let placed = c.in_ok-place_l2.ensures.places q out stored.0.sound (omega (arith, one)) format stored.1 in
-    let kept = keeps_then view below out old first mid q q q (λ k h. h) stored.0 placed.0 in
-    let before = used_stays view below out q own.before old mid sound kept.sound (ap (λ (x : Qcow2 _ _). x.file.header) c.place_l2.ensures.rest ∙ ap (λ (x : Qcow2 _ _). x.file.header) c.store_first.ensures.rest) own.was
-    (ap (λ (x : Qcow2 _ _). x.allocator) c.place_l2.ensures.rest ∙ ap (λ (x : Qcow2 _ _). x.allocator) c.store_first.ensures.rest) same kept.unseen.covers in
-    ok_as (StaysUsed view mid.file c.name_l2.new.self.file) (StaysUsed view old.file c.name_l2.new.self.file) c.name_l2.result (λ then k used. then k (before k used))
-    (c.name_l2.ensures.uses p out c.args.table kept.sound (may_still view below out q q old mid sound kept.sound same c.args.index may) (says_still view below out q q old mid c.args.index c.args.table kept says) c.in_ok-place_l2.ensures.long placed.1)

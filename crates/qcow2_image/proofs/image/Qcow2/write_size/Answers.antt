@@ -7,7 +7,7 @@ use Rattle.image_access.specs.Moments.{Changes}
 use Rattle.qcow2_alloc.specs.ImageStorage.{storage_of}
 use Rattle.qcow2_image.specs.declared.image.Qcow2.{Qcow2}
 use Rattle.qcow2_image.specs.Resizing.{WritesSize}
-use Rattle.qcow2_image.proofs.Sizing.SizeWritten.{resizes_refused, resizes_so, size_is_refused, size_is_set, uses_size}
+use Rattle.qcow2_image.proofs.Sizing.SizeWritten.{resizes_refused, resizes_so, size_is_refused, size_is_set}
 use Rattle.qcow2_alloc.proofs.KeptMarks.{told_kept, notes_of_storage}
 use Rattle.qcow2_image.proofs.Call.BehindHeader.{behind_bits, behind_size, behind_then}
 
@@ -66,13 +66,3 @@ pub returns-in-Err-clause-header_cluster : goal.returns-in-Err-clause-header_clu
 returns-in-Err-clause-header_cluster g c =
     behind_then (behind_size c.write_size.result c.set_size.new.self.fields (ap g.S.Storage.view c.will_write.ensures.storage) c.write_size.ensures.written c.write_size.ensures.calls)
     (behind_bits (ap (λ (v : HeaderView). v.fields.cluster_bits) c.set_size-in-Err.ensures ∙ ap (λ (v : HeaderView). v.fields.cluster_bits) c.set_size.ensures))
-
-pub returns-in-Ok-clause-uses : goal.returns-in-Ok-clause-uses
-returns-in-Ok-clause-uses g c = λ out sound.
-    let view = g.S.Storage.view in
-    let old = c.args.self.now in
-    let after = c.write_size.new.self in
-    let asked = storage_of c.will_write.new.self in
-    let wrote = subst (λ (v : HeaderView). Changes (view asked) (view (storage_of after)) c.write_size.result (size_written v.fields (view asked).contents)) c.set_size.ensures c.write_size.ensures.written in
-    uses_size view g.F.BackingDisk.backing out old sound c.args.size c.ranges.size.fits after c.write_size.result asked c.will_write.ensures.storage wrote c.write_size.ensures.calls c.in-Ok.field-0 c.in-Ok.is _
-    (ap (λ (v : HeaderView). record old { file = record old.file { storage = after; header = v } }) c.set_size.ensures)

@@ -4,7 +4,6 @@ use Rattle.qcow2_image.specs.ImageInvariant.{ImageInvariant}
 use Rattle.qcow2_image.specs.LongerTables.{with_table, NamesTable}
 use Rattle.std.specs.Prelude.{IfErr, OnOk, Result, Some}
 use Rattle.qcow2_alloc.specs.ImageError.{IsFault}
-use Rattle.qcow2_alloc.specs.LowestRuns.{StaysUsed}
 
 pub returns-clause-names : goal.returns-clause-names
 returns-clause-names g c = λ p out sound noted longer.
@@ -44,11 +43,3 @@ returns-clause-placed g c =
 
 pub returns-clause-no_longer : goal.returns-clause-no_longer
 returns-clause-no_longer g c = c.write_l1_table-done.ensures.no_longer
-
-pub returns-clause-uses : goal.returns-clause-uses
-returns-clause-uses g c = λ writable p out sound longer.
-    let view = g.S.Storage.view in
-    let below = g.F.BackingDisk.backing in
-    let old = c.args.self.now in
-    subst (λ (r : Result _ _). OnOk r (StaysUsed view old.file c.write_l1_table-done.new.self.file)) (sym c.keep_or_list.ensures.answer)
-    (c.write_l1_table-done.ensures.uses writable p out (subst (λ n. ImageInvariant view below (with_table p c.args.table n) old out) (sym c.cluster.ensures) sound) longer)

@@ -1,15 +1,11 @@
 use Rattle.qcow2_image.proofs.image.Qcow2.zero_between.Goals as goal
 use Rattle.qcow2_alloc.proofs.KeptMarks.{notes_then, notes_for}
-use Rattle.std.proofs.Common.{◌≤◌, refl, subst, sym, arith}
-use Rattle.std.proofs.lemmas.Result.{on_ok_weaker}
+use Rattle.std.proofs.Common.{◌≤◌, subst, sym, arith}
 use Rattle.qcow2_alloc.proofs.AllocationSteps.{handed_on}
 use Rattle.qcow2_image.specs.ImageInvariant.{abstract_of, pending_in}
-use Rattle.qcow2_image.specs.FilledTurns.{FillsTurn}
 use Rattle.qcow2_image.specs.Preallocation.{FillsOrRefuses}
 use Rattle.qcow2_image.proofs.Call.Called.{works_none}
 use Rattle.qcow2_image.proofs.Preallocate.Filled.{fills_before, fills_none, fills_or_refuses, refused_after, zeros_from}
-use Rattle.qcow2_image.proofs.Preallocate.LowestTurns.{turns_wider}
-use Rattle.qcow2_image.proofs.Turns.{turns_then}
 use Rattle.qcow2_image.proofs.Preallocate.Turns.{same_version, still_at}
 use Rattle.qcow2_image.proofs.Call.BehindHeader.{behind_then}
 use Rattle.qcow2_alloc.specs.ImageFile.{known_in}
@@ -59,29 +55,6 @@ returns-clause-fills g c = λ out sound low high whole version.
     let ends = c.in_ok-next.ensures.whole out sound whole in
     fills_or_refuses view below out a d c.zero_range.new.self c.args.from c.args.old c.in_ok-next.next c.args.end (omega (arith, low, next.0)) (omega (arith, next.2, high)) both (λ none. c.in_ok-fill_range.ensures.emptied (c.in_ok-next.ensures.emptied none)) next.0 (still_at a.file.header.fields d.file.header.fields c.in_ok-next.next both.header ends) c.zero_range.result
     (c.zero_range.ensures.fills out both.sound (omega (arith, next.2, high)) (still_at a.file.header.fields d.file.header.fields c.in_ok-next.next both.header ends, still_at a.file.header.fields d.file.header.fields c.args.end both.header whole.1)
-    (subst (λ v. 3 ≤ v) (sym (same_version a.file.header.fields d.file.header.fields both.header)) version))
-
-pub returns-clause-turns : goal.returns-clause-turns
-returns-clause-turns g c = λ out sound low high whole version.
-    let view = g.S.Storage.view in
-    let below = g.F.BackingDisk.backing in
-    let a = c.args.self.now in
-    let b = c.zero_first.new.self in
-    let d = c.fill_range.new.self in
-    let next = c.in_ok-next.ensures.next in
-    let first = zeros_from view below out a b c.args.from c.in_ok-next.next whole.0 (c.in_ok-next.ensures.fills out sound high whole version) in
-    let second = c.in_ok-fill_range.ensures.fills out first.sound low (still_at a.file.header.fields b.file.header.fields c.args.from first.header whole.0) in
-    let both = fills_before view below out a b d c.args.from c.args.old c.args.from c.in_ok-next.next low next.0 first second in
-    let ends = c.in_ok-next.ensures.whole out sound whole in
-    let old = c.args.old in
-    let from = c.args.from in
-    let end = c.args.end in
-    let one = turns_wider view below out from end old end (Unit {0}) (Unit {0}) low (omega arith) (λ may. (may, refl)) a b (c.in_ok-next.ensures.turns out sound high whole version) in
-    let two = turns_wider view below out old from old end ⊥ (Unit {0}) (omega arith) high (λ no. absurd no) b d (c.in_ok-fill_range.ensures.turns out first.sound low (still_at a.file.header.fields b.file.header.fields from first.header whole.0)) in
-    on_ok_weaker c.zero_range.result
-    (λ last. turns_then {IsTurn = FillsTurn view below out old end (Unit {0})} a d c.zero_range.new.self (turns_then {IsTurn = FillsTurn view below out old end (Unit {0})} a b d one two)
-    (turns_wider view below out c.in_ok-next.next end old end (Unit {0}) (Unit {0}) (let on = next.0 in omega (arith, low, on)) (omega arith) (λ may. (may, refl)) d c.zero_range.new.self last))
-    (c.zero_range.ensures.turns out both.sound (omega (arith, next.2, high)) (still_at a.file.header.fields d.file.header.fields c.in_ok-next.next both.header ends, still_at a.file.header.fields d.file.header.fields c.args.end both.header whole.1)
     (subst (λ v. 3 ≤ v) (sym (same_version a.file.header.fields d.file.header.fields both.header)) version))
 
 pub returns-clause-emptied : goal.returns-clause-emptied

@@ -1,5 +1,5 @@
 use Rattle.qcow2_alloc.proofs.KeptMarks.{notes_none, notes_then}
-use Rattle.std.proofs.Common.{◌≡◌, ◌∙◌, ◌+◌, ◌-◌, ◌^◌, ◌<◌, ◌≤◌, inl, min, ap, subst, sym, arith, rules}
+use Rattle.std.proofs.Common.{◌≡◌, ◌∙◌, ◌+◌, ◌-◌, ◌^◌, ◌<◌, inl, min, ap, subst, sym, arith, rules}
 use Rattle.std.specs.Prelude.{IsTrue}
 use Rattle.qcow2_disk.specs.Found.{rest_of_table}
 use Rattle.qcow2_metadata.specs.EntryTable.{entry_count}
@@ -10,18 +10,14 @@ use Rattle.qcow2_alloc.specs.ImageFile.{contents_in, known_in}
 use Rattle.qcow2_image.specs.Clearing.{IsClearable}
 use Rattle.qcow2_image.specs.declared.discarding.Clearance.TheVariants.{KeptZeros}
 use Rattle.qcow2_image.specs.ImageInvariant.{ImageInvariant, abstract_of, pending_in}
-use Rattle.qcow2_image.specs.FilledTurns.{FillsTurn}
 use Rattle.qcow2_image.specs.Preallocation.{FillsFirst}
 use Rattle.qcow2_image.proofs.Call.Called.{works_none}
 use Rattle.qcow2_image.proofs.Flush.Freeing.{all_listed, beside, freed_refused, tidy_stays}
 use Rattle.qcow2_image.proofs.Preallocate.Filled.{cleared_fills, fill_unseen, fills_none, fills_refused, fills_stays, lacks_here, next_whole, next_within, taken_here}
-use Rattle.qcow2_image.proofs.Preallocate.LowestTurns.{turn_of_zeros}
 use Rattle.qcow2_image.proofs.Preallocate.Untaken.{untaken_cleared}
 use Rattle.qcow2_image.proofs.Call.MetErrors.{tables_met}
 use Rattle.qcow2_image.proofs.Call.Unlimited.{fault_unlimited}
 use Rattle.qcow2_image.proofs.Prepare.Lacked.{emptied_by_limit}
-use Rattle.qcow2_image.proofs.Prepare.LowestTables.{tables_freed}
-use Rattle.qcow2_image.proofs.Turns.{no_turn, one_turn}
 use Rattle.qcow2_image.proofs.Call.BehindHeader.{behind_none, behind_then}
 use Rattle.qcow2_image.proofs.Preallocate.Met.{under_prepared, never_far}
 use Rattle.qcow2_image.proofs.Grow.Lengths.{place_same}
@@ -92,7 +88,7 @@ returns-in_err-free_listed-clause-fills g c = λ out sound le whole version.
       within = next_within h sizes.some sizes.entries from to c.min-next.result whole.1 is high;
       version = λ _. version;
     } in
-    let part = cleared_fills view below out old mid from next (let lt = c.if-to-from.false in let some = c.rest_of_table.ensures.some in omega (arith, is, lt, some, rest, high)) (entry_count old.l1_table) sound.l1_table.count c.in_ok-clear_between.ensures.l1_place (c.in_ok-clear_between.ensures.lowest_tables out sound can).gave whole.0
+    let part = cleared_fills view below out old mid from next (let lt = c.if-to-from.false in let some = c.rest_of_table.ensures.some in omega (arith, is, lt, some, rest, high)) (entry_count old.l1_table) sound.l1_table.count c.in_ok-clear_between.ensures.l1_place (c.in_ok-clear_between.ensures.gave out sound) whole.0
     (c.in_ok-clear_between.ensures.clears out sound can)
     (untaken_cleared h (known_in view old.file) sizes out from next (next_within h sizes.some sizes.entries from to next whole.1 is high) (c.in_ok-clear_between.ensures.free out sound)) in
     let listed = subst (λ (x : Pending). ImageInvariant view below x mid out) (all_listed view below mid out) part.sound in
@@ -134,46 +130,11 @@ returns-clause-fills g c = λ out sound le whole version.
       within = next_within h sizes.some sizes.entries from to c.min-next.result whole.1 is high;
       version = λ _. version;
     } in
-    let part = cleared_fills view below out old mid from next (let lt = c.if-to-from.false in let some = c.rest_of_table.ensures.some in omega (arith, is, lt, some, rest, high)) (entry_count old.l1_table) sound.l1_table.count c.in_ok-clear_between.ensures.l1_place (c.in_ok-clear_between.ensures.lowest_tables out sound can).gave whole.0
+    let part = cleared_fills view below out old mid from next (let lt = c.if-to-from.false in let some = c.rest_of_table.ensures.some in omega (arith, is, lt, some, rest, high)) (entry_count old.l1_table) sound.l1_table.count c.in_ok-clear_between.ensures.l1_place (c.in_ok-clear_between.ensures.gave out sound) whole.0
     (c.in_ok-clear_between.ensures.clears out sound can)
     (untaken_cleared h (known_in view old.file) sizes out from next (next_within h sizes.some sizes.entries from to next whole.1 is high) (c.in_ok-clear_between.ensures.free out sound)) in
     let listed = subst (λ (x : Pending). ImageInvariant view below x mid out) (all_listed view below mid out) part.sound in
     fills_stays view below out old mid new 0 from next part (tidy_stays view below mid out new part.sound (c.in_ok-free_listed.ensures.frees (beside view below mid out) out listed)) c.free_listed.ensures.keeps_rest.header c.free_listed.ensures.former
-
-pub returns-clause-turns : goal.returns-clause-turns
-returns-clause-turns g c = λ out sound le whole version.
-    let view = g.S.Storage.view in
-    let below = g.F.BackingDisk.backing in
-    let old = c.args.self.now in
-    let mid = c.clear_between.new.self in
-    let new = c.free_listed.new.self in
-    let h = old.file.header.fields in
-    let from = c.args.from in
-    let to = c.args.to in
-    let next = c.min-next.result in
-    let sizes = Sizes-from h (contents_in view old.file) sound.file.caches.kept.kept.crash_invariant.top.header_reads in
-    let rest = c.rest_of_table.ensures.value in
-    let is : c.min-next.result ≡ min c.args.to (min (c.args.from + rest_of_table c.args.self.now.file.header.fields c.args.from) (2 ^ 64 - 1)) = c.min-next.ensures ∙ ap (min to) (c.saturating_add.ensures ∙ ap (λ n. min (from + n) (2 ^ 64 - 1)) rest) in
-    let high : c.args.to < 2 ^ 64 = search rules in
-    let can : IsClearable c.args.self.now.file.header.fields KeptZeros c.args.from c.min-next.result = record {
-      begins = whole.0;
-      ends = next_whole h sizes.some sizes.entries from to c.min-next.result whole.1 is high;
-      within = next_within h sizes.some sizes.entries from to c.min-next.result whole.1 is high;
-      version = λ _. version;
-    } in
-    let part = cleared_fills view below out old mid from next (let lt = c.if-to-from.false in let some = c.rest_of_table.ensures.some in omega (arith, is, lt, some, rest, high)) (entry_count old.l1_table) sound.l1_table.count c.in_ok-clear_between.ensures.l1_place (c.in_ok-clear_between.ensures.lowest_tables out sound can).gave whole.0
-    (c.in_ok-clear_between.ensures.clears out sound can)
-    (untaken_cleared h (known_in view old.file) sizes out from next (next_within h sizes.some sizes.entries from to next whole.1 is high) (c.in_ok-clear_between.ensures.free out sound)) in
-    let listed = subst (λ (x : Pending). ImageInvariant view below x mid out) (all_listed view below mid out) part.sound in
-    let lt : c.args.from < c.min-next.result = let lt = c.if-to-from.false in let some = c.rest_of_table.ensures.some in omega (arith, is, lt, some, rest, high) in
-    let most : c.min-next.result ≤ c.args.to = omega (arith, is) in
-    one_turn {IsTurn = FillsTurn view below out from to (Unit {0})} old new
-    (turn_of_zeros view below out old new from next to most (next_within h sizes.some sizes.entries from to next whole.1 is high) (c.in_ok-free_listed.ensures.emptied (subst IsTrue (sym c.clear_between.ensures.stays.image.writable) c.requires.writable)) (omega (arith, is, high)) lt
-    (fills_stays view below out old mid new 0 from next part (tidy_stays view below mid out new part.sound (c.in_ok-free_listed.ensures.frees (beside view below mid out) out listed)) c.free_listed.ensures.keeps_rest.header c.free_listed.ensures.former)
-    (tables_freed view from old mid new c.free_listed.ensures.keeps_rest.header c.free_listed.ensures.table (c.in_ok-free_listed.ensures.uses (beside view below mid out) out listed) (c.in_ok-clear_between.ensures.lowest_tables out sound can)))
-
-pub returns-then-to-from-clause-turns : goal.returns-then-to-from-clause-turns
-returns-then-to-from-clause-turns g c = λ out sound le whole version. no_turn {IsTurn = FillsTurn g.S.Storage.view g.F.BackingDisk.backing out c.args.from c.args.to (Unit {0})} c.args.self.now
 
 pub returns-clause-emptied : goal.returns-clause-emptied
 returns-clause-emptied g c = λ none. c.in_ok-free_listed.ensures.emptied (subst IsTrue (sym c.clear_between.ensures.stays.image.writable) c.requires.writable)

@@ -3,13 +3,11 @@ use Rattle.std.proofs.Common.{◌≡◌, ◌≤◌, ◌%◌, ◌∙◌, ap, refl
 use Rattle.std.proofs.lemmas.Nat.{pow_pos}
 use Rattle.qcow2_metadata.specs.Header.{cluster_size, rounded_up}
 use Rattle.qcow2_alloc.specs.declared.error.ImageError.TheVariants.{Overflow, Version}
-use Rattle.qcow2_image.specs.FilledTurns.{FillsTurn}
-use Rattle.qcow2_image.specs.Turns.{GoesInTurns}
 use Rattle.qcow2_image.specs.Preallocation.{FillsOrRefuses}
 use Rattle.qcow2_image.proofs.Preallocate.Filled.{refused_here}
 use Rattle.qcow2_image.proofs.Preallocate.Grown.{up_least, up_rising, up_whole}
 use Rattle.qcow2_image.proofs.Call.BehindHeader.{behind_none}
-use Rattle.std.specs.Prelude.{IfErr, OnOk}
+use Rattle.std.specs.Prelude.{IfErr}
 use Rattle.qcow2_alloc.specs.ImageFile.{known_in}
 use Rattle.qcow2_image.specs.ImageInvariant.{pending_in}
 use Rattle.qcow2_image.specs.MetAlone.{HasCompressedIn, HasNearEntries, IsMetTaking}
@@ -48,20 +46,6 @@ returns-clause-fills g c = λ out sound le.
     subst (λ n. FillsOrRefuses view below (rounded_up cs c.args.old) c.args.old n old c.zero_between.new.self out c.zero_between.result) end
     (subst (λ n. FillsOrRefuses view below n c.args.old c.in-Some-rounded_up.end old c.zero_between.new.self out c.zero_between.result) from
     (c.zero_between.ensures.fills out sound (omega (arith, from, least)) (omega (arith, from, end, rising)) (subst (λ n. n % cs ≡ 0) (sym from) (up_whole cs c.args.old some), subst (λ n. n % cs ≡ 0) (sym end) (up_whole cs c.args.size some)) version))
-
-pub returns-clause-turns : goal.returns-clause-turns
-returns-clause-turns g c = λ out sound le.
-    let old = c.args.self.now in
-    let cs = cluster_size old.file.header.fields in
-    let some = pow_pos old.file.header.fields.cluster_bits in
-    let size = c.cluster_size-cluster_size.ensures.value in
-    let from : c.in-Some.from ≡ rounded_up (cluster_size c.args.self.now.file.header.fields) c.args.old = c.in-Some.ensures.some ∙ ap (λ s. rounded_up s c.args.old) size in
-    let end : c.in-Some-rounded_up.end ≡ rounded_up (cluster_size c.args.self.now.file.header.fields) c.args.size = c.in-Some-rounded_up.ensures.some ∙ ap (λ s. rounded_up s c.args.size) size in
-    let version : 3 ≤ c.args.self.now.file.header.fields.version = subst (λ v. 3 ≤ v) c.version.ensures.value c.if-version-lt3.false in
-    let least = up_least cs c.args.old some in
-    let rising = up_rising cs c.args.old c.args.size some le in
-    subst (λ n. OnOk c.zero_between.result (GoesInTurns (FillsTurn g.S.Storage.view g.F.BackingDisk.backing out c.args.old n (Unit {0})) old c.zero_between.new.self)) end
-    (c.zero_between.ensures.turns out sound (omega (arith, from, least)) (omega (arith, from, end, rising)) (subst (λ n. n % cs ≡ 0) (sym from) (up_whole cs c.args.old some), subst (λ n. n % cs ≡ 0) (sym end) (up_whole cs c.args.size some)) version)
 
 pub returns-then-version-lt3-clause-header_cluster : goal.returns-then-version-lt3-clause-header_cluster
 returns-then-version-lt3-clause-header_cluster g c = behind_none

@@ -1,10 +1,7 @@
 use Rattle.qcow2_alloc.proofs.KeptMarks.{notes_none, notes_then}
 use Rattle.std.proofs.Common.{◌≡◌, ◌≤◌, refl, subst, sym, arith}
 use Rattle.qcow2_alloc.proofs.AllocationSteps.{handed_on}
-use Rattle.qcow2_image.specs.FilledTurns.{FillsTurn}
 use Rattle.qcow2_image.specs.Preallocation.{FillsOrRefuses, FillsPart}
-use Rattle.qcow2_image.proofs.Turns.{no_turn}
-use Rattle.qcow2_image.proofs.Preallocate.LowestTurns.{zeroes_lowest_next}
 use Rattle.qcow2_image.proofs.Preallocate.Turns.{same_version, still_at, zeroed_first, zeroed_next, zeroed_refused}
 use Rattle.qcow2_image.proofs.Call.FaultCounts.{counted_ok, counted_on, faults_then, untouched}
 use Rattle.qcow2_image.proofs.Call.BehindHeader.{behind_none, behind_then}
@@ -17,7 +14,6 @@ use Rattle.qcow2_image.proofs.image.Qcow2.zero_range.Goals as goal
 pub loop-at-init : goal.loop-at-init
 loop-at-init g c = record {
   turns = zeroed_first g.S.Storage.view g.F.BackingDisk.backing c.args.from c.args.to c.args.self.now;
-  lowest = λ out sound le whole version. no_turn {IsTurn = FillsTurn g.S.Storage.view g.F.BackingDisk.backing out c.args.from c.args.to (Unit {0})} c.args.self.now;
   faults = untouched g.S.Storage.view g.F.BackingDisk.backing c.args.self.now c.args.self.now refl refl;
   emptied = λ none. none;
   behind = behind_none;
@@ -39,7 +35,6 @@ loop-at-preserved g c =
     record {
       turns = zeroed_next g.S.Storage.view g.F.BackingDisk.backing c.args.from c.args.to c.loop-at.at c.args.self.now c.loop-at.self c.zero_first.new.self c.loop-at-test.true c.loop-at.invariant.turns c.in_ok-at.at c.zero_first.ensures.stays next.0 next.2 c.in_ok-at.ensures.whole
           c.in_ok-at.ensures.fills;
-      lowest = zeroes_lowest_next g.S.Storage.view g.F.BackingDisk.backing c.args.from c.args.to c.loop-at.at c.args.self.now c.loop-at.self c.zero_first.new.self c.loop-at-test.true c.loop-at.invariant.turns c.loop-at.invariant.lowest c.in_ok-at.ensures.turns;
       faults = faults_then g.S.Storage.view g.F.BackingDisk.backing c.args.self.now c.loop-at.self c.zero_first.new.self c.loop-at.invariant.faults c.in_ok-at.ensures.faults.told;
       emptied = λ none. c.in_ok-at.ensures.emptied (c.loop-at.invariant.emptied none);
       behind = behind_then c.loop-at.invariant.behind c.zero_first.ensures.header_cluster;
@@ -58,9 +53,6 @@ returns-clause-fills g c = λ out sound le whole version.
     let past = c.loop-at-test.false in
     let end : c.loop-at.at ≡ c.args.to = omega (arith, high, past, le) in
     subst (λ n. FillsPart view below 0 c.args.from n c.args.self.now c.loop-at.self out) end (c.loop-at.invariant.turns.so_far out sound le whole version).0
-
-pub returns-clause-turns : goal.returns-clause-turns
-returns-clause-turns g c = λ out sound le whole version. c.loop-at.invariant.lowest out sound le whole version
 
 pub returns-in_err-at-clause-faults : goal.returns-in_err-at-clause-faults
 returns-in_err-at-clause-faults g c =
