@@ -17,10 +17,9 @@ use Rattle.qcow2_image.specs.declared.image.Qcow2.{Qcow2}
 use Rattle.qcow2_image.specs.Image.{storage_of_image}
 use Rattle.qcow2_image.specs.ImageInvariant.{abstract_of}
 use Rattle.qcow2_image.specs.Opened.{OpensAtOnce}
-use Rattle.qcow2_image.specs.Unwritten.{HoldsSame}
 use Rattle.qcow2_disk.proofs.HeaderRest.{header_rest_same}
 use Rattle.qcow2_image.proofs.Free.{whole}
-use Rattle.qcow2_image.proofs.Map.Unmodified.{holds_still, quiet_still}
+use Rattle.qcow2_image.proofs.Map.Unmodified.{quiet_still}
 use Rattle.qcow2_session.specs.Conversions.{IsRawOf, Exports, IsUnchanged}
 use Rattle.program_parts.specs.Conversions.{IsExport, KeepsDisk, disk_alone, zeros_below}
 use Rattle.program_parts.proofs.Imported.{none_below, of_ok}
@@ -61,10 +60,6 @@ module _ {S F : Type 0} (view : S → StorageView) (backing : F → BackingView)
   pub keeps_disk : (result : Result ℕ ImageError) → IsUnchanged view backing old new result → KeepsDisk storage (view (storage_of_image new))
   keeps_disk (Ok n) unchanged = keeps (unchanged []).acts
   keeps_disk (Err e) unchanged = keeps (unchanged []).acts
-
--- a storage that was opened for reading, or that a refusal handed back, holds what it held
-pub opened_still : (old new : StorageView) → OpensAtOnce false old new → new.contents ≡ old.contents → HoldsSame old new
-opened_still old new time same = holds_still old new (passes_if (λ c. c ≡ old.contents) (λ c is. ⊎_elim (λ (e : c ≡ old.contents). e) (λ (e : c ≡ old.contents). e) is) time) same
 
 -- so nothing was written to it
 pub opened_quietly : (old new : StorageView) → new.is_honest → OpensAtOnce false old new → new.contents ≡ old.contents → IsQuiet old new

@@ -12,7 +12,6 @@ ghost use Rattle.qcow2_image.specs.Opened.{NeedsAnother};
 ghost use Rattle.qcow2_alloc.specs.ImageError.{IsFault};
 ghost use Rattle.qcow2_alloc.specs.declared.error.ImageError.TheVariants.{InvalidOption, Limit};
 ghost use Rattle.qcow2_alloc.specs.Quiet.{IsQuiet};
-ghost use Rattle.qcow2_image.specs.Unwritten.{HoldsSame};
 ghost use Rattle.qcow2_session.specs.Conversions.{Imports, IsLeft, IsMetImporting, IsOfImporting};
 ghost use Rattle.program_parts.specs.Conversions.{CountsBoth, IsImageOf, IsImageOfSize, IsLayout, IsMetExporting, IsReasonNotToMake, IsRefusedUntouched, IsStopOfMaking, IsUnopened, IsExport, KeepsDisk, OpensToExport, asked_for};
 
@@ -99,7 +98,6 @@ pub fn make_raw_disk<S: Storage, R: Storage>(
     ensures raw { (R.view raw.old).is_honest → (S.view storage).is_honest → IsConsistent (byte_at (S.view storage).contents)
         → IfOk result.1 (λ n. IsExport (S.view storage).contents n (R.view raw.new).contents) }
     ensures image { (S.view storage).is_honest → IsConsistent (byte_at (S.view storage).contents) → KeepsDisk (S.view storage) (S.view result.0) }
-    ensures unwritten { (S.view storage).is_honest → IsConsistent (byte_at (S.view storage).contents) → HoldsSame (S.view storage) (S.view result.0) }
     ensures another { (S.view storage).is_honest → NeedsAnother (S.view storage).contents → ContentsStay (S.view storage) (S.view result.0) × (raw.new ≡ raw.old) }
     ensures unreadable { (S.view storage).is_honest → ¬ OpensToExport (S.view storage).contents → IsErrAnd result.1 (IsUnopened (S.view storage).contents raw.old raw.new) }
     ensures cause { (S.view storage).is_honest → IfErr result.1 (λ e. IsUnopened (S.view storage).contents raw.old raw.new e ⊎ IsMetExporting (S.view storage).contents e) }

@@ -102,7 +102,7 @@ impl<S: Storage, F: WrappedFormat<S>> Qcow2<S, F> {
     ghost use Rattle.qcow2_image.specs.Noted.{FailsOnceWritten};
     ghost use Rattle.qcow2_image.specs.Created.{begins_image};
     ghost use Rattle.qcow2_image.specs.Growing.{SameFormat, WritesBack};
-    ghost use Rattle.qcow2_image.specs.Unwritten.{ContentsStayThroughout, HoldsNothingModified, OnlyReadsImage, ReadsQuietly};
+    ghost use Rattle.qcow2_image.specs.Unwritten.{ContentsStayThroughout, HoldsNothingModified, ReadsQuietly};
     ghost use Rattle.qcow2_image.specs.PinnedTables.{HasPinnedTable};
     ghost use Rattle.qcow2_image.specs.Opened.{IsFresh, StaysFresh, IsLoaded, IsKeptSince, SameNames, HasNamesIn, NeedsAnother, NeedsDataFile, NeedsMissing, IsRefusedAlone, LeavesFile, LeavesStorage, storage_after, Opens};
     ghost use Rattle.std.specs.Option.{is_some};
@@ -475,7 +475,6 @@ impl<S: Storage, F: WrappedFormat<S>> Qcow2<S, F> {
         ensures sees { FlushesImage S.view F.backing self.old self.new result }
         ensures emptied { IsTrue (is_writable self.old) → OnOk result (HasNothingToFree self.new) }
         ensures writes { (p : Pending) → ImageInvariant S.view F.backing (with_listed p self.old.file.free_list) self.old [] → WritesBack S.view F.backing p self.old self.new result }
-        ensures unwritten { is_writable self.old ≡ false → OnlyReadsImage S.view F.backing self.old self.new }
         ensures once_written { FailsOnceWritten S.view self.old self.new result }
         ensures quiet { is_writable self.old ≡ false → ReadsQuietly S.view self.old self.new }
         ensures header_cluster { StaysBehindHeader S.view self.old self.new }
@@ -501,7 +500,6 @@ impl<S: Storage, F: WrappedFormat<S>> Qcow2<S, F> {
         ensures quiet { is_writable self.old ≡ false → ReadsQuietly S.view self.old self.new }
         ensures header_cluster { StaysBehindHeader S.view self.old self.new }
         ensures written { IfOk result (λ done. known_in S.view self.new.file ≡ contents_in S.view self.new.file) }
-        ensures unwritten { is_writable self.old ≡ false → OnlyReadsImage S.view F.backing self.old self.new }
         ensures faults { CountsImageFaults S.view F.backing self.old self.new result }
     {
         self.free_listed()?;

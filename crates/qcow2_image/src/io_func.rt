@@ -21,7 +21,7 @@ ghost use Rattle.qcow2_image.specs.Image.{ImageStays, IsSameImage, is_writable, 
 ghost use Rattle.qcow2_image.specs.Prepared.{image_of, table_of};
 ghost use Rattle.qcow2_image.specs.Refusals.{unusable, refuses_mapping, refuses_to_read, IsMet, IsUnlimited, MarksFailed};
 ghost use Rattle.qcow2_image.specs.SpecialReads.{TellsCompressed, TellsWhether};
-ghost use Rattle.qcow2_image.specs.Unwritten.{OnlyReadsImage, ReadsQuietly};
+ghost use Rattle.qcow2_image.specs.Unwritten.{ReadsQuietly};
 ghost use Rattle.qcow2_alloc.specs.declared.error.ImageError.TheVariants.{Compressed, NotCompressed, OutdatedMapping, ReadOnly};
 ghost use Rattle.qcow2_alloc.specs.KeptMarks.{KeepsFileNotes};
 ghost use Rattle.qcow2_alloc.specs.KeptNotes.{AlsoData, NoData};
@@ -78,7 +78,6 @@ impl<S: Storage, F: WrappedFormat<S>> Qcow2<S, F> {
         ensures quiet { ReadsQuietly S.view self.old self.new }
         ensures held { refuses_mapping self.old mapping.now.image ≡ None → 0 < length bytes.old → HeedsHeld self.new (mapping.now.offset + at) (further_by at mapping.now.kind) (length bytes.old) result }
         ensures header_cluster { StaysBehindHeader S.view self.old self.new }
-        ensures unwritten { OnlyReadsImage S.view F.backing self.old self.new }
     {
         self.check_usable()?;
         if mapping.image != self.number {
@@ -113,7 +112,6 @@ impl<S: Storage, F: WrappedFormat<S>> Qcow2<S, F> {
         ensures quiet { ReadsQuietly S.view self.old self.new }
         ensures held { 0 < length bytes.old → HeedsHeld self.new (mapping.now.offset + at) (further_by at mapping.now.kind) (length bytes.old) result }
         ensures header_cluster { StaysBehindHeader S.view self.old self.new }
-        ensures unwritten { OnlyReadsImage S.view F.backing self.old self.new }
     {
         let offset = self.place_within(mapping.offset, at)?;
         let kind = mapping.kind.further(at);
@@ -156,7 +154,6 @@ impl<S: Storage, F: WrappedFormat<S>> Qcow2<S, F> {
         ensures quiet { ReadsQuietly S.view self.old self.new }
         ensures held { 0 < length → HeedsHeld self.new offset wanted.now length result }
         ensures header_cluster { StaysBehindHeader S.view self.old self.new }
-        ensures unwritten { OnlyReadsImage S.view F.backing self.old self.new }
     {
         let (kind, found) = self.look_up(offset, length)?;
         if found >= length && wanted.is(&kind) {
@@ -190,7 +187,6 @@ impl<S: Storage, F: WrappedFormat<S>> Qcow2<S, F> {
         ensures quiet { ReadsQuietly S.view self.old self.new }
         ensures tables { KeepsHeld self.old self.new }
         ensures header_cluster { StaysBehindHeader S.view self.old self.new }
-        ensures unwritten { OnlyReadsImage S.view F.backing self.old self.new }
     {
         match kind {
             MappingKind::Raw {
@@ -256,7 +252,6 @@ impl<S: Storage, F: WrappedFormat<S>> Qcow2<S, F> {
         ensures once_written { FailsOnceWritten S.view self.old self.new result }
         ensures quiet { ReadsQuietly S.view self.old self.new }
         ensures header_cluster { StaysBehindHeader S.view self.old self.new }
-        ensures unwritten { OnlyReadsImage S.view F.backing self.old self.new }
     {
         match self.try_readv_special(bytes, offset)? {
             None => Ok(()),
@@ -287,7 +282,6 @@ impl<S: Storage, F: WrappedFormat<S>> Qcow2<S, F> {
         ensures once_written { FailsOnceWritten S.view self.old self.new result }
         ensures quiet { ReadsQuietly S.view self.old self.new }
         ensures header_cluster { StaysBehindHeader S.view self.old self.new }
-        ensures unwritten { OnlyReadsImage S.view F.backing self.old self.new }
     {
         self.check_usable()?;
         if bytes.is_empty() {
@@ -312,7 +306,6 @@ impl<S: Storage, F: WrappedFormat<S>> Qcow2<S, F> {
         ensures notes { KeepsFileNotes S.view NoData self.old.file self.new.file }
         ensures quiet { ReadsQuietly S.view self.old self.new }
         ensures header_cluster { StaysBehindHeader S.view self.old self.new }
-        ensures unwritten { OnlyReadsImage S.view F.backing self.old self.new }
     {
         let (kind, _length) = self.look_up(offset, length)?;
         if kind.is_special() {

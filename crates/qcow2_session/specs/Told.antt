@@ -2,7 +2,7 @@
 use Rattle.std.specs.Prelude.{ℕ, ◌<◌, ◌≤◌, ◌≡◌, ◌⊎◌, false, IsTrue, IsNone, List, [], ◌∷◌, MatchOption, Option, Some, None, is_none, replicate, slice_get, slice_set}
 use Rattle.image_access.specs.Backing.{BackingView}
 use Rattle.image_access.specs.Moments.{StorageView}
-use Rattle.qcow2_disk.specs.AbstractImages.{AbstractImage, Setting, IsOpened}
+use Rattle.qcow2_disk.specs.AbstractImages.{AbstractImage, Setting}
 use Rattle.qcow2_disk.specs.Rules.{answered}
 use Rattle.qcow2_disk.specs.Runs.{State, RefinesState, RefinesCommand, begun}
 use Rattle.qcow2_metadata.specs.Header.{cluster_size}
@@ -12,12 +12,12 @@ use Rattle.qcow2_image.specs.declared.image.Qcow2.{Qcow2}
 use Rattle.qcow2_image.specs.declared.mapping.Mapping.{Mapping}
 use Rattle.qcow2_image.specs.declared.mapping.MappingKind.TheVariants.{Eof}
 use Rattle.qcow2_image.specs.declared.prepared.Prepared.{Prepared}
-use Rattle.qcow2_image.specs.Image.{is_external, is_failed, is_writable, number_of, size_of, storage_of_image}
+use Rattle.qcow2_image.specs.Image.{is_external, is_failed, is_writable, number_of, size_of}
 use Rattle.qcow2_image.specs.ImageInvariant.{abstract_of, meaning}
 use Rattle.qcow2_image.specs.ListedClusters.{ListsNoMore}
 use Rattle.qcow2_image.specs.Prepared.{length_of, offset_of, table_of}
 use Rattle.qcow2_image.specs.Preparing.{IsAnswered, IsOfNothing}
-use Rattle.qcow2_image.specs.Unwritten.{HoldsSame, IsOnlyRead, IsUnmodified, ReadsQuietly}
+use Rattle.qcow2_image.specs.Unwritten.{ReadsQuietly}
 use Rattle.qcow2_session.specs.Causes.{IsRightlyRefused}
 use Rattle.qcow2_session.specs.Commands.{command_of, reply_of}
 use Rattle.qcow2_session.specs.CountedFaults.{CommandCounts, refusal_in}
@@ -119,19 +119,6 @@ module _ {S F : Type 0} (view : S → StorageView) (backing : F → BackingView)
     TellsOfImage before after (C.Write offset bytes) R.Done = (abstract_of view backing old before).is_sound → ListsNoMore old new
     TellsOfImage before after command reply = Unit {0}
 
-  -- a call leaves a sound image as it was opened for reading: nothing is modified, and nothing is written
-  abbrev pub StaysUnwritten : (old new : Qcow2 S F) → Type 0
-  StaysUnwritten old new = is_writable old ≡ false → (out : List (Option Prepared)) → (abstract_of view backing old out).is_sound → IsUnmodified view old → IsOnlyRead view old new
-
-  -- so does a command, which leaves existing mappings alone
-  pub record IsLeftUnwritten (old new : Qcow2 S F) (after : List (Option Prepared)) : Type 0 where
-    pub reading : is_writable new ≡ false
-    pub read : IsOnlyRead view old new
-    pub existing : AreExisting after
-
-  abbrev pub LeavesUnwritten : (old : Qcow2 S F) (before : List (Option Prepared)) (new : Qcow2 S F) (after : List (Option Prepared)) → Type 0
-  LeavesUnwritten old before new after = is_writable old ≡ false → (abstract_of view backing old before).is_sound → IsUnmodified view old → AreExisting before → IsLeftUnwritten old new after
-
   -- One command, whatever the image, from a point of a run to the next. What it tells of the image is so, and the slots are those that it leaves. It is refused for its causes alone, and as a fault only where one was counted.
   -- Refused as a fault it fails the image, which stays failed. The size of a failed image stays, and one that was opened for reading is left unwritten, whatever its contents are.
   pub record IsToldStep (from to : RunPoint S F) (command : Command) (reply : Reply) : Type 0 where
@@ -143,7 +130,6 @@ module _ {S F : Type 0} (view : S → StorageView) (backing : F → BackingView)
     pub counts : CommandCounts view backing from.image to.image reply
     pub failed : MarksBy view from.image to.image command (refusal_in reply)
     pub size : IsTrue (is_failed from.image) → size_of to.image ≡ size_of from.image
-    pub unwritten : LeavesUnwritten from.image from.prepared to.image to.prepared
     pub quiet : LeavesQuietly view from.image from.prepared to.image to.prepared
 
   -- so is each command, from one point to the next
@@ -177,7 +163,3 @@ module _ {S F : Type 0} (view : S → StorageView) (backing : F → BackingView)
     -- so it is, or nothing was called
     abbrev pub TellsThrough : List Command → List Reply → Type 0
     TellsThrough commands replies = IsUntouched view backing old new replies ⊎ IsToldRun commands replies
-
-    -- an image that was opened for reading is never written: at each moment since, its storage has the same bytes
-    abbrev pub IsNeverWritten : Type 0
-    IsNeverWritten = is_writable old ≡ false → IsOpened (abstract_of view backing old []) → HoldsSame (view (storage_of_image old)) (view (storage_of_image new))

@@ -14,7 +14,7 @@ ghost use Rattle.qcow2_session.specs.Sessions.{IsOfReading, IsOfWriting, cluster
 ghost use Rattle.qcow2_session.specs.CountedFaults.{ConversionCounts};
 ghost use Rattle.qcow2_session.specs.Conversions.{DiffersWhereKept, IsMetImporting, IsOfImporting, IsReasonNotToWrite, IsRefusedUnequal, IsLeft, IsUnchanged, Imports, ImportsAll, ImportsAt, ImportsAny, ImportsAnyAt, ImportsAnyOf, Fills, Exports};
 ghost use Rattle.qcow2_image.specs.Unwritten.{ReadsQuietly};
-ghost use Rattle.qcow2_session.specs.Told.{StaysQuiet, StaysUnwritten};
+ghost use Rattle.qcow2_session.specs.Told.{StaysQuiet};
 
 use crate::session::{read_into, write};
 use image_access::{Storage, StoragePreallocate, WrappedFormat};
@@ -143,7 +143,6 @@ pub fn to_raw<S: Storage, F: WrappedFormat<S>, R: Storage>(
     ensures image { IsSameImage image.old image.new }
     ensures early { IfSome (refuses_to_read image.old 0 0) (λ e. (result ≡ Err e) × (image.new ≡ image.old) × (raw.new ≡ raw.old)) }
     ensures same { IsUnchanged S.view F.backing image.old image.new result }
-    ensures unwritten { StaysUnwritten S.view F.backing image.old image.new }
     ensures honest { (R.view raw.old).is_honest → (R.view raw.new).is_honest }
     ensures sees { (R.view raw.old).is_honest → IfOk result (λ n. Exports S.view F.backing image.old (R.view raw.new).contents n) }
     ensures cause { IfErr result IsOfReading }
@@ -175,7 +174,6 @@ fn export_all<S: Storage, F: WrappedFormat<S>, R: Storage>(
     requires zeros { zeros.now ≡ replicate (length bytes.old) 0 }
     ensures image { IsSameImage image.old image.new }
     ensures same { IsUnchanged S.view F.backing image.old image.new result }
-    ensures unwritten { StaysUnwritten S.view F.backing image.old image.new }
     ensures honest { (R.view raw.old).is_honest → (R.view raw.new).is_honest }
     ensures sees { (R.view raw.old).is_honest → OnOk result (Fills S.view F.backing image.old 0 size (R.view raw.old).contents (R.view raw.new).contents) }
     ensures cause { IfErr result IsOfReading }
@@ -204,7 +202,6 @@ fn export_at<S: Storage, F: WrappedFormat<S>, R: Storage>(
     requires { zeros.now ≡ replicate (length bytes.old) 0 }
     ensures image { IsSameImage image.old image.new }
     ensures same { IsUnchanged S.view F.backing image.old image.new result }
-    ensures unwritten { StaysUnwritten S.view F.backing image.old image.new }
     ensures honest { (R.view raw.old).is_honest → (R.view raw.new).is_honest }
     ensures sees { (R.view raw.old).is_honest → OnOk result (Fills S.view F.backing image.old at (at + length bytes.old) (R.view raw.old).contents (R.view raw.new).contents) }
     ensures cause { IfErr result IsOfReading }

@@ -23,8 +23,8 @@ ghost use Rattle.qcow2_session.specs.Marks.{MarksAtOnce, MarksBy, MarksInParts, 
 ghost use Rattle.qcow2_session.specs.Sessions.{IsRightlyBeyond, IsOfReading, IsOfWriting, LacksPlaceToWrite, LeavesCopied, NeedsFarToWrite, EndsCluster, Reads, ReadsInto, ReadsFirst, Writes, WritesFirst, CommandSteps, Finds, ReleasesMappings, RunsThrough, RunRefinesDisk, LookupsFindContents, mappings_in, HeedsFirst, HeedsMappings};
 ghost use Rattle.qcow2_image.specs.declared.mapping.Mapping.{Mapping};
 ghost use Rattle.qcow2_image.specs.Ranges.{ReleasesOneMapping};
-ghost use Rattle.qcow2_image.specs.Unwritten.{IsOnlyRead, IsUnmodified, ReadsQuietly};
-ghost use Rattle.qcow2_session.specs.Told.{IsNeverWritten, KeepsItself, LeavesQuietly, LeavesUnwritten, SlotsAfter, StaysQuiet, StaysUnwritten, TellsOfImage, TellsThrough};
+ghost use Rattle.qcow2_image.specs.Unwritten.{ReadsQuietly};
+ghost use Rattle.qcow2_session.specs.Told.{KeepsItself, LeavesQuietly, SlotsAfter, StaysQuiet, TellsOfImage, TellsThrough};
 ghost use Rattle.qcow2_image.specs.declared.prepared.Prepared.{Prepared};
 
 use crate::clearing::{discard_to_any, discard_to_backing, discard_to_zero, ensure_zero};
@@ -172,7 +172,6 @@ pub fn read<S: Storage, F: WrappedFormat<S>>(
     length: u64,
 ) -> Result<Vec<u8>, ImageError>
     ensures image { IsSameImage image.old image.new }
-    ensures unwritten { StaysUnwritten S.view F.backing image.old image.new }
     ensures faults { CountsImageFaults S.view F.backing image.old image.new result }
     ensures header { KeepsWholeHeader image.old image.new }
     ensures header_cluster { StaysBehindHeader S.view image.old image.new }
@@ -215,7 +214,6 @@ pub fn read_into<S: Storage, F: WrappedFormat<S>>(
     bytes: &mut [u8],
 ) -> Result<(), ImageError>
     ensures image { IsSameImage image.old image.new }
-    ensures unwritten { StaysUnwritten S.view F.backing image.old image.new }
     ensures faults { CountsImageFaults S.view F.backing image.old image.new result }
     ensures header { KeepsWholeHeader image.old image.new }
     ensures header_cluster { StaysBehindHeader S.view image.old image.new }
@@ -246,7 +244,6 @@ fn read_some<S: Storage, F: WrappedFormat<S>>(
     bytes: &mut [u8],
 ) -> Result<usize, ImageError>
     ensures image { IsSameImage image.old image.new }
-    ensures unwritten { StaysUnwritten S.view F.backing image.old image.new }
     ensures faults { CountsImageFaults S.view F.backing image.old image.new result }
     ensures header { KeepsWholeHeader image.old image.new }
     ensures header_cluster { StaysBehindHeader S.view image.old image.new }
@@ -281,7 +278,6 @@ pub fn write<S: Storage, F: WrappedFormat<S>>(
     bytes: &[u8],
 ) -> Result<(), (ImageError, u64)>
     ensures image { IsSameImage image.old image.new }
-    ensures unwritten { StaysUnwritten S.view F.backing image.old image.new }
     ensures faults { NoFewerFaults S.view F.backing image.old image.new × IfErr result (λ (e, n). TellsFault S.view F.backing image.old image.new e) × TellsEachBy S.view F.backing (λ refused. refused.0) image.old image.new result }
     ensures no_longer { 0 < length bytes.now → (out : List (Option Prepared)) → (abstract_of S.view F.backing image.old out).is_sound → IsNoLonger (offset + length bytes.now - 1) image.old.file.header.fields image.new.file.header.fields }
     ensures header_cluster { StaysBehindHeader S.view image.old image.new }
@@ -328,7 +324,6 @@ fn write_some<S: Storage, F: WrappedFormat<S>>(
     bytes: &[u8],
 ) -> Result<usize, ImageError>
     ensures image { IsSameImage image.old image.new }
-    ensures unwritten { StaysUnwritten S.view F.backing image.old image.new }
     ensures faults { CountsImageFaults S.view F.backing image.old image.new result }
     ensures no_longer { (out : List (Option Prepared)) → (abstract_of S.view F.backing image.old out).is_sound → IsNoLonger offset image.old.file.header.fields image.new.file.header.fields }
     ensures header_cluster { StaysBehindHeader S.view image.old image.new }
@@ -399,7 +394,6 @@ pub fn run<S: Storage, F: WrappedFormat<S>>(
     ensures runs { RunsThrough S.view F.backing image.old image.new commands.now result.items }
     ensures means { RunRefinesDisk S.view F.backing image.old image.new commands.now result.items }
     ensures tells { TellsThrough S.view F.backing image.old image.new commands.now result.items }
-    ensures unwritten { IsNeverWritten S.view F.backing image.old image.new }
     ensures maps { LookupsFindContents S.view F.backing image.old image.new commands.now result.items }
     ensures quiet { StaysQuiet S.view image.old image.new }
 {
@@ -436,7 +430,6 @@ fn step<S: Storage, F: WrappedFormat<S>>(
     ensures after { SlotsAfter slots.old.prepared.items command.now result slots.new.prepared.items }
     ensures size { IsTrue (is_failed image.old) → size_of image.new ≡ size_of image.old }
     ensures causes { IsRightlyRefused S.view F.backing image.old image.new slots.old.prepared.items (mappings_in slots.old.mappings.items) command.now result }
-    ensures unwritten { LeavesUnwritten S.view F.backing image.old slots.old.prepared.items image.new slots.new.prepared.items }
     ensures quiet { LeavesQuietly S.view image.old slots.old.prepared.items image.new slots.new.prepared.items }
 {
     match command {
@@ -495,7 +488,6 @@ fn get_mapping<S: Storage, F: WrappedFormat<S>>(
     ensures command_step { CommandSteps S.view F.backing image.old image.new slots.old slots.new (Command.GetMapping slot offset max) result }
     ensures finds { Finds slots.old slots.new (Command.GetMapping slot offset max) result }
     ensures after { SlotsAfter slots.old.prepared.items (Command.GetMapping slot offset max) result slots.new.prepared.items }
-    ensures unwritten { LeavesUnwritten S.view F.backing image.old slots.old.prepared.items image.new slots.new.prepared.items }
     ensures tells { TellsOfImage S.view F.backing image.old image.new slots.old.prepared.items slots.new.prepared.items (Command.GetMapping slot offset max) result }
     ensures quiet { LeavesQuietly S.view image.old slots.old.prepared.items image.new slots.new.prepared.items }
 {
@@ -518,7 +510,6 @@ fn read_mapped<S: Storage, F: WrappedFormat<S>>(
 ) -> Reply
     requires { slots.now.image ≡ number_of image.old }
     ensures image { IsSameImage image.old image.new }
-    ensures unwritten { StaysUnwritten S.view F.backing image.old image.new }
     ensures faults { CommandCounts S.view F.backing image.old image.new result }
     ensures header_cluster { StaysBehindHeader S.view image.old image.new }
     ensures marks { MarksAtOnce S.view (refusal_in result) image.old image.new }
@@ -549,7 +540,6 @@ fn read_range<S: Storage, F: WrappedFormat<S>>(
 ) -> Result<Vec<u8>, ImageError>
     requires { at + length ≤ mapping.now.length }
     ensures image { IsSameImage image.old image.new }
-    ensures unwritten { StaysUnwritten S.view F.backing image.old image.new }
     ensures faults { CountsImageFaults S.view F.backing image.old image.new result }
     ensures header_cluster { StaysBehindHeader S.view image.old image.new }
     ensures marks { MarksAtOnce S.view (reason_in result) image.old image.new }
@@ -586,7 +576,6 @@ fn prepare<S: Storage, F: WrappedFormat<S>>(
     ensures command_step { CommandSteps S.view F.backing image.old image.new slots.old slots.new (Command.PrepareDataMapping slot offset length overwrite) result }
     ensures finds { Finds slots.old slots.new (Command.PrepareDataMapping slot offset length overwrite) result }
     ensures after { SlotsAfter slots.old.prepared.items (Command.PrepareDataMapping slot offset length overwrite) result slots.new.prepared.items }
-    ensures unwritten { LeavesUnwritten S.view F.backing image.old slots.old.prepared.items image.new slots.new.prepared.items }
     ensures tells { TellsOfImage S.view F.backing image.old image.new slots.old.prepared.items slots.new.prepared.items (Command.PrepareDataMapping slot offset length overwrite) result }
     ensures quiet { LeavesQuietly S.view image.old slots.old.prepared.items image.new slots.new.prepared.items }
 {
@@ -652,7 +641,6 @@ fn commit<S: Storage, F: WrappedFormat<S>>(
     ensures command_step { CommandSteps S.view F.backing image.old image.new slots.old slots.new (Command.CommitDataMapping slot) result }
     ensures finds { Finds slots.old slots.new (Command.CommitDataMapping slot) result }
     ensures after { SlotsAfter slots.old.prepared.items (Command.CommitDataMapping slot) result slots.new.prepared.items }
-    ensures unwritten { LeavesUnwritten S.view F.backing image.old slots.old.prepared.items image.new slots.new.prepared.items }
     ensures quiet { LeavesQuietly S.view image.old slots.old.prepared.items image.new slots.new.prepared.items }
 {
     let Some(prepared) = slots.put(slot, None) else {
@@ -683,7 +671,6 @@ fn discard<S: Storage, F: WrappedFormat<S>>(
     ensures command_step { CommandSteps S.view F.backing image.old image.new slots.old slots.new (Command.DiscardDataMapping slot) result }
     ensures finds { Finds slots.old slots.new (Command.DiscardDataMapping slot) result }
     ensures after { SlotsAfter slots.old.prepared.items (Command.DiscardDataMapping slot) result slots.new.prepared.items }
-    ensures unwritten { LeavesUnwritten S.view F.backing image.old slots.old.prepared.items image.new slots.new.prepared.items }
     ensures quiet { LeavesQuietly S.view image.old slots.old.prepared.items image.new slots.new.prepared.items }
 {
     match slots.put(slot, None) {
@@ -697,7 +684,6 @@ fn discard<S: Storage, F: WrappedFormat<S>>(
 
 fn flush<S: Storage, F: WrappedFormat<S>>(image: &mut Qcow2<S, F>) -> Reply
     ensures image { IsSameImage image.old image.new }
-    ensures unwritten { StaysUnwritten S.view F.backing image.old image.new }
     ensures faults { CommandCounts S.view F.backing image.old image.new result }
     ensures header_cluster { StaysBehindHeader S.view image.old image.new }
     ensures marks { MarksAtOnce S.view (refusal_in result) image.old image.new }
@@ -716,7 +702,6 @@ fn flush<S: Storage, F: WrappedFormat<S>>(image: &mut Qcow2<S, F>) -> Reply
 fn release_slot<S: Storage, F: WrappedFormat<S>>(image: &mut Qcow2<S, F>, slot: Option<Prepared>)
     requires { IfSome slot (λ p. image_of p ≡ number_of image.old) }
     ensures image { IsSameImage image.old image.new }
-    ensures unwritten { IsUnmodified S.view image.old → IsOnlyRead S.view image.old image.new }
     ensures faults { SameFaults S.view F.backing image.old image.new }
     ensures header_cluster { StaysBehindHeader S.view image.old image.new }
     ensures marks { is_failed image.new ≡ is_failed image.old }
@@ -733,7 +718,6 @@ fn discard_all<S: Storage, F: WrappedFormat<S>>(image: &mut Qcow2<S, F>, slots: 
     requires { slots.image ≡ number_of image.old }
     ensures image { IsSameImage image.old image.new }
     ensures sees { ReleasesMappings S.view F.backing image.old image.new slots.prepared.items [] }
-    ensures unwritten { IsUnmodified S.view image.old → IsOnlyRead S.view image.old image.new }
     ensures faults { SameFaults S.view F.backing image.old image.new }
     ensures header_cluster { StaysBehindHeader S.view image.old image.new }
     ensures marks { is_failed image.new ≡ is_failed image.old }

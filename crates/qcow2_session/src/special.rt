@@ -17,7 +17,7 @@ ghost use Rattle.qcow2_session.specs.Marks.{MarksAtOnce, reason_in};
 ghost use Rattle.qcow2_session.specs.Commands.{IsOwnOffset, TellsPlain, TellsSpecial};
 ghost use Rattle.qcow2_session.specs.Sessions.{CommandSteps, Finds};
 ghost use Rattle.qcow2_image.specs.Unwritten.{ReadsQuietly};
-ghost use Rattle.qcow2_session.specs.Told.{StaysUnwritten, TellsOfImage};
+ghost use Rattle.qcow2_session.specs.Told.{TellsOfImage};
 ghost use Rattle.qcow2_session.specs.declared.session.Command.TheVariants.{ReadvSpecial, TryReadvSpecial};
 ghost use Rattle.qcow2_session.specs.declared.slots.Slots.{Slots};
 
@@ -34,7 +34,6 @@ pub(crate) fn readv_special<S: Storage, F: WrappedFormat<S>>(
     length: u64,
 ) -> Reply
     ensures image { IsSameImage image.old image.new }
-    ensures unwritten { StaysUnwritten S.view F.backing image.old image.new }
     ensures faults { CommandCounts S.view F.backing image.old image.new result }
     ensures header_cluster { StaysBehindHeader S.view image.old image.new }
     ensures marks { MarksAtOnce S.view (refusal_in result) image.old image.new }
@@ -57,7 +56,6 @@ pub(crate) fn try_readv_special<S: Storage, F: WrappedFormat<S>>(
     length: u64,
 ) -> Reply
     ensures image { IsSameImage image.old image.new }
-    ensures unwritten { StaysUnwritten S.view F.backing image.old image.new }
     ensures faults { CommandCounts S.view F.backing image.old image.new result }
     ensures header_cluster { StaysBehindHeader S.view image.old image.new }
     ensures marks { MarksAtOnce S.view (refusal_in result) image.old image.new }
@@ -80,7 +78,6 @@ fn read_range<S: Storage, F: WrappedFormat<S>>(
     length: u64,
 ) -> Result<(), ImageError>
     ensures image { IsSameImage image.old image.new }
-    ensures unwritten { StaysUnwritten S.view F.backing image.old image.new }
     ensures faults { CountsImageFaults S.view F.backing image.old image.new result }
     ensures header_cluster { StaysBehindHeader S.view image.old image.new }
     ensures marks { MarksAtOnce S.view (reason_in result) image.old image.new }
@@ -105,7 +102,6 @@ fn try_range<S: Storage, F: WrappedFormat<S>>(
     length: u64,
 ) -> Result<Option<u64>, ImageError>
     ensures image { IsSameImage image.old image.new }
-    ensures unwritten { StaysUnwritten S.view F.backing image.old image.new }
     ensures faults { CountsImageFaults S.view F.backing image.old image.new result }
     ensures header_cluster { StaysBehindHeader S.view image.old image.new }
     ensures marks { MarksAtOnce S.view (reason_in result) image.old image.new }

@@ -4,9 +4,7 @@ use Rattle.program_parts.proofs.Counted.{both_of, both_since, image_refused}
 use Rattle.program_parts.specs.Conversions.{IsExport, KeepsDisk}
 use Rattle.program_parts.proofs.Imported.{ok_then}
 use Rattle.qcow2_image.specs.Image.{storage_of_image}
-use Rattle.qcow2_image.specs.Unwritten.{HoldsSame}
-use Rattle.qcow2_image.proofs.Map.Unmodified.{holds_then}
-use Rattle.program_parts.proofs.Exported.{keeps_itself, opened_quietly, opened_still, once_flushed, has_export, keeps_disk}
+use Rattle.program_parts.proofs.Exported.{keeps_itself, opened_quietly, once_flushed, has_export, keeps_disk}
 use Rattle.qcow2_alloc.specs.Quiet.{IsQuiet}
 use Rattle.qcow2_alloc.proofs.KeptTables.Quiet.{quiet_then}
 use Rattle.program_parts.proofs.Refused.{may_be_read, met_disks, met_exporting}
@@ -33,17 +31,6 @@ returns-in-Ok-clause-image g c = λ honest consistent.
 
 pub returns-in-Err-clause-image : goal.returns-in-Err-clause-image
 returns-in-Err-clause-image g c = λ honest consistent. keeps_itself (g.S.Storage.view c.args.storage) (g.S.Storage.view c.in-Err.storage).contents consistent (elim (c.in-Err.ensures.storage.contents honest) [ inl stay ↦ stay | inr made ↦ made.2 ])
-
-pub returns-in-Ok-clause-unwritten : goal.returns-in-Ok-clause-unwritten
-returns-in-Ok-clause-unwritten g c = λ honest consistent.
-    let view = g.S.Storage.view in
-    let opened = (c.in-Ok.ensures.opens honest consistent).opened in
-    let first = opened_still (view c.args.storage) (view (storage_of_image c.in-Ok.image)) (c.in-Ok.ensures.storage.at_once honest) (c.in-Ok.ensures.storage.contents honest).contents in
-    subst (λ s. HoldsSame (view c.args.storage) (view s)) (sym c.into_storage.ensures)
-    (holds_then first (c.to_raw-copied.ensures.unwritten c.in-Ok.ensures.ok.2 [] opened.sound opened.clean).storage)
-
-pub returns-in-Err-clause-unwritten : goal.returns-in-Err-clause-unwritten
-returns-in-Err-clause-unwritten g c = λ honest consistent. opened_still (g.S.Storage.view c.args.storage) (g.S.Storage.view c.in-Err.storage) (c.in-Err.ensures.storage.at_once honest) (elim (c.in-Err.ensures.storage.contents honest) [ inl stay ↦ stay | inr made ↦ made.2 ])
 
 pub returns-in-Err-clause-faults : goal.returns-in-Err-clause-faults
 returns-in-Err-clause-faults g c = image_refused _ _ _ _ _ c.in-Err.e refl refl (told_opening g.S.Storage.view (g.S.Storage.view c.args.storage).faults c.in-Err.storage c.in-Err.e c.in-Err.ensures.faults)

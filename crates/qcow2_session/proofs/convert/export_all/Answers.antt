@@ -9,7 +9,6 @@ use Rattle.qcow2_alloc.specs.ImageFile.{known_in}
 use Rattle.qcow2_image.specs.MetAlone.{IsMetReadingRange}
 use Rattle.qcow2_session.proofs.MetOnSound.{reads_part}
 use Rattle.qcow2_session.proofs.Exporting.{part_of_disk, unchanged_refused, fills_more}
-use Rattle.qcow2_image.proofs.Map.Unmodified.{read_none, read_then}
 use Rattle.qcow2_session.proofs.Told.{same_then}
 use Rattle.qcow2_session.proofs.Turns.{refused_is, none_within, does_if, does_then}
 use Rattle.qcow2_image.proofs.Call.BehindHeader.{behind_none, behind_then}
@@ -24,11 +23,6 @@ returns-in_err-export_at-clause-same g c =
     unchanged_refused view below c.args.image.now c.export_at.new.image c.in_err-export_at.field-0.0 _ (refused_is _ c.in_err-export_at.field-0.0 c.from_residual.ensures)
     (λ out. interrupted_if (λ h. h.1 ∙ h.0) (interrupted_then {more = []} (λ _ _. none_within (abstract_of view below c.loop-at.image out) []) (c.loop-at.invariant.same out) (c.in_err-export_at.ensures.same out)))
 
-pub returns-in_err-export_at-clause-unwritten : goal.returns-in_err-export_at-clause-unwritten
-returns-in_err-export_at-clause-unwritten g c = λ reading out sound clean.
-    let so_far = c.loop-at.invariant.unwritten reading out sound clean in
-    read_then g.S.Storage.view so_far (c.export_at.ensures.unwritten (c.loop-at.invariant.image.writable ∙ reading) out ((c.loop-at.invariant.same out).answer sound).0 so_far.unmodified)
-
 pub loop-at-init : goal.loop-at-init
 loop-at-init g c = record {
   behind = behind_none;
@@ -37,7 +31,6 @@ loop-at-init g c = record {
   within = omega arith;
   image = record { number = refl; size = refl; writable = refl; external = refl };
   quiet = reads_none g.S.Storage.view c.args.image.now;
-  unwritten = λ reading out sound clean. read_none g.S.Storage.view c.args.image.now clean;
   honest = λ h. h;
   same = λ out. does_nothing (abstract_of g.S.Storage.view g.F.BackingDisk.backing c.args.image.now out);
   filled = λ h out sound size le filled. filled;
@@ -54,9 +47,6 @@ loop-at-preserved g c =
       within = grind (arith, common_steps);
       image = same_then c.loop-at.invariant.image c.export_at.ensures.image;
       quiet = written_then g.S.Storage.view c.loop-at.invariant.quiet c.export_at.ensures.quiet;
-      unwritten = λ reading out sound clean.
-          let so_far = c.loop-at.invariant.unwritten reading out sound clean in
-          read_then view so_far (c.export_at.ensures.unwritten (c.loop-at.invariant.image.writable ∙ reading) out ((c.loop-at.invariant.same out).answer sound).0 so_far.unmodified);
       honest = λ h. c.export_at.ensures.honest (c.loop-at.invariant.honest h);
       same = λ out. does_if (λ h. h.1 ∙ h.0) (does_then {more = []} (λ _ _. none_within (abstract_of view below c.loop-at.image out) []) (c.loop-at.invariant.same out) (c.in_ok-export_at.ensures.same out));
       filled = λ h.

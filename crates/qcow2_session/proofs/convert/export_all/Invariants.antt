@@ -8,7 +8,6 @@ use Rattle.qcow2_image.specs.ImageInvariant.{abstract_of}
 use Rattle.qcow2_image.specs.declared.prepared.Prepared.{Prepared}
 use Rattle.qcow2_session.specs.Conversions.{Fills}
 use Rattle.qcow2_image.specs.Unwritten.{ReadsQuietly}
-use Rattle.qcow2_session.specs.Told.{StaysUnwritten}
 use Rattle.qcow2_session.proofs.Counting.{IsSoFar}
 use Rattle.qcow2_session.proofs.convert.export_all.Given as goal
 
@@ -20,7 +19,6 @@ invariant-loop-at g l = record {
   within : l.at ≤ l.size;
   image : IsSameImage l.fn.image l.image;
   quiet : ReadsQuietly g.S.Storage.view l.fn.image l.image;
-  unwritten : StaysUnwritten g.S.Storage.view g.F.BackingDisk.backing l.fn.image l.image;
   honest : (g.R.Storage.view l.fn.raw).is_honest → (g.R.Storage.view l.raw).is_honest;
   same : (out : List (Option Prepared)) → let v = abstract_of g.S.Storage.view g.F.BackingDisk.backing l.fn.image out in let w = abstract_of g.S.Storage.view g.F.BackingDisk.backing l.image out in
       AnsweredEffect v w [] [] (guest_of w ≡ guest_of v);

@@ -3,7 +3,6 @@ use Rattle.qcow2_alloc.specs.ImageError.{of_storage}
 use Rattle.qcow2_alloc.specs.declared.error.ImageError.TheVariants.{Memory}
 use Rattle.qcow2_disk.specs.AbstractImages.{guest_of}
 use Rattle.qcow2_image.specs.ImageInvariant.{abstract_of}
-use Rattle.qcow2_image.proofs.Map.Unmodified.{read_none}
 use Rattle.std.specs.Prelude.{IfErr}
 use Rattle.qcow2_alloc.proofs.AllocationSteps.{fault_of_storage}
 use Rattle.qcow2_alloc.specs.ImageFile.{known_in}
@@ -31,12 +30,6 @@ returns-clause-sees g c = λ honest out sound.
     (c.in_ok-export_all.ensures.sees (c.resize-2.ensures.calls.honest cut) out sound c.size-size.result (omega arith)
     (filled_first d (g.R.Storage.view c.args.raw.now).contents (g.R.Storage.view c.resize.new.self).contents (g.R.Storage.view c.resize-2.new.self).contents c.size-size.result (c.in_ok-resize.ensures.resized honest) (c.in_ok-resize-2.ensures.resized cut)))
     (c.size-size.ensures.sees out sound)
-
-pub returns-in_err-resize-clause-unwritten : goal.returns-in_err-resize-clause-unwritten
-returns-in_err-resize-clause-unwritten g c = λ reading out sound clean. read_none g.S.Storage.view c.args.image.now clean
-
-pub returns-in_err-resize-2-clause-unwritten : goal.returns-in_err-resize-2-clause-unwritten
-returns-in_err-resize-2-clause-unwritten g c = λ reading out sound clean. read_none g.S.Storage.view c.args.image.now clean
 
 pub returns-in_err-check_read-clause-met : goal.returns-in_err-check_read-clause-met
 returns-in_err-check_read-clause-met g c = λ none out sound. absurd (refused_none (refuses_to_read c.args.image.now 0 0) c.in_err-check_read.field-0.0 c.in_err-check_read.ensures.refusal none)

@@ -11,9 +11,8 @@ use Rattle.qcow2_session.proofs.Answering.{not_both, not_old_tables, kept_is}
 use Rattle.qcow2_disk.specs.Runs.{commit, done, misuse, refused}
 use Rattle.qcow2_disk.specs.AbstractImages.{abstract_image}
 use Rattle.qcow2_image.specs.Calls.{refusal_of, Commits}
-use Rattle.qcow2_image.proofs.Map.Unmodified.{read_none}
 use Rattle.qcow2_image.proofs.Sizing.Shrinking.{fault_of}
-use Rattle.qcow2_session.proofs.Unwritten.{existing_set, read_release_prepared}
+use Rattle.qcow2_session.proofs.Unwritten.{existing_set}
 use Rattle.qcow2_session.specs.Told.{AreExisting}
 use Rattle.qcow2_session.specs.declared.session.Command.TheVariants as C
 use Rattle.qcow2_session.specs.declared.session.Reply.TheVariants as R
@@ -65,23 +64,6 @@ returns-in-Err-Kept-clause-command_step g c = λ x s stands founds.
     (refused_as x _ _ s _ _ _ _ refl stands (record { sized = λ _. tt; failed = λ f. kept_is c.in-Err-Kept.field-0-is (c.in-Err-Kept.ensures.failed (c.in-Some.ensures.own ∙ c.put.ensures.image ∙ c.requires) f); may = λ _. tt })
     (refuses_commit s.found c.args.slot _ (found_at spec c.args.image.now out c.args.slot c.in-Some.prepared c.in-Some.ensures.was)
     (subst (λ r. Commits g.S.Storage.view g.F.BackingDisk.backing c.args.image.now c.commit_data_mapping.new.self c.in-Some.prepared (Err r)) c.in-Err-Kept.field-0-is c.in-Err-Kept.ensures.sees out c.args.slot c.in-Some.ensures.was).1) (λ f. f) (λ f. f) (λ _ _. refl) tt)
-
-pub returns-in-Ok-clause-unwritten : goal.returns-in-Ok-clause-unwritten
-returns-in-Ok-clause-unwritten g c = λ reading sound clean existing.
-    record {
-      reading = c.commit_data_mapping.ensures.image.writable ∙ reading;
-      read = read_release_prepared g.S.Storage.view c.args.image.now c.commit_data_mapping.new.self (c.in-Ok.ensures.existing (c.in-Some.ensures.own ∙ c.put.ensures.image ∙ c.requires) sound.works (existing c.args.slot c.in-Some.prepared c.in-Some.ensures.was)).1 clean;
-      existing = subst AreExisting (sym c.put.ensures.is) (existing_set c.args.slots.now.prepared.items c.args.slot None existing tt);
-    }
-
-pub returns-in-Err-Spent-clause-unwritten : goal.returns-in-Err-Spent-clause-unwritten
-returns-in-Err-Spent-clause-unwritten g c = λ reading sound clean existing. absurd (let no = (c.in-Err-Spent.ensures.existing (c.in-Some.ensures.own ∙ c.put.ensures.image ∙ c.requires) sound.works (existing c.args.slot c.in-Some.prepared c.in-Some.ensures.was)).0 in cc)
-
-pub returns-in-Err-Kept-clause-unwritten : goal.returns-in-Err-Kept-clause-unwritten
-returns-in-Err-Kept-clause-unwritten g c = λ reading sound clean existing. absurd (let no = (c.in-Err-Kept.ensures.existing (c.in-Some.ensures.own ∙ c.put.ensures.image ∙ c.requires) sound.works (existing c.args.slot c.in-Some.prepared c.in-Some.ensures.was)).0 in cc)
-
-pub returns-in_default-clause-unwritten : goal.returns-in_default-clause-unwritten
-returns-in_default-clause-unwritten g c = λ reading sound clean existing. record { reading = reading; read = read_none g.S.Storage.view c.args.image.now clean; existing = subst AreExisting (sym c.put.ensures.is) (existing_set c.args.slots.now.prepared.items c.args.slot None existing tt) }
 
 pub returns-in_default-clause-causes : goal.returns-in_default-clause-causes
 returns-in_default-clause-causes g c = is_misused g.S.Storage.view g.F.BackingDisk.backing c.args.image.now c.args.image.now c.args.slots.now.prepared.items (C.CommitDataMapping c.args.slot) (λ _. c.in_default.ensures.was, λ _. refl) refl tt

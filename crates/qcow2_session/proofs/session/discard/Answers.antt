@@ -8,8 +8,7 @@ use Rattle.qcow2_disk.specs.Runs.{discard, done, misuse}
 use Rattle.qcow2_disk.specs.AbstractImages.{abstract_image}
 use Rattle.qcow2_session.proofs.Places.{set_found}
 use Rattle.qcow2_session.proofs.Meanings.{found_at, none_at, does_discard}
-use Rattle.qcow2_image.proofs.Map.Unmodified.{read_none}
-use Rattle.qcow2_session.proofs.Unwritten.{existing_set, read_release_prepared}
+use Rattle.qcow2_session.proofs.Unwritten.{existing_set}
 use Rattle.qcow2_session.specs.Told.{AreExisting}
 use Rattle.qcow2_session.specs.declared.session.Command.TheVariants as C
 use Rattle.qcow2_session.specs.declared.session.Reply.TheVariants as R
@@ -32,17 +31,6 @@ returns-in-Some-clause-command_step g c = λ x s stands founds.
     let out = c.args.slots.now.prepared.items in
     subst (λ (o : List (Option _)). RefinesCommand x (abstract_image spec c.args.image.now out) (abstract_image spec c.release.new.image o) s (discard c.args.slot) done) (sym c.put.ensures.is)
     (done_as x _ _ s _ _ _ refl stands (record { sized = λ _. tt; failed = λ _. tt; may = λ _. tt }) (does_discard s.found c.args.slot _ (found_at spec c.args.image.now out c.args.slot c.in-Some.prepared c.in-Some.ensures.was) (c.release.ensures.sees out c.args.slot c.in-Some.ensures.was)) (λ f. f) (λ _ _. refl) (λ _. tt))
-
-pub returns-in-Some-clause-unwritten : goal.returns-in-Some-clause-unwritten
-returns-in-Some-clause-unwritten g c = λ reading sound clean existing.
-    record {
-      reading = c.release.ensures.image.writable ∙ reading;
-      read = read_release_prepared g.S.Storage.view c.args.image.now c.release.new.image c.release.ensures.rest clean;
-      existing = subst AreExisting (sym c.put.ensures.is) (existing_set c.args.slots.now.prepared.items c.args.slot None existing tt);
-    }
-
-pub returns-in-None-clause-unwritten : goal.returns-in-None-clause-unwritten
-returns-in-None-clause-unwritten g c = λ reading sound clean existing. record { reading = reading; read = read_none g.S.Storage.view c.args.image.now clean; existing = subst AreExisting (sym c.put.ensures.is) (existing_set c.args.slots.now.prepared.items c.args.slot None existing tt) }
 
 pub returns-in-None-clause-causes : goal.returns-in-None-clause-causes
 returns-in-None-clause-causes g c = is_misused g.S.Storage.view g.F.BackingDisk.backing c.args.image.now c.args.image.now c.args.slots.now.prepared.items (C.DiscardDataMapping c.args.slot) (λ _. c.in-None.ensures.was, λ _. refl) refl tt

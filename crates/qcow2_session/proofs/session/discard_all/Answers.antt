@@ -5,7 +5,6 @@ use Rattle.qcow2_session.specs.Sessions.{ReleasesMappings}
 use Rattle.qcow2_session.proofs.Places.{get_front}
 use Rattle.qcow2_session.proofs.Told.{same_then}
 use Rattle.qcow2_session.proofs.Turns.{none_within, does_if, does_then}
-use Rattle.qcow2_image.proofs.Map.Unmodified.{read_none, read_then}
 use Rattle.qcow2_image.proofs.Call.FaultCounts.{faults_then}
 use Rattle.qcow2_image.proofs.Call.BehindHeader.{behind_none, behind_then}
 use Rattle.qcow2_session.proofs.Counting.{none_counted}
@@ -25,7 +24,6 @@ loop-slot-preserved g c =
       image = same_then c.loop-slot.invariant.image c.release_slot.ensures.image;
       works = c.release_slot.ensures.marks ∙ c.loop-slot.invariant.works;
       quiet = written_then view c.loop-slot.invariant.quiet c.release_slot.ensures.quiet;
-      unwritten = λ clean. let so_far = c.loop-slot.invariant.unwritten clean in read_then view so_far (c.release_slot.ensures.unwritten so_far.unmodified);
       gone = does_if (λ h. h.1 ∙ h.0)
           (does_then (λ _ _. none_within (abstract_of view below c.loop-slot.image (rest ++ c.in-Some.slot ∷ [])) [])
           (subst (λ o. ReleasesMappings view below c.args.image.now c.loop-slot.image c.args.slots.prepared.items o) c.in-Some.ensures.items c.loop-slot.invariant.gone) (c.release_slot.ensures.sees rest));
@@ -39,6 +37,5 @@ loop-slot-init g c = record {
   image = record { number = refl; size = refl; writable = refl; external = refl };
   works = refl;
   quiet = written_none g.S.Storage.view c.args.image.now.file.storage c.args.image.now.file.caches;
-  unwritten = λ clean. read_none g.S.Storage.view c.args.image.now clean;
   gone = does_if (λ same. refl) (does_nothing (abstract_of g.S.Storage.view g.F.BackingDisk.backing c.args.image.now c.args.slots.prepared.items));
 }

@@ -6,7 +6,7 @@ use Rattle.qcow2_image.specs.Image.{IsSameImage, is_failed, number_of}
 use Rattle.qcow2_image.specs.Prepared.{image_of}
 use Rattle.qcow2_image.specs.declared.prepared.Prepared.{Prepared}
 use Rattle.qcow2_session.specs.Sessions.{ReleasesMappings}
-use Rattle.qcow2_image.specs.Unwritten.{IsOnlyRead, IsUnmodified, ReadsQuietly}
+use Rattle.qcow2_image.specs.Unwritten.{ReadsQuietly}
 use Rattle.qcow2_session.proofs.session.discard_all.Given as goal
 
 abbrev pub invariant-loop-slot : goal.invariant-loop-slot
@@ -17,7 +17,6 @@ invariant-loop-slot g l = record {
   image : IsSameImage l.fn.image l.image;
   works : is_failed l.image ≡ is_failed l.fn.image;
   quiet : ReadsQuietly g.S.Storage.view l.fn.image l.image;
-  unwritten : IsUnmodified g.S.Storage.view l.fn.image → IsOnlyRead g.S.Storage.view l.fn.image l.image;
   gone : ReleasesMappings g.S.Storage.view g.F.BackingDisk.backing l.fn.image l.image l.fn.slots.prepared.items l.prepared.items;
 }
 

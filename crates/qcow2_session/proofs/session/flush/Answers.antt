@@ -16,12 +16,6 @@ pub returns-clause-command_step : goal.returns-clause-command_step
 returns-clause-command_step g c = λ slots x s stands founds. flushed_as x _ _ s _ _ _ refl stands (record { sized = λ _. tt; failed = λ f. absurd (not_both (c.in_default.ensures.early f)); may = λ _. tt }) (c.in_default.ensures.sees slots.prepared.items) (whole g.S.Storage.view g.F.BackingDisk.backing _ slots.prepared.items) (λ f. f) (λ _ _. refl)
     (none_to_free g.S.Storage.view g.F.BackingDisk.backing c.flush.new.self slots.prepared.items (λ writes. c.in_default.ensures.emptied (sym c.flush.ensures.image.writable ∙ writes)))
 
-pub returns-in-Err-clause-unwritten : goal.returns-in-Err-clause-unwritten
-returns-in-Err-clause-unwritten g c = λ reading out sound clean. c.flush.ensures.unwritten reading _ out sound clean
-
-pub returns-clause-unwritten : goal.returns-clause-unwritten
-returns-clause-unwritten g c = λ reading out sound clean. c.flush.ensures.unwritten reading _ out sound clean
-
 pub returns-in-Err-clause-causes : goal.returns-in-Err-clause-causes
 returns-in-Err-clause-causes g c = λ before found.
     is_refused g.S.Storage.view g.F.BackingDisk.backing c.args.image.now c.flush.new.self before C.Flush c.in-Err.refusal (R.Refused c.in-Err.refusal) (λ is. absurd cc) (λ is. absurd cc, λ is. absurd is) refl

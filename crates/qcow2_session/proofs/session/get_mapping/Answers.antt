@@ -48,12 +48,6 @@ returns-in-Ok-clause-tells g c = record {
   past = λ past. let none = (c.in-Ok.ensures.past (none_refused _ (unusable c.args.image.now) _ c.in-Ok.ensures.early) past).1 in (none.0, c.in-Ok.ensures.own.2 ∙ none.1);
 }
 
-pub returns-in-Ok-clause-unwritten : goal.returns-in-Ok-clause-unwritten
-returns-in-Ok-clause-unwritten g c = λ reading sound clean existing. record { reading = c.get_mapping.ensures.image.writable ∙ reading; read = c.get_mapping.ensures.unwritten _ c.args.slots.now.prepared.items sound clean; existing = existing }
-
-pub returns-in-Err-clause-unwritten : goal.returns-in-Err-clause-unwritten
-returns-in-Err-clause-unwritten g c = λ reading sound clean existing. record { reading = c.get_mapping.ensures.image.writable ∙ reading; read = c.get_mapping.ensures.unwritten _ c.args.slots.now.prepared.items sound clean; existing = existing }
-
 pub returns-in-Err-clause-causes : goal.returns-in-Err-clause-causes
 returns-in-Err-clause-causes g c =
     is_refused g.S.Storage.view g.F.BackingDisk.backing c.args.image.now c.get_mapping.new.self c.args.slots.now.prepared.items (C.GetMapping c.args.slot c.args.offset c.args.max) c.in-Err.refusal (R.Refused c.in-Err.refusal) (λ is. absurd cc) (λ is. absurd cc, λ is. absurd is) refl

@@ -17,9 +17,7 @@ use Rattle.qcow2_session.proofs.Places.{get_set_same}
 use Rattle.qcow2_session.proofs.Answering.{preparing_first, prepares_answer, error_is, not_both}
 use Rattle.qcow2_image.specs.Refusals.{refuses_to_prepare}
 use Rattle.qcow2_session.proofs.Told.{none_refused}
-use Rattle.qcow2_image.proofs.Map.Unmodified.{read_none, read_same}
 use Rattle.qcow2_session.proofs.Unwritten.{existing_set, nothing_prepared, prepare_same}
-use Rattle.qcow2_image.specs.declared.image.Qcow2.{Qcow2}
 use Rattle.qcow2_image.specs.Image.{is_writable}
 use Rattle.qcow2_session.specs.Told.{AreExisting}
 use Rattle.qcow2_session.specs.declared.session.Command.TheVariants as C
@@ -75,28 +73,6 @@ returns-in-Ok-clause-tells g c = λ sound.
         answered = λ some. c.in-Ok.ensures.maps some out sound;
       },
     )
-
-pub returns-in-Ok-clause-unwritten : goal.returns-in-Ok-clause-unwritten
-returns-in-Ok-clause-unwritten g c = λ reading sound clean existing.
-    let old = c.args.image.now in
-    let new = c.prepare_data_mapping.new.self in
-    let same = prepare_same old reading _ c.args.offset c.args.length c.prepare_data_mapping.ensures.early c.prepare_data_mapping.ensures.nothing in
-    let p = nothing_prepared old reading _ c.in-Ok.prepared c.args.offset c.args.length c.in-Ok.ensures.early c.in-Ok.ensures.nothing in
-    record {
-      reading = ap is_writable same ∙ reading;
-      read = read_same g.S.Storage.view old new (ap (λ (image : Qcow2 _ _). image.file) same) clean;
-      existing = subst AreExisting (sym c.fill.ensures.is) (existing_set c.args.slots.now.prepared.items c.args.slot (Some c.in-Ok.prepared) existing p.0);
-    }
-
-pub returns-in-Err-clause-unwritten : goal.returns-in-Err-clause-unwritten
-returns-in-Err-clause-unwritten g c = λ reading sound clean existing.
-    let old = c.args.image.now in
-    let new = c.prepare_data_mapping.new.self in
-    let same = prepare_same old reading _ c.args.offset c.args.length c.prepare_data_mapping.ensures.early c.prepare_data_mapping.ensures.nothing in
-    record { reading = ap is_writable same ∙ reading; read = read_same g.S.Storage.view old new (ap (λ (image : Qcow2 _ _). image.file) same) clean; existing = existing }
-
-pub returns-then-is_some-clause-unwritten : goal.returns-then-is_some-clause-unwritten
-returns-then-is_some-clause-unwritten g c = λ reading sound clean existing. record { reading = reading; read = read_none g.S.Storage.view c.args.image.now clean; existing = existing }
 
 pub returns-then-is_some-clause-causes : goal.returns-then-is_some-clause-causes
 returns-then-is_some-clause-causes g c = is_misused g.S.Storage.view g.F.BackingDisk.backing c.args.image.now c.args.image.now c.args.slots.now.prepared.items (C.PrepareDataMapping c.args.slot c.args.offset c.args.length c.args.overwrite) (λ _. holds c.args.slots.now.prepared.items c.args.slot c.get.result c.get.ensures (sym c.is_some.ensures ∙ c.if-is_some.true), λ _. refl) refl (λ is. absurd cc)

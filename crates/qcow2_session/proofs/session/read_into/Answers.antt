@@ -10,7 +10,6 @@ use Rattle.qcow2_session.proofs.Beyond.{part_refused}
 use Rattle.qcow2_session.proofs.Reading.{reads_refused}
 use Rattle.qcow2_session.proofs.Turns.{refused_is, refuses_here, none_within, does_if, refuses_if, does_then, refuses_then}
 use Rattle.qcow2_session.proofs.Told.{same_then}
-use Rattle.qcow2_image.proofs.Map.Unmodified.{read_none, read_then}
 use Rattle.qcow2_image.proofs.Call.BehindHeader.{behind_none, behind_then}
 use Rattle.qcow2_image.proofs.Call.FaultCounts.{counted_on, faults_then}
 use Rattle.qcow2_image.specs.Refusals.{IsMet}
@@ -49,9 +48,6 @@ loop-done-preserved g c = record {
   counts = counts_on g.S.Storage.view c.args.image.now c.loop-done.image c.read_some.new.image c.loop-done.invariant.counts c.in_ok-done.ensures.marks.counts;
   header = c.read_some.ensures.header ∙ c.loop-done.invariant.header;
   quiet = written_then g.S.Storage.view c.loop-done.invariant.quiet c.read_some.ensures.quiet;
-  unwritten = λ reading out sound clean.
-      let so_far = c.loop-done.invariant.unwritten reading out sound clean in
-      read_then g.S.Storage.view so_far (c.read_some.ensures.unwritten (c.loop-done.invariant.image.writable ∙ reading) out ((c.loop-done.invariant.shown out).answer sound).0 so_far.unmodified);
   shown = λ out.
       let view = g.S.Storage.view in
       let below = g.F.BackingDisk.backing in
@@ -81,11 +77,6 @@ returns-in_err-done-clause-beyond g c =
     let rest : length part ≡ length c.loop-done.bytes - c.loop-done.done = grind (arith, common_steps) in
     part_refused c.args.image.now c.loop-done.image c.args.offset (length c.args.bytes.now) c.in-Some.at (length part) c.in_err-done.field-0.0 c.loop-done.invariant.image.size (omega (arith, c.in-Some.ensures.1))
     (omega (arith, rest, c.in-Some.ensures.1, c.loop-done.invariant.within, c.loop-done.auto.bytes)) (c.in_err-done.ensures.beyond (omega (arith, rest, c.loop-done-test.true))))
-
-pub returns-in_err-done-clause-unwritten : goal.returns-in_err-done-clause-unwritten
-returns-in_err-done-clause-unwritten g c = λ reading out sound clean.
-    let so_far = c.loop-done.invariant.unwritten reading out sound clean in
-    read_then g.S.Storage.view so_far (c.read_some.ensures.unwritten (c.loop-done.invariant.image.writable ∙ reading) out ((c.loop-done.invariant.shown out).answer sound).0 so_far.unmodified)
 
 pub returns-in_default-clause-late : goal.returns-in_default-clause-late
 returns-in_default-clause-late g c = λ none. absurd (c.in_default.ensures (omega (arith, c.loop-done.invariant.end, c.loop-done-test.true)))
@@ -124,7 +115,6 @@ loop-done-init g c = record {
   counts = counts_still g.S.Storage.view c.args.image.now;
   header = refl;
   quiet = written_none g.S.Storage.view c.args.image.now.file.storage c.args.image.now.file.caches;
-  unwritten = λ reading out sound clean. read_none g.S.Storage.view c.args.image.now clean;
   shown = λ out. does_if (λ same. (λ i lt. absurd (let none : i < length (take 0 c.args.bytes.now) = lt in grind (arith, common_steps)), same)) (does_nothing (abstract_of g.S.Storage.view g.F.BackingDisk.backing c.args.image.now out));
 }
 

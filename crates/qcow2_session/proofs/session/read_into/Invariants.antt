@@ -8,7 +8,6 @@ use Rattle.qcow2_image.specs.ImageInvariant.{abstract_of}
 use Rattle.qcow2_image.specs.Noted.{CountsImageChanges}
 use Rattle.qcow2_image.specs.declared.prepared.Prepared.{Prepared}
 use Rattle.qcow2_image.specs.Unwritten.{ReadsQuietly}
-use Rattle.qcow2_session.specs.Told.{StaysUnwritten}
 use Rattle.qcow2_image.specs.Faults.{SameFaults}
 use Rattle.qcow2_session.proofs.session.read_into.Given as goal
 
@@ -23,7 +22,6 @@ invariant-loop-done g l = record {
   counts : CountsImageChanges g.S.Storage.view l.fn.image l.image;
   header : l.image.file.header ≡ l.fn.image.file.header;
   quiet : ReadsQuietly g.S.Storage.view l.fn.image l.image;
-  unwritten : StaysUnwritten g.S.Storage.view g.F.BackingDisk.backing l.fn.image l.image;
   shown : (out : List (Option Prepared)) → let v = abstract_of g.S.Storage.view g.F.BackingDisk.backing l.fn.image out in let w = abstract_of g.S.Storage.view g.F.BackingDisk.backing l.image out in
       AnsweredEffect v w [] [] (Shows (guest_of v).disk l.fn.offset (take l.done l.bytes) × (guest_of w ≡ guest_of v));
 }

@@ -29,12 +29,6 @@ returns-clause-sees g c = λ out.
     let whole : take c.in_ok-bytes.bytes.len (c.read_mapped.new.bytes ++ drop (length c.read_mapped.new.bytes) c.in_ok-bytes.bytes.items) ≡ c.read_mapped.new.bytes = grind (arith, common_steps) in
     does_if (λ h. (grind (arith, common_steps), subst (λ b. Shows (guest_of (abstract_of g.S.Storage.view g.F.BackingDisk.backing c.args.image.now out)).disk (c.args.mapping.now.offset + c.args.at) b) (sym whole) h.1, h.0)) (c.in_ok-read_mapped.ensures.sees out)
 
-pub returns-in_err-read_mapped-clause-unwritten : goal.returns-in_err-read_mapped-clause-unwritten
-returns-in_err-read_mapped-clause-unwritten g c = λ reading out sound clean. c.read_mapped.ensures.unwritten _ out sound clean
-
-pub returns-clause-unwritten : goal.returns-clause-unwritten
-returns-clause-unwritten g c = λ reading out sound clean. c.read_mapped.ensures.unwritten _ out sound clean
-
 pub returns-in_err-read_mapped-clause-late : goal.returns-in_err-read_mapped-clause-late
 returns-in_err-read_mapped-clause-late g c = λ none.
     let long : length c.deref_mut.result.now ≡ c.args.length = grind (arith, common_steps) in

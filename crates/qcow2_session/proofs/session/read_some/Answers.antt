@@ -8,7 +8,6 @@ use Rattle.qcow2_image.specs.ImageInvariant.{abstract_of}
 use Rattle.qcow2_session.specs.Sessions.{IsOfReading, ReadsFirst}
 use Rattle.qcow2_session.proofs.Bytes.{shows_as}
 use Rattle.qcow2_session.proofs.Turns.{refused_is, refuses_here, none_within, does_if, refuses_if, does_then, refuses_then}
-use Rattle.qcow2_image.proofs.Map.Unmodified.{read_then}
 use Rattle.std.specs.Prelude.{IfErr, length}
 use Rattle.qcow2_image.specs.Image.{size_of}
 use Rattle.qcow2_image.specs.Refusals.{IsMet, unusable, passes}
@@ -50,22 +49,6 @@ returns-clause-sees g c = λ out.
     let place : c.in_ok-mapping.mapping.offset + 0 ≡ c.args.offset = omega (arith, c.in_ok-mapping.ensures.own.1) in
     does_if (λ h. (shows_as (ap (λ (v : Guest). v.disk) h.0) place first h.1.1, h.1.0 ∙ h.0))
     (does_then (λ _ _. none_within (abstract_of view below c.get_mapping.new.self out) []) (c.in_ok-mapping.ensures.sees out) (c.in_ok-read_mapped.ensures.sees out))
-
-pub returns-in_err-read_mapped-clause-unwritten : goal.returns-in_err-read_mapped-clause-unwritten
-returns-in_err-read_mapped-clause-unwritten g c = λ reading out sound clean.
-    let first = c.get_mapping.ensures.unwritten _ out sound clean in
-    read_then g.S.Storage.view first (c.read_mapped.ensures.unwritten _ out ((c.in_ok-mapping.ensures.sees out).answer sound).0 first.unmodified)
-
-pub returns-clause-unwritten : goal.returns-clause-unwritten
-returns-clause-unwritten g c = λ reading out sound clean.
-    let first = c.get_mapping.ensures.unwritten _ out sound clean in
-    read_then g.S.Storage.view first (c.read_mapped.ensures.unwritten _ out ((c.in_ok-mapping.ensures.sees out).answer sound).0 first.unmodified)
-
-pub returns-in_err-mapping-clause-unwritten : goal.returns-in_err-mapping-clause-unwritten
-returns-in_err-mapping-clause-unwritten g c = λ reading out sound clean. c.get_mapping.ensures.unwritten _ out sound clean
-
-pub returns-then-count-eq0-clause-unwritten : goal.returns-then-count-eq0-clause-unwritten
-returns-then-count-eq0-clause-unwritten g c = λ reading out sound clean. c.get_mapping.ensures.unwritten _ out sound clean
 
 pub returns-in_err-mapping-clause-cause : goal.returns-in_err-mapping-clause-cause
 returns-in_err-mapping-clause-cause g c = subst (λ r. IfErr r IsOfReading) (sym (refused_is _ c.in_err-mapping.field-0.0 c.from_residual.ensures))

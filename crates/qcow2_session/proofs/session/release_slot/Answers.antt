@@ -3,8 +3,6 @@ use Rattle.qcow2_image.specs.ImageInvariant.{image_abstraction}
 use Rattle.qcow2_session.specs.Sessions.{ReleasesMappings}
 use Rattle.qcow2_image.proofs.Free.{free_places}
 use Rattle.qcow2_session.proofs.Places.{last_none, last_release}
-use Rattle.qcow2_image.proofs.Map.Unmodified.{read_none}
-use Rattle.qcow2_session.proofs.Unwritten.{read_release_prepared}
 use Rattle.qcow2_image.proofs.Call.BehindHeader.{behind_none}
 use Rattle.qcow2_session.proofs.Quiet.{quiet_release}
 use Rattle.qcow2_session.proofs.session.release_slot.Goals as goal
@@ -23,12 +21,6 @@ returns-in_default-clause-sees g c = λ out.
     let old = c.args.image.now in
     let has = free_places view below in
     subst (λ (q : Option _). ReleasesMappings view below old old (out ++ q ∷ []) out) (sym c.in_default.is) (last_none (image_abstraction view below) has old out)
-
-pub returns-in-Some-clause-unwritten : goal.returns-in-Some-clause-unwritten
-returns-in-Some-clause-unwritten g c = λ clean. read_release_prepared g.S.Storage.view c.args.image.now c.release.new.image c.release.ensures.rest clean
-
-pub returns-in_default-clause-unwritten : goal.returns-in_default-clause-unwritten
-returns-in_default-clause-unwritten g c = λ clean. read_none g.S.Storage.view c.args.image.now clean
 
 pub returns-in_default-clause-header_cluster : goal.returns-in_default-clause-header_cluster
 returns-in_default-clause-header_cluster g c = behind_none

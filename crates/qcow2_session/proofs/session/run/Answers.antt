@@ -7,16 +7,15 @@ use Rattle.qcow2_disk.specs.Runs.{RefinesWholeRun, begun, started}
 use Rattle.qcow2_disk.proofs.RunSteps.{begins, completes, refines_the_disk}
 use Rattle.qcow2_session.specs.Commands.{command_of, reply_of}
 use Rattle.qcow2_image.proofs.Free.{free_places, nothing_since, whole}
-use Rattle.qcow2_alloc.specs.ImageFile.{contents_in, view_in}
+use Rattle.qcow2_alloc.specs.ImageFile.{contents_in}
 use Rattle.qcow2_session.proofs.LookingUp.{looked_up, none_said}
 use Rattle.qcow2_session.proofs.Meanings.{ranges_after}
 use Rattle.qcow2_session.proofs.Places.{surplus_none}
-use Rattle.qcow2_session.proofs.Runs.{GoesOn, first_of_all, free_stands, command_step_on, map_more}
+use Rattle.qcow2_session.proofs.Runs.{GoesOn, first_of_all, command_step_on, map_more}
 use Rattle.qcow2_session.specs.Told.{IsToldRun, RunPoint, first_point}
 use Rattle.qcow2_session.proofs.Told.{IsToldSoFar, first_told, image_itself, itself_then, same_itself, told_more}
 use Rattle.qcow2_session.specs.Sessions.{mappings_in, range_of}
-use Rattle.qcow2_image.proofs.Map.Unmodified.{holds_none}
-use Rattle.qcow2_session.proofs.Unwritten.{existing_none, never_written}
+use Rattle.qcow2_session.proofs.Unwritten.{existing_none}
 use Rattle.qcow2_session.specs.CountedFaults.{RunCounts}
 use Rattle.qcow2_session.proofs.Counting.{none_counted, run_counts_more, run_counts_still}
 use Rattle.qcow2_image.proofs.Call.BehindHeader.{behind_none, behind_then}
@@ -72,7 +71,7 @@ loop-command-preserved g c = record {
       subst (λ l. IsToldSoFar view below c.args.image.now now (take (done + 1) commands) l) (sym c.push_reserved.ensures.items)
       (subst (λ l. IsToldSoFar view below c.args.image.now now l (c.loop-command.replies.items ++ c.step-reply.result ∷ [])) (sym split)
       (told_more view below c.args.image.now before now (take done commands) c.loop-command.replies.items c.command-item.result c.step-reply.result c.loop-command.invariant.told
-      (record { keeps = c.step-reply.ensures.keeps; tells = c.step-reply.ensures.tells; slots = c.step-reply.ensures.after; causes = c.step-reply.ensures.causes; finds = c.step-reply.ensures.finds; counts = c.step-reply.ensures.faults; failed = c.step-reply.ensures.marks; size = c.step-reply.ensures.size; unwritten = c.step-reply.ensures.unwritten; quiet = c.step-reply.ensures.quiet })
+      (record { keeps = c.step-reply.ensures.keeps; tells = c.step-reply.ensures.tells; slots = c.step-reply.ensures.after; causes = c.step-reply.ensures.causes; finds = c.step-reply.ensures.finds; counts = c.step-reply.ensures.faults; failed = c.step-reply.ensures.marks; size = c.step-reply.ensures.size; quiet = c.step-reply.ensures.quiet })
       c.step-reply.ensures.command_step));
 }
 
@@ -148,26 +147,6 @@ returns-clause-tells g c =
       keeps = image_itself c.discard_all.ensures.image;
       failed = c.discard_all.ensures.marks;
     }))
-
-pub returns-clause-unwritten : goal.returns-clause-unwritten
-returns-clause-unwritten g c = λ reading opened.
-    let view = g.S.Storage.view in
-    let below = g.F.BackingDisk.backing in
-    let old = c.args.image.now in
-    let before = abstract_of view below old [] in
-    let x = before.setting in
-    let s = started before in
-    let stands = begins before opened.sound (whole view below old [] opened.sound) opened.clean in
-    let told = c.loop-command.invariant.told in
-    let so_far = told.so_far x s stands in
-    never_written view below x (first_point old) (begun s) (take c.loop-command.command-index c.args.commands.now) c.loop-command.replies.items told.points _ so_far.end c.discard_all.new.image told.along so_far.steps
-    (free_stands (image_abstraction view below) (free_places view below) old 256 x s stands) reading opened.clean existing_none so_far.stands c.discard_all.ensures.sees.acts.rests c.discard_all.ensures.unwritten
-
-pub returns-in_default-clause-unwritten : goal.returns-in_default-clause-unwritten
-returns-in_default-clause-unwritten g c = λ reading opened. holds_none (view_in g.S.Storage.view c.args.image.now.file)
-
-pub returns-in_default-new-clause-unwritten : goal.returns-in_default-new-clause-unwritten
-returns-in_default-new-clause-unwritten g c = λ reading opened. holds_none (view_in g.S.Storage.view c.args.image.now.file)
 
 pub returns-clause-header_cluster : goal.returns-clause-header_cluster
 returns-clause-header_cluster g c = behind_then c.loop-command.invariant.behind c.discard_all.ensures.header_cluster

@@ -8,8 +8,6 @@ use Rattle.qcow2_session.specs.Sessions.{CommandSteps, mappings_in}
 use Rattle.qcow2_session.proofs.Answering.{reading_first, error_is, write_error_is, not_both, reads_answer, writes_answer, write_refused_answer}
 use Rattle.qcow2_session.specs.Told.{SlotsAfter, TellsOfImage}
 use Rattle.qcow2_session.specs.declared.session.Reply.TheVariants.{Bytes, Done, Refused, Size, WriteRefused}
-use Rattle.qcow2_image.proofs.Map.Unmodified.{read_none}
-use Rattle.qcow2_session.proofs.Unwritten.{left_same}
 use Rattle.qcow2_session.specs.Causes.{IsRightlyRefused}
 use Rattle.qcow2_session.proofs.Causing.{read_answered, read_refused, size_answered, write_answered, write_refused_for}
 use Rattle.qcow2_image.proofs.Call.BehindHeader.{behind_none}
@@ -139,66 +137,6 @@ returns-in-ResizeGrow-clause-tells g c = subst (λ q. TellsOfImage g.S.Storage.v
 
 pub returns-in-ResizeShrink-clause-tells : goal.returns-in-ResizeShrink-clause-tells
 returns-in-ResizeShrink-clause-tells g c = subst (λ q. TellsOfImage g.S.Storage.view g.F.BackingDisk.backing c.args.image.now c.shrink.new.image c.args.slots.now.prepared.items c.args.slots.now.prepared.items q c.shrink.result) (sym c.in-ResizeShrink.is) (c.shrink.ensures.tells c.args.slots.now.prepared.items)
-
-pub returns-in-Ok-clause-unwritten : goal.returns-in-Ok-clause-unwritten
-returns-in-Ok-clause-unwritten g c = λ reading sound clean existing. record { reading = c.read.ensures.image.writable ∙ reading; read = c.read.ensures.unwritten reading c.args.slots.now.prepared.items sound clean; existing = existing }
-
-pub returns-in-Err-clause-unwritten : goal.returns-in-Err-clause-unwritten
-returns-in-Err-clause-unwritten g c = λ reading sound clean existing. record { reading = c.read.ensures.image.writable ∙ reading; read = c.read.ensures.unwritten reading c.args.slots.now.prepared.items sound clean; existing = existing }
-
-pub returns-in-Ok-write-clause-unwritten : goal.returns-in-Ok-write-clause-unwritten
-returns-in-Ok-write-clause-unwritten g c = λ reading sound clean existing. record { reading = c.write.ensures.image.writable ∙ reading; read = c.write.ensures.unwritten reading c.args.slots.now.prepared.items sound clean; existing = existing }
-
-pub returns-in-Err-write-clause-unwritten : goal.returns-in-Err-write-clause-unwritten
-returns-in-Err-write-clause-unwritten g c = λ reading sound clean existing. record { reading = c.write.ensures.image.writable ∙ reading; read = c.write.ensures.unwritten reading c.args.slots.now.prepared.items sound clean; existing = existing }
-
-pub returns-in-Flush-clause-unwritten : goal.returns-in-Flush-clause-unwritten
-returns-in-Flush-clause-unwritten g c = λ reading sound clean existing. record { reading = c.flush.ensures.image.writable ∙ reading; read = c.flush.ensures.unwritten reading c.args.slots.now.prepared.items sound clean; existing = existing }
-
-pub returns-in-Size-clause-unwritten : goal.returns-in-Size-clause-unwritten
-returns-in-Size-clause-unwritten g c = λ reading sound clean existing. record { reading = reading; read = read_none g.S.Storage.view c.args.image.now clean; existing = existing }
-
-pub returns-in-GetMapping-clause-unwritten : goal.returns-in-GetMapping-clause-unwritten
-returns-in-GetMapping-clause-unwritten g c = c.get_mapping.ensures.unwritten
-
-pub returns-in-ReadMapped-clause-unwritten : goal.returns-in-ReadMapped-clause-unwritten
-returns-in-ReadMapped-clause-unwritten g c = λ reading sound clean existing. record { reading = c.read_mapped.ensures.image.writable ∙ reading; read = c.read_mapped.ensures.unwritten reading c.args.slots.now.prepared.items sound clean; existing = existing }
-
-pub returns-in-PrepareDataMapping-clause-unwritten : goal.returns-in-PrepareDataMapping-clause-unwritten
-returns-in-PrepareDataMapping-clause-unwritten g c = c.prepare.ensures.unwritten
-
-pub returns-in-WriteMapped-clause-unwritten : goal.returns-in-WriteMapped-clause-unwritten
-returns-in-WriteMapped-clause-unwritten g c = λ reading sound clean existing. left_same g.S.Storage.view g.F.BackingDisk.backing c.args.image.now c.write_mapped.new.image c.args.slots.now.prepared.items (c.write_mapped.ensures.reading reading) reading clean existing
-
-pub returns-in-CommitDataMapping-clause-unwritten : goal.returns-in-CommitDataMapping-clause-unwritten
-returns-in-CommitDataMapping-clause-unwritten g c = c.commit.ensures.unwritten
-
-pub returns-in-DiscardDataMapping-clause-unwritten : goal.returns-in-DiscardDataMapping-clause-unwritten
-returns-in-DiscardDataMapping-clause-unwritten g c = c.discard.ensures.unwritten
-
-pub returns-in-EnsureZeroMapping-clause-unwritten : goal.returns-in-EnsureZeroMapping-clause-unwritten
-returns-in-EnsureZeroMapping-clause-unwritten g c = λ reading sound clean existing. left_same g.S.Storage.view g.F.BackingDisk.backing c.args.image.now c.ensure_zero.new.image c.args.slots.now.prepared.items (c.ensure_zero.ensures.reading reading) reading clean existing
-
-pub returns-in-DiscardToZero-clause-unwritten : goal.returns-in-DiscardToZero-clause-unwritten
-returns-in-DiscardToZero-clause-unwritten g c = λ reading sound clean existing. left_same g.S.Storage.view g.F.BackingDisk.backing c.args.image.now c.discard_to_zero.new.image c.args.slots.now.prepared.items (c.discard_to_zero.ensures.reading reading) reading clean existing
-
-pub returns-in-DiscardToAny-clause-unwritten : goal.returns-in-DiscardToAny-clause-unwritten
-returns-in-DiscardToAny-clause-unwritten g c = λ reading sound clean existing. left_same g.S.Storage.view g.F.BackingDisk.backing c.args.image.now c.discard_to_any.new.image c.args.slots.now.prepared.items (c.discard_to_any.ensures.reading reading) reading clean existing
-
-pub returns-in-DiscardToBacking-clause-unwritten : goal.returns-in-DiscardToBacking-clause-unwritten
-returns-in-DiscardToBacking-clause-unwritten g c = λ reading sound clean existing. left_same g.S.Storage.view g.F.BackingDisk.backing c.args.image.now c.discard_to_backing.new.image c.args.slots.now.prepared.items (c.discard_to_backing.ensures.reading reading) reading clean existing
-
-pub returns-in-ReadvSpecial-clause-unwritten : goal.returns-in-ReadvSpecial-clause-unwritten
-returns-in-ReadvSpecial-clause-unwritten g c = λ reading sound clean existing. record { reading = c.readv_special.ensures.image.writable ∙ reading; read = c.readv_special.ensures.unwritten reading c.args.slots.now.prepared.items sound clean; existing = existing }
-
-pub returns-in-TryReadvSpecial-clause-unwritten : goal.returns-in-TryReadvSpecial-clause-unwritten
-returns-in-TryReadvSpecial-clause-unwritten g c = λ reading sound clean existing. record { reading = c.try_readv_special.ensures.image.writable ∙ reading; read = c.try_readv_special.ensures.unwritten reading c.args.slots.now.prepared.items sound clean; existing = existing }
-
-pub returns-in-ResizeGrow-clause-unwritten : goal.returns-in-ResizeGrow-clause-unwritten
-returns-in-ResizeGrow-clause-unwritten g c = λ reading sound clean existing. left_same g.S.Storage.view g.F.BackingDisk.backing c.args.image.now c.grow.new.image c.args.slots.now.prepared.items (c.grow.ensures.reading reading) reading clean existing
-
-pub returns-in-ResizeShrink-clause-unwritten : goal.returns-in-ResizeShrink-clause-unwritten
-returns-in-ResizeShrink-clause-unwritten g c = λ reading sound clean existing. left_same g.S.Storage.view g.F.BackingDisk.backing c.args.image.now c.shrink.new.image c.args.slots.now.prepared.items (c.shrink.ensures.reading reading) reading clean existing
 
 pub returns-in-Ok-clause-causes : goal.returns-in-Ok-clause-causes
 returns-in-Ok-clause-causes g c = subst (λ q. IsRightlyRefused g.S.Storage.view g.F.BackingDisk.backing c.args.image.now c.read.new.image c.args.slots.now.prepared.items (mappings_in c.args.slots.now.mappings.items) q (Bytes c.in-Ok.bytes)) (sym c.in-Read.is) (read_answered g.S.Storage.view g.F.BackingDisk.backing c.args.image.now c.read.new.image c.args.slots.now.prepared.items _ _ _ _ c.in-Ok.ensures.early)

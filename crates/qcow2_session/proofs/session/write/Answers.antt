@@ -5,9 +5,8 @@ use Rattle.std.proofs.Common.{◌≡◌, ℕ, ◌∙◌, subst, take, drop, leng
 use Rattle.std.specs.Prelude.{IfSome, Option, Some, None, Result, Err, Ok}
 use Rattle.std.proofs.lemmas.Grind.{common_steps}
 use Rattle.std.proofs.lemmas.List.{take_rest}
-use Rattle.qcow2_disk.specs.Calls.{another, with_disk}
-use Rattle.qcow2_disk.specs.Disk.{with_bytes}
-use Rattle.qcow2_disk.specs.AbstractImages.{Setting, guest_of}
+use Rattle.qcow2_disk.specs.Calls.{another}
+use Rattle.qcow2_disk.specs.AbstractImages.{Setting}
 use Rattle.qcow2_image.specs.ImageInvariant.{abstract_of}
 use Rattle.qcow2_image.specs.Calls.{refusal_of}
 use Rattle.qcow2_session.proofs.Writing.{ends_on, write_refused}
@@ -21,7 +20,6 @@ use Rattle.qcow2_session.proofs.Beyond.{part_refused}
 use Rattle.qcow2_session.proofs.Turns.{does_less, refuses_here, refuses_if, nothing_refused}
 use Rattle.qcow2_image.specs.Refusals.{refuses_to_prepare}
 use Rattle.qcow2_session.proofs.Told.{same_then}
-use Rattle.qcow2_image.proofs.Map.Unmodified.{read_then}
 use Rattle.qcow2_image.proofs.Call.FaultCounts.{faults_then}
 use Rattle.qcow2_session.proofs.Parts.{not_failed_yet, part_prepares, part_under, prepares_usable, under_taken}
 use Rattle.qcow2_image.proofs.Call.BehindHeader.{behind_then}
@@ -50,9 +48,6 @@ loop-done-preserved g c = record {
       no_longer_then c.args.image.now.file.header.fields c.loop-done.image.file.header.fields c.write_some-in-loop-done.new.image.file.header.fields c.in-Some.at (c.args.offset + length c.args.bytes.now - 1)
       (ap (λ (x : Setting). x.cluster_size) (so_far.acts.works sound).setting) (grind (arith, common_steps)) (c.loop-done.invariant.no_longer some out sound) (c.write_some-in-loop-done.ensures.no_longer out still);
   quiet = λ reading. written_then g.S.Storage.view (c.loop-done.invariant.quiet reading) (c.write_some-in-loop-done.ensures.quiet (c.loop-done.invariant.image.writable ∙ reading));
-  unwritten = λ reading out sound clean.
-      let so_far = c.loop-done.invariant.unwritten reading out sound clean in
-      read_then g.S.Storage.view so_far (c.write_some-in-loop-done.ensures.unwritten (c.loop-done.invariant.image.writable ∙ reading) out ((c.loop-done.invariant.written out).answer sound).0 so_far.unmodified);
   ends = λ out sound more.
       let view = g.S.Storage.view in
       let below = g.F.BackingDisk.backing in
@@ -114,11 +109,6 @@ returns-in-Err-write_some-clause-beyond g c =
 
 pub returns-in-Err-write_some-clause-early : goal.returns-in-Err-write_some-clause-early
 returns-in-Err-write_some-clause-early g c = nothing_refused _ _ (refuses_to_prepare c.args.image.now c.args.offset (length c.args.bytes.now)) c.write_some.result c.in-Ok.count c.write_some.ensures.early c.in-Ok.is
-
-pub returns-in-Err-write_some-clause-unwritten : goal.returns-in-Err-write_some-clause-unwritten
-returns-in-Err-write_some-clause-unwritten g c = λ reading out sound clean.
-    let so_far = c.loop-done.invariant.unwritten reading out sound clean in
-    read_then g.S.Storage.view so_far (c.write_some-in-loop-done.ensures.unwritten (c.loop-done.invariant.image.writable ∙ reading) out ((c.loop-done.invariant.written out).answer sound).0 so_far.unmodified)
 
 -- what refused the first part refused the whole
 refused_first : (A B : Type 0) {E : Type 0} (X : Type 0) (o : Option E) (e : E) (n : ℕ) → IfSome o (λ x. (◌≡◌ {A = Result A E} (Err e) (Err x)) × X) → IfSome o (λ x. (◌≡◌ {A = Result B (E × ℕ)} (Err (e, n)) (Err (x, n))) × X)
@@ -238,7 +228,6 @@ loop-done-init g c = record {
       no_longer_within c.args.image.now.file.header.fields c.write_some.new.image.file.header.fields c.args.offset (c.args.offset + length c.args.bytes.now - 1) (omega (arith, some)) (c.write_some.ensures.no_longer out sound);
   freeing = λ out sound. c.in-Ok.ensures.freeing out sound;
   quiet = c.write_some.ensures.quiet;
-  unwritten = c.write_some.ensures.unwritten;
   written = λ out. c.in-Ok.ensures.sees out;
 }
 

@@ -13,7 +13,7 @@ use Rattle.qcow2_image.specs.Refusals.{refuses_to_prepare}
 use Rattle.qcow2_image.specs.Noted.{CountsImageChanges}
 use Rattle.qcow2_image.specs.declared.prepared.Prepared.{Prepared}
 use Rattle.qcow2_session.specs.Sessions.{EndsCluster, LeavesCopied, IsHeededAt}
-use Rattle.qcow2_session.specs.Told.{StaysQuiet, StaysUnwritten}
+use Rattle.qcow2_session.specs.Told.{StaysQuiet}
 use Rattle.qcow2_image.specs.Faults.{SameFaults}
 use Rattle.qcow2_image.specs.L1Entries.{IsNoLonger}
 
@@ -34,7 +34,6 @@ invariant-loop-done g l = record {
   no_longer : 0 < length l.bytes → (out : List (Option Prepared)) → (abstract_of g.S.Storage.view g.F.BackingDisk.backing l.fn.image out).is_sound → IsNoLonger (l.fn.offset + length l.bytes - 1) l.fn.image.file.header.fields l.image.file.header.fields;
   quiet : StaysQuiet g.S.Storage.view l.fn.image l.image;
   freeing : (out : List (Option Prepared)) → (abstract_of g.S.Storage.view g.F.BackingDisk.backing l.fn.image out).is_sound → ListsNoMore l.fn.image l.image;
-  unwritten : StaysUnwritten g.S.Storage.view g.F.BackingDisk.backing l.fn.image l.image;
   written : (out : List (Option Prepared)) → let v = abstract_of g.S.Storage.view g.F.BackingDisk.backing l.fn.image out in let w = abstract_of g.S.Storage.view g.F.BackingDisk.backing l.image out in
       AnsweredEffect v w (given_of l.fn.offset (take l.done l.bytes) ∷ []) [] (guest_of w ≡ with_disk (guest_of v) (with_bytes (guest_of v).disk l.fn.offset (take l.done l.bytes)));
 }

@@ -9,7 +9,7 @@ use Rattle.qcow2_disk.specs.Mappings.{given_of}
 use Rattle.qcow2_disk.specs.AbstractImages.{Setting, guest_of}
 use Rattle.qcow2_image.specs.Calls.{refusal_of, Commits, reason_of}
 use Rattle.qcow2_image.specs.Faults.{CountsImageFaults}
-use Rattle.qcow2_image.specs.Image.{is_failed, is_writable, number_of, size_of}
+use Rattle.qcow2_image.specs.Image.{is_writable, number_of, size_of}
 use Rattle.qcow2_image.specs.Prepared.{IsHandedBackBy, image_of, length_of, guest_offset_of, offset_of, table_of}
 use Rattle.qcow2_image.specs.Refusals.{refuses_mapping, refuses_to_prepare, IsMet, IsMetPreparing}
 use Rattle.qcow2_image.specs.declared.prepared.CommitRefused.TheVariants.{Kept}
@@ -23,8 +23,7 @@ use Rattle.qcow2_session.proofs.WrittenParts.{no_more_then}
 use Rattle.qcow2_image.proofs.Free.{free_places}
 use Rattle.qcow2_session.proofs.Told.{none_refused}
 use Rattle.qcow2_session.proofs.Turns.{refused_is, none_within, refuses_if, refuses_less, nothing_refused}
-use Rattle.qcow2_image.proofs.Map.Unmodified.{read_same, read_then}
-use Rattle.qcow2_session.proofs.Unwritten.{nothing_prepared, prepare_same, put_same, read_release_prepared}
+use Rattle.qcow2_session.proofs.Unwritten.{nothing_prepared, prepare_same, put_same}
 use Rattle.qcow2_image.specs.declared.image.Qcow2.{Qcow2}
 use Rattle.std.proofs.lemmas.Bool.{cases_Bool, cases_lt}
 use Rattle.std.proofs.lemmas.Nat.{pow_pos}
@@ -151,70 +150,6 @@ returns-in-Ok-clause-ends g c = λ out sound short.
     let prepared = c.in_ok-prepared.ensures.sees (None ∷ out) 0 refl in
     let same : cluster_size_of mid ≡ cluster_size_of old = ap (λ (x : Setting). x.cluster_size) (prepared.acts.works ((free_places view below).free old [] out sound)).setting in
     chunk_ends old mid c.args.offset (length c.args.bytes.now) c.min-count.result (length_of c.in_ok-prepared.prepared) (c.min-count.ensures ∙ ap (λ k. min (length c.args.bytes.now) k) c.length.ensures) short same (λ less. (maps.short less).cluster)
-
-pub returns-in_err-prepared-clause-unwritten : goal.returns-in_err-prepared-clause-unwritten
-returns-in_err-prepared-clause-unwritten g c = λ reading out sound clean.
-    let old = c.args.image.now in
-    let mid = c.prepare_data_mapping.new.self in
-    let same = prepare_same old reading _ c.args.offset (length c.args.bytes.now) c.prepare_data_mapping.ensures.early c.prepare_data_mapping.ensures.nothing in
-    read_same g.S.Storage.view old mid (ap (λ (image : Qcow2 _ _). image.file) same) clean
-
-pub returns-in-Err-clause-unwritten : goal.returns-in-Err-clause-unwritten
-returns-in-Err-clause-unwritten g c = λ reading out sound clean.
-    let view = g.S.Storage.view in
-    let old = c.args.image.now in
-    let mid = c.prepare_data_mapping.new.self in
-    let put = c.write_mapped.new.self in
-    let p = c.in_ok-prepared.prepared in
-    let made = prepare_same old reading _ c.args.offset (length c.args.bytes.now) c.prepare_data_mapping.ensures.early c.prepare_data_mapping.ensures.nothing in
-    let same : put ≡ old = put_same mid (ap is_writable made ∙ reading) _ (refuses_mapping mid (image_of p)) _ c.write_mapped.ensures.early c.write_mapped.ensures.read_only c.write_mapped.ensures.nothing ∙ made in
-    let first = read_same view old put (ap (λ (image : Qcow2 _ _). image.file) same) clean in
-    read_then view first (read_release_prepared view put c.release.new.image c.release.ensures.rest first.unmodified)
-
-pub returns-in-Ok-clause-unwritten : goal.returns-in-Ok-clause-unwritten
-returns-in-Ok-clause-unwritten g c = λ reading out sound clean.
-    let view = g.S.Storage.view in
-    let old = c.args.image.now in
-    let mid = c.prepare_data_mapping.new.self in
-    let put = c.write_mapped.new.self in
-    let p = c.in_ok-prepared.prepared in
-    let made = prepare_same old reading _ c.args.offset (length c.args.bytes.now) c.prepare_data_mapping.ensures.early c.prepare_data_mapping.ensures.nothing in
-    let same : put ≡ old = put_same mid (ap is_writable made ∙ reading) _ (refuses_mapping mid (image_of p)) _ c.write_mapped.ensures.early c.write_mapped.ensures.read_only c.write_mapped.ensures.nothing ∙ made in
-    let first = read_same view old put (ap (λ (image : Qcow2 _ _). image.file) same) clean in
-    let none = nothing_prepared old reading _ p c.args.offset (length c.args.bytes.now) c.in_ok-prepared.ensures.early c.in_ok-prepared.ensures.nothing in
-    let command_step = c.commit_data_mapping.ensures.existing (c.in_ok-prepared.ensures.own ∙ sym (ap number_of same)) (ap is_failed same ∙ sound.works) none.0 in
-    let second = read_then view first (read_release_prepared view put c.commit_data_mapping.new.self command_step.1 first.unmodified) in
-    second
-
-pub returns-in-Err-Spent-clause-unwritten : goal.returns-in-Err-Spent-clause-unwritten
-returns-in-Err-Spent-clause-unwritten g c = λ reading out sound clean.
-    let view = g.S.Storage.view in
-    let old = c.args.image.now in
-    let mid = c.prepare_data_mapping.new.self in
-    let put = c.write_mapped.new.self in
-    let p = c.in_ok-prepared.prepared in
-    let made = prepare_same old reading _ c.args.offset (length c.args.bytes.now) c.prepare_data_mapping.ensures.early c.prepare_data_mapping.ensures.nothing in
-    let same : put ≡ old = put_same mid (ap is_writable made ∙ reading) _ (refuses_mapping mid (image_of p)) _ c.write_mapped.ensures.early c.write_mapped.ensures.read_only c.write_mapped.ensures.nothing ∙ made in
-    let first = read_same view old put (ap (λ (image : Qcow2 _ _). image.file) same) clean in
-    let none = nothing_prepared old reading _ p c.args.offset (length c.args.bytes.now) c.in_ok-prepared.ensures.early c.in_ok-prepared.ensures.nothing in
-    let command_step = c.commit_data_mapping.ensures.existing (c.in_ok-prepared.ensures.own ∙ sym (ap number_of same)) (ap is_failed same ∙ sound.works) none.0 in
-    let second = read_then view first (read_release_prepared view put c.commit_data_mapping.new.self command_step.1 first.unmodified) in
-    second
-
-pub returns-in-Err-Kept-clause-unwritten : goal.returns-in-Err-Kept-clause-unwritten
-returns-in-Err-Kept-clause-unwritten g c = λ reading out sound clean.
-    let view = g.S.Storage.view in
-    let old = c.args.image.now in
-    let mid = c.prepare_data_mapping.new.self in
-    let put = c.write_mapped.new.self in
-    let p = c.in_ok-prepared.prepared in
-    let made = prepare_same old reading _ c.args.offset (length c.args.bytes.now) c.prepare_data_mapping.ensures.early c.prepare_data_mapping.ensures.nothing in
-    let same : put ≡ old = put_same mid (ap is_writable made ∙ reading) _ (refuses_mapping mid (image_of p)) _ c.write_mapped.ensures.early c.write_mapped.ensures.read_only c.write_mapped.ensures.nothing ∙ made in
-    let first = read_same view old put (ap (λ (image : Qcow2 _ _). image.file) same) clean in
-    let none = nothing_prepared old reading _ p c.args.offset (length c.args.bytes.now) c.in_ok-prepared.ensures.early c.in_ok-prepared.ensures.nothing in
-    let command_step = c.commit_data_mapping.ensures.existing (c.in_ok-prepared.ensures.own ∙ sym (ap number_of same)) (ap is_failed same ∙ sound.works) none.0 in
-    let second = read_then view first (read_release_prepared view put c.commit_data_mapping.new.self command_step.1 first.unmodified) in
-    read_then view second (read_release_prepared view c.commit_data_mapping.new.self c.release-in-Err-Kept.new.image c.release-in-Err-Kept.ensures.rest second.unmodified)
 
 -- more than none
 some_bytes : (n : ℕ) → (n ≡ 0 → ⊥) → 0 < n

@@ -23,9 +23,6 @@ returns-clause-tells g c = λ out sound.
     told_specially (known_in g.S.Storage.view old.file) c.args.offset c.args.length c.readv_special.result (λ some. c.readv_special.ensures.some (subst (λ n. 0 < n) (sym long) some)) (λ none. (c.readv_special.ensures.nothing usable (long ∙ none)).0)
     (c.readv_special.ensures.late usable) (λ some. c.readv_special.ensures.tells (subst (λ n. 0 < n) (sym long) some) out sound)
 
-pub returns-clause-unwritten : goal.returns-clause-unwritten
-returns-clause-unwritten g c = λ reading out sound clean. c.readv_special.ensures.unwritten _ out sound clean
-
 pub returns-clause-late : goal.returns-clause-late
 returns-clause-late g c = λ usable.
     let long : length c.deref_mut.result.now ≡ c.args.length = grind (arith, common_steps) in

@@ -24,9 +24,6 @@ returns-clause-tells g c = λ out sound.
     told_plainly (known_in g.S.Storage.view old.file) c.args.offset c.args.length c.try_readv_special.result (λ some. c.try_readv_special.ensures.some (subst (λ n. 0 < n) (sym long) some)) (λ none. (c.try_readv_special.ensures.nothing usable (long ∙ none)).0)
     (c.try_readv_special.ensures.late usable) (λ some. c.try_readv_special.ensures.tells (subst (λ n. 0 < n) (sym long) some) out sound)
 
-pub returns-clause-unwritten : goal.returns-clause-unwritten
-returns-clause-unwritten g c = λ reading out sound clean. c.try_readv_special.ensures.unwritten _ out sound clean
-
 pub returns-clause-late : goal.returns-clause-late
 returns-clause-late g c = λ usable.
     let long : length c.deref_mut.result.now ≡ c.args.length = grind (arith, common_steps) in

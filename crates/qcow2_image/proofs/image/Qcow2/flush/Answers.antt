@@ -9,7 +9,6 @@ use Rattle.qcow2_image.specs.ImageInvariant.{ImageInvariant, pending_in}
 use Rattle.qcow2_image.proofs.Grow.Grown.{written_back}
 use Rattle.qcow2_image.proofs.Flush.Freeing.{all_listed, beside, flushes_with_outcome, frees_on}
 use Rattle.qcow2_image.proofs.Call.FaultCounts.{counted_marked}
-use Rattle.qcow2_image.proofs.Map.Unmodified.{read_call}
 use Rattle.qcow2_image.proofs.Call.Marked.{marks_memory, may_mark}
 use Rattle.qcow2_image.proofs.Call.OnceWritten.{fails_none, fails_once}
 use Rattle.qcow2_image.proofs.Call.BehindHeader.{behind_call}
@@ -53,11 +52,6 @@ returns-clause-writes g c = λ p sound.
 pub returns-clause-faults : goal.returns-clause-faults
 returns-clause-faults g c =
     counted_marked g.S.Storage.view g.F.BackingDisk.backing c.args.self.now c.begin.new.self c.write_back-done.new.self c.mark_failure.new.self c.write_back-done.result c.mark_failure.result c.begin.ensures.faults c.write_back-done.ensures.faults c.mark_failure.ensures.answer c.mark_failure.ensures.rest
-
-pub returns-clause-unwritten : goal.returns-clause-unwritten
-returns-clause-unwritten g c = λ reading.
-    read_call g.S.Storage.view g.F.BackingDisk.backing c.args.self.now c.begin.new.self c.write_back-done.new.self c.mark_failure.new.self (is_failed c.mark_failure.new.self) c.begin.ensures.storage c.begin.ensures.keeps c.begin.ensures.known
-    (c.write_back-done.ensures.unwritten (c.begin.ensures.stays.image.writable ∙ reading)) c.mark_failure.ensures.rest
 
 pub returns-then-self-clause-once_written : goal.returns-then-self-clause-once_written
 returns-then-self-clause-once_written g c = fails_none g.S.Storage.view c.args.self.now _

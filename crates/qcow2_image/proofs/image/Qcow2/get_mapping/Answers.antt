@@ -12,7 +12,6 @@ use Rattle.qcow2_image.specs.ImageInvariant.{abstract_of, pending_in}
 use Rattle.qcow2_image.specs.Calls.{refusal_of}
 use Rattle.qcow2_image.proofs.Call.Answers.{answers_err, usable_works}
 use Rattle.qcow2_image.proofs.Call.Called.{quietly_then, quiet_does, quiet_refuses}
-use Rattle.qcow2_image.proofs.Map.Unmodified.{read_call}
 use Rattle.qcow2_image.proofs.Call.OnceWritten.{answered_once, fails_none, fails_once}
 use Rattle.qcow2_image.specs.Noted.{FailsOnceWritten}
 use Rattle.qcow2_alloc.proofs.AllocationSteps.{handed_on}
@@ -86,12 +85,6 @@ returns-clause-known g c = λ out sound.
     let view = g.S.Storage.view in
     let p = pending_in view g.F.BackingDisk.backing c.args.self.now out in
     ap (λ (image : Qcow2 _ _). known_in view image.file) c.mark_failure.ensures.rest ∙ c.look_up-found.ensures.known p out (c.begin.ensures.keeps p out sound).sound ∙ c.begin.ensures.known p out sound
-
-pub returns-in_err-kind-clause-unwritten : goal.returns-in_err-kind-clause-unwritten
-returns-in_err-kind-clause-unwritten g c = read_call g.S.Storage.view g.F.BackingDisk.backing c.args.self.now c.begin.new.self c.look_up-found.new.self c.mark_failure.new.self (is_failed c.mark_failure.new.self) c.begin.ensures.storage c.begin.ensures.keeps c.begin.ensures.known c.look_up-found.ensures.unwritten c.mark_failure.ensures.rest
-
-pub returns-clause-unwritten : goal.returns-clause-unwritten
-returns-clause-unwritten g c = read_call g.S.Storage.view g.F.BackingDisk.backing c.args.self.now c.begin.new.self c.look_up-found.new.self c.mark_failure.new.self (is_failed c.mark_failure.new.self) c.begin.ensures.storage c.begin.ensures.keeps c.begin.ensures.known c.look_up-found.ensures.unwritten c.mark_failure.ensures.rest
 
 pub returns-in_err-kind-clause-once_written : goal.returns-in_err-kind-clause-once_written
 returns-in_err-kind-clause-once_written g c =

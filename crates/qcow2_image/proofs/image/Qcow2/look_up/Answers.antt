@@ -10,7 +10,6 @@ use Rattle.qcow2_disk.specs.Found.{kind_at, rest_of_table}
 use Rattle.qcow2_image.specs.Found.{l1_index_of, l2_index_of, NamesL2Table, IsRunFrom}
 use Rattle.qcow2_image.proofs.Map.Loading.{caches_moved, with_caches, if_ok}
 use Rattle.qcow2_image.proofs.Map.Looked.{none_found}
-use Rattle.qcow2_image.proofs.Map.Unmodified.{read_caches, read_none}
 use Rattle.qcow2_image.proofs.Call.BehindHeader.{behind_caches}
 use Rattle.std.specs.Prelude.{IfSome}
 use Rattle.qcow2_alloc.specs.MetadataCaches.{IsEntryAt}
@@ -84,21 +83,6 @@ returns-in_ok-l2_get_or_insert-in-Some-clause-found g c = λ p out sound.
     })
     (c.run_in_table.ensures.run p kept.sound.file entry (omega (arith, limit)))
 
-pub returns-in_err-l2_get_or_insert-in-Some-clause-unwritten :
-    goal.returns-in_err-l2_get_or_insert-in-Some-clause-unwritten
-returns-in_err-l2_get_or_insert-in-Some-clause-unwritten g c = λ p out sound clean.
-    let h = c.args.self.now.file.header.fields in
-    read_caches g.S.Storage.view c.args.self.now clean c.l2_get_or_insert.new.storage p c.l2_get_or_insert.new.self (c.l2_get_or_insert.ensures.keeps h p sound.file.honest sound.file.caches) (c.l2_get_or_insert.ensures.ordered h p sound.file.honest sound.file.caches)
-
-pub returns-in_ok-l2_get_or_insert-in-Some-clause-unwritten :
-    goal.returns-in_ok-l2_get_or_insert-in-Some-clause-unwritten
-returns-in_ok-l2_get_or_insert-in-Some-clause-unwritten g c = λ p out sound clean.
-    let h = c.args.self.now.file.header.fields in
-    read_caches g.S.Storage.view c.args.self.now clean c.l2_get_or_insert.new.storage p c.l2_get_or_insert.new.self (c.l2_get_or_insert.ensures.keeps h p sound.file.honest sound.file.caches) (c.l2_get_or_insert.ensures.ordered h p sound.file.honest sound.file.caches)
-
-pub returns-in-None-clause-unwritten : goal.returns-in-None-clause-unwritten
-returns-in-None-clause-unwritten g c = λ p out sound clean. read_none g.S.Storage.view c.args.self.now clean
-
 pub returns-in_err-l2_get_or_insert-in-Some-clause-header_cluster : goal.returns-in_err-l2_get_or_insert-in-Some-clause-header_cluster
 returns-in_err-l2_get_or_insert-in-Some-clause-header_cluster g c = behind_caches (c.l2_get_or_insert.ensures.header_cluster (subst (λ t. IfSome t (λ n. 0 < n)) c.in-Some.is c.in_ok-l2_cluster.ensures.elsewhere))
 
@@ -159,9 +143,6 @@ returns-in_ok-l2_get_or_insert-in-Some-clause-held g c = λ lt.
     let image = c.args.self.now in
     let own = subst (λ t. MatchOption t (place_named h image.l1_table c.args.offset ≡ 0) (λ cluster. (cluster ≡ own_table image c.args.offset) × ¬ (place_named h image.l1_table c.args.offset ≡ 0))) c.in-Some.is c.in_ok-l2_cluster.ensures.own in
     c.run_in_table.ensures.held c.args.max limit lt own.0 own.1
-
-pub returns-in_err-l2_cluster-clause-unwritten : goal.returns-in_err-l2_cluster-clause-unwritten
-returns-in_err-l2_cluster-clause-unwritten g c = λ p out sound clean. read_none g.S.Storage.view c.args.self.now clean
 
 pub returns-in_err-l2_cluster-clause-quiet : goal.returns-in_err-l2_cluster-clause-quiet
 returns-in_err-l2_cluster-clause-quiet g c = reads_none g.S.Storage.view c.args.self.now

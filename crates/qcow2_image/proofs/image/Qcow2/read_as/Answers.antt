@@ -14,7 +14,6 @@ use Rattle.qcow2_image.specs.ImageInvariant.{backing_bytes, disk_of}
 use Rattle.qcow2_alloc.proofs.KeptMarks.{notes_of_storage}
 use Rattle.qcow2_image.proofs.Map.Loading.{read_moved, if_ok}
 use Rattle.qcow2_image.proofs.Map.Reading.{raw_shown, zero_shown, indirect_shown, none_below}
-use Rattle.qcow2_image.proofs.Map.Unmodified.{read_bytes, read_same}
 use Rattle.qcow2_alloc.proofs.KeptNotes.{read_kept}
 use Rattle.qcow2_image.proofs.Call.BehindHeader.{behind_read}
 use Rattle.qcow2_image.proofs.Map.Quiet.{reads_bytes, reads_same}
@@ -71,15 +70,6 @@ returns-in-Zero-clause-shows g c = λ p out sound mapped i lt.
     zero_shown (state_in g.S.Storage.view file p) sound.file.caches.kept.kept.crash_invariant c.args.offset n mapped.alike (is_some image.backing) (backing_bytes g.S.Storage.view g.F.BackingDisk.backing image.backing)
     (cover h (known_in g.S.Storage.view file) (c.args.offset / cluster_size h)) refl (none_below g.S.Storage.view g.F.BackingDisk.backing image.backing) c.in-Zero.explicit (ap found_kind (sym c.in-Zero.is) ∙ mapped.kind_is) i within
     ∙ ap known_byte (sym (ap (λ (b : List ℕ). byte_at b i) filled ∙ get_or-replicate n i 0 0 within))
-
-pub returns-in_err-read-in-Raw-clause-unwritten : goal.returns-in_err-read-in-Raw-clause-unwritten
-returns-in_err-read-in-Raw-clause-unwritten g c = λ p out sound clean. read_bytes g.S.Storage.view c.args.self.now clean c.read.new.self c.read.ensures.calls (c.read.ensures.same sound.file.honest)
-
-pub returns-in_ok-read-in-Raw-clause-unwritten : goal.returns-in_ok-read-in-Raw-clause-unwritten
-returns-in_ok-read-in-Raw-clause-unwritten g c = λ p out sound clean. read_bytes g.S.Storage.view c.args.self.now clean c.read.new.self c.read.ensures.calls (c.read.ensures.same sound.file.honest)
-
-pub returns-in-Indirect-clause-unwritten : goal.returns-in-Indirect-clause-unwritten
-returns-in-Indirect-clause-unwritten g c = λ p out sound clean. read_same g.S.Storage.view c.args.self.now c.read_backing.new.self c.read_backing.ensures.file clean
 
 pub returns-in_err-read-in-Raw-clause-notes : goal.returns-in_err-read-in-Raw-clause-notes
 returns-in_err-read-in-Raw-clause-notes g c = notes_of_storage (read_kept _ _ c.read.result c.read.ensures.calls c.read.ensures.same c.read.ensures.unnoted)

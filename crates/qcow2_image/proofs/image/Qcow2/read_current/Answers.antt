@@ -7,7 +7,6 @@ use Rattle.qcow2_image.specs.Found.{IsFoundWhole, further_by}
 use Rattle.qcow2_image.specs.ImageInvariant.{disk_of}
 use Rattle.qcow2_image.proofs.Call.Called.{keeps_then}
 use Rattle.qcow2_image.proofs.Map.Looked.{none_past}
-use Rattle.qcow2_image.proofs.Map.Unmodified.{reads_on}
 use Rattle.qcow2_alloc.proofs.KeptMarks.{notes_then}
 use Rattle.qcow2_image.proofs.Call.BehindHeader.{behind_then}
 use Rattle.qcow2_image.specs.MetAlone.{IsCacheHeld, IsMetMapped, IsMetReading}
@@ -46,9 +45,6 @@ pub returns-clause-outdated : goal.returns-clause-outdated
 returns-clause-outdated g c = λ some p out sound is whole.
     none_past g.S.Storage.view c.args.self.now (c.args.mapping.now.offset + c.args.at) (length c.args.bytes.now) some
     (subst (λ k. IsFoundWhole g.S.Storage.view c.args.self.now (c.args.mapping.now.offset + c.args.at) k (length c.args.bytes.now)) (sym c.further-kind.ensures ∙ (c.read_as.ensures.outdated is).0) whole)
-
-pub returns-clause-unwritten : goal.returns-clause-unwritten
-returns-clause-unwritten g c = reads_on g.S.Storage.view g.F.BackingDisk.backing c.args.self.now c.check_mapped.new.self c.read_as.new.self c.in_ok-check_mapped.ensures.keeps c.in_ok-check_mapped.ensures.unwritten c.read_as.ensures.unwritten
 
 pub returns-clause-notes : goal.returns-clause-notes
 returns-clause-notes g c = notes_then c.check_mapped.ensures.notes c.read_as.ensures.notes

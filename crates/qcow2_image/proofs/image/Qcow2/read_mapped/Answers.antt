@@ -14,7 +14,6 @@ use Rattle.qcow2_image.proofs.Grow.Lengths.{on_ok}
 use Rattle.qcow2_image.proofs.Map.Loading.{if_ok}
 use Rattle.qcow2_image.proofs.Map.Looked.{found_after, found_before}
 use Rattle.qcow2_image.proofs.Call.FaultCounts.{counted_marked}
-use Rattle.qcow2_image.proofs.Map.Unmodified.{read_call}
 use Rattle.qcow2_image.proofs.Call.OnceWritten.{fails_none, fails_once}
 use Rattle.qcow2_image.proofs.Call.BehindHeader.{behind_call}
 use Rattle.std.specs.Prelude.{IfErr}
@@ -59,9 +58,6 @@ returns-clause-outdated g c = λ out sound is whole.
 
 pub returns-clause-faults : goal.returns-clause-faults
 returns-clause-faults g c = counted_marked g.S.Storage.view g.F.BackingDisk.backing c.args.self.now c.begin.new.self c.read_current-done.new.self c.mark_failure.new.self c.read_current-done.result c.mark_failure.result c.begin.ensures.faults c.read_current-done.ensures.faults c.mark_failure.ensures.answer c.mark_failure.ensures.rest
-
-pub returns-clause-unwritten : goal.returns-clause-unwritten
-returns-clause-unwritten g c = read_call g.S.Storage.view g.F.BackingDisk.backing c.args.self.now c.begin.new.self c.read_current-done.new.self c.mark_failure.new.self (is_failed c.mark_failure.new.self) c.begin.ensures.storage c.begin.ensures.keeps c.begin.ensures.known c.read_current-done.ensures.unwritten c.mark_failure.ensures.rest
 
 pub returns-in_err-check_usable-clause-once_written : goal.returns-in_err-check_usable-clause-once_written
 returns-in_err-check_usable-clause-once_written g c = fails_none g.S.Storage.view c.args.self.now _

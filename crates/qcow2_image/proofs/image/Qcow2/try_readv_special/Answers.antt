@@ -11,7 +11,6 @@ use Rattle.qcow2_image.proofs.Call.Answers.{usable_works}
 use Rattle.qcow2_image.proofs.Call.Called.{told_answers, tells_quietly, quietly_then}
 use Rattle.qcow2_image.proofs.Map.Loading.{if_ok}
 use Rattle.qcow2_image.proofs.Call.FaultCounts.{counted_marked}
-use Rattle.qcow2_image.proofs.Map.Unmodified.{read_call}
 use Rattle.qcow2_image.proofs.Call.Marked.{may_mark}
 use Rattle.qcow2_image.proofs.Call.OnceWritten.{fails_none, fails_once}
 use Rattle.qcow2_image.proofs.Call.BehindHeader.{behind_call}
@@ -49,9 +48,6 @@ returns-clause-tells g c = λ some out sound.
 
 pub returns-clause-faults : goal.returns-clause-faults
 returns-clause-faults g c = counted_marked g.S.Storage.view g.F.BackingDisk.backing c.args.self.now c.begin.new.self c.plain_at-plain.new.self c.mark_failure.new.self c.plain_at-plain.result c.mark_failure.result c.begin.ensures.faults c.plain_at-plain.ensures.faults c.mark_failure.ensures.answer c.mark_failure.ensures.rest
-
-pub returns-clause-unwritten : goal.returns-clause-unwritten
-returns-clause-unwritten g c = read_call g.S.Storage.view g.F.BackingDisk.backing c.args.self.now c.begin.new.self c.plain_at-plain.new.self c.mark_failure.new.self (is_failed c.mark_failure.new.self) c.begin.ensures.storage c.begin.ensures.keeps c.begin.ensures.known c.plain_at-plain.ensures.unwritten c.mark_failure.ensures.rest
 
 pub returns-in_err-check_usable-clause-once_written : goal.returns-in_err-check_usable-clause-once_written
 returns-in_err-check_usable-clause-once_written g c = fails_none g.S.Storage.view c.args.self.now _

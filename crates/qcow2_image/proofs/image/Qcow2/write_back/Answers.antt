@@ -1,4 +1,4 @@
-use Rattle.std.proofs.Common.{◌≡◌, refl, sym, ap, subst}
+use Rattle.std.proofs.Common.{refl, ap}
 use Rattle.qcow2_laws.specs.CrashInvariant.{Pending}
 use Rattle.qcow2_alloc.specs.FreeList.{with_listed}
 use Rattle.qcow2_alloc.specs.ImageFile.{contents_in}
@@ -8,9 +8,6 @@ use Rattle.qcow2_image.proofs.Call.Called.{keeps_then}
 use Rattle.qcow2_image.proofs.Map.Loading.{with_caches, caches_moved, read_moved, all_known}
 use Rattle.qcow2_image.proofs.Flush.Freeing.{frees_any, freeing_step_on}
 use Rattle.qcow2_image.specs.declared.image.Qcow2.{Qcow2}
-use Rattle.qcow2_image.specs.ImageInvariant.{ImageInvariant}
-use Rattle.qcow2_image.specs.Unwritten.{IsOnlyRead, IsUnmodified}
-use Rattle.qcow2_image.proofs.Map.Unmodified.{read_bytes, read_caches, read_same, read_then}
 use Rattle.qcow2_alloc.proofs.KeptMarks.{notes_then, notes_of_both, notes_of_storage}
 use Rattle.qcow2_alloc.proofs.KeptNotes.{read_kept}
 use Rattle.qcow2_image.proofs.Call.BehindHeader.{behind_caches, behind_then, behind_read}
@@ -70,46 +67,6 @@ returns-clause-frees g c = λ p out sound.
 
 pub returns-clause-written : goal.returns-clause-written
 returns-clause-written g c = all_known c.free_listed.new.self.file.header.fields c.flush_all.new.self (contents_in g.S.Storage.view (record c.free_listed.new.self.file { storage = c.flush.new.self })) c.in_ok-flush_all.ensures.written
-
-pub returns-in_err-flush_all-clause-unwritten : goal.returns-in_err-flush_all-clause-unwritten
-returns-in_err-flush_all-clause-unwritten g c = λ reading p out sound clean.
-    let view = g.S.Storage.view in
-    let freed = c.free_listed.new.self in
-    let same : freed ≡ c.args.self.now = c.free_listed.ensures.untouched reading in
-    let there = subst (λ (o : Qcow2 _ _). ImageInvariant view g.F.BackingDisk.backing p o out) (sym same) sound in
-    let h = freed.file.header.fields in
-    let stay = c.flush_all.ensures.keeps h p there.file.honest there.file.caches in
-    let written = read_caches view freed (subst (λ (o : Qcow2 _ _). IsUnmodified view o) (sym same) clean) c.flush_all.new.storage p c.flush_all.new.self stay (c.flush_all.ensures.ordered h p there.file.honest there.file.caches) in
-    subst (λ (o : Qcow2 _ _). IsOnlyRead view o (record freed { file = record freed.file { storage = c.flush_all.new.storage; caches = c.flush_all.new.self } })) same written
-
-pub returns-in_err-flush-clause-unwritten : goal.returns-in_err-flush-clause-unwritten
-returns-in_err-flush-clause-unwritten g c = λ reading p out sound clean.
-    let view = g.S.Storage.view in
-    let freed = c.free_listed.new.self in
-    let same : freed ≡ c.args.self.now = c.free_listed.ensures.untouched reading in
-    let there = subst (λ (o : Qcow2 _ _). ImageInvariant view g.F.BackingDisk.backing p o out) (sym same) sound in
-    let h = freed.file.header.fields in
-    let stay = c.flush_all.ensures.keeps h p there.file.honest there.file.caches in
-    let written = read_caches view freed (subst (λ (o : Qcow2 _ _). IsUnmodified view o) (sym same) clean) c.flush_all.new.storage p c.flush_all.new.self stay (c.flush_all.ensures.ordered h p there.file.honest there.file.caches) in
-    let mid : Qcow2 _ _ = record freed { file = record freed.file { storage = c.flush_all.new.storage; caches = c.flush_all.new.self } } in
-    let last : Qcow2 _ _ = record mid { file = record mid.file { storage = c.flush.new.self } } in
-    subst (λ (o : Qcow2 _ _). IsOnlyRead view o last) same (read_then view written (read_bytes view mid written.unmodified c.flush.new.self c.flush.ensures.calls (c.flush.ensures.same stay.honest)))
-
-pub returns-clause-unwritten : goal.returns-clause-unwritten
-returns-clause-unwritten g c = λ reading p out sound clean.
-    let view = g.S.Storage.view in
-    let freed = c.free_listed.new.self in
-    let same : freed ≡ c.args.self.now = c.free_listed.ensures.untouched reading in
-    let there = subst (λ (o : Qcow2 _ _). ImageInvariant view g.F.BackingDisk.backing p o out) (sym same) sound in
-    let h = freed.file.header.fields in
-    let stay = c.flush_all.ensures.keeps h p there.file.honest there.file.caches in
-    let written = read_caches view freed (subst (λ (o : Qcow2 _ _). IsUnmodified view o) (sym same) clean) c.flush_all.new.storage p c.flush_all.new.self stay (c.flush_all.ensures.ordered h p there.file.honest there.file.caches) in
-    let mid : Qcow2 _ _ = record freed { file = record freed.file { storage = c.flush_all.new.storage; caches = c.flush_all.new.self } } in
-    let last : Qcow2 _ _ = record mid { file = record mid.file { storage = c.flush.new.self } } in
-    subst (λ (o : Qcow2 _ _). IsOnlyRead view o last) same (read_then view written (read_bytes view mid written.unmodified c.flush.new.self c.flush.ensures.calls (c.flush.ensures.same stay.honest)))
-
-pub returns-in_err-free_listed-clause-unwritten : goal.returns-in_err-free_listed-clause-unwritten
-returns-in_err-free_listed-clause-unwritten g c = λ reading p out sound clean. read_same g.S.Storage.view c.args.self.now c.free_listed.new.self (ap (λ (o : Qcow2 _ _). o.file) (c.free_listed.ensures.untouched reading)) clean
 
 pub returns-in_err-free_listed-clause-notes : goal.returns-in_err-free_listed-clause-notes
 returns-in_err-free_listed-clause-notes g c = c.free_listed.ensures.notes
