@@ -27,7 +27,6 @@ pub mod NearPlaces
 pub mod MetRanges
 pub mod MetTaking
 pub mod MetTables
-pub mod FarEntries
 pub mod InUse
 pub mod LowestTables
 pub mod Pinned

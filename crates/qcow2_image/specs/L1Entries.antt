@@ -1,18 +1,12 @@
 -- How many entries the L1 table has, whether it names an L2 table of its own for an offset, and whether 64 bits hold where the entry lies. What refuses a call that needs one past them.
-use Rattle.std.specs.Prelude.{ℕ, ◌+◌, ◌-◌, ◌*◌, ◌≡◌, ◌⊎◌, ◌<◌, ◌≤◌, max, List, Option, None, Result, Err, IsErrAnd}
+use Rattle.std.specs.Prelude.{ℕ, ◌+◌, ◌-◌, ◌*◌, ◌≡◌, ◌⊎◌, ◌<◌, ◌≤◌, max}
 use Rattle.image_access.specs.Backing.{BackingView}
 use Rattle.image_access.specs.Moments.{StorageView}
 use Rattle.qcow2_metadata.specs.declared.header.HeaderFields.{HeaderFields}
 use Rattle.qcow2_metadata.specs.EntryTable.{entry_count, HasRoomIfPlaced}
 use Rattle.qcow2_metadata.specs.TableBytes.{entry_at}
-use Rattle.qcow2_alloc.specs.declared.error.ImageError.{ImageError}
-use Rattle.qcow2_alloc.specs.declared.error.ImageError.TheVariants.{Overflow}
-use Rattle.qcow2_alloc.specs.ImageError.{IsFault}
 use Rattle.qcow2_image.specs.declared.image.Qcow2.{Qcow2}
-use Rattle.qcow2_image.specs.declared.prepared.Prepared.{Prepared}
 use Rattle.qcow2_image.specs.Found.{l1_index_of}
-use Rattle.qcow2_image.specs.Image.{HasNothingToFree, IsBegun}
-use Rattle.qcow2_image.specs.ImageInvariant.{ImageInvariant, abstract_of, pending_in}
 use Rattle.qcow2_image.specs.MetAlone.{KeepsL1Place}
 use Rattle.qcow2_image.specs.UnseenSteps.{NamesOwn}
 
@@ -57,15 +51,3 @@ module _ {S F : Type 0} where
   -- an entry so far would have to be written for an offset
   abbrev pub NeedsFarEntry : Qcow2 S F → ℕ → Type 0
   NeedsFarEntry image offset = HasFarEntry image offset × ¬ HasOwnTable image offset
-
-  module _ (view : S → StorageView) (backing : F → BackingView) where
-    -- Where nothing refuses the call before, and an entry so far would have to be written for an offset: where no cluster is to be freed it is refused 20, and nothing but its beginning changed. Else it frees those that are, and is refused 20, or because a fault or want of memory refused that.
-    abbrev pub RefusesFarEntryFreeing : {A : Type 0} → Option ImageError → ℕ → Qcow2 S F → Qcow2 S F → Result A ImageError → Type 0
-    RefusesFarEntryFreeing early offset old new result = early ≡ None → NeedsFarEntry old offset
-        → (HasNothingToFree old → (result ≡ Err Overflow) × IsBegun old new)
-        × ((out : List (Option Prepared)) → (abstract_of view backing old out).is_sound → IsErrAnd result (λ e. (e ≡ Overflow) ⊎ IsFault e))
-
-    -- so it is of a part of a call: where no cluster is to be freed the image stays as it is
-    pub record IsRefusedAsFar {A : Type 0} (old new : Qcow2 S F) (result : Result A ImageError) : Type 0 where
-      pub idle : HasNothingToFree old → (result ≡ Err Overflow) × (new ≡ old)
-      pub told : (out : List (Option Prepared)) → ImageInvariant view backing (pending_in view backing old out) old out → IsErrAnd result (λ e. (e ≡ Overflow) ⊎ IsFault e)

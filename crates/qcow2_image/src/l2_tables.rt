@@ -55,7 +55,6 @@ impl<S: Storage, F: WrappedFormat<S>> Qcow2<S, F> {
         ensures reaches { (out : List (Option Prepared)) → ImageInvariant S.view F.backing (pending_in S.view F.backing self.old out) self.old out → OnOk result (ReachesOffset offset self.old.file.header.fields self.new.file.header.fields) }
         ensures freed { (out : List (Option Prepared)) → ImageInvariant S.view F.backing (pending_in S.view F.backing self.old out) self.old out → OnOk result (ListsSinceTable offset self.old self.new) }
         ensures freeing { (out : List (Option Prepared)) → ImageInvariant S.view F.backing (pending_in S.view F.backing self.old out) self.old out → OnOk result (ListsNoMore self.old self.new) }
-        ensures far { NeedsFarEntry self.old offset → (result ≡ Err ImageError.Overflow) × (self.new ≡ self.old) }
         ensures own { HasOwnTable self.old offset → FindsOwn self.old self.new offset result }
         ensures faults { CountsImageFaults S.view F.backing self.old self.new result }
     {

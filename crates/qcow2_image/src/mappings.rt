@@ -3,7 +3,7 @@ ghost use Rattle.qcow2_disk.specs.Alike.{AreDataAt};
 ghost use Rattle.qcow2_image.specs.LackedPlaces.{FreesJustListed, LacksData, LacksPlaceFor, LacksRange};
 ghost use Rattle.qcow2_image.specs.BehindHeader.{StaysBehindHeader};
 ghost use Rattle.qcow2_image.specs.PreparedPlaces.{HasBytesBehind, MarkedIsBehind};
-ghost use Rattle.std.specs.Prelude.{◌↔◌, ℕ, List, Option, ◌≡◌, ◌⊎◌, ◌≢◌, ◌+◌, ◌*◌, ◌-◌, ◌/◌, ◌%◌, true, Some, ◌^◌, ◌<◌, ◌≤◌, [], ◌∷◌, ◌++◌, length, slice_get, IfOk, IfErr, IfSome, IsErrAnd, OnOk, IsOk, IsNone, IsSome, IsTrue, IsFalse, MatchOption, MatchResult, Ok, Err, None, false};
+ghost use Rattle.std.specs.Prelude.{◌↔◌, ℕ, List, Option, ◌≡◌, ◌⊎◌, ◌≢◌, ◌+◌, ◌*◌, ◌-◌, ◌/◌, ◌%◌, true, Some, ◌^◌, ◌<◌, ◌≤◌, [], ◌∷◌, ◌++◌, length, slice_get, IfOk, IfErr, IfSome, OnOk, IsOk, IsNone, IsSome, IsTrue, IsFalse, MatchOption, MatchResult, Ok, Err, None, false};
 ghost use Rattle.qcow2_metadata.specs.EntryTable.{entry_count};
 ghost use Rattle.qcow2_image.specs.Backings.{HasPrepared};
 ghost use Rattle.qcow2_image.specs.MetAlone.{CopiesCompressed, KeepsL1Place, IsMetTaking};
@@ -19,7 +19,7 @@ ghost use Rattle.qcow2_alloc.specs.KeptMarks.{KeepsFileNotes};
 ghost use Rattle.qcow2_alloc.specs.KeptNotes.{NoData};
 ghost use Rattle.qcow2_image.specs.Noted.{CommitFailsOnceWritten, FailsOnceWritten, DataUnlessExisting};
 ghost use Rattle.qcow2_alloc.specs.ImageFile.{known_in, FileInvariant, KeepsHeader};
-ghost use Rattle.qcow2_image.specs.L1Entries.{HasOwnTable, IsRefusedAsFar, NeedsFarEntry, RefusesFarEntryFreeing, ReachesAtMost};
+ghost use Rattle.qcow2_image.specs.L1Entries.{HasOwnTable, NeedsFarEntry, ReachesAtMost};
 ghost use Rattle.qcow2_image.specs.ListedClusters.{ListsFormer, PreparesList, PreparesTable, ListStays, ListsNoMore};
 ghost use Rattle.qcow2_image.specs.PinnedTables.{PreparesUnpinned, own_table};
 ghost use Rattle.qcow2_alloc.specs.ImageStorage.{storage_of};
@@ -174,8 +174,6 @@ impl<S: Storage, F: WrappedFormat<S>> Qcow2<S, F> {
         ensures listed { refuses_to_prepare self.old offset length ≡ None → 0 < length → (out : List (Option Prepared)) → (abstract_of S.view F.backing self.old out).is_sound → PreparesList offset self.old self.new result }
         ensures freeing { (out : List (Option Prepared)) → (abstract_of S.view F.backing self.old out).is_sound → IfOk result (λ p. IsNone (table_of p) → ListsNoMore self.old self.new) }
         ensures maps { 0 < length → (out : List (Option Prepared)) → (abstract_of S.view F.backing self.old out).is_sound → IfOk result (λ p. IsAnswered self.old.file.header.fields (known_in S.view self.old.file) offset length self.new.file.header.fields (known_in S.view self.new.file) p (meaning S.view F.backing self.new p)) }
-        ensures far { 0 < length → RefusesFarEntryFreeing S.view F.backing (refuses_to_prepare self.old offset length) offset self.old self.new result }
-        ensures far_refused { 0 < length → refuses_to_prepare self.old offset length ≡ None → NeedsFarEntry self.old offset → IsErrAnd result (λ e. (e ≡ ImageError.Overflow) ⊎ IsOfTables e) }
         ensures pinned { 0 < length → refuses_to_prepare self.old offset length ≡ None → HasOwnTable self.old offset → PreparesUnpinned self.old offset result }
         ensures once_written { FailsOnceWritten S.view self.old self.new result }
         ensures no_longer { ReachesAtMost offset self.old self.new }
@@ -248,8 +246,6 @@ impl<S: Storage, F: WrappedFormat<S>> Qcow2<S, F> {
         ensures answers { 0 < length → (out : List (Option Prepared)) → ImageInvariant S.view F.backing (pending_in S.view F.backing self.old out) self.old out → IfOk result (λ q. IsAnswered self.old.file.header.fields (known_in S.view self.old.file) offset length self.new.file.header.fields (known_in S.view self.new.file) q (meaning S.view F.backing self.new q)) }
         ensures listed { 0 < length → (out : List (Option Prepared)) → ImageInvariant S.view F.backing (pending_in S.view F.backing self.old out) self.old out → PreparesList offset self.old self.new result }
         ensures freeing { 0 < length → (out : List (Option Prepared)) → ImageInvariant S.view F.backing (pending_in S.view F.backing self.old out) self.old out → IfOk result (λ p. IsNone (table_of p) → ListsNoMore self.old self.new) }
-        ensures far { NeedsFarEntry self.old offset → IsRefusedAsFar S.view F.backing self.old self.new result }
-        ensures far_refused { NeedsFarEntry self.old offset → IsErrAnd result (λ e. (e ≡ ImageError.Overflow) ⊎ IsOfTables e) }
         ensures pinned { HasOwnTable self.old offset → PreparesUnpinned self.old offset result }
         ensures faults { CountsImageFaults S.view F.backing self.old self.new result }
     {
@@ -282,7 +278,6 @@ impl<S: Storage, F: WrappedFormat<S>> Qcow2<S, F> {
         ensures answers { 0 < length → (out : List (Option Prepared)) → ImageInvariant S.view F.backing (pending_in S.view F.backing self.old out) self.old out → IfOk result (λ q. IsAnswered self.old.file.header.fields (known_in S.view self.old.file) offset length self.new.file.header.fields (known_in S.view self.new.file) q (meaning S.view F.backing self.new q)) }
         ensures tables { (out : List (Option Prepared)) → ImageInvariant S.view F.backing (pending_in S.view F.backing self.old out) self.old out → OnOk result (PreparesTable offset self.old self.new) }
         ensures freeing { 0 < length → (out : List (Option Prepared)) → ImageInvariant S.view F.backing (pending_in S.view F.backing self.old out) self.old out → IfOk result (λ p. IsNone (table_of p) → ListsNoMore self.old self.new) }
-        ensures far { NeedsFarEntry self.old offset → (result ≡ Err ImageError.Overflow) × (self.new ≡ self.old) }
         ensures pinned { HasOwnTable self.old offset → PreparesUnpinned self.old offset result }
         ensures faults { CountsImageFaults S.view F.backing self.old self.new result }
     {

@@ -9,7 +9,6 @@ use Rattle.qcow2_metadata.specs.Header.{cluster_size}
 use Rattle.qcow2_disk.specs.Found.{rest_of_table}
 use Rattle.qcow2_alloc.specs.ImageFile.{known_in}
 use Rattle.qcow2_image.specs.Found.{l1_index_of}
-use Rattle.qcow2_image.specs.L1Entries.{NeedsFarEntry}
 use Rattle.qcow2_image.specs.Preparing.{IsTaken}
 use Rattle.qcow2_image.specs.declared.image.Qcow2.{Qcow2}
 use Rattle.qcow2_image.specs.declared.prepared.Prepared.{Prepared}
@@ -41,7 +40,6 @@ module _ {S F : Type 0} (view : S → StorageView) (backing : F → BackingView)
               let known = known_in view before.file in
               let all = subst (λ n. IsTaken before.file.header.fields known (offset + done) n out) (sym rest) taken in
               first.1 (subst (λ k. IsTaken before.file.header.fields known k (length (drop done bytes)) out) (sym there) all);
-          near = λ far. first.2 (subst (λ k. NeedsFarEntry before k) (sym there) far);
         }
   ]
 

@@ -134,7 +134,7 @@ module _ {S F : Type 0} (view : S → StorageView) (backing : F → BackingView)
 
   -- For a byte of a write there is a place where a part begins, at the byte or in front of it, under the same L2 table. There is an image `before` that part: the bytes in front of it are written there, and nothing else of the disk changed.
   -- Where the part is the first, it is the image that the write began with.
-  -- No other mapping kept that table then, unless the rest could all be written where it is. No L1 entry past 64 bits had to be written.
+  -- No other mapping kept that table then, unless the rest could all be written where it is.
   pub record IsHeededAt (out : List (Option Prepared)) (offset : ℕ) (bytes : List ℕ) (i : ℕ) : Type 0 where
     pub from : ℕ
     pub low : from ≤ i
@@ -143,7 +143,6 @@ module _ {S F : Type 0} (view : S → StorageView) (backing : F → BackingView)
     pub written : Writes view backing old before offset (take from bytes) (Ok tt)
     pub begun : from ≡ 0 → before ≡ old
     pub untaken : ¬ IsTaken before.file.header.fields (known_in view before.file) (offset + from) (length bytes - from) out
-    pub near : ¬ NeedsFarEntry before (offset + from)
 
   -- Each byte that is told as written was written so. A write is refused 9 only where another mapping refuses the rest.
   abbrev pub HeedsMappings : List (Option Prepared) → (offset : ℕ) → List ℕ → Result (Unit {0}) (ImageError × ℕ) → Type 0
@@ -152,7 +151,7 @@ module _ {S F : Type 0} (view : S → StorageView) (backing : F → BackingView)
 
   -- so it is of the first part, which lies under one L2 table
   abbrev pub HeedsFirst : List (Option Prepared) → (offset n : ℕ) → Result ℕ ImageError → Type 0
-  HeedsFirst out offset n (Ok count) = 0 < n → (count ≤ rest_of_table old.file.header.fields offset) × (¬ IsTaken old.file.header.fields (known_in view old.file) offset n out) × (¬ NeedsFarEntry old offset)
+  HeedsFirst out offset n (Ok count) = 0 < n → (count ≤ rest_of_table old.file.header.fields offset) × (¬ IsTaken old.file.header.fields (known_in view old.file) offset n out)
   HeedsFirst out offset n (Err e) = e ≡ TablePrepared → (0 < n) × IsTaken old.file.header.fields (known_in view old.file) offset n out
 
 module _ {S F : Type 0} (view : S → StorageView) (backing : F → BackingView) (old new : Qcow2 S F) where

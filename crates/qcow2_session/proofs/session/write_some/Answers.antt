@@ -254,7 +254,6 @@ returns-in-Ok-clause-taken g c = λ none out sound some.
     let within = maps.within in (
       omega (arith, count_is, within),
       untaken_beside view below old.file.header.fields (known_in view old.file) mid out p (meaning view below mid p) c.args.offset n prepared.0 same prepared.1.0.from maps,
-      λ far. c.in_ok-prepared.ensures.far_refused some none far,
     )
 
 pub returns-in-Err-clause-taken : goal.returns-in-Err-clause-taken

@@ -1,12 +1,11 @@
 use Rattle.qcow2_image.proofs.image.Qcow2.clear_between.Goals as goal
-use Rattle.std.proofs.Common.{subst, sym, refl, inl, ◌∙◌, inr, ap}
+use Rattle.std.proofs.Common.{subst, sym, refl, inl, ap}
 use Rattle.std.specs.Prelude.{IsTrue}
 use Rattle.qcow2_alloc.proofs.KeptMarks.{notes_then}
 use Rattle.qcow2_image.proofs.Call.BehindHeader.{behind_then}
 use Rattle.qcow2_image.proofs.Call.FaultCounts.{counted_as, counted_of, untouched}
 use Rattle.qcow2_image.proofs.Call.FreedBehind.{lacking_freed, refused_freed}
 use Rattle.qcow2_image.proofs.Call.Refused.{back_then_freed}
-use Rattle.qcow2_image.proofs.Prepare.FarEntries.{far_refusal, far_then_freed, far_unanswered}
 use Rattle.qcow2_image.proofs.Prepare.Lacked.{lacks_freed, limited_frees}
 use Rattle.qcow2_image.proofs.Prepare.MetTables.{met_freed}
 use Rattle.qcow2_image.specs.L1Entries.{NeedsFarEntry}
@@ -50,14 +49,6 @@ returns-in-Err-clause-faults g c =
     counted_of view below old c.free_after.new.self c.free_after.result
     (c.free_after.ensures.faults old (counted_as view below old old c.clear_in_table.new.self c.clear_in_table.result c.in-Err.refusal (untouched view below old old refl refl) c.clear_in_table.ensures.faults c.in-Err.is))
 
-pub returns-in-Ok-clause-far : goal.returns-in-Ok-clause-far
-returns-in-Ok-clause-far g c = λ needs. absurd (far_unanswered c.clear_in_table.result c.in-Ok.field-0 c.in-Ok.is (c.clear_in_table.ensures.far needs).0)
-
-pub returns-in-Err-clause-far : goal.returns-in-Err-clause-far
-returns-in-Err-clause-far g c = λ needs.
-    let far = c.clear_in_table.ensures.far needs in
-    far_then_freed g.S.Storage.view g.F.BackingDisk.backing c.args.self.now c.clear_in_table.new.self c.free_after.new.self c.in-Err.refusal c.free_after.result (far_refusal c.clear_in_table.result c.in-Err.refusal c.in-Err.is far.0) far.1 c.free_after.ensures.idle c.free_after.ensures.told
-
 pub returns-in-Ok-clause-notes : goal.returns-in-Ok-clause-notes
 returns-in-Ok-clause-notes g c = c.clear_in_table.ensures.notes
 
@@ -96,15 +87,6 @@ returns-in-Ok-clause-no_longer g c = c.clear_in_table.ensures.no_longer
 
 pub returns-in-Err-clause-no_longer : goal.returns-in-Err-clause-no_longer
 returns-in-Err-clause-no_longer g c = length_then c.clear_in_table.ensures.no_longer (ap (λ (v : HeaderView). v.fields.l1_entries) c.free_after.ensures.keeps_rest.header)
-
-pub returns-in-Ok-clause-far_refused : goal.returns-in-Ok-clause-far_refused
-returns-in-Ok-clause-far_refused g c = λ needs. absurd (far_unanswered c.clear_in_table.result c.in-Ok.field-0 c.in-Ok.is (c.clear_in_table.ensures.far needs).0)
-
-pub returns-in-Err-clause-far_refused : goal.returns-in-Err-clause-far_refused
-returns-in-Err-clause-far_refused g c = λ needs. elim c.free_after.ensures.handed [
-  | inl still ↦ inl (still ∙ far_refusal c.clear_in_table.result c.in-Err.refusal c.in-Err.is (c.clear_in_table.ensures.far needs).0)
-  | inr met ↦ inr met
-]
 
 pub returns-in-Ok-clause-gave : goal.returns-in-Ok-clause-gave
 returns-in-Ok-clause-gave g c = λ out sound. c.in-Ok.ensures.gave out sound

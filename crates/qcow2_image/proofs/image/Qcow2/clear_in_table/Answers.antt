@@ -10,7 +10,6 @@ use Rattle.qcow2_image.proofs.Clear.Between.{clears_between, no_pins, pinned_und
 use Rattle.std.specs.Prelude.{IfErr}
 use Rattle.qcow2_image.specs.NewTables.{IsFaultOrLacksTable}
 use Rattle.qcow2_image.proofs.Backings.{some_prepared}
-use Rattle.qcow2_image.proofs.Prepare.FarEntries.{far_handed_on, far_unanswered}
 use Rattle.qcow2_alloc.proofs.KeptMarks.{notes_then}
 use Rattle.qcow2_image.proofs.Call.Notes.{table_kept}
 use Rattle.qcow2_image.proofs.Call.BehindHeader.{behind_by, behind_tables, behind_then}
@@ -87,18 +86,6 @@ returns-then-l2_is_pinned-clause-lacks g c = λ out sound whole none.
 
 pub returns-clause-reaches : goal.returns-clause-reaches
 returns-clause-reaches g c = λ out sound. ap (λ (i : Qcow2 _ _). i.file.header.fields.l1_entries) c.clear_entries.ensures.clears.rest ∙ c.in_ok-table.ensures.reaches out sound
-
-pub returns-in_err-table-clause-far : goal.returns-in_err-table-clause-far
-returns-in_err-table-clause-far g c = λ needs. far_handed_on c.table_for.result c.in_err-table.field-0.0 c.from_residual.result c.in_err-table.was (c.table_for.ensures.far needs) c.from_residual.ensures
-
-pub returns-then-l2_is_pinned-clause-far : goal.returns-then-l2_is_pinned-clause-far
-returns-then-l2_is_pinned-clause-far g c = λ needs. absurd (far_unanswered c.table_for.result c.in_ok-table.table c.in_ok-table.was (c.table_for.ensures.far needs).0)
-
-pub returns-in_err-old_data-clause-far : goal.returns-in_err-old_data-clause-far
-returns-in_err-old_data-clause-far g c = λ needs. absurd (far_unanswered c.table_for.result c.in_ok-table.table c.in_ok-table.was (c.table_for.ensures.far needs).0)
-
-pub returns-clause-far : goal.returns-clause-far
-returns-clause-far g c = λ needs. absurd (far_unanswered c.table_for.result c.in_ok-table.table c.in_ok-table.was (c.table_for.ensures.far needs).0)
 
 pub returns-in_err-table-clause-notes : goal.returns-in_err-table-clause-notes
 returns-in_err-table-clause-notes g c = c.table_for.ensures.notes

@@ -4,8 +4,8 @@ use Rattle.std.proofs.lemmas.Bool.{or_right}
 use Rattle.qcow2_image.specs.Noted.{FailsOnceWritten}
 use Rattle.qcow2_image.proofs.Call.OnceWritten.{answered_counts, counts_begun, fails_marked, fails_none, fails_once, kept_noted, notes_begun, notes_part, notes_since, part_none}
 use Rattle.std.proofs.Common.{◌≡◌, ◌<◌, ◌+◌, ◌-◌, ℕ, min, sym, ap, ◌∙◌, subst, arith, inl, refl}
-use Rattle.std.specs.Prelude.{None, Some, Ok, Err, IfErr, IfOk, IsTrue, OnOk, Result, IsErrAnd, ◌⊎◌}
-use Rattle.qcow2_alloc.specs.declared.error.ImageError.TheVariants.{Memory, TablePrepared, Limit, Overflow}
+use Rattle.std.specs.Prelude.{None, Some, Ok, Err, IfErr, IfOk, IsTrue, OnOk, Result}
+use Rattle.qcow2_alloc.specs.declared.error.ImageError.TheVariants.{Memory, TablePrepared, Limit}
 use Rattle.qcow2_image.specs.Backings.{HasPrepared}
 use Rattle.qcow2_image.specs.NewTables.{IsFaultOrLacksTable}
 use Rattle.qcow2_image.specs.CallParts.{EndsFreeing, UnseenCall}
@@ -13,7 +13,7 @@ use Rattle.qcow2_image.specs.Clearing.{Clears, ClearsOrRefuses, ClearsPart, IsUn
 use Rattle.qcow2_image.specs.declared.image.Qcow2.{Qcow2}
 use Rattle.qcow2_image.specs.Image.{is_failed, has_noted_change}
 use Rattle.qcow2_image.specs.ImageInvariant.{ImageInvariant, pending_in}
-use Rattle.qcow2_image.specs.L1Entries.{IsRefusedAsFar, NeedsFarEntry, ReachesOffset, HasOwnTable, ReachesAtMost}
+use Rattle.qcow2_image.specs.L1Entries.{NeedsFarEntry, ReachesOffset, HasOwnTable, ReachesAtMost}
 use Rattle.qcow2_image.specs.Refusals.{FreesRefused}
 use Rattle.qcow2_image.proofs.Call.Marked.{MayMarkBy, marks_memory, may_mark, may_mark_refused}
 use Rattle.qcow2_image.proofs.Call.Called.{Quietly}
@@ -22,7 +22,6 @@ use Rattle.qcow2_image.proofs.Call.CallOutcomes.{is_fault, outcome}
 use Rattle.qcow2_image.proofs.Sizing.Shrinking.{fault_of}
 use Rattle.qcow2_image.proofs.Clear.ClearCalls.{begins, clear_interruption, clear_covers, clear_done, clear_refused, clear_works, clears_early, clears_nothing, err_is, fault_interruption, if_some, not_refused, refused_for, under_after, under_before, ungiven_interruption, ungiven_early, ungiven_refused, whole_in}
 use Rattle.qcow2_image.proofs.Call.FaultCounts.{same_of, counted_marked, counted_ok, counted_on, faults_then, untouched}
-use Rattle.qcow2_image.proofs.Prepare.FarEntries.{far_call_answered, far_call_on, far_prepared, far_begun}
 use Rattle.qcow2_alloc.proofs.KeptMarks.{notes_then}
 use Rattle.qcow2_image.proofs.Call.Notes.{same_kept}
 use Rattle.qcow2_alloc.proofs.AllocationSteps.{handed_on}
@@ -38,7 +37,6 @@ use Rattle.qcow2_image.proofs.Call.Unlimited.{fault_unlimited}
 use Rattle.qcow2_image.specs.MetAlone.{IsMetTaking}
 use Rattle.qcow2_image.proofs.Prepare.MetTables.{far_before}
 use Rattle.qcow2_image.proofs.Prepare.MetTaking.{taking_as}
-use Rattle.qcow2_alloc.specs.ImageError.{IsOfTables}
 use Rattle.qcow2_image.proofs.Grow.NoLonger.{length_then, reaches_behind}
 use Rattle.qcow2_metadata.specs.Header.{HeaderView}
 
@@ -334,72 +332,6 @@ returns-clause-reaches g c = λ lt out sound.
     let reached = subst (λ (r : Result _ _). OnOk r (ReachesOffset c.in_ok-from.from begun.file.header.fields entries.file.header.fields)) done (c.clear_between-cleared.ensures.reaches out began.sound) in
     same_length entries.file.header c.end_freeing.new.self.file.header (c.end_freeing.ensures.header ∙ ap (λ (i : Qcow2 _ _). i.file.header) c.mark_failure.ensures.rest)
     ∙ reaches_begun old.file.header.fields begun.file.header.fields entries.file.header.fields (from_in old c.args.offset c.args.length) step.unseen.header (subst (λ n. ReachesOffset n begun.file.header.fields entries.file.header.fields) from reached)
-
-pub returns-in_err-from-clause-far : goal.returns-in_err-from-clause-far
-returns-in_err-from-clause-far g c = λ some none needs.
-    let old = c.args.self.now in
-    let refused = refused_for c.check_clear.result _ (refuses_to_clear old c.args.offset c.args.length c.args.how) c.in_err-from.field-0.0 c.check_clear.ensures.refusal c.in_err-from.was in
-    absurd (let no : None ≡ Some c.in_err-from.field-0.0 = sym none ∙ refused in cc)
-
-pub returns-then-to-from-clause-far : goal.returns-then-to-from-clause-far
-returns-then-to-from-clause-far g c = λ some none needs.
-    let old = c.args.self.now in
-    let range = not_refused c.check_clear.result _ (refuses_to_clear old c.args.offset c.args.length c.args.how) (c.in_ok-from.from, c.in_ok-from.to) c.check_clear.ensures.refusal c.in_ok-from.was in
-    let from : c.in_ok-from.from ≡ from_in c.args.self.now c.args.offset c.args.length = ap (λ (r : ℕ × ℕ). r.0) range.1 in
-    let to : c.in_ok-from.to ≡ to_in c.args.self.now c.args.offset c.args.length = ap (λ (r : ℕ × ℕ). r.1) range.1 in
-    absurd (omega (arith, c.if-to-from.true, from, to, some))
-
-pub returns-in_err-mark_failure-clause-far : goal.returns-in_err-mark_failure-clause-far
-returns-in_err-mark_failure-clause-far g c = λ some.
-    let view = g.S.Storage.view in
-    let below = g.F.BackingDisk.backing in
-    let old = c.args.self.now in
-    let begun = c.begin.new.self in
-    let entries = c.clear_between-cleared.new.self in
-    let range = not_refused c.check_clear.result _ (refuses_to_clear old c.args.offset c.args.length c.args.how) (c.in_ok-from.from, c.in_ok-from.to) c.check_clear.ensures.refusal c.in_ok-from.was in
-    let from : c.in_ok-from.from ≡ from_in c.args.self.now c.args.offset c.args.length = ap (λ (r : ℕ × ℕ). r.0) range.1 in
-    let early = refuses_to_clear old c.args.offset c.args.length c.args.how in
-    let at = from_in old c.args.offset c.args.length in
-    let still : (out : _) → ImageInvariant view below (pending_in view below old out) old out → ImageInvariant view below (pending_in view below c.begin.new.self out) c.begin.new.self out = λ out sound.
-    (begins view below old c.args.how c.args.offset c.args.length (clear_works old c.args.offset c.args.length c.args.how range.0) begun entries (λ out sound. record { keeps = c.begin.ensures.keeps (pending_in view below old out) out sound; list = c.begin.ensures.list }) out sound).sound in
-    let far = subst (λ n. NeedsFarEntry begun n → IsRefusedAsFar view below begun entries c.clear_between-cleared.result) from c.clear_between-cleared.ensures.far in
-    far_call_on view below early at old c.mark_failure.new.self c.mark_failure.result c.in_err-mark_failure.field-0.0 c.from_residual-in_err-mark_failure.result c.in_err-mark_failure.was
-    (far_prepared view below early at old begun entries c.mark_failure.new.self c.clear_between-cleared.result c.mark_failure.result c.begin.ensures.begun still far c.mark_failure.ensures.answer c.mark_failure.ensures.marks c.mark_failure.ensures.rest)
-    c.from_residual-in_err-mark_failure.ensures
-
-pub returns-in_err-end_freeing-clause-far : goal.returns-in_err-end_freeing-clause-far
-returns-in_err-end_freeing-clause-far g c = λ some.
-    let view = g.S.Storage.view in
-    let below = g.F.BackingDisk.backing in
-    let old = c.args.self.now in
-    let begun = c.begin.new.self in
-    let entries = c.clear_between-cleared.new.self in
-    let range = not_refused c.check_clear.result _ (refuses_to_clear old c.args.offset c.args.length c.args.how) (c.in_ok-from.from, c.in_ok-from.to) c.check_clear.ensures.refusal c.in_ok-from.was in
-    let from : c.in_ok-from.from ≡ from_in c.args.self.now c.args.offset c.args.length = ap (λ (r : ℕ × ℕ). r.0) range.1 in
-    let early = refuses_to_clear old c.args.offset c.args.length c.args.how in
-    let at = from_in old c.args.offset c.args.length in
-    let still : (out : _) → ImageInvariant view below (pending_in view below old out) old out → ImageInvariant view below (pending_in view below c.begin.new.self out) c.begin.new.self out = λ out sound.
-    (begins view below old c.args.how c.args.offset c.args.length (clear_works old c.args.offset c.args.length c.args.how range.0) begun entries (λ out sound. record { keeps = c.begin.ensures.keeps (pending_in view below old out) out sound; list = c.begin.ensures.list }) out sound).sound in
-    let far = subst (λ n. NeedsFarEntry begun n → IsRefusedAsFar view below begun entries c.clear_between-cleared.result) from c.clear_between-cleared.ensures.far in
-    let done : c.clear_between-cleared.result ≡ Ok c.in_ok-mark_failure.field-0 = sym c.mark_failure.ensures.answer ∙ c.in_ok-mark_failure.was in
-    far_call_answered view below early at old begun entries c.end_freeing.new.self c.clear_between-cleared.result c.in_ok-mark_failure.field-0 c.from_residual-in_err-end_freeing.result done c.begin.ensures.begun still far
-
-pub returns-clause-far : goal.returns-clause-far
-returns-clause-far g c = λ some.
-    let view = g.S.Storage.view in
-    let below = g.F.BackingDisk.backing in
-    let old = c.args.self.now in
-    let begun = c.begin.new.self in
-    let entries = c.clear_between-cleared.new.self in
-    let range = not_refused c.check_clear.result _ (refuses_to_clear old c.args.offset c.args.length c.args.how) (c.in_ok-from.from, c.in_ok-from.to) c.check_clear.ensures.refusal c.in_ok-from.was in
-    let from : c.in_ok-from.from ≡ from_in c.args.self.now c.args.offset c.args.length = ap (λ (r : ℕ × ℕ). r.0) range.1 in
-    let early = refuses_to_clear old c.args.offset c.args.length c.args.how in
-    let at = from_in old c.args.offset c.args.length in
-    let still : (out : _) → ImageInvariant view below (pending_in view below old out) old out → ImageInvariant view below (pending_in view below c.begin.new.self out) c.begin.new.self out = λ out sound.
-    (begins view below old c.args.how c.args.offset c.args.length (clear_works old c.args.offset c.args.length c.args.how range.0) begun entries (λ out sound. record { keeps = c.begin.ensures.keeps (pending_in view below old out) out sound; list = c.begin.ensures.list }) out sound).sound in
-    let far = subst (λ n. NeedsFarEntry begun n → IsRefusedAsFar view below begun entries c.clear_between-cleared.result) from c.clear_between-cleared.ensures.far in
-    let done : c.clear_between-cleared.result ≡ Ok c.in_ok-mark_failure.field-0 = sym c.mark_failure.ensures.answer ∙ c.in_ok-mark_failure.was in
-    far_call_answered view below early at old begun entries c.end_freeing.new.self c.clear_between-cleared.result c.in_ok-mark_failure.field-0 _ done c.begin.ensures.begun still far
 
 pub returns-in_err-from-clause-since : goal.returns-in_err-from-clause-since
 returns-in_err-from-clause-since g c = part_none g.S.Storage.view c.args.self.now
@@ -716,42 +648,3 @@ returns-clause-no_longer g c =
     let range = not_refused c.check_clear.result _ (refuses_to_clear old c.args.offset c.args.length c.args.how) (c.in_ok-from.from, c.in_ok-from.to) c.check_clear.ensures.refusal c.in_ok-from.was in
     let from : c.in_ok-from.from ≡ from_in c.args.self.now c.args.offset c.args.length = ap (λ (r : ℕ × ℕ). r.0) range.1 in
     length_then (length_then (reaches_behind (from_in old c.args.offset c.args.length) old c.begin.new.self c.clear_between-cleared.new.self (ap (λ (i : Qcow2 _ _). i.file.header) c.begin.ensures.rest) (ap (λ (i : Qcow2 _ _). i.l1_table) c.begin.ensures.rest) (subst (λ n. ReachesAtMost n c.begin.new.self c.clear_between-cleared.new.self) from c.clear_between-cleared.ensures.no_longer)) (ap (λ (v : HeaderView). v.fields.l1_entries) (ap (λ (i : Qcow2 _ _). i.file.header) c.mark_failure.ensures.rest))) (ap (λ (v : HeaderView). v.fields.l1_entries) c.end_freeing.ensures.header)
-
-pub returns-in_err-from-clause-far_refused : goal.returns-in_err-from-clause-far_refused
-returns-in_err-from-clause-far_refused g c = λ some none needs.
-    let old = c.args.self.now in
-    let refused = refused_for c.check_clear.result _ (refuses_to_clear old c.args.offset c.args.length c.args.how) c.in_err-from.field-0.0 c.check_clear.ensures.refusal c.in_err-from.was in
-    absurd (let no : None ≡ Some c.in_err-from.field-0.0 = sym none ∙ refused in cc)
-
-pub returns-then-to-from-clause-far_refused : goal.returns-then-to-from-clause-far_refused
-returns-then-to-from-clause-far_refused g c = λ some none needs.
-    let old = c.args.self.now in
-    let range = not_refused c.check_clear.result _ (refuses_to_clear old c.args.offset c.args.length c.args.how) (c.in_ok-from.from, c.in_ok-from.to) c.check_clear.ensures.refusal c.in_ok-from.was in
-    let from : c.in_ok-from.from ≡ from_in c.args.self.now c.args.offset c.args.length = ap (λ (r : ℕ × ℕ). r.0) range.1 in
-    let to : c.in_ok-from.to ≡ to_in c.args.self.now c.args.offset c.args.length = ap (λ (r : ℕ × ℕ). r.1) range.1 in
-    absurd (omega (arith, c.if-to-from.true, from, to, some))
-
-pub returns-in_err-mark_failure-clause-far_refused : goal.returns-in_err-mark_failure-clause-far_refused
-returns-in_err-mark_failure-clause-far_refused g c = λ some none needs.
-    let old = c.args.self.now in
-    let range = not_refused c.check_clear.result _ (refuses_to_clear old c.args.offset c.args.length c.args.how) (c.in_ok-from.from, c.in_ok-from.to) c.check_clear.ensures.refusal c.in_ok-from.was in
-    let from : c.in_ok-from.from ≡ from_in c.args.self.now c.args.offset c.args.length = ap (λ (r : ℕ × ℕ). r.0) range.1 in
-    let refused = (subst (λ n. NeedsFarEntry c.begin.new.self n → IsErrAnd c.clear_between-cleared.result (λ e. (e ≡ Overflow) ⊎ IsOfTables e)) from c.clear_between-cleared.ensures.far_refused) (far_begun old c.begin.new.self (from_in old c.args.offset c.args.length) (from_in old c.args.offset c.args.length) refl c.begin.ensures.begun needs) in
-    handed_on (λ r. IsErrAnd r (λ e. (e ≡ Overflow) ⊎ IsOfTables e)) c.from_residual-in_err-mark_failure.result c.in_err-mark_failure.field-0.0 c.from_residual-in_err-mark_failure.ensures
-    (subst (λ (r : Result _ _). IsErrAnd r (λ e. (e ≡ Overflow) ⊎ IsOfTables e)) (sym c.mark_failure.ensures.answer ∙ c.in_err-mark_failure.was) refused)
-
-pub returns-in_err-end_freeing-clause-far_refused : goal.returns-in_err-end_freeing-clause-far_refused
-returns-in_err-end_freeing-clause-far_refused g c = λ some none needs.
-    let old = c.args.self.now in
-    let range = not_refused c.check_clear.result _ (refuses_to_clear old c.args.offset c.args.length c.args.how) (c.in_ok-from.from, c.in_ok-from.to) c.check_clear.ensures.refusal c.in_ok-from.was in
-    let from : c.in_ok-from.from ≡ from_in c.args.self.now c.args.offset c.args.length = ap (λ (r : ℕ × ℕ). r.0) range.1 in
-    let refused = (subst (λ n. NeedsFarEntry c.begin.new.self n → IsErrAnd c.clear_between-cleared.result (λ e. (e ≡ Overflow) ⊎ IsOfTables e)) from c.clear_between-cleared.ensures.far_refused) (far_begun old c.begin.new.self (from_in old c.args.offset c.args.length) (from_in old c.args.offset c.args.length) refl c.begin.ensures.begun needs) in
-    absurd (subst (λ (r : Result _ _). IsErrAnd r (λ e. (e ≡ Overflow) ⊎ IsOfTables e)) (sym c.mark_failure.ensures.answer ∙ c.in_ok-mark_failure.was) refused)
-
-pub returns-clause-far_refused : goal.returns-clause-far_refused
-returns-clause-far_refused g c = λ some none needs.
-    let old = c.args.self.now in
-    let range = not_refused c.check_clear.result _ (refuses_to_clear old c.args.offset c.args.length c.args.how) (c.in_ok-from.from, c.in_ok-from.to) c.check_clear.ensures.refusal c.in_ok-from.was in
-    let from : c.in_ok-from.from ≡ from_in c.args.self.now c.args.offset c.args.length = ap (λ (r : ℕ × ℕ). r.0) range.1 in
-    let refused = (subst (λ n. NeedsFarEntry c.begin.new.self n → IsErrAnd c.clear_between-cleared.result (λ e. (e ≡ Overflow) ⊎ IsOfTables e)) from c.clear_between-cleared.ensures.far_refused) (far_begun old c.begin.new.self (from_in old c.args.offset c.args.length) (from_in old c.args.offset c.args.length) refl c.begin.ensures.begun needs) in
-    absurd (subst (λ (r : Result _ _). IsErrAnd r (λ e. (e ≡ Overflow) ⊎ IsOfTables e)) (sym c.mark_failure.ensures.answer ∙ c.in_ok-mark_failure.was) refused)

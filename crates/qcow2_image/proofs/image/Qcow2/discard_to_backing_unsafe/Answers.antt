@@ -1,8 +1,5 @@
 use Rattle.qcow2_image.proofs.image.Qcow2.discard_to_backing_unsafe.Goals as goal
 
-pub returns-clause-far : goal.returns-clause-far
-returns-clause-far g c = c.clear_range.ensures.far
-
 pub returns-clause-early : goal.returns-clause-early
 returns-clause-early g c = c.clear_range.ensures.early
 
@@ -59,6 +56,3 @@ returns-clause-refused g c = c.clear_range.ensures.refused
 
 pub returns-clause-no_longer : goal.returns-clause-no_longer
 returns-clause-no_longer g c = c.clear_range.ensures.no_longer
-
-pub returns-clause-far_refused : goal.returns-clause-far_refused
-returns-clause-far_refused g c = c.clear_range.ensures.far_refused

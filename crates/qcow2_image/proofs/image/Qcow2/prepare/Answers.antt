@@ -1,10 +1,9 @@
 use Rattle.qcow2_image.proofs.image.Qcow2.prepare.Goals as goal
-use Rattle.std.proofs.Common.{⊎_elim, inl, inr, ◌∙◌, refl, sym, subst, ap}
+use Rattle.std.proofs.Common.{⊎_elim, inl, refl, sym, subst, ap}
 use Rattle.std.specs.Prelude.{IsTrue}
 use Rattle.qcow2_alloc.specs.ImageError.{IsFault}
 use Rattle.qcow2_image.proofs.Call.Refused.{back_then_freed}
 use Rattle.qcow2_image.proofs.Call.FaultCounts.{counted_as, counted_of, untouched}
-use Rattle.qcow2_image.proofs.Prepare.FarEntries.{far_refusal, far_then_freed, far_unanswered}
 use Rattle.qcow2_alloc.proofs.KeptMarks.{notes_then, notes_for}
 use Rattle.qcow2_image.proofs.Call.BehindHeader.{behind_then}
 use Rattle.qcow2_image.proofs.Prepare.Lacked.{emptied_by_limit, limited_frees}
@@ -46,14 +45,6 @@ returns-in-Err-clause-faults g c =
 pub returns-in-Ok-clause-listed : goal.returns-in-Ok-clause-listed
 returns-in-Ok-clause-listed g c = λ some out sound. c.in-Ok.ensures.tables out sound
 
-pub returns-in-Ok-clause-far : goal.returns-in-Ok-clause-far
-returns-in-Ok-clause-far g c = λ needs. absurd (far_unanswered c.prepare_range.result c.in-Ok.prepared c.in-Ok.is (c.prepare_range.ensures.far needs).0)
-
-pub returns-in-Err-clause-far : goal.returns-in-Err-clause-far
-returns-in-Err-clause-far g c = λ needs.
-    let far = c.prepare_range.ensures.far needs in
-    far_then_freed g.S.Storage.view g.F.BackingDisk.backing c.args.self.now c.prepare_range.new.self c.free_after.new.self c.in-Err.refusal c.free_after.result (far_refusal c.prepare_range.result c.in-Err.refusal c.in-Err.is far.0) far.1 c.free_after.ensures.idle c.free_after.ensures.told
-
 pub returns-in-Ok-clause-notes : goal.returns-in-Ok-clause-notes
 returns-in-Ok-clause-notes g c = c.in-Ok.ensures.notes
 
@@ -71,15 +62,6 @@ returns-in-Ok-clause-pinned g c = c.in-Ok.ensures.pinned
 
 pub returns-in-Err-clause-pinned : goal.returns-in-Err-clause-pinned
 returns-in-Err-clause-pinned g c = λ own is. c.in-Err.ensures.pinned own (c.free_after.ensures.taken c.in-Err.ensures.cause is)
-
-pub returns-in-Ok-clause-far_refused : goal.returns-in-Ok-clause-far_refused
-returns-in-Ok-clause-far_refused g c = λ needs. absurd (far_unanswered c.prepare_range.result c.in-Ok.prepared c.in-Ok.is (c.prepare_range.ensures.far needs).0)
-
-pub returns-in-Err-clause-far_refused : goal.returns-in-Err-clause-far_refused
-returns-in-Err-clause-far_refused g c = λ needs. elim c.free_after.ensures.handed [
-  | inl still ↦ inl (still ∙ far_refusal c.prepare_range.result c.in-Err.refusal c.in-Err.is (c.prepare_range.ensures.far needs).0)
-  | inr met ↦ inr met
-]
 
 pub returns-in-Err-clause-limit : goal.returns-in-Err-clause-limit
 returns-in-Err-clause-limit g c = λ some out sound is.

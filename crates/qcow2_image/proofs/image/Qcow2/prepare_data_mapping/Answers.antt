@@ -1,7 +1,7 @@
 use Rattle.qcow2_image.proofs.image.Qcow2.prepare_data_mapping.Goals as goal
 use Rattle.std.proofs.Common.{◌≡◌, ◌⊎◌, ◌<◌, sym, ◌∙◌, subst, arith, ap, refl, ⊎_elim, inl, inr, ◌≤◌}
-use Rattle.std.specs.Prelude.{IfErr, IfOk, IsErrAnd, None, Result, Some, IsNone}
-use Rattle.qcow2_alloc.specs.declared.error.ImageError.TheVariants.{Overflow, TablePrepared, Limit}
+use Rattle.std.specs.Prelude.{IfErr, IfOk, None, Result, Some, IsNone}
+use Rattle.qcow2_alloc.specs.declared.error.ImageError.TheVariants.{TablePrepared, Limit}
 use Rattle.qcow2_alloc.specs.ImageFile.{known_in}
 use Rattle.qcow2_image.specs.Preparing.{IsAnswered, IsTaken}
 use Rattle.qcow2_image.proofs.Map.Loading.{if_ok}
@@ -14,10 +14,8 @@ use Rattle.qcow2_image.specs.ListedClusters.{PreparesList, ListsNoMore}
 use Rattle.qcow2_image.specs.CallParts.{IsExisting}
 use Rattle.qcow2_image.specs.ImageInvariant.{meaning, pending_in}
 use Rattle.qcow2_image.specs.Refusals.{refuses_to_prepare}
-use Rattle.qcow2_image.proofs.Call.Called.{listed, quiet_sound}
+use Rattle.qcow2_image.proofs.Call.Called.{listed}
 use Rattle.qcow2_image.proofs.Clear.ClearCalls.{refused_for}
-use Rattle.qcow2_image.proofs.Prepare.FarEntries.{far_begun, far_prepared}
-use Rattle.qcow2_alloc.specs.ImageError.{IsOfTables}
 use Rattle.qcow2_image.proofs.Call.Answers.{prepare_usable}
 use Rattle.qcow2_image.proofs.Prepare.PrepareCalls.{lists_begun, prepares_nothing, prepares_with_outcome}
 use Rattle.qcow2_image.proofs.Call.Refused.{prepares_after, stays_kept}
@@ -125,24 +123,6 @@ pub returns-clause-faults : goal.returns-clause-faults
 returns-clause-faults g c =
     counted_marked g.S.Storage.view g.F.BackingDisk.backing c.args.self.now c.begin.new.self c.prepare-prepared.new.self c.mark_failure.new.self c.prepare-prepared.result c.mark_failure.result c.begin.ensures.faults c.prepare-prepared.ensures.faults c.mark_failure.ensures.answer c.mark_failure.ensures.rest
 
-pub returns-in_err-check_prepare-clause-far : goal.returns-in_err-check_prepare-clause-far
-returns-in_err-check_prepare-clause-far g c = λ some none needs.
-    let refused = refused_for c.check_prepare.result tt (refuses_to_prepare c.args.self.now c.args.offset c.args.length) c.in_err-check_prepare.field-0.0 c.check_prepare.ensures.refusal c.in_err-check_prepare.was in
-    absurd (let no : None ≡ Some c.in_err-check_prepare.field-0.0 = sym none ∙ refused in cc)
-
-pub returns-then-length-eq0-clause-far : goal.returns-then-length-eq0-clause-far
-returns-then-length-eq0-clause-far g c = λ some none needs. absurd (let is = c.if-length-eq0.true in omega (arith, is, some))
-
-pub returns-clause-far : goal.returns-clause-far
-returns-clause-far g c = λ some.
-    let view = g.S.Storage.view in
-    let below = g.F.BackingDisk.backing in
-    let old = c.args.self.now in
-    let mid = c.begin.new.self in
-    far_prepared view below (refuses_to_prepare old c.args.offset c.args.length) c.args.offset old mid c.prepare-prepared.new.self c.mark_failure.new.self c.prepare-prepared.result c.mark_failure.result c.begin.ensures.begun
-    (λ out sound. quiet_sound view below out old mid (λ s. record { keeps = c.begin.ensures.keeps (pending_in view below old out) out s; list = c.begin.ensures.list }) sound)
-    c.prepare-prepared.ensures.far c.mark_failure.ensures.answer c.mark_failure.ensures.marks c.mark_failure.ensures.rest
-
 pub returns-in_err-check_prepare-clause-once_written : goal.returns-in_err-check_prepare-clause-once_written
 returns-in_err-check_prepare-clause-once_written g c = fails_none g.S.Storage.view c.args.self.now _
 
@@ -174,19 +154,6 @@ returns-clause-pinned g c = λ some none own.
     let old = c.args.self.now in
     subst (λ (r : Result _ _). PreparesUnpinned old c.args.offset r) (sym c.mark_failure.ensures.answer)
     (unpinned_begun old c.begin.new.self c.args.offset c.prepare-prepared.result c.begin.ensures.begun (c.prepare-prepared.ensures.pinned (begun_own old c.begin.new.self c.args.offset c.begin.ensures.begun own)))
-
-pub returns-in_err-check_prepare-clause-far_refused : goal.returns-in_err-check_prepare-clause-far_refused
-returns-in_err-check_prepare-clause-far_refused g c = λ some none needs.
-    let refused = refused_for c.check_prepare.result tt (refuses_to_prepare c.args.self.now c.args.offset c.args.length) c.in_err-check_prepare.field-0.0 c.check_prepare.ensures.refusal c.in_err-check_prepare.was in
-    absurd (let no : None ≡ Some c.in_err-check_prepare.field-0.0 = sym none ∙ refused in cc)
-
-pub returns-then-length-eq0-clause-far_refused : goal.returns-then-length-eq0-clause-far_refused
-returns-then-length-eq0-clause-far_refused g c = λ some none needs. absurd (let is = c.if-length-eq0.true in omega (arith, is, some))
-
-pub returns-clause-far_refused : goal.returns-clause-far_refused
-returns-clause-far_refused g c = λ some none needs.
-    subst (λ (r : Result _ _). IsErrAnd r (λ e. (e ≡ Overflow) ⊎ IsOfTables e)) (sym c.mark_failure.ensures.answer)
-    (c.prepare-prepared.ensures.far_refused (far_begun c.args.self.now c.begin.new.self c.args.offset c.args.offset refl c.begin.ensures.begun needs))
 
 pub returns-in_err-check_prepare-clause-limit : goal.returns-in_err-check_prepare-clause-limit
 returns-in_err-check_prepare-clause-limit g c = λ none some out sound.

@@ -13,7 +13,6 @@ use Rattle.qcow2_image.proofs.Prepare.Preparing.{readied_existing}
 use Rattle.qcow2_image.proofs.Call.Refused.{prepares_after, readied_after}
 use Rattle.qcow2_image.proofs.Prepare.Taken.{if_err, taken_by}
 use Rattle.qcow2_image.proofs.Prepare.Listing.{lists_since}
-use Rattle.qcow2_image.proofs.Prepare.FarEntries.{far_handed_on, far_unanswered}
 use Rattle.std.specs.Prelude.{IsSome, IfSome}
 use Rattle.qcow2_alloc.proofs.KeptMarks.{notes_then, notes_for}
 use Rattle.qcow2_image.proofs.Call.BehindHeader.{behind_then}
@@ -128,18 +127,6 @@ returns-in-None-clause-tables g c = λ out sound.
       reaches = kept_length c.table_for.new.self.file.header c.prepare_in.new.self.file.header c.prepare_in.ensures.header ∙ c.in_ok-table.ensures.reaches out sound;
       lists = lists_since c.args.offset c.args.self.now c.table_for.new.self c.prepare_in.new.self (c.in_ok-table.ensures.freed out sound) former;
     }) c.prepare_in.ensures.former
-
-pub returns-in_err-table-clause-far : goal.returns-in_err-table-clause-far
-returns-in_err-table-clause-far g c = λ needs. far_handed_on c.table_for.result c.in_err-table.field-0.0 c.from_residual.result c.in_err-table.was (c.table_for.ensures.far needs) c.from_residual.ensures
-
-pub returns-in_err-host-clause-far : goal.returns-in_err-host-clause-far
-returns-in_err-host-clause-far g c = λ needs. absurd (far_unanswered c.table_for.result c.in_ok-table.table c.in_ok-table.was (c.table_for.ensures.far needs).0)
-
-pub returns-in-Some-clause-far : goal.returns-in-Some-clause-far
-returns-in-Some-clause-far g c = λ needs. absurd (far_unanswered c.table_for.result c.in_ok-table.table c.in_ok-table.was (c.table_for.ensures.far needs).0)
-
-pub returns-in-None-clause-far : goal.returns-in-None-clause-far
-returns-in-None-clause-far g c = λ needs. absurd (far_unanswered c.table_for.result c.in_ok-table.table c.in_ok-table.was (c.table_for.ensures.far needs).0)
 
 pub returns-in_err-table-clause-notes : goal.returns-in_err-table-clause-notes
 returns-in_err-table-clause-notes g c =

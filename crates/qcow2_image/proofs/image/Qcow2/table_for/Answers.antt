@@ -201,9 +201,6 @@ returns-in_err-free_listed-clause-notes g c = notes_then (notes_then c.reach_ent
 pub returns-clause-notes : goal.returns-clause-notes
 returns-clause-notes g c = notes_then (notes_then (notes_then c.reach_entry.ensures.notes c.own_l2.ensures.notes) c.free_listed.ensures.notes) c.ensure_l2-2.ensures.notes
 
-pub returns-then-has_far_entry-clause-far : goal.returns-then-has_far_entry-clause-far
-returns-then-has_far_entry-clause-far g c = λ needs. (refl, refl)
-
 pub returns-then-has_own_l2-clause-header_cluster : goal.returns-then-has_own_l2-clause-header_cluster
 returns-then-has_own_l2-clause-header_cluster g c = c.ensure_l2.ensures.header_cluster
 
