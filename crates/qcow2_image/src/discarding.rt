@@ -140,7 +140,6 @@ impl<S: Storage, F: WrappedFormat<S>> Qcow2<S, F> {
         ensures freed { refuses_to_clear self.old offset length Clearance.Uncovered ≡ None → from_in self.old offset length < to_in self.old offset length → (out : List (Option Prepared)) → (abstract_of S.view F.backing self.old out).is_sound → IfErr result (FreesRefused self.new) }
         ensures pinned { from_in self.old offset length < to_in self.old offset length → refuses_to_clear self.old offset length Clearance.Uncovered ≡ None → HasOwnTable self.old (from_in self.old offset length) → HeedsPins self.old (from_in self.old offset length) result }
         ensures once_written { FailsOnceWritten S.view self.old self.new result }
-        ensures no_longer { ReachesAtMost (from_in self.old offset length) self.old self.new }
         ensures header_cluster { StaysBehindHeader S.view self.old self.new }
         ensures faults { CountsImageFaults S.view F.backing self.old self.new result }
     {
@@ -178,7 +177,6 @@ impl<S: Storage, F: WrappedFormat<S>> Qcow2<S, F> {
         ensures freed { refuses_to_clear self.old offset length Clearance.Zeros ≡ None → from_in self.old offset length < to_in self.old offset length → (out : List (Option Prepared)) → (abstract_of S.view F.backing self.old out).is_sound → IfErr result (FreesRefused self.new) }
         ensures pinned { from_in self.old offset length < to_in self.old offset length → refuses_to_clear self.old offset length Clearance.Zeros ≡ None → HasOwnTable self.old (from_in self.old offset length) → HeedsPins self.old (from_in self.old offset length) result }
         ensures once_written { FailsOnceWritten S.view self.old self.new result }
-        ensures no_longer { ReachesAtMost (from_in self.old offset length) self.old self.new }
         ensures header_cluster { StaysBehindHeader S.view self.old self.new }
         ensures faults { CountsImageFaults S.view F.backing self.old self.new result }
     {
@@ -216,7 +214,6 @@ impl<S: Storage, F: WrappedFormat<S>> Qcow2<S, F> {
         ensures freed { refuses_to_clear self.old offset length Clearance.Zeros ≡ None → from_in self.old offset length < to_in self.old offset length → (out : List (Option Prepared)) → (abstract_of S.view F.backing self.old out).is_sound → IfErr result (FreesRefused self.new) }
         ensures pinned { from_in self.old offset length < to_in self.old offset length → refuses_to_clear self.old offset length Clearance.Zeros ≡ None → HasOwnTable self.old (from_in self.old offset length) → HeedsPins self.old (from_in self.old offset length) result }
         ensures once_written { FailsOnceWritten S.view self.old self.new result }
-        ensures no_longer { ReachesAtMost (from_in self.old offset length) self.old self.new }
         ensures header_cluster { StaysBehindHeader S.view self.old self.new }
         ensures faults { CountsImageFaults S.view F.backing self.old self.new result }
     {
@@ -254,7 +251,6 @@ impl<S: Storage, F: WrappedFormat<S>> Qcow2<S, F> {
         ensures freed { refuses_to_clear self.old offset length Clearance.KeptZeros ≡ None → from_in self.old offset length < to_in self.old offset length → (out : List (Option Prepared)) → (abstract_of S.view F.backing self.old out).is_sound → IfErr result (FreesRefused self.new) }
         ensures pinned { from_in self.old offset length < to_in self.old offset length → refuses_to_clear self.old offset length Clearance.KeptZeros ≡ None → HasOwnTable self.old (from_in self.old offset length) → HeedsPins self.old (from_in self.old offset length) result }
         ensures once_written { FailsOnceWritten S.view self.old self.new result }
-        ensures no_longer { ReachesAtMost (from_in self.old offset length) self.old self.new }
         ensures header_cluster { StaysBehindHeader S.view self.old self.new }
         ensures faults { CountsImageFaults S.view F.backing self.old self.new result }
     {

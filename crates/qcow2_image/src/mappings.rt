@@ -176,7 +176,6 @@ impl<S: Storage, F: WrappedFormat<S>> Qcow2<S, F> {
         ensures maps { 0 < length → (out : List (Option Prepared)) → (abstract_of S.view F.backing self.old out).is_sound → IfOk result (λ p. IsAnswered self.old.file.header.fields (known_in S.view self.old.file) offset length self.new.file.header.fields (known_in S.view self.new.file) p (meaning S.view F.backing self.new p)) }
         ensures pinned { 0 < length → refuses_to_prepare self.old offset length ≡ None → HasOwnTable self.old offset → PreparesUnpinned self.old offset result }
         ensures once_written { FailsOnceWritten S.view self.old self.new result }
-        ensures no_longer { ReachesAtMost offset self.old self.new }
         ensures header_cluster { StaysBehindHeader S.view self.old self.new }
         ensures faults { CountsImageFaults S.view F.backing self.old self.new result }
     {

@@ -4,7 +4,6 @@ ghost use Rattle.image_access.specs.Contents.{bytes_at};
 ghost use Rattle.qcow2_alloc.specs.ImageFile.{known_in};
 ghost use Rattle.qcow2_image.specs.BehindHeader.{StaysBehindHeader};
 ghost use Rattle.qcow2_image.specs.Image.{HasNothingToFree, IsSameImage, is_writable, size_of};
-ghost use Rattle.qcow2_image.specs.L1Entries.{IsNoLonger};
 ghost use Rattle.qcow2_image.specs.ImageInvariant.{abstract_of};
 ghost use Rattle.qcow2_image.specs.declared.prepared.Prepared.{Prepared};
 ghost use Rattle.qcow2_image.specs.MetAlone.{IsMetReadingRange};
@@ -47,7 +46,6 @@ pub fn to_qcow2<R: Storage, S: Storage, F: WrappedFormat<S>>(
     ensures emptied { IsTrue (is_writable image.old) → IfOk result (λ n. HasNothingToFree image.new) }
     ensures faults { ConversionCounts S.view F.backing image.old image.new (R.view raw.old).faults (R.view raw.new).faults result }
     ensures quiet { StaysQuiet S.view image.old image.new }
-    ensures no_longer { (out : List (Option Prepared)) → (abstract_of S.view F.backing image.old out).is_sound → IsNoLonger (size_of image.old - 1) image.old.file.header.fields image.new.file.header.fields }
     ensures header_cluster { StaysBehindHeader S.view image.old image.new }
     ensures differs { (R.view raw.old).is_honest → IfErr result (DiffersWhereKept S.view F.backing image.old 0 (R.view raw.old).contents) }
 {
@@ -84,7 +82,6 @@ fn import_all<R: Storage, S: Storage, F: WrappedFormat<S>>(
     ensures met { refuses_to_read image.old 0 0 ≡ None → size ≡ size_of image.old → (out : List (Option Prepared)) → (abstract_of S.view F.backing image.old out).is_sound → IfErr result (IsMetImporting S.view 0 size image.new out) }
     ensures faults { ConversionCounts S.view F.backing image.old image.new (R.view raw.old).faults (R.view raw.new).faults result }
     ensures quiet { StaysQuiet S.view image.old image.new }
-    ensures no_longer { (out : List (Option Prepared)) → (abstract_of S.view F.backing image.old out).is_sound → IsNoLonger (size - 1) image.old.file.header.fields image.new.file.header.fields }
     ensures header_cluster { StaysBehindHeader S.view image.old image.new }
     ensures differs { (R.view raw.old).is_honest → size ≡ length (R.view raw.old).contents → IfErr result (DiffersWhereKept S.view F.backing image.old 0 (R.view raw.old).contents) }
 {
@@ -115,7 +112,6 @@ fn import_at<R: Storage, S: Storage, F: WrappedFormat<S>>(
     ensures met { refuses_to_read image.old at (length wanted.old) ≡ None → (out : List (Option Prepared)) → (abstract_of S.view F.backing image.old out).is_sound → IfErr result (IsMetImporting S.view at (at + length wanted.old) image.new out) }
     ensures faults { ConversionCounts S.view F.backing image.old image.new (R.view raw.old).faults (R.view raw.new).faults result }
     ensures quiet { StaysQuiet S.view image.old image.new }
-    ensures no_longer { 0 < length wanted.old → (out : List (Option Prepared)) → (abstract_of S.view F.backing image.old out).is_sound → IsNoLonger (at + length wanted.old - 1) image.old.file.header.fields image.new.file.header.fields }
     ensures header_cluster { StaysBehindHeader S.view image.old image.new }
     ensures differs { (R.view raw.old).is_honest → IfErr result (DiffersWhereKept S.view F.backing image.old at (bytes_at (R.view raw.old).contents at (length wanted.old))) }
 {

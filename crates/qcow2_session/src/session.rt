@@ -5,7 +5,7 @@ ghost use Rattle.qcow2_alloc.specs.ImageFile.{known_in};
 ghost use Rattle.qcow2_image.specs.Backings.{HasPrepared};
 ghost use Rattle.qcow2_image.specs.BehindHeader.{StaysBehindHeader};
 ghost use Rattle.qcow2_image.specs.Found.{IsFoundWhole, further_by};
-ghost use Rattle.qcow2_image.specs.L1Entries.{NeedsFarEntry, IsNoLonger};
+ghost use Rattle.qcow2_image.specs.L1Entries.{NeedsFarEntry};
 ghost use Rattle.qcow2_image.specs.LackedPlaces.{LacksPlaceFor};
 ghost use Rattle.qcow2_image.specs.ListedClusters.{ListsNoMore};
 ghost use Rattle.qcow2_image.specs.MetAlone.{CopiesCompressed, IsCacheHeld, IsMetMapped, IsMetReadingRange, IsMetTaking};
@@ -279,7 +279,6 @@ pub fn write<S: Storage, F: WrappedFormat<S>>(
 ) -> Result<(), (ImageError, u64)>
     ensures image { IsSameImage image.old image.new }
     ensures faults { NoFewerFaults S.view F.backing image.old image.new × IfErr result (λ (e, n). TellsFault S.view F.backing image.old image.new e) × TellsEachBy S.view F.backing (λ refused. refused.0) image.old image.new result }
-    ensures no_longer { 0 < length bytes.now → (out : List (Option Prepared)) → (abstract_of S.view F.backing image.old out).is_sound → IsNoLonger (offset + length bytes.now - 1) image.old.file.header.fields image.new.file.header.fields }
     ensures header_cluster { StaysBehindHeader S.view image.old image.new }
     ensures marks { MatchResult result (λ done. MarksInParts S.view None image.old image.new) (λ (e, n). MarksInParts S.view (Some e) image.old image.new) }
     ensures early { IfSome (refuses_to_prepare image.old offset (length bytes.now)) (λ e. (result ≡ Err (e, 0)) × (image.new ≡ image.old)) }
@@ -325,7 +324,6 @@ fn write_some<S: Storage, F: WrappedFormat<S>>(
 ) -> Result<usize, ImageError>
     ensures image { IsSameImage image.old image.new }
     ensures faults { CountsImageFaults S.view F.backing image.old image.new result }
-    ensures no_longer { (out : List (Option Prepared)) → (abstract_of S.view F.backing image.old out).is_sound → IsNoLonger offset image.old.file.header.fields image.new.file.header.fields }
     ensures header_cluster { StaysBehindHeader S.view image.old image.new }
     ensures marks { MarksInParts S.view (reason_in result) image.old image.new }
     ensures early { IfSome (refuses_to_prepare image.old offset (length bytes.now)) (λ e. (result ≡ Err e) × (image.new ≡ image.old)) }

@@ -1,14 +1,10 @@
 -- That the L1 table isn't longer than an offset needs it, also behind a refused call.
-use Rattle.std.proofs.Common.{◌≡◌, inl, inr, ℕ, ◌⊎◌, ◌+◌, ◌/◌, ◌≤◌, List, Option, max, ap, ◌∙◌, arith}
+use Rattle.std.proofs.Common.{◌≡◌, inl, inr, ℕ, ◌⊎◌, ◌+◌, ◌/◌, ◌≤◌, max, ap, ◌∙◌, arith}
 use Rattle.qcow2_metadata.specs.EntryTable.{EntryTableView, entry_count}
-use Rattle.image_access.specs.Backing.{BackingView}
-use Rattle.image_access.specs.Moments.{StorageView}
 use Rattle.qcow2_metadata.specs.Header.{HeaderView, cluster_size}
 use Rattle.qcow2_metadata.specs.declared.header.HeaderFields.{HeaderFields}
 use Rattle.qcow2_image.specs.declared.image.Qcow2.{Qcow2}
 use Rattle.qcow2_image.specs.Found.{l1_index_of}
-use Rattle.qcow2_image.specs.declared.prepared.Prepared.{Prepared}
-use Rattle.qcow2_image.specs.ImageInvariant.{abstract_of}
 use Rattle.qcow2_image.specs.L1Entries.{IsNoLonger, ReachesAtMost}
 use Rattle.qcow2_image.proofs.Grow.Lengths.{index_rising}
 
@@ -29,12 +25,6 @@ module _ {S F : Type 0} where
     | inl same ↦ inl (same ∙ ap (λ (v : HeaderView). v.fields.l1_entries) header)
     | inr is ↦ inr (is ∙ ap (λ (t : EntryTableView). max (entry_count t) (l1_index_of mid.file.header.fields offset + 1)) table ∙ ap (λ (v : HeaderView). max (entry_count old.l1_table) (l1_index_of v.fields offset + 1)) header)
   ]
-
-  -- of a sound image, the header tells it
-  pub no_longer_told : (view : S → StorageView) (backing : F → BackingView) (out : List (Option Prepared)) (offset : ℕ) (old new : Qcow2 S F) → (abstract_of view backing old out).is_sound → ReachesAtMost offset old new → IsNoLonger offset old.file.header.fields new.file.header.fields
-  no_longer_told view backing out offset old new sound reaches =
-      let count = sound.l1_table.count in
-      elim reaches [ inl same ↦ omega (arith, same) | inr is ↦ omega (arith, is, count) ]
 
 -- one part, and another behind it
 pub no_longer_within : (h h' : HeaderFields) (a b : ℕ) → a ≤ b → IsNoLonger a h h' → IsNoLonger b h h'

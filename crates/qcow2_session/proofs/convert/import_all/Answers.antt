@@ -21,12 +21,10 @@ use Rattle.qcow2_session.proofs.Turns.{refused_is, does_if}
 use Rattle.qcow2_image.proofs.Call.BehindHeader.{behind_none, behind_then}
 use Rattle.qcow2_alloc.proofs.KeptTables.AllWritten.{written_then}
 use Rattle.qcow2_session.proofs.Quiet.{quiet_image}
-use Rattle.qcow2_image.proofs.Grow.NoLonger.{no_longer_then}
 
 pub loop-at-init : goal.loop-at-init
 loop-at-init g c = record {
   behind = behind_none;
-  no_longer = λ out sound. omega arith;
   quiet = λ reading. quiet_image g.S.Storage.view c.args.image.now c.args.image.now refl;
   faults = so_far_none g.S.Storage.view g.F.BackingDisk.backing c.args.image.now;
   counted = refl;
@@ -50,14 +48,6 @@ loop-at-preserved g c =
     let whole : length c.loop-at.wanted ≡ length (c.import_at.new.wanted ++ drop c.min-count.result c.loop-at.wanted) = grind (arith, common_steps) in
     record {
       behind = behind_then c.loop-at.invariant.behind c.import_at.ensures.header_cluster;
-      no_longer = λ out sound.
-          let at = c.loop-at.at in
-          let count = length (take c.min-count.result c.loop-at.wanted) in
-          let long : count ≡ c.min-count.result = grind (arith, common_steps) in
-          let first = c.loop-at.invariant.any.2 out in
-          no_longer_then c.args.image.now.file.header.fields c.loop-at.image.file.header.fields c.import_at.new.image.file.header.fields (at + count - 1) (c.args.size - 1) (ap (λ (x : Setting). x.cluster_size) (first.acts.works sound).setting)
-          (omega (arith, c.min-count.ensures, c.loop-at-test.true, long)) (c.loop-at.invariant.no_longer out sound)
-          (c.import_at.ensures.no_longer (omega (arith, c.min-count.ensures, c.loop-at-test.true, long, c.loop-at.auto.wanted, c.requires.some)) out (first.answer sound).0);
       quiet = λ reading. written_then g.S.Storage.view (c.loop-at.invariant.quiet reading) (c.import_at.ensures.quiet (c.loop-at.invariant.image.writable ∙ reading));
       faults = so_far_then g.S.Storage.view g.F.BackingDisk.backing c.args.image.now c.loop-at.image c.import_at.new.image c.loop-at.invariant.faults (so_far_part g.S.Storage.view g.F.BackingDisk.backing c.loop-at.image c.import_at.new.image _ _ c.in_ok-import_at.ensures.faults);
       counted = c.in_ok-import_at.ensures.faults.told.1 ∙ c.loop-at.invariant.counted;
@@ -161,13 +151,3 @@ returns-in_err-import_at-clause-header_cluster g c = behind_then c.loop-at.invar
 
 pub returns-in_err-import_at-clause-quiet : goal.returns-in_err-import_at-clause-quiet
 returns-in_err-import_at-clause-quiet g c = λ reading. written_then g.S.Storage.view (c.loop-at.invariant.quiet reading) (c.import_at.ensures.quiet (c.loop-at.invariant.image.writable ∙ reading))
-
-pub returns-in_err-import_at-clause-no_longer : goal.returns-in_err-import_at-clause-no_longer
-returns-in_err-import_at-clause-no_longer g c = λ out sound.
-    let at = c.loop-at.at in
-    let count = length (take c.min-count.result c.loop-at.wanted) in
-    let long : count ≡ c.min-count.result = grind (arith, common_steps) in
-    let first = c.loop-at.invariant.any.2 out in
-    no_longer_then c.args.image.now.file.header.fields c.loop-at.image.file.header.fields c.import_at.new.image.file.header.fields (at + count - 1) (c.args.size - 1) (ap (λ (x : Setting). x.cluster_size) (first.acts.works sound).setting)
-    (omega (arith, c.min-count.ensures, c.loop-at-test.true, long)) (c.loop-at.invariant.no_longer out sound)
-    (c.import_at.ensures.no_longer (omega (arith, c.min-count.ensures, c.loop-at-test.true, long, c.loop-at.auto.wanted, c.requires.some)) out (first.answer sound).0)

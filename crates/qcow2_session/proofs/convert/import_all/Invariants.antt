@@ -7,7 +7,6 @@ use Rattle.qcow2_disk.specs.AbstractImages.{guest_of}
 use Rattle.qcow2_image.specs.BehindHeader.{StaysBehindHeader}
 use Rattle.qcow2_image.specs.Image.{IsSameImage}
 use Rattle.qcow2_image.specs.ImageInvariant.{abstract_of}
-use Rattle.qcow2_image.specs.L1Entries.{IsNoLonger}
 use Rattle.qcow2_image.specs.declared.prepared.Prepared.{Prepared}
 use Rattle.qcow2_session.specs.Conversions.{ImportsAnyOf, IsLeft}
 use Rattle.qcow2_session.specs.Told.{StaysQuiet}
@@ -18,7 +17,6 @@ abbrev pub invariant-loop-at : goal.invariant-loop-at
 invariant-loop-at g l = record {
   faults : IsSoFar g.S.Storage.view g.F.BackingDisk.backing l.fn.image l.image;
   behind : StaysBehindHeader g.S.Storage.view l.fn.image l.image;
-  no_longer : (out : List (Option Prepared)) → (abstract_of g.S.Storage.view g.F.BackingDisk.backing l.fn.image out).is_sound → IsNoLonger (l.size - 1) l.fn.image.file.header.fields l.image.file.header.fields;
   quiet : StaysQuiet g.S.Storage.view l.fn.image l.image;
   counted : (g.R.Storage.view l.raw).faults ≡ (g.R.Storage.view l.fn.raw).faults;
   within : l.at ≤ l.size;

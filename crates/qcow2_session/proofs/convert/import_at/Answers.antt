@@ -24,8 +24,6 @@ use Rattle.qcow2_session.proofs.Turns.{refused_is}
 use Rattle.qcow2_image.proofs.Call.BehindHeader.{behind_none, behind_then}
 use Rattle.qcow2_alloc.proofs.KeptTables.AllWritten.{written_then}
 use Rattle.qcow2_session.proofs.Quiet.{quiet_image}
-use Rattle.qcow2_metadata.specs.Header.{HeaderView}
-use Rattle.qcow2_image.specs.L1Entries.{IsNoLonger}
 
 pub returns-in_err-read-clause-sees : goal.returns-in_err-read-clause-sees
 returns-in_err-read-clause-sees g c = λ honest.
@@ -210,26 +208,3 @@ returns-in-Ok-clause-quiet g c = λ reading. written_then g.S.Storage.view c.rea
 
 pub returns-in-Err-clause-quiet : goal.returns-in-Err-clause-quiet
 returns-in-Err-clause-quiet g c = λ reading. written_then g.S.Storage.view c.read_into.ensures.quiet (c.write.ensures.quiet (c.read_into.ensures.image.writable ∙ reading))
-
-pub returns-in_err-read-clause-no_longer : goal.returns-in_err-read-clause-no_longer
-returns-in_err-read-clause-no_longer g c = λ some out sound. omega arith
-
-pub returns-in_err-read_into-clause-no_longer : goal.returns-in_err-read_into-clause-no_longer
-returns-in_err-read_into-clause-no_longer g c = λ some out sound. let same = ap (λ (v : HeaderView). v.fields.l1_entries) c.read_into.ensures.header in omega (arith, same)
-
-pub returns-then-is_same-clause-no_longer : goal.returns-then-is_same-clause-no_longer
-returns-then-is_same-clause-no_longer g c = λ some out sound. let same = ap (λ (v : HeaderView). v.fields.l1_entries) c.read_into.ensures.header in omega (arith, same)
-
-pub returns-in-Ok-clause-no_longer : goal.returns-in-Ok-clause-no_longer
-returns-in-Ok-clause-no_longer g c = λ some out sound.
-    let now = ((c.in_ok-read_into.ensures.sees out).answer sound).0 in
-    let long : length c.read.new.buf ≡ length c.args.wanted.now = grind (arith, common_steps) in
-    subst (λ (v : HeaderView). IsNoLonger (c.args.at + length c.args.wanted.now - 1) v.fields c.write.new.image.file.header.fields) c.read_into.ensures.header
-    (subst (λ n. IsNoLonger (c.args.at + n - 1) c.read_into.new.image.file.header.fields c.write.new.image.file.header.fields) long (c.write.ensures.no_longer (omega (arith, some, long)) out now))
-
-pub returns-in-Err-clause-no_longer : goal.returns-in-Err-clause-no_longer
-returns-in-Err-clause-no_longer g c = λ some out sound.
-    let now = ((c.in_ok-read_into.ensures.sees out).answer sound).0 in
-    let long : length c.read.new.buf ≡ length c.args.wanted.now = grind (arith, common_steps) in
-    subst (λ (v : HeaderView). IsNoLonger (c.args.at + length c.args.wanted.now - 1) v.fields c.write.new.image.file.header.fields) c.read_into.ensures.header
-    (subst (λ n. IsNoLonger (c.args.at + n - 1) c.read_into.new.image.file.header.fields c.write.new.image.file.header.fields) long (c.write.ensures.no_longer (omega (arith, some, long)) out now))

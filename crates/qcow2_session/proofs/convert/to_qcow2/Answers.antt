@@ -6,7 +6,7 @@ use Rattle.qcow2_image.specs.Refusals.{refuses_to_read}
 use Rattle.qcow2_image.proofs.Call.MetErrors.{storage_met, tables_met}
 use Rattle.qcow2_image.proofs.Call.Unlimited.{fault_unlimited, storage_unlimited}
 use Rattle.qcow2_image.proofs.Prepare.Lacked.{other_limit}
-use Rattle.std.proofs.Common.{◌≡◌, ◌⊎◌, ◌-◌, arith, inl, inr, refl, sym, ap, ◌∙◌, subst, length, Ok, Err}
+use Rattle.std.proofs.Common.{◌≡◌, ◌⊎◌, ◌-◌, inl, inr, refl, sym, ap, ◌∙◌, subst, length, Ok, Err}
 use Rattle.qcow2_alloc.proofs.AllocationSteps.{fault_of_storage}
 use Rattle.qcow2_alloc.specs.ImageError.{of_storage}
 use Rattle.qcow2_alloc.specs.declared.error.ImageError.TheVariants.{InvalidOption, Memory}
@@ -20,8 +20,6 @@ use Rattle.qcow2_session.proofs.Turns.{refused_is}
 use Rattle.qcow2_image.proofs.Call.BehindHeader.{behind_none, behind_then}
 use Rattle.qcow2_alloc.proofs.KeptTables.AllWritten.{written_then}
 use Rattle.qcow2_session.proofs.Quiet.{quiet_image}
-use Rattle.qcow2_metadata.specs.Header.{HeaderView}
-use Rattle.qcow2_image.specs.L1Entries.{IsNoLonger}
 
 pub returns-in_err-size-clause-sees : goal.returns-in_err-size-clause-sees
 returns-in_err-size-clause-sees g c = λ honest. imports_nothing g.S.Storage.view g.F.BackingDisk.backing c.args.image.now _ (of_storage c.in_err-size.field-0.0) _ (refused_is _ (of_storage c.in_err-size.field-0.0) c.from_residual-in_err-size.ensures)
@@ -286,35 +284,3 @@ returns-in_err-flush-clause-quiet g c = λ reading. written_then g.S.Storage.vie
 
 pub returns-clause-quiet : goal.returns-clause-quiet
 returns-clause-quiet g c = λ reading. written_then g.S.Storage.view (c.import_all.ensures.quiet reading) (c.flush.ensures.quiet (c.import_all.ensures.image.writable ∙ reading))
-
-pub returns-in_err-check_read-clause-no_longer : goal.returns-in_err-check_read-clause-no_longer
-returns-in_err-check_read-clause-no_longer g c = λ out sound. omega arith
-
-pub returns-in_err-size-clause-no_longer : goal.returns-in_err-size-clause-no_longer
-returns-in_err-size-clause-no_longer g c = λ out sound. omega arith
-
-pub returns-then-size-clause-no_longer : goal.returns-then-size-clause-no_longer
-returns-then-size-clause-no_longer g c = λ out sound. omega arith
-
-pub returns-in_err-wanted-clause-no_longer : goal.returns-in_err-wanted-clause-no_longer
-returns-in_err-wanted-clause-no_longer g c = λ out sound. omega arith
-
-pub returns-in_err-present-clause-no_longer : goal.returns-in_err-present-clause-no_longer
-returns-in_err-present-clause-no_longer g c = λ out sound. omega arith
-
-pub returns-in_err-import_all-clause-no_longer : goal.returns-in_err-import_all-clause-no_longer
-returns-in_err-import_all-clause-no_longer g c = λ out sound.
-    let old = c.args.image.now in
-    subst (λ n. IsNoLonger (n - 1) old.file.header.fields c.import_all.new.image.file.header.fields) (c.if-size.false ∙ c.size-2.ensures.value) (c.import_all.ensures.no_longer out sound)
-
-pub returns-in_err-flush-clause-no_longer : goal.returns-in_err-flush-clause-no_longer
-returns-in_err-flush-clause-no_longer g c = λ out sound.
-    let old = c.args.image.now in
-    subst (λ (v : HeaderView). IsNoLonger (size_of old - 1) old.file.header.fields v.fields) (sym c.flush.ensures.header)
-    (subst (λ n. IsNoLonger (n - 1) old.file.header.fields c.import_all.new.image.file.header.fields) (c.if-size.false ∙ c.size-2.ensures.value) (c.import_all.ensures.no_longer out sound))
-
-pub returns-clause-no_longer : goal.returns-clause-no_longer
-returns-clause-no_longer g c = λ out sound.
-    let old = c.args.image.now in
-    subst (λ (v : HeaderView). IsNoLonger (size_of old - 1) old.file.header.fields v.fields) (sym c.flush.ensures.header)
-    (subst (λ n. IsNoLonger (n - 1) old.file.header.fields c.import_all.new.image.file.header.fields) (c.if-size.false ∙ c.size-2.ensures.value) (c.import_all.ensures.no_longer out sound))

@@ -27,7 +27,6 @@ use Rattle.qcow2_alloc.proofs.KeptTables.AllWritten.{written_then}
 use Rattle.qcow2_session.proofs.Copied.{copied_on}
 use Rattle.qcow2_alloc.specs.ImageFile.{known_in}
 use Rattle.qcow2_session.proofs.MetOnSound.{compressed_in_part}
-use Rattle.qcow2_image.proofs.Grow.NoLonger.{no_longer_then, no_longer_within}
 use Rattle.qcow2_image.proofs.Prepare.MetTaking.{taking_kept}
 
 pub returns-in_default-clause-sees : goal.returns-in_default-clause-sees
@@ -42,11 +41,6 @@ loop-done-preserved g c = record {
   within = grind (arith, common_steps);
   some_done = λ some. let first = c.loop-done.invariant.some_done some in omega (arith, first);
   image = same_then c.loop-done.invariant.image c.write_some-in-loop-done.ensures.image;
-  no_longer = λ some out sound.
-      let so_far = c.loop-done.invariant.written out in
-      let still = (so_far.answer sound).0 in
-      no_longer_then c.args.image.now.file.header.fields c.loop-done.image.file.header.fields c.write_some-in-loop-done.new.image.file.header.fields c.in-Some.at (c.args.offset + length c.args.bytes.now - 1)
-      (ap (λ (x : Setting). x.cluster_size) (so_far.acts.works sound).setting) (grind (arith, common_steps)) (c.loop-done.invariant.no_longer some out sound) (c.write_some-in-loop-done.ensures.no_longer out still);
   quiet = λ reading. written_then g.S.Storage.view (c.loop-done.invariant.quiet reading) (c.write_some-in-loop-done.ensures.quiet (c.loop-done.invariant.image.writable ∙ reading));
   ends = λ out sound more.
       let view = g.S.Storage.view in
@@ -200,17 +194,6 @@ returns-in-Err-write_some-clause-met g c =
     ((rw (take_rest c.args.bytes.now done) at c.in-Err-write_some.ensures.met)
     (part_prepares old mid c.loop-done.invariant.image c.args.offset n c.in-Some.at rest from upto still.works some none) out still)
 
-pub returns-in-Err-clause-no_longer : goal.returns-in-Err-clause-no_longer
-returns-in-Err-clause-no_longer g c = λ some out sound.
-    no_longer_within c.args.image.now.file.header.fields c.write_some.new.image.file.header.fields c.args.offset (c.args.offset + length c.args.bytes.now - 1) (omega (arith, some)) (c.write_some.ensures.no_longer out sound)
-
-pub returns-in-Err-write_some-clause-no_longer : goal.returns-in-Err-write_some-clause-no_longer
-returns-in-Err-write_some-clause-no_longer g c = λ some out sound.
-    let so_far = c.loop-done.invariant.written out in
-    let still = (so_far.answer sound).0 in
-    no_longer_then c.args.image.now.file.header.fields c.loop-done.image.file.header.fields c.write_some-in-loop-done.new.image.file.header.fields c.in-Some.at (c.args.offset + length c.args.bytes.now - 1)
-    (ap (λ (x : Setting). x.cluster_size) (so_far.acts.works sound).setting) (grind (arith, common_steps)) (c.loop-done.invariant.no_longer some out sound) (c.write_some-in-loop-done.ensures.no_longer out still)
-
 pub loop-done-init : goal.loop-done-init
 loop-done-init g c = record {
   faults = c.in-Ok.ensures.faults.told;
@@ -224,8 +207,6 @@ loop-done-init g c = record {
   end = c.in-Ok.ensures.end.1;
   heeded = λ none out sound. heeded_first g.S.Storage.view g.F.BackingDisk.backing c.args.image.now out c.args.offset c.args.bytes.now c.in-Ok.count c.in-Ok.ensures.within (c.in-Ok.ensures.taken none out sound);
   copied = λ some out sound. c.in-Ok.ensures.copied some out sound;
-  no_longer = λ some out sound.
-      no_longer_within c.args.image.now.file.header.fields c.write_some.new.image.file.header.fields c.args.offset (c.args.offset + length c.args.bytes.now - 1) (omega (arith, some)) (c.write_some.ensures.no_longer out sound);
   freeing = λ out sound. c.in-Ok.ensures.freeing out sound;
   quiet = c.write_some.ensures.quiet;
   written = λ out. c.in-Ok.ensures.sees out;

@@ -15,7 +15,6 @@ use Rattle.qcow2_image.specs.declared.prepared.Prepared.{Prepared}
 use Rattle.qcow2_session.specs.Sessions.{EndsCluster, LeavesCopied, IsHeededAt}
 use Rattle.qcow2_session.specs.Told.{StaysQuiet}
 use Rattle.qcow2_image.specs.Faults.{SameFaults}
-use Rattle.qcow2_image.specs.L1Entries.{IsNoLonger}
 
 abbrev pub invariant-loop-done : goal.invariant-loop-done
 invariant-loop-done g l = record {
@@ -31,7 +30,6 @@ invariant-loop-done g l = record {
   heeded : refuses_to_prepare l.fn.image l.fn.offset (length l.bytes) ≡ None → (out : List (Option Prepared)) → (abstract_of g.S.Storage.view g.F.BackingDisk.backing l.fn.image out).is_sound
       → (i : ℕ) → i < l.done → IsHeededAt g.S.Storage.view g.F.BackingDisk.backing l.fn.image out l.fn.offset l.bytes i;
   copied : 0 < length l.bytes → (out : List (Option Prepared)) → (abstract_of g.S.Storage.view g.F.BackingDisk.backing l.fn.image out).is_sound → LeavesCopied g.S.Storage.view g.F.BackingDisk.backing l.fn.image l.image l.fn.offset l.bytes l.done;
-  no_longer : 0 < length l.bytes → (out : List (Option Prepared)) → (abstract_of g.S.Storage.view g.F.BackingDisk.backing l.fn.image out).is_sound → IsNoLonger (l.fn.offset + length l.bytes - 1) l.fn.image.file.header.fields l.image.file.header.fields;
   quiet : StaysQuiet g.S.Storage.view l.fn.image l.image;
   freeing : (out : List (Option Prepared)) → (abstract_of g.S.Storage.view g.F.BackingDisk.backing l.fn.image out).is_sound → ListsNoMore l.fn.image l.image;
   written : (out : List (Option Prepared)) → let v = abstract_of g.S.Storage.view g.F.BackingDisk.backing l.fn.image out in let w = abstract_of g.S.Storage.view g.F.BackingDisk.backing l.image out in

@@ -50,8 +50,6 @@ use Rattle.qcow2_image.specs.L1Entries.{NeedsFarEntry}
 use Rattle.qcow2_image.specs.LackedPlaces.{LacksPlaceFor}
 use Rattle.qcow2_image.specs.MetAlone.{CopiesCompressed, IsCacheHeld, IsMetTaking}
 use Rattle.qcow2_session.proofs.MetOnSound.{existing_found, existing_long, existing_near, put_unlimited, compressed_behind, put_looking}
-use Rattle.qcow2_image.proofs.Grow.NoLonger.{length_then, no_longer_told}
-use Rattle.qcow2_metadata.specs.Header.{HeaderView}
 use Rattle.qcow2_image.specs.Backings.{HasPrepared}
 use Rattle.qcow2_image.proofs.Prepare.MetTaking.{taking_as}
 
@@ -453,22 +451,6 @@ returns-in-Err-Kept-clause-met g c = λ none out sound.
     let ready = (c.in_default.ensures.sees (Some p ∷ out) 0 refl).answer prepared.0 in
     let refused = subst (λ r. Commits view below c.write_mapped.new.self c.commit_data_mapping.new.self p (Err r)) (c.in-Err-Kept.field-0-is ∙ ap (λ q. Kept c.in-Err-Kept.refusal q) same) c.in-Err-Kept.ensures.sees (Some p ∷ out) 0 refl in
     inl (inl (inl (fault_of c.in-Err-Kept.refusal (refused.0 ready.0))))
-
-pub returns-in_err-prepared-clause-no_longer : goal.returns-in_err-prepared-clause-no_longer
-returns-in_err-prepared-clause-no_longer g c = λ out sound. no_longer_told g.S.Storage.view g.F.BackingDisk.backing out c.args.offset c.args.image.now c.prepare_data_mapping.new.self sound c.prepare_data_mapping.ensures.no_longer
-
-pub returns-in-Err-clause-no_longer : goal.returns-in-Err-clause-no_longer
-returns-in-Err-clause-no_longer g c = λ out sound. no_longer_told g.S.Storage.view g.F.BackingDisk.backing out c.args.offset c.args.image.now c.release.new.image sound (length_then (length_then c.prepare_data_mapping.ensures.no_longer (ap (λ (v : HeaderView). v.fields.l1_entries) c.write_mapped.ensures.header)) (ap (λ (v : HeaderView). v.fields.l1_entries) c.release.ensures.header))
-
-pub returns-in-Ok-clause-no_longer : goal.returns-in-Ok-clause-no_longer
-returns-in-Ok-clause-no_longer g c = λ out sound. no_longer_told g.S.Storage.view g.F.BackingDisk.backing out c.args.offset c.args.image.now c.commit_data_mapping.new.self sound (length_then (length_then c.prepare_data_mapping.ensures.no_longer (ap (λ (v : HeaderView). v.fields.l1_entries) c.write_mapped.ensures.header)) (ap (λ (v : HeaderView). v.fields.l1_entries) c.commit_data_mapping.ensures.header))
-
-pub returns-in-Err-Spent-clause-no_longer : goal.returns-in-Err-Spent-clause-no_longer
-returns-in-Err-Spent-clause-no_longer g c = λ out sound. no_longer_told g.S.Storage.view g.F.BackingDisk.backing out c.args.offset c.args.image.now c.commit_data_mapping.new.self sound (length_then (length_then c.prepare_data_mapping.ensures.no_longer (ap (λ (v : HeaderView). v.fields.l1_entries) c.write_mapped.ensures.header)) (ap (λ (v : HeaderView). v.fields.l1_entries) c.commit_data_mapping.ensures.header))
-
-pub returns-in-Err-Kept-clause-no_longer : goal.returns-in-Err-Kept-clause-no_longer
-returns-in-Err-Kept-clause-no_longer g c = λ out sound.
-    no_longer_told g.S.Storage.view g.F.BackingDisk.backing out c.args.offset c.args.image.now c.release-in-Err-Kept.new.image sound (length_then (length_then (length_then c.prepare_data_mapping.ensures.no_longer (ap (λ (v : HeaderView). v.fields.l1_entries) c.write_mapped.ensures.header)) (ap (λ (v : HeaderView). v.fields.l1_entries) c.commit_data_mapping.ensures.header)) (ap (λ (v : HeaderView). v.fields.l1_entries) c.release-in-Err-Kept.ensures.header))
 
 pub returns-in_err-prepared-clause-limit : goal.returns-in_err-prepared-clause-limit
 returns-in_err-prepared-clause-limit g c = λ none out sound.

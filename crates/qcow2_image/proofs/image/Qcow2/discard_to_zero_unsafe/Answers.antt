@@ -53,6 +53,3 @@ returns-clause-limit g c = c.clear_range.ensures.limit
 
 pub returns-clause-refused : goal.returns-clause-refused
 returns-clause-refused g c = c.clear_range.ensures.refused
-
-pub returns-clause-no_longer : goal.returns-clause-no_longer
-returns-clause-no_longer g c = c.clear_range.ensures.no_longer

@@ -28,7 +28,7 @@ use Rattle.qcow2_image.specs.PinnedTables.{PreparesUnpinned}
 use Rattle.qcow2_image.proofs.Prepare.Lacked.{limits_as}
 use Rattle.qcow2_image.proofs.Prepare.LackedBehind.{behind_begun, first_begun, place_ended}
 use Rattle.qcow2_image.specs.LackedPlaces.{LacksPlaceFor}
-use Rattle.qcow2_metadata.specs.Header.{cluster_size, HeaderView}
+use Rattle.qcow2_metadata.specs.Header.{cluster_size}
 use Rattle.qcow2_metadata.specs.declared.header.HeaderFields.{HeaderFields}
 use Rattle.qcow2_image.specs.L1Entries.{NeedsFarEntry}
 use Rattle.qcow2_image.specs.MetAlone.{CopiesCompressed, IsMetTaking}
@@ -37,7 +37,6 @@ use Rattle.qcow2_image.proofs.Prepare.MetTables.{far_before}
 use Rattle.qcow2_image.specs.Prepared.{length_of, offset_of, table_of}
 use Rattle.qcow2_image.specs.Backings.{HasPrepared}
 use Rattle.qcow2_image.proofs.Prepare.MetTaking.{taking_as}
-use Rattle.qcow2_image.proofs.Grow.NoLonger.{length_then, reaches_behind}
 use Rattle.std.specs.Prelude.{IfOk, None}
 use Rattle.qcow2_image.specs.Prepared.{table_of}
 
@@ -197,15 +196,6 @@ returns-clause-met g c = λ may some out sound.
     (if_err c.prepare-prepared.result
     (taking_as (λ held. held) (λ taken. taken_before view old mid from n stays.header stays.covers out taken) (compressed_as h mid.file.header.fields known (known_in view mid.file) from n overwrite size stays.covers) (far_before old mid from c.begin.ensures.begun.rest))
     (c.prepare-prepared.ensures.met some out stays.sound))
-
-pub returns-in_err-check_prepare-clause-no_longer : goal.returns-in_err-check_prepare-clause-no_longer
-returns-in_err-check_prepare-clause-no_longer g c = inl refl
-
-pub returns-then-length-eq0-clause-no_longer : goal.returns-then-length-eq0-clause-no_longer
-returns-then-length-eq0-clause-no_longer g c = inl refl
-
-pub returns-clause-no_longer : goal.returns-clause-no_longer
-returns-clause-no_longer g c = length_then (reaches_behind c.args.offset c.args.self.now c.begin.new.self c.prepare-prepared.new.self (ap (λ (i : Qcow2 _ _). i.file.header) c.begin.ensures.rest) (ap (λ (i : Qcow2 _ _). i.l1_table) c.begin.ensures.rest) c.prepare-prepared.ensures.no_longer) (ap (λ (v : HeaderView). v.fields.l1_entries) (ap (λ (i : Qcow2 _ _). i.file.header) c.mark_failure.ensures.rest))
 
 pub returns-then-length-eq0-clause-freeing : goal.returns-then-length-eq0-clause-freeing
 returns-then-length-eq0-clause-freeing g c = λ out sound none. inl refl
