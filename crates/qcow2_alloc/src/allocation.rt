@@ -109,18 +109,12 @@ impl Allocator {
         ensures cause { IfErr result IsOfTables }
         ensures former { ListsReftables self.old.reftable self.new.reftable file.old.free_list file.new.free_list }
         ensures made { (p : Pending) → AllocatorInvariant S.view self.old p file.old → TakesAlone S.view run_of (IsMadeInTurn file.old.header.fields self.old.reftable self.new.reftable file.old.free_list file.new.free_list) file.old file.new result }
-        ensures aligned { IfOk result (λ run. AvoidsUnaligned file.old.header.fields self.new.reftable run.first_cluster count) }
-        ensures unaligned { IsUnaligned file.old.header.fields self.old.reftable (max self.old.first_free_cluster 1 / counts_per_block file.old.header.fields) → 0 < count → IsErrAnd result (IsOfSearch file.old.header.fields (max self.old.first_free_cluster 1) count ImageError.UnalignedTable) × (file.new ≡ file.old) }
-        ensures first_range { LacksFirst file.old.header.fields self.old.reftable (max self.old.first_free_cluster 1) → 0 < count → IsErrAnd result (IsOfTaking ImageError.Limit) × (file.new ≡ file.old) }
         ensures storage_faults { CountsFaults S.view file.old.storage file.new.storage result }
         ensures leaks { (p : Pending) → AllocatorInvariant S.view self.old p file.old → SameLeaks self.old self.new }
         ensures limit { (p : Pending) → SoundAllocator S.view self.old p file.old → 0 < count → IfErr result (IsFaultOr (HasNoPlace (IsUsed S.view file.new) file.new.header.fields self.new count)) }
         ensures lowest { (p : Pending) → SoundAllocator S.view self.old p file.old → IfOk result (λ run. IsLowestRun (IsUsed S.view file.new) run.first_cluster count) }
         ensures uses { (p : Pending) → AllocatorInvariant S.view self.old p file.old → OnOk result (StaysUsed S.view file.old file.new) }
         ensures hint { (p : Pending) → SoundAllocator S.view self.old p file.old → KeepsNoFreeBelowHint S.view self.new file.new result }
-        ensures quiet { count ≤ 1 → OnOk result (SearchesQuietly S.view file.old file.new self.old.reftable self.new.reftable) }
-        ensures held_range { SearchesHeld (λ run. run.first_cluster) self.old.reftable file.old self.new.reftable file.new (max self.old.first_free_cluster 1) count result }
-        ensures holds { IfOk result (λ run. HoldsCountOf self.new.reftable file.new (run.first_cluster + count - 1)) }
         ensures header_cluster { SparesHeaderButPointer S.view self.old.reftable file.old self.new.reftable file.new }
     {
         self.allocate(file, count, ClusterKind::Metadata)
@@ -146,18 +140,12 @@ impl Allocator {
         ensures cause { IfErr result IsOfTables }
         ensures former { ListsReftables self.old.reftable self.new.reftable file.old.free_list file.new.free_list }
         ensures made { (p : Pending) → AllocatorInvariant S.view self.old p file.old → TakesAlone S.view run_of (IsMadeInTurn file.old.header.fields self.old.reftable self.new.reftable file.old.free_list file.new.free_list) file.old file.new result }
-        ensures aligned { IfOk result (λ run. AvoidsUnaligned file.old.header.fields self.new.reftable run.first_cluster count) }
-        ensures unaligned { IsUnaligned file.old.header.fields self.old.reftable (max self.old.first_free_cluster 1 / counts_per_block file.old.header.fields) → 0 < count → IsErrAnd result (λ e. IsOfTurning file.old.caches e ⊎ IsOfSearch file.old.header.fields (max self.old.first_free_cluster 1) count ImageError.UnalignedTable e) × TurnsAlone S.view file.old file.new }
-        ensures first_range { LacksFirst file.old.header.fields self.old.reftable (max self.old.first_free_cluster 1) → 0 < count → IsErrAnd result (λ e. IsOfTurning file.old.caches e ⊎ IsOfTaking ImageError.Limit e) × TurnsAlone S.view file.old file.new }
         ensures storage_faults { CountsFaults S.view file.old.storage file.new.storage result }
         ensures leaks { (p : Pending) → AllocatorInvariant S.view self.old p file.old → SameLeaks self.old self.new }
         ensures limit { (p : Pending) → SoundAllocator S.view self.old p file.old → 0 < count → IfErr result (IsFaultOr (HasNoPlace (IsUsed S.view file.new) file.new.header.fields self.new count)) }
         ensures lowest { (p : Pending) → SoundAllocator S.view self.old p file.old → IfOk result (λ run. IsLowestRun (IsUsed S.view file.new) run.first_cluster count) }
         ensures uses { (p : Pending) → AllocatorInvariant S.view self.old p file.old → OnOk result (StaysUsed S.view file.old file.new) }
         ensures hint { (p : Pending) → SoundAllocator S.view self.old p file.old → KeepsNoFreeBelowHint S.view self.new file.new result }
-        ensures quiet { count ≤ 1 → OnOk result (SearchesQuietly S.view file.old file.new self.old.reftable self.new.reftable) }
-        ensures held_range { order_of file.old.caches ≢ RbDependsOnL2 → SearchesHeld (λ run. run.first_cluster) self.old.reftable file.old self.new.reftable file.new (max self.old.first_free_cluster 1) count result }
-        ensures holds { IfOk result (λ run. HoldsCountOf self.new.reftable file.new (run.first_cluster + count - 1)) }
         ensures header_cluster { SparesHeaderButPointer S.view self.old.reftable file.old self.new.reftable file.new }
     {
         file.caches.l2_depends_on_rb(&mut file.storage)?;
@@ -183,9 +171,6 @@ impl Allocator {
         ensures nameable { IfOk result (λ run. IsSome run → IsHostCluster file.old.header.fields.cluster_bits cluster) }
         ensures elsewhere { IfOk result (λ run. IsSome run → 0 < cluster) }
         ensures cause { IfErr result IsOfTables }
-        ensures aligned { IfOk result (λ run. IsSome run → HasAlignedBlock file.old.header.fields self.new.reftable (cluster / counts_per_block file.old.header.fields)) }
-        ensures unaligned { IsUnaligned file.old.header.fields self.old.reftable (cluster / counts_per_block file.old.header.fields) → 0 < cluster → IsHostCluster file.old.header.fields.cluster_bits cluster → IsErrAnd result (λ e. IsOfTurning file.old.caches e ⊎ IsOfTaking ImageError.UnalignedTable e) × TurnsAlone S.view file.old file.new }
-        ensures first_range { LacksFirst file.old.header.fields self.old.reftable cluster → 0 < cluster → IsHostCluster file.old.header.fields.cluster_bits cluster → IsErrAnd result (λ e. IsOfTurning file.old.caches e ⊎ IsOfTaking ImageError.Limit e) × TurnsAlone S.view file.old file.new }
         ensures former { ListsReftables self.old.reftable self.new.reftable file.old.free_list file.new.free_list }
         ensures listed { (p : Pending) → AllocatorInvariant S.view self.old p file.old → ListsUsed S.view file.old file.new }
         ensures made { (p : Pending) → AllocatorInvariant S.view self.old p file.old → TakesAlone S.view run_in (IsMadeOnTheWay file.old.header.fields self.old.reftable self.new.reftable) file.old file.new result }
@@ -197,9 +182,6 @@ impl Allocator {
             ⊎ (IsUsed S.view file.new cluster × (IsUsed S.view file.old cluster ⊎ IsMadeOnTheWay file.old.header.fields self.old.reftable self.new.reftable cluster))) }
         ensures uses { (p : Pending) → AllocatorInvariant S.view self.old p file.old → OnOk result (StaysUsed S.view file.old file.new) }
         ensures hint { (p : Pending) → SoundAllocator S.view self.old p file.old → KeepsNoFreeBelowHint S.view self.new file.new result }
-        ensures quiet { OnOk result (SearchesQuietly S.view file.old file.new self.old.reftable self.new.reftable) }
-        ensures held_range { order_of file.old.caches ≢ RbDependsOnL2 → KeepsRangeHeld self.old.reftable file.old self.new.reftable file.new (cluster / counts_per_block file.old.header.fields) }
-        ensures holds { IfOk result (λ run. IsSome run → HoldsCountOf self.new.reftable file.new cluster) }
         ensures header_cluster { SparesHeaderButPointer S.view self.old.reftable file.old self.new.reftable file.new }
     {
         file.caches.l2_depends_on_rb(&mut file.storage)?;
@@ -243,18 +225,12 @@ impl Allocator {
         ensures elsewhere { IfOk result (λ p. 0 < p.first_cluster) }
         ensures cause { IfErr result IsOfTables }
         ensures former { ListsReftables self.old.reftable self.new.reftable file.old.free_list file.new.free_list }
-        ensures aligned { IfOk result (λ run. AvoidsUnaligned file.old.header.fields self.new.reftable run.first_cluster count) }
-        ensures unaligned { IsUnaligned file.old.header.fields self.old.reftable (max self.old.first_free_cluster 1 / counts_per_block file.old.header.fields) → 0 < count → IsErrAnd result (IsOfSearch file.old.header.fields (max self.old.first_free_cluster 1) count ImageError.UnalignedTable) × (file.new ≡ file.old) }
-        ensures first_range { LacksFirst file.old.header.fields self.old.reftable (max self.old.first_free_cluster 1) → 0 < count → IsErrAnd result (IsOfTaking ImageError.Limit) × (file.new ≡ file.old) }
         ensures storage_faults { CountsFaults S.view file.old.storage file.new.storage result }
         ensures leaks { (p : Pending) → AllocatorInvariant S.view self.old p file.old → SameLeaks self.old self.new }
         ensures limit { (p : Pending) → AllocatorInvariant S.view self.old p file.old → MayTake (is_data kind) file.old → NoFreeBelowHint S.view self.old file.old → 0 < count → IfErr result (IsFaultOr (HasNoPlace (IsUsed S.view file.new) file.new.header.fields self.new count)) }
         ensures lowest { (p : Pending) → AllocatorInvariant S.view self.old p file.old → MayTake (is_data kind) file.old → NoFreeBelowHint S.view self.old file.old → IfOk result (λ run. IsLowestRun (IsUsed S.view file.new) run.first_cluster count) }
         ensures uses { (p : Pending) → AllocatorInvariant S.view self.old p file.old → MayTake (is_data kind) file.old → OnOk result (StaysUsed S.view file.old file.new) }
         ensures hint { (p : Pending) → AllocatorInvariant S.view self.old p file.old → MayTake (is_data kind) file.old → NoFreeBelowHint S.view self.old file.old → KeepsNoFreeBelowHint S.view self.new file.new result }
-        ensures quiet { count ≤ 1 → OnOk result (SearchesQuietly S.view file.old file.new self.old.reftable self.new.reftable) }
-        ensures held_range { SearchesHeld (λ run. run.first_cluster) self.old.reftable file.old self.new.reftable file.new (max self.old.first_free_cluster 1) count result }
-        ensures holds { IfOk result (λ run. HoldsCountOf self.new.reftable file.new (run.first_cluster + count - 1)) }
         ensures header_cluster { SparesHeaderButPointer S.view self.old.reftable file.old self.new.reftable file.new }
     {
         let entry = ClustersToFreeEntry {
@@ -285,18 +261,12 @@ impl Allocator {
         ensures elsewhere { IfOk result (λ first. 0 < first) }
         ensures cause { IfErr result IsOfTables }
         ensures former { ListsReftables self.old.reftable self.new.reftable file.old.free_list file.new.free_list }
-        ensures aligned { IfOk result (λ first. AvoidsUnaligned file.old.header.fields self.new.reftable first n) }
-        ensures unaligned { IsUnaligned file.old.header.fields self.old.reftable (max self.old.first_free_cluster 1 / counts_per_block file.old.header.fields) → 0 < n → IsErrAnd result (EndsAtFirst file.old.header.fields (max self.old.first_free_cluster 1) n ImageError.UnalignedTable) × (file.new ≡ file.old) }
-        ensures first_range { LacksFirst file.old.header.fields self.old.reftable (max self.old.first_free_cluster 1) → 0 < n → IsErrOf result ImageError.Limit × (file.new ≡ file.old) }
         ensures storage_faults { CountsFaults S.view file.old.storage file.new.storage result }
         ensures leaks { (p : Pending) → AllocatorInvariant S.view self.old p file.old → SameLeaks self.old self.new }
         ensures limit { (p : Pending) (is_data : Bool) → AllocatorInvariant S.view self.old p file.old → MayTake is_data file.old → NoFreeBelowHint S.view self.old file.old → 0 < n → IfErr result (IsFaultOr (HasNoPlace (IsUsed S.view file.new) file.new.header.fields self.new n)) }
         ensures lowest { (p : Pending) (is_data : Bool) → AllocatorInvariant S.view self.old p file.old → MayTake is_data file.old → NoFreeBelowHint S.view self.old file.old → IfOk result (λ first. IsLowestRun (IsUsed S.view file.new) first n) }
         ensures uses { (p : Pending) (is_data : Bool) → AllocatorInvariant S.view self.old p file.old → MayTake is_data file.old → OnOk result (StaysUsed S.view file.old file.new) }
         ensures hint { (p : Pending) (is_data : Bool) → AllocatorInvariant S.view self.old p file.old → MayTake is_data file.old → NoFreeBelowHint S.view self.old file.old → KeepsNoFreeBelowHint S.view self.new file.new result }
-        ensures quiet { n ≤ 1 → OnOk result (SearchesQuietly S.view file.old file.new self.old.reftable self.new.reftable) }
-        ensures held_range { SearchesHeld (λ first. first) self.old.reftable file.old self.new.reftable file.new (max self.old.first_free_cluster 1) n result }
-        ensures holds { IfOk result (λ first. HoldsCountOf self.new.reftable file.new (first + n - 1)) }
         ensures header_cluster { SparesHeaderButPointer S.view self.old.reftable file.old self.new.reftable file.new }
     {
         let limit = (MAX_HOST_OFFSET >> file.header.cluster_bits()) + 1;
@@ -329,18 +299,12 @@ impl Allocator {
         ensures within { IfOk result (λ taken. taken ≤ n) }
         ensures cause { IfErr result IsOfTables }
         ensures former { ListsReftables self.old.reftable self.new.reftable file.old.free_list file.new.free_list }
-        ensures aligned { IfOk result (λ taken. taken ≡ n → AvoidsUnaligned file.old.header.fields self.new.reftable first n) }
-        ensures lacking { (e : ImageError) → LacksBlock file.old.header.fields self.old.reftable first e → 0 < n → IsErrOf result e × (file.new ≡ file.old) }
         ensures storage_faults { CountsFaults S.view file.old.storage file.new.storage result }
         ensures leaks { (p : Pending) → AllocatorInvariant S.view self.old p file.old → SameLeaks self.old self.new }
         ensures limit { (p : Pending) (is_data : Bool) → AllocatorInvariant S.view self.old p file.old → MayTake is_data file.old → NoFreeBelowHint S.view self.old file.old → first + n ≤ nameable_clusters file.old.header.fields → IfErr result (IsFaultOr (CantCountRun (IsUsed S.view file.new) file.new.header.fields self.new first n)) }
         ensures used { (p : Pending) (is_data : Bool) → AllocatorInvariant S.view self.old p file.old → MayTake is_data file.old → IfOk result (λ taken. taken ≢ n → IsUsed S.view file.new (first + taken)) }
         ensures hint { (p : Pending) (is_data : Bool) → AllocatorInvariant S.view self.old p file.old → MayTake is_data file.old → NoFreeBelowHint S.view self.old file.old → KeepsNoFreeBelowHint S.view self.new file.new result }
         ensures uses { (p : Pending) (is_data : Bool) → AllocatorInvariant S.view self.old p file.old → MayTake is_data file.old → KeepsUsed S.view file.old file.new result }
-        ensures quiet { n ≤ 1 → IfOk result (CountsRunOrMakes S.view file.old file.new self.old.reftable self.new.reftable n) }
-        ensures held_range { KeepsRangesHeld self.old.reftable file.old self.new.reftable file.new first (first + n) }
-        ensures held_used { IfOk result (λ taken. taken ≢ n → KeepsRangesHeld self.old.reftable file.old self.new.reftable file.new first (first + taken + 1)) }
-        ensures holds { IfOk result (λ taken. taken ≡ n → 0 < n → HoldsCountOf self.new.reftable file.new (first + n - 1)) }
         ensures header_cluster { SparesHeaderButPointer S.view self.old.reftable file.old self.new.reftable file.new }
     {
         'taking: for taken in 0..n {
@@ -375,9 +339,6 @@ impl Allocator {
         ensures header { KeepsHeader file.old.header file.new.header }
         ensures list { ListsTables file.old.free_list file.new.free_list }
         ensures cause { IfErr result IsOfTables }
-        ensures aligned { IfOk result (λ taken. IsTrue taken → HasAlignedBlock file.old.header.fields self.new.reftable (cluster / counts_per_block file.old.header.fields)) }
-        ensures unaligned { IsUnaligned file.old.header.fields self.old.reftable (cluster / counts_per_block file.old.header.fields) → IsErrOf result ImageError.UnalignedTable × (file.new ≡ file.old) }
-        ensures first_range { LacksFirst file.old.header.fields self.old.reftable cluster → IsErrOf result ImageError.Limit × (file.new ≡ file.old) }
         ensures former { ListsReftables self.old.reftable self.new.reftable file.old.free_list file.new.free_list }
         ensures listed { (p : Pending) → AllocatorInvariant S.view self.old p file.old → ListsUsed S.view file.old file.new }
         ensures storage_faults { CountsFaults S.view file.old.storage file.new.storage result }
@@ -387,9 +348,6 @@ impl Allocator {
         ensures hint { (p : Pending) (is_data : Bool) → AllocatorInvariant S.view self.old p file.old → MayTake is_data file.old → NoFreeBelowHint S.view self.old file.old → KeepsNoFreeBelowHint S.view self.new file.new result }
         ensures uses { (p : Pending) (is_data : Bool) → AllocatorInvariant S.view self.old p file.old → MayTake is_data file.old → KeepsUsed S.view file.old file.new result }
         ensures free { (p : Pending) → AllocatorInvariant S.view self.old p file.old → IfOk result (λ taken. IsTrue taken → ¬ IsUsed S.view file.old cluster) }
-        ensures quiet { IfOk result (CountsOrMakes S.view file.old file.new self.old.reftable self.new.reftable) }
-        ensures held_range { KeepsRangeHeld self.old.reftable file.old self.new.reftable file.new (cluster / counts_per_block file.old.header.fields) }
-        ensures holds { IfOk result (λ taken. IsTrue taken → HoldsCountOf self.new.reftable file.new cluster) }
         ensures header_cluster { SparesHeaderButPointer S.view self.old.reftable file.old self.new.reftable file.new }
     {
         self.reach_block(file, cluster)?;

@@ -116,9 +116,6 @@ impl Allocator {
         ensures held { IfOk result (λ block. IfSome block (λ block. IsSome (rb_at file.new.caches block))) }
         ensures none { HasNone self.now.reftable range → (result ≡ Ok None) × (file.new ≡ file.old) }
         ensures storage_faults { CountsFaults S.view file.old.storage file.new.storage result }
-        ensures quiet { LooksQuietly S.view file.old file.new }
-        ensures held_range { KeepsRangeHeld self.now.reftable file.old self.now.reftable file.new range }
-        ensures holds { IfOk result (λ block. IsSome block → HoldsRange file.new.header.fields self.now.reftable file.new.caches range) }
         ensures header_cluster { SparesHeader S.view self.now.reftable file.old self.now.reftable file.new }
     {
         let Some(offset) = self.reftable.get(range as usize) else {
@@ -149,11 +146,6 @@ impl Allocator {
         ensures fault { (p : Pending) → AllocatorInvariant S.view self.old p file.old → IfErr result IsFault }
         ensures used { (p : Pending) → AllocatorInvariant S.view self.old p file.old → (HasNone self.old.reftable (cluster / counts_per_block file.old.header.fields) → ⊥) → IfOk result (λ taken. taken ≡ false → IsUsed S.view file.new cluster) }
         ensures free { (p : Pending) → AllocatorInvariant S.view self.old p file.old → IfOk result (λ taken. IsTrue taken → ¬ IsUsed S.view file.old cluster) }
-        ensures unaligned { IsUnaligned file.old.header.fields self.old.reftable (cluster / counts_per_block file.old.header.fields) → IsErrOf result ImageError.UnalignedTable × (file.new ≡ file.old) }
-        ensures aligned { IfOk result (λ taken. IsTrue taken → HasAlignedBlock file.old.header.fields self.old.reftable (cluster / counts_per_block file.old.header.fields)) }
-        ensures quiet { IfOk result (CountsQuietly S.view file.old file.new) }
-        ensures held_range { KeepsRangeHeld self.old.reftable file.old self.new.reftable file.new (cluster / counts_per_block file.old.header.fields) }
-        ensures holds { IfOk result (λ taken. IsTrue taken → HoldsCountOf self.new.reftable file.new cluster) }
         ensures header_cluster { SparesHeader S.view self.old.reftable file.old self.new.reftable file.new }
     {
         let bits = file.header.rb_bits();
@@ -176,8 +168,6 @@ impl Allocator {
         ensures header { KeepsHeader file.old.header file.new.header }
         ensures list { ListsTables file.old.free_list file.new.free_list }
         ensures cause { IfErr result IsOfTables }
-        ensures unaligned { IsUnaligned file.old.header.fields self.old.reftable (cluster / counts_per_block file.old.header.fields) → IsErrOf result ImageError.UnalignedTable × (file.new ≡ file.old) }
-        ensures first_range { LacksFirst file.old.header.fields self.old.reftable cluster → IsErrOf result ImageError.Limit × (file.new ≡ file.old) }
         ensures former { ListsReftables self.old.reftable self.new.reftable file.old.free_list file.new.free_list }
         ensures listed { (p : Pending) → AllocatorInvariant S.view self.old p file.old → ListsUsed S.view file.old file.new }
         ensures storage_faults { CountsFaults S.view file.old.storage file.new.storage result }
@@ -187,8 +177,6 @@ impl Allocator {
         ensures named { cluster / counts_per_block file.old.header.fields < entry_count self.old.reftable → KeepsNamed self.old.reftable self.new.reftable }
         ensures hint { (p : Pending) → AllocatorInvariant S.view self.old p file.old → NoFreeBelowHint S.view self.old file.old → KeepsNoFreeBelowHint S.view self.new file.new result }
         ensures uses { (p : Pending) → AllocatorInvariant S.view self.old p file.old → KeepsUsed S.view file.old file.new result }
-        ensures quiet { OnOk result (LooksOrMakes S.view file.old file.new self.old.reftable self.new.reftable) }
-        ensures held_range { KeepsRangeHeld self.old.reftable file.old self.new.reftable file.new (cluster / counts_per_block file.old.header.fields) }
         ensures header_cluster { SparesHeaderButPointer S.view self.old.reftable file.old self.new.reftable file.new }
     {
         let range = (cluster >> file.header.rb_bits()) as usize;
@@ -211,16 +199,12 @@ impl Allocator {
         ensures header { file.new.header ≡ file.old.header }
         ensures list { file.new.free_list ≡ file.old.free_list }
         ensures cause { IfErr result IsOfTables }
-        ensures unaligned { IsUnaligned file.old.header.fields self.old.reftable (cluster / counts_per_block file.old.header.fields) → IsErrOf result ImageError.UnalignedTable × (file.new ≡ file.old) }
-        ensures first_range { LacksFirst file.old.header.fields self.old.reftable cluster → IsErrOf result ImageError.Limit × (file.new ≡ file.old) }
         ensures named { KeepsNamed self.old.reftable self.new.reftable }
         ensures storage_faults { CountsFaults S.view file.old.storage file.new.storage result }
         ensures leaks { SameLeaks self.old self.new }
         ensures fault { (p : Pending) → AllocatorInvariant S.view self.old p file.old → cluster / counts_per_block file.old.header.fields < entry_count self.old.reftable → IsHostCluster file.old.header.fields.cluster_bits cluster → IfErr result IsFault }
         ensures has { OnOk result (HasNone self.new.reftable (cluster / counts_per_block file.old.header.fields) → ⊥) }
         ensures hint { (p : Pending) → AllocatorInvariant S.view self.old p file.old → NoFreeBelowHint S.view self.old file.old → KeepsNoFreeBelowHint S.view self.new file.new result }
-        ensures quiet { OnOk result (LooksOrMakes S.view file.old file.new self.old.reftable self.new.reftable) }
-        ensures held_range { KeepsRangeHeld self.old.reftable file.old self.new.reftable file.new (cluster / counts_per_block file.old.header.fields) }
         ensures header_cluster { SparesHeader S.view self.old.reftable file.old self.new.reftable file.new }
     {
         let bits = file.header.rb_bits();

@@ -35,10 +35,7 @@ impl Allocator {
         ensures behind { IfOk result (λ next. cluster ≤ next) }
         ensures far { IfOk result (GoesFar file.old.header.fields self.old.reftable file.new.caches cluster) }
         ensures hint { (p : Pending) → AllocatorInvariant S.view self.old p file.old → NoFreeBelowHint S.view self.old file.old → KeepsNoFreeBelowHint S.view self.new file.new result }
-        ensures unaligned { IsUnaligned file.old.header.fields self.old.reftable (cluster / counts_per_block file.old.header.fields) → IsErrOf result ImageError.UnalignedTable × (file.new ≡ file.old) }
         ensures none { HasNone self.old.reftable (cluster / counts_per_block file.old.header.fields) → file.new ≡ file.old }
-        ensures quiet { LooksQuietly S.view file.old file.new }
-        ensures held_range { KeepsRangeHeld self.old.reftable file.old self.new.reftable file.new (cluster / counts_per_block file.old.header.fields) }
         ensures header_cluster { SparesHeader S.view self.old.reftable file.old self.new.reftable file.new }
     {
         let next = self.behind_used(file, cluster)?;
@@ -63,10 +60,7 @@ impl Allocator {
         ensures storage_faults { CountsFaults S.view file.old.storage file.new.storage result }
         ensures behind { IfOk result (λ next. cluster ≤ next) }
         ensures far { IfOk result (GoesFar file.old.header.fields self.now.reftable file.new.caches cluster) }
-        ensures unaligned { IsUnaligned file.old.header.fields self.now.reftable (cluster / counts_per_block file.old.header.fields) → IsErrOf result ImageError.UnalignedTable × (file.new ≡ file.old) }
         ensures none { HasNone self.now.reftable (cluster / counts_per_block file.old.header.fields) → file.new ≡ file.old }
-        ensures quiet { LooksQuietly S.view file.old file.new }
-        ensures held_range { KeepsRangeHeld self.now.reftable file.old self.now.reftable file.new (cluster / counts_per_block file.old.header.fields) }
         ensures header_cluster { SparesHeader S.view self.now.reftable file.old self.now.reftable file.new }
     {
         let bits = file.header.rb_bits();

@@ -174,30 +174,6 @@ returns-in_err-l2_depends_on_rb-clause-notes g c = c.l2_depends_on_rb.ensures.no
 pub returns-clause-notes : goal.returns-clause-notes
 returns-clause-notes g c = kept_then _ _ _ c.l2_depends_on_rb.ensures.notes c.allocate.ensures.marks.notes
 
-pub returns-in_err-l2_depends_on_rb-clause-unaligned : goal.returns-in_err-l2_depends_on_rb-clause-unaligned
-returns-in_err-l2_depends_on_rb-clause-unaligned g c = λ _ _.
-    let file : ImageFile g.row.S.Denot = record c.args.file.now { storage = c.l2_depends_on_rb.new.storage; caches = c.l2_depends_on_rb.new.self } in
-    let alone : TurnsAlone g.S.Storage.view c.args.file.now file = turned g.S.Storage.view c.args.file.now c.l2_depends_on_rb.new.storage c.l2_depends_on_rb.new.self c.l2_depends_on_rb.ensures.blocks c.l2_depends_on_rb.ensures.keeps in
-    (handed_why (λ e. IsOfTurning c.args.file.now.caches e ⊎ IsOfSearch c.args.file.now.header.fields (max c.args.self.now.first_free_cluster 1) c.args.count I.UnalignedTable e) c.from_residual.result c.in_err-l2_depends_on_rb.field-0.0 c.from_residual.ensures (inl (c.in_err-l2_depends_on_rb.ensures.turned, c.in_err-l2_depends_on_rb.ensures.cause)), alone)
-
-pub returns-in_err-l2_depends_on_rb-clause-first_range : goal.returns-in_err-l2_depends_on_rb-clause-first_range
-returns-in_err-l2_depends_on_rb-clause-first_range g c = λ _ _.
-    let file : ImageFile g.row.S.Denot = record c.args.file.now { storage = c.l2_depends_on_rb.new.storage; caches = c.l2_depends_on_rb.new.self } in
-    let alone : TurnsAlone g.S.Storage.view c.args.file.now file = turned g.S.Storage.view c.args.file.now c.l2_depends_on_rb.new.storage c.l2_depends_on_rb.new.self c.l2_depends_on_rb.ensures.blocks c.l2_depends_on_rb.ensures.keeps in
-    (handed_why (λ e. IsOfTurning c.args.file.now.caches e ⊎ IsOfTaking I.Limit e) c.from_residual.result c.in_err-l2_depends_on_rb.field-0.0 c.from_residual.ensures (inl (c.in_err-l2_depends_on_rb.ensures.turned, c.in_err-l2_depends_on_rb.ensures.cause)), alone)
-
-pub returns-clause-unaligned : goal.returns-clause-unaligned
-returns-clause-unaligned g c = λ lacks some.
-    let file : ImageFile g.row.S.Denot = record c.args.file.now { storage = c.l2_depends_on_rb.new.storage; caches = c.l2_depends_on_rb.new.self } in
-    let alone : TurnsAlone g.S.Storage.view c.args.file.now file = turned g.S.Storage.view c.args.file.now c.l2_depends_on_rb.new.storage c.l2_depends_on_rb.new.self c.l2_depends_on_rb.ensures.blocks c.l2_depends_on_rb.ensures.keeps in
-    behind_turned g.S.Storage.view c.args.file.now file c.allocate.new.file (IsOfSearch c.args.file.now.header.fields (max c.args.self.now.first_free_cluster 1) c.args.count I.UnalignedTable) c.allocate.result alone (c.allocate.ensures.unaligned lacks some)
-
-pub returns-clause-first_range : goal.returns-clause-first_range
-returns-clause-first_range g c = λ lacks some.
-    let file : ImageFile g.row.S.Denot = record c.args.file.now { storage = c.l2_depends_on_rb.new.storage; caches = c.l2_depends_on_rb.new.self } in
-    let alone : TurnsAlone g.S.Storage.view c.args.file.now file = turned g.S.Storage.view c.args.file.now c.l2_depends_on_rb.new.storage c.l2_depends_on_rb.new.self c.l2_depends_on_rb.ensures.blocks c.l2_depends_on_rb.ensures.keeps in
-    behind_turned g.S.Storage.view c.args.file.now file c.allocate.new.file (IsOfTaking I.Limit) c.allocate.result alone (c.allocate.ensures.first_range lacks some)
-
 pub returns-in_err-l2_depends_on_rb-clause-made : goal.returns-in_err-l2_depends_on_rb-clause-made
 returns-in_err-l2_depends_on_rb-clause-made g c = λ p sound.
     let file : ImageFile g.row.S.Denot = record c.args.file.now { storage = c.l2_depends_on_rb.new.storage; caches = c.l2_depends_on_rb.new.self } in
@@ -213,31 +189,3 @@ returns-clause-made g c = λ p sound.
     let known = (c.l2_depends_on_rb.ensures.keeps c.args.file.now.header.fields p sound.sound.honest sound.sound.caches).known in
     alone_since g.S.Storage.view c.args.file.now file refl known run_of (IsMadeInTurn c.args.file.now.header.fields c.args.self.now.reftable c.allocate.new.self.reftable c.args.file.now.free_list c.allocate.new.file.free_list) c.allocate.new.file c.allocate.result
     (made_run g.S.Storage.view p file c.allocate.new.file c.args.self.now c.allocate.new.self now c.allocate.ensures.list c.allocate.ensures.former Data c.args.count c.allocate.result (c.allocate.ensures.sound p now c.in_ok-l2_depends_on_rb.ensures.order))
-
-pub returns-in_err-l2_depends_on_rb-clause-aligned : goal.returns-in_err-l2_depends_on_rb-clause-aligned
-returns-in_err-l2_depends_on_rb-clause-aligned g c = if_no_ok _ c.from_residual.result c.in_err-l2_depends_on_rb.field-0.0 c.from_residual.ensures
-
-pub returns-clause-aligned : goal.returns-clause-aligned
-returns-clause-aligned g c = c.allocate.ensures.aligned
-
-pub returns-in_err-l2_depends_on_rb-clause-quiet : goal.returns-in_err-l2_depends_on_rb-clause-quiet
-returns-in_err-l2_depends_on_rb-clause-quiet g c = λ few. on_no_ok _ c.from_residual.result c.in_err-l2_depends_on_rb.field-0.0 c.from_residual.ensures
-
-pub returns-clause-quiet : goal.returns-clause-quiet
-returns-clause-quiet g c = λ few. ok_as _ _ c.allocate.result (search_after g.S.Storage.view c.args.file.now (record c.args.file.now { storage = c.l2_depends_on_rb.new.storage; caches = c.l2_depends_on_rb.new.self }) c.allocate.new.file c.args.self.now.reftable c.allocate.new.self.reftable c.l2_depends_on_rb.ensures.all_written) (c.allocate.ensures.quiet few)
-
--- ---- the refblocks of all ranges that are passed stay held, where no L2 table has to be written before
-pub returns-in_err-l2_depends_on_rb-clause-held_range : goal.returns-in_err-l2_depends_on_rb-clause-held_range
-returns-in_err-l2_depends_on_rb-clause-held_range g c = λ other. absurd (other c.in_err-l2_depends_on_rb.ensures.turned)
-
-pub returns-clause-held_range : goal.returns-clause-held_range
-returns-clause-held_range g c = λ other.
-    search_turned (λ (run : ClustersToFreeEntry). run.first_cluster) c.args.self.now.reftable c.args.self.now.reftable c.allocate.new.self.reftable c.args.file.now (record c.args.file.now { storage = c.l2_depends_on_rb.new.storage; caches = c.l2_depends_on_rb.new.self }) c.allocate.new.file (max c.args.self.now.first_free_cluster 1) c.args.count c.allocate.result refl
-    (alone_turned c.args.self.now.reftable c.args.file.now c.l2_depends_on_rb.new.storage c.l2_depends_on_rb.new.self (c.l2_depends_on_rb.ensures.storage_stays other) c.l2_depends_on_rb.ensures.blocks) c.allocate.ensures.held_range
-
--- ---- the refblock that counts its last cluster is held
-pub returns-in_err-l2_depends_on_rb-clause-holds : goal.returns-in_err-l2_depends_on_rb-clause-holds
-returns-in_err-l2_depends_on_rb-clause-holds g c = if_no_ok _ c.from_residual.result c.in_err-l2_depends_on_rb.field-0.0 c.from_residual.ensures
-
-pub returns-clause-holds : goal.returns-clause-holds
-returns-clause-holds g c = c.allocate.ensures.holds

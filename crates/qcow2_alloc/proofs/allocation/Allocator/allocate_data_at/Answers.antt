@@ -183,12 +183,6 @@ returns-in_err-l2_depends_on_rb-clause-elsewhere g c = if_no_ok _ c.from_residua
 pub returns-in_err-l2_depends_on_rb-clause-none : goal.returns-in_err-l2_depends_on_rb-clause-none
 returns-in_err-l2_depends_on_rb-clause-none g c = λ _ _. if_no_ok _ c.from_residual.result c.in_err-l2_depends_on_rb.field-0.0 c.from_residual.ensures
 
-pub returns-in_err-l2_depends_on_rb-clause-unaligned : goal.returns-in_err-l2_depends_on_rb-clause-unaligned
-returns-in_err-l2_depends_on_rb-clause-unaligned g c = λ _ _ _.
-    let file : ImageFile g.row.S.Denot = record c.args.file.now { storage = c.l2_depends_on_rb.new.storage; caches = c.l2_depends_on_rb.new.self } in
-    let alone : TurnsAlone g.S.Storage.view c.args.file.now file = turned g.S.Storage.view c.args.file.now c.l2_depends_on_rb.new.storage c.l2_depends_on_rb.new.self c.l2_depends_on_rb.ensures.blocks c.l2_depends_on_rb.ensures.keeps in
-    (handed_why (λ e. IsOfTurning c.args.file.now.caches e ⊎ IsOfTaking I.UnalignedTable e) c.from_residual.result c.in_err-l2_depends_on_rb.field-0.0 c.from_residual.ensures (inl (c.in_err-l2_depends_on_rb.ensures.turned, c.in_err-l2_depends_on_rb.ensures.cause)), alone)
-
 pub returns-in_err-l2_depends_on_rb-clause-order : goal.returns-in_err-l2_depends_on_rb-clause-order
 returns-in_err-l2_depends_on_rb-clause-order g c = on_no_ok _ c.from_residual.result c.in_err-l2_depends_on_rb.field-0.0 c.from_residual.ensures
 
@@ -366,18 +360,6 @@ returns-in-Ok-false-clause-notes g c = kept_then _ _ _ c.l2_depends_on_rb.ensure
 pub returns-in-Err-clause-notes : goal.returns-in-Err-clause-notes
 returns-in-Err-clause-notes g c = kept_then _ _ _ c.l2_depends_on_rb.ensures.notes c.take.ensures.marks.notes
 
-pub returns-in_err-l2_depends_on_rb-clause-first_range : goal.returns-in_err-l2_depends_on_rb-clause-first_range
-returns-in_err-l2_depends_on_rb-clause-first_range g c = λ _ _ _.
-    let file : ImageFile g.row.S.Denot = record c.args.file.now { storage = c.l2_depends_on_rb.new.storage; caches = c.l2_depends_on_rb.new.self } in
-    let alone : TurnsAlone g.S.Storage.view c.args.file.now file = turned g.S.Storage.view c.args.file.now c.l2_depends_on_rb.new.storage c.l2_depends_on_rb.new.self c.l2_depends_on_rb.ensures.blocks c.l2_depends_on_rb.ensures.keeps in
-    (handed_why (λ e. IsOfTurning c.args.file.now.caches e ⊎ IsOfTaking I.Limit e) c.from_residual.result c.in_err-l2_depends_on_rb.field-0.0 c.from_residual.ensures (inl (c.in_err-l2_depends_on_rb.ensures.turned, c.in_err-l2_depends_on_rb.ensures.cause)), alone)
-
-pub returns-in-Ok-true-clause-first_range : goal.returns-in-Ok-true-clause-first_range
-returns-in-Ok-true-clause-first_range g c = λ l some near. ok_no_err c.in-Ok-true.field-0 I.Limit (c.in-Ok-true.ensures.first_range (subst (LacksFirst c.args.file.now.header.fields c.args.self.now.reftable) (sym c.value.ensures) l)).0
-
-pub returns-in-Ok-false-clause-first_range : goal.returns-in-Ok-false-clause-first_range
-returns-in-Ok-false-clause-first_range g c = λ l some near. ok_no_err c.in-Ok-false.field-0 I.Limit (c.in-Ok-false.ensures.first_range (subst (LacksFirst c.args.file.now.header.fields c.args.self.now.reftable) (sym c.value.ensures) l)).0
-
 pub returns-then-at-eq0-clause-uses : goal.returns-then-at-eq0-clause-uses
 returns-then-at-eq0-clause-uses g c = λ p sound k used.
     let h = c.args.file.now.header.fields in
@@ -527,26 +509,6 @@ returns-in-Ok-false-clause-none g c = λ p sound _.
     let used = subst (λ n. IsUsed g.S.Storage.view c.take.new.file n) c.value.ensures (c.in-Ok-false.ensures.used p true now c.in_ok-l2_depends_on_rb.ensures.order c.in-Ok-false.field-0-test) in
     inr (made_before g.S.Storage.view p file c.take.new.file c.args.self.now c.take.new.self now c.take.ensures.list c.take.ensures.former (c.take.ensures.listed p now) c.args.file.now uses c.args.cluster two used)
 
-pub returns-then-at-eq0-clause-first_range : goal.returns-then-at-eq0-clause-first_range
-returns-then-at-eq0-clause-first_range g c = λ l some near. absurd (let zero = sym c.value-at.ensures ∙ c.if-at-eq0.true in omega (arith, some, zero))
-
-pub returns-then-not-is_nameable-clause-first_range : goal.returns-then-not-is_nameable-clause-first_range
-returns-then-not-is_nameable-clause-first_range g c = λ l some near.
-    not_both c.is_nameable.result (c.is_nameable.ensures.1 (subst (λ n. IsHostCluster n c.args.cluster) (sym c.cluster_bits.ensures.value) near)) c.if-not-is_nameable.true
-
-pub returns-in_default-clause-first_range : goal.returns-in_default-clause-first_range
-returns-in_default-clause-first_range g c = λ l some near.
-    let file : ImageFile g.row.S.Denot = record c.args.file.now { storage = c.l2_depends_on_rb.new.storage; caches = c.l2_depends_on_rb.new.self } in
-    let alone : TurnsAlone g.S.Storage.view c.args.file.now file = turned g.S.Storage.view c.args.file.now c.l2_depends_on_rb.new.storage c.l2_depends_on_rb.new.self c.l2_depends_on_rb.ensures.blocks c.l2_depends_on_rb.ensures.keeps in
-    (inr (inl refl), alone)
-
-pub returns-in-Err-clause-first_range : goal.returns-in-Err-clause-first_range
-returns-in-Err-clause-first_range g c = λ l some near.
-    let file : ImageFile g.row.S.Denot = record c.args.file.now { storage = c.l2_depends_on_rb.new.storage; caches = c.l2_depends_on_rb.new.self } in
-    let alone : TurnsAlone g.S.Storage.view c.args.file.now file = turned g.S.Storage.view c.args.file.now c.l2_depends_on_rb.new.storage c.l2_depends_on_rb.new.self c.l2_depends_on_rb.ensures.blocks c.l2_depends_on_rb.ensures.keeps in
-    let refused = c.in-Err.ensures.first_range (subst (LacksFirst c.args.file.now.header.fields c.args.self.now.reftable) (sym c.value.ensures) l) in
-    (inr (inr (refused_as {T = Bool} c.in-Err.refusal I.Limit refused.0)), subst (TurnsAlone g.S.Storage.view c.args.file.now) (sym refused.1) alone)
-
 pub returns-in_err-l2_depends_on_rb-clause-kept : goal.returns-in_err-l2_depends_on_rb-clause-kept
 returns-in_err-l2_depends_on_rb-clause-kept g c = λ p sound.
     let file : ImageFile g.row.S.Denot = record c.args.file.now { storage = c.l2_depends_on_rb.new.storage; caches = c.l2_depends_on_rb.new.self } in
@@ -570,86 +532,3 @@ returns-in-Err-clause-kept g c = λ p sound.
 
 pub returns-in-Ok-true-clause-none : goal.returns-in-Ok-true-clause-none
 returns-in-Ok-true-clause-none g c = λ p sound is. absurd cc
-
-pub returns-then-at-eq0-clause-unaligned : goal.returns-then-at-eq0-clause-unaligned
-returns-then-at-eq0-clause-unaligned g c = λ u some near. absurd (let zero = sym c.value-at.ensures ∙ c.if-at-eq0.true in omega (arith, some, zero))
-
-pub returns-then-not-is_nameable-clause-unaligned : goal.returns-then-not-is_nameable-clause-unaligned
-returns-then-not-is_nameable-clause-unaligned g c = λ u some near.
-    not_both c.is_nameable.result (c.is_nameable.ensures.1 (subst (λ n. IsHostCluster n c.args.cluster) (sym c.cluster_bits.ensures.value) near)) c.if-not-is_nameable.true
-
-pub returns-in_default-clause-unaligned : goal.returns-in_default-clause-unaligned
-returns-in_default-clause-unaligned g c = λ u some near.
-    let file : ImageFile g.row.S.Denot = record c.args.file.now { storage = c.l2_depends_on_rb.new.storage; caches = c.l2_depends_on_rb.new.self } in
-    let alone : TurnsAlone g.S.Storage.view c.args.file.now file = turned g.S.Storage.view c.args.file.now c.l2_depends_on_rb.new.storage c.l2_depends_on_rb.new.self c.l2_depends_on_rb.ensures.blocks c.l2_depends_on_rb.ensures.keeps in
-    (inr (inl refl), alone)
-
-pub returns-in-Err-clause-unaligned : goal.returns-in-Err-clause-unaligned
-returns-in-Err-clause-unaligned g c = λ u some near.
-    let file : ImageFile g.row.S.Denot = record c.args.file.now { storage = c.l2_depends_on_rb.new.storage; caches = c.l2_depends_on_rb.new.self } in
-    let alone : TurnsAlone g.S.Storage.view c.args.file.now file = turned g.S.Storage.view c.args.file.now c.l2_depends_on_rb.new.storage c.l2_depends_on_rb.new.self c.l2_depends_on_rb.ensures.blocks c.l2_depends_on_rb.ensures.keeps in
-    let refused = c.in-Err.ensures.unaligned (subst (λ n. IsUnaligned c.args.file.now.header.fields c.args.self.now.reftable (n / counts_per_block c.args.file.now.header.fields)) (sym c.value.ensures) u) in
-    (inr (inr (refused_as {T = Bool} c.in-Err.refusal I.UnalignedTable refused.0)), subst (TurnsAlone g.S.Storage.view c.args.file.now) (sym refused.1) alone)
-
-pub returns-in-Ok-true-clause-unaligned : goal.returns-in-Ok-true-clause-unaligned
-returns-in-Ok-true-clause-unaligned g c = λ u some near. ok_no_err c.in-Ok-true.field-0 I.UnalignedTable (c.in-Ok-true.ensures.unaligned (subst (λ n. IsUnaligned c.args.file.now.header.fields c.args.self.now.reftable (n / counts_per_block c.args.file.now.header.fields)) (sym c.value.ensures) u)).0
-
-pub returns-in-Ok-false-clause-unaligned : goal.returns-in-Ok-false-clause-unaligned
-returns-in-Ok-false-clause-unaligned g c = λ u some near. ok_no_err c.in-Ok-false.field-0 I.UnalignedTable (c.in-Ok-false.ensures.unaligned (subst (λ n. IsUnaligned c.args.file.now.header.fields c.args.self.now.reftable (n / counts_per_block c.args.file.now.header.fields)) (sym c.value.ensures) u)).0
-
--- the cluster is counted in a refblock that begins at a cluster
-pub returns-in_err-l2_depends_on_rb-clause-aligned : goal.returns-in_err-l2_depends_on_rb-clause-aligned
-returns-in_err-l2_depends_on_rb-clause-aligned g c = if_no_ok _ c.from_residual.result c.in_err-l2_depends_on_rb.field-0.0 c.from_residual.ensures
-
-pub returns-in-Ok-true-clause-aligned : goal.returns-in-Ok-true-clause-aligned
-returns-in-Ok-true-clause-aligned g c = λ some. subst (λ n. HasAlignedBlock c.args.file.now.header.fields c.take.new.self.reftable (n / counts_per_block c.args.file.now.header.fields)) c.value.ensures (c.in-Ok-true.ensures.aligned c.in-Ok-true.field-0-test)
-
-pub returns-in_err-l2_depends_on_rb-clause-quiet : goal.returns-in_err-l2_depends_on_rb-clause-quiet
-returns-in_err-l2_depends_on_rb-clause-quiet g c = on_no_ok _ c.from_residual.result c.in_err-l2_depends_on_rb.field-0.0 c.from_residual.ensures
-
-pub returns-then-at-eq0-clause-quiet : goal.returns-then-at-eq0-clause-quiet
-returns-then-at-eq0-clause-quiet g c = inl c.l2_depends_on_rb.ensures.all_written.quiet
-
-pub returns-then-not-is_nameable-clause-quiet : goal.returns-then-not-is_nameable-clause-quiet
-returns-then-not-is_nameable-clause-quiet g c = inl c.l2_depends_on_rb.ensures.all_written.quiet
-
-pub returns-in_default-clause-quiet : goal.returns-in_default-clause-quiet
-returns-in_default-clause-quiet g c = tt
-
-pub returns-in-Err-clause-quiet : goal.returns-in-Err-clause-quiet
-returns-in-Err-clause-quiet g c = tt
-
-pub returns-in-Ok-true-clause-quiet : goal.returns-in-Ok-true-clause-quiet
-returns-in-Ok-true-clause-quiet g c = count_after g.S.Storage.view c.args.file.now (record c.args.file.now { storage = c.l2_depends_on_rb.new.storage; caches = c.l2_depends_on_rb.new.self }) c.take.new.file c.args.self.now.reftable c.take.new.self.reftable true c.l2_depends_on_rb.ensures.all_written (rw c.in-Ok-true.field-0-test at c.in-Ok-true.ensures.quiet)
-
-pub returns-in-Ok-false-clause-quiet : goal.returns-in-Ok-false-clause-quiet
-returns-in-Ok-false-clause-quiet g c = count_after g.S.Storage.view c.args.file.now (record c.args.file.now { storage = c.l2_depends_on_rb.new.storage; caches = c.l2_depends_on_rb.new.self }) c.take.new.file c.args.self.now.reftable c.take.new.self.reftable false c.l2_depends_on_rb.ensures.all_written (rw c.in-Ok-false.field-0-test at c.in-Ok-false.ensures.quiet)
-
--- ---- the range's refblock stays held, where no L2 table has to be written before
-pub returns-in_err-l2_depends_on_rb-clause-held_range : goal.returns-in_err-l2_depends_on_rb-clause-held_range
-returns-in_err-l2_depends_on_rb-clause-held_range g c = λ other. absurd (other c.in_err-l2_depends_on_rb.ensures.turned)
-
-pub returns-then-at-eq0-clause-held_range : goal.returns-then-at-eq0-clause-held_range
-returns-then-at-eq0-clause-held_range g c = λ other. held_turned c.args.self.now.reftable c.args.file.now c.l2_depends_on_rb.new.storage c.l2_depends_on_rb.new.self (c.args.cluster / counts_per_block c.args.file.now.header.fields) (c.l2_depends_on_rb.ensures.storage_stays other) c.l2_depends_on_rb.ensures.blocks
-
-pub returns-then-not-is_nameable-clause-held_range : goal.returns-then-not-is_nameable-clause-held_range
-returns-then-not-is_nameable-clause-held_range g c = λ other. held_turned c.args.self.now.reftable c.args.file.now c.l2_depends_on_rb.new.storage c.l2_depends_on_rb.new.self (c.args.cluster / counts_per_block c.args.file.now.header.fields) (c.l2_depends_on_rb.ensures.storage_stays other) c.l2_depends_on_rb.ensures.blocks
-
-pub returns-in_default-clause-held_range : goal.returns-in_default-clause-held_range
-returns-in_default-clause-held_range g c = λ other. held_turned c.args.self.now.reftable c.args.file.now c.l2_depends_on_rb.new.storage c.l2_depends_on_rb.new.self (c.args.cluster / counts_per_block c.args.file.now.header.fields) (c.l2_depends_on_rb.ensures.storage_stays other) c.l2_depends_on_rb.ensures.blocks
-
-pub returns-in-Ok-true-clause-held_range : goal.returns-in-Ok-true-clause-held_range
-returns-in-Ok-true-clause-held_range g c = λ other. held_then (held_turned c.args.self.now.reftable c.args.file.now c.l2_depends_on_rb.new.storage c.l2_depends_on_rb.new.self (c.args.cluster / counts_per_block c.args.file.now.header.fields) (c.l2_depends_on_rb.ensures.storage_stays other) c.l2_depends_on_rb.ensures.blocks) (held_at (ap (λ n. n / counts_per_block c.args.file.now.header.fields) (sym c.value.ensures)) c.take.ensures.held_range)
-
-pub returns-in-Ok-false-clause-held_range : goal.returns-in-Ok-false-clause-held_range
-returns-in-Ok-false-clause-held_range g c = λ other. held_then (held_turned c.args.self.now.reftable c.args.file.now c.l2_depends_on_rb.new.storage c.l2_depends_on_rb.new.self (c.args.cluster / counts_per_block c.args.file.now.header.fields) (c.l2_depends_on_rb.ensures.storage_stays other) c.l2_depends_on_rb.ensures.blocks) (held_at (ap (λ n. n / counts_per_block c.args.file.now.header.fields) (sym c.value.ensures)) c.take.ensures.held_range)
-
-pub returns-in-Err-clause-held_range : goal.returns-in-Err-clause-held_range
-returns-in-Err-clause-held_range g c = λ other. held_then (held_turned c.args.self.now.reftable c.args.file.now c.l2_depends_on_rb.new.storage c.l2_depends_on_rb.new.self (c.args.cluster / counts_per_block c.args.file.now.header.fields) (c.l2_depends_on_rb.ensures.storage_stays other) c.l2_depends_on_rb.ensures.blocks) (held_at (ap (λ n. n / counts_per_block c.args.file.now.header.fields) (sym c.value.ensures)) c.take.ensures.held_range)
-
--- ---- the refblock that counts it is held
-pub returns-in_err-l2_depends_on_rb-clause-holds : goal.returns-in_err-l2_depends_on_rb-clause-holds
-returns-in_err-l2_depends_on_rb-clause-holds g c = if_no_ok _ c.from_residual.result c.in_err-l2_depends_on_rb.field-0.0 c.from_residual.ensures
-
-pub returns-in-Ok-true-clause-holds : goal.returns-in-Ok-true-clause-holds
-returns-in-Ok-true-clause-holds g c = λ some. subst (HoldsCountOf c.take.new.self.reftable c.take.new.file) c.value.ensures (c.in-Ok-true.ensures.holds c.in-Ok-true.field-0-test)

@@ -20,23 +20,5 @@ returns-clause-limit g c = λ p kept some. c.allocate.ensures.limit p kept.sound
 pub returns-clause-header_cluster : goal.returns-clause-header_cluster
 returns-clause-header_cluster g c = c.allocate.ensures.header_cluster
 
-pub returns-clause-unaligned : goal.returns-clause-unaligned
-returns-clause-unaligned g c = c.allocate.ensures.unaligned
-
-pub returns-clause-first_range : goal.returns-clause-first_range
-returns-clause-first_range g c = c.allocate.ensures.first_range
-
 pub returns-clause-made : goal.returns-clause-made
 returns-clause-made g c = λ p sound. made_run g.S.Storage.view p c.args.file.now c.allocate.new.file c.args.self.now c.allocate.new.self sound c.allocate.ensures.list c.allocate.ensures.former Metadata c.args.count c.allocate.result (c.allocate.ensures.sound p sound tt)
-
-pub returns-clause-aligned : goal.returns-clause-aligned
-returns-clause-aligned g c = c.allocate.ensures.aligned
-
-pub returns-clause-quiet : goal.returns-clause-quiet
-returns-clause-quiet g c = c.allocate.ensures.quiet
-
-pub returns-clause-held_range : goal.returns-clause-held_range
-returns-clause-held_range g c = c.allocate.ensures.held_range
-
-pub returns-clause-holds : goal.returns-clause-holds
-returns-clause-holds g c = c.allocate.ensures.holds

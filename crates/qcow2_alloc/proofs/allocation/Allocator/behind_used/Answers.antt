@@ -120,36 +120,6 @@ returns-clause-marks g c = rw c.rb_used_from-used.ensures.same c.load_block.ensu
 pub returns-clause-header_cluster : goal.returns-clause-header_cluster
 returns-clause-header_cluster g c = rw c.rb_used_from-used.ensures.same c.load_block.ensures.header_cluster
 
-pub returns-in_err-block-clause-unaligned : goal.returns-in_err-block-clause-unaligned
-returns-in_err-block-clause-unaligned g c = λ u.
-    let refused = c.in_err-block.ensures.unaligned (unaligned_as c.args.file.now.header.fields c.args.self.now.reftable c.args.cluster _ c.rb_bits-bits.ensures.counts u) in
-    (handed_unaligned c.from_residual.result c.in_err-block.field-0.0 c.from_residual.ensures refused.0, refused.1)
-
-pub returns-in_default-clause-unaligned : goal.returns-in_default-clause-unaligned
-returns-in_default-clause-unaligned g c = λ u. ok_no_err _ I.UnalignedTable (c.in_ok-block.ensures.unaligned (unaligned_as c.args.file.now.header.fields c.args.self.now.reftable c.args.cluster _ c.rb_bits-bits.ensures.counts u)).0
-
-pub returns-clause-unaligned : goal.returns-clause-unaligned
-returns-clause-unaligned g c = λ u. ok_no_err _ I.UnalignedTable (c.in_ok-block.ensures.unaligned (unaligned_as c.args.file.now.header.fields c.args.self.now.reftable c.args.cluster _ c.rb_bits-bits.ensures.counts u)).0
-
-pub returns-in_err-block-clause-quiet : goal.returns-in_err-block-clause-quiet
-returns-in_err-block-clause-quiet g c = c.load_block.ensures.quiet
-
-pub returns-in_default-clause-quiet : goal.returns-in_default-clause-quiet
-returns-in_default-clause-quiet g c = c.load_block.ensures.quiet
-
-pub returns-clause-quiet : goal.returns-clause-quiet
-returns-clause-quiet g c = rw c.rb_used_from-used.ensures.same c.load_block.ensures.quiet
-
--- ---- the range's refblock stays held
-pub returns-in_err-block-clause-held_range : goal.returns-in_err-block-clause-held_range
-returns-in_err-block-clause-held_range g c = held_at (ap (λ n. c.args.cluster / n) c.rb_bits-bits.ensures.counts) c.load_block.ensures.held_range
-
-pub returns-in_default-clause-held_range : goal.returns-in_default-clause-held_range
-returns-in_default-clause-held_range g c = held_at (ap (λ n. c.args.cluster / n) c.rb_bits-bits.ensures.counts) c.load_block.ensures.held_range
-
-pub returns-clause-held_range : goal.returns-clause-held_range
-returns-clause-held_range g c = rw c.rb_used_from-used.ensures.same (held_at (ap (λ n. c.args.cluster / n) c.rb_bits-bits.ensures.counts) c.load_block.ensures.held_range)
-
 -- ---- without a refblock nothing changes
 pub returns-in_err-block-clause-none : goal.returns-in_err-block-clause-none
 returns-in_err-block-clause-none g c = λ none. (c.in_err-block.ensures.none (subst (λ n. HasNone c.args.self.now.reftable (c.args.cluster / n)) c.rb_bits-bits.ensures.counts none)).1

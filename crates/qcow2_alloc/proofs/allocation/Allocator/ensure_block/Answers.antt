@@ -251,11 +251,6 @@ returns-else-is_fault-clause-header g c = c.cover_range-in-Err.ensures.header �
 pub returns-else-is_fault-clause-list : goal.returns-else-is_fault-clause-list
 returns-else-is_fault-clause-list g c = c.cover_range-in-Err.ensures.list ∙ c.take_lowest_below.ensures.list ∙ c.load_block.ensures.list
 
-pub returns-in_err-load_block-clause-unaligned : goal.returns-in_err-load_block-clause-unaligned
-returns-in_err-load_block-clause-unaligned g c = λ u.
-    let refused = c.in_err-load_block.ensures.unaligned (is_unaligned c.args.file.now.header.fields c.args.self.now.reftable c.args.cluster (2 ^ c.rb_bits-bits.result) (counts_per_block c.args.file.now.header.fields) c.rb_bits-bits.ensures.counts u) in
-    (handed_unaligned c.from_residual.result c.in_err-load_block.field-0.0 c.from_residual.ensures refused.0, refused.1)
-
 pub returns-in_err-load_block-clause-cause : goal.returns-in_err-load_block-clause-cause
 returns-in_err-load_block-clause-cause g c = handed_cause c.from_residual.result c.in_err-load_block.field-0.0 c.from_residual.ensures c.in_err-load_block.ensures.cause
 
@@ -297,24 +292,6 @@ returns-then-is_some-clause-storage_faults g c = told_ok _ _ tt c.in_ok-load_blo
 
 pub returns-then-not-can_name-clause-storage_faults : goal.returns-then-not-can_name-clause-storage_faults
 returns-then-not-can_name-clause-storage_faults g c = told_limit _ _ c.in_ok-load_block.ensures.storage_faults.told
-
-pub returns-then-is_some-clause-unaligned : goal.returns-then-is_some-clause-unaligned
-returns-then-is_some-clause-unaligned g c = λ u. ok_no_err _ I.UnalignedTable (c.in_ok-load_block.ensures.unaligned (is_unaligned c.args.file.now.header.fields c.args.self.now.reftable c.args.cluster (2 ^ c.rb_bits-bits.result) (counts_per_block c.args.file.now.header.fields) c.rb_bits-bits.ensures.counts u)).0
-
-pub returns-then-not-can_name-clause-unaligned : goal.returns-then-not-can_name-clause-unaligned
-returns-then-not-can_name-clause-unaligned g c = λ u. ok_no_err _ I.UnalignedTable (c.in_ok-load_block.ensures.unaligned (is_unaligned c.args.file.now.header.fields c.args.self.now.reftable c.args.cluster (2 ^ c.rb_bits-bits.result) (counts_per_block c.args.file.now.header.fields) c.rb_bits-bits.ensures.counts u)).0
-
-pub returns-in-Ok-Some-clause-unaligned : goal.returns-in-Ok-Some-clause-unaligned
-returns-in-Ok-Some-clause-unaligned g c = λ u. ok_no_err _ I.UnalignedTable (c.in_ok-load_block.ensures.unaligned (is_unaligned c.args.file.now.header.fields c.args.self.now.reftable c.args.cluster (2 ^ c.rb_bits-bits.result) (counts_per_block c.args.file.now.header.fields) c.rb_bits-bits.ensures.counts u)).0
-
-pub returns-in-Ok-None-clause-unaligned : goal.returns-in-Ok-None-clause-unaligned
-returns-in-Ok-None-clause-unaligned g c = λ u. ok_no_err _ I.UnalignedTable (c.in_ok-load_block.ensures.unaligned (is_unaligned c.args.file.now.header.fields c.args.self.now.reftable c.args.cluster (2 ^ c.rb_bits-bits.result) (counts_per_block c.args.file.now.header.fields) c.rb_bits-bits.ensures.counts u)).0
-
-pub returns-then-is_fault-clause-unaligned : goal.returns-then-is_fault-clause-unaligned
-returns-then-is_fault-clause-unaligned g c = λ u. ok_no_err _ I.UnalignedTable (c.in_ok-load_block.ensures.unaligned (is_unaligned c.args.file.now.header.fields c.args.self.now.reftable c.args.cluster (2 ^ c.rb_bits-bits.result) (counts_per_block c.args.file.now.header.fields) c.rb_bits-bits.ensures.counts u)).0
-
-pub returns-else-is_fault-clause-unaligned : goal.returns-else-is_fault-clause-unaligned
-returns-else-is_fault-clause-unaligned g c = λ u. ok_no_err _ I.UnalignedTable (c.in_ok-load_block.ensures.unaligned (is_unaligned c.args.file.now.header.fields c.args.self.now.reftable c.args.cluster (2 ^ c.rb_bits-bits.result) (counts_per_block c.args.file.now.header.fields) c.rb_bits-bits.ensures.counts u)).0
 
 pub returns-then-is_some-clause-fault : goal.returns-then-is_some-clause-fault
 returns-then-is_some-clause-fault g c = λ p sound within near. tt
@@ -432,71 +409,3 @@ no_answer r e is none = absurd (cc)
 no_block : {A : Type 0} (r : Result (Option ℕ) ImageError) (block : Option ℕ) → r ≡ Ok block → r ≡ Ok None → is_some block ≡ true → A
 no_block r None is none some = absurd (let bad : false ≡ true = some in cc)
 no_block r (Some block) is none some = absurd (cc)
-
-pub returns-in_err-load_block-clause-first_range : goal.returns-in_err-load_block-clause-first_range
-returns-in_err-load_block-clause-first_range g c = λ lacks. no_answer (Err c.in_err-load_block.field-0.0) c.in_err-load_block.field-0.0 refl (c.in_err-load_block.ensures.none (subst (HasNone c.args.self.now.reftable) (sym (range_first c.args.file.now.header.fields c.args.cluster (2 ^ c.rb_bits-bits.result) (sym c.rb_bits-bits.ensures.counts) lacks.first)) lacks.none)).0
-
-pub returns-then-is_some-clause-first_range : goal.returns-then-is_some-clause-first_range
-returns-then-is_some-clause-first_range g c = λ lacks. no_block (Ok c.in_ok-load_block.field-0) c.in_ok-load_block.field-0 refl (c.in_ok-load_block.ensures.none (subst (HasNone c.args.self.now.reftable) (sym (range_first c.args.file.now.header.fields c.args.cluster (2 ^ c.rb_bits-bits.result) (sym c.rb_bits-bits.ensures.counts) lacks.first)) lacks.none)).0 (sym c.is_some.ensures ∙ c.if-is_some.true)
-
-pub returns-then-not-can_name-clause-first_range : goal.returns-then-not-can_name-clause-first_range
-returns-then-not-can_name-clause-first_range g c = λ lacks. (refl, (c.in_ok-load_block.ensures.none (subst (HasNone c.args.self.now.reftable) (sym (range_first c.args.file.now.header.fields c.args.cluster (2 ^ c.rb_bits-bits.result) (sym c.rb_bits-bits.ensures.counts) lacks.first)) lacks.none)).1)
-
-pub returns-in-Ok-Some-clause-first_range : goal.returns-in-Ok-Some-clause-first_range
-returns-in-Ok-Some-clause-first_range g c = λ lacks.
-    not_first c.args.file.now.header.fields c.args.self.now.reftable c.args.cluster (2 ^ c.rb_bits-bits.result) c.new-first.result (sym c.rb_bits-bits.ensures.counts) lacks c.new-first.ensures (c.can_name.ensures.elsewhere c.if-not-can_name.false)
-
-pub returns-in-Ok-None-clause-first_range : goal.returns-in-Ok-None-clause-first_range
-returns-in-Ok-None-clause-first_range g c = λ lacks.
-    not_first c.args.file.now.header.fields c.args.self.now.reftable c.args.cluster (2 ^ c.rb_bits-bits.result) c.new-first.result (sym c.rb_bits-bits.ensures.counts) lacks c.new-first.ensures (c.can_name.ensures.elsewhere c.if-not-can_name.false)
-
-pub returns-then-is_fault-clause-first_range : goal.returns-then-is_fault-clause-first_range
-returns-then-is_fault-clause-first_range g c = λ lacks.
-    not_first c.args.file.now.header.fields c.args.self.now.reftable c.args.cluster (2 ^ c.rb_bits-bits.result) c.new-first.result (sym c.rb_bits-bits.ensures.counts) lacks c.new-first.ensures (c.can_name.ensures.elsewhere c.if-not-can_name.false)
-
-pub returns-else-is_fault-clause-first_range : goal.returns-else-is_fault-clause-first_range
-returns-else-is_fault-clause-first_range g c = λ lacks.
-    not_first c.args.file.now.header.fields c.args.self.now.reftable c.args.cluster (2 ^ c.rb_bits-bits.result) c.new-first.result (sym c.rb_bits-bits.ensures.counts) lacks c.new-first.ensures (c.can_name.ensures.elsewhere c.if-not-can_name.false)
-
-pub returns-in_err-load_block-clause-quiet : goal.returns-in_err-load_block-clause-quiet
-returns-in_err-load_block-clause-quiet g c = on_no_ok _ c.from_residual.result c.in_err-load_block.field-0.0 c.from_residual.ensures
-
-pub returns-then-is_some-clause-quiet : goal.returns-then-is_some-clause-quiet
-returns-then-is_some-clause-quiet g c = inl c.load_block.ensures.quiet
-
-pub returns-then-not-can_name-clause-quiet : goal.returns-then-not-can_name-clause-quiet
-returns-then-not-can_name-clause-quiet g c = tt
-
-pub returns-then-is_fault-clause-quiet : goal.returns-then-is_fault-clause-quiet
-returns-then-is_fault-clause-quiet g c = tt
-
-pub returns-in-Ok-Some-clause-quiet : goal.returns-in-Ok-Some-clause-quiet
-returns-in-Ok-Some-clause-quiet g c = ok_as _ _ c.place_block.result (λ has. inr (inl (c.args.cluster / 2 ^ c.rb_bits-bits.result, none_named c.args.file.now.header.fields c.args.self.now.reftable (c.args.cluster / 2 ^ c.rb_bits-bits.result) c.in_ok-load_block.field-0 (sym c.is_some.ensures ∙ c.if-is_some.false) c.in_ok-load_block.ensures.names, has))) c.place_block.ensures.has
-
-pub returns-in-Ok-None-clause-quiet : goal.returns-in-Ok-None-clause-quiet
-returns-in-Ok-None-clause-quiet g c = ok_as _ _ c.cover_range.result (λ has. inr (inl (c.args.cluster / 2 ^ c.rb_bits-bits.result, none_named c.args.file.now.header.fields c.args.self.now.reftable (c.args.cluster / 2 ^ c.rb_bits-bits.result) c.in_ok-load_block.field-0 (sym c.is_some.ensures ∙ c.if-is_some.false) c.in_ok-load_block.ensures.names, has))) c.cover_range.ensures.has
-
-pub returns-else-is_fault-clause-quiet : goal.returns-else-is_fault-clause-quiet
-returns-else-is_fault-clause-quiet g c = ok_as _ _ c.cover_range-in-Err.result (λ has. inr (inl (c.args.cluster / 2 ^ c.rb_bits-bits.result, none_named c.args.file.now.header.fields c.args.self.now.reftable (c.args.cluster / 2 ^ c.rb_bits-bits.result) c.in_ok-load_block.field-0 (sym c.is_some.ensures ∙ c.if-is_some.false) c.in_ok-load_block.ensures.names, has))) c.cover_range-in-Err.ensures.has
-
--- ---- the range's refblock stays held
-pub returns-in_err-load_block-clause-held_range : goal.returns-in_err-load_block-clause-held_range
-returns-in_err-load_block-clause-held_range g c = held_at (ap (λ n. c.args.cluster / n) c.rb_bits-bits.ensures.counts) c.load_block.ensures.held_range
-
-pub returns-then-is_some-clause-held_range : goal.returns-then-is_some-clause-held_range
-returns-then-is_some-clause-held_range g c = held_at (ap (λ n. c.args.cluster / n) c.rb_bits-bits.ensures.counts) c.load_block.ensures.held_range
-
-pub returns-then-not-can_name-clause-held_range : goal.returns-then-not-can_name-clause-held_range
-returns-then-not-can_name-clause-held_range g c = held_not (subst (λ n. HasNone c.args.self.now.reftable (c.args.cluster / n)) (sym c.rb_bits-bits.ensures.counts) (none_named c.args.file.now.header.fields c.args.self.now.reftable (c.args.cluster / 2 ^ c.rb_bits-bits.result) c.in_ok-load_block.field-0 (sym c.is_some.ensures ∙ c.if-is_some.false) c.in_ok-load_block.ensures.names))
-
-pub returns-in-Ok-Some-clause-held_range : goal.returns-in-Ok-Some-clause-held_range
-returns-in-Ok-Some-clause-held_range g c = held_not (subst (λ n. HasNone c.args.self.now.reftable (c.args.cluster / n)) (sym c.rb_bits-bits.ensures.counts) (none_named c.args.file.now.header.fields c.args.self.now.reftable (c.args.cluster / 2 ^ c.rb_bits-bits.result) c.in_ok-load_block.field-0 (sym c.is_some.ensures ∙ c.if-is_some.false) c.in_ok-load_block.ensures.names))
-
-pub returns-in-Ok-None-clause-held_range : goal.returns-in-Ok-None-clause-held_range
-returns-in-Ok-None-clause-held_range g c = held_not (subst (λ n. HasNone c.args.self.now.reftable (c.args.cluster / n)) (sym c.rb_bits-bits.ensures.counts) (none_named c.args.file.now.header.fields c.args.self.now.reftable (c.args.cluster / 2 ^ c.rb_bits-bits.result) c.in_ok-load_block.field-0 (sym c.is_some.ensures ∙ c.if-is_some.false) c.in_ok-load_block.ensures.names))
-
-pub returns-then-is_fault-clause-held_range : goal.returns-then-is_fault-clause-held_range
-returns-then-is_fault-clause-held_range g c = held_not (subst (λ n. HasNone c.args.self.now.reftable (c.args.cluster / n)) (sym c.rb_bits-bits.ensures.counts) (none_named c.args.file.now.header.fields c.args.self.now.reftable (c.args.cluster / 2 ^ c.rb_bits-bits.result) c.in_ok-load_block.field-0 (sym c.is_some.ensures ∙ c.if-is_some.false) c.in_ok-load_block.ensures.names))
-
-pub returns-else-is_fault-clause-held_range : goal.returns-else-is_fault-clause-held_range
-returns-else-is_fault-clause-held_range g c = held_not (subst (λ n. HasNone c.args.self.now.reftable (c.args.cluster / n)) (sym c.rb_bits-bits.ensures.counts) (none_named c.args.file.now.header.fields c.args.self.now.reftable (c.args.cluster / 2 ^ c.rb_bits-bits.result) c.in_ok-load_block.field-0 (sym c.is_some.ensures ∙ c.if-is_some.false) c.in_ok-load_block.ensures.names))

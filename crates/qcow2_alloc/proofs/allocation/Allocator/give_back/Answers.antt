@@ -26,7 +26,6 @@ lowering-init g c = record {
   faults = refl;
   spared = spares_none;
   reftable = refl;
-  held = none_run;
   sound = λ p p' d start new_data b.
       let whole : c.args.n ≡ c.args.first + c.args.n - c.args.first = omega arith in
       let file_step = subst (λ m. UnseenFileGrowth g.S.Storage.view p (taken_as d p' (run_at c.args.first m)) start c.args.file.now) whole b.file_step in
@@ -59,7 +58,6 @@ lowering-preserved g c = record {
   faults = c.in_ok-lower.ensures.storage_faults.told ∙ c.lowering.invariant.faults;
   spared = spares_then c.lowering.invariant.spared c.lower.ensures.header_cluster;
   reftable = c.lower.ensures.reftable ∙ c.lowering.invariant.reftable;
-  held = held_more c.args.first c.lowering.cluster c.lowering.cluster (c.lowering.cluster + 1) (omega arith) c.lowering.auto.cluster (omega arith) c.lowering.invariant.held c.lower.ensures.held_range;
   sound = λ p p' d start new_data b.
       let one = c.lowering.invariant.sound p p' d start new_data b in
       let q : Pending = (taken_as d p' (run_at (c.lowering.cluster + 1) ((c.args.first + c.args.n) - (c.lowering.cluster + 1)))) in
@@ -197,13 +195,3 @@ returns-in_err-lower-clause-header_cluster g c = spares_then c.lowering.invarian
 
 pub returns-clause-header_cluster : goal.returns-clause-header_cluster
 returns-clause-header_cluster g c = c.lowering.invariant.spared
-
--- ---- the refblocks of all its ranges stay held
-pub returns-then-n-eq0-clause-held_range : goal.returns-then-n-eq0-clause-held_range
-returns-then-n-eq0-clause-held_range g c = none_run
-
-pub returns-in_err-lower-clause-held_range : goal.returns-in_err-lower-clause-held_range
-returns-in_err-lower-clause-held_range g c = held_more c.args.first c.lowering.cluster c.lowering.cluster (c.args.first + c.args.n) (let lt = c.lowering-test.true in omega (arith, lt)) c.lowering.auto.cluster c.lowering-test.true c.lowering.invariant.held c.lower.ensures.held_range
-
-pub returns-clause-held_range : goal.returns-clause-held_range
-returns-clause-held_range g c = held_wide c.args.first c.lowering.cluster (c.args.first + c.args.n) (let most = c.lowering.auto.cluster-end in omega (arith, most)) c.lowering.invariant.held

@@ -19,7 +19,6 @@ invariant-lowering g l = record {
   faults : faults_of g.S.Storage.view l.file.storage ≡ faults_of g.S.Storage.view l.fn.file.storage;
   spared : SparesHeader g.S.Storage.view l.fn.self.reftable l.fn.file l.self.reftable l.file;
   reftable : l.self.reftable ≡ l.fn.self.reftable;
-  held : KeepsRangesHeld l.fn.self.reftable l.fn.file l.self.reftable l.file l.fn.first l.cluster;
   sound : (p p' : Pending) (d : Bool) (start : ImageFile g.row.S.Denot) → ((k : ℕ) → 0 < p.new_data k → 0 < p'.new_data k) → UnseenAllocatorGrowth g.S.Storage.view p start l.fn.self l.fn.file (taken_as d p' (run_at l.fn.first l.fn.n))
       → UnseenAllocatorGrowth g.S.Storage.view p start l.self l.file (taken_as d p' (run_at l.cluster (l.fn.first + l.fn.n - l.cluster)));
   leaks : (p : Pending) (d : Bool) → AllocatorInvariant g.S.Storage.view l.fn.self (taken_as d p (run_at l.fn.first l.fn.n)) l.fn.file → SameLeaks l.fn.self l.self;

@@ -34,9 +34,3 @@ returns-in-Ok-true-clause-header_cluster g c = c.try_lower.ensures.header_cluste
 
 pub returns-clause-header_cluster : goal.returns-clause-header_cluster
 returns-clause-header_cluster g c = c.try_lower.ensures.header_cluster
-
-pub returns-in-Ok-true-clause-held_range : goal.returns-in-Ok-true-clause-held_range
-returns-in-Ok-true-clause-held_range g c = c.try_lower.ensures.held_range
-
-pub returns-clause-held_range : goal.returns-clause-held_range
-returns-clause-held_range g c = c.try_lower.ensures.held_range

@@ -66,10 +66,6 @@ search-init g c = record {
       (on_none g.S.Storage.view p c.args.file.now (record c.args.self.now { first_free_cluster = c.max-self.result }) (record { sound = sound.sound; reftable = sound.reftable }));
   above = let first = c.max-self.ensures in omega (arith, first);
   behind = let first = c.max-self.ensures in omega (arith, first);
-  held = none_run;
-  held_rest = λ none. alone_none;
-  quiet = λ few. inl (looks_none g.S.Storage.view c.args.file.now c.args.file.now refl);
-  lacking = λ e lacks. (c.max-self.ensures, refl, refl);
   leaks = λ p sound. refl;
   hint = λ p d sound may hint. hint_header g.S.Storage.view p c.args.file.now c.args.self.now (record c.args.self.now { first_free_cluster = c.max-self.result }) sound.sound (λ k some below. let first = c.max-self.ensures in omega (arith, first, some, below)) hint;
   lowest = λ p d sound may hint some.
@@ -88,13 +84,6 @@ search-preserved g c = record {
   near = c.search.invariant.near;
   above = let behind = c.in_ok-first.ensures.behind in omega (arith, behind);
   behind = let so_far = c.search.invariant.behind in let behind = c.in_ok-first.ensures.behind in omega (arith, so_far, behind);
-  held = held_more (max c.args.self.now.first_free_cluster 1) (c.search.first + c.args.n) (c.search.first + c.in_ok-taken.taken + 1) (c.in_ok-first.first + c.args.n) (let behind = c.in_ok-first.ensures.behind in omega (arith, behind)) (let behind = c.search.invariant.behind in omega (arith, behind)) (let behind = c.in_ok-first.ensures.behind in let some = c.search-test.true in omega (arith, behind, some))
-      (held_run (max c.args.self.now.first_free_cluster 1) (c.search.first + c.args.n) c.search.first (c.search.first + c.args.n) (c.search.first + c.args.n) (omega arith) c.search.invariant.behind (omega arith) c.search.invariant.held c.take_run.ensures.held_range) c.pass_used.ensures.held_range;
-  held_rest = rest_passed (max c.args.self.now.first_free_cluster 1) c.search.first c.args.n (c.search.first + c.in_ok-taken.taken + 1) c.search-test.true c.search.invariant.behind (let few = c.if-n-limit.true in let below = c.if-first-limit.true in let limit = c.search.invariant.limit in omega (arith, few, below, limit)) (omega arith) (let le = c.in_ok-taken.ensures.within in let not = c.if-taken-n.false in omega (arith, le, not)) (ap (λ (t : Allocator). t.reftable) c.pass_used.ensures.moves)
-      (rest_run (max c.args.self.now.first_free_cluster 1) c.search.first c.args.n c.search-test.true c.search.invariant.behind (let few = c.if-n-limit.true in let below = c.if-first-limit.true in let limit = c.search.invariant.limit in omega (arith, few, below, limit)) c.search.invariant.held_rest c.take_run.ensures.held_range) c.pass_used.ensures.held_range c.pass_used.ensures.none;
-  quiet = λ few.
-      search_on g.S.Storage.view c.args.file.now c.search.file c.take_run.new.file c.args.self.now.reftable c.search.self.reftable c.take_run.new.self.reftable c.args.n c.in_ok-taken.taken c.args.file.now.free_list c.search.file.free_list c.take_run.new.file.free_list
-      c.search.invariant.former c.take_run.ensures.former (c.search.invariant.quiet few) (c.in_ok-taken.ensures.quiet few) c.pass_used.new.file c.pass_used.new.self.reftable c.if-taken-n.false c.pass_used.ensures.quiet (ap (λ (t : Allocator). t.reftable) c.pass_used.ensures.moves);
   marks = kept_marks_then (kept_marks_then c.search.invariant.marks c.take_run.ensures.marks) c.pass_used.ensures.marks;
   faults = c.in_ok-first.ensures.storage_faults.told ∙ (c.in_ok-taken.ensures.storage_faults.told ∙ c.search.invariant.faults);
   spared = spares_then (spares_then c.search.invariant.spared c.take_run.ensures.header_cluster) (spares_less (c.pass_used.ensures.header_cluster));
@@ -109,9 +98,6 @@ search-preserved g c = record {
       then_none g.S.Storage.view p c.args.file.now c.take_run.new.file c.pass_used.new.file c.take_run.new.self c.pass_used.new.self lists (lists_same c.take_run.new.file.free_list c.pass_used.new.file.free_list c.pass_used.ensures.list) mid
       (subst (λ (s : Pending). UnseenAllocatorGrowth g.S.Storage.view r c.take_run.new.file c.pass_used.new.self c.pass_used.new.file s) (sym (listed_after_same r c.take_run.new.file.free_list c.pass_used.new.file.free_list c.pass_used.ensures.list))
       (on_of g.S.Storage.view r r c.take_run.new.file c.pass_used.new.file c.pass_used.new.self (c.in_ok-first.ensures.sound r there).0));
-  lacking = λ e lacks.
-      let at = c.search.invariant.lacking e lacks in
-      ok_no_err c.in_ok-taken.taken e (c.in_ok-taken.ensures.lacking e (lacks_here c.args.file.now.header.fields c.search.file.header.fields c.args.self.now.reftable c.search.self.reftable (max c.args.self.now.first_free_cluster 1) c.search.first e (ap (λ (f : ImageFile g.row.S.Denot). f.header.fields) at.2) at.1 at.0 lacks) c.search-test.true).0;
   leaks = λ p sound.
       let q : Pending = pending_then p c.args.file.now.free_list c.search.file.free_list in
       let now = is_sound_on g.S.Storage.view p q c.args.file.now c.search.file c.search.self (c.search.invariant.sound p sound) in
@@ -396,127 +382,3 @@ returns-clause-header_cluster g c = c.search.invariant.spared
 answers_none : {A : Type 0} (h h' : HeaderFields) (t t' : EntryTableView) (from first n taken : ℕ) (e : ImageError) (Stays : Type 0) → h' ≡ h → t' ≡ t → first ≡ from → LacksBlock h t from e
     → ((e : ImageError) → LacksBlock h' t' first e → 0 < n → IsErrOf (Ok taken) e × Stays) → 0 < n → A
 answers_none h h' t t' from first n taken e Stays same_header same_table place lacks refuses some = ok_no_err taken e (refuses e (lacks_here h h' t t' from first e same_header same_table place lacks) some).0
-
-pub returns-in_err-first-clause-unaligned : goal.returns-in_err-first-clause-unaligned
-returns-in_err-first-clause-unaligned g c = λ u some.
-    let e : ImageError = I.UnalignedTable in
-    let lacks : LacksBlock c.args.file.now.header.fields c.args.self.now.reftable (max c.args.self.now.first_free_cluster 1) e = inl (u, refl) in
-    let at = c.search.invariant.lacking e lacks in
-    answers_none c.args.file.now.header.fields c.search.file.header.fields c.args.self.now.reftable c.search.self.reftable (max c.args.self.now.first_free_cluster 1) c.search.first c.args.n c.in_ok-taken.taken e (c.take_run.new.file ≡ c.search.file) (ap (λ (f : ImageFile g.row.S.Denot). f.header.fields) at.2) at.1 at.0 lacks c.in_ok-taken.ensures.lacking some
-
-pub returns-in_err-taken-clause-unaligned : goal.returns-in_err-taken-clause-unaligned
-returns-in_err-taken-clause-unaligned g c = λ u some.
-    let e : ImageError = I.UnalignedTable in
-    let lacks : LacksBlock c.args.file.now.header.fields c.args.self.now.reftable (max c.args.self.now.first_free_cluster 1) e = inl (u, refl) in
-    let at = c.search.invariant.lacking e lacks in
-    let refused = c.in_err-taken.ensures.lacking e (lacks_here c.args.file.now.header.fields c.search.file.header.fields c.args.self.now.reftable c.search.self.reftable (max c.args.self.now.first_free_cluster 1) c.search.first e (ap (λ (f : ImageFile g.row.S.Denot). f.header.fields) at.2) at.1 at.0 lacks) some in
-    let fits : max c.args.self.now.first_free_cluster 1 + c.args.n ≤ nameable_clusters c.args.file.now.header.fields =
-    let few = c.if-n-limit.true in let below = c.if-first-limit.true in let limit = c.search.invariant.limit in let first = at.0 in omega (arith, few, below, limit, first) in (
-      handed_why (EndsAtFirst c.args.file.now.header.fields (max c.args.self.now.first_free_cluster 1) c.args.n e) c.from_residual.result c.in_err-taken.field-0.0 c.from_residual.ensures (inl (fits, refused_as {T = ℕ} c.in_err-taken.field-0.0 e refused.0)),
-      refused.1 ∙ at.2,
-    )
-
-pub returns-then-taken-n-clause-unaligned : goal.returns-then-taken-n-clause-unaligned
-returns-then-taken-n-clause-unaligned g c = λ u some.
-    let e : ImageError = I.UnalignedTable in
-    let lacks : LacksBlock c.args.file.now.header.fields c.args.self.now.reftable (max c.args.self.now.first_free_cluster 1) e = inl (u, refl) in
-    let at = c.search.invariant.lacking e lacks in
-    answers_none c.args.file.now.header.fields c.search.file.header.fields c.args.self.now.reftable c.search.self.reftable (max c.args.self.now.first_free_cluster 1) c.search.first c.args.n c.in_ok-taken.taken e (c.take_run.new.file ≡ c.search.file) (ap (λ (f : ImageFile g.row.S.Denot). f.header.fields) at.2) at.1 at.0 lacks c.in_ok-taken.ensures.lacking some
-
-pub returns-clause-unaligned : goal.returns-clause-unaligned
-returns-clause-unaligned g c = λ u some.
-    let e : ImageError = I.UnalignedTable in
-    let lacks : LacksBlock c.args.file.now.header.fields c.args.self.now.reftable (max c.args.self.now.first_free_cluster 1) e = inl (u, refl) in
-    let at = c.search.invariant.lacking e lacks in
-    let limit = c.search.invariant.limit in
-    let past : c.args.n ≤ greatest_offset / 2 ^ c.cluster_bits.result + 1 → greatest_offset / 2 ^ c.cluster_bits.result + 1 < c.search.first + c.args.n = λ few. elim c.search-test.branch [
-      | then-search-test+then-n-limit+else-first-limit w ↦ let past = w.if-first-limit.false in omega (arith, few, past)
-      | then-search-test+else-n-limit w ↦ let many = w.if-n-limit.false in omega (arith, few, many)
-      | else-search-test w ↦ let none = w.search-test.false in omega (arith, some, none)
-    ] in
-    let first = at.0 in
-    let passed : nameable_clusters c.args.file.now.header.fields < max c.args.self.now.first_free_cluster 1 + c.args.n = elim (cases_lt (greatest_offset / 2 ^ c.cluster_bits.result + 1) c.args.n) [
-      | inl many ↦ omega (arith, limit, many)
-      | inr few ↦ let past = past few in omega (arith, limit, past, first)
-    ] in
-    (inr (passed, refl), at.2)
-
-pub returns-in_err-first-clause-first_range : goal.returns-in_err-first-clause-first_range
-returns-in_err-first-clause-first_range g c = λ l some.
-    let e : ImageError = I.Limit in
-    let lacks : LacksBlock c.args.file.now.header.fields c.args.self.now.reftable (max c.args.self.now.first_free_cluster 1) e = inr (l, refl) in
-    let at = c.search.invariant.lacking e lacks in
-    answers_none c.args.file.now.header.fields c.search.file.header.fields c.args.self.now.reftable c.search.self.reftable (max c.args.self.now.first_free_cluster 1) c.search.first c.args.n c.in_ok-taken.taken e (c.take_run.new.file ≡ c.search.file) (ap (λ (f : ImageFile g.row.S.Denot). f.header.fields) at.2) at.1 at.0 lacks c.in_ok-taken.ensures.lacking some
-
-pub returns-in_err-taken-clause-first_range : goal.returns-in_err-taken-clause-first_range
-returns-in_err-taken-clause-first_range g c = λ l some.
-    let e : ImageError = I.Limit in
-    let lacks : LacksBlock c.args.file.now.header.fields c.args.self.now.reftable (max c.args.self.now.first_free_cluster 1) e = inr (l, refl) in
-    let at = c.search.invariant.lacking e lacks in
-    let refused = c.in_err-taken.ensures.lacking e (lacks_here c.args.file.now.header.fields c.search.file.header.fields c.args.self.now.reftable c.search.self.reftable (max c.args.self.now.first_free_cluster 1) c.search.first e (ap (λ (f : ImageFile g.row.S.Denot). f.header.fields) at.2) at.1 at.0 lacks) some in
-    (handed_on (λ r. IsErrOf r I.Limit) c.from_residual.result c.in_err-taken.field-0.0 c.from_residual.ensures (err_as c.in_err-taken.field-0.0 I.Limit refused.0), refused.1 ∙ at.2)
-
-pub returns-then-taken-n-clause-first_range : goal.returns-then-taken-n-clause-first_range
-returns-then-taken-n-clause-first_range g c = λ l some.
-    let e : ImageError = I.Limit in
-    let lacks : LacksBlock c.args.file.now.header.fields c.args.self.now.reftable (max c.args.self.now.first_free_cluster 1) e = inr (l, refl) in
-    let at = c.search.invariant.lacking e lacks in
-    answers_none c.args.file.now.header.fields c.search.file.header.fields c.args.self.now.reftable c.search.self.reftable (max c.args.self.now.first_free_cluster 1) c.search.first c.args.n c.in_ok-taken.taken e (c.take_run.new.file ≡ c.search.file) (ap (λ (f : ImageFile g.row.S.Denot). f.header.fields) at.2) at.1 at.0 lacks c.in_ok-taken.ensures.lacking some
-
-pub returns-clause-first_range : goal.returns-clause-first_range
-returns-clause-first_range g c = λ l some. (refl, (c.search.invariant.lacking I.Limit (inr (l, refl))).2)
-
--- ---- each cluster of the run is counted in a refblock that begins at a cluster
-pub returns-in_err-taken-clause-aligned : goal.returns-in_err-taken-clause-aligned
-returns-in_err-taken-clause-aligned g c = if_no_ok _ c.from_residual.result c.in_err-taken.field-0.0 c.from_residual.ensures
-
-pub returns-then-taken-n-clause-aligned : goal.returns-then-taken-n-clause-aligned
-returns-then-taken-n-clause-aligned g c = avoids_as c.args.file.now.header c.search.file.header c.take_run.new.self.reftable c.search.first c.args.n c.search.invariant.header (c.in_ok-taken.ensures.aligned c.if-taken-n.true)
-
-pub returns-in_err-first-clause-aligned : goal.returns-in_err-first-clause-aligned
-returns-in_err-first-clause-aligned g c = if_no_ok _ c.from_residual-in_err-first.result c.in_err-first.field-0.0 c.from_residual-in_err-first.ensures
-
-pub returns-in_err-taken-clause-quiet : goal.returns-in_err-taken-clause-quiet
-returns-in_err-taken-clause-quiet g c = λ few. on_no_ok _ c.from_residual.result c.in_err-taken.field-0.0 c.from_residual.ensures
-
-pub returns-in_err-first-clause-quiet : goal.returns-in_err-first-clause-quiet
-returns-in_err-first-clause-quiet g c = λ few. on_no_ok _ c.from_residual-in_err-first.result c.in_err-first.field-0.0 c.from_residual-in_err-first.ensures
-
-pub returns-clause-quiet : goal.returns-clause-quiet
-returns-clause-quiet g c = λ few. tt
-
-pub returns-then-taken-n-clause-quiet : goal.returns-then-taken-n-clause-quiet
-returns-then-taken-n-clause-quiet g c = λ few.
-    search_ends g.S.Storage.view c.args.file.now c.search.file c.take_run.new.file c.args.self.now.reftable c.search.self.reftable c.take_run.new.self.reftable c.args.n c.in_ok-taken.taken c.args.file.now.free_list c.search.file.free_list c.take_run.new.file.free_list
-    c.search.invariant.former c.take_run.ensures.former (c.search.invariant.quiet few) (c.in_ok-taken.ensures.quiet few) c.if-taken-n.true
-
--- ---- the refblocks of all ranges that are passed stay held
-pub returns-in_err-taken-clause-held_range : goal.returns-in_err-taken-clause-held_range
-returns-in_err-taken-clause-held_range g c =
-    handed_on (SearchesHeld (λ (first : ℕ). first) c.args.self.now.reftable c.args.file.now c.take_run.new.self.reftable c.take_run.new.file (max c.args.self.now.first_free_cluster 1) c.args.n) c.from_residual.result c.in_err-taken.field-0.0 c.from_residual.ensures
-    (rest_run (max c.args.self.now.first_free_cluster 1) c.search.first c.args.n c.search-test.true c.search.invariant.behind (let few = c.if-n-limit.true in let below = c.if-first-limit.true in let limit = c.search.invariant.limit in omega (arith, few, below, limit)) c.search.invariant.held_rest c.take_run.ensures.held_range)
-
-pub returns-then-taken-n-clause-held_range : goal.returns-then-taken-n-clause-held_range
-returns-then-taken-n-clause-held_range g c = held_run (max c.args.self.now.first_free_cluster 1) (c.search.first + c.args.n) c.search.first (c.search.first + c.args.n) (c.search.first + c.args.n) (omega arith) c.search.invariant.behind (omega arith) c.search.invariant.held c.take_run.ensures.held_range
-
-pub returns-in_err-first-clause-held_range : goal.returns-in_err-first-clause-held_range
-returns-in_err-first-clause-held_range g c =
-    handed_on (SearchesHeld (λ (first : ℕ). first) c.args.self.now.reftable c.args.file.now c.pass_used.new.self.reftable c.pass_used.new.file (max c.args.self.now.first_free_cluster 1) c.args.n) c.from_residual-in_err-first.result c.in_err-first.field-0.0 c.from_residual-in_err-first.ensures
-    (rest_passed (max c.args.self.now.first_free_cluster 1) c.search.first c.args.n (c.search.first + c.in_ok-taken.taken + 1) c.search-test.true c.search.invariant.behind (let few = c.if-n-limit.true in let below = c.if-first-limit.true in let limit = c.search.invariant.limit in omega (arith, few, below, limit)) (omega arith) (let le = c.in_ok-taken.ensures.within in let not = c.if-taken-n.false in omega (arith, le, not)) (ap (λ (t : Allocator). t.reftable) c.pass_used.ensures.moves)
-    (rest_run (max c.args.self.now.first_free_cluster 1) c.search.first c.args.n c.search-test.true c.search.invariant.behind (let few = c.if-n-limit.true in let below = c.if-first-limit.true in let limit = c.search.invariant.limit in omega (arith, few, below, limit)) c.search.invariant.held_rest c.take_run.ensures.held_range) c.pass_used.ensures.held_range c.pass_used.ensures.none)
-
-pub returns-clause-held_range : goal.returns-clause-held_range
-returns-clause-held_range g c = c.search.invariant.held_rest
-
--- ---- the refblock that counts its last cluster is held
-pub returns-in_err-taken-clause-holds : goal.returns-in_err-taken-clause-holds
-returns-in_err-taken-clause-holds g c = if_no_ok _ c.from_residual.result c.in_err-taken.field-0.0 c.from_residual.ensures
-
-pub returns-in_err-first-clause-holds : goal.returns-in_err-first-clause-holds
-returns-in_err-first-clause-holds g c = if_no_ok _ c.from_residual-in_err-first.result c.in_err-first.field-0.0 c.from_residual-in_err-first.ensures
-
-pub returns-then-taken-n-clause-holds : goal.returns-then-taken-n-clause-holds
-returns-then-taken-n-clause-holds g c = c.in_ok-taken.ensures.holds c.if-taken-n.true c.search-test.true
-
-pub returns-clause-holds : goal.returns-clause-holds
-returns-clause-holds g c = tt

@@ -23,16 +23,12 @@ invariant-search g l = record {
   near : l.limit ≤ 2 ^ 57;
   above : 0 < l.first;
   behind : max l.fn.self.first_free_cluster 1 ≤ l.first;
-  held : KeepsRangesHeld l.fn.self.reftable l.fn.file l.self.reftable l.file (max l.fn.self.first_free_cluster 1) (l.first + l.fn.n);
-  held_rest : NeedsNoLoad l.fn.self.reftable l.fn.file (max l.fn.self.first_free_cluster 1) l.fn.n → ChangesCachesAlone l.fn.self.reftable l.fn.file l.self.reftable l.file;
-  quiet : l.fn.n ≤ 1 → LooksOrMakes g.S.Storage.view l.fn.file l.file l.fn.self.reftable l.self.reftable;
   marks : KeepsMarks g.S.Storage.view l.fn.file l.file;
   faults : faults_of g.S.Storage.view l.file.storage ≡ faults_of g.S.Storage.view l.fn.file.storage;
   spared : SparesHeaderButPointer g.S.Storage.view l.fn.self.reftable l.fn.file l.self.reftable l.file;
   sound : (p : Pending) → AllocatorInvariant g.S.Storage.view l.fn.self p l.fn.file → UnseenAllocatorGrowth g.S.Storage.view p l.fn.file l.self l.file (pending_then p l.fn.file.free_list l.file.free_list);
   leaks : (p : Pending) → AllocatorInvariant g.S.Storage.view l.fn.self p l.fn.file → SameLeaks l.fn.self l.self;
   hint : (p : Pending) (d : Bool) → AllocatorInvariant g.S.Storage.view l.fn.self p l.fn.file → MayTake d l.fn.file → NoFreeBelowHint g.S.Storage.view l.fn.self l.fn.file → NoFreeBelowHint g.S.Storage.view l.self l.file;
-  lacking : (e : ImageError) → LacksBlock l.fn.file.header.fields l.fn.self.reftable (max l.fn.self.first_free_cluster 1) e → (l.first ≡ max l.fn.self.first_free_cluster 1) × (l.self.reftable ≡ l.fn.self.reftable) × (l.file ≡ l.fn.file);
   lowest : (p : Pending) (d : Bool) → AllocatorInvariant g.S.Storage.view l.fn.self p l.fn.file → MayTake d l.fn.file → NoFreeBelowHint g.S.Storage.view l.fn.self l.fn.file → 0 < l.fn.n → IsLowestRun (IsUsed g.S.Storage.view l.file) l.first l.fn.n;
   uses : (p : Pending) (d : Bool) → AllocatorInvariant g.S.Storage.view l.fn.self p l.fn.file → MayTake d l.fn.file → StaysUsed g.S.Storage.view l.fn.file l.file;
 }

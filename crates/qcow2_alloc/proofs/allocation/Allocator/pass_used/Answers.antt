@@ -53,32 +53,6 @@ returns-clause-header_cluster g c =
 pub returns-in_err-next-clause-far : goal.returns-in_err-next-clause-far
 returns-in_err-next-clause-far g c = if_no_ok _ c.from_residual.result c.in_err-next.field-0.0 c.from_residual.ensures
 
-pub returns-in_err-next-clause-unaligned : goal.returns-in_err-next-clause-unaligned
-returns-in_err-next-clause-unaligned g c = λ u.
-    let refused = c.in_err-next.ensures.unaligned u in
-    (handed_unaligned c.from_residual.result c.in_err-next.field-0.0 c.from_residual.ensures refused.0, refused.1)
-
-pub returns-clause-unaligned : goal.returns-clause-unaligned
-returns-clause-unaligned g c = λ u. ok_no_err _ I.UnalignedTable (c.in_ok-next.ensures.unaligned u).0
-
-pub returns-in_err-next-clause-quiet : goal.returns-in_err-next-clause-quiet
-returns-in_err-next-clause-quiet g c = c.behind_used.ensures.quiet
-
-pub returns-clause-quiet : goal.returns-clause-quiet
-returns-clause-quiet g c = c.behind_used.ensures.quiet
-
--- ---- the range's refblock stays held
-pub returns-in_err-next-clause-held_range : goal.returns-in_err-next-clause-held_range
-returns-in_err-next-clause-held_range g c = c.behind_used.ensures.held_range
-
-pub returns-clause-held_range : goal.returns-clause-held_range
-returns-clause-held_range g c =
-    let same : c.if-cluster-self.self.reftable ≡ c.args.self.now.reftable = elim c.if-cluster-self.branch [
-      | then-cluster-self w ↦ ap (λ (t : Allocator). t.reftable) w.self-is
-      | else-cluster-self w ↦ ap (λ (t : Allocator). t.reftable) w.self-is
-    ] in
-    held_as same c.behind_used.ensures.held_range
-
 pub returns-in_err-next-clause-none : goal.returns-in_err-next-clause-none
 returns-in_err-next-clause-none g c = c.behind_used.ensures.none
 

@@ -106,9 +106,6 @@ returns-then-in_bounds-clause-marks g c = c.ensure_block.ensures.marks
 pub returns-then-in_bounds-clause-cause : goal.returns-then-in_bounds-clause-cause
 returns-then-in_bounds-clause-cause g c = c.ensure_block.ensures.cause
 
-pub returns-then-in_bounds-clause-unaligned : goal.returns-then-in_bounds-clause-unaligned
-returns-then-in_bounds-clause-unaligned g c = c.ensure_block.ensures.unaligned
-
 pub returns-then-in_bounds-clause-storage_faults : goal.returns-then-in_bounds-clause-storage_faults
 returns-then-in_bounds-clause-storage_faults g c = c.ensure_block.ensures.storage_faults
 
@@ -190,23 +187,6 @@ returns-clause-has g c =
 pub returns-then-in_bounds-clause-named : goal.returns-then-in_bounds-clause-named
 returns-then-in_bounds-clause-named g c = λ within. c.ensure_block.ensures.named
 
-pub returns-then-in_bounds-clause-first_range : goal.returns-then-in_bounds-clause-first_range
-returns-then-in_bounds-clause-first_range g c = c.ensure_block.ensures.first_range
-
-pub returns-in_err-grow_reftable-clause-first_range : goal.returns-in_err-grow_reftable-clause-first_range
-returns-in_err-grow_reftable-clause-first_range g c = λ lacks.
-    let past = not_below (c.args.cluster / 2 ^ c.rb_bits.result) (entry_count c.args.self.now.reftable) c.in_bounds.result c.in_bounds.ensures c.if-in_bounds.false in
-    let first : c.args.cluster / 2 ^ c.rb_bits.result ≡ 0 = subst (λ n. c.args.cluster / n ≡ 0) c.rb_bits.ensures.counts (div-eq_of_lt lacks.first) in
-    let some = lacks.some in
-    absurd (omega (arith, past, first, some))
-
-pub returns-clause-first_range : goal.returns-clause-first_range
-returns-clause-first_range g c = λ lacks.
-    let past = not_below (c.args.cluster / 2 ^ c.rb_bits.result) (entry_count c.args.self.now.reftable) c.in_bounds.result c.in_bounds.ensures c.if-in_bounds.false in
-    let first : c.args.cluster / 2 ^ c.rb_bits.result ≡ 0 = subst (λ n. c.args.cluster / n ≡ 0) c.rb_bits.ensures.counts (div-eq_of_lt lacks.first) in
-    let some = lacks.some in
-    absurd (omega (arith, past, first, some))
-
 pub returns-then-in_bounds-clause-listed : goal.returns-then-in_bounds-clause-listed
 returns-then-in_bounds-clause-listed g c = λ p sound. lists_used_none g.S.Storage.view c.args.file.now c.ensure_block.new.file c.ensure_block.ensures.list
 
@@ -218,26 +198,3 @@ returns-clause-listed g c = λ p sound.
     let gave = c.in_ok-grow_reftable.ensures.former in
     lists_used_still g.S.Storage.view c.args.file.now c.grow_reftable.new.file c.ensure_block-2.new.file
     (lists_used_one g.S.Storage.view p c.args.file.now c.grow_reftable.new.file c.args.self.now.reftable gave.0 sound.sound sound.reftable gave.1 gave.2) c.ensure_block-2.ensures.list
-
-pub returns-then-in_bounds-clause-quiet : goal.returns-then-in_bounds-clause-quiet
-returns-then-in_bounds-clause-quiet g c = c.ensure_block.ensures.quiet
-
-pub returns-in_err-grow_reftable-clause-quiet : goal.returns-in_err-grow_reftable-clause-quiet
-returns-in_err-grow_reftable-clause-quiet g c = on_no_ok _ c.from_residual.result c.in_err-grow_reftable.field-0.0 c.from_residual.ensures
-
-pub returns-clause-quiet : goal.returns-clause-quiet
-returns-clause-quiet g c =
-    let past = not_below (c.args.cluster / 2 ^ c.rb_bits.result) (entry_count c.args.self.now.reftable) c.in_bounds.result c.in_bounds.ensures c.if-in_bounds.false in
-    let within = c.in_ok-grow_reftable.ensures.length.enough.above in
-    let count = c.ensure_block-2.ensures.named.count in
-    ok_as _ _ c.ensure_block-2.result (λ has. inr (inr (omega (arith, past, within, count)))) c.ensure_block-2.ensures.has
-
--- ---- the range's refblock stays held
-pub returns-then-in_bounds-clause-held_range : goal.returns-then-in_bounds-clause-held_range
-returns-then-in_bounds-clause-held_range g c = c.ensure_block.ensures.held_range
-
-pub returns-in_err-grow_reftable-clause-held_range : goal.returns-in_err-grow_reftable-clause-held_range
-returns-in_err-grow_reftable-clause-held_range g c = held_past (let past = not_below (c.args.cluster / 2 ^ c.rb_bits.result) (entry_count c.args.self.now.reftable) c.in_bounds.result c.in_bounds.ensures c.if-in_bounds.false in let range = ap (λ n. c.args.cluster / n) c.rb_bits.ensures.counts in omega (arith, past, range))
-
-pub returns-clause-held_range : goal.returns-clause-held_range
-returns-clause-held_range g c = held_past (let past = not_below (c.args.cluster / 2 ^ c.rb_bits.result) (entry_count c.args.self.now.reftable) c.in_bounds.result c.in_bounds.ensures c.if-in_bounds.false in let range = ap (λ n. c.args.cluster / n) c.rb_bits.ensures.counts in omega (arith, past, range))

@@ -151,9 +151,6 @@ returns-in_err-reach_block-clause-used g c = λ _ _ _ _. if_no_ok _ c.from_resid
 pub returns-in_err-reach_block-clause-free : goal.returns-in_err-reach_block-clause-free
 returns-in_err-reach_block-clause-free g c = λ _ _. if_no_ok _ c.from_residual.result c.in_err-reach_block.field-0.0 c.from_residual.ensures
 
-pub returns-in_err-reach_block-clause-unaligned : goal.returns-in_err-reach_block-clause-unaligned
-returns-in_err-reach_block-clause-unaligned g c = λ u. let refused = c.in_err-reach_block.ensures.unaligned u in (handed_unaligned c.from_residual.result c.in_err-reach_block.field-0.0 c.from_residual.ensures refused.0, refused.1)
-
 pub returns-in_err-reach_block-clause-header : goal.returns-in_err-reach_block-clause-header
 returns-in_err-reach_block-clause-header g c = c.reach_block.ensures.header
 
@@ -187,9 +184,6 @@ returns-in_err-taken-clause-header g c = header_then c.args.file.now.header c.re
 pub returns-in_err-taken-clause-list : goal.returns-in_err-taken-clause-list
 returns-in_err-taken-clause-list g c = lists_then _ _ _ c.reach_block.ensures.list (lists_same _ _ c.raise.ensures.list)
 
-pub returns-in_err-taken-clause-unaligned : goal.returns-in_err-taken-clause-unaligned
-returns-in_err-taken-clause-unaligned g c = λ u. ok_no_err _ I.UnalignedTable (c.in_ok-reach_block.ensures.unaligned u).0
-
 pub returns-clause-marks : goal.returns-clause-marks
 returns-clause-marks g c = kept_marks_then c.reach_block.ensures.marks c.raise.ensures.marks
 
@@ -198,9 +192,6 @@ returns-clause-header g c = header_then c.args.file.now.header c.reach_block.new
 
 pub returns-clause-list : goal.returns-clause-list
 returns-clause-list g c = lists_then _ _ _ c.reach_block.ensures.list (lists_same _ _ c.raise.ensures.list)
-
-pub returns-clause-unaligned : goal.returns-clause-unaligned
-returns-clause-unaligned g c = λ u. ok_no_err _ I.UnalignedTable (c.in_ok-reach_block.ensures.unaligned u).0
 
 pub returns-clause-noted : goal.returns-clause-noted
 returns-clause-noted g c = c.in_ok-taken.ensures.noted
@@ -240,17 +231,6 @@ returns-clause-header_cluster g c =
     ] in
     spares_as same (spares_then (c.reach_block.ensures.header_cluster) (spares_less (c.raise.ensures.header_cluster)))
 
-pub returns-in_err-reach_block-clause-first_range : goal.returns-in_err-reach_block-clause-first_range
-returns-in_err-reach_block-clause-first_range g c = λ lacks.
-    let refused = c.in_err-reach_block.ensures.first_range lacks in
-    (handed_on (λ r. IsErrOf r I.Limit) c.from_residual.result c.in_err-reach_block.field-0.0 c.from_residual.ensures (err_as c.in_err-reach_block.field-0.0 I.Limit refused.0), refused.1)
-
-pub returns-in_err-taken-clause-first_range : goal.returns-in_err-taken-clause-first_range
-returns-in_err-taken-clause-first_range g c = λ lacks. ok_no_err _ I.Limit (c.in_ok-reach_block.ensures.first_range lacks).0
-
-pub returns-clause-first_range : goal.returns-clause-first_range
-returns-clause-first_range g c = λ lacks. ok_no_err _ I.Limit (c.in_ok-reach_block.ensures.first_range lacks).0
-
 pub returns-in_err-reach_block-clause-listed : goal.returns-in_err-reach_block-clause-listed
 returns-in_err-reach_block-clause-listed g c = λ p sound. c.reach_block.ensures.listed p sound
 
@@ -259,63 +239,3 @@ returns-in_err-taken-clause-listed g c = λ p sound. lists_used_still g.S.Storag
 
 pub returns-clause-listed : goal.returns-clause-listed
 returns-clause-listed g c = λ p sound. lists_used_still g.S.Storage.view c.args.file.now c.reach_block.new.file c.raise.new.file (c.reach_block.ensures.listed p sound) c.raise.ensures.list
-
--- its refblock is loaded again where the count is raised
-pub returns-in_err-reach_block-clause-aligned : goal.returns-in_err-reach_block-clause-aligned
-returns-in_err-reach_block-clause-aligned g c = if_no_ok _ c.from_residual.result c.in_err-reach_block.field-0.0 c.from_residual.ensures
-
-pub returns-in_err-taken-clause-aligned : goal.returns-in_err-taken-clause-aligned
-returns-in_err-taken-clause-aligned g c = if_no_ok _ c.from_residual-in_err-taken.result c.in_err-taken.field-0.0 c.from_residual-in_err-taken.ensures
-
-pub returns-clause-aligned : goal.returns-clause-aligned
-returns-clause-aligned g c = λ taken.
-    let same : c.if-cluster-self.self.reftable ≡ c.raise.new.self.reftable = elim c.if-cluster-self.branch [
-      | then-cluster-self w ↦ ap (λ (t : Allocator). t.reftable) w.self-is
-      | else-cluster-self w ↦ ap (λ (t : Allocator). t.reftable) w.self-is
-    ] in
-    aligned_as c.args.file.now.header c.reach_block.new.file.header c.reach_block.new.self.reftable c.if-cluster-self.self.reftable c.args.cluster c.reach_block.ensures.header (same ∙ ap (λ (t : Allocator). t.reftable) c.raise.ensures.same) (c.in_ok-taken.ensures.aligned taken)
-
-pub returns-in_err-reach_block-clause-quiet : goal.returns-in_err-reach_block-clause-quiet
-returns-in_err-reach_block-clause-quiet g c = if_no_ok _ c.from_residual.result c.in_err-reach_block.field-0.0 c.from_residual.ensures
-
-pub returns-in_err-taken-clause-quiet : goal.returns-in_err-taken-clause-quiet
-returns-in_err-taken-clause-quiet g c = if_no_ok _ c.from_residual-in_err-taken.result c.in_err-taken.field-0.0 c.from_residual-in_err-taken.ensures
-
-pub returns-clause-quiet : goal.returns-clause-quiet
-returns-clause-quiet g c =
-    let same : c.if-cluster-self.self.reftable ≡ c.raise.new.self.reftable = elim c.if-cluster-self.branch [
-      | then-cluster-self w ↦ ap (λ (t : Allocator). t.reftable) w.self-is
-      | else-cluster-self w ↦ ap (λ (t : Allocator). t.reftable) w.self-is
-    ] in
-    counts_then g.S.Storage.view c.args.file.now c.reach_block.new.file c.raise.new.file c.args.self.now.reftable c.reach_block.new.self.reftable c.if-cluster-self.self.reftable c.in_ok-taken.taken
-    (same ∙ ap (λ (t : Allocator). t.reftable) c.raise.ensures.same) c.in_ok-reach_block.ensures.quiet c.in_ok-taken.ensures.quiet
-
--- ---- the range's refblock stays held
-pub returns-in_err-reach_block-clause-held_range : goal.returns-in_err-reach_block-clause-held_range
-returns-in_err-reach_block-clause-held_range g c = c.reach_block.ensures.held_range
-
-pub returns-in_err-taken-clause-held_range : goal.returns-in_err-taken-clause-held_range
-returns-in_err-taken-clause-held_range g c = held_next c.args.cluster c.reach_block.ensures.held_range c.raise.ensures.held_range
-
-pub returns-clause-held_range : goal.returns-clause-held_range
-returns-clause-held_range g c =
-    let same : c.if-cluster-self.self.reftable ≡ c.raise.new.self.reftable = elim c.if-cluster-self.branch [
-      | then-cluster-self w ↦ ap (λ (t : Allocator). t.reftable) w.self-is
-      | else-cluster-self w ↦ ap (λ (t : Allocator). t.reftable) w.self-is
-    ] in
-    held_as same (held_next c.args.cluster c.reach_block.ensures.held_range c.raise.ensures.held_range)
-
--- ---- the refblock that counts it is held
-pub returns-in_err-reach_block-clause-holds : goal.returns-in_err-reach_block-clause-holds
-returns-in_err-reach_block-clause-holds g c = if_no_ok _ c.from_residual.result c.in_err-reach_block.field-0.0 c.from_residual.ensures
-
-pub returns-in_err-taken-clause-holds : goal.returns-in_err-taken-clause-holds
-returns-in_err-taken-clause-holds g c = if_no_ok _ c.from_residual-in_err-taken.result c.in_err-taken.field-0.0 c.from_residual-in_err-taken.ensures
-
-pub returns-clause-holds : goal.returns-clause-holds
-returns-clause-holds g c = λ taken.
-    let same : c.if-cluster-self.self.reftable ≡ c.raise.new.self.reftable = elim c.if-cluster-self.branch [
-      | then-cluster-self w ↦ ap (λ (t : Allocator). t.reftable) w.self-is
-      | else-cluster-self w ↦ ap (λ (t : Allocator). t.reftable) w.self-is
-    ] in
-    subst (λ (t : EntryTableView). HoldsCountOf t c.raise.new.file c.args.cluster) (sym same) (c.in_ok-taken.ensures.holds taken)

@@ -80,12 +80,6 @@ taking-init g c = record {
   hint = λ p d sound may hint. hint;
   uses = λ p d sound may k used. used;
   free = λ p d sound may k some used. let none = run_none c.args.first k in omega (arith, none, some);
-  lacking = λ e lacks. (refl, refl, refl);
-  still = λ none. (refl, refl);
-  one = λ some. absurd (omega (arith, some));
-  held = none_run;
-  holds = λ some. absurd (omega (arith, some));
-  aligned = avoids_none c.args.file.now.header.fields c.args.self.now.reftable c.args.first;
   sound = λ p d sound may.
       subst (λ (r : Pending). UnseenAllocatorGrowth g.S.Storage.view p c.args.file.now c.args.self.now c.args.file.now r)
       (sym (taken_none d (pending_then p c.args.file.now.free_list c.args.file.now.free_list) c.args.first 0 refl ∙ listed_after_same p c.args.file.now.free_list c.args.file.now.free_list refl)) (on_none g.S.Storage.view p c.args.file.now c.args.self.now sound);
@@ -169,20 +163,6 @@ taking-preserved g c = record {
       let may_now = may_still d c.args.file.now c.taking.file c.taking.invariant.marks.order may in
       let two = rw c.in-Ok-true.field-0-test at (c.in-Ok-true.ensures.sound q d now may_now) in
       more_taken g.S.Storage.view d p (run_at c.args.first c.taking.taken) c.args.file.now c.taking.file c.take.new.file c.taking.self c.take.new.self c.taking.invariant.list c.take.ensures.list c.args.first c.taking.taken refl before two;
-  lacking = λ e lacks.
-      let at = c.taking.invariant.lacking e lacks in
-      ok_no_err c.in-Ok-true.field-0 e (refuses c.args.file.now.header.fields c.taking.file.header.fields c.args.self.now.reftable c.taking.self.reftable c.args.first c.taking.taken (Ok c.in-Ok-true.field-0) (c.take.new.file ≡ c.taking.file) e (ap (λ (f : ImageFile g.row.S.Denot). f.header.fields) at.2) at.1 at.0 c.in-Ok-true.ensures.unaligned c.in-Ok-true.ensures.first_range lacks).0;
-  still = λ none. absurd (omega (arith, none));
-  one = λ one.
-      let at = c.taking.invariant.still (omega (arith, one)) in
-      first_free g.S.Storage.view c.args.file.now c.taking.file c.take.new.file c.take.new.file c.args.self.now.reftable c.taking.self.reftable c.take.new.self.reftable c.take.new.self.reftable at.0 at.1
-      (rw c.in-Ok-true.field-0-test at c.in-Ok-true.ensures.quiet);
-  held = held_more c.args.first (c.args.first + c.taking.taken) (c.args.first + c.taking.taken) (c.args.first + (c.taking.taken + 1)) (omega arith) (omega arith) (omega arith) c.taking.invariant.held c.take.ensures.held_range;
-  holds = λ some.
-      let last : c.args.first + c.taking.taken ≡ c.args.first + (c.taking.taken + 1) - 1 = omega arith in
-      subst (HoldsCountOf c.take.new.self.reftable c.take.new.file) last (c.in-Ok-true.ensures.holds c.in-Ok-true.field-0-test);
-  aligned = avoids_more c.args.file.now.header.fields c.take.new.self.reftable c.args.first c.taking.taken (avoids_then c.args.file.now.header.fields c.taking.self.reftable c.take.new.self.reftable c.args.first c.taking.taken c.take.ensures.former.ranges c.taking.invariant.aligned)
-      (aligned_as c.args.file.now.header c.taking.file.header c.take.new.self.reftable c.take.new.self.reftable (c.args.first + c.taking.taken) c.taking.invariant.header refl (c.in-Ok-true.ensures.aligned c.in-Ok-true.field-0-test));
   leaks = λ p sound.
       let before = c.taking.invariant.sound p false sound tt in
       let q : Pending = taken_as false (pending_then p c.args.file.now.free_list c.taking.file.free_list) (run_at c.args.first c.taking.taken) in
@@ -583,119 +563,3 @@ returns-in-Err-clause-header_cluster g c = elim c.if-not-is_fault.branch [
   | then-not-is_fault+in_ok-give_back-in-Err w ↦ of_equal (λ a f. SparesHeaderButPointer g.S.Storage.view c.args.self.now.reftable c.args.file.now a.reftable f) c.if-not-is_fault.self w.give_back-then-not-is_fault.new.self c.if-not-is_fault.file w.give_back-then-not-is_fault.new.file w.self-is w.file-is (spares_then (spares_then c.taking.invariant.spared c.take.ensures.header_cluster) (spares_less (w.give_back-then-not-is_fault.ensures.header_cluster)))
   | else-not-is_fault w ↦ of_equal (λ a f. SparesHeaderButPointer g.S.Storage.view c.args.self.now.reftable c.args.file.now a.reftable f) c.if-not-is_fault.self c.take.new.self c.if-not-is_fault.file c.take.new.file w.self-is w.file-is (spares_then c.taking.invariant.spared c.take.ensures.header_cluster)
 ]
-
-pub returns-clause-lacking : goal.returns-clause-lacking
-returns-clause-lacking g c = λ e lacks some.
-    let all : c.taking.taken ≡ c.args.n = let le = c.taking.auto.taken-end in let past = c.taking-test.false in omega arith in
-    let none = (c.taking.invariant.lacking e lacks).0 in
-    absurd (omega (arith, all, none, some))
-
-pub returns-in_err-give_back-in-Ok-false-clause-lacking : goal.returns-in_err-give_back-in-Ok-false-clause-lacking
-returns-in_err-give_back-in-Ok-false-clause-lacking g c = λ e lacks some.
-    let at = c.taking.invariant.lacking e lacks in
-    ok_no_err c.in-Ok-false.field-0 e (refuses c.args.file.now.header.fields c.taking.file.header.fields c.args.self.now.reftable c.taking.self.reftable c.args.first c.taking.taken (Ok c.in-Ok-false.field-0) (c.take.new.file ≡ c.taking.file) e (ap (λ (f : ImageFile g.row.S.Denot). f.header.fields) at.2) at.1 at.0 c.in-Ok-false.ensures.unaligned c.in-Ok-false.ensures.first_range lacks).0
-
-pub returns-in-Ok-false-clause-lacking : goal.returns-in-Ok-false-clause-lacking
-returns-in-Ok-false-clause-lacking g c = λ e lacks some.
-    let at = c.taking.invariant.lacking e lacks in
-    ok_no_err c.in-Ok-false.field-0 e (refuses c.args.file.now.header.fields c.taking.file.header.fields c.args.self.now.reftable c.taking.self.reftable c.args.first c.taking.taken (Ok c.in-Ok-false.field-0) (c.take.new.file ≡ c.taking.file) e (ap (λ (f : ImageFile g.row.S.Denot). f.header.fields) at.2) at.1 at.0 c.in-Ok-false.ensures.unaligned c.in-Ok-false.ensures.first_range lacks).0
-
-pub returns-in_err-give_back-in-Err-clause-lacking : goal.returns-in_err-give_back-in-Err-clause-lacking
-returns-in_err-give_back-in-Err-clause-lacking g c = λ e lacks some.
-    let bad = (c.in_err-give_back-in-Err.ensures.none (c.taking.invariant.lacking e lacks).0).0 in
-    absurd (cc)
-
-pub returns-in-Err-clause-lacking : goal.returns-in-Err-clause-lacking
-returns-in-Err-clause-lacking g c = λ e lacks some.
-    let at = c.taking.invariant.lacking e lacks in
-    let refused = refuses c.args.file.now.header.fields c.taking.file.header.fields c.args.self.now.reftable c.taking.self.reftable c.args.first c.taking.taken (Err c.in-Err.refusal) (c.take.new.file ≡ c.taking.file) e (ap (λ (f : ImageFile g.row.S.Denot). f.header.fields) at.2) at.1 at.0 c.in-Err.ensures.unaligned c.in-Err.ensures.first_range lacks in
-    let same = refused.1 ∙ at.2 in (
-      err_as c.in-Err.refusal e refused.0,
-      elim c.if-not-is_fault.branch [
-        | then-not-is_fault+in_ok-give_back-in-Err w ↦ w.file-is ∙ (w.give_back-then-not-is_fault.ensures.none at.0).1 ∙ same
-        | else-not-is_fault w ↦ w.file-is ∙ same
-      ],
-    )
-
--- each cluster of a run that was taken is counted in a refblock that begins at a cluster
-pub returns-in_err-give_back-in-Ok-false-clause-aligned : goal.returns-in_err-give_back-in-Ok-false-clause-aligned
-returns-in_err-give_back-in-Ok-false-clause-aligned g c = if_no_ok _ c.from_residual.result c.in_err-give_back-in-Ok-false.field-0.0 c.from_residual.ensures
-
-pub returns-in-Ok-false-clause-aligned : goal.returns-in-Ok-false-clause-aligned
-returns-in-Ok-false-clause-aligned g c = λ all. absurd (let lt = c.taking-test.true in omega (arith, all, lt))
-
-pub returns-in_err-give_back-in-Err-clause-aligned : goal.returns-in_err-give_back-in-Err-clause-aligned
-returns-in_err-give_back-in-Err-clause-aligned g c = if_no_ok _ c.from_residual-in_err-give_back-in-Err.result c.in_err-give_back-in-Err.field-0.0 c.from_residual-in_err-give_back-in-Err.ensures
-
-pub returns-clause-aligned : goal.returns-clause-aligned
-returns-clause-aligned g c = λ all.
-    let all : c.taking.taken ≡ c.args.n = let le = c.taking.auto.taken-end in let past = c.taking-test.false in omega arith in
-    subst (AvoidsUnaligned c.args.file.now.header.fields c.taking.self.reftable c.args.first) all c.taking.invariant.aligned
-
-pub returns-in_err-give_back-in-Ok-false-clause-quiet : goal.returns-in_err-give_back-in-Ok-false-clause-quiet
-returns-in_err-give_back-in-Ok-false-clause-quiet g c = λ few. if_no_ok _ c.from_residual.result c.in_err-give_back-in-Ok-false.field-0.0 c.from_residual.ensures
-
-pub returns-in_err-give_back-in-Err-clause-quiet : goal.returns-in_err-give_back-in-Err-clause-quiet
-returns-in_err-give_back-in-Err-clause-quiet g c = λ few. if_no_ok _ c.from_residual-in_err-give_back-in-Err.result c.in_err-give_back-in-Err.field-0.0 c.from_residual-in_err-give_back-in-Err.ensures
-
-pub returns-in-Err-clause-quiet : goal.returns-in-Err-clause-quiet
-returns-in-Err-clause-quiet g c = λ few. tt
-
-pub returns-in-Ok-false-clause-quiet : goal.returns-in-Ok-false-clause-quiet
-returns-in-Ok-false-clause-quiet g c = λ few.
-    let lt = c.taking-test.true in
-    let none : c.taking.taken ≡ 0 = omega (arith, lt, few) in
-    let at = c.taking.invariant.still none in
-    first_used g.S.Storage.view c.args.file.now c.taking.file c.take.new.file c.give_back.new.file c.args.self.now.reftable c.taking.self.reftable c.take.new.self.reftable c.give_back.new.self.reftable at.0 at.1
-    c.args.n c.taking.taken (omega (arith, lt)) (c.give_back.ensures.none none).1 c.give_back.ensures.reftable (rw c.in-Ok-false.field-0-test at c.in-Ok-false.ensures.quiet)
-
-pub returns-clause-quiet : goal.returns-clause-quiet
-returns-clause-quiet g c = λ few.
-    let all : c.taking.taken ≡ c.args.n = let le = c.taking.auto.taken-end in let past = c.taking-test.false in omega arith in
-    run_ends g.S.Storage.view c.args.file.now c.taking.file c.args.self.now.reftable c.taking.self.reftable c.args.n c.taking.taken all few c.taking.invariant.still c.taking.invariant.one
-
--- ---- the refblocks of all its ranges stay held
-pub returns-in_err-give_back-in-Ok-false-clause-held_range : goal.returns-in_err-give_back-in-Ok-false-clause-held_range
-returns-in_err-give_back-in-Ok-false-clause-held_range g c = held_back c.args.first (c.args.first + c.taking.taken) (c.args.first + c.args.n) (omega arith) (let lt = c.taking-test.true in omega (arith, lt)) c.taking.invariant.held c.take.ensures.held_range c.give_back.ensures.held_range
-
-pub returns-in-Ok-false-clause-held_range : goal.returns-in-Ok-false-clause-held_range
-returns-in-Ok-false-clause-held_range g c = held_back c.args.first (c.args.first + c.taking.taken) (c.args.first + c.args.n) (omega arith) (let lt = c.taking-test.true in omega (arith, lt)) c.taking.invariant.held c.take.ensures.held_range c.give_back.ensures.held_range
-
-pub returns-in_err-give_back-in-Err-clause-held_range : goal.returns-in_err-give_back-in-Err-clause-held_range
-returns-in_err-give_back-in-Err-clause-held_range g c = held_back c.args.first (c.args.first + c.taking.taken) (c.args.first + c.args.n) (omega arith) (let lt = c.taking-test.true in omega (arith, lt)) c.taking.invariant.held c.take.ensures.held_range c.give_back-then-not-is_fault.ensures.held_range
-
-pub returns-in-Err-clause-held_range : goal.returns-in-Err-clause-held_range
-returns-in-Err-clause-held_range g c = elim c.if-not-is_fault.branch [
-  | then-not-is_fault+in_ok-give_back-in-Err w ↦ run_held_as (ap (λ (t : Allocator). t.reftable) w.self-is) w.file-is (held_back c.args.first (c.args.first + c.taking.taken) (c.args.first + c.args.n) (omega arith) (let lt = c.taking-test.true in omega (arith, lt)) c.taking.invariant.held c.take.ensures.held_range w.give_back-then-not-is_fault.ensures.held_range)
-  | else-not-is_fault w ↦ run_held_as (ap (λ (t : Allocator). t.reftable) w.self-is) w.file-is (held_more c.args.first (c.args.first + c.taking.taken) (c.args.first + c.taking.taken) (c.args.first + c.args.n) (let lt = c.taking-test.true in omega (arith, lt)) (omega arith) (let lt = c.taking-test.true in omega (arith, lt)) c.taking.invariant.held c.take.ensures.held_range)
-]
-
-pub returns-clause-held_range : goal.returns-clause-held_range
-returns-clause-held_range g c = held_wide c.args.first (c.args.first + c.taking.taken) (c.args.first + c.args.n) (let most = c.taking.auto.taken-end in omega (arith, most)) c.taking.invariant.held
-
-pub returns-in_err-give_back-in-Ok-false-clause-held_used : goal.returns-in_err-give_back-in-Ok-false-clause-held_used
-returns-in_err-give_back-in-Ok-false-clause-held_used g c = if_no_ok _ c.from_residual.result c.in_err-give_back-in-Ok-false.field-0.0 c.from_residual.ensures
-
-pub returns-in_err-give_back-in-Err-clause-held_used : goal.returns-in_err-give_back-in-Err-clause-held_used
-returns-in_err-give_back-in-Err-clause-held_used g c = if_no_ok _ c.from_residual-in_err-give_back-in-Err.result c.in_err-give_back-in-Err.field-0.0 c.from_residual-in_err-give_back-in-Err.ensures
-
-pub returns-in-Ok-false-clause-held_used : goal.returns-in-Ok-false-clause-held_used
-returns-in-Ok-false-clause-held_used g c = λ short. held_back c.args.first (c.args.first + c.taking.taken) (c.args.first + c.taking.taken + 1) (omega arith) (omega arith) c.taking.invariant.held c.take.ensures.held_range c.give_back.ensures.held_range
-
-pub returns-clause-held_used : goal.returns-clause-held_used
-returns-clause-held_used g c = λ short. absurd (short refl)
-
--- ---- the refblock that counts its last cluster is held
-pub returns-in_err-give_back-in-Ok-false-clause-holds : goal.returns-in_err-give_back-in-Ok-false-clause-holds
-returns-in_err-give_back-in-Ok-false-clause-holds g c = if_no_ok _ c.from_residual.result c.in_err-give_back-in-Ok-false.field-0.0 c.from_residual.ensures
-
-pub returns-in_err-give_back-in-Err-clause-holds : goal.returns-in_err-give_back-in-Err-clause-holds
-returns-in_err-give_back-in-Err-clause-holds g c = if_no_ok _ c.from_residual-in_err-give_back-in-Err.result c.in_err-give_back-in-Err.field-0.0 c.from_residual-in_err-give_back-in-Err.ensures
-
-pub returns-in-Ok-false-clause-holds : goal.returns-in-Ok-false-clause-holds
-returns-in-Ok-false-clause-holds g c = λ all some. absurd (let lt = c.taking-test.true in omega (arith, all, lt))
-
-pub returns-clause-holds : goal.returns-clause-holds
-returns-clause-holds g c = λ all some.
-    let whole : c.taking.taken ≡ c.args.n = (let past = c.taking-test.false in let most = c.taking.auto.taken-end in omega (arith, past, most)) in
-    subst (λ n. HoldsCountOf c.taking.self.reftable c.taking.file (c.args.first + n - 1)) whole (c.taking.invariant.holds (omega (arith, whole, some)))

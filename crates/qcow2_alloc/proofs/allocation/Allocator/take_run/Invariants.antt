@@ -27,10 +27,4 @@ invariant-taking g l = record {
   hint : (p : Pending) (d : Bool) → AllocatorInvariant g.S.Storage.view l.fn.self p l.fn.file → MayTake d l.fn.file → NoFreeBelowHint g.S.Storage.view l.fn.self l.fn.file → NoFreeBelowHint g.S.Storage.view l.self l.file;
   uses : (p : Pending) (d : Bool) → AllocatorInvariant g.S.Storage.view l.fn.self p l.fn.file → MayTake d l.fn.file → (k : ℕ) → IsUsed g.S.Storage.view l.fn.file k → IsUsed g.S.Storage.view l.file k;
   free : (p : Pending) (d : Bool) → AllocatorInvariant g.S.Storage.view l.fn.self p l.fn.file → MayTake d l.fn.file → (k : ℕ) → 0 < run_at l.fn.first l.taken k → ¬ IsUsed g.S.Storage.view l.fn.file k;
-  lacking : (e : ImageError) → LacksBlock l.fn.file.header.fields l.fn.self.reftable l.fn.first e → (l.taken ≡ 0) × (l.self.reftable ≡ l.fn.self.reftable) × (l.file ≡ l.fn.file);
-  still : l.taken ≡ 0 → (l.file ≡ l.fn.file) × (l.self.reftable ≡ l.fn.self.reftable);
-  one : l.taken ≡ 1 → SearchesQuietly g.S.Storage.view l.fn.file l.file l.fn.self.reftable l.self.reftable;
-  held : KeepsRangesHeld l.fn.self.reftable l.fn.file l.self.reftable l.file l.fn.first (l.fn.first + l.taken);
-  holds : 0 < l.taken → HoldsCountOf l.self.reftable l.file (l.fn.first + l.taken - 1);
-  aligned : AvoidsUnaligned l.fn.file.header.fields l.self.reftable l.fn.first l.taken;
 }

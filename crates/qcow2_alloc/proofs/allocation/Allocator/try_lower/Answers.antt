@@ -89,16 +89,3 @@ returns-in_default-clause-unaligned g c = λ u. ok_no_err _ I.UnalignedTable (c.
 
 pub returns-clause-unaligned : goal.returns-clause-unaligned
 returns-clause-unaligned g c = λ u. ok_no_err _ I.UnalignedTable (c.in_ok-block.ensures.unaligned (unaligned_as c.args.file.now.header.fields c.args.self.now.reftable c.args.cluster _ c.rb_bits-bits.ensures.counts u)).0
-
--- ---- the range's refblock stays held
-pub returns-in_err-block-clause-held_range : goal.returns-in_err-block-clause-held_range
-returns-in_err-block-clause-held_range g c = held_at (ap (λ n. c.args.cluster / n) c.rb_bits-bits.ensures.counts) c.load_block.ensures.held_range
-
-pub returns-in_default-clause-held_range : goal.returns-in_default-clause-held_range
-returns-in_default-clause-held_range g c = held_at (ap (λ n. c.args.cluster / n) c.rb_bits-bits.ensures.counts) c.load_block.ensures.held_range
-
-pub returns-clause-held_range : goal.returns-clause-held_range
-returns-clause-held_range g c =
-    held_as c.note_lowered.ensures.reftable (held_at (ap (λ n. c.args.cluster / n) c.rb_bits-bits.ensures.counts) (held_then c.load_block.ensures.held_range
-    (held_changed c.args.self.now.reftable c.load_block.new.file c.rb_decrement-lowered.new.self (c.args.cluster / 2 ^ c.rb_bits-bits.result)
-    (less_held c.load_block.new.file.caches c.rb_decrement-lowered.new.self c.in-Some.block c.rb_index-index.result c.rb_decrement-lowered.result c.rb_decrement-lowered.ensures.counts c.rb_decrement-lowered.ensures.missing c.rb_decrement-lowered.ensures.refused))))
