@@ -2,7 +2,7 @@
 use Rattle.std.proofs.Common.{◌≡◌, ◌⊎◌, inl, inr, ⊎_elim, ℕ, ◌≤◌, List, Result, Ok, Err, sym, ◌∙◌, subst, arith}
 use Rattle.image_access.specs.declared.error.StorageError.{StorageError}
 use Rattle.image_access.specs.declared.error.StorageError.TheVariants.{Fault, Memory}
-use Rattle.image_access.specs.Moments.{StorageView, ContentsBecome, Rose, HasCause, EachMomentSince, Calls, QuietCalls, ContentsStay, Changes}
+use Rattle.image_access.specs.Moments.{StorageView, ContentsBecome, Rose, HasCause, EachMomentSince, Calls, Changes}
 
 -- whatever the answer, the change is whole or nothing
 pub whole_or_nothing : {T : Type 0} (result : Result T StorageError) (old changed new : List ℕ) → ContentsBecome result old changed new → (new ≡ old) ⊎ (new ≡ changed)
@@ -35,10 +35,6 @@ module _ {old mid new : StorageView} where
   }
 
   module _ {T : Type 0} {result : Result T StorageError} where
-    -- one call more that changes nothing
-    pub passes_keep : (P : List ℕ → Type 0) → EachMomentSince old mid P → QuietCalls mid new result → ContentsStay mid new → mid.is_honest → P mid.contents → EachMomentSince old new P
-    passes_keep P so_far call keeps honest at_mid = passes_on P so_far call.time (λ c is. subst P (sym (is ∙ keeps honest)) at_mid)
-
     -- one call more, which makes a whole change or none
     pub passes_change : (P : List ℕ → Type 0) (changed : List ℕ) → EachMomentSince old mid P → Calls mid new result → Changes mid new result changed → mid.is_honest → P mid.contents → P changed → EachMomentSince old new P
     passes_change P changed so_far call changes honest at_mid at_changed =

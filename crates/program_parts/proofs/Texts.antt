@@ -1,32 +1,13 @@
 -- Lines of a list that are printed one after the other.
-use Rattle.std.proofs.Common.{◌≡◌, ℕ, List, [], ◌∷◌, ◌++◌, length, Option, ap, sym, subst, ◌∙◌, ◌+◌, ◌<◌, take, slice_index_or}
-use Rattle.std.proofs.lemmas.List.{append-nil, take_more}
-use Rattle.std.proofs.lemmas.Grind.{flat_map-append}
+use Rattle.std.proofs.Common.{◌≡◌, ℕ, List, [], Option, subst}
 use Rattle.std.specs.Io.KnownBytes.{Appends}
-use Rattle.std.specs.List.{flat_map}
-use Rattle.program_parts.proofs.Known.{appends_both}
 use Rattle.qcow2_metadata.specs.Bytes.{Bytes}
 use Rattle.qcow2_metadata.specs.Consistent.{IsConsistent}
 use Rattle.qcow2_metadata.specs.Header.{header}
 use Rattle.qcow2_check.specs.Report.{leak_lines}
 use Rattle.qcow2_check.specs.declared.report.Breach.{Breach}
 use Rattle.qcow2_check.specs.declared.report.Leak.{Leak}
-use Rattle.program_parts.specs.Reports.{text_of_lines, text_of_report, IsFoundConsistent}
-
--- one more piece was printed
-pub one_piece_more : {A : Type 0} (piece : A → List ℕ) (items : List A) (i : ℕ) (item : A) (old mid new : Option (List ℕ)) → i < length items → slice_index_or items i item ≡ item
-    → Appends old mid (flat_map piece (take i items)) → Appends mid new (piece item) → Appends old new (flat_map piece (take (i + 1) items))
-one_piece_more piece items i item old mid new within is before now =
-    let more : take (i + 1) items ≡ take i items ++ item ∷ [] = take_more items i item within ∙ ap (λ it. take i items ++ it ∷ []) is in
-    let text : flat_map piece (take (i + 1) items) ≡ flat_map piece (take i items) ++ piece item =
-    ap (flat_map piece) more ∙ flat_map-append piece (take i items) (item ∷ []) ∙ ap (λ it. flat_map piece (take i items) ++ it) (append-nil (piece item))
-    in
-    rw text (appends_both old mid new (flat_map piece (take i items)) (piece item) before now)
-
--- and one more line
-pub one_line_more : {A : Type 0} (line : A → List ℕ) (items : List A) (i : ℕ) (item : A) (old mid new : Option (List ℕ)) → i < length items → slice_index_or items i item ≡ item
-    → Appends old mid (text_of_lines line (take i items)) → Appends mid new (line item ++ 10 ∷ []) → Appends old new (text_of_lines line (take (i + 1) items))
-one_line_more line = one_piece_more (λ item. line item ++ 10 ∷ [])
+use Rattle.program_parts.specs.Reports.{text_of_report, IsFoundConsistent}
 
 -- a report without a breach was told
 pub found_consistent : (image : Bytes) (breaches : List Breach) (leaks : List Leak) (old new : Option (List ℕ)) → ((breaches ≡ []) → IsConsistent image) → leaks ≡ leak_lines (header image) image

@@ -22,8 +22,7 @@ use Rattle.qcow2_alloc.specs.declared.clusters_to_free.ClusterKind.{ClusterKind}
 use Rattle.qcow2_alloc.specs.declared.clusters_to_free.ClusterKind.TheVariants.{Data, Metadata}
 use Rattle.qcow2_alloc.specs.declared.clusters_to_free.ClustersToFreeEntry.{ClustersToFreeEntry}
 use Rattle.qcow2_alloc.specs.Allocation.{run_at, is_data, taken_as, Owed, Taken, Listed, owed_as, MayTake, MayLower, HasNone, NamesBlock, NamesBehindHeader, KeepsRefblocks, NamesLacking, KeepsEntries, KeepsNamed, RefblockAt, UnseenAllocatorStep, UnseenAllocatorGrowth, PlacesBlock, GetsBlock, RefusedGrowth, TakesOne, TakesCluster, Allocates}
-use Rattle.qcow2_laws.specs.Caches.{AreNamedBlocks}
-use Rattle.qcow2_alloc.specs.CachePins.{KeepsPinsAndNotes, SameTables}
+use Rattle.qcow2_alloc.specs.CachePins.{KeepsPinsAndNotes}
 use Rattle.qcow2_alloc.specs.ImageFile.{view_in, contents_in, known_in, FileInvariant, AllocatorInvariant, HasReftable, RefusedFileStep}
 use Rattle.image_access.specs.declared.error.StorageError.{StorageError}
 use Rattle.image_access.specs.declared.error.StorageError.TheVariants.{Fault, Memory}
@@ -32,7 +31,6 @@ use Rattle.qcow2_alloc.specs.MetadataCaches.{order_of, rb_at, IsCountedAt, Raise
 use Rattle.qcow2_alloc.specs.declared.image_storage.ImageStorage.{ImageStorage}
 use Rattle.qcow2_alloc.specs.ImageStorage.{storage_of}
 use Rattle.qcow2_alloc.proofs.KeptTables.Standing.{own_cluster}
-use Rattle.qcow2_alloc.proofs.KeptTables.Turning.{safe_none}
 use Rattle.qcow2_alloc.proofs.Runs.{new_data_more}
 use Rattle.qcow2_alloc.proofs.FileSteps.{one_here, file_step_none, file_step_then, file_step_on, on_then, on_interrupted, leaves_then, interrupted_after, file_step_cached, reftable_cached, reftable_counted, file_step_raised, file_step_lowered}
 
@@ -198,18 +196,6 @@ module _ {S : Type 0} (view : S → StorageView) where
   pub allocator_step_cached : (p : Pending) (file : ImageFile S) (t : Allocator) (storage : ImageStorage S) (caches : MetadataCaches S) → AllocatorInvariant view t p file
       → UnseenCacheStep file.header.fields p (view_in view file) file.caches (view (storage_of storage)) caches → KeepsPinsAndNotes file.caches caches → UnseenAllocatorStep view p file t (record file { storage = storage; caches = caches }) p
   allocator_step_cached p file t storage caches sound stays marks = record { file_step = file_step_cached view p file storage caches sound.sound stays marks; reftable = reftable_cached view p file storage caches sound.sound stays t.reftable sound.reftable }
-
-  -- nothing but marks of the caches changes
-  pub allocator_step_marked : (p : Pending) (file : ImageFile S) (t : Allocator) (caches : MetadataCaches S) → AllocatorInvariant view t p file → SameTables file.caches caches → KeepsPinsAndNotes file.caches caches → UnseenAllocatorStep view p file t (record file { caches = caches }) p
-  allocator_step_marked p file t caches sound tables marks =
-      let h = file.header.fields in
-      allocator_step_cached p file t file.storage caches sound (record {
-        honest = sound.sound.honest;
-        sound = tables.sound h p (contents_in view file) sound.sound.caches;
-        known = tables.known h (contents_in view file);
-        named_blocks = λ named_blocks. subst (λ ts. AreNamedBlocks h ts (contents_in view file)) (sym tables.refblocks) named_blocks;
-        since = safe_none (view_in view file) (known_in view file);
-      }) marks
 
   -- a refusal that is no fault left all sound
   pub still_sound : (p : Pending) (a b : ImageFile S) (t : Allocator) (e : ImageError) → (IsFault e → ⊥) → RefusedFileStep view p a t b e → UnseenAllocatorStep view p a t b p

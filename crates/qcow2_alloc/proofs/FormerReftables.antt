@@ -1,13 +1,10 @@
 -- Reftables that gave way to longer ones, and whose clusters are listed to be freed.
-use Rattle.std.proofs.Common.{◌≡◌, inl, inr, ℕ, ◌+◌, ◌-◌, ◌*◌, ◌/◌, ◌%◌, ◌^◌, ◌<◌, ◌≤◌, List, [], ◌∷◌, ◌++◌, length, Some, refl, sym, ap, ◌∙◌, subst, append_assoc, arith}
-use Rattle.std.proofs.lemmas.Bool.{cases_lt}
+use Rattle.std.proofs.Common.{◌≡◌, ℕ, ◌+◌, ◌-◌, ◌*◌, ◌/◌, ◌%◌, ◌^◌, ◌<◌, ◌≤◌, List, [], ◌∷◌, ◌++◌, length, Some, refl, sym, ap, ◌∙◌, subst, append_assoc, arith}
 use Rattle.std.proofs.lemmas.List.{append-nil}
-use Rattle.std.proofs.lemmas.Nat.{div-add-mod'}
-use Rattle.std.proofs.Math.Nat.{mul-le-mul_right}
 use Rattle.qcow2_metadata.specs.EntryTable.{EntryTableView, entry_count, IsRefTable}
 use Rattle.qcow2_alloc.specs.Allocation.{NamesBehindHeader, KeepsRefblocks, KeepsEntries, KeepsNamed}
 use Rattle.qcow2_alloc.specs.ClustersToFree.{metadata_entry}
-use Rattle.qcow2_alloc.specs.FreeList.{SamePlace, IsRunOfTable, FillsClusters, GaveWay, GivesWayOnce, ListsReftables}
+use Rattle.qcow2_alloc.specs.FreeList.{SamePlace, IsRunOfTable, FillsClusters, GaveWay, ListsReftables}
 use Rattle.qcow2_alloc.specs.declared.clusters_to_free.ClustersToFreeEntry.{ClustersToFreeEntry}
 use Rattle.qcow2_alloc.proofs.AllocationSteps.{behind_none, behind_then, ranges_then, entries_then, entries_less}
 
@@ -42,33 +39,6 @@ gave_longer a b (e ∷ es) gone =
     let once = gone.2 in
     let then = gave_longer gone.1 b es gone.5 in
     omega (arith, once, then)
-
--- of two numbers of entries that fill whole clusters, the greater one fills one more at least
-whole_apart : (m a b : ℕ) → a % m ≡ 0 → b % m ≡ 0 → a < b → a + m ≤ b
-whole_apart m a b whole whole' less =
-    let one = div-add-mod' a m in
-    let two = div-add-mod' b m in
-    elim (cases_lt (a / m) (b / m)) [
-      | inl more ↦ let up : (a / m + 1) * m ≤ b / m * m = mul-le-mul_right m (omega (arith, more)) in omega (arith, one, two, whole, whole', up)
-      | inr not ↦ let down : b / m * m ≤ a / m * m = mul-le-mul_right m not in absurd (omega (arith, one, two, whole, whole', down, less))
-    ]
-
--- where more than one went, the reftable became longer by more entries than a cluster has
-gave_twice : (a b : EntryTableView) (e f : ClustersToFreeEntry) (es : List ClustersToFreeEntry) → GaveWay a (e ∷ f ∷ es) b → entry_count a + 2 ^ a.cluster_bits / 8 < entry_count b
-gave_twice a b e f es gone =
-    let next = gone.1 in
-    let longer = gone.2 in
-    let then = gone.5 in
-    let first : entry_count next % (2 ^ a.cluster_bits / 8) ≡ 0 = subst (λ n. entry_count next % (2 ^ n / 8) ≡ 0) gone.3 gone.4.whole in
-    let second : entry_count then.1 % (2 ^ a.cluster_bits / 8) ≡ 0 = subst (λ n. entry_count then.1 % (2 ^ n / 8) ≡ 0) (then.3 ∙ gone.3) then.4.whole in
-    let apart = whole_apart (2 ^ a.cluster_bits / 8) (entry_count next) (entry_count then.1) first second then.2 in
-    let last = gave_longer then.1 b es then.5 in
-    omega (arith, longer, apart, last)
-
-pub gives_way_once : GivesWayOnce
-gives_way_once old new [] gone few = omega arith
-gives_way_once old new (e ∷ []) gone few = omega arith
-gives_way_once old new (e ∷ f ∷ es) gone few = let more = gave_twice old new e f es gone in absurd (omega (arith, few, more))
 
 -- nothing is listed
 pub former_same : (a b : EntryTableView) (l m : List ClustersToFreeEntry) → KeepsNamed a b → m ≡ l → ListsReftables a b l m

@@ -1,6 +1,5 @@
 -- The first free cluster of an allocator over its steps: what is in use stays in use, but for what is given back.
-use Rattle.std.proofs.Common.{◌≡◌, ◌≢◌, ◌⊎◌, inl, inr, ℕ, ◌==◌, IsTrue, IsSome, ◌+◌, ◌*◌, ◌/◌, ◌<◌, ◌≤◌, Bool, true, false, Option, Some, None, Result, Ok, Err, sym, ap, ◌∙◌, subst, refl, arith}
-use Rattle.std.specs.Option.{is_some}
+use Rattle.std.proofs.Common.{◌≡◌, ◌≢◌, ◌⊎◌, inl, inr, ℕ, ◌==◌, IsTrue, IsSome, ◌+◌, ◌*◌, ◌/◌, ◌<◌, ◌≤◌, Bool, true, false, Some, None, Result, Ok, Err, sym, ap, ◌∙◌, subst, refl, arith}
 use Rattle.std.specs.Prelude.{OnOk}
 use Rattle.std.proofs.lemmas.Bool.{cases_eq, cases_lt}
 use Rattle.image_access.specs.Moments.{StorageView}
@@ -21,7 +20,7 @@ use Rattle.qcow2_alloc.specs.declared.clusters_to_free.ClusterKind.TheVariants.{
 use Rattle.qcow2_alloc.specs.declared.error.ImageError.{ImageError}
 use Rattle.qcow2_alloc.specs.declared.image_file.ImageFile.{ImageFile}
 use Rattle.qcow2_alloc.specs.Allocation.{run_at, taken_as, Owed, Taken, Listed, owed_as, HasNone, RefblockAt, UnseenAllocatorStep, GetsBlock, LowersOne, PlacesBlock, TakesOne}
-use Rattle.qcow2_alloc.specs.ImageFile.{pending_at, contents_in, known_in, FileInvariant, HasReftable, RefusedFileStep, IsFault}
+use Rattle.qcow2_alloc.specs.ImageFile.{pending_at, contents_in, known_in, FileInvariant, RefusedFileStep, IsFault}
 use Rattle.qcow2_alloc.specs.MetadataCaches.{rb_at}
 use Rattle.qcow2_alloc.specs.declared.cache.MetadataCaches.{MetadataCaches}
 use Rattle.std.proofs.lemmas.Bool.Decides.{nat_tests}
@@ -96,10 +95,6 @@ module _ {S : Type 0} (view : S → StorageView) where
     | inr behind ↦ used k behind (omega (arith, below, goes))
   ]
 
-  -- another allocator with the same first free cluster
-  pub hint_as : (file : ImageFile S) (t t' : Allocator) → t'.first_free_cluster ≡ t.first_free_cluster → NoFreeBelowHint view t file → NoFreeBelowHint view t' file
-  hint_as file t t' same hint k below = hint k (subst (λ n. k < n) same below)
-
   -- after a refusal
   pub hint_refused : (p : Pending) (a b : ImageFile S) (t t' : Allocator) (e : ImageError) → t'.first_free_cluster ≡ t.first_free_cluster → RefusedFileStep view p a t' b e → NoFreeBelowHint view t a → NoFreeBelowHint view t' b ⊎ BrokeOff b e
   hint_refused p a b t t' e same leaves hint = elim leaves [
@@ -141,19 +136,6 @@ module _ {S : Type 0} (view : S → StorageView) where
   pub kept_refused : (n : ℕ → ℕ) (p : Pending) (a b c : ImageFile S) (t : Allocator) (e : ImageError) → RefusedFileStep view p b t c e → ((k : ℕ) → n k ≡ 0 → IsUsed view a k → IsUsed view b k)
       → ((k : ℕ) → n k ≡ 0 → IsUsed view a k → IsUsed view c k) ⊎ BrokeOff c e
   kept_refused n p a b c t e leaves first = elim (uses_refused p b c t e leaves) [ inl uses ↦ inl (λ k none used. uses k (first k none used)) | inr interruption ↦ inr interruption ]
-
-  -- a range that has a refblock in the file has one in memory
-  pub block_in_memory : (p : Pending) (file : ImageFile S) (t : EntryTableView) (range block : ℕ) → FileInvariant view p file → HasReftable view file t → RefblockAt view file range (Some block) → HasNone t range → ⊥
-  block_in_memory p file t range block sound has at none = at.0 (ap block_offset (sym (sound.caches.kept.kept.crash_invariant.same_top.reftable range) ∙ sym (has.entries range)) ∙ none)
-
-  pub has_block : (p : Pending) (file : ImageFile S) (t : EntryTableView) (range : ℕ) (o : Option ℕ) → FileInvariant view p file → HasReftable view file t → is_some o ≡ true → RefblockAt view file range o → HasNone t range → ⊥
-  has_block p file t range None sound has some at none = let bad : false ≡ true = some in cc
-  has_block p file t range (Some block) sound has some at none = block_in_memory p file t range block sound has at none
-
-  -- so has one where a refblock was placed
-  pub placed_block : (p p' : Pending) (old new : ImageFile S) (t : Allocator) (range at : ℕ) (result : Result (Unit {0}) ImageError) → PlacesBlock view p old t new p' range at result → OnOk result (HasNone t.reftable range → ⊥)
-  placed_block p p' old new t range at (Ok done) placed = λ none. block_in_memory p' new t.reftable range at placed.0.file_step.sound placed.0.reftable placed.1 none
-  placed_block p p' old new t range at (Err e) placed = tt
 
   -- the cluster of a refblock that is named is in use
   pub named_used : (p : Pending) (file : ImageFile S) (range at : ℕ) → FileInvariant view p file → RefblockAt view file range (Some at) → IsUsed view file at

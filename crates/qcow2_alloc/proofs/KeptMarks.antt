@@ -1,5 +1,5 @@
 -- One step after another keeps the marks of an image's file.
-use Rattle.std.proofs.Common.{◌≡◌, ℕ, List, Option, Some, None, IsSome, IsTrue, Result, inl, inr, refl, sym, ◌∙◌, subst}
+use Rattle.std.proofs.Common.{◌≡◌, ℕ, List, Option, Some, None, IsSome, Result, inl, inr, refl, sym, ◌∙◌, subst}
 use Rattle.std.specs.Option.{IfSome}
 use Rattle.image_access.specs.Moments.{StorageView, Calls, Changes}
 use Rattle.image_access.specs.declared.error.StorageError.{StorageError}
@@ -11,7 +11,7 @@ use Rattle.qcow2_alloc.specs.KeptNotes.{KeepsNotes, AlsoData, NoData, kept_same,
 use Rattle.qcow2_alloc.specs.MetadataCaches.{order_of}
 use Rattle.qcow2_alloc.specs.declared.cache.MetadataCaches.{MetadataCaches}
 use Rattle.qcow2_alloc.specs.declared.image_storage.ImageStorage.{ImageStorage}
-use Rattle.qcow2_alloc.specs.declared.image_storage.WriteKind.TheVariants.{Data, Other}
+use Rattle.qcow2_alloc.specs.declared.image_storage.WriteKind.TheVariants.{Other}
 use Rattle.qcow2_alloc.proofs.CachePins.{marks_none, marks_then}
 use Rattle.qcow2_alloc.proofs.KeptNotes.{kept_told, write_kept}
 
@@ -71,6 +71,3 @@ module _ {S : Type 0} {view : S → StorageView} where
 
   pub notes_of_storage : {MayTellData : Type 0} {r s : ImageStorage S} {a : MetadataCaches S} → KeepsNotes view MayTellData r s → KeepNotes view MayTellData r a s a
   notes_of_storage {r} {s} {a} notes = record { storage = notes; tables = counts_none a.is_changed a.changes }
-
-  pub notes_of_caches : {MayTellData : Type 0} {s : ImageStorage S} {a b : MetadataCaches S} → KeepsPinsAndNotes a b → KeepNotes view MayTellData s a s b
-  notes_of_caches {s} pins = record { storage = kept_same s; tables = pins.changes }

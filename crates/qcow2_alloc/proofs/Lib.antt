@@ -18,7 +18,6 @@ pub mod KeptAllocators
 pub mod Freeing
 pub mod ListedAfter
 pub mod MadeClusters
-pub mod TurnedCaches
 pub mod Leaks
 pub mod UnalignedLeaks
 pub mod Lengths
@@ -43,5 +42,3 @@ pub mod SparedHeaders
 pub mod KeptNotes
 pub mod MetFaults
 pub mod KeptMarks
-pub mod QuietSearches
-pub mod HeldRanges

@@ -1,10 +1,8 @@
 -- Loads and writes of tables note their failures.
-use Rattle.std.proofs.Common.{◌≡◌, ◌≤◌, Bool, true, false, inl, inr, Result, Ok, Err, refl, ap, sym, ◌∙◌, subst, arith}
-use Rattle.std.specs.Prelude.{IsErrOf}
+use Rattle.std.proofs.Common.{◌≡◌, ◌≤◌, true, inl, inr, Result, Ok, Err, refl, ap, sym, ◌∙◌, subst, arith}
 use Rattle.image_access.specs.Moments.{StorageView, HasCause, Rose}
 use Rattle.image_access.specs.declared.error.StorageError.{StorageError}
 use Rattle.image_access.specs.declared.error.StorageError.TheVariants.{Fault, Memory}
-use Rattle.qcow2_alloc.proofs.Faults.{unless_fault}
 use Rattle.qcow2_alloc.specs.Faults.{faults_of}
 use Rattle.qcow2_alloc.specs.ImageStorage.{storage_of, met_fault_of, NotesFault}
 use Rattle.qcow2_alloc.specs.MetFaults.{NotesFaults}
@@ -28,10 +26,3 @@ module _ {S : Type 0} {view : S → StorageView} where
     by (Ok x) cause notes = met_none s t (notes ∙ still) (cause.told ∙ before)
     by (Err Memory) cause notes = met_none s t (notes ∙ still) (cause.told (λ bad. cc) ∙ before)
     by (Err Fault) cause notes = met_one s t notes (subst (λ n. Rose n (faults_of view t)) before (cause.fault refl)) (let le = cause.no_fewer in omega (arith, le, before))
-
-  -- a load that isn't refused for a fault, and one that is
-  pub met_loaded : {A : Type 0} (s t : ImageStorage S) (r : Result A StorageError) → met_fault_of t ≡ met_fault_of s → HasCause (faults_of view s) (faults_of view t) r → ¬ IsErrOf r Fault → NotesFaults view s t
-  met_loaded s t r still cause other = met_none s t still (unless_fault r (faults_of view t ≡ faults_of view s) cause.told other)
-
-  pub met_failed : {A : Type 0} (s t : ImageStorage S) (r : Result A StorageError) → met_fault_of t ≡ true → HasCause (faults_of view s) (faults_of view t) r → IsErrOf r Fault → NotesFaults view s t
-  met_failed s t r noted cause is = met_one s t noted (cause.fault is) cause.no_fewer

@@ -1,5 +1,5 @@
 -- What holds of the result of a call, whatever the call does.
-use Rattle.std.proofs.Common.{◌≡◌, ℕ, ◌≤◌, Bool, false, Result, Ok, Err, IsErr, IsErrAnd, IsTrue, refl, ap, sym, subst, arith}
+use Rattle.std.proofs.Common.{◌≡◌, ℕ, Bool, false, Result, Ok, Err, IsErr, IsErrAnd, IsTrue, refl, ap, sym, subst, arith}
 use Rattle.std.specs.Prelude.{IsErrOf, IfOk, IfErr, OnOk, OnErr}
 use Rattle.qcow2_metadata.specs.EntryTable.{EntryTableView}
 use Rattle.qcow2_alloc.specs.Allocation.{KeepsEntries}
@@ -36,9 +36,6 @@ told_err before now e told = record { no_fewer = told.no_fewer; rose = λ is. to
 pub err_as : {T A : Type 0} (e f : ImageError) → IsErrOf {T = A} (Err e) f → IsErrOf {T = T} (Err e) f
 err_as e f is = ap Err (let same : e ≡ f = cc in same)
 
-pub refused_as : {T : Type 0} (e f : ImageError) → IsErrOf {T = T} (Err e) f → e ≡ f
-refused_as e f is = cc
-
 -- one that `?` hands on, after others
 pub told_after : {T A : Type 0} (before mid now : ℕ) (answer : Result A ImageError) (e : ImageError) (result : Result T ImageError) → mid ≡ before → FaultsTold mid now answer → answer ≡ Err e
     → IsErr result × IsErrAnd result (λ x. x ≡ e) → FaultsTold before now result
@@ -67,10 +64,6 @@ handed_unaligned r e on is = handed_on (λ x. IsErrOf x I.UnalignedTable) r e on
 -- a reftable that stays
 pub entries_none : (P : ℕ → Type 0) (t : EntryTableView) → KeepsEntries P t t
 entries_none P t = record { cluster = refl; bits = refl; count = refl; others = λ k stays. refl; behind = behind_none t }
-
--- a reason that `?` hands on
-pub handed_why : {A : Type 0} (Why : ImageError → Type 0) (r : Result A ImageError) (e : ImageError) → IsErr r × IsErrAnd r (λ x. x ≡ e) → Why e → IsErrAnd r Why
-handed_why Why r e on why = handed_on (λ x. IsErrAnd x Why) r e on why
 
 -- another reason, where it is refused for one
 pub why_as : {A : Type 0} (Why Other : ImageError → Type 0) (r : Result A ImageError) → ((e : ImageError) → Why e → Other e) → IsErrAnd r Why → IsErrAnd r Other

@@ -87,16 +87,6 @@ pub record IsUnaligned (h : HeaderFields) (reftable : EntryTableView) (range : �
   pub within : range < entry_count reftable
   pub off : block_offset (entry_at reftable.bytes range) % cluster_size h ≢ 0
 
--- the entry of a range names a refblock, which begins at a cluster
-pub record HasAlignedBlock (h : HeaderFields) (reftable : EntryTableView) (range : ℕ) : Type 0 where
-  pub some : HasNone reftable range → ⊥
-  pub block : ℕ
-  pub names : NamesBlock h reftable range (Some block)
-
--- for each of n clusters from the first one on, the reftable names a refblock that begins at a cluster
-abbrev pub AvoidsUnaligned : HeaderFields → EntryTableView → ℕ → ℕ → Type 0
-AvoidsUnaligned h reftable first n = (k : ℕ) → first ≤ k → k < first + n → HasAlignedBlock h reftable (k / counts_per_block h)
-
 -- a cluster is of the first range, which has no refblock, though the reftable has an entry for it
 pub record LacksFirst (h : HeaderFields) (reftable : EntryTableView) (cluster : ℕ) : Type 0 where
   pub none : HasNone reftable 0

@@ -1,5 +1,5 @@
 -- The clusters that are listed to be freed.
-use Rattle.std.specs.Prelude.{◌≡◌, ◌⊎◌, ℕ, ◌+◌, ◌-◌, ◌*◌, ◌/◌, ◌%◌, ◌^◌, ◌<◌, ◌≤◌, ◌++◌, length, Some, IfSome, Result, Ok, Err, Bool, true, false, List, [], ◌∷◌, if◌then◌else◌}
+use Rattle.std.specs.Prelude.{◌≡◌, ◌⊎◌, ℕ, ◌+◌, ◌-◌, ◌*◌, ◌/◌, ◌%◌, ◌^◌, ◌<◌, ◌++◌, Some, IfSome, Result, Ok, Err, Bool, true, false, List, [], ◌∷◌, if◌then◌else◌}
 use Rattle.qcow2_metadata.specs.EntryTable.{EntryTableView, entry_count}
 use Rattle.qcow2_laws.specs.CrashInvariant.{Pending}
 use Rattle.qcow2_alloc.specs.declared.clusters_to_free.ClusterKind.{ClusterKind}
@@ -77,10 +77,6 @@ pub record FillsClusters (t : EntryTableView) : Type 0 where
 abbrev pub GaveWay : EntryTableView → List ClustersToFreeEntry → EntryTableView → Type 0
 GaveWay old [] new = SamePlace old new
 GaveWay old (e ∷ es) new = IsRunOfTable old e × (next : EntryTableView) × (entry_count old < entry_count next) × (next.cluster_bits ≡ old.cluster_bits) × FillsClusters next × GaveWay next es new
-
--- Where a reftable becomes longer by no more entries than one cluster holds, it gave way once at most.
-abbrev pub GivesWayOnce : Type 0
-GivesWayOnce = (old new : EntryTableView) (es : List ClustersToFreeEntry) → GaveWay old es new → entry_count new ≤ entry_count old + 2 ^ old.cluster_bits / 8 → length es ≤ 1
 
 -- What is listed behind what was listed are the clusters of former reftables, and nothing else. No refblock comes to lie in cluster 0, and each range that has one keeps it.
 pub record ListsReftables (old new : EntryTableView) (list list' : List ClustersToFreeEntry) : Type 0 where

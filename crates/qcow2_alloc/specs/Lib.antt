@@ -41,4 +41,3 @@ pub mod MetFaults
 pub mod WriteKinds
 pub mod HeaderClusters
 pub mod SparedHeaders
-pub mod HeldRanges

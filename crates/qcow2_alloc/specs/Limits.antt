@@ -21,18 +21,6 @@ IsFaultOr Cause e = IsFault e ⊎ ((e ≡ I.Limit) × Cause)
 abbrev pub nameable_clusters : HeaderFields → ℕ
 nameable_clusters h = greatest_offset / 2 ^ h.cluster_bits + 1
 
--- clusters are refused for this reason, or 14 before, where there is no memory for a place in a list
-abbrev pub IsOfTaking : ImageError → ImageError → Type 0
-IsOfTaking why e = (e ≡ I.Memory) ⊎ (e ≡ why)
-
--- A search for a run ends at the first cluster it looks at. It is refused for this reason where the run fits below the greatest offset, else 13.
-abbrev pub EndsAtFirst : HeaderFields → ℕ → ℕ → ImageError → ImageError → Type 0
-EndsAtFirst h first n why e = ((first + n ≤ nameable_clusters h) × (e ≡ why)) ⊎ ((nameable_clusters h < first + n) × (e ≡ I.Limit))
-
--- so it is, or 14 before, where there is no memory for a place in a list
-abbrev pub IsOfSearch : HeaderFields → ℕ → ℕ → ImageError → ImageError → Type 0
-IsOfSearch h first n why e = (e ≡ I.Memory) ⊎ EndsAtFirst h first n why e
-
 -- By what counts as in use, and by the header's numbers.
 module _ (used : ℕ → Type 0) (h : HeaderFields) where
   -- of n clusters that can be named, from each one on, one is in use

@@ -1,5 +1,5 @@
 -- What a search for free clusters writes, whatever an image's contents are.
-use Rattle.std.specs.Prelude.{ℕ, ◌≡◌, ◌≢◌, ◌<◌, ◌⊎◌, Bool, true, false}
+use Rattle.std.specs.Prelude.{ℕ, ◌≡◌, ◌≢◌, ◌<◌, ◌⊎◌}
 use Rattle.image_access.specs.Moments.{StorageView}
 use Rattle.qcow2_metadata.specs.EntryTable.{EntryTableView, entry_count}
 use Rattle.qcow2_alloc.specs.Allocation.{HasNone}
@@ -20,11 +20,6 @@ module _ {S : Type 0} (view : S → StorageView) (old new : ImageFile S) where
   abbrev pub ChangesQuietly : Type 0
   ChangesQuietly = AreAllWritten old.caches → WritesNothing view old.storage new.storage
 
-  -- a cluster is counted so; where it is in use, no table is modified for it
-  abbrev pub CountsQuietly : Bool → Type 0
-  CountsQuietly true = ChangesQuietly
-  CountsQuietly false = LooksQuietly
-
   -- The n clusters of a run are counted so. Where fewer were counted, no table is modified for them.
   abbrev pub CountsRunQuietly : (n taken : ℕ) → Type 0
   CountsRunQuietly n taken = (taken ≡ n → ChangesQuietly) × (taken ≢ n → LooksQuietly)
@@ -34,12 +29,5 @@ module _ {S : Type 0} (view : S → StorageView) (old new : ImageFile S) where
     abbrev pub LooksOrMakes : Type 0
     LooksOrMakes = LooksQuietly ⊎ MakesRefblock reftable reftable'
 
-    abbrev pub CountsOrMakes : Bool → Type 0
-    CountsOrMakes taken = CountsQuietly taken ⊎ MakesRefblock reftable reftable'
-
     abbrev pub CountsRunOrMakes : (n taken : ℕ) → Type 0
     CountsRunOrMakes n taken = CountsRunQuietly n taken ⊎ MakesRefblock reftable reftable'
-
-    -- A cluster was searched and counted without a write, or a refblock or a longer reftable was made.
-    abbrev pub SearchesQuietly : Type 0
-    SearchesQuietly = ChangesQuietly ⊎ MakesRefblock reftable reftable'

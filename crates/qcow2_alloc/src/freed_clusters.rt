@@ -1,5 +1,5 @@
 //! Freeing clusters: those that are listed to be freed, and those that are given back.
-ghost use Rattle.std.specs.Prelude.{◌≡◌, ◌++◌, ◌∷◌, [], ℕ, ◌+◌, ◌/◌, ◌^◌, ◌<◌, ◌≤◌, Bool, IfErr, OnOk, IsErrOf, IsOk, IsTrue};
+ghost use Rattle.std.specs.Prelude.{◌≡◌, ◌++◌, ◌∷◌, [], ◌+◌, ◌/◌, ◌^◌, ◌<◌, ◌≤◌, Bool, IfErr, OnOk, IsErrOf, IsOk, IsTrue};
 ghost use Rattle.qcow2_metadata.specs.Header.{counts_per_block};
 ghost use Rattle.qcow2_laws.specs.Changes.{one_at};
 ghost use Rattle.qcow2_laws.specs.CrashInvariant.{Pending};
@@ -11,7 +11,6 @@ ghost use Rattle.qcow2_alloc.specs.CachePins.{KeepsPinsAndNotes};
 ghost use Rattle.qcow2_alloc.specs.Faults.{CountsFaults};
 ghost use Rattle.qcow2_alloc.specs.SparedHeaders.{SparesHeader};
 ghost use Rattle.qcow2_alloc.specs.Leaks.{LeaksOne, LeaksUnaligned, TriesToLower, LowersOrLeaks};
-ghost use Rattle.qcow2_alloc.specs.HeldRanges.{KeepsRangeHeld, KeepsRangesHeld};
 ghost use Rattle.qcow2_alloc.specs.SoundAllocators.{SoundAllocator};
 ghost use Rattle.qcow2_alloc.specs.LowestRuns.{NoFreeBelowHint, KeepsNoFreeBelowHint, KeepsUsedBut};
 ghost use Rattle.qcow2_alloc.specs.ImageError.{IsOfTables};

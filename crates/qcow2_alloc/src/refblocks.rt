@@ -1,15 +1,13 @@
 //! Refblocks: loading one, counting a cluster in it, and making one that is missing.
 ghost use Rattle.std.specs.Prelude.{◌≡◌, ◌≢◌, ◌/◌, false, ℕ, ◌*◌, ◌^◌, ◌<◌, ◌≤◌, Bool, None, Some, Ok, IfSome, IfOk, IfErr, OnOk, IsErrOf, IsSome, IsTrue};
 ghost use Rattle.qcow2_laws.specs.CrashInvariant.{Pending};
-ghost use Rattle.qcow2_alloc.specs.Allocation.{placing, first_counts, HasPlaceFor, KeepsEntries, KeepsNamed, KeepsNamed, MayTake, LoadsBlock, WritesBlock, PlacesBlock, NamesBlock, HasAlignedBlock, IsUnaligned, LacksFirst, TakesOne, HasNone, GetsBlock, TakesLowest, GrowsTable, SameLeaks};
+ghost use Rattle.qcow2_alloc.specs.Allocation.{placing, first_counts, HasPlaceFor, KeepsEntries, KeepsNamed, KeepsNamed, MayTake, LoadsBlock, WritesBlock, PlacesBlock, NamesBlock, IsUnaligned, TakesOne, HasNone, GetsBlock, TakesLowest, GrowsTable, SameLeaks};
 ghost use Rattle.qcow2_alloc.specs.FreeList.{pending_then, ListsTables, ListsReftables};
 ghost use Rattle.qcow2_alloc.specs.MadeClusters.{ListsUsed};
 ghost use Rattle.qcow2_alloc.specs.KeptMarks.{KeepsMarks};
 ghost use Rattle.qcow2_alloc.specs.CachePins.{LeavesPinned};
 ghost use Rattle.qcow2_alloc.specs.Faults.{CountsFaults};
 ghost use Rattle.qcow2_alloc.specs.SparedHeaders.{KeepBehindHeader, SparesHeader, SparesHeaderButPointer};
-ghost use Rattle.qcow2_alloc.specs.QuietSearches.{CountsQuietly, LooksOrMakes, LooksQuietly};
-ghost use Rattle.qcow2_alloc.specs.HeldRanges.{HoldsRange, HoldsCountOf, KeepsRangeHeld};
 ghost use Rattle.qcow2_alloc.specs.Limits.{IsFaultOr, CantCount};
 ghost use Rattle.qcow2_alloc.specs.LowestRuns.{NoFreeBelowHint, IsUsed, KeepsNoFreeBelowHint, KeepsUsed};
 ghost use Rattle.qcow2_alloc.specs.ImageError.{IsOfTables, IsFault};

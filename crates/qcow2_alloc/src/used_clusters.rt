@@ -1,16 +1,14 @@
 //! Clusters in use, which a search for free ones passes over.
-ghost use Rattle.std.specs.Prelude.{◌≡◌, ◌+◌, ◌/◌, ◌^◌, ◌<◌, ◌≤◌, IfOk, IfErr, IsErrOf};
+ghost use Rattle.std.specs.Prelude.{◌≡◌, ◌+◌, ◌/◌, ◌^◌, ◌<◌, ◌≤◌, IfOk, IfErr};
 ghost use Rattle.qcow2_laws.specs.CrashInvariant.{Pending};
 ghost use Rattle.qcow2_metadata.specs.Header.{counts_per_block};
-ghost use Rattle.qcow2_alloc.specs.Allocation.{IsUnaligned, HasNone};
+ghost use Rattle.qcow2_alloc.specs.Allocation.{HasNone};
 ghost use Rattle.qcow2_alloc.specs.KeptMarks.{KeepsMarks};
 ghost use Rattle.qcow2_alloc.specs.Faults.{CountsFaults};
 ghost use Rattle.qcow2_alloc.specs.SparedHeaders.{SparesHeader};
 ghost use Rattle.qcow2_alloc.specs.ImageError.{IsOfTables};
 ghost use Rattle.qcow2_alloc.specs.ImageFile.{AllocatorInvariant};
 ghost use Rattle.qcow2_alloc.specs.LowestRuns.{NoFreeBelowHint, KeepsNoFreeBelowHint};
-ghost use Rattle.qcow2_alloc.specs.QuietSearches.{LooksQuietly};
-ghost use Rattle.qcow2_alloc.specs.HeldRanges.{KeepsRangeHeld};
 ghost use Rattle.qcow2_alloc.specs.UsedCounts.{passed_hint, PassesUsed, GoesFar};
 
 use crate::{Allocator, ImageError, ImageFile};

@@ -1,15 +1,15 @@
 -- Steps over the L1 table.
-use Rattle.std.proofs.Common.{◌≡◌, ◌≢◌, ℕ, ◌+◌, ◌*◌, ◌/◌, List, length, Bool, true, false, ◌&&◌, eqb, refl, sym, ap, ◌∙◌, arith}
+use Rattle.std.proofs.Common.{◌≡◌, ◌≢◌, ℕ, ◌+◌, ◌*◌, List, length, Bool, true, false, ◌&&◌, eqb, refl, sym, ap, ◌∙◌, arith}
 use Rattle.std.proofs.lemmas.Bool.{cond-true, cond-false, eq-eqb, ne_eqb}
 use Rattle.std.specs.BTreeMap.{BTreeMap}
 use Rattle.qcow2_metadata.specs.Bytes.{Bytes, one_if}
 use Rattle.qcow2_metadata.specs.declared.header.HeaderFields.{HeaderFields}
 use Rattle.qcow2_metadata.specs.Header.{cluster_size, entries_per_cluster}
-use Rattle.qcow2_metadata.specs.Entries.{host_offset, is_copied}
+use Rattle.qcow2_metadata.specs.Entries.{host_offset}
 use Rattle.qcow2_metadata.specs.Named.{named_by_l2_table, table_in}
 use Rattle.qcow2_check.proofs.Sums.{sum_below_none, sum_below_more}
 use Rattle.qcow2_check.specs.declared.tally.Tally.{Tally}
-use Rattle.qcow2_check.specs.Tallies.{TalliesGrow, AddsToTally, tally_in}
+use Rattle.qcow2_check.specs.Tallies.{TalliesGrow, tally_in}
 use Rattle.qcow2_metadata.specs.TableBytes.{entry_at}
 use Rattle.qcow2_check.specs.Marks.{named_by_entries, marked_by_entries, marked_by_l2_table, mark_of_entry, tables_among, marks_among}
 use Rattle.qcow2_check.proofs.Grow.{grows_none, grows_more}
@@ -22,26 +22,6 @@ one_if-and_true true = refl
 one_if-and_true false = refl
 
 -- ---- the entries of the L1 table
-
-pub entry_without_table : (h : HeaderFields) (entry : ℕ) (m : BTreeMap ℕ Tally) → host_offset entry ≡ 0
-    → TalliesGrow m m (λ q. table_in h q (host_offset entry)) (λ q. table_in h q (host_offset entry)) (mark_of_entry h entry)
-entry_without_table h entry m none =
-    let is = eq-eqb (host_offset entry) 0 none in
-    grows_none m _ _ _ (λ q. cond-true _ _ _ is) (λ q. cond-true _ _ _ is) (λ q. cond-true _ _ _ is)
-
-pub entry_with_table : (h : HeaderFields) (entry cluster : ℕ) (copied : Bool) (old new : BTreeMap ℕ Tally)
-    → host_offset entry ≢ 0 → cluster ≡ host_offset entry / cluster_size h → copied ≡ is_copied entry → AddsToTally old new cluster true copied
-    → TalliesGrow old new (λ q. table_in h q (host_offset entry)) (λ q. table_in h q (host_offset entry)) (mark_of_entry h entry)
-entry_with_table h entry cluster copied old new some is mark adds =
-    let test = ne_eqb (host_offset entry) 0 some in
-    let at : (q : ℕ) → table_in h q (host_offset entry) ≡ one_if (eqb cluster q) = λ q. cond-false _ _ _ test ∙ ap (λ c. one_if (eqb c q)) (sym is) in
-    record {
-      more_named = λ q. adds.more_named q ∙ ap (λ n. (tally_in old q).named + n) (sym (at q));
-      more_for_tables = λ q. adds.more_for_tables q ∙ ap (λ n. (tally_in old q).for_tables + n) (one_if-and_true (eqb cluster q) ∙ sym (at q));
-      more_marked = λ q. adds.more_marked q ∙ ap (λ n. (tally_in old q).marked + n)
-          (ap (λ c. one_if (eqb c q && copied)) is ∙ ap (λ m. one_if (eqb (host_offset entry / cluster_size h) q && m)) mark ∙ sym (cond-false _ _ _ test));
-      same_count = adds.same_count;
-    }
 
 pub entries_none : (h : HeaderFields) (l1 : List ℕ) (m : BTreeMap ℕ Tally) → TalliesGrow m m (tables_among h l1 0) (tables_among h l1 0) (marks_among h l1 0)
 entries_none h l1 m = grows_none m _ _ _ (λ q. sum_below_none _) (λ q. sum_below_none _) (λ q. sum_below_none _)

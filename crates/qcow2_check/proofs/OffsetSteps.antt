@@ -1,11 +1,10 @@
 -- Steps over offsets.
-use Rattle.std.proofs.Common.{◌≡◌, ◌≢◌, ℕ, ◌+◌, ◌*◌, ◌/◌, ◌%◌, ◌<◌, ◌≤◌, ◌&&◌, Bool, true, false, eqb, List, length, refl, sym, ap, ◌∙◌, arith}
-use Rattle.std.specs.Prelude.{not}
+use Rattle.std.proofs.Common.{◌≡◌, ◌≢◌, ℕ, ◌+◌, ◌*◌, ◌/◌, ◌<◌, ◌≤◌, true, false, eqb, List, length, sym, ap, ◌∙◌, arith}
 use Rattle.std.proofs.Math.Nat.{div-mul-le_self}
 use Rattle.std.proofs.lemmas.Bool.{cond-true, cond-false, eq-eqb, ne_eqb}
 use Rattle.std.specs.BTreeMap.{BTreeMap}
 use mathlib.Core.Path.{fun_ext}
-use Rattle.qcow2_metadata.specs.Bytes.{Bytes, byte_at, one_if, sum_below}
+use Rattle.qcow2_metadata.specs.Bytes.{Bytes, byte_at, sum_below}
 use Rattle.qcow2_metadata.specs.declared.header.HeaderFields.{HeaderFields}
 use Rattle.qcow2_metadata.specs.Header.{cluster_size, entries_per_cluster, reftable_entries}
 use Rattle.qcow2_metadata.specs.Entries.{l1_entry, l2_entry, reftable_entry, host_offset, block_offset}
@@ -14,42 +13,17 @@ use Rattle.qcow2_metadata.specs.L2Mapping.{host_of}
 use Rattle.qcow2_metadata.specs.TableBytes.{entry_at}
 use Rattle.qcow2_metadata.proofs.TablesAt.{StandAt, entry_stands}
 use Rattle.qcow2_check.specs.declared.tally.Tally.{Tally}
-use Rattle.qcow2_check.specs.Tallies.{TalliesGrow, AddsTimes, tally_in, no_tally}
+use Rattle.qcow2_check.specs.Tallies.{TalliesGrow, tally_in, no_tally}
 use Rattle.qcow2_check.specs.Offsets.{off_cluster, off_cluster_if, tables_off, blocks_off, off_l2_tables, off_refblocks, data_off, data_off_at, times}
 use Rattle.qcow2_check.proofs.Grow.{grows_none, grows_more, times_none, times_more}
 use Rattle.qcow2_check.proofs.Sums.{sum_below_none, sum_below_more, sum_below-same}
 use Rattle.qcow2_check.proofs.Totals.{tally_same, triple}
-
-never : (b : Bool) → one_if (b && false) ≡ 0
-never true = refl
-never false = refl
-
-always : (b : Bool) → one_if (b && true) ≡ one_if b
-always true = refl
-always false = refl
 
 pub once : (n : ℕ) → 1 * n ≡ n
 once n = omega arith
 
 times_zero : (times : ℕ) → times * 0 ≡ 0
 times_zero times = omega arith
-
-pub on_cluster : (h : HeaderFields) (place size times : ℕ) (m : BTreeMap ℕ Tally) → size ≡ cluster_size h → place % size ≡ 0
-    → TalliesGrow m m (λ o. times * off_cluster h o place) (λ _. 0) (λ _. 0)
-on_cluster h place size times m is zero =
-    let test : eqb (place % cluster_size h) 0 ≡ true = eq-eqb _ 0 (ap (λ s. place % s) (sym is) ∙ zero) in
-    grows_none m _ _ _ (λ o. ap (λ t. times * one_if (eqb place o && not t)) test ∙ ap (λ n. times * n) (never (eqb place o)) ∙ times_zero times) (λ o. omega arith) (λ o. omega arith)
-
-pub off_one : (h : HeaderFields) (place size times : ℕ) (old new : BTreeMap ℕ Tally) → size ≡ cluster_size h → place % size ≢ 0 → AddsTimes old new place times false false
-    → TalliesGrow old new (λ o. times * off_cluster h o place) (λ _. 0) (λ _. 0)
-off_one h place size times old new is some adds =
-    let test : eqb (place % cluster_size h) 0 ≡ false = ne_eqb _ 0 (λ zero. some (ap (λ s. place % s) is ∙ zero)) in
-    record {
-      more_named = λ o. adds.more_named o ∙ ap (λ n. (tally_in old o).named + times * n) (sym (ap (λ t. one_if (eqb place o && not t)) test ∙ always (eqb place o)));
-      more_for_tables = λ o. adds.more_for_tables o ∙ ap (λ n. (tally_in old o).for_tables + n) (ap (λ n. times * n) (never (eqb place o)) ∙ times_zero times);
-      more_marked = λ o. adds.more_marked o ∙ ap (λ n. (tally_in old o).marked + n) (ap (λ n. times * n) (never (eqb place o)) ∙ times_zero times);
-      same_count = adds.same_count;
-    }
 
 -- a sum of terms for each offset
 pub terms_none : (f : ℕ → ℕ → ℕ) (m : BTreeMap ℕ Tally) → TalliesGrow m m (λ o. sum_below 0 (λ i. f o i)) (λ _. 0) (λ _. 0)

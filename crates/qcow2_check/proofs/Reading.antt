@@ -1,7 +1,7 @@
 -- Reads one after the other.
-use Rattle.std.proofs.Common.{◌≡◌, Result, Ok, ◌∙◌, refl, arith}
+use Rattle.std.proofs.Common.{◌≡◌, Result, ◌∙◌}
 use Rattle.image_access.specs.Moments.{StorageView}
-use Rattle.image_access.proofs.EachMomentSince.{passes_none, passes_on, cause_since}
+use Rattle.image_access.proofs.EachMomentSince.{passes_on, cause_since}
 use Rattle.qcow2_metadata.specs.declared.error.MetadataError.{MetadataError}
 use Rattle.qcow2_metadata.specs.MetadataError.{OnlyReads}
 
@@ -12,6 +12,3 @@ reads_more old mid new first counted next = record {
   time = λ h. passes_on (λ c. c ≡ old.contents) (first.time h) (next.time (first.honest h)) (λ c is. is ∙ first.same h);
   cause = cause_since _ _ _ counted next.cause;
 }
-
-pub reads_none : (view : StorageView) → OnlyReads view view (Ok (tt {0}))
-reads_none view = record { honest = λ h. h; same = λ h. refl; time = λ h. passes_none view _; cause = record { no_fewer = omega arith; fault = λ told. cc; told = refl } }

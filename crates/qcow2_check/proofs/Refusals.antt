@@ -5,14 +5,13 @@ use Rattle.image_access.proofs.Bytes.{length-bytes_at}
 use Rattle.qcow2_metadata.specs.Bytes.{Bytes, byte_at}
 use Rattle.qcow2_metadata.specs.declared.header.HeaderFields.{HeaderFields}
 use Rattle.qcow2_metadata.specs.Header.{reftable_entries}
-use Rattle.qcow2_metadata.specs.HeaderLoad.{IsReasonNotToRead}
 use Rattle.qcow2_metadata.specs.Entries.{L1EntryReads, ReftableEntryReads}
 use Rattle.qcow2_metadata.specs.EntryTable.{SomeUnread, IsReasonNotToLoad}
 use Rattle.qcow2_metadata.specs.TableBytes.{IsOfStorageOrMemory}
 use Rattle.qcow2_metadata.specs.declared.error.MetadataError.{MetadataError}
 use Rattle.qcow2_metadata.specs.declared.error.MetadataError.TheVariants.{Storage, Memory, Version, Unaligned, Limit, Format}
 use Rattle.qcow2_metadata.proofs.EntryTables.{l1_entries-loaded, reftable_entries-loaded}
-use Rattle.qcow2_check.specs.Report.{IsReasonNotToCount, IsReasonNotToCheck}
+use Rattle.qcow2_check.specs.Report.{IsReasonNotToCount}
 
 pub l1_unread : (h : HeaderFields) (contents : List ℕ) (e : MetadataError) (honest : Type 0) → honest
     → IsReasonNotToLoad (2 ^ 64 ≤ h.l1_offset + 8 * h.l1_entries) (honest → SomeUnread L1EntryReads (bytes_at contents h.l1_offset (8 * h.l1_entries))) e
@@ -47,19 +46,3 @@ uncounted h b Limit why = absurd why
 uncounted h b Format why = absurd why
 uncounted h b Version why = why
 uncounted h b Unaligned why = why
-
-pub unread_header : (h : HeaderFields) (b : Bytes) (e : MetadataError) → IsReasonNotToRead h b e → IsReasonNotToCheck h b e
-unread_header h b (Storage _) why = tt
-unread_header h b Memory why = tt
-unread_header h b Limit why = λ fits. why.1 fits.0
-unread_header h b Format why = λ reads. why reads.0
-unread_header h b Version why = why
-unread_header h b Unaligned why = why
-
-pub unread_tables : (h : HeaderFields) (b : Bytes) (e : MetadataError) → IsReasonNotToCount h b e → IsReasonNotToCheck h b e
-unread_tables h b (Storage _) why = tt
-unread_tables h b Memory why = tt
-unread_tables h b Limit why = λ fits. why fits.1
-unread_tables h b Format why = λ reads. why reads.1
-unread_tables h b Version why = why
-unread_tables h b Unaligned why = why

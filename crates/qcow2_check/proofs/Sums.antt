@@ -63,9 +63,6 @@ pub sum_below_more : (n : ℕ) (f : ℕ → ℕ) → sum_below (n + 1) f ≡ sum
 unfolding sum_below
 sum_below_more n f = rw add-one refl
 
-pub sum_below_step : (n : ℕ) (f : ℕ → ℕ) (total term : ℕ) → total ≡ sum_below n f → term ≡ f n → total + term ≡ sum_below (n + 1) f
-sum_below_step n f total term so_far next = let more = sum_below_more n f in omega arith
-
 pub two_terms_le-sum_below : (n : ℕ) (f : ℕ → ℕ) (k l : ℕ) → k < n → l < n → k ≢ l → f k + f l ≤ sum_below n f
 unfolding sum_below
 two_terms_le-sum_below zero f k l lt lt' ne = absurd (omega arith)

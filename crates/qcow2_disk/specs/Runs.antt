@@ -1,5 +1,5 @@
 -- A run of commands with its replies.
-use Rattle.std.specs.Prelude.{ℕ, ◌+◌, ◌≡◌, ◌≢◌, ◌⊎◌, ◌≤◌, ◌<◌, ◌==◌, Bool, true, false, IsTrue, List, [], ◌∷◌, length, Option, Some, None, MatchOption, slice_get, if◌then◌else◌}
+use Rattle.std.specs.Prelude.{ℕ, ◌+◌, ◌≡◌, ◌≢◌, ◌⊎◌, ◌≤◌, ◌<◌, ◌==◌, Bool, true, false, IsTrue, List, [], ◌∷◌, length, Option, Some, None, MatchOption, if◌then◌else◌}
 use Rattle.image_access.specs.Moments.{StorageView, EachMomentSince}
 use Rattle.image_access.specs.declared.storage.PreallocateMode.{PreallocateMode}
 use Rattle.qcow2_metadata.specs.Bytes.{Bytes, byte_at}
@@ -364,7 +364,3 @@ module _ {D P : Type 0} (spec : Abstraction D P) where
     pub setting : spec.setting new ≡ spec.setting old
     -- There is no other moment since it began.
     pub since_start : (c : List ℕ) → (spec.storage new).had_since (spec.storage old).moment c → IsStopIn (spec.setting old) (started (abstract_image spec old [])) end commands replies run (byte_at c)
-
--- the prepared mappings are this image's own
-abbrev pub AreOwn : {D P : Type 0} → Abstraction D P → D → List (Option P) → Type 0
-AreOwn {P = P} spec d out = (k : ℕ) (p : P) → slice_get out k ≡ Some (Some p) → spec.number_of p ≡ spec.number d

@@ -1,7 +1,7 @@
 -- What guests read of data that stand in a row, and of clusters that are mapped alike; and how long a run of these is.
-use Rattle.std.proofs.Common.{◌≡◌, ℕ, ◌+◌, ◌-◌, ◌*◌, ◌/◌, ◌%◌, ◌<◌, ◌≤◌, ◌⊎◌, Bool, refl, sym, ap, ◌∙◌, arith, inl, inr, subst, min}
+use Rattle.std.proofs.Common.{◌≡◌, ℕ, ◌+◌, ◌-◌, ◌*◌, ◌/◌, ◌%◌, ◌<◌, ◌≤◌, Bool, refl, sym, ap, ◌∙◌, arith, inl, inr, subst, min}
 use Rattle.std.specs.Prelude.{Option}
-use Rattle.std.proofs.lemmas.Bool.{cases_eq, cases_lt}
+use Rattle.std.proofs.lemmas.Bool.{cases_lt}
 use Rattle.std.proofs.lemmas.Nat.{div-add-mod', div-mul-add, mod_below, mod-mul-add, pow_pos}
 use Rattle.qcow2_metadata.specs.Bytes.{Bytes}
 use Rattle.qcow2_metadata.specs.declared.header.HeaderFields.{HeaderFields}
@@ -11,43 +11,17 @@ use Rattle.qcow2_metadata.specs.Guest.{known_byte}
 use Rattle.qcow2_metadata.specs.declared.l2_mapping.L2Mapping.{L2Mapping}
 use Rattle.qcow2_metadata.specs.declared.l2_mapping.L2Mapping.TheVariants.{Data, Zero, Compressed, Uncovered}
 use Rattle.qcow2_disk.specs.Disk.{disk}
-use Rattle.qcow2_laws.specs.Guests.{names}
 use Rattle.qcow2_laws.specs.SafeSteps.{DriverState, StateInvariant}
 use Rattle.qcow2_disk.specs.Alike.{IsDataAt, AreDataAt, IsAlike, IsAlikeAt, IsAlikeRun, IsLongestRun}
 use Rattle.qcow2_laws.proofs.Places.{in_one, div_mono}
-use Rattle.qcow2_laws.proofs.Shown.{shown_data, shown_zero, shown_uncovered, data_aligned, data_named, data_unlaid}
+use Rattle.qcow2_laws.proofs.Shown.{shown_data, shown_zero, shown_uncovered}
 
 -- ---- a guest byte that stands at a place
 module _ (s : DriverState) (sound : StateInvariant s) (copied : Bool) (o place : ℕ) (at : IsDataAt s.header s.known copied o place) where
-  pub at_cluster : place / cluster_size s.header ≡ at.0 / cluster_size s.header
-  at_cluster =
-      ap (λ n. n / cluster_size s.header) (sym at.2)
-      ∙ in_one (cluster_size s.header) at.0 (o % cluster_size s.header) (data_aligned s sound (o / cluster_size s.header) at.0 copied at.1) (mod_below o (cluster_size s.header) (pow_pos s.header.cluster_bits))
-
-  pub at_named : names s.header s.known (place / cluster_size s.header) (o / cluster_size s.header) ≡ 1
-  at_named = ap (λ c. names s.header s.known c (o / cluster_size s.header)) at_cluster ∙ data_named s sound (o / cluster_size s.header) at.0 copied at.1
-
-  pub at_unlaid : s.on_storage place ≡ s.known place
-  at_unlaid =
-      subst (λ n. s.on_storage n ≡ s.known n) at.2
-      (data_unlaid s sound (o / cluster_size s.header) at.0 copied at.1 (o % cluster_size s.header) (mod_below o (cluster_size s.header) (pow_pos s.header.cluster_bits)))
-
   pub at_shown : (backing : Bytes) → (disk s.known backing).value o ≡ known_byte (s.on_storage place)
   at_shown backing = shown_data s sound backing o at.0 copied at.1 ∙ ap (λ n. known_byte (s.on_storage n)) at.2
 
 -- ---- bytes that stand in a row
-
--- part of them
-pub are_part : (h : HeaderFields) (b : Bytes) (copied : Bool) (offset place n at m : ℕ) → at + m ≤ n → AreDataAt h b copied offset place n → AreDataAt h b copied (offset + at) (place + at) m
-are_part h b copied offset place n at m le are i lt =
-    let from : offset + (at + i) ≡ offset + at + i = omega arith in
-    let to : place + (at + i) ≡ place + at + i = omega arith in
-    subst (IsDataAt h b copied (offset + at + i)) to (subst (λ o. IsDataAt h b copied o (place + (at + i))) from (are (at + i) (omega arith)))
-
--- where their covers stay they stand there still
-pub are_still : (h : HeaderFields) (b c : Bytes) (copied : Bool) (offset place n : ℕ) → ((i : ℕ) → i < n → cover h b ((offset + i) / cluster_size h) ≡ cover h c ((offset + i) / cluster_size h))
-    → AreDataAt h b copied offset place n → AreDataAt h c copied offset place n
-are_still h b c copied offset place n same are i lt = let at = are i lt in (at.0, sym (same i lt) ∙ at.1, at.2)
 
 -- ---- what is mapped alike
 pub alike_self : (v : L2Mapping) → IsAlike 0 v v
@@ -224,27 +198,3 @@ module _ (h : HeaderFields) (b : Bytes) (offset : ℕ) where
     -- no run is longer
     pub longest_is : (m : ℕ) → m ≤ limit → IsAlikeRun h b offset m → m ≤ n
     longest_is m fits run = elim (cases_lt n m) [ inr le ↦ le | inl more ↦ absurd (longest.longest (omega arith) (run n more)) ]
-
-    -- it has a byte where there may be one
-    pub longest_some : 0 < limit → 0 < n
-    longest_some some = elim (cases_lt 0 n) [
-      | inl is ↦ is
-      | inr none ↦ absurd (longest.longest (omega arith) (alike_here n (let e : offset + n ≡ offset = omega arith in ap (λ k. k / cluster_size h) e)))
-    ]
-
-    -- short of the limit it ends with a cluster
-    pub longest_boundary : (n ≡ limit) ⊎ ((offset + n) % cluster_size h ≡ 0)
-    longest_boundary = elim (cases_lt n limit) [
-      | inr past ↦ inl (let le = longest.within in omega arith)
-      | inl lt ↦ elim (cases_eq ((offset + n) % cluster_size h) 0) [
-        | inl is ↦ inr is
-        | inr inside ↦ absurd (
-            let some = longest_some (omega arith) in
-            let is : (offset + n) / cluster_size h * cluster_size h + (offset + n) % cluster_size h ≡ offset + n = div-add-mod' (offset + n) (cluster_size h) in
-            let below = mod_below (offset + n) (cluster_size h) (pow_pos h.cluster_bits) in
-            let e : offset + (n - 1) ≡ (offset + n) / cluster_size h * cluster_size h + ((offset + n) % cluster_size h - 1) = omega arith in
-            let same : (offset + (n - 1)) / cluster_size h ≡ (offset + n) / cluster_size h =
-            ap (λ k. k / cluster_size h) e ∙ div-mul-add ((offset + n) / cluster_size h) (cluster_size h) ((offset + n) % cluster_size h - 1) (omega arith) in
-            longest.longest lt (alike_within (n - 1) n same (longest.alike (n - 1) (omega arith))))
-      ]
-    ]

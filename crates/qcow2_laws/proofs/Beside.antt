@@ -1,31 +1,27 @@
 -- Storage writes beside the modified tables of the caches: what is known changes as the storage does.
-use Rattle.std.proofs.Common.{◌≡◌, ℕ, ◌+◌, ◌*◌, ◌/◌, ◌%◌, ◌<◌, ◌≤◌, ◌≢◌, ◌⊎◌, ◌==◌, inl, inr, List, length, refl, sym, ap, ◌∙◌, arith}
+use Rattle.std.proofs.Common.{◌≡◌, ℕ, ◌+◌, ◌*◌, ◌/◌, ◌<◌, ◌≤◌, ◌⊎◌, inl, inr, List, length, refl, sym, ap, ◌∙◌, arith}
 use Rattle.std.proofs.lemmas.Bool.{cases_lt}
-use Rattle.std.proofs.lemmas.Nat.{div-mul-add, mod_below}
+use Rattle.std.proofs.lemmas.Nat.{div-mul-add}
 use Rattle.image_access.specs.Contents.{overwritten}
 use Rattle.image_access.proofs.Bytes.{byte_at-overwritten_outside}
 use Rattle.qcow2_metadata.specs.Bytes.{Bytes, byte_at}
 use Rattle.qcow2_metadata.specs.declared.header.HeaderFields.{HeaderFields}
-use Rattle.qcow2_metadata.specs.Header.{header, HeaderReads, cluster_size, entries_per_cluster, reftable_entries, has_data_file}
-use Rattle.qcow2_metadata.specs.Entries.{l1_entry, l2_entry, reftable_entry}
-use Rattle.qcow2_metadata.specs.Cover.{cover, entry_cover}
+use Rattle.qcow2_metadata.specs.Header.{header, HeaderReads, cluster_size, reftable_entries}
+use Rattle.qcow2_metadata.specs.Entries.{l1_entry, reftable_entry}
 use Rattle.qcow2_metadata.specs.Named.{in_cluster}
 use Rattle.qcow2_metadata.specs.Tables.{CachedTable}
 use Rattle.qcow2_disk.specs.HeaderRest.{IsOfHeaderRest}
 use Rattle.qcow2_disk.specs.Stops.{GivenBytes}
 use Rattle.qcow2_laws.specs.Clusters.{Direction}
-use Rattle.qcow2_laws.specs.Guests.{marks, table_at}
 use Rattle.qcow2_laws.specs.CrashInvariant.{Pending, SameIn}
 use Rattle.qcow2_laws.specs.Writes.{IsUnnamed, MayChange, IsWritten}
 use Rattle.qcow2_laws.specs.Tops.{Places, with_places, IsSameBut, WritesL1Entry, WritesReftableEntry, WritesHeader}
 use Rattle.qcow2_laws.specs.Caches.{known_bytes, IsFreeOf, CacheInvariantOver, AreNamedBlocks}
-use Rattle.qcow2_laws.proofs.Places.{Sizes, l1-same, reftable-same, cover_none, cover_in}
+use Rattle.qcow2_laws.proofs.Places.{Sizes, l1-same, reftable-same}
 use Rattle.qcow2_laws.proofs.Consistency.{in_own}
 use Rattle.qcow2_laws.proofs.Shares.{in_l1, in_reftable, l1_has, reftable_has}
 use Rattle.qcow2_laws.proofs.Caches.{kept_sizes, rbs_free, l2s_free, unnamed_free_l2, unnamed_free_rb}
 use Rattle.qcow2_laws.proofs.KeptSteps.{known_beside, known_is_on_storage, still_agree}
-use Rattle.qcow2_laws.proofs.Writes.{marked_alone}
-use Rattle.qcow2_metadata.proofs.MadeEntries.{cover_of-0}
 use Rattle.qcow2_laws.proofs.Headers.{writes_header}
 
 -- a storage's write, as what stands at each place
@@ -114,26 +110,4 @@ module _ (h : HeaderFields) (d : Direction) (p : Pending) (l2s rbs : List Cached
   pub unnamed_free : AreNamedBlocks h rbs on_storage → (c : ℕ) → IsUnnamed h on_storage (known_bytes (cluster_size h) l2s rbs on_storage) c → IsFreeOf (cluster_size h) l2s c × IsFreeOf (cluster_size h) rbs c
   unnamed_free named_blocks c unnamed = (unnamed_free_l2 h d p l2s rbs on_storage kept c unnamed.no_table, unnamed_free_rb h d p l2s rbs on_storage kept named_blocks c unnamed.no_table)
 
-  -- nor does one lie in a cluster that a guest cluster is known to have to itself
-  pub in_place_free : AreNamedBlocks h rbs on_storage → (c g : ℕ) → 0 < marks h (known_bytes (cluster_size h) l2s rbs on_storage) c g → IsFreeOf (cluster_size h) l2s c × IsFreeOf (cluster_size h) rbs c
-  in_place_free named_blocks c g marked =
-      let alone = marked_alone h d p on_storage (known_bytes (cluster_size h) l2s rbs on_storage) kept.crash_invariant c g marked in
-      (unnamed_free_l2 h d p l2s rbs on_storage kept c alone.0, unnamed_free_rb h d p l2s rbs on_storage kept named_blocks c alone.0)
-
 -- ---- what a new L2 table says
-
--- one of zeros says what no table said
-pub zeros_say : (h : HeaderFields) (b : Bytes) (i place : ℕ) → table_at h b i ≡ 0 → ((j : ℕ) → l2_entry b place j ≡ 0)
-    → (g : ℕ) → g / entries_per_cluster h ≡ i → cover h b g ≡ entry_cover h (l2_entry b place (g % entries_per_cluster h))
-zeros_say h b i place none zeros g here =
-    cover_none h b g (ap (table_at h b) here ∙ none)
-    ∙ sym (ap (entry_cover h) (zeros (g % entries_per_cluster h)) ∙ cover_of-0 h.cluster_bits (h.version == 3) (has_data_file h))
-
--- a copy says what the table said
-pub copy_says : (h : HeaderFields) (b : Bytes) (i place : ℕ) → table_at h b i ≢ 0 → ((j : ℕ) → j < entries_per_cluster h → l2_entry b place j ≡ l2_entry b (table_at h b i) j) → 0 < entries_per_cluster h
-    → (g : ℕ) → g / entries_per_cluster h ≡ i → cover h b g ≡ entry_cover h (l2_entry b place (g % entries_per_cluster h))
-copy_says h b i place real same some g here =
-    let at = ap (table_at h b) here in
-    cover_in h b g (λ none. real (sym at ∙ none))
-    ∙ ap (λ t. entry_cover h (l2_entry b t (g % entries_per_cluster h))) at
-    ∙ ap (entry_cover h) (sym (same (g % entries_per_cluster h) (mod_below g (entries_per_cluster h) some)))

@@ -16,7 +16,7 @@ use Rattle.qcow2_laws.specs.Guests.{guests, names, marks, named_in_either, table
 use Rattle.qcow2_laws.specs.CrashInvariant.{Pending, cluster, CrashInvariant, IsTop, SameTop, SameCovers, SameCounts, SameIn}
 use Rattle.qcow2_laws.specs.Changes.{one_at, with_new_data, with_new_tables, without_old_tables, without_old_data, remapped}
 use Rattle.qcow2_laws.specs.Tops.{IsSameOutside}
-use Rattle.qcow2_laws.proofs.Places.{Sizes, Sizes-from, count_in, cover_in, cover_at, has_table}
+use Rattle.qcow2_laws.proofs.Places.{Sizes, Sizes-from, count_in, cover_in, has_table}
 use Rattle.qcow2_laws.proofs.Tops.{IsTop-top, for_tables-top}
 use Rattle.qcow2_laws.proofs.Clusters.{new_data_unnamed}
 use Rattle.qcow2_laws.proofs.Mixes.{tied, good}
@@ -57,9 +57,6 @@ not_at per c0 c other = cond-false {A = ℕ} _ 1 0 (ne_eqb c c0 (λ e. other (ap
 module _ (h : HeaderFields) (d : Direction) (p : Pending) (on_storage known known' : Bytes) (crash_invariant : CrashInvariant h d p on_storage known) (c0 : ℕ)
     (real : block_offset (reftable_entry h known (c0 / counts_per_block h)) ≢ 0)
     (outside : IsSameOutside (cluster_size h) (block_offset (reftable_entry h known (c0 / counts_per_block h)) / cluster_size h) known known') where
-  place : ℕ
-  place = block_offset (reftable_entry h known (c0 / counts_per_block h))
-
   known_top : IsTop h known
   known_top = IsTop-top h on_storage known crash_invariant.same_top crash_invariant.top
 
@@ -213,18 +210,6 @@ module _ (h : HeaderFields) (d : Direction) (p : Pending) (on_storage known know
 
   pub entry_counts : SameCounts h known known'
   entry_counts = table_counts h known known' l2_known_top i0 real l2_once l2_same
-
-  guest : ℕ
-  guest = i0 * entries_per_cluster h + j0
-
-  -- the entry's guest cluster, before and after
-  pub entry_before : cover h known (i0 * entries_per_cluster h + j0) ≡ entry_cover h (l2_entry known (table_at h known i0) j0)
-  entry_before = cover_at h known i0 j0 l2_sizes real within
-
-  pub entry_after : cover h known' (i0 * entries_per_cluster h + j0) ≡ entry_cover h (l2_entry known' (table_at h known i0) j0)
-  entry_after =
-      let at : table_at h known' i0 ≡ table_at h known i0 = ap host_offset (sym (entry_top.l1 i0)) in
-      cover_at h known' i0 j0 l2_sizes (λ none. real (sym at ∙ none)) within ∙ ap (λ t. entry_cover h (l2_entry known' t j0)) at
 
   pub entry_others : (g : ℕ) → g ≢ i0 * entries_per_cluster h + j0 → cover h known g ≡ cover h known' g
   entry_others g ne = elim (cases_eq (g / entries_per_cluster h) i0) [

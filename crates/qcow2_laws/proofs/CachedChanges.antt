@@ -5,9 +5,8 @@ use Rattle.std.proofs.lemmas.Nat.{mod_below}
 use Rattle.qcow2_metadata.specs.Bytes.{Bytes}
 use Rattle.qcow2_metadata.specs.declared.header.HeaderFields.{HeaderFields}
 use Rattle.qcow2_metadata.specs.Header.{cluster_size, entries_per_cluster, count_width, counts_per_block}
-use Rattle.qcow2_metadata.specs.Entries.{l2_entry, block_count, host_offset}
-use Rattle.qcow2_metadata.specs.Cover.{cover, entry_cover}
-use Rattle.qcow2_metadata.specs.Guest.{guest_value, value_under}
+use Rattle.qcow2_metadata.specs.Entries.{l2_entry, block_count}
+use Rattle.qcow2_metadata.specs.Cover.{cover}
 use Rattle.qcow2_metadata.specs.Named.{in_cluster, named_by_cover}
 use Rattle.qcow2_metadata.specs.Consistent.{CoverIsAligned}
 use Rattle.qcow2_metadata.specs.TableBytes.{entry_at, ChangesEntry}
@@ -15,15 +14,14 @@ use Rattle.qcow2_metadata.specs.RefBlock.{count_in, ChangesCount}
 use Rattle.qcow2_metadata.specs.L2Table.{copied_host}
 use Rattle.qcow2_metadata.specs.declared.l2_mapping.L2Mapping.{L2Mapping}
 use Rattle.qcow2_metadata.specs.declared.l2_mapping.L2Mapping.TheVariants.{Data, Zero, Compressed, Uncovered}
-use Rattle.qcow2_laws.specs.Guests.{names, marks, table_at, marked_by_cover}
+use Rattle.qcow2_laws.specs.Guests.{names, table_at, marked_by_cover}
 use Rattle.qcow2_laws.specs.Changes.{one_at}
 use Rattle.qcow2_laws.specs.Tops.{IsSameOutside}
 use Rattle.qcow2_laws.specs.SafeSteps.{DriverState, StateInvariant}
-use Rattle.qcow2_laws.specs.Steps.{block_of, CountRises, CountFalls, EntryChanges, guest_at}
-use Rattle.qcow2_laws.proofs.Places.{Sizes, Sizes-from, count_in as count_found, cover_at}
+use Rattle.qcow2_laws.specs.Steps.{block_of, CountRises, CountFalls}
+use Rattle.qcow2_laws.proofs.Places.{Sizes, Sizes-from, count_in as count_found}
 use Rattle.qcow2_laws.proofs.Guests.{guest_le, names_within}
 use Rattle.qcow2_laws.proofs.Writes.{new_data_is_unnamed}
-use Rattle.qcow2_laws.proofs.Blocks.{entry_top}
 
 one_here : (i : ℕ) → one_at i i ≡ 1
 one_here i = cond-true {A = ℕ} _ 1 0 (eq-eqb i i refl)
@@ -160,46 +158,5 @@ module _ (s : DriverState) (known' : Bytes) (i j entry : ℕ) (old new : List �
     (was : (k : ℕ) → k < entries_per_cluster s.header → entry_at old k ≡ l2_entry s.known (table_at s.header s.known i) k)
     (now : (k : ℕ) → k < entries_per_cluster s.header → entry_at new k ≡ l2_entry known' (table_at s.header s.known i) k)
     (changes : ChangesEntry old new j entry) where
-  same_entries : (k : ℕ) → k < entries_per_cluster s.header → k ≢ j → l2_entry s.known (table_at s.header s.known i) k ≡ l2_entry known' (table_at s.header s.known i) k
-  same_entries k lt other = sym (was k lt) ∙ sym (changes.others k other) ∙ now k lt
-
-  same_table : table_at s.header known' i ≡ table_at s.header s.known i
-  same_table = ap host_offset (sym ((entry_top s.header s.direction s.pending s.on_storage s.known known' sound i j real within outside same_entries).l1 i))
-
   sizes : Sizes s.header
   sizes = Sizes-from s.header s.on_storage sound.top.header_reads
-
-  pub cover_was : cover s.header s.known (guest_at s.header i j) ≡ entry_cover s.header (entry_at old j)
-  cover_was = cover_at s.header s.known i j sizes real within ∙ ap (entry_cover s.header) (sym (was j within))
-
-  pub cover_now : cover s.header known' (guest_at s.header i j) ≡ entry_cover s.header entry
-  cover_now =
-      cover_at s.header known' i j sizes (λ none. real (sym same_table ∙ none)) within
-      ∙ ap (λ t. entry_cover s.header (l2_entry known' t j)) same_table
-      ∙ ap (entry_cover s.header) (sym (now j within) ∙ changes.entry_is)
-
-  pub entry_changes : Takes s.header s.pending.new_data (entry_cover s.header (entry_at old j)) (entry_cover s.header entry) → EntryChanges s known' i j
-  entry_changes takes = record {
-    real = real;
-    within = within;
-    outside = outside;
-    entries = same_entries;
-    new_data = λ c.
-        let a : names s.header s.known c (guest_at s.header i j) ≡ named_by_cover s.header c (entry_cover s.header (entry_at old j)) = ap (named_by_cover s.header c) cover_was in
-        let b : names s.header known' c (guest_at s.header i j) ≡ named_by_cover s.header c (entry_cover s.header entry) = ap (named_by_cover s.header c) cover_now in
-        let t = takes.new_data c in
-        omega arith;
-    marked = λ c.
-        let a : names s.header s.known c (guest_at s.header i j) ≡ named_by_cover s.header c (entry_cover s.header (entry_at old j)) = ap (named_by_cover s.header c) cover_was in
-        let b : names s.header known' c (guest_at s.header i j) ≡ named_by_cover s.header c (entry_cover s.header entry) = ap (named_by_cover s.header c) cover_now in
-        let m : marks s.header s.known c (guest_at s.header i j) ≡ marked_by_cover s.header c (entry_cover s.header (entry_at old j)) = ap (marked_by_cover s.header c) cover_was in
-        let n : marks s.header known' c (guest_at s.header i j) ≡ marked_by_cover s.header c (entry_cover s.header entry) = ap (marked_by_cover s.header c) cover_now in
-        let t = takes.marked c in
-        omega arith;
-    aligned = subst (CoverIsAligned s.header) (sym cover_now) takes.aligned;
-  }
-
-  -- what the guest cluster shows then
-  pub shows_now : (backing : Bytes) (o : ℕ) → o / cluster_size s.header ≡ guest_at s.header i j → guest_value s.header known' known' backing o ≡ value_under s.header known' known' backing o (entry_cover s.header entry)
-  unfolding guest_value
-  shows_now backing o here = ap (λ v. value_under s.header known' known' backing o v) (ap (cover s.header known') here ∙ cover_now)

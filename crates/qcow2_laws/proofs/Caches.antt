@@ -9,7 +9,6 @@ use Rattle.qcow2_metadata.specs.Entries.{l1_entry, is_copied, reftable_entry, ho
 use Rattle.qcow2_metadata.specs.Cover.{cover}
 use Rattle.qcow2_metadata.specs.Named.{in_cluster, named_for_tables, named_by_reftable, named_by_l1_table}
 use Rattle.qcow2_metadata.specs.Tables.{CachedTable, known}
-use Rattle.qcow2_disk.specs.Stops.{StopOkEverywhere}
 use Rattle.qcow2_laws.specs.Clusters.{Direction, Neither, L2DependsOnRb, RbDependsOnL2}
 use Rattle.qcow2_laws.specs.Guests.{table_at}
 use Rattle.qcow2_laws.specs.CrashInvariant.{Pending, CrashInvariant, SameTop, SameIn, IsPartly, SameCovers, SameCounts, IsInOrder, IsMixed, MayTurn}
@@ -24,9 +23,6 @@ use Rattle.qcow2_laws.proofs.Shares.{shares, in_l1, in_reftable, two_tables, tab
 use Rattle.qcow2_laws.proofs.Lists.{known-at, known-none, clean_known, free_too, apart_too, written_partly, written_known}
 
 module _ (h : HeaderFields) (d : Direction) (p : Pending) (l2s rbs : List CachedTable) (on_storage : Bytes) (kept : CacheInvariantOver h d p l2s rbs on_storage) where
-  all_known : Bytes
-  all_known = known_bytes (cluster_size h) l2s rbs on_storage
-
   pub kept_sizes : Sizes h
   kept_sizes = Sizes-from h on_storage kept.crash_invariant.top.header_reads
 
@@ -292,15 +288,3 @@ module _ (h : HeaderFields) (d : Direction) (p : Pending) (l2s rbs : List Cached
     l2_stand = kept.l2_stand;
     rb_stand = kept.rb_stand;
   }
-
-  pub keeps_none : UnseenTableWrite h d p l2s rbs on_storage l2s rbs on_storage
-  keeps_none = record { kept = kept; known = refl; safe = λ backing m ok known_ok. ok }
-
--- one after another
-pub keeps_then : (h : HeaderFields) (d : Direction) (p : Pending) (l2s rbs : List CachedTable) (on_storage : Bytes) (l2s' rbs' : List CachedTable) (on_storage' : Bytes) (l2s'' rbs'' : List CachedTable) (on_storage'' : Bytes)
-    → UnseenTableWrite h d p l2s rbs on_storage l2s' rbs' on_storage' → UnseenTableWrite h d p l2s' rbs' on_storage' l2s'' rbs'' on_storage'' → UnseenTableWrite h d p l2s rbs on_storage l2s'' rbs'' on_storage''
-keeps_then h d p l2s rbs on_storage l2s' rbs' on_storage' l2s'' rbs'' on_storage'' first second = record {
-  kept = second.kept;
-  known = second.known ∙ first.known;
-  safe = λ backing m ok known_ok. second.safe backing m (first.safe backing m ok known_ok) (subst (StopOkEverywhere backing m) (sym first.known) known_ok);
-}

@@ -57,18 +57,6 @@ allocate_table Neither k x i tied one empty good = grind arith
 allocate_table L2DependsOnRb k x i tied one empty good = grind arith
 allocate_table RbDependsOnL2 k x i tied one empty good = grind arith
 
-pub name_self : (d : Direction) (k : Cluster) (x i : ℕ) → Tied k → i ≤ 1 → (0 < i → k.known_count ≡ 0) → (0 < i → k.storage_count ≡ 0) → Good d k x
-    → Good d (record k { table_refs = k.table_refs + i; known_count = k.known_count + i; storage_count = k.storage_count + i }) x
-name_self Neither k x i tied one empty empty_storage good = grind arith
-name_self L2DependsOnRb k x i tied one empty empty_storage good = grind arith
-name_self RbDependsOnL2 k x i tied one empty empty_storage good = grind arith
-
-pub unname : (d : Direction) (k : Cluster) (x i : ℕ) → Tied k → i ≤ 1 → (0 < i → 0 < k.table_refs) → Good d k x
-    → Good d (record k { table_refs = k.table_refs - i; copied_l1_refs = k.copied_l1_refs - i; old_tables = k.old_tables + i }) x
-unname Neither k x i tied one some good = grind arith
-unname L2DependsOnRb k x i tied one some good = grind arith
-unname RbDependsOnL2 k x i tied one some good = grind arith
-
 pub drop_new_data : (d : Direction) (k : Cluster) (x i : ℕ) → Tied k → i ≤ 1 → (0 < i → 0 < k.new_data) → Good d k x
     → Good d (record k { new_data = k.new_data - i; old_data = k.old_data + i }) x
 drop_new_data Neither k x i tied one some good = grind arith
@@ -103,23 +91,6 @@ Written Neither k = Unit {0}
 Written L2DependsOnRb k = Unit {0}
 Written RbDependsOnL2 k = (k.in_either ≡ k.in_known) × (k.marks_either ≡ k.marks_known)
 
-abbrev pub Counted : Direction → Cluster → Type 0
-Counted Neither k = Unit {0}
-Counted L2DependsOnRb k = k.storage_count ≡ k.known_count
-Counted RbDependsOnL2 k = Unit {0}
-
-pub name : (d : Direction) (k : Cluster) (x i j : ℕ) → Tied k → i ≤ 1 → j ≤ i → (0 < i → 0 < k.new_tables) → (0 < i → k.storage_count ≡ k.known_count) → (0 < i → Written d k) → Good d k x
-    → Good d (record k { table_refs = k.table_refs + i; copied_l1_refs = k.copied_l1_refs + j; new_tables = k.new_tables - i }) x
-name Neither k x i j tied one marked some same written good = grind arith
-name L2DependsOnRb k x i j tied one marked some same written good = grind arith
-name RbDependsOnL2 k x i j tied one marked some same written good = grind arith
-
-pub write_count : (d : Direction) (k : Cluster) (x : ℕ) → Tied k → Written d k → Good d k x
-    → Good d (record k { storage_count = k.known_count }) x
-write_count Neither k x tied written good = grind arith
-write_count L2DependsOnRb k x tied written good = grind arith
-write_count RbDependsOnL2 k x tied written good = grind arith
-
 pub remap : (d : Direction) (k : Cluster) (x old new known either marks_known marks_either : ℕ) → Tied k
     → new - old ≤ k.new_data → known + old ≡ k.in_known + new → either ≤ k.in_either + (new - old)
     → marks_known ≤ k.marks_known + (new - old) → marks_either ≤ k.marks_either + (new - old) → Good d k x
@@ -151,9 +122,6 @@ pub new_data_unnamed : (d : Direction) (k : Cluster) (x : ℕ) → Tied k → 0 
 new_data_unnamed Neither k x tied some good = grind arith
 new_data_unnamed L2DependsOnRb k x tied some good = grind arith
 new_data_unnamed RbDependsOnL2 k x tied some good = grind arith
-
-pub table_unnamed : (d : Direction) (k : Cluster) (x : ℕ) → Tied k → 0 < k.table_refs → Good d k x → k.in_either ≡ 0
-table_unnamed d k x tied some good = grind arith
 
 pub new_tables_unnamed : (d : Direction) (k : Cluster) (x : ℕ) → Tied k → 0 < k.new_tables → Written d k → Good d k x → (k.in_either ≡ 0) × (k.table_refs ≡ 0)
 new_tables_unnamed Neither k x tied some written good = grind arith

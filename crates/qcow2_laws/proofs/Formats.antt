@@ -2,12 +2,12 @@
 use Rattle.std.proofs.Common.{◌≡◌, ℕ, refl, ap, sym, ◌∙◌}
 use Rattle.qcow2_metadata.specs.Bytes.{Bytes}
 use Rattle.qcow2_metadata.specs.declared.header.HeaderFields.{HeaderFields}
-use Rattle.qcow2_metadata.specs.Header.{cluster_size, entries_per_cluster, counts_per_block, with_reftable}
+use Rattle.qcow2_metadata.specs.Header.{cluster_size, with_reftable}
 use Rattle.qcow2_metadata.specs.Entries.{l1_entry}
 use Rattle.qcow2_metadata.specs.Cover.{cover, cover_under}
 use Rattle.qcow2_metadata.specs.Guest.{guest_value}
 use Rattle.qcow2_metadata.specs.Named.{named_by_cover}
-use Rattle.qcow2_laws.specs.Guests.{over_guests, guests, names, marks, marked_by_cover, marked_by_l1_table}
+use Rattle.qcow2_laws.specs.Guests.{over_guests, names}
 use Rattle.qcow2_laws.specs.CrashInvariant.{SameCovers}
 use Rattle.qcow2_laws.specs.Unseen.{KeepsFormat}
 use Rattle.qcow2_laws.proofs.Guests.{over_guests-same}
@@ -19,28 +19,13 @@ format_refl h = refl
 pub format_same : (h h' : HeaderFields) → h' ≡ h → KeepsFormat h h'
 format_same h h' e = e ∙ ap (λ (k : HeaderFields). with_reftable h k.reftable_offset k.reftable_clusters) (sym e)
 
-pub format_with : (h : HeaderFields) (offset clusters : ℕ) → KeepsFormat h (with_reftable h offset clusters)
-format_with h offset clusters = refl
-
 pub format_then : (a b c : HeaderFields) → KeepsFormat a b → KeepsFormat b c → KeepsFormat a c
 format_then a b c first then = then ∙ ap (λ (k : HeaderFields). with_reftable k c.reftable_offset c.reftable_clusters) first
-
-pub format_back : (h h' : HeaderFields) → KeepsFormat h h' → KeepsFormat h' h
-format_back h h' e = ap (λ (k : HeaderFields). with_reftable k h.reftable_offset h.reftable_clusters) (sym e)
 
 -- ---- what is read with it
 module _ (h h' : HeaderFields) (e : KeepsFormat h h') where
   pub size_format : cluster_size h' ≡ cluster_size h
   size_format = ap (λ (k : HeaderFields). cluster_size k) e
-
-  pub entries_format : entries_per_cluster h' ≡ entries_per_cluster h
-  entries_format = ap (λ (k : HeaderFields). entries_per_cluster k) e
-
-  pub per_block_format : counts_per_block h' ≡ counts_per_block h
-  per_block_format = ap (λ (k : HeaderFields). counts_per_block k) e
-
-  pub guest_count_format : guests h' ≡ guests h
-  guest_count_format = ap (λ (k : HeaderFields). guests k) e
 
 pub l1_with : (h : HeaderFields) (offset clusters : ℕ) (b : Bytes) (i : ℕ) → l1_entry (with_reftable h offset clusters) b i ≡ l1_entry h b i
 unfolding l1_entry
@@ -58,10 +43,6 @@ pub over_guests_with : (h : HeaderFields) (offset clusters : ℕ) (f : ℕ → �
 unfolding over_guests
 over_guests_with h offset clusters f = refl
 
-pub marked_by_l1_with : (h : HeaderFields) (offset clusters : ℕ) (b : Bytes) (c : ℕ) → marked_by_l1_table (with_reftable h offset clusters) b c ≡ marked_by_l1_table h b c
-unfolding marked_by_l1_table l1_entry
-marked_by_l1_with h offset clusters b c = refl
-
 module _ (h h' : HeaderFields) (e : KeepsFormat h h') where
   pub l1_format : (b : Bytes) (i : ℕ) → l1_entry h' b i ≡ l1_entry h b i
   l1_format b i = ap (λ (k : HeaderFields). l1_entry k b i) e ∙ l1_with h h'.reftable_offset h'.reftable_clusters b i
@@ -75,21 +56,12 @@ module _ (h h' : HeaderFields) (e : KeepsFormat h h') where
   pub over_guests_format : (f : ℕ → ℕ) → over_guests h' f ≡ over_guests h f
   over_guests_format f = ap (λ (k : HeaderFields). over_guests k f) e ∙ over_guests_with h h'.reftable_offset h'.reftable_clusters f
 
-  pub marked_by_l1_format : (b : Bytes) (c : ℕ) → marked_by_l1_table h' b c ≡ marked_by_l1_table h b c
-  marked_by_l1_format b c = ap (λ (k : HeaderFields). marked_by_l1_table k b c) e ∙ marked_by_l1_with h h'.reftable_offset h'.reftable_clusters b c
-
   pub names_format : (b : Bytes) (c g : ℕ) → names h' b c g ≡ names h b c g
   names_format b c g = ap (λ (k : HeaderFields). named_by_cover k c (cover h' b g)) e ∙ ap (named_by_cover h c) (cover_format b g)
-
-  pub marks_format : (b : Bytes) (c g : ℕ) → marks h' b c g ≡ marks h b c g
-  marks_format b c g = ap (λ (k : HeaderFields). marked_by_cover k c (cover h' b g)) e ∙ ap (marked_by_cover h c) (cover_format b g)
 
   -- how often all guest clusters name a cluster, or mark it
   pub guests_format : (b : Bytes) (c : ℕ) → over_guests h' (names h' b c) ≡ over_guests h (names h b c)
   guests_format b c = over_guests_format (names h' b c) ∙ over_guests-same h (names h' b c) (names h b c) (names_format b c)
-
-  pub guest_marks_format : (b : Bytes) (c : ℕ) → over_guests h' (marks h' b c) ≡ over_guests h (marks h b c)
-  guest_marks_format b c = over_guests_format (marks h' b c) ∙ over_guests-same h (marks h' b c) (marks h b c) (marks_format b c)
 
   pub covers_format : (b b' : Bytes) → SameCovers h' b b' → SameCovers h b b'
   covers_format b b' same g = sym (cover_format b g) ∙ same g ∙ cover_format b' g

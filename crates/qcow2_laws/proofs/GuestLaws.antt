@@ -2,13 +2,12 @@
 use Rattle.std.proofs.Common.{◌≡◌, ℕ, ◌+◌, ◌-◌, ◌*◌, ◌/◌, ◌≤◌, List, [], ◌∷◌, refl, sym, ap, ◌∙◌, arith, inl, inr, subst}
 use Rattle.std.proofs.lemmas.Bool.{cases_lt}
 use Rattle.std.proofs.lemmas.Nat.{pow_pos, le-div}
-use Rattle.image_access.specs.Moments.{StorageView}
 use Rattle.image_access.proofs.EachMomentSince.{passes_if}
 use Rattle.qcow2_metadata.specs.Bytes.{Bytes, byte_at}
 use Rattle.qcow2_metadata.specs.Header.{header, cluster_size}
 use Rattle.qcow2_metadata.specs.Guest.{known_byte, guest_value, value_under}
 use Rattle.qcow2_disk.specs.Disk.{disk, disk_with}
-use Rattle.qcow2_disk.specs.Stops.{GivenBytes, Checkpoint, checkpoint_with, StopOkEverywhere, SafeThroughout}
+use Rattle.qcow2_disk.specs.Stops.{GivenBytes, Checkpoint, checkpoint_with, StopOkEverywhere}
 use Rattle.qcow2_disk.specs.Mappings.{given_shown}
 use Rattle.qcow2_laws.specs.Guests.{guests}
 use Rattle.qcow2_laws.specs.SafeSteps.{DriverState, StateInvariant}
@@ -70,12 +69,6 @@ module _ (s : DriverState) (backing : Bytes) (sound : StateInvariant s) where
 pub size_stays_unless_asked : SizeStaysUnlessAsked
 size_stays_unless_asked s backing image given sound kept =
     old_size s backing sound given image (kept (checkpoint s backing sound) (storage_kept s backing sound) (known_kept s backing sound))
-
--- at each moment of steps, and of calls
-pub size_stays_in_steps : (s : DriverState) (old new : StorageView) (given : Bytes → List GivenBytes) → StateInvariant s → byte_at old.contents ≡ s.on_storage → SafeThroughout old new s.known given [] → HasSizeSince old new s.header.size
-size_stays_in_steps s old new given sound is safe_throughout =
-    passes_if (λ c. (header (byte_at c)).size ≡ s.header.size) (λ c kept.
-    size_stays_unless_asked s (λ _. 0) (byte_at c) (given (λ _. 0)) sound (λ m ok known_ok. kept (λ _. 0) m (subst (StopOkEverywhere (λ _. 0) m) (sym is) ok) known_ok)) safe_throughout.moments
 
 pub size_stays_in_calls : (s : DriverState) (old new : AbstractImage) (given : List GivenBytes) → StateInvariant s → stored_bytes old ≡ s.on_storage → old.known ≡ s.known → EffectOnSound old new given [] → HasSizeSince old.storage new.storage s.header.size
 size_stays_in_calls s old new given sound is known works =

@@ -13,7 +13,7 @@ use Rattle.qcow2_metadata.specs.declared.l2_mapping.L2Mapping.TheVariants.{Data,
 use Rattle.qcow2_disk.specs.Disk.{disk}
 use Rattle.qcow2_disk.specs.Stops.{IsGiven}
 use Rattle.qcow2_disk.specs.Mappings.{given_of}
-use Rattle.qcow2_laws.specs.Guests.{names, marks, marked_by_cover, named_in_either}
+use Rattle.qcow2_laws.specs.Guests.{names, named_in_either}
 use Rattle.qcow2_laws.specs.CrashInvariant.{Pending}
 use Rattle.qcow2_laws.specs.Tops.{WritesAt}
 use Rattle.qcow2_laws.specs.SafeSteps.{DriverState, StateInvariant, SafeStep}
@@ -35,9 +35,6 @@ module _ (s : DriverState) (sound : StateInvariant s) (g host : ℕ) (is : cover
 
   kept_names : (c : ℕ) → names s.header s.known c g ≡ in_cluster s.header c host
   kept_names c = ap (named_by_cover s.header c) is
-
-  kept_marked : marks s.header s.known (host / cluster_size s.header) g ≡ 1
-  kept_marked = ap (marked_by_cover s.header (host / cluster_size s.header)) is ∙ in_own s.header host
 
   -- its bytes are used, and no table is laid over them
   pub kept_unlaid : (k : ℕ) → k < cluster_size s.header → s.on_storage (host + k) ≡ s.known (host + k)

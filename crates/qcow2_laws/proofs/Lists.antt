@@ -1,8 +1,8 @@
 -- Lists of cached tables, of which one is written.
-use Rattle.std.proofs.Common.{◌≡◌, ℕ, ◌+◌, ◌-◌, ◌*◌, ◌/◌, ◌%◌, ◌<◌, ◌≤◌, ◌⊎◌, inl, inr, Bool, true, false, cond, leb, ltb, List, [], ◌∷◌, ◌++◌, refl, sym, ap, subst, ◌∙◌, arith}
+use Rattle.std.proofs.Common.{◌≡◌, ℕ, ◌+◌, ◌-◌, ◌*◌, ◌/◌, ◌%◌, ◌<◌, inl, inr, Bool, true, false, cond, leb, ltb, List, [], ◌∷◌, ◌++◌, refl, sym, ap, subst, ◌∙◌, arith}
 use Rattle.std.specs.Prelude.{◌&&◌}
 use mathlib.Core.Path.{fun_ext}
-use Rattle.std.proofs.lemmas.Bool.{cases_lt, cases_eq, cases_Bool, cond-true, cond-false, le-leb, lt-ltb, and_from, and_left, and_right, lt-leb, le-ltb}
+use Rattle.std.proofs.lemmas.Bool.{cases_eq, cases_Bool, cond-true, cond-false, le-leb, lt-ltb, and_from}
 use Rattle.std.proofs.lemmas.Nat.{div-add-mod', mod_below}
 use Rattle.qcow2_metadata.specs.Bytes.{Bytes, is_within}
 use Rattle.qcow2_metadata.specs.Tables.{CachedTable, known, overlays}
@@ -159,16 +159,6 @@ module _ (size : ℕ) (t t' : CachedTable) (b b' : Bytes) (so : IsWrittenSo size
   pub apart_too : (front back : List CachedTable) → AreApart size (front ++ t ∷ back) → AreApart size (front ++ t' ∷ back)
   apart_too [] back apart = (ap (λ p. p % size) so.place ∙ apart.0, (λ o over. apart.1 o (elim (cases_Bool (overlays size t o)) [ inl is ↦ is | inr past ↦ absurd (differs (overlays size t' o) over (still_past o past)) ])), apart.2)
   apart_too (u ∷ front) back apart = (apart.0, (λ o over. free_too front back o (apart.1 o over)), apart_too front back apart.2)
-
-  -- each byte is the old one, or that of the table
-  pub written_byte : (front back : List CachedTable) (o : ℕ) → AreApart size (front ++ t ∷ back) → (b' o ≡ b o) ⊎ ((overlays size t o ≡ true) × (b' o ≡ known size (front ++ t ∷ back) b o))
-  written_byte front back o apart = elim (cases_Bool (overlays size t o)) [
-    | inr past ↦ inl (untouched o past)
-    | inl over ↦ elim so.outcome [
-      | inl none ↦ inl (ap (λ (m : Bytes). m o) none.0)
-      | inr done ↦ inr (over, ap (λ (m : Bytes). m o) done.0 ∙ known_over size t [] b o over ∙ sym (known_there size front back t b o apart over))
-    ]
-  ]
 
   pub written_partly : (front back : List CachedTable) → 0 < size → AreApart size (front ++ t ∷ back) → IsPartly size b (known size (front ++ t ∷ back) b) b'
   written_partly front back some apart c = elim so.outcome [

@@ -18,15 +18,14 @@ use Rattle.qcow2_laws.specs.CrashInvariant.{Pending}
 use Rattle.qcow2_laws.specs.Changes.{remapped}
 use Rattle.qcow2_laws.specs.SafeSteps.{DriverState, StateInvariant, SafeStep}
 use Rattle.qcow2_laws.specs.Steps.{guest_at, EntryChanges}
-use Rattle.qcow2_laws.specs.Unseen.{used_by_guests, IsMappedAnew, with_cluster}
+use Rattle.qcow2_laws.specs.Unseen.{IsMappedAnew, with_cluster}
 use Rattle.qcow2_laws.proofs.Places.{in_one}
-use Rattle.qcow2_laws.proofs.Guests.{over_guests-change}
 use Rattle.qcow2_laws.proofs.Tops.{for_tables-top, IsTop-top}
 use Rattle.qcow2_laws.proofs.Mixes.{tied}
 use Rattle.qcow2_laws.proofs.Values.{value_is}
 use Rattle.qcow2_laws.proofs.Writes.{new_data_is_unnamed}
 use Rattle.qcow2_laws.proofs.Shares.{shares, table_has}
-use Rattle.qcow2_laws.proofs.Blocks.{entry_top, entry_others, guest_within}
+use Rattle.qcow2_laws.proofs.Blocks.{entry_top, entry_others}
 use Rattle.qcow2_laws.proofs.CachedChanges.{in_at, in_most}
 use Rattle.qcow2_laws.proofs.Steps.{entry_is_changed}
 use Rattle.qcow2_laws.proofs.Unseen.{table_bytes, named_some, size_stays, value_stays}
@@ -156,19 +155,3 @@ module _ (s : DriverState) (known' : Bytes) (i j : ℕ) (sound : StateInvariant 
 
     pub committed_old_data : (c : ℕ) → (pending_after s known' (guest_at s.header i j)).old_data c ≡ s.pending.old_data c + names s.header s.known c (guest_at s.header i j)
     committed_old_data c = let now = names_new c in elim (either c) [ inl none ↦ omega arith | inr one ↦ omega (arith, one.0, one.1) ]
-
-    -- what guests use then, with what is dropped
-    pub committed_used : (c : ℕ) → used_by_guests (record s { pending = pending_after s known' (guest_at s.header i j); known = known' }) c + names s.header s.known c (guest_at s.header i j) ≡ used_by_guests s c
-    committed_used c =
-        let now = names_new c in
-        let others = (entry_unseen s.pending).covers in
-        let within = guest_within s.header s.direction s.pending s.on_storage s.known known' sound i j changes.real changes.within changes.outside changes.entries in
-        let sum = over_guests-change s.header (names s.header known' c) (names s.header s.known c) (guest_at s.header i j) within (λ g ne. ap (named_by_cover s.header c) (sym (others g ne))) in
-        elim (either c) [ inl none ↦ omega arith | inr one ↦ omega (arith, one.0, one.1, one.2) ]
-
-    -- where nothing stood for the guest cluster
-    pub committed_old_data_none : cover s.header s.known (guest_at s.header i j) ≡ Uncovered → (c : ℕ) → (pending_after s known' (guest_at s.header i j)).old_data c ≡ s.pending.old_data c
-    committed_old_data_none none c =
-        let zero : names s.header s.known c (guest_at s.header i j) ≡ 0 = ap (named_by_cover s.header c) none in
-        let old_data = committed_old_data c in
-        omega arith

@@ -68,10 +68,6 @@ module _ (h : HeaderFields) (d : Direction) (p : Pending) (on_storage known on_s
   known_top : IsTop h known
   known_top = IsTop-top h on_storage known crash_invariant.same_top crash_invariant.top
 
-  -- the cluster of the L1 table that is written to
-  at_l1 : ℕ
-  at_l1 = (h.l1_offset + 8 * i0) / cluster_size h
-
   part : in_l1 h ((h.l1_offset + 8 * i0) / cluster_size h) ≡ 1
   part = l1_has h i0 sizes crash_invariant.top.l1_aligned writes.within
 

@@ -20,7 +20,7 @@ use Rattle.qcow2_laws.specs.Tops.{IsSameOutside, WritesAt}
 use Rattle.qcow2_laws.specs.Writes.{IsWritten}
 use Rattle.qcow2_laws.specs.SafeSteps.{DriverState, StateInvariant, SafeStep}
 use Rattle.qcow2_laws.specs.Unseen.{SameL1Table}
-use Rattle.qcow2_disk.specs.Alike.{IsDataAt, AreDataAt}
+use Rattle.qcow2_disk.specs.Alike.{IsDataAt}
 use Rattle.qcow2_laws.specs.GuestLaws.{Hosting, InPlace, Kept, Held, IsHostedAt, IsHeld, is_private_hosting, IsGivenAt, WritesRun, RunIsWritten}
 use Rattle.qcow2_laws.proofs.Places.{in_one}
 use Rattle.qcow2_laws.proofs.Mixes.{tied}
@@ -336,11 +336,6 @@ run_is_written = record {
 -- one gift of all the bytes
 pub given_has : (offset : ℕ) (bytes : List ℕ) (i : ℕ) → i < length bytes → IsGiven (given_of offset bytes ∷ []) (offset + i) (known_byte (byte_at bytes i))
 given_has offset bytes i lt = let e : i ≡ offset + i - offset = omega arith in inl (omega arith, omega arith, ap (λ j. known_byte (byte_at bytes j)) e)
-
-pub written_over : (s : DriverState) (on_storage' known' : Bytes) → StateInvariant s → (offset place : ℕ) (bytes : List ℕ) → AreDataAt s.header s.known true offset place (length bytes) → WritesAt place (length bytes) s.on_storage s.known on_storage' known'
-    → ((i : ℕ) → i < length bytes → on_storage' (place + i) ≡ byte_at bytes i) → WritesRun (λ _. InPlace) offset place bytes (given_of offset bytes ∷ []) s (record s { on_storage = on_storage'; known = known' })
-written_over s on_storage' known' sound offset place bytes are writes there =
-    run_written s on_storage' known' (λ _. InPlace) offset place bytes (given_of offset bytes ∷ []) sound are (given_has offset bytes) writes there
 
 -- ---- into one cluster that is held
 module _ (s : DriverState) (on_storage' known' : Bytes) (sound : StateInvariant s) (c : ℕ) (new_data : 0 < s.pending.new_data c) (outside : IsSameOutside (cluster_size s.header) c s.on_storage on_storage')

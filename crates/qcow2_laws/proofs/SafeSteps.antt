@@ -179,16 +179,6 @@ safe_step_less s s' given fewer asked within safe_step = record {
   known = λ backing m ok known_ok. kept_less backing (given backing) (fewer backing) asked m s.known s'.known (within backing) known_ok (safe_step.known backing m ok known_ok);
 }
 
-pub safe_throughout_less : (old new : StorageView) (known : Bytes) (given fewer : Bytes → List GivenBytes) (asked : List ℕ) → ((backing : Bytes) (o : ℕ) (v : Value) → IsGiven (given backing) o v → (v ≡ (disk known backing).value o) ⊎ IsGiven (fewer backing) o v)
-    → SafeThroughout old new known given asked → SafeThroughout old new known fewer asked
-safe_throughout_less old new known given fewer asked within safe_throughout =
-    let P : List ℕ → Type 0 = λ c. (backing : Bytes) (m : Checkpoint) → StopOkEverywhere backing m (byte_at old.contents) → StopOkEverywhere backing m known → StopOkEverywhere backing (checkpoint_with (fewer backing) asked m) (byte_at c) in
-    record {
-      moments = passes_if P (λ c (kept : (backing : Bytes) (m : Checkpoint) → StopOkEverywhere backing m (byte_at old.contents) → StopOkEverywhere backing m known → StopOkEverywhere backing (checkpoint_with (given backing) asked m) (byte_at c)).
-          λ backing m ok known_ok. kept_less backing (given backing) (fewer backing) asked m known (byte_at c) (within backing) known_ok (kept backing m ok known_ok)) safe_throughout.moments;
-      contents = λ backing m ok known_ok. kept_less backing (given backing) (fewer backing) asked m known (byte_at new.contents) (within backing) known_ok (safe_throughout.contents backing m ok known_ok);
-    }
-
 -- what is safe while these sizes are asked for is so while more are
 pub safe_throughout_asking : (old new : StorageView) (known : Bytes) (given : Bytes → List GivenBytes) (asked more : List ℕ) → SafeThroughout old new known given asked → SafeThroughout old new known given (more ++ asked)
 safe_throughout_asking old new known given asked more one = safe_throughout_then old new new known known given (λ _. []) asked more one (λ backing m ok known_ok. kept_more backing (given backing) asked m known known_ok) (unasked new known more)

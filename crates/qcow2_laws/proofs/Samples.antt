@@ -10,7 +10,7 @@ use Rattle.qcow2_metadata.specs.Header.{header, HeaderReads}
 use Rattle.qcow2_metadata.specs.Entries.{l1_entry, l2_entry, reftable_entry, block_count, count_under, count, block_offset, ReftableEntryReads}
 use Rattle.qcow2_metadata.specs.Named.{named_by_cover, table_in, named, named_for_tables, named_by_header, named_by_reftable, named_by_l1_table, named_by_l2_table, named_by_l2_tables}
 use Rattle.qcow2_metadata.specs.Consistent.{Consistent, IsConsistent}
-use Rattle.qcow2_disk.specs.Rules.{answered, copy_range}
+use Rattle.qcow2_disk.specs.Rules.{answered}
 use Rattle.qcow2_laws.specs.Samples.{empty_image, written_image}
 use Rattle.qcow2_metadata.specs.Cover.{cover, cover_under, cover_of}
 use Rattle.qcow2_metadata.specs.Guest.{guest_value, known_byte}
@@ -198,14 +198,10 @@ pub named-5 : named (header b3) b3 5 ≡ 1
 unfolding header number_at reftable_entry l1_entry l2_entry cover_of sum_below named named_for_tables named_by_header named_by_reftable named_by_l1_table named_by_l2_table named_by_l2_tables
 named-5 = refl
 
--- ---- rules: what zeroing and discarding answer, and what is copied
+-- ---- rules: what zeroing and discarding answer
 
 rules : (answered 512 65536 100 1000 ≡ (512, 512)) × (answered 512 65536 100 0 ≡ (512, 0)) × (answered 512 1000 0 1000 ≡ (0, 1000))
 rules = (refl, refl, refl)
-
-copies : (copy_range 512 1 (Some (0, 100)) ≡ Some (100, 512)) × (copy_range 512 1 (Some (100, 200)) ≡ Some (0, 512)) × (copy_range 512 1 (Some (0, 512)) ≡ None)
-    × (copy_range 512 1 None ≡ Some (0, 512)) × (copy_range 512 64 (Some (0, 100)) ≡ Some (64, 512)) × (copy_range 512 64 (Some (450, 512)) ≡ Some (0, 512))
-copies = (refl, refl, refl, refl, refl, refl)
 
 -- ---- entries: two compressed ones that share a sector, a zero one that keeps its cluster, and one without
 

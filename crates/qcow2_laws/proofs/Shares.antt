@@ -133,9 +133,6 @@ module _ (h : HeaderFields) (b b' : Bytes) (top : IsTop h b) where
   -- one cluster, in which an L2 table stands, may change
   module _ (i0 : ℕ) (real : table_at h b i0 ≢ 0) (once : named_for_tables h b (table_at h b i0 / cluster_size h) ≤ 1)
       (same : (c : ℕ) → c ≢ table_at h b i0 / cluster_size h → SameIn (cluster_size h) c b b') where
-    there : ℕ
-    there = table_at h b i0 / cluster_size h
-
     alone : (c : ℕ) → 0 < in_cluster h c 0 + in_l1 h c + in_reftable h c + named_by_reftable h b c → c ≢ table_at h b i0 / cluster_size h
     alone c some e =
         let here : 0 < in_cluster h (table_at h b i0 / cluster_size h) 0 + in_l1 h (table_at h b i0 / cluster_size h) + in_reftable h (table_at h b i0 / cluster_size h) + named_by_reftable h b (table_at h b i0 / cluster_size h) =

@@ -14,7 +14,7 @@ use Rattle.qcow2_laws.specs.Tops.{IsSameOutside, WritesL1Entry, IsNewTable, Writ
 use Rattle.qcow2_laws.specs.Writes.{IsUnnamed}
 use Rattle.qcow2_laws.specs.SafeSteps.{DriverState, StateInvariant}
 use Rattle.qcow2_laws.specs.Steps.{block_of}
-use Rattle.qcow2_laws.specs.Unseen.{used_by_guests, SameUsedBytes, SameUsedBytesBut, KeepsFormat, IsUnseen, IsUnseenBut, SameL1Table}
+use Rattle.qcow2_laws.specs.Unseen.{used_by_guests, SameUsedBytes, KeepsFormat, IsUnseen, SameL1Table}
 use Rattle.qcow2_laws.proofs.Places.{Sizes-from}
 use Rattle.qcow2_laws.proofs.Guests.{over_guests-same, guest_le, names_within}
 use Rattle.qcow2_laws.proofs.Formats.{format_refl, format_same, format_then, size_format, l1_format, covers_format, guests_format, value_format}
@@ -54,19 +54,6 @@ unseen_then a b c first then new_data = record {
   header = format_then a.header b.header c.header first.header then.header;
   covers = covers_then a b first.header first.covers c then.covers;
   bytes = λ o some. then.bytes o (used_still a b first.header first.covers new_data o some) ∙ first.bytes o some;
-}
-
--- the same, but for one cluster
-pub unseen_but : (n : ℕ) (old new : DriverState) → IsUnseen old new → IsUnseenBut n old new
-unseen_but n old new unseen = record { header = unseen.header; covers = unseen.covers; bytes = λ o other some. unseen.bytes o some }
-
-pub unseen_but_then : (n : ℕ) (a b c : DriverState) → IsUnseenBut n a b → IsUnseenBut n b c → ((k : ℕ) → 0 < a.pending.new_data k → 0 < b.pending.new_data k) → IsUnseenBut n a c
-unseen_but_then n a b c first then new_data = record {
-  header = format_then a.header b.header c.header first.header then.header;
-  covers = covers_then a b first.header first.covers c then.covers;
-  bytes = λ o other some.
-      then.bytes o (λ e. other (ap (λ n. o / n) (sym (size_format a.header b.header first.header)) ∙ e)) (used_still a b first.header first.covers new_data o some)
-      ∙ first.bytes o other some;
 }
 
 pub l1_same_none : (s : DriverState) → SameL1Table s s
@@ -187,36 +174,6 @@ module _ (old new : DriverState) (sound : StateInvariant old) where
         )
 
   -- ---- bytes are written to one cluster that no table stands in
-  pub unseen_but_written : (c : ℕ) → new.header ≡ old.header → named_for_tables old.header old.on_storage c ≡ 0 → IsSameOutside (cluster_size old.header) c old.on_storage new.on_storage
-      → IsSameOutside (cluster_size old.header) c old.known new.known → IsUnseenBut c old new × SameL1Table old new
-  unseen_but_written c header none outside known_outside =
-      let known_top = IsTop-top old.header old.on_storage old.known sound.same_top sound.top in
-      let apart : (k : ℕ) → 0 < named_for_tables old.header old.on_storage k → k ≢ c = λ k some e. absurd (let here : named_for_tables old.header old.on_storage k ≡ 0 = ap (named_for_tables old.header old.on_storage) e ∙ none in omega arith) in
-      let known_apart : (k : ℕ) → 0 < named_for_tables old.header old.known k → k ≢ c = λ k some. apart k (let e = for_tables-top old.header old.on_storage old.known k sound.same_top in omega arith) in (
-        record {
-          header = format_same old.header new.header header;
-          covers = covers_stay old.header old.known new.known known_top (λ k some. outside_same c old.known new.known known_outside k (known_apart k some));
-          bytes = λ o other some. sym (known_outside o other);
-        },
-        (λ i. sym ((top_stays old.header old.on_storage new.on_storage sound.top (λ k some. outside_same c old.on_storage new.on_storage outside k (apart k some))).l1 i)),
-      )
-
-  -- ---- what is held for guests stays where only bytes of other clusters change, on the storage and as known
-  module _ (sound' : StateInvariant new) (header : KeepsFormat old.header new.header) (k : ℕ) (new_data : 0 < old.pending.new_data k) (still : 0 < new.pending.new_data k) where
-    pub new_data_stays_but : (c : ℕ) → k ≢ c → SameUsedBytesBut c old new → SameIn (cluster_size old.header) k old.on_storage new.on_storage × SameIn (cluster_size old.header) k old.known new.known
-    new_data_stays_but c other bytes =
-        let known : SameIn (cluster_size old.header) k old.known new.known = λ o in_k.
-        let new_data_here : 0 < old.pending.new_data (o / cluster_size old.header) = subst (λ n. 0 < old.pending.new_data n) (sym in_k) new_data in
-        sym (bytes o (λ e. other (sym in_k ∙ e)) (omega arith)) in (
-          (λ o in_k.
-              let new_data_here : 0 < old.pending.new_data (o / cluster_size old.header) = subst (λ n. 0 < old.pending.new_data n) (sym in_k) new_data in
-              let still_here : 0 < new.pending.new_data (o / cluster_size new.header) = subst (λ n. 0 < new.pending.new_data n) (sym (ap (λ n. o / n) (size_format old.header new.header header) ∙ in_k)) still in
-              sound.not_overlaid o (omega arith) ∙ known o in_k ∙ sym (sound'.not_overlaid o (omega arith))),
-          known,
-        )
-
-    pub new_data_stays : SameUsedBytes old new → SameIn (cluster_size old.header) k old.on_storage new.on_storage × SameIn (cluster_size old.header) k old.known new.known
-    new_data_stays bytes = new_data_stays_but (k + 1) (omega arith) (λ o other some. bytes o some)
 
   -- ---- the guest's disk stays
   -- what a guest cluster names is named

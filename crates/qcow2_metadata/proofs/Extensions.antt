@@ -48,9 +48,6 @@ pub record IsReadSoFar (b : Bytes) (limit start place : ℕ) (format data_file :
       × (first_of_kind data_file_kind list ≡ first_so_far data_file_kind data_file rest)
   pub back : ExtensionsRead b limit start → ExtensionsRead b limit place
 
-pub read_at_start : (b : Bytes) (limit start : ℕ) → IsReadSoFar b limit start start None None
-read_at_start b limit start = record { on = λ rest stand. (rest, stand, refl, refl); back = λ reads. reads }
-
 more_so_far : (kind : ℕ) (so_far name : Option (List ℕ)) (e : ℕ × List ℕ) (rest : List (ℕ × List ℕ))
     → name ≡ first_so_far kind so_far (e ∷ []) → first_so_far kind so_far (e ∷ rest) ≡ first_so_far kind name rest
 more_so_far kind (Some x) name e rest is = sym (ap (λ n. first_so_far kind n rest) is)
@@ -104,11 +101,6 @@ read_to_end b limit start place format data_file so_far stand =
     at_end : (kind : ℕ) (name : Option (List ℕ)) → first_so_far kind name [] ≡ name
     at_end kind None = refl
     at_end kind (Some x) = refl
-
--- it met what is no extension
-pub read_to_fault : (b : Bytes) (limit start place : ℕ) (format data_file : Option (List ℕ)) → IsReadSoFar b limit start place format data_file
-    → ((list : List (ℕ × List ℕ)) → AreExtensions b limit place list → ⊥) → ExtensionsRead b limit start → ⊥
-read_to_fault b limit start place format data_file so_far none reads = let left = so_far.back reads in none left.list left.stand
 
 -- a name that is cut out of the bytes
 pub name_part : (bytes : List ℕ) (place n m : ℕ) → m ≡ n → place + n ≤ length bytes → bytes_from (byte_at bytes) place n ≡ take m (drop place bytes)

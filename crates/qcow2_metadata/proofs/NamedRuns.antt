@@ -1,13 +1,13 @@
 -- The host clusters that an entry names, as a run.
-use Rattle.std.proofs.Common.{◌≡◌, ◌⊎◌, inl, inr, ℕ, ◌+◌, ◌-◌, ◌*◌, ◌/◌, ◌^◌, ◌≤◌, Bool, true, false, eqb, leb, ltb, Option, Some, None, refl, sym, ap, ◌∙◌, arith}
+use Rattle.std.proofs.Common.{◌≡◌, inl, inr, ℕ, ◌+◌, ◌-◌, ◌*◌, ◌/◌, ◌^◌, ◌≤◌, eqb, leb, ltb, Option, Some, None, refl, sym, ap, ◌∙◌, arith}
 use Rattle.std.specs.Prelude.{◌&&◌}
 use Rattle.std.proofs.Math.Nat.{div-mul-le_self}
-use Rattle.std.proofs.lemmas.Bool.{cases_lt, cond-true, cond-false, eq-eqb, ne_eqb, eqb-true, le-leb, lt-leb, lt-ltb, le-ltb, and_from, and_left, and_right, and_parts}
+use Rattle.std.proofs.lemmas.Bool.{cases_lt, eq-eqb, ne_eqb, le-leb, lt-leb, lt-ltb, le-ltb, and_from, and_left, and_right}
 use Rattle.std.proofs.lemmas.Nat.{pow_pos, le-div}
 use Rattle.qcow2_metadata.specs.Bytes.{one_if}
 use Rattle.qcow2_metadata.specs.Header.{HeaderFields}
 use Rattle.qcow2_metadata.specs.Named.{named_by_cover}
-use Rattle.qcow2_metadata.specs.L2Mapping.{IsInReach, run_of_bytes, named_run, run_has, is_same_run, old_data_run}
+use Rattle.qcow2_metadata.specs.L2Mapping.{IsInReach, run_of_bytes, named_run, run_has}
 use Rattle.qcow2_metadata.specs.declared.l2_mapping.L2Mapping.{L2Mapping}
 use Rattle.qcow2_metadata.specs.declared.l2_mapping.L2Mapping.TheVariants.{Data, Zero, Compressed, Uncovered}
 
@@ -44,19 +44,3 @@ pub named_by_value : (cover : L2Mapping) (run : Option (ℕ × ℕ)) (bits : ℕ
     → (h : HeaderFields) (cluster : ℕ) → h.cluster_bits ≡ bits → named_by_cover h cluster cover ≡ run_has run cluster
 named_by_value cover run bits reach is h cluster same =
     named_by_cover-run cover h cluster reach ∙ ap (λ b. run_has (named_run b cover) cluster) same ∙ ap (λ r. run_has r cluster) (sym is)
-
-same_runs : (old new : Option (ℕ × ℕ)) → is_same_run old new ≡ true → old ≡ new
-same_runs None None same = refl
-same_runs None (Some new) same = cc
-same_runs (Some old) None same = cc
-same_runs (Some old) (Some new) same =
-    let first = eqb-true old.0 new.0 (and_parts _ _ same).0 in
-    let count = eqb-true old.1 new.1 (and_parts _ _ same).1 in
-    rw (first, count) refl
-
--- either nothing is dropped, and the same run is named as before; or all is that was named
-pub old_data_run_is : (bits : ℕ) (old new : L2Mapping) → ((old_data_run bits old new ≡ None) × (named_run bits old ≡ named_run bits new)) ⊎ (old_data_run bits old new ≡ named_run bits old)
-old_data_run_is bits old new = by_test (is_same_run (named_run bits old) (named_run bits new)) refl where
-  by_test : (b : Bool) → is_same_run (named_run bits old) (named_run bits new) ≡ b → ((old_data_run bits old new ≡ None) × (named_run bits old ≡ named_run bits new)) ⊎ (old_data_run bits old new ≡ named_run bits old)
-  by_test true is = inl (cond-true _ _ _ is, same_runs _ _ is)
-  by_test false is = inr (cond-false _ _ _ is)

@@ -1,5 +1,5 @@
 -- When an image is consistent.
-use Rattle.std.specs.Prelude.{ℕ, ◌+◌, ◌*◌, ◌/◌, ◌≡◌, ◌≢◌, ◌<◌, ◌≤◌, Bool, IsTrue, Option, Some, None, ⊤}
+use Rattle.std.specs.Prelude.{ℕ, ◌/◌, ◌≡◌, ◌≢◌, ◌<◌, ◌≤◌, Bool, IsTrue, Option, Some, None, ⊤}
 use Rattle.qcow2_metadata.specs.Bytes.{Bytes}
 use Rattle.qcow2_metadata.specs.Header.{HeaderFields, header, HeaderReads, cluster_size, entries_per_cluster, reftable_entries}
 pub use Rattle.qcow2_metadata.specs.Header.{IsAligned}
@@ -59,7 +59,3 @@ pub record Consistent (h : HeaderFields) (b : Bytes) : Type 0 where
 
 abbrev pub IsConsistent : Bytes → Type 0
 IsConsistent b = Consistent (header b) b
-
--- n bytes from a place on lie in one cluster
-abbrev pub IsWithinCluster : HeaderFields → ℕ → ℕ → ℕ → Type 0
-IsWithinCluster h cluster place n = (cluster * cluster_size h ≤ place) × (place + n ≤ cluster * cluster_size h + cluster_size h)

@@ -1,5 +1,5 @@
 -- How often a cluster is named.
-use Rattle.std.specs.Prelude.{ℕ, ◌+◌, ◌-◌, ◌*◌, ◌/◌, ◌^◌, ◌<◌, ◌≤◌, ⊤, Bool, ◌==◌, ◌&&◌, nat_lt, nat_le, Option, Some, None, if◌then◌else◌}
+use Rattle.std.specs.Prelude.{ℕ, ◌+◌, ◌-◌, ◌*◌, ◌/◌, Bool, ◌==◌, ◌&&◌, nat_lt, nat_le, Option, Some, None, if◌then◌else◌}
 use Rattle.qcow2_metadata.specs.Bytes.{Bytes, sum_below, one_if}
 use Rattle.qcow2_metadata.specs.Header.{HeaderFields, cluster_size, entries_per_cluster, reftable_entries}
 use Rattle.qcow2_metadata.specs.Entries.{l1_entry, l2_entry, reftable_entry, host_offset, block_offset}
@@ -35,13 +35,6 @@ named_by_cover h cluster (Data host copied) = in_cluster h cluster host
 named_by_cover h cluster (Zero kept) = named_by_kept h cluster kept
 named_by_cover h cluster (Compressed place sectors) = touched_by h cluster place ((place / 512 + sectors) * 512 - 1)
 named_by_cover h cluster Uncovered = 0
-
--- what is compressed ends before 2 ^ 63
-abbrev pub IsNear : L2Mapping → Type 0
-IsNear (Data host copied) = ⊤
-IsNear (Zero kept) = ⊤
-IsNear (Compressed place sectors) = (place < 2 ^ 61) × (0 < sectors) × (sectors ≤ 2 ^ 14)
-IsNear Uncovered = ⊤
 
 unfoldable pub named_by_header : HeaderFields → ℕ → ℕ
 named_by_header h cluster =

@@ -1,10 +1,6 @@
 -- The bytes of cached tables, and the contents with these laid over.
-use Rattle.std.specs.Prelude.{ℕ, ◌+◌, ◌-◌, ◌*◌, ◌/◌, ◌%◌, ◌^◌, ◌≡◌, ◌==◌, Bool, List, [], ◌∷◌, slice_index, nat_lt, ◌&&◌, if◌then◌else◌}
-use Rattle.std.specs.List.{count_by}
+use Rattle.std.specs.Prelude.{ℕ, ◌+◌, ◌-◌, ◌*◌, ◌/◌, ◌%◌, ◌^◌, Bool, List, [], ◌∷◌, slice_index, nat_lt, ◌&&◌, if◌then◌else◌}
 use Rattle.qcow2_metadata.specs.Bytes.{Bytes, is_within, sum_below}
-use Rattle.qcow2_metadata.specs.Header.{header}
-use Rattle.qcow2_metadata.specs.Entries.{count}
-use Rattle.qcow2_metadata.specs.Named.{named}
 
 -- the bytes of a table of 64-bit entries
 unfoldable pub bytes_of_entries : List ℕ → Bytes
@@ -31,8 +27,3 @@ overlays size t i = t.is_modified && is_within t.place size i
 unfoldable pub known : ℕ → List CachedTable → Bytes → Bytes
 known size [] b i = b i
 known size (t ∷ tables) b i = if overlays size t i then t.bytes (i - t.place) else known size tables b i
-
--- each cluster is counted as often as it is named, is pending, and its surplus says
-abbrev pub HasSurplus : Bytes → List ℕ → (ℕ → ℕ) → Type 0
-HasSurplus b pending surplus =
-    (cluster : ℕ) → named (header b) b cluster + count_by (λ c. c == cluster) pending + surplus cluster ≡ count (header b) b cluster

@@ -29,9 +29,6 @@ pub none_refused : {A E : Type 0} (X : Type 0) (o : Option E) (a : A) → IfSome
 none_refused X None a early = refl
 none_refused X (Some e) a early = absurd (let no : Ok a ≡ Err e = early.0 in cc)
 
-pub never_refused : {A E : Type 0} (X : Type 0) (P : E → Type 0) (o : Option E) (a : A) → IfSome o (λ e. (Ok a ≡ Err e) × X) → IfSome o P
-never_refused X P o a early = subst (λ q. IfSome q P) (sym (none_refused X o a early)) tt
-
 -- ---- an image keeps itself
 
 pub same_itself : {S F : Type 0} {old new : Qcow2 S F} → new ≡ old → KeepsItself old new

@@ -9,7 +9,7 @@ use Rattle.qcow2_metadata.specs.L2Table.{L2TableView}
 use Rattle.qcow2_metadata.specs.RefBlock.{RefBlockView}
 use Rattle.qcow2_metadata.specs.Tables.{CachedTable, overlays}
 use Rattle.qcow2_laws.specs.Clusters.{Direction, Neither, L2DependsOnRb, RbDependsOnL2}
-use Rattle.qcow2_laws.specs.Caches.{IsFreeAt, AreClean, BlocksMayGo, TablesMayGo}
+use Rattle.qcow2_laws.specs.Caches.{IsFreeAt, AreClean, BlocksMayGo}
 use Rattle.qcow2_laws.proofs.Lists.{unmodified_over}
 use Rattle.qcow2_alloc.specs.declared.async_lru_cache.slot.Slot.{Slot}
 use Rattle.qcow2_alloc.specs.declared.async_lru_cache.error.CacheError.{CacheError}
@@ -180,12 +180,6 @@ tables_as {S} a b same clean =
 pub blocks_as : {S : Type 0} (a b : MetadataCaches S) → b.rb ≡ a.rb → AreClean (refblocks a) → AreClean (refblocks b)
 blocks_as {S} a b same clean =
     subst (λ (rb : Cache (RefBlockCacheBackend S) ℕ RefBlockView). AreClean (cached_tables rb.backend.header.fields.cluster_bits (λ (b : RefBlockView). b.bytes) (λ b. b.is_modified) rb.entries)) (sym same) clean
-
--- where no table is modified, L2 tables may be written
-pub tables_go : (d : Direction) (ts : List CachedTable) → AreClean ts → TablesMayGo d ts
-tables_go Neither ts clean = tt
-tables_go L2DependsOnRb ts clean = clean
-tables_go RbDependsOnL2 ts clean = tt
 
 -- and the entry that goes next isn't
 either_clean : {V : Type 0} (is_modified : V → Bool) (a b : Option (ℕ × Slot V)) → IfSome a (λ e. is_modified e.1.value ≡ false) → IfSome b (λ e. is_modified e.1.value ≡ false) → IfSome (option_or a b) (λ e. is_modified e.1.value ≡ false)

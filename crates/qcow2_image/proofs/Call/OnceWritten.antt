@@ -179,12 +179,6 @@ module _ {S F : Type 0} (view : S → StorageView) where
       | inr tables ↦ inr (subst (λ n. Rose n new.file.caches.changes) tables_same tables)
     ]
 
-    begun_rose : (new : Qcow2 S F) → ChangesRose old new → ChangesRose begun new
-    begun_rose new rose = elim rose [
-      | inl storage ↦ inl (subst (λ n. Rose n (changes_of new.file.storage)) (sym begins.counts) storage)
-      | inr tables ↦ inr (subst (λ n. Rose n new.file.caches.changes) (sym tables_same) tables)
-    ]
-
     more_begun : (new : Qcow2 S F) → HasMoreChanges old new → HasMoreChanges begun new
     more_begun new more = elim more [
       | inl storage ↦ inl (subst (λ n. n < changes_of new.file.storage) (sym begins.counts) storage)

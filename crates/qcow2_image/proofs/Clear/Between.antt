@@ -297,8 +297,6 @@ module _ {S F : Type 0} (view : S → StorageView) (backing : F → BackingView)
         (subst (λ n. ClearsPart view backing how n ((g + count) * cluster_size h) mid (record mid { file = record mid.file { caches = b.file.caches; free_list = mid.file.free_list ++ listed_by how h known g count } }) out) begins_at at_end)))
 
     -- ---- counts stay meanwhile
-    abbrev at_last : Qcow2 S F
-    at_last = record mid { file = record mid.file { caches = b.file.caches; free_list = mid.file.free_list ++ listed_by how h known g count } }
 
     part : AreCleared view backing how (l1_index_of h from) (l2_index_of h from) count mid b.file.caches out p
     part = clears.part out p (l1_index_of h from) may

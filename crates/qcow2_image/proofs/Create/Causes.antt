@@ -1,5 +1,5 @@
 -- Why an image isn't created: what its parts meet, and when a storage's failure is told.
-use Rattle.std.proofs.Common.{[], List, ◌≡◌, ◌⊎◌, ◌≢◌, inl, inr, ⊎_elim, ℕ, ◌+◌, ◌^◌, ◌<◌, ◌≤◌, Bool, true, false, Option, Some, None, Result, Ok, Err, refl, sym, ap, ◌∙◌, subst, arith}
+use Rattle.std.proofs.Common.{[], List, ◌≡◌, ◌≢◌, inl, inr, ℕ, ◌+◌, ◌^◌, ◌<◌, ◌≤◌, true, Option, Some, None, Result, Ok, Err, refl, sym, ap, ◌∙◌, subst, arith}
 use Rattle.std.specs.Prelude.{IfErr, IsTrue, not}
 use Rattle.std.specs.Option.{option_or}
 use Rattle.std.specs.Int.{bit_at, trailing_zeros, w64}
@@ -19,7 +19,6 @@ use Rattle.qcow2_metadata.specs.Consistent.{IsConsistent}
 use Rattle.qcow2_laws.specs.NewImages.{IsNewImage}
 use Rattle.qcow2_disk.specs.AbstractImages.{IsOpened}
 use Rattle.qcow2_alloc.specs.Faults.{FaultsTold}
-use Rattle.qcow2_alloc.proofs.Faults.{told_since}
 use Rattle.qcow2_image.proofs.Prepare.Lacked.{limits_as}
 use Rattle.qcow2_image.proofs.Sizes.{sound_is_usable}
 use Rattle.qcow2_alloc.specs.ImageError.{IsFault}
@@ -27,7 +26,7 @@ use Rattle.qcow2_alloc.specs.LoadedTables.{ReftableFits}
 use Rattle.qcow2_image.specs.declared.image.Missing.TheVariants as N
 use Rattle.qcow2_image.specs.declared.image.Qcow2.{Qcow2}
 use Rattle.qcow2_image.specs.CountedOpening.{OpeningCounts}
-use Rattle.qcow2_image.specs.Faults.{CountsImageFaults, IsNotOfStorage}
+use Rattle.qcow2_image.specs.Faults.{CountsImageFaults}
 use Rattle.qcow2_image.specs.Image.{is_writable, storage_of_image}
 use Rattle.qcow2_image.specs.ImageInvariant.{abstract_of, faults_below}
 use Rattle.qcow2_image.specs.Created.{CantEnlarge, IsAllowed, IsCreated, IsReasonNotToCreate, IsReasonNotToCreateOpen, LacksPlaceCreating, longest_disk, none_below}
@@ -74,10 +73,6 @@ opening_unlimited contents I.Dependency new why = tt
 opening_unlimited contents e new why = absurd why
 
 -- ---- failures of the storage
-
--- a step that asks no storage
-pub told_other : {T : Type 0} (before : ℕ) (e : ImageError) → IsNotOfStorage e → FaultsTold {T = T} before before (Err e)
-told_other before e other = record { no_fewer = omega arith; rose = λ is. absurd (other (cc is)); told = λ no. refl }
 
 module _ {S F : Type 0} (view : S → StorageView) where
   -- an opening that is refused, and what it is told as
@@ -130,12 +125,6 @@ no_power n other bits lt is =
     ]
 
 module _ {S : Type 0} (builder : Qcow2CreateBuilder S) where
-  pub no_such_clusters : ((bits : ℕ) → bits < 64 → builder.cluster_size ≢ 2 ^ bits) → ¬ IsAllowed builder
-  no_such_clusters none allowed = none allowed.cluster_bits (let high = allowed.no_larger in omega (arith, high)) allowed.cluster_size_is
-
-  pub no_such_counts : ((bits : ℕ) → bits < 64 → builder.refcount_width ≢ 2 ^ bits) → ¬ IsAllowed builder
-  no_such_counts none allowed = none allowed.refcount_order (let high = allowed.no_wider in omega (arith, high)) allowed.refcount_width_is
-
   pub no_such_header : (bits order : ℕ) → builder.cluster_size ≡ 2 ^ bits → builder.refcount_width ≡ 2 ^ order → ¬ CanBeNew bits order None None None → ¬ IsAllowed builder
   no_such_header bits order clusters counts none allowed =
       let same : allowed.cluster_bits ≡ bits = same_power allowed.cluster_bits bits (sym allowed.cluster_size_is ∙ clusters) in
@@ -218,15 +207,6 @@ module _ {S : Type 0} (builder : Qcow2CreateBuilder S) where
     opening_reasons storage (Err refused) made left rightly = opening_reason storage refused.0 made (left.honest made.honest) refused.1 (left.contents made.honest) (rightly.1 made.honest)
 
 module _ {S : Type 0} (view : S → StorageView) where
-  pub told_created : {T : Type 0} (image start mid wrote last : S) (r : Result T ImageError) → start ≡ image → mid ≡ wrote → (view wrote).faults ≡ (view start).faults → FaultsTold (view mid).faults (view last).faults r → FaultsTold (view image).faults (view last).faults r
-  told_created image start mid wrote last r same is stays told =
-      let e : (view start).faults ≡ (view image).faults = ap (λ s. (view s).faults) same in
-      let f : (view mid).faults ≡ (view wrote).faults = ap (λ s. (view s).faults) is in
-      told_since (view image).faults (view mid).faults (view last).faults (f ∙ stays ∙ e) told
-
-  pub told_refused : {T : Type 0} (image start wrote last : S) (e : ImageError) → start ≡ image → last ≡ wrote → FaultsTold {T = T} (view start).faults (view wrote).faults (Err e) → FaultsTold {T = T} (view image).faults (view last).faults (Err e)
-  told_refused {T} image start wrote last e same is told = subst (λ (s : S). FaultsTold {T = T} (view s).faults (view last).faults (Err e)) same (subst (λ (s : S). FaultsTold {T = T} (view start).faults (view s).faults (Err e)) (sym is) told)
-
   -- an image that is made isn't opened
   pub counts_refused : {F T : Type 0} (before : ℕ) (storage : S) (e : ImageError) (r : Result T ImageError) → r ≡ Err e → FaultsTold before (view storage).faults r → OpeningCounts {F = F} view before (Err (storage, e))
   counts_refused before storage e r is told = record { no_fewer = told.no_fewer; rose = λ storage. told.rose (is ∙ ap Err storage); told = λ other. (subst (λ (x : Result _ ImageError). FaultsTold before (view storage).faults x) is told).told other }

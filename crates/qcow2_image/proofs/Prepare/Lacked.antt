@@ -5,7 +5,6 @@ use Rattle.std.proofs.lemmas.Nat.{le-div, pow_pos}
 use Rattle.std.specs.Prelude.{IfErr, IfSome, IsErr, IsErrAnd, IsSome, None, OnOk, max, length, ◌-◌, ◌*◌, ◌/◌, ◌^◌}
 use Rattle.image_access.specs.Backing.{BackingView}
 use Rattle.image_access.specs.Moments.{StorageView}
-use Rattle.qcow2_metadata.specs.Bytes.{Bytes}
 use Rattle.qcow2_metadata.specs.Entries.{count}
 use Rattle.qcow2_metadata.specs.EntryTable.{EntryTableView, HasRoomIfPlaced, IsL1TableOf, IsRefTableOf, entry_count}
 use Rattle.qcow2_metadata.specs.L2Mapping.{IsHostCluster}
@@ -82,8 +81,6 @@ pub needs_new : (mapping : L2Mapping) → is_copied_data mapping ≡ false → (
 needs_new mapping other none place = (not_copied mapping other place, none place)
 
 -- ---- runs of a list
-any : ClusterKind → ℕ → ℕ
-any kind n = n
 
 both_kinds : (kind : ClusterKind) (n : ℕ) → of_tables kind n + of_data kind n ≡ n
 both_kinds Kind.Data n = omega arith

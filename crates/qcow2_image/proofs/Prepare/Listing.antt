@@ -1,11 +1,10 @@
 -- What is listed to be freed while clusters are taken for data: those of reftables that gave way.
 use Rattle.std.proofs.Common.{◌≡◌, ◌∙◌, ℕ, List, [], ◌++◌, Bool, Option, None, Some, inl, inr, refl, sym, ap, subst, append_assoc}
 use Rattle.std.proofs.lemmas.List.{append-nil}
-use Rattle.std.specs.Prelude.{IsTrue, Result, is_some, OnOk, Ok, Err}
+use Rattle.std.specs.Prelude.{IsTrue, is_some}
 use Rattle.qcow2_metadata.specs.EntryTable.{EntryTableView}
 use Rattle.qcow2_alloc.specs.declared.allocation.Allocator.{Allocator}
 use Rattle.qcow2_alloc.specs.declared.clusters_to_free.ClustersToFreeEntry.{ClustersToFreeEntry}
-use Rattle.qcow2_alloc.specs.declared.error.ImageError.{ImageError}
 use Rattle.qcow2_alloc.specs.FreeList.{ListsReftables}
 use Rattle.qcow2_alloc.proofs.FormerReftables.{former_none, former_still, former_then}
 use Rattle.qcow2_image.specs.declared.image.Qcow2.{Qcow2}
@@ -62,11 +61,6 @@ module _ {S F : Type 0} where
         behind = former_then first.before.reftable first.after.reftable then.after.reftable old.file.free_list mid.file.free_list new.file.free_list first.behind
             (subst (λ (a : Allocator). ListsReftables a.reftable then.after.reftable mid.file.free_list new.file.free_list) same then.behind);
       }
-
-  -- a part that is answered
-  pub lists_on : {A : Type 0} (old mid new : Qcow2 S F) (r : Result A ImageError) → ListsFormer old mid → OnOk r (ListsFormer mid new) → OnOk r (ListsFormer old new)
-  lists_on old mid new (Ok x) first then = lists_then old mid new first then
-  lists_on old mid new (Err e) first then = tt
 
   -- ---- reftables that gave way, whatever else is listed or freed
   pub gave_former : (old new : Qcow2 S F) (lists : ListsFormer old new) → GaveWayMeanwhile lists.behind.more old new

@@ -1,6 +1,6 @@
 -- What finding or making an L2 table, and clearing in one, is refused for on a sound image.
 use Rattle.std.proofs.Common.{◌≡◌, inl, inr, ℕ, ◌+◌, ◌-◌, ◌*◌, ◌/◌, ◌%◌, ◌^◌, ◌<◌, ◌≤◌, List, length, Option, Some, Result, Ok, Err, false, refl, sym, ap, ◌∙◌, subst}
-use Rattle.std.specs.Prelude.{◌⊎◌, IfErr, IfSome, IsErr, IsErrAnd, IsSome, None}
+use Rattle.std.specs.Prelude.{◌⊎◌, IfErr, IfSome, IsErr, IsErrAnd, IsSome}
 use Rattle.image_access.specs.Backing.{BackingView}
 use Rattle.image_access.specs.Contents.{overwritten}
 use Rattle.image_access.specs.Moments.{StorageView, Changes, Calls}
@@ -19,14 +19,14 @@ use Rattle.qcow2_alloc.specs.declared.image_storage.ImageStorage.{ImageStorage}
 use Rattle.qcow2_alloc.proofs.AllocationSteps.{handed_on}
 use Rattle.qcow2_image.specs.Backings.{HasPrepared}
 use Rattle.qcow2_image.specs.CallParts.{RefusedCall, UnseenCall}
-use Rattle.qcow2_image.specs.Clearing.{IsClearable, IsUnderMapping, RefusesClearing, from_in, refuses_to_clear}
+use Rattle.qcow2_image.specs.Clearing.{IsClearable}
 use Rattle.qcow2_image.specs.declared.discarding.Clearance.{Clearance}
 use Rattle.qcow2_image.specs.declared.image.Qcow2.{Qcow2}
 use Rattle.qcow2_image.specs.declared.prepared.Prepared.{Prepared}
 use Rattle.qcow2_image.specs.Found.{l1_index_of}
-use Rattle.qcow2_image.specs.ImageInvariant.{ImageInvariant, abstract_of, pending_in}
+use Rattle.qcow2_image.specs.ImageInvariant.{ImageInvariant, pending_in}
 use Rattle.qcow2_image.specs.L1Entries.{NeedsFarEntry}
-use Rattle.qcow2_image.specs.MetAlone.{IsMetAlone, IsMetLooking, IsMetTaking}
+use Rattle.qcow2_image.specs.MetAlone.{IsMetAlone, IsMetLooking}
 use Rattle.qcow2_image.specs.NewTables.{IsStored}
 use Rattle.qcow2_image.specs.UnseenSteps.{HoldsTable}
 use Rattle.qcow2_image.proofs.Clear.Between.{fits_table}
@@ -84,9 +84,3 @@ pub far_before : {S F : Type 0} (old begun : Qcow2 S F) (offset : ℕ) → begun
 far_before {S} {F} old begun offset rest needs =
     let is = subst (λ (i : Qcow2 S F). NeedsFarEntry i offset) rest needs in
     (record { within = is.0.within; far = is.0.far }, is.1)
-
--- so a refused clearing is met
-pub met_cleared : {S F A : Type 0} (view : S → StorageView) (backing : F → BackingView) (how : Clearance) (old new : Qcow2 S F) (offset n : ℕ) (r : Result A ImageError) → IfErr r (RefusesClearing view backing how old new offset n) → refuses_to_clear old offset n how ≡ None
-    → (out : List (Option Prepared)) → (abstract_of view backing old out).is_sound → IfErr r (IsMetTaking (HasPrepared out) (IsUnderMapping old.file.header.fields (from_in old offset n) out) ⊥ (NeedsFarEntry old (from_in old offset n)))
-met_cleared view backing how old new offset n (Ok x) refused none out sound = tt
-met_cleared view backing how old new offset n (Err e) refused none out sound = refused.met none out sound

@@ -1,19 +1,17 @@
-use Rattle.std.proofs.Common.{◌≤◌, ◌+◌, ◌-◌, ℕ, max, sym, ap, ◌∙◌, inl, inr, refl, subst, ◌<◌}
+use Rattle.std.proofs.Common.{◌-◌, sym, ap, ◌∙◌, inl, inr, refl, subst, ◌<◌}
 use Rattle.qcow2_alloc.specs.declared.clusters_to_free.ClustersToFreeEntry.{ClustersToFreeEntry}
-use Rattle.qcow2_alloc.specs.Allocation.{AvoidsUnaligned, run_at, taken_as, is_data, UnseenAllocatorGrowth}
+use Rattle.qcow2_alloc.specs.Allocation.{run_at, taken_as, is_data, UnseenAllocatorGrowth}
 use Rattle.qcow2_alloc.specs.FreeList.{pending_then}
 use Rattle.qcow2_alloc.specs.LowestRuns.{IsLowestRun, IsUsed}
 use Rattle.qcow2_alloc.proofs.AllocationSteps.{of_equal}
-use Rattle.qcow2_alloc.specs.Limits.{EndsAtFirst, IsFaultOr, HasNoPlace}
+use Rattle.qcow2_alloc.specs.Limits.{IsFaultOr, HasNoPlace}
 use Rattle.qcow2_alloc.proofs.FormerReftables.{former_none}
 use Rattle.qcow2_alloc.proofs.ListedAfter.{header_same, lists_none}
 use Rattle.qcow2_alloc.proofs.Faults.{told_ok}
-use Rattle.qcow2_alloc.proofs.Outcomes.{ok_no_err, refused_as, told_memory, told_err}
+use Rattle.qcow2_alloc.proofs.Outcomes.{told_memory, told_err}
 use Rattle.qcow2_alloc.proofs.SparedHeaders.{spares_none}
 use Rattle.qcow2_alloc.proofs.KeptMarks.{kept_marks_none}
 use Rattle.qcow2_alloc.specs.declared.error.ImageError.TheVariants as I
-use Rattle.qcow2_alloc.proofs.HeldRanges.{alone_none}
-use Rattle.qcow2_alloc.specs.HeldRanges.{HoldsCountOf, KeepsRangesHeld, NeedsNoLoad}
 use Rattle.qcow2_alloc.proofs.allocation.Allocator.allocate.Goals as goal
 
 pub returns-in-Ok-lowest_run-clause-sound : goal.returns-in-Ok-lowest_run-clause-sound

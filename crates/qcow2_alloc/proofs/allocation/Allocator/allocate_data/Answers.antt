@@ -1,4 +1,4 @@
-use Rattle.std.proofs.Common.{◌≡◌, ◌≢◌, ◌⊎◌, max, inl, inr, refl, sym, subst, Result, ◌∙◌}
+use Rattle.std.proofs.Common.{◌≡◌, ◌≢◌, ◌⊎◌, inl, inr, refl, sym, subst, Result, ◌∙◌}
 use Rattle.qcow2_laws.specs.CrashInvariant.{Pending}
 use Rattle.qcow2_alloc.specs.declared.clusters_to_free.ClusterKind.TheVariants.{Data}
 use Rattle.qcow2_alloc.specs.declared.image_file.ImageFile.{ImageFile}
@@ -11,11 +11,11 @@ use Rattle.qcow2_alloc.proofs.ListedAfter.{listed_after_same, header_same, lists
 use Rattle.std.specs.Prelude.{IfErr}
 use Rattle.qcow2_alloc.specs.declared.error.ImageError.{ImageError}
 use Rattle.qcow2_alloc.specs.declared.clusters_to_free.ClustersToFreeEntry.{ClustersToFreeEntry}
-use Rattle.qcow2_alloc.specs.Limits.{IsFaultOr, IsOfSearch, IsOfTaking, HasNoPlace}
+use Rattle.qcow2_alloc.specs.Limits.{IsFaultOr, HasNoPlace}
 use Rattle.qcow2_alloc.proofs.FormerReftables.{former_none}
 use Rattle.qcow2_alloc.proofs.CachePins.{marks_then}
 use Rattle.qcow2_alloc.proofs.Faults.{told_on, told_since}
-use Rattle.qcow2_alloc.proofs.Outcomes.{on_no_ok, if_no_ok, handed_cause, handed_why, on_ok, why_as}
+use Rattle.qcow2_alloc.proofs.Outcomes.{on_no_ok, if_no_ok, handed_cause, on_ok, why_as}
 use Rattle.qcow2_alloc.proofs.SparedHeaders.{spares_then, spares_less, spares_cached}
 use Rattle.qcow2_alloc.specs.KeptNotes.{kept_then}
 use Rattle.qcow2_alloc.proofs.MadeClusters.{alone_none, alone_since, made_run}
@@ -23,13 +23,10 @@ use Rattle.qcow2_alloc.specs.MadeClusters.{IsMadeInTurn, TakesAlone}
 use Rattle.qcow2_alloc.specs.FreeList.{run_of}
 use Rattle.qcow2_alloc.specs.LowestRuns.{IsUsed}
 use Rattle.qcow2_metadata.specs.Entries.{count}
-use Rattle.qcow2_alloc.proofs.TurnedCaches.{turned}
 use Rattle.qcow2_alloc.specs.TurnedCaches.{IsOfTurning, TurnsAlone}
 use Rattle.image_access.specs.Moments.{StorageView}
 use Rattle.qcow2_alloc.specs.declared.error.ImageError.TheVariants as I
 use Rattle.std.specs.Result.{IsErrAnd}
-use Rattle.qcow2_alloc.proofs.QuietSearches.{search_after}
-use Rattle.qcow2_alloc.proofs.HeldRanges.{alone_turned, search_turned}
 use Rattle.qcow2_alloc.proofs.allocation.Allocator.allocate_data.Goals as goal
 
 -- the caches were turned before

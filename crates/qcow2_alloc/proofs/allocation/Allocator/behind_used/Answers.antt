@@ -14,10 +14,8 @@ use Rattle.qcow2_alloc.specs.declared.cache.MetadataCaches.{MetadataCaches}
 use Rattle.qcow2_alloc.specs.ImageFile.{contents_in}
 use Rattle.qcow2_alloc.proofs.AllocationSteps.{handed_on, counted_at, none_named}
 use Rattle.qcow2_alloc.proofs.CachedEntries.Putting.{some_of}
-use Rattle.qcow2_alloc.proofs.Outcomes.{handed_unaligned, if_no_ok, ok_no_err}
+use Rattle.qcow2_alloc.proofs.Outcomes.{if_no_ok}
 use Rattle.qcow2_alloc.specs.declared.error.ImageError.TheVariants as I
-use Rattle.qcow2_alloc.proofs.AlignedBlocks.{unaligned_as}
-use Rattle.qcow2_alloc.proofs.HeldRanges.{held_at}
 use Rattle.qcow2_alloc.proofs.allocation.Allocator.behind_used.Goals as goal
 
 -- a cluster behind another one in its range

@@ -1,4 +1,4 @@
-use Rattle.std.proofs.Common.{inr, Option, Some, None, Ok, Err, true, ◌≡◌, mul-pos, ◌≤◌, ◌<◌, inl, ◌*◌, ◌/◌, ◌%◌, ◌^◌, false, sym, ap, ◌∙◌, refl, arith, Result, IsTrue, subst, ℕ}
+use Rattle.std.proofs.Common.{Option, Some, None, Ok, Err, true, ◌≡◌, mul-pos, ◌≤◌, ◌<◌, inl, ◌*◌, ◌/◌, ◌%◌, ◌^◌, false, sym, ap, ◌∙◌, refl, arith, Result, IsTrue, subst, ℕ}
 use Rattle.qcow2_metadata.specs.Entries.{block_offset}
 use Rattle.qcow2_metadata.specs.Header.{counts_per_block}
 use Rattle.qcow2_laws.specs.Changes.{one_at}
@@ -6,7 +6,7 @@ use Rattle.qcow2_alloc.specs.Allocation.{LacksFirst, taken_as, HasNone, GetsBloc
 use Rattle.qcow2_alloc.specs.ImageFile.{IsFault}
 use Rattle.qcow2_alloc.specs.LowestRuns.{KeepsNoFreeBelowHint}
 use Rattle.qcow2_alloc.proofs.FileSteps.{leaves_then}
-use Rattle.qcow2_alloc.proofs.Hints.{has_block, lacking_above, hint_got, hint_placed, hint_refused, hint_stays, ok_as, placed_block, range_as, not_broken}
+use Rattle.qcow2_alloc.proofs.Hints.{lacking_above, hint_got, hint_placed, hint_refused, hint_stays, ok_as, range_as, not_broken}
 use Rattle.qcow2_alloc.proofs.AllocationSteps.{named_then, named_covered, none_named, handed_on, allocator_step_then, gets_then, gets_taken, is_sound_now, none_in_memory, stands_none, still_sound}
 use Rattle.std.specs.Prelude.{IfErr, IsSome}
 use Rattle.std.proofs.Math.Nat.{div-eq_of_lt, div-mul-le_self}
@@ -14,7 +14,7 @@ use Rattle.std.proofs.lemmas.Nat.{pow_pos}
 use Rattle.qcow2_alloc.specs.declared.error.ImageError.{ImageError}
 use Rattle.qcow2_alloc.proofs.Limits.{host_below, is_able, placed_fault, range_near}
 use Rattle.qcow2_alloc.proofs.Faults.{stays_else, told_on, told_ok, told_since}
-use Rattle.qcow2_alloc.proofs.Outcomes.{ok_no_err, not_both, told_limit, told_err, on_no_ok, handed_cause, handed_unaligned, entries_none}
+use Rattle.qcow2_alloc.proofs.Outcomes.{not_both, told_limit, told_err, on_no_ok, handed_cause, entries_none}
 use Rattle.qcow2_metadata.specs.EntryTable.{EntryTableView}
 use Rattle.qcow2_metadata.specs.declared.header.HeaderFields.{HeaderFields}
 use Rattle.qcow2_alloc.specs.declared.error.ImageError.TheVariants as I
@@ -22,7 +22,6 @@ use Rattle.qcow2_metadata.specs.L2Mapping.{IsHostCluster}
 use Rattle.qcow2_alloc.proofs.SparedHeaders.{spares_then}
 use Rattle.qcow2_alloc.proofs.KeptMarks.{kept_marks_then}
 use Rattle.std.specs.Option.{is_some}
-use Rattle.qcow2_alloc.proofs.HeldRanges.{held_at, held_not}
 use Rattle.qcow2_alloc.proofs.allocation.Allocator.ensure_block.Goals as goal
 
 is_unaligned : (h : HeaderFields) (t : EntryTableView) (cluster counts n : ℕ) → n ≡ counts → IsUnaligned h t (cluster / n) → IsUnaligned h t (cluster / counts)

@@ -12,7 +12,6 @@ use Rattle.qcow2_alloc.proofs.Faults.{told_ok}
 use Rattle.qcow2_alloc.proofs.Outcomes.{told_after, handed_cause}
 use Rattle.qcow2_alloc.proofs.SparedHeaders.{spares_none, spares_then}
 use Rattle.qcow2_alloc.proofs.KeptMarks.{kept_marks_none, kept_marks_then}
-use Rattle.qcow2_alloc.proofs.HeldRanges.{none_run, held_more, held_wide}
 use Rattle.qcow2_alloc.proofs.allocation.Allocator.give_back.Goals as goal
 
 pub returns-then-n-eq0-clause-sound : goal.returns-then-n-eq0-clause-sound

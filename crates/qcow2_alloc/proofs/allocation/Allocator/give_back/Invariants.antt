@@ -4,7 +4,6 @@ use Rattle.qcow2_alloc.specs.Allocation.{run_at, taken_as, SameLeaks, UnseenAllo
 use Rattle.qcow2_alloc.specs.KeptMarks.{KeepsMarks}
 use Rattle.qcow2_alloc.specs.Faults.{faults_of}
 use Rattle.qcow2_alloc.specs.declared.image_file.ImageFile.{ImageFile}
-use Rattle.qcow2_alloc.specs.HeldRanges.{KeepsRangesHeld}
 use Rattle.qcow2_alloc.specs.ImageFile.{AllocatorInvariant}
 use Rattle.qcow2_alloc.specs.LowestRuns.{NoFreeBelowHint, IsUsed}
 use Rattle.qcow2_alloc.specs.SparedHeaders.{SparesHeader}

@@ -1,13 +1,10 @@
-use Rattle.std.proofs.Common.{◌≡◌, ◌*◌, ◌%◌, ℕ, refl, sym, ap, inl, subst, arith, true, false, ◌∙◌, ◌^◌}
+use Rattle.std.proofs.Common.{refl, inl, ◌^◌}
 use Rattle.qcow2_alloc.specs.Allocation.{LoadsBlock}
-use Rattle.qcow2_alloc.proofs.KeptTables.Getting.{cluster_aligned}
 use Rattle.qcow2_alloc.proofs.FileSteps.{file_step_cached, reftable_cached}
 use Rattle.qcow2_alloc.proofs.AllocationSteps.{handed_on, place_fits, stands}
 use Rattle.qcow2_alloc.proofs.SparedHeaders.{spares_cached, not_first}
 use Rattle.qcow2_alloc.proofs.KeptMarks.{marks_of_both}
 use Rattle.qcow2_alloc.proofs.AlignedBlocks.{not_off}
-use Rattle.qcow2_alloc.proofs.HeldRanges.{held_none, held_loaded}
-use Rattle.qcow2_alloc.proofs.Outcomes.{if_no_ok}
 use Rattle.qcow2_alloc.proofs.allocation.Allocator.load_block.Goals as goal
 
 pub returns-in_err-rb_get_or_insert-clause-sound : goal.returns-in_err-rb_get_or_insert-clause-sound

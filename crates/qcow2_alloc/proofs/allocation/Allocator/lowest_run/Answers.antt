@@ -11,23 +11,17 @@ use Rattle.qcow2_alloc.proofs.AllocationSteps.{handed_on, may_still, on_none, on
 use Rattle.qcow2_alloc.proofs.ListedAfter.{header_same, header_then, lists_none, lists_same, lists_then, listed_after_same, then_none, then_taken, then_leaves, header_bits}
 use Rattle.std.specs.Prelude.{IsErrOf, IfErr}
 use Rattle.qcow2_alloc.specs.declared.error.ImageError.{ImageError}
-use Rattle.qcow2_alloc.specs.Limits.{EndsAtFirst, IsFaultOr, HasNoPlace, nameable_clusters}
-use Rattle.std.proofs.lemmas.Bool.{cases_lt}
-use Rattle.qcow2_alloc.specs.declared.image_file.ImageFile.{ImageFile}
-use Rattle.qcow2_alloc.proofs.AlignedBlocks.{avoids_as}
+use Rattle.qcow2_alloc.specs.Limits.{IsFaultOr, HasNoPlace, nameable_clusters}
 use Rattle.qcow2_alloc.proofs.Limits.{full_behind, limit_is_no_fault}
 use Rattle.qcow2_alloc.proofs.KeptMarks.{kept_marks_none, kept_marks_then}
 use Rattle.qcow2_alloc.proofs.allocation.Allocator.lowest_run.Goals.{then-search-test+then-n-limit+else-first-limit, then-search-test+else-n-limit, else-search-test}
 use Rattle.qcow2_alloc.proofs.FormerReftables.{former_none, former_still, former_then}
 use Rattle.qcow2_alloc.proofs.Faults.{told_ok}
-use Rattle.qcow2_alloc.proofs.Outcomes.{ok_no_err, err_as, handed_why, refused_as, told_limit, told_after, on_no_ok, if_no_ok, handed_cause}
+use Rattle.qcow2_alloc.proofs.Outcomes.{ok_no_err, told_limit, told_after, on_no_ok, if_no_ok, handed_cause}
 use Rattle.qcow2_alloc.proofs.SparedHeaders.{spares_none, spares_then, spares_less}
 use Rattle.qcow2_metadata.specs.EntryTable.{EntryTableView}
 use Rattle.qcow2_metadata.specs.declared.header.HeaderFields.{HeaderFields}
 use Rattle.qcow2_alloc.specs.declared.error.ImageError.TheVariants as I
-use Rattle.qcow2_alloc.proofs.QuietSearches.{looks_none, search_ends, search_on}
-use Rattle.qcow2_alloc.specs.HeldRanges.{SearchesHeld}
-use Rattle.qcow2_alloc.proofs.HeldRanges.{alone_none, none_run, held_more, held_run, rest_run, rest_passed}
 use Rattle.qcow2_alloc.proofs.allocation.Allocator.lowest_run.Goals as goal
 
 pub returns-in_err-taken-clause-sound : goal.returns-in_err-taken-clause-sound

@@ -6,9 +6,8 @@ use Rattle.qcow2_alloc.proofs.AllocationSteps.{handed_on, allocator_step_as}
 use Rattle.qcow2_alloc.proofs.Hints.{hint_passed, hint_stays, hint_refused}
 use Rattle.qcow2_alloc.proofs.allocation.Allocator.pass_used.Goals.{then-cluster-self, else-cluster-self}
 use Rattle.qcow2_alloc.proofs.SparedHeaders.{spares_as}
-use Rattle.qcow2_alloc.proofs.Outcomes.{handed_unaligned, if_no_ok, ok_no_err}
+use Rattle.qcow2_alloc.proofs.Outcomes.{if_no_ok}
 use Rattle.qcow2_alloc.specs.declared.error.ImageError.TheVariants as I
-use Rattle.qcow2_alloc.proofs.HeldRanges.{held_as}
 use Rattle.qcow2_alloc.proofs.allocation.Allocator.pass_used.Goals as goal
 
 pub returns-in_err-next-clause-sound : goal.returns-in_err-next-clause-sound

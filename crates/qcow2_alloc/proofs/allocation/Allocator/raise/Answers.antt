@@ -3,9 +3,7 @@ use Rattle.std.specs.Prelude.{IfErr}
 use Rattle.std.proofs.lemmas.Bool.Decides.{nat_tests}
 use Rattle.qcow2_metadata.specs.Entries.{block_offset, count}
 use Rattle.qcow2_metadata.specs.TableBytes.{entry_at}
-use Rattle.qcow2_alloc.specs.Allocation.{HasAlignedBlock, NamesBlock, TakesOne}
-use Rattle.qcow2_alloc.proofs.AlignedBlocks.{unaligned_as}
-use Rattle.qcow2_alloc.proofs.Outcomes.{if_no_ok, ok_no_err, handed_unaligned}
+use Rattle.qcow2_alloc.specs.Allocation.{TakesOne}
 use Rattle.qcow2_alloc.specs.declared.error.ImageError.TheVariants as I
 use Rattle.qcow2_alloc.specs.declared.error.ImageError.{ImageError}
 use Rattle.qcow2_alloc.specs.ImageFile.{IsFault, known_in, contents_in}
@@ -18,13 +16,6 @@ use Rattle.qcow2_alloc.proofs.allocation.Allocator.raise.Goals.{then-rb_is_zero,
 use Rattle.qcow2_alloc.proofs.SparedHeaders.{spares_then, spares_tables}
 use Rattle.qcow2_alloc.specs.SparedHeaders.{SparesHeader}
 use Rattle.qcow2_alloc.specs.declared.image_file.ImageFile.{ImageFile}
-use Rattle.qcow2_alloc.proofs.QuietSearches.{counts_held}
-use Rattle.qcow2_alloc.proofs.HeldRanges.{held_at, held_by, held_then, held_changed, more_held}
-use Rattle.qcow2_alloc.specs.QuietSearches.{CountsQuietly}
-use Rattle.std.specs.Option.{is_some}
-use Rattle.qcow2_metadata.specs.Header.{counts_per_block}
-use Rattle.qcow2_alloc.specs.HeldRanges.{HoldsCountOf, KeepsRangeHeld}
-use Rattle.qcow2_alloc.proofs.HeldRanges.{holds_at, range_still}
 use Rattle.qcow2_alloc.proofs.allocation.Allocator.raise.Goals as goal
 
 zero_of : (n : _) → (n == 0) ≡ true → n ≡ 0

@@ -1,4 +1,4 @@
-use Rattle.std.proofs.Common.{◌≡◌, sym, ap, subst, ◌/◌, arith, ◌^◌, ◌∙◌, Result, inr}
+use Rattle.std.proofs.Common.{sym, ap, subst, ◌/◌, arith, ◌^◌, ◌∙◌, Result}
 use Rattle.qcow2_laws.specs.CrashInvariant.{Pending}
 use Rattle.qcow2_metadata.specs.Header.{counts_per_block}
 use Rattle.qcow2_alloc.specs.Allocation.{GrowsTable}
@@ -18,9 +18,7 @@ use Rattle.qcow2_alloc.proofs.Faults.{told_on, told_since}
 use Rattle.qcow2_alloc.proofs.Outcomes.{on_no_ok, handed_cause}
 use Rattle.qcow2_alloc.proofs.SparedHeaders.{spares_then, spares_less}
 use Rattle.qcow2_alloc.proofs.KeptMarks.{kept_marks_then}
-use Rattle.std.proofs.Math.Nat.{div-eq_of_lt}
 use Rattle.qcow2_alloc.proofs.MadeClusters.{lists_used_none, lists_used_one, lists_used_still}
-use Rattle.qcow2_alloc.proofs.HeldRanges.{held_past}
 use Rattle.qcow2_alloc.proofs.allocation.Allocator.reach_block.Goals as goal
 
 pub returns-then-in_bounds-clause-sound : goal.returns-then-in_bounds-clause-sound

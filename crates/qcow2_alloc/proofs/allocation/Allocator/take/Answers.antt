@@ -10,20 +10,15 @@ use Rattle.qcow2_alloc.proofs.AllocationSteps.{handed_on, leaves_as, leaves_on, 
 use Rattle.qcow2_alloc.proofs.ListedAfter.{header_counts, header_then, header_same, lists_then, lists_same}
 use Rattle.qcow2_alloc.proofs.KeptMarks.{kept_marks_then}
 use Rattle.qcow2_alloc.proofs.allocation.Allocator.take.Goals.{then-cluster-self, else-cluster-self}
-use Rattle.std.specs.Prelude.{IsErrOf, IfErr}
+use Rattle.std.specs.Prelude.{IfErr}
 use Rattle.qcow2_alloc.specs.declared.error.ImageError.{ImageError}
 use Rattle.qcow2_alloc.specs.Limits.{CantCount, IsFaultOr}
-use Rattle.qcow2_alloc.proofs.AlignedBlocks.{aligned_as}
 use Rattle.qcow2_alloc.proofs.FormerReftables.{former_still}
 use Rattle.qcow2_alloc.proofs.Faults.{told_on, told_ok}
-use Rattle.qcow2_alloc.proofs.Outcomes.{err_as, ok_no_err, told_after, if_no_ok, handed_cause, handed_unaligned}
+use Rattle.qcow2_alloc.proofs.Outcomes.{told_after, if_no_ok, handed_cause}
 use Rattle.qcow2_alloc.specs.declared.error.ImageError.TheVariants as I
 use Rattle.qcow2_alloc.proofs.SparedHeaders.{spares_then, spares_less, spares_as}
 use Rattle.qcow2_alloc.proofs.MadeClusters.{lists_used_still}
-use Rattle.qcow2_alloc.proofs.QuietSearches.{counts_then}
-use Rattle.qcow2_alloc.proofs.HeldRanges.{held_as, held_next}
-use Rattle.qcow2_metadata.specs.EntryTable.{EntryTableView}
-use Rattle.qcow2_alloc.specs.HeldRanges.{HoldsCountOf}
 use Rattle.qcow2_alloc.proofs.allocation.Allocator.take.Goals as goal
 
 pub returns-in_err-reach_block-clause-sound : goal.returns-in_err-reach_block-clause-sound

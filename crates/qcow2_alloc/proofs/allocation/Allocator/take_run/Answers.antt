@@ -5,7 +5,7 @@ use Rattle.qcow2_laws.specs.CrashInvariant.{Pending}
 use Rattle.qcow2_alloc.specs.declared.allocation.Allocator.{Allocator}
 use Rattle.qcow2_alloc.specs.declared.error.ImageError.{ImageError}
 use Rattle.qcow2_alloc.specs.declared.image_file.ImageFile.{ImageFile}
-use Rattle.qcow2_alloc.specs.Allocation.{AvoidsUnaligned, IsUnaligned, LacksFirst, LacksBlock, run_at, taken_as, UnseenAllocatorGrowth, RefusedGrowth, TakesRun}
+use Rattle.qcow2_alloc.specs.Allocation.{IsUnaligned, LacksFirst, LacksBlock, run_at, taken_as, UnseenAllocatorGrowth, RefusedGrowth, TakesRun}
 use Rattle.qcow2_alloc.specs.FreeList.{pending_then, ListsTables}
 use Rattle.qcow2_alloc.specs.ImageFile.{IsFault, KeepsHeader}
 use Rattle.qcow2_alloc.proofs.AllocationSteps.{handed_on, of_equal, may_still, on_none, is_sound_on, still_as}
@@ -20,10 +20,9 @@ use Rattle.std.specs.Prelude.{IsErrOf, IfErr}
 use Rattle.qcow2_metadata.specs.L2Mapping.{IsHostCluster}
 use Rattle.qcow2_alloc.specs.Limits.{CantCount, CantCountRun, IsFaultOr}
 use Rattle.qcow2_alloc.proofs.Limits.{cause_as, count_back, host_of_few}
-use Rattle.qcow2_alloc.proofs.AlignedBlocks.{aligned_as, avoids_more, avoids_none, avoids_then}
 use Rattle.qcow2_alloc.proofs.FormerReftables.{former_none, former_then, former_still}
 use Rattle.qcow2_alloc.proofs.Faults.{stays_else, told_ok, told_since}
-use Rattle.qcow2_alloc.proofs.Outcomes.{ok_no_err, err_as, told_after, if_no_ok, handed_cause, told_err, told_still, not_both}
+use Rattle.qcow2_alloc.proofs.Outcomes.{told_after, if_no_ok, handed_cause, told_err, told_still, not_both}
 use Rattle.qcow2_alloc.specs.Faults.{FaultsTold, faults_of}
 use Rattle.qcow2_alloc.proofs.SparedHeaders.{spares_none, spares_then, spares_less}
 use Rattle.qcow2_alloc.specs.SparedHeaders.{SparesHeaderButPointer}
@@ -31,9 +30,6 @@ use Rattle.qcow2_metadata.specs.Header.{counts_per_block}
 use Rattle.qcow2_metadata.specs.EntryTable.{EntryTableView}
 use Rattle.qcow2_metadata.specs.declared.header.HeaderFields.{HeaderFields}
 use Rattle.qcow2_alloc.specs.declared.error.ImageError.TheVariants as I
-use Rattle.qcow2_alloc.proofs.QuietSearches.{first_free, first_used, run_ends}
-use Rattle.qcow2_alloc.proofs.HeldRanges.{none_run, run_held_as, held_more, held_back, held_wide}
-use Rattle.qcow2_alloc.specs.HeldRanges.{HoldsCountOf}
 use Rattle.qcow2_alloc.proofs.allocation.Allocator.take_run.Goals as goal
 
 -- none, where there aren't some

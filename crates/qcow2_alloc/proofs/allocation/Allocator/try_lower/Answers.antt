@@ -14,7 +14,6 @@ use Rattle.qcow2_alloc.proofs.KeptMarks.{kept_marks_then, marks_of_caches}
 use Rattle.qcow2_alloc.specs.declared.error.ImageError.TheVariants as I
 use Rattle.qcow2_alloc.proofs.AlignedBlocks.{unaligned_as}
 use Rattle.qcow2_alloc.proofs.Outcomes.{handed_unaligned, ok_no_err}
-use Rattle.qcow2_alloc.proofs.HeldRanges.{held_as, held_at, held_then, held_changed, less_held}
 use Rattle.qcow2_alloc.proofs.allocation.Allocator.try_lower.Goals as goal
 
 pub returns-in_err-block-clause-sound : goal.returns-in_err-block-clause-sound
