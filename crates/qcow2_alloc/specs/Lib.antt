@@ -24,7 +24,6 @@ pub mod ImageFile
 pub mod Allocation
 pub mod LowestRuns
 pub mod UsedCounts
-pub mod QuietSearches
 pub mod KeptAllocators
 pub mod SoundAllocators
 pub mod FreeList
