@@ -1,8 +1,22 @@
 # qimg    proves and builds the program, and leaves it as build/qimg
 # tools   the same of qimg-tools, left as build/qimg-tools
 # demo    makes an image in a new folder, writes a cluster and reads it back, by the program as it stands in the source, before any proof
-# test    every proof, every wrong body, every test, and the scripts under tests/
+# test    every proof, wrong bodies, every test, and the scripts under tests/; with ANEW=1 nothing is taken from what earlier runs proved
+# bodies  every wrong body, or with names of crates behind it (make bodies qcow2_alloc) each of theirs
 # bench   qimg beside QEMU's tools on the same work
+
+ifeq ($(firstword $(MAKECMDGOALS)),bodies)
+
+crates := $(wordlist 2, $(words $(MAKECMDGOALS)), $(MAKECMDGOALS))
+
+.PHONY: bodies $(crates)
+
+bodies:
+	@tests/wrong_bodies.py $(or $(crates), --all)
+
+$(crates): bodies ; @:
+
+else
 
 .PHONY: qimg tools demo test bench
 
@@ -24,8 +38,10 @@ demo:
 	printf 'fill 0 512 11\nflush\nread 0 4\n' | try run "$$folder/disk.qcow2"
 
 test:
-	@tests/all.py
+	@tests/all.py $(if $(ANEW), --anew)
 
 bench: qimg
 	@tests/install.sh
 	@bench/compare.py
+
+endif

@@ -1,6 +1,7 @@
 #!/usr/bin/env python3
-"""Runs the merge gate, then the scripts on real files and the tests of the crates, and beside all these the wrong bodies. At the end stands how long each part took, what it took of
-processors, and what failed; the last line sums what passed and what failed."""
+"""Runs the merge gate, then the scripts on real files and the tests of the crates, and beside all these wrong bodies, of which tests/choice.py says which ones. With --anew the gate takes
+nothing from what earlier runs proved. At the end stands how long each part took, what it took of processors, how many wrong bodies were tried and how many left, and what failed; the last
+line sums what passed and what failed."""
 
 import os
 import re
@@ -14,6 +15,7 @@ import time
 ROOT = os.path.dirname(os.path.dirname(os.path.abspath(__file__)))
 FAILURES = re.compile(r"NOT PROVED|NOT REFUSED|NOT TRIED|BAD EDIT|FAILED|: error")
 PROVED = re.compile(r"rt: (\w+) (?:proved$|is kept: )")
+TRIED = re.compile(r"wrong bodies: \d+ of \d+ tried, \d+ left")
 SCRIPTS = ["tests/program.py", "tests/causes.py", "tests/writes.py", "tests/prepared.py", "tests/clearing.py", "tests/resizing.py", "tests/preallocation.py", "tests/failures.py", "tests/caches.py", "tests/stops.py", "tests/interop/write.py", "tests/interop/growing.py", "tests/interop/open.py", "tests/interop/versions.py", "tests/interop/overlay.py", "tests/hostile.py", "tests/convert.py", "tests/check.py", "tests/tools.py", "tests/pages.py"]
 
 
@@ -59,10 +61,10 @@ def has_program(crate, name, target):
 
 
 class Parts:
-    """The parts of a run: what each counted, how long it took and what of processors, and the lines that tell of failures."""
+    """The parts of a run: what each counted, how long it took and what of processors, the lines that tell of failures, and those that tell what was tried."""
 
     def __init__(self):
-        self.results, self.times, self.told, self.began = [], [], [], time.monotonic()
+        self.results, self.times, self.told, self.tried, self.began = [], [], [], [], time.monotonic()
 
     def run(self, name, work):
         """Does a part, which answers its counts and the seconds that it took of processors."""
@@ -73,7 +75,12 @@ class Parts:
 
     def command(self, name, words):
         """Runs a part that is a command with a count."""
-        self.run(name, lambda: counts(words, self.told))
+        self.run(name, lambda: counts(words, self.told, self.note))
+
+    def note(self, line):
+        """Keeps a line that tells how many wrong bodies were tried."""
+        if TRIED.match(line):
+            self.tried.append(line.rstrip())
 
     def tell(self):
         """Prints the times, what failed and the sums, and answers whether anything failed."""
@@ -82,6 +89,7 @@ class Parts:
         for name, seconds, used in [*self.times, ("all", time.monotonic() - self.began, all_used)]:
             print(f"{name}: {seconds / 60:.1f} minutes, {used / 60:.1f} of a processor")
         print(f"on {len(os.sched_getaffinity(0))} processors")
+        print(*self.tried, sep="\n")
         if failed:
             print("what failed:", *self.told[-40:], sep="\n")
         print(f"{passed} passed, {failed} failed")
@@ -101,14 +109,14 @@ def scripts(parts):
             parts.command(script, [script])
 
 
-def gate(file, told):
+def gate(file, told, words):
     """Runs the merge gate, and writes the name of each crate that it has proved to a file."""
 
     def note(line):
         for name in PROVED.findall(line):
             append(file, name)
 
-    return counts(["rt", "ci"], told, note)
+    return counts(["rt", "ci", *words], told, note)
 
 
 def append(file, line):
@@ -117,11 +125,11 @@ def append(file, line):
         it.write(line + "\n")
 
 
-def in_turn(parts, file):
+def in_turn(parts, file, words):
     """Runs the gate, and what needs no more than it has made: the scripts, how wrong bodies are tried, and the tests of the crates. Then the file of crates that are proved gets a line
     `end`."""
     try:
-        parts.run("the gate", lambda: gate(file, parts.told))
+        parts.run("the gate", lambda: gate(file, parts.told, words))
         scripts(parts)
         parts.command("the trial of the wrong bodies", ["tests/trial.py"])
         parts.command("the tests of the crates", ["tests/units.py"])
@@ -129,16 +137,18 @@ def in_turn(parts, file):
         append(file, "end")
 
 
-def main():
+def main(words):
+    if words not in ([], ["--anew"]):
+        sys.exit("usage: tests/all.py [--anew]")
     parts = Parts()
     with tempfile.TemporaryDirectory() as room:
         file = f"{room}/proved"
         open(file, "w", encoding="utf-8").close()
-        beside = threading.Thread(target=in_turn, args=(parts, file))
+        beside = threading.Thread(target=in_turn, args=(parts, file, words))
         beside.start()
         parts.command("the wrong bodies, begun with the gate", ["tests/wrong_bodies.py", "--beside", file])
         beside.join()
     return int(parts.tell())
 
 
-sys.exit(main())
+sys.exit(main(sys.argv[1:]))

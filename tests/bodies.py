@@ -5,6 +5,7 @@ copied. A copy has the function's attributes, contract and answers, or of these 
 import os
 import re
 from dataclasses import dataclass, field
+from functools import lru_cache
 
 import clauses
 from promises import read
@@ -15,7 +16,7 @@ BLOCK = re.compile(r"(pub(\([^)]*\))? )?(impl|trait)\b")
 OF_A_TRAIT = re.compile(r"\btrait\b|\bfor\s+(?!<)")
 
 
-@dataclass
+@dataclass(eq=False)
 class WrongBody:
     """One wrong body: its name, its place in the list, the function that it is in, the clause that alone is to refuse it where one is named, or the call that does so by what it requires, and
     what takes the place of what."""
@@ -36,11 +37,12 @@ class WrongBody:
             text = text.replace(old, new)
         return text
 
+    @lru_cache(maxsize=8)
     def place(self, text):
         """The number of the last line that it changes, from 0, in the file's text; where it changes none, that of its function's first line."""
-        pairs = list(zip(text.split("\n"), (self.changed(text) or text).split("\n")))
-        changed = [i for i, (before, after) in enumerate(pairs) if before != after]
-        return max(changed) if changed else next((i for i, (it, _) in enumerate(pairs) if self.begins(it)), 0)
+        lines, after = text.split("\n"), (self.changed(text) or text).split("\n")
+        changed = next((i for i in reversed(range(len(lines))) if lines[i] != after[i]), None)
+        return next((i for i, it in enumerate(lines) if self.begins(it)), 0) if changed is None else changed
 
     def own_name(self):
         """The name of its function, without the path."""
@@ -50,10 +52,11 @@ class WrongBody:
         """Whether its function begins with a line."""
         return bool(START.match(line)) and bool(re.search(rf"\bfn {self.own_name()}\b", line))
 
+    @lru_cache(maxsize=8)
     def first(self, text):
         """The number of its function's line with `fn`, from 0, in the file's text, or None where what it changes stands in no function of that name."""
         lines = text.split("\n")
-        found = max((i for i in range(self.place(text) + 1) if START.match(lines[i])), default=None)
+        found = next((i for i in range(self.place(text), -1, -1) if START.match(lines[i])), None)
         return found if found is not None and self.begins(lines[found]) else None
 
     def lines(self, text):
@@ -68,14 +71,21 @@ class WrongBody:
         lines = text.split("\n")
         return "\n".join(lines[i] for i in self.lines(text))
 
-    def is_copied(self, text):
-        """Whether its function can be copied: a method of a trait or of its impl can't, and neither can `main`."""
+    def is_of_a_trait(self, text):
+        """Whether its function is a method of a trait or of its impl."""
         lines, first = text.split("\n"), self.first(text)
         if not lines[first].startswith(" "):
-            return self.own_name() != "main"
-        block = max(i for i in range(first) if BLOCK.match(lines[i]))
-        head = "\n".join(lines[block:first]).partition("{")[0]
-        return not OF_A_TRAIT.search(head)
+            return False
+        block = next(i for i in range(first - 1, -1, -1) if BLOCK.match(lines[i]))
+        return bool(OF_A_TRAIT.search("\n".join(lines[block:first]).partition("{")[0]))
+
+    def is_copied(self, text):
+        """Whether its function can be copied: a method of a trait or of its impl can't, and neither can `main`."""
+        return self.own_name() != "main" and not self.is_of_a_trait(text)
+
+    def is_public(self, text):
+        """Whether its function is called by other crates: it is public, or a method of a trait or of its impl."""
+        return text.split("\n")[self.first(text)].lstrip().startswith("pub fn ") or self.is_of_a_trait(text)
 
 
 def bodies_of(folder):

@@ -13,7 +13,7 @@ OF_A_CLAUSE = re.compile(r"[\w-]+-clause-(\w+)")
 
 def contract_of(lines, at):
     """The numbers of the lines of the contract of the function that a line stands in: from its first clause to its body."""
-    first = max(i for i in range(at + 1) if START.match(lines[i]))
+    first = next(i for i in range(at, -1, -1) if START.match(lines[i]))
     body = next((i for i in range(first, len(lines)) if lines[i].strip() == "{"), first)
     return range(next((i for i in range(first, body) if CLAUSE.match(lines[i])), body), body)
 

@@ -9,7 +9,7 @@ import sys
 import tempfile
 
 import bodies
-from wrong_bodies import ROOT, Gate, Trial, toolchain, tried_in
+from wrong_bodies import ROOT, Gate, Trial, fitting, toolchain, tried_in
 
 CRATE = "image_access"
 MEMORY = "src/memory.rt"
@@ -56,15 +56,16 @@ def main():
     tried = [bodies.WrongBody(name, number, function, file, needs=NEEDS.get(name, ""), pairs=[(old, new)]) for number, (name, function, file, old, new) in enumerate(BODIES, 1)]
     printed = io.StringIO()
     with tempfile.TemporaryDirectory() as room, contextlib.redirect_stdout(printed):
-        trial = Trial(rt, crate, room, tried)
+        fits, unfit = fitting(crate, tried)
+        trial = Trial(rt, crate, room, fits)
         trial.begin_with_kept_work()
-        counted = tried_in([trial], Gate(None))
+        refused, failed = tried_in([trial], Gate(None))
     said = dict(re.findall(rf"^wrong body {CRATE}/(\w+): (.*)$", printed.getvalue(), re.MULTILINE))
     passed = [name for name, wanted in WANTED.items() if re.match(wanted, said.get(name, ""))]
     for name in WANTED:
         print(f"{'ok' if name in passed else 'FAILED'}: {name}: {said.get(name, 'nothing is said of it') if name not in passed else ''}")
-    is_counted = counted == (1, len(WANTED) - 1)
-    print(f"{'ok' if is_counted else 'FAILED'}: one is counted as refused, and the other ones as failed: {counted}")
+    is_counted = (refused, failed + unfit) == (1, len(WANTED) - 1)
+    print(f"{'ok' if is_counted else 'FAILED'}: one is counted as refused, and the other ones as failed: {refused}, {failed + unfit}")
     failed = len(WANTED) - len(passed) + (not is_counted)
     print(f"{len(passed) + is_counted} passed, {failed} failed")
     return 1 if failed else 0

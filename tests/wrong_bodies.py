@@ -4,10 +4,16 @@
 A check takes many bodies. Each stands in a copy of its function, which nothing else calls (tests/bodies.py); where a function can't be copied, it is changed in its place. What the crate's
 other functions and its lemmas state is taken as it stands (tests/promises.py), over the libraries that the gate has just proved; where it hasn't run, they are proved first. Each body must
 be refused for itself, by what its contract says: not only because a proof names what the body took away, and not because a proof can't be read. One of which a check says too little is
-tried once more, alone. A check begins with what earlier ones of its crate have read. Checks run side by side; of more than two processors one stays free. Words CRATE and CRATE/BODY choose
-what is tried. With --beside FILE the gate runs beside it, and the file gets a line for each crate that is proved, and a line `end` where nothing runs beside it any more. The last line
-counts."""
+tried once more, alone. A check begins with what earlier ones of its crate have read.
 
+Not all are tried each time: tests/choice.py says which ones. With --all all are, and words CRATE and CRATE/BODY name those that are. That each one changes what it is to change is looked
+at each time, of all. With --list it is only told what would be tried.
+
+With --beside FILE the gate runs beside it, and the file gets a line for each crate that is proved, and a line `end` where nothing runs beside it any more. No more checks run side by side
+than there are processors, those of the gate and what comes behind it included: these go first. The last line counts."""
+
+import argparse
+import contextlib
 import importlib.machinery
 import importlib.util
 import math
@@ -22,15 +28,18 @@ import threading
 import time
 from dataclasses import dataclass, field
 
+import choice
 from bodies import LIST, bodies_of, proof_of, with_bodies
 from promises import read, take_promises
 
 ROOT = os.path.dirname(os.path.dirname(os.path.abspath(__file__)))
 HOW_MANY_LINES = 8
 MOST_IN_A_CHECK = 200
-LEAST_IN_A_CHECK = 70
+LEAST_IN_A_CHECK = 100
 FIRST_IN_A_CHECK = 40
 SECONDS_TO_LOOK_AGAIN = 5
+LOOKS = 5
+SECONDS_OF_LOOKS = 0.5
 MISSING_NAME = re.compile(r": error: module `|has no field|is not in scope|has no `|was not admitted|is no name")
 OF_AN_ANSWER = re.compile(r"\S+: error: (`[^`]*`: |module `|\d+ declarations? that depends? on )")
 UNREADABLE = re.compile(r"operand is missing|expected the end|cannot continue")
@@ -54,7 +63,7 @@ class Trial:
     def __init__(self, rt, crate, room, bodies):
         self.rt, self.crate, self.kept = rt, crate, f"{room}/{crate.name}"
         self.name, self.folder = crate.name, crate.folder
-        self.left, self.failed = fitting(crate, bodies)
+        self.left, self.failed = bodies, 0
         self.leaving = threading.Lock()
         self.alone, self.running, self.checks, self.refused, self.seconds = set(), 0, 0, 0, 0
         self.in_place = {it.name for it in self.left if not it.is_copied(read(f"{self.folder}/{it.file}"))}
@@ -249,9 +258,10 @@ def reasons_of(it, said, printed):
 
 def fitting(crate, bodies):
     """The wrong bodies of a crate that can be tried, and how many can't, which are told: each changes what stands in its file once, in its function, which calls what the body names."""
-    fits = []
+    fits, files = [], {it.file for it in bodies}
+    texts = {it: read(f"{crate.folder}/{it}") if os.path.isfile(f"{crate.folder}/{it}") else "" for it in files}
     for body in bodies:
-        text = read(f"{crate.folder}/{body.file}") if os.path.isfile(f"{crate.folder}/{body.file}") else ""
+        text = texts[body.file]
         if body.changed(text) is None:
             print(f"wrong body {crate.name}/{body.name}: BAD EDIT: what it changes doesn't stand in {body.file} once", flush=True)
         elif body.first(text) is None:
@@ -285,12 +295,12 @@ class Lanes:
             while True:
                 is_over = self.gate.is_over()
                 ready = [it for it in self.trials if it.can_begin() and self.gate.has_proved(it.crate)]
-                if ready:
+                if ready and sum(it.running for it in self.trials) < self.gate.room():
                     trial = max(ready, key=Trial.weight)
                     # so that no processor waits at the end, a check takes no more than one's part of all that is left
-                    part = sum(it.weight() for it in self.trials) / len(os.sched_getaffinity(0))
+                    part = sum(it.weight() for it in self.trials) / processors()
                     return trial, trial.next_bodies(part / trial.weight())
-                if not any(it.running for it in self.trials) and (is_over or not any(it.left for it in self.trials)):
+                if not ready and not any(it.running for it in self.trials) and (is_over or not any(it.left for it in self.trials)):
                     return None
                 self.changed.wait(SECONDS_TO_LOOK_AGAIN)
 
@@ -307,8 +317,43 @@ class Lanes:
                 self.changed.notify_all()
 
 
+def processors():
+    """How many processors there are for this."""
+    return len(os.sched_getaffinity(0))
+
+
+def states_of(path):
+    """The state of a process or of a thread, and the number of the process above it. Its name, in brackets, may have spaces."""
+    words = read(f"{path}/stat").rpartition(")")[2].split()
+    return words[0], int(words[1])
+
+
+def running_beside():
+    """How many threads run, or wait for nothing but a processor, below the process that began this one, but for this one and what it began."""
+    above, running = {}, 0
+    for pid in [int(it) for it in os.listdir("/proc") if it.isdigit()]:
+        with contextlib.suppress(OSError):
+            above[pid] = states_of(f"/proc/{pid}")[1]
+    below = {os.getppid()}
+    while more := {pid for pid, parent in above.items() if parent in below and pid != os.getpid()} - below:
+        below |= more
+    for pid in below:
+        with contextlib.suppress(OSError):
+            running += sum(states_of(f"/proc/{pid}/task/{it}")[0] == "R" for it in os.listdir(f"/proc/{pid}/task"))
+    return running
+
+
+def busy_beside():
+    """How many processors those threads keep busy: what most looks of a short while show."""
+    looks = []
+    for _ in range(LOOKS):
+        looks.append(running_beside())
+        time.sleep(SECONDS_OF_LOOKS / LOOKS)
+    return sorted(looks)[LOOKS // 2]
+
+
 class Gate:
-    """The gate: which crates it has proved, told by a file where it runs beside this, else all that stand built or can be built."""
+    """The gate, and what comes behind it: which crates it has proved, told by a file where it runs beside this, else all that stand built or can be built; and how many processors it leaves."""
 
     def __init__(self, file):
         self.file, self.proved = file, set()
@@ -324,6 +369,11 @@ class Gate:
         """Whether the libraries of a crate are proved."""
         return not self.file or all(it.name in self.proved for it in crate.below())
 
+    def room(self):
+        """How many checks may run beside what the gate runs. Of more than two processors one stays free, since four checks side by side take a quarter longer each."""
+        most = processors() - (processors() > 2)
+        return most if self.is_over() else min(most, processors() - busy_beside())
+
 
 def is_built(crate):
     """Whether a library stands built: by the gate, whose builds have no stamp, or else it is built here where its text has changed."""
@@ -334,13 +384,9 @@ def is_built(crate):
 def tried_in(trials, gate):
     """Tries the wrong bodies of crates, and answers how many were refused and how many weren't."""
     lanes = Lanes(trials, gate)
-    # one processor is the gate's, and that of what comes behind it; of more than two another one stays free, since four checks side by side take a quarter longer each
-    workers = [threading.Thread(target=lanes.work) for _ in range(max(len(os.sched_getaffinity(0)) - 2, 1))]
+    workers = [threading.Thread(target=lanes.work) for _ in range(processors())]
     for it in workers:
         it.start()
-    while gate.file and not gate.is_over():
-        time.sleep(SECONDS_TO_LOOK_AGAIN)
-    lanes.work()
     for it in workers:
         it.join()
     for it in trials:
@@ -349,38 +395,74 @@ def tried_in(trials, gate):
     return sum(it.refused for it in trials), sum(it.failed + len(it.left) for it in trials)
 
 
-def chosen(crates, words):
-    """The crates whose wrong bodies are tried, each with those that are: all, or those that words name. None where a word names nothing."""
-    found, named = [], set()
+def listed(crates):
+    """The crates with wrong bodies, each with those that can be tried, and how many can't."""
+    found, unfit = [], 0
     for crate in crates:
-        bodies = bodies_of(crate.folder) if os.path.isfile(f"{crate.folder}/{LIST}") else []
-        asked = [it for it in bodies if not words or crate.name in words or f"{crate.name}/{it.name}" in words]
-        named.update({crate.name, *[f"{crate.name}/{it.name}" for it in asked]} if asked else ())
-        found += [(crate, asked)] if asked else []
-    return found if set(words) <= named else None
+        bodies, more = fitting(crate, bodies_of(crate.folder) if os.path.isfile(f"{crate.folder}/{LIST}") else [])
+        found, unfit = found + ([(crate, bodies)] if bodies else []), unfit + more
+    return found, unfit
+
+
+def named(found, words):
+    """The wrong bodies that words name, of each crate, or None where a word names nothing."""
+    asked = [(crate, [it for it in bodies if crate.name in words or f"{crate.name}/{it.name}" in words]) for crate, bodies in found]
+    names = {name for crate, bodies in asked if bodies for name in [crate.name, *[f"{crate.name}/{it.name}" for it in bodies]]}
+    return [(crate, bodies) for crate, bodies in asked if bodies] if set(words) <= names else None
+
+
+def asked_for(found, given):
+    """The wrong bodies of each crate that a run tries, or None where a word names nothing. It is told how many of how many these are."""
+    asked = named(found, given.words) if given.words else found
+    if asked and not given.all and (given.chosen or not given.words):
+        chosen = choice.choose(ROOT, asked)
+        choice.tell(asked, chosen)
+        asked = [(crate, [it for it in bodies if it.name in chosen[crate.name]]) for crate, bodies in asked]
+    if asked is not None:
+        tried, all_of_them = (sum(len(bodies) for _, bodies in it) for it in (asked, found))
+        print(f"wrong bodies: {tried} of {all_of_them} tried, {all_of_them - tried} left", flush=True)
+    return asked
+
+
+def words_of(words):
+    """What the words of a call ask for."""
+    parser = argparse.ArgumentParser(description="tries wrong bodies")
+    parser.add_argument("words", nargs="*", metavar="CRATE or CRATE/BODY")
+    parser.add_argument("--all", action="store_true", help="try all, also those that a run leaves out")
+    parser.add_argument("--chosen", action="store_true", help="of the crates that are named try those that a run without words tries")
+    parser.add_argument("--list", action="store_true", help="say what would be tried, and try nothing")
+    parser.add_argument("--beside", metavar="FILE", help="the gate runs beside it, and tells in FILE what it has proved")
+    return parser.parse_args(words)
 
 
 def main(words):
-    file = words[1] if words[:1] == ["--beside"] else None
+    given = words_of(words)
     os.chdir(ROOT)
     rt = toolchain()
     # its first call sets a signal's handler, which only the main thread may
     rt.rtlib.guarded()
-    found = chosen(rt.rtlib.crates_below(ROOT), words[2:] if file else words)
-    if found is None:
+    found, unfit = listed(rt.rtlib.crates_below(ROOT))
+    asked = asked_for(found, given)
+    if asked is None:
         print("nothing was tried, since a word names no crate with wrong bodies, or none of them\n0 passed, 1 failed")
         return 1
-    for library in [] if file else [below for crate, _ in found for below in crate.below()]:
+    if given.list:
+        print(f"0 passed, {unfit} failed")
+        return 1 if unfit else 0
+    for library in [] if given.beside else [below for crate, bodies in asked if bodies for below in crate.below()]:
         if not is_built(library):
             print(f"nothing was tried, since {library.name} is not proved as it stands\n0 passed, 1 failed")
             return 1
+    if given.beside:
+        # what runs beside it goes first
+        os.nice(19)
     with tempfile.TemporaryDirectory() as room:
-        trials = [Trial(rt, crate, room, bodies) for crate, bodies in found]
-        for it in [] if file else trials:
+        trials = [Trial(rt, crate, room, bodies) for crate, bodies in asked]
+        for it in [] if given.beside else trials:
             it.begin_with_kept_work()
-        passed, failed = tried_in(trials, Gate(file))
-    print(f"{passed} passed, {failed} failed")
-    return 1 if failed else 0
+        passed, failed = tried_in(trials, Gate(given.beside))
+    print(f"{passed} passed, {failed + unfit} failed")
+    return 1 if failed + unfit else 0
 
 
 if __name__ == "__main__":
