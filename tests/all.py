@@ -88,8 +88,7 @@ class Parts:
         all_used = sum(used for _, _, used in self.times)
         for name, seconds, used in [*self.times, ("all", time.monotonic() - self.began, all_used)]:
             print(f"{name}: {seconds / 60:.1f} minutes, {used / 60:.1f} of a processor")
-        print(f"on {len(os.sched_getaffinity(0))} processors")
-        print(*self.tried, sep="\n")
+        print("\n".join([f"on {len(os.sched_getaffinity(0))} processors", *self.tried]))
         if failed:
             print("what failed:", *self.told[-40:], sep="\n")
         print(f"{passed} passed, {failed} failed")

@@ -71,6 +71,11 @@ class WrongBody:
         lines = text.split("\n")
         return "\n".join(lines[i] for i in self.lines(text))
 
+    def clauses(self, text):
+        """The names of its function's clauses; a method of a trait's impl has the trait's too."""
+        lines = text.split("\n")
+        return {name for _, name in clauses.promises(lines, clauses.contract_of(lines, self.first(text)))}
+
     def is_of_a_trait(self, text):
         """Whether its function is a method of a trait or of its impl."""
         lines, first = text.split("\n"), self.first(text)

@@ -257,7 +257,8 @@ def reasons_of(it, said, printed):
 
 
 def fitting(crate, bodies):
-    """The wrong bodies of a crate that can be tried, and how many can't, which are told: each changes what stands in its file once, in its function, which calls what the body names."""
+    """The wrong bodies of a crate that can be tried, and how many can't, which are told: each changes what stands in its file once, in its function, which has the clause or calls what the body
+    names."""
     fits, files = [], {it.file for it in bodies}
     texts = {it: read(f"{crate.folder}/{it}") if os.path.isfile(f"{crate.folder}/{it}") else "" for it in files}
     for body in bodies:
@@ -268,6 +269,8 @@ def fitting(crate, bodies):
             print(f"wrong body {crate.name}/{body.name}: BAD EDIT: what it changes doesn't stand in {body.function}", flush=True)
         elif body.needs and f"{body.needs}(" not in body.code(text):
             print(f"wrong body {crate.name}/{body.name}: BAD EDIT: {body.function} doesn't call {body.needs}", flush=True)
+        elif body.clause and not body.is_of_a_trait(text) and body.clause not in body.clauses(text):
+            print(f"wrong body {crate.name}/{body.name}: BAD EDIT: {body.function} has no clause {body.clause}", flush=True)
         else:
             fits.append(body)
     return fits, len(bodies) - len(fits)
