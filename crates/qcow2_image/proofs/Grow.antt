@@ -3,4 +3,3 @@ pub mod NamedL1
 pub mod Lengthened
 pub mod Grown
 pub mod Lengths
-pub mod NoLonger

@@ -11,4 +11,3 @@ pub mod GrowCalls
 pub mod GrownTables
 pub mod CountedTurns
 pub mod LackedTables
-pub mod NeededLengths

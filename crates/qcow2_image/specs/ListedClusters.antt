@@ -1,5 +1,5 @@
 -- What stands on the list of clusters to be freed once a range is prepared.
-use Rattle.std.specs.Prelude.{ℕ, ◌≡◌, ◌⊎◌, ◌++◌, List, [], Option, Some, Result, Ok, Err}
+use Rattle.std.specs.Prelude.{ℕ, ◌≡◌, ◌⊎◌, ◌++◌, List, [], Some, Result, Ok, Err}
 use Rattle.qcow2_alloc.specs.declared.allocation.Allocator.{Allocator}
 use Rattle.qcow2_alloc.specs.declared.clusters_to_free.ClustersToFreeEntry.{ClustersToFreeEntry}
 use Rattle.qcow2_alloc.specs.declared.error.ImageError.{ImageError}
@@ -7,7 +7,7 @@ use Rattle.qcow2_alloc.specs.FreeList.{ListsReftables}
 use Rattle.qcow2_image.specs.declared.image.Qcow2.{Qcow2}
 use Rattle.qcow2_image.specs.declared.prepared.Prepared.{Prepared}
 use Rattle.qcow2_image.specs.Image.{HasNothingToFree}
-use Rattle.qcow2_image.specs.L1Entries.{HasOwnTable, ReachesOffset}
+use Rattle.qcow2_image.specs.L1Entries.{HasOwnTable}
 use Rattle.qcow2_image.specs.Refusals.{FreesRefused}
 
 module _ {S F : Type 0} where
@@ -60,9 +60,8 @@ module _ {S F : Type 0} where
     pub gone : GaveWayMeanwhile (freed ++ more) old new
     pub list : (HasOwnTable old offset × (freed ≡ []) × (new.file.free_list ≡ old.file.free_list ++ more)) ⊎ (¬ HasOwnTable old offset × (new.file.free_list ≡ more))
 
-  -- What an answered preparation leaves beside its mapping. The L1 table is as long as before, or reaches the offset.
+  -- What an answered preparation leaves beside its mapping.
   pub record PreparesTable (offset : ℕ) (old new : Qcow2 S F) : Type 0 where
-    pub reaches : ReachesOffset offset old.file.header.fields new.file.header.fields
     pub lists : ListsSinceTable offset old new
 
   -- so does an answered one; a refused one leaves nothing, but after a fault and under another mapping

@@ -26,7 +26,7 @@ use Rattle.qcow2_image.specs.CallParts.{AreCopied, StaysBeside}
 use Rattle.qcow2_image.specs.Clearing.{IsUnderMapping, setting_of}
 use Rattle.qcow2_image.specs.Image.{HasNothingToFree, size_of, has_noted_change}
 use Rattle.qcow2_image.specs.ImageInvariant.{ImageInvariant, abstract_of, disk_of, meaning, pending_in}
-use Rattle.qcow2_image.specs.L1Entries.{ReachingStays, StaysAsLong}
+use Rattle.qcow2_image.specs.L1Entries.{ReachingStays}
 use Rattle.qcow2_image.specs.LackedPlaces.{LacksPlaceFor, LacksTableFor}
 use Rattle.qcow2_image.specs.ListedClusters.{MayGiveWay}
 use Rattle.qcow2_image.specs.MovedTables.{CoversStay, MovesTables}
@@ -118,12 +118,11 @@ module _ {S F : Type 0} (view : S → StorageView) (backing : F → BackingView)
     pub zeros : first ≤ offset → LacksTableFor view offset mid new
     pub emptied : HasNothingToFree new
 
-  -- A refused part: one or the other. That a table is prepared refuses it only where one of the range is, and a limit only where a place lacks for it. An L1 table that reaches the range stays as long.
+  -- A refused part: one or the other. That a table is prepared refuses it only where one of the range is, and a limit only where a place lacks for it.
   pub record RefusedFill (first from to : ℕ) (old new : Qcow2 S F) (out : List (Option Prepared)) (e : ImageError) : Type 0 where
     pub left : FillsSome from to old new out ⊎ InterruptedGiving (given_by_zeros from to ∷ []) old new out e
     pub taken : e ≡ I.TablePrepared → IsUnderMappingIn old.file.header.fields from to out
     pub limit : e ≡ I.Limit → LacksPlaceOnWay first from to old new out
-    pub length : StaysAsLong to old.file.header.fields new.file.header.fields
 
   abbrev pub FillsOrRefuses : (first from to : ℕ) → Qcow2 S F → Qcow2 S F → List (Option Prepared) → Result (Unit {0}) ImageError → Type 0
   FillsOrRefuses first from to old new out (Ok _) = FillsPart first from to old new out
@@ -170,12 +169,10 @@ module _ {S F : Type 0} (view : S → StorageView) (backing : F → BackingView)
     pub shows : guest_of (abstract_of view backing new out) ≡ with_disk (guest_of (abstract_of view backing old out)) now
 
   -- Or it broke off. That a table is prepared refuses it only where zeros are asked for, and one of the range behind the end is; a limit only where a place lacks for that.
-  -- An L1 table that reaches the larger size stays as long.
   pub record RefusedGrown (size : ℕ) (mode : PreallocateMode) (old new : Qcow2 S F) (out : List (Option Prepared)) (e : ImageError) : Type 0 where
     pub left : FillsGrownInPart size mode old new out ⊎ InterruptedGiving (all_given_by_growing old size mode) old new out e
     pub taken : e ≡ I.TablePrepared → (shows_old mode ≡ false) × IsUnderMappingIn old.file.header.fields (disk_of view backing old).size (rounded_up (cluster_size old.file.header.fields) size) out
     pub limit : e ≡ I.Limit → LacksPlaceOnWay (first_zeros (cluster_size old.file.header.fields) (size_of old) size mode) (size_of old) (rounded_up (cluster_size old.file.header.fields) size) old new out
-    pub length : StaysAsLong (rounded_up (cluster_size old.file.header.fields) size) old.file.header.fields new.file.header.fields
 
   abbrev pub FillsGrownOrRefuses : ℕ → PreallocateMode → Qcow2 S F → Qcow2 S F → List (Option Prepared) → Result (Unit {0}) ImageError → Type 0
   FillsGrownOrRefuses size mode old new out (Ok _) = FillsGrown size mode old new out

@@ -27,7 +27,7 @@ use Rattle.qcow2_image.specs.declared.prepared.Prepared.{Prepared}
 use Rattle.qcow2_image.specs.Growing.{ReachesSize, SameFormat}
 use Rattle.qcow2_image.specs.Image.{HasNothingToFree, is_external, is_failed, is_writable, number_of, size_of}
 use Rattle.qcow2_image.specs.ImageInvariant.{ImageInvariant, abstract_of, disk_of, pending_in}
-use Rattle.qcow2_image.specs.L1Entries.{IsLongerByNeed, ReachesOffset}
+use Rattle.qcow2_image.specs.L1Entries.{ReachesOffset}
 use Rattle.qcow2_image.specs.LackedTables.{LacksTableReaching}
 use Rattle.qcow2_image.specs.MovedTables.{CoversStay}
 use Rattle.qcow2_image.specs.NewTables.{LacksTable}
@@ -143,12 +143,10 @@ module _ {S F : Type 0} (view : S → StorageView) (backing : F → BackingView)
 
   -- A prepared L2 table refuses it only where zeros are asked for, and one of the range behind the old end is.
   -- With `Zero`, where no entry can say that a cluster is zeros, no byte changes. Then it is refused for the version, but for a fault, and where an L1 table that is long enough lacks.
-  -- The L1 table isn't shorter than it was, and longer only as far as the larger size needs it.
   pub record RefusesTables (mode : PreallocateMode) (size : ℕ) (old new : Qcow2 S F) (out : List (Option Prepared)) (e : ImageError) : Type 0 where
     pub taken : e ≡ I.TablePrepared → (shows_old mode ≡ false) × IsUnderMappingIn old.file.header.fields (size_of old) (boundary_in old size) out
     pub zeros : mode ≡ Mode.Zero → LacksZeros old → RefusesUnchanged old new out e
     pub version : mode ≡ Mode.Zero → LacksZeros old → (e ≡ I.Version) ⊎ IsFaultOr (LacksTableReaching view (size - 1) old new) e
-    pub length : IsLongerByNeed (size - 1) old.file.header.fields new.file.header.fields
 
   -- one or the other
   abbrev pub GrowsTables : Qcow2 S F → Qcow2 S F → ℕ → PreallocateMode → List (Option Prepared) → Result (Unit {0}) ImageError → Type 0

@@ -19,7 +19,7 @@ ghost use Rattle.qcow2_alloc.specs.MetadataCaches.{IsEntryAt, l2_at};
 ghost use Rattle.qcow2_alloc.specs.declared.error.ImageError.TheVariants.{TablePrepared};
 ghost use Rattle.qcow2_image.specs.declared.prepared.Prepared.{Prepared};
 ghost use Rattle.qcow2_image.specs.Backings.{HasPrepared};
-ghost use Rattle.qcow2_image.specs.L1Entries.{HasOwnTable, NeedsFarEntry, ReachesOffset, ReachesAtMost};
+ghost use Rattle.qcow2_image.specs.L1Entries.{HasOwnTable, NeedsFarEntry};
 ghost use Rattle.qcow2_image.specs.NewTables.{IsFaultOrLacksTable};
 ghost use Rattle.qcow2_image.specs.PinnedTables.{HeedsPins};
 ghost use Rattle.qcow2_image.specs.Image.{HasNothingToFree, IsSameImage, ImageStays, is_writable, size_of};
@@ -134,8 +134,6 @@ impl<S: Storage, F: WrappedFormat<S>> Qcow2<S, F> {
         ensures covers { (out : List (Option Prepared)) → (abstract_of S.view F.backing self.old out).is_sound
             → OnOk result (ClearsImageCovers Clearance.Uncovered (from_in self.old offset length) (to_in self.old offset length) self.old.file.header.fields (known_in S.view self.old.file) self.new.file.header.fields (known_in S.view self.new.file)) }
         ensures emptied { from_in self.old offset length < to_in self.old offset length → OnOk result (HasNothingToFree self.new) }
-        ensures reaches { from_in self.old offset length < to_in self.old offset length → (out : List (Option Prepared)) → (abstract_of S.view F.backing self.old out).is_sound
-            → OnOk result (ReachesOffset (from_in self.old offset length) self.old.file.header.fields self.new.file.header.fields) }
         ensures range { IfOk result (λ range. range ≡ answered (cluster_size self.old.file.header.fields) (size_of self.old) offset length) }
         ensures freed { refuses_to_clear self.old offset length Clearance.Uncovered ≡ None → from_in self.old offset length < to_in self.old offset length → (out : List (Option Prepared)) → (abstract_of S.view F.backing self.old out).is_sound → IfErr result (FreesRefused self.new) }
         ensures pinned { from_in self.old offset length < to_in self.old offset length → refuses_to_clear self.old offset length Clearance.Uncovered ≡ None → HasOwnTable self.old (from_in self.old offset length) → HeedsPins self.old (from_in self.old offset length) result }
@@ -171,8 +169,6 @@ impl<S: Storage, F: WrappedFormat<S>> Qcow2<S, F> {
         ensures covers { (out : List (Option Prepared)) → (abstract_of S.view F.backing self.old out).is_sound
             → OnOk result (ClearsImageCovers Clearance.Zeros (from_in self.old offset length) (to_in self.old offset length) self.old.file.header.fields (known_in S.view self.old.file) self.new.file.header.fields (known_in S.view self.new.file)) }
         ensures emptied { from_in self.old offset length < to_in self.old offset length → OnOk result (HasNothingToFree self.new) }
-        ensures reaches { from_in self.old offset length < to_in self.old offset length → (out : List (Option Prepared)) → (abstract_of S.view F.backing self.old out).is_sound
-            → OnOk result (ReachesOffset (from_in self.old offset length) self.old.file.header.fields self.new.file.header.fields) }
         ensures range { IfOk result (λ range. range ≡ answered (cluster_size self.old.file.header.fields) (size_of self.old) offset length) }
         ensures freed { refuses_to_clear self.old offset length Clearance.Zeros ≡ None → from_in self.old offset length < to_in self.old offset length → (out : List (Option Prepared)) → (abstract_of S.view F.backing self.old out).is_sound → IfErr result (FreesRefused self.new) }
         ensures pinned { from_in self.old offset length < to_in self.old offset length → refuses_to_clear self.old offset length Clearance.Zeros ≡ None → HasOwnTable self.old (from_in self.old offset length) → HeedsPins self.old (from_in self.old offset length) result }
@@ -208,8 +204,6 @@ impl<S: Storage, F: WrappedFormat<S>> Qcow2<S, F> {
         ensures covers { (out : List (Option Prepared)) → (abstract_of S.view F.backing self.old out).is_sound
             → OnOk result (ClearsImageCovers Clearance.Zeros (from_in self.old offset length) (to_in self.old offset length) self.old.file.header.fields (known_in S.view self.old.file) self.new.file.header.fields (known_in S.view self.new.file)) }
         ensures emptied { from_in self.old offset length < to_in self.old offset length → OnOk result (HasNothingToFree self.new) }
-        ensures reaches { from_in self.old offset length < to_in self.old offset length → (out : List (Option Prepared)) → (abstract_of S.view F.backing self.old out).is_sound
-            → OnOk result (ReachesOffset (from_in self.old offset length) self.old.file.header.fields self.new.file.header.fields) }
         ensures range { IfOk result (λ range. range ≡ answered (cluster_size self.old.file.header.fields) (size_of self.old) offset length) }
         ensures freed { refuses_to_clear self.old offset length Clearance.Zeros ≡ None → from_in self.old offset length < to_in self.old offset length → (out : List (Option Prepared)) → (abstract_of S.view F.backing self.old out).is_sound → IfErr result (FreesRefused self.new) }
         ensures pinned { from_in self.old offset length < to_in self.old offset length → refuses_to_clear self.old offset length Clearance.Zeros ≡ None → HasOwnTable self.old (from_in self.old offset length) → HeedsPins self.old (from_in self.old offset length) result }
@@ -245,8 +239,6 @@ impl<S: Storage, F: WrappedFormat<S>> Qcow2<S, F> {
         ensures covers { (out : List (Option Prepared)) → (abstract_of S.view F.backing self.old out).is_sound
             → OnOk result (ClearsImageCovers Clearance.KeptZeros (from_in self.old offset length) (to_in self.old offset length) self.old.file.header.fields (known_in S.view self.old.file) self.new.file.header.fields (known_in S.view self.new.file)) }
         ensures emptied { from_in self.old offset length < to_in self.old offset length → OnOk result (HasNothingToFree self.new) }
-        ensures reaches { from_in self.old offset length < to_in self.old offset length → (out : List (Option Prepared)) → (abstract_of S.view F.backing self.old out).is_sound
-            → OnOk result (ReachesOffset (from_in self.old offset length) self.old.file.header.fields self.new.file.header.fields) }
         ensures range { IfOk result (λ range. range ≡ answered (cluster_size self.old.file.header.fields) (size_of self.old) offset length) }
         ensures freed { refuses_to_clear self.old offset length Clearance.KeptZeros ≡ None → from_in self.old offset length < to_in self.old offset length → (out : List (Option Prepared)) → (abstract_of S.view F.backing self.old out).is_sound → IfErr result (FreesRefused self.new) }
         ensures pinned { from_in self.old offset length < to_in self.old offset length → refuses_to_clear self.old offset length Clearance.KeptZeros ≡ None → HasOwnTable self.old (from_in self.old offset length) → HeedsPins self.old (from_in self.old offset length) result }
@@ -275,8 +267,6 @@ impl<S: Storage, F: WrappedFormat<S>> Qcow2<S, F> {
         ensures covers { (out : List (Option Prepared)) → (abstract_of S.view F.backing self.old out).is_sound
             → OnOk result (ClearsImageCovers how (from_in self.old offset length) (to_in self.old offset length) self.old.file.header.fields (known_in S.view self.old.file) self.new.file.header.fields (known_in S.view self.new.file)) }
         ensures emptied { from_in self.old offset length < to_in self.old offset length → OnOk result (HasNothingToFree self.new) }
-        ensures reaches { from_in self.old offset length < to_in self.old offset length → (out : List (Option Prepared)) → (abstract_of S.view F.backing self.old out).is_sound
-            → OnOk result (ReachesOffset (from_in self.old offset length) self.old.file.header.fields self.new.file.header.fields) }
         ensures freed { refuses_to_clear self.old offset length how ≡ None → from_in self.old offset length < to_in self.old offset length → (out : List (Option Prepared)) → (abstract_of S.view F.backing self.old out).is_sound → IfErr result (FreesRefused self.new) }
         ensures pinned { from_in self.old offset length < to_in self.old offset length → refuses_to_clear self.old offset length how ≡ None → HasOwnTable self.old (from_in self.old offset length) → HeedsPins self.old (from_in self.old offset length) result }
         ensures range { IfOk result (λ range. range ≡ answered (cluster_size self.old.file.header.fields) (size_of self.old) offset length) }
@@ -284,7 +274,6 @@ impl<S: Storage, F: WrappedFormat<S>> Qcow2<S, F> {
         ensures since { NotesPart S.view self.old self.new }
         ensures once_written { FailsOnceWritten S.view self.old self.new result }
         ensures changed { (out : List (Option Prepared)) → (abstract_of S.view F.backing self.old out).is_sound → from_in self.old offset length < to_in self.old offset length → OnOk result (ChangesRose self.old self.new) }
-        ensures no_longer { ReachesAtMost (from_in self.old offset length) self.old self.new }
         ensures header_cluster { StaysBehindHeader S.view self.old self.new }
         ensures faults { CountsImageFaults S.view F.backing self.old self.new result }
     {
@@ -355,7 +344,6 @@ impl<S: Storage, F: WrappedFormat<S>> Qcow2<S, F> {
         requires some { from < to }
         ensures stays { ImageStays self.old self.new }
         ensures notes { KeepsFileNotes S.view NoData self.old.file self.new.file }
-        ensures no_longer { ReachesAtMost from self.old self.new }
         ensures header_cluster { StaysBehindHeader S.view self.old self.new }
         ensures cause { IfErr result IsMetPreparing }
         ensures met { (out : List (Option Prepared)) → ImageInvariant S.view F.backing (pending_in S.view F.backing self.old out) self.old out → IsClearable self.old.file.header.fields how from to → IfErr result (IsMetTaking (HasPrepared out) (IsUnderMapping self.old.file.header.fields from out) ⊥ (NeedsFarEntry self.old from)) }
@@ -369,7 +357,6 @@ impl<S: Storage, F: WrappedFormat<S>> Qcow2<S, F> {
             → IfErr result (λ e. e ≡ TablePrepared → IsUnderMapping self.old.file.header.fields from out) }
         ensures free { (out : List (Option Prepared)) → ImageInvariant S.view F.backing (pending_in S.view F.backing self.old out) self.old out
             → IfOk result (λ done. IsUnderMapping self.old.file.header.fields from out → ⊥) }
-        ensures reaches { (out : List (Option Prepared)) → ImageInvariant S.view F.backing (pending_in S.view F.backing self.old out) self.old out → OnOk result (ReachesOffset from self.old.file.header.fields self.new.file.header.fields) }
         ensures gave { (out : List (Option Prepared)) → ImageInvariant S.view F.backing (pending_in S.view F.backing self.old out) self.old out → OnOk result (SomeGaveWay self.old self.new) }
         ensures freed { (out : List (Option Prepared)) → ImageInvariant S.view F.backing (pending_in S.view F.backing self.old out) self.old out → IsClearable self.old.file.header.fields how from to
             → IfErr result (FreesRefused self.new) }
@@ -388,7 +375,6 @@ impl<S: Storage, F: WrappedFormat<S>> Qcow2<S, F> {
         requires some { from < to }
         ensures stays { ImageStays self.old self.new }
         ensures notes { KeepsFileNotes S.view NoData self.old.file self.new.file }
-        ensures no_longer { ReachesAtMost from self.old self.new }
         ensures header_cluster { StaysBehindHeader S.view self.old self.new }
         ensures cause { IfErr result IsMetPreparing }
         ensures met { (out : List (Option Prepared)) → ImageInvariant S.view F.backing (pending_in S.view F.backing self.old out) self.old out → IsClearable self.old.file.header.fields how from to → IfErr result (IsMetTaking (HasPrepared out) (IsUnderMapping self.old.file.header.fields from out) ⊥ (NeedsFarEntry self.old from)) }
@@ -402,7 +388,6 @@ impl<S: Storage, F: WrappedFormat<S>> Qcow2<S, F> {
             → IfErr result (λ e. e ≡ TablePrepared → IsUnderMapping self.old.file.header.fields from out) }
         ensures free { (out : List (Option Prepared)) → ImageInvariant S.view F.backing (pending_in S.view F.backing self.old out) self.old out
             → IfOk result (λ done. IsUnderMapping self.old.file.header.fields from out → ⊥) }
-        ensures reaches { (out : List (Option Prepared)) → ImageInvariant S.view F.backing (pending_in S.view F.backing self.old out) self.old out → OnOk result (ReachesOffset from self.old.file.header.fields self.new.file.header.fields) }
         ensures gave { (out : List (Option Prepared)) → ImageInvariant S.view F.backing (pending_in S.view F.backing self.old out) self.old out → OnOk result (SomeGaveWay self.old self.new) }
         ensures pinned { HasOwnTable self.old from → HeedsPins self.old from result }
         ensures faults { CountsImageFaults S.view F.backing self.old self.new result }

@@ -12,7 +12,6 @@ ghost use Rattle.qcow2_image.specs.declared.prepared.Prepared.{Prepared};
 ghost use Rattle.qcow2_image.specs.Found.{l1_index_of};
 ghost use Rattle.qcow2_image.specs.Image.{HasNothingToFree, ImageStays, is_writable};
 ghost use Rattle.qcow2_image.specs.ImageInvariant.{ImageInvariant, pending_in};
-ghost use Rattle.qcow2_image.specs.L1Entries.{HasLengthOf, ReachesAtMost};
 ghost use Rattle.qcow2_image.specs.ListedClusters.{SomeGaveWay};
 ghost use Rattle.qcow2_image.specs.LongerTables.{run_of_table, listed, with_table, IsLongerL1, StandsWhole, PlacesTable, NamesTable, NamesTaken, TakesTable, Lengthens, MakesEntry};
 ghost use Rattle.qcow2_image.specs.NewTables.{IsFaultOrLacksTable};
@@ -36,7 +35,6 @@ impl<S: Storage, F: WrappedFormat<S>> Qcow2<S, F> {
         requires writable { IsTrue (is_writable self.old) }
         ensures stays { ImageStays self.old self.new }
         ensures notes { KeepsFileNotes S.view NoData self.old.file self.new.file }
-        ensures no_longer { ReachesAtMost offset self.old self.new }
         ensures header_cluster { StaysBehindHeader S.view self.old self.new }
         ensures cause { IfErr result IsMet }
         ensures fault { (out : List (Option Prepared)) → ImageInvariant S.view F.backing (pending_in S.view F.backing self.old out) self.old out → IfErr result IsFaultOrLimit }
@@ -64,7 +62,6 @@ impl<S: Storage, F: WrappedFormat<S>> Qcow2<S, F> {
         ensures stays { ImageStays self.old self.new }
         ensures notes { KeepsFileNotes S.view NoData self.old.file self.new.file }
         ensures noted { OnOk result (IsTrue self.new.file.caches.is_changed) }
-        ensures no_longer { HasLengthOf (max (entry_count self.old.l1_table) (index + 1)) self.old self.new }
         ensures header_cluster { StaysBehindHeader S.view self.old self.new }
         ensures cause { IsTrue (is_writable self.old) → IfErr result IsMet }
         ensures limit { (p : Pending) (out : List (Option Prepared)) → ImageInvariant S.view F.backing p self.old out → IfErr result (λ e. e ≡ Limit → LacksLongerTable S.view index (max (entry_count self.old.l1_table) (index + 1)) self.old.file.free_list self.old self.new) }
@@ -115,7 +112,6 @@ impl<S: Storage, F: WrappedFormat<S>> Qcow2<S, F> {
         ensures stays { ImageStays self.old self.new }
         ensures notes { KeepsFileNotes S.view NoData self.old.file self.new.file }
         ensures noted { OnOk result (IsTrue self.new.file.caches.is_changed) }
-        ensures no_longer { HasLengthOf (entry_count table) self.old self.new }
         ensures header_cluster { table.cluster_bits ≡ self.old.l1_table.cluster_bits → StaysBehindHeader S.view self.old self.new }
         ensures cause { IsTrue (is_writable self.old) → IfErr result IsMet }
         ensures limit { (p : Pending) (out : List (Option Prepared)) → ImageInvariant S.view F.backing p self.old out → IsLongerL1 self.old table → 0 < entry_count table → IfErr result (λ e. e ≡ Limit → StandsInWay S.view (HasNoTablePlace (entry_count table)) self.old.file.free_list self.old self.new) }
@@ -140,7 +136,6 @@ impl<S: Storage, F: WrappedFormat<S>> Qcow2<S, F> {
         requires { IsHostCluster self.old.file.header.fields.cluster_bits taken.first_cluster }
         ensures stays { ImageStays self.old self.new }
         ensures notes { KeepsFileNotes S.view NoData self.old.file self.new.file }
-        ensures no_longer { HasLengthOf (entry_count table) self.old self.new }
         ensures header_cluster { table.cluster_bits ≡ self.old.l1_table.cluster_bits → 0 < taken.first_cluster → StaysBehindHeader S.view self.old self.new }
         ensures cause { IfErr result IsMet }
         ensures fault { (p : Pending) (out : List (Option Prepared)) → ImageInvariant S.view F.backing (with_table p table taken.first_cluster) self.old out → IsLongerL1 self.old table → IfErr result IsFault }
@@ -162,7 +157,6 @@ impl<S: Storage, F: WrappedFormat<S>> Qcow2<S, F> {
         requires { IsHostCluster self.old.file.header.fields.cluster_bits cluster }
         ensures stays { ImageStays self.old self.new }
         ensures notes { KeepsFileNotes S.view NoData self.old.file self.new.file }
-        ensures no_longer { HasLengthOf (entry_count table) self.old self.new }
         ensures header_cluster { table.cluster_bits ≡ self.old.l1_table.cluster_bits → 0 < cluster → StaysBehindHeader S.view self.old self.new }
         ensures cause { IfErr result IsMet }
         ensures fault { (p : Pending) (out : List (Option Prepared)) → ImageInvariant S.view F.backing (with_table p table cluster) self.old out → IsLongerL1 self.old table → IfErr result IsFault }
@@ -210,7 +204,6 @@ impl<S: Storage, F: WrappedFormat<S>> Qcow2<S, F> {
         requires { IsHostCluster self.old.file.header.fields.cluster_bits cluster }
         ensures stays { ImageStays self.old self.new }
         ensures notes { KeepsFileNotes S.view NoData self.old.file self.new.file }
-        ensures no_longer { HasLengthOf (entry_count table) self.old self.new }
         ensures header_cluster { KeepsL1TableBehind self.old.l1_table table → StaysBehindHeader S.view self.old self.new }
         ensures cause { IfErr result IsMet }
         ensures fault { IfErr result IsFault }

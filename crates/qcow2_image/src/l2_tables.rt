@@ -18,7 +18,7 @@ ghost use Rattle.qcow2_image.specs.CallParts.{FindsTable};
 ghost use Rattle.qcow2_image.specs.Found.{l1_index_of};
 ghost use Rattle.qcow2_image.specs.UnseenSteps.{Ensures};
 ghost use Rattle.qcow2_image.specs.ImageInvariant.{ImageInvariant, pending_in};
-ghost use Rattle.qcow2_image.specs.L1Entries.{HasFarEntry, HasOwnTable, NeedsFarEntry, ReachesOffset, ReachesAtMost};
+ghost use Rattle.qcow2_image.specs.L1Entries.{HasFarEntry, HasOwnTable, NeedsFarEntry};
 ghost use Rattle.qcow2_image.specs.ListedClusters.{KeepsList, ListsSinceTable, SomeGaveWay, ListsNoMore};
 ghost use Rattle.qcow2_image.specs.NewTables.{IsFaultOrKeepsL1Table, IsFaultOrLacksTable, SaysKnown, IsStored, StandsReady, MayName, NamesShared, PlacesNewTable, Stores, NamesNew, WritesNew, EntersTable, OwnsTable};
 ghost use Rattle.qcow2_alloc.specs.TableCaches.{IsTableOf};
@@ -43,7 +43,6 @@ impl<S: Storage, F: WrappedFormat<S>> Qcow2<S, F> {
         ensures stays { ImageStays self.old self.new }
         ensures notes { KeepsFileNotes S.view NoData self.old.file self.new.file }
         ensures elsewhere { IfOk result (λ table. 0 < table) }
-        ensures no_longer { ReachesAtMost offset self.old self.new }
         ensures header_cluster { StaysBehindHeader S.view self.old self.new }
         ensures cause { IfErr result IsMet }
         ensures met { (out : List (Option Prepared)) → ImageInvariant S.view F.backing (pending_in S.view F.backing self.old out) self.old out → IfErr result (IsMetTaking (HasPrepared out) ⊥ ⊥ (NeedsFarEntry self.old offset)) }
@@ -52,7 +51,6 @@ impl<S: Storage, F: WrappedFormat<S>> Qcow2<S, F> {
         ensures lacks { (out : List (Option Prepared)) → ImageInvariant S.view F.backing (pending_in S.view F.backing self.old out) self.old out → (HasPrepared out → ⊥) → IfErr result (IsFaultOrLacksTable S.view self.new offset) }
         ensures cached { IfOk result (λ table. IsSome (l2_at self.new.file.caches table)) }
         ensures finds { (out : List (Option Prepared)) → ImageInvariant S.view F.backing (pending_in S.view F.backing self.old out) self.old out → FindsTable S.view F.backing self.old self.new out offset result }
-        ensures reaches { (out : List (Option Prepared)) → ImageInvariant S.view F.backing (pending_in S.view F.backing self.old out) self.old out → OnOk result (ReachesOffset offset self.old.file.header.fields self.new.file.header.fields) }
         ensures freed { (out : List (Option Prepared)) → ImageInvariant S.view F.backing (pending_in S.view F.backing self.old out) self.old out → OnOk result (ListsSinceTable offset self.old self.new) }
         ensures freeing { (out : List (Option Prepared)) → ImageInvariant S.view F.backing (pending_in S.view F.backing self.old out) self.old out → OnOk result (ListsNoMore self.old self.new) }
         ensures own { HasOwnTable self.old offset → FindsOwn self.old self.new offset result }

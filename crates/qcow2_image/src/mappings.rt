@@ -19,7 +19,7 @@ ghost use Rattle.qcow2_alloc.specs.KeptMarks.{KeepsFileNotes};
 ghost use Rattle.qcow2_alloc.specs.KeptNotes.{NoData};
 ghost use Rattle.qcow2_image.specs.Noted.{CommitFailsOnceWritten, FailsOnceWritten, DataUnlessExisting};
 ghost use Rattle.qcow2_alloc.specs.ImageFile.{known_in, FileInvariant, KeepsHeader};
-ghost use Rattle.qcow2_image.specs.L1Entries.{HasOwnTable, NeedsFarEntry, ReachesAtMost};
+ghost use Rattle.qcow2_image.specs.L1Entries.{HasOwnTable, NeedsFarEntry};
 ghost use Rattle.qcow2_image.specs.ListedClusters.{ListsFormer, PreparesList, PreparesTable, ListStays, ListsNoMore};
 ghost use Rattle.qcow2_image.specs.PinnedTables.{PreparesUnpinned, own_table};
 ghost use Rattle.qcow2_alloc.specs.ImageStorage.{storage_of};
@@ -232,7 +232,6 @@ impl<S: Storage, F: WrappedFormat<S>> Qcow2<S, F> {
         requires writable { IsTrue (is_writable self.old) }
         ensures stays { ImageStays self.old self.new }
         ensures notes { KeepsFileNotes S.view (DataUnlessExisting result) self.old.file self.new.file }
-        ensures no_longer { ReachesAtMost offset self.old self.new }
         ensures header_cluster { StaysBehindHeader S.view self.old self.new }
         ensures cause { IfErr result IsMetPreparing }
         ensures met { 0 < length → (out : List (Option Prepared)) → ImageInvariant S.view F.backing (pending_in S.view F.backing self.old out) self.old out → IfErr result (IsMetTaking (HasPrepared out) (IsTaken self.old.file.header.fields (known_in S.view self.old.file) offset length out) (CopiesCompressed offset length overwrite self.old.file.header.fields (known_in S.view self.old.file)) (NeedsFarEntry self.old offset)) }
@@ -264,7 +263,6 @@ impl<S: Storage, F: WrappedFormat<S>> Qcow2<S, F> {
         requires writable { IsTrue (is_writable self.old) }
         ensures stays { ImageStays self.old self.new }
         ensures notes { KeepsFileNotes S.view (DataUnlessExisting result) self.old.file self.new.file }
-        ensures no_longer { ReachesAtMost offset self.old self.new }
         ensures header_cluster { StaysBehindHeader S.view self.old self.new }
         ensures cause { IfErr result IsMetPreparing }
         ensures met { 0 < length → (out : List (Option Prepared)) → ImageInvariant S.view F.backing (pending_in S.view F.backing self.old out) self.old out → IfErr result (IsMetTaking (HasPrepared out) (IsTaken self.old.file.header.fields (known_in S.view self.old.file) offset length out) (CopiesCompressed offset length overwrite self.old.file.header.fields (known_in S.view self.old.file)) (NeedsFarEntry self.old offset)) }

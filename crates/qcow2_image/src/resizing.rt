@@ -19,7 +19,6 @@ ghost use Rattle.qcow2_alloc.specs.ImageStorage.{is_changed_of};
 ghost use Rattle.qcow2_image.specs.Backings.{HasPrepared};
 ghost use Rattle.qcow2_image.specs.declared.prepared.Prepared.{Prepared};
 ghost use Rattle.qcow2_image.specs.Growing.{Resizes};
-ghost use Rattle.qcow2_image.specs.L1Entries.{IsLongerByNeed, ReachesAtMost};
 ghost use Rattle.qcow2_image.specs.Image.{HasNothingToFree, IsSameImage, ImageStays, has_noted_change, is_failed, is_writable, size_of, with_marks};
 ghost use Rattle.qcow2_image.specs.ImageInvariant.{ImageInvariant, abstract_of, pending_in};
 ghost use Rattle.qcow2_image.specs.LackedTables.{CantGrowDisk, LacksTableReaching};
@@ -39,8 +38,7 @@ impl<S: Storage, F: WrappedFormat<S>> Qcow2<S, F> {
     /// Makes the disk smaller, and drops the whole clusters behind its new end, so that the disk below shows there should it grow again.
     /// Answers the offset up to which that was done, which is less than the old size only where dropping the next cluster is refused. A
     /// size that isn't smaller changes nothing, and answers the old one. Where a whole cluster lay behind the new end, none is left to be
-    /// freed. Nothing stands for the dropped clusters then, not even that they are zeros. The L1 table isn't shorter then, and longer only
-    /// as far as the old disk's last byte needs it.
+    /// freed. Nothing stands for the dropped clusters then, not even that they are zeros.
     /// Refused in this order: 16 (failed), 12 (dependency), 1 (read-only). Of a smaller size also 17 (mapping prepared) while a mapping
     /// is prepared that isn't existing. Where the work meets them: 14 (memory), 15 (storage).
     pub fn resize_shrink(&mut self, size: u64) -> Result<u64, ImageError>
@@ -56,7 +54,6 @@ impl<S: Storage, F: WrappedFormat<S>> Qcow2<S, F> {
         ensures stops { (out : List (Option Prepared)) → (abstract_of S.view F.backing self.old out).is_sound → IfOk result (EndsTail S.view F.backing out self.old self.new size) }
         ensures last { (out : List (Option Prepared)) → (abstract_of S.view F.backing self.old out).is_sound → WritesSizeLast S.view F.backing self.old self.new }
         ensures once_written { FailsOnceWritten S.view self.old self.new result }
-        ensures length { (out : List (Option Prepared)) → (abstract_of S.view F.backing self.old out).is_sound → IsLongerByNeed (size_of self.old - 1) self.old.file.header.fields self.new.file.header.fields }
         ensures header_cluster { StaysBehindHeader S.view self.old self.new }
         ensures faults { CountsImageFaults S.view F.backing self.old self.new result }
     {
@@ -94,7 +91,6 @@ impl<S: Storage, F: WrappedFormat<S>> Qcow2<S, F> {
             → IfOk result (EndsTail S.view F.backing out self.old self.new size) }
         ensures last { (out : List (Option Prepared)) → (abstract_of S.view F.backing self.old out).is_sound → WritesSizeLast S.view F.backing self.old self.new }
         ensures once_written { FailsOnceWritten S.view self.old self.new result }
-        ensures length { (out : List (Option Prepared)) → (abstract_of S.view F.backing self.old out).is_sound → IsLongerByNeed (size_of self.old - 1) self.old.file.header.fields self.new.file.header.fields }
         ensures header_cluster { StaysBehindHeader S.view self.old self.new }
         ensures faults { CountsImageFaults S.view F.backing self.old self.new result }
     {
@@ -124,7 +120,6 @@ impl<S: Storage, F: WrappedFormat<S>> Qcow2<S, F> {
         ensures emptied { IsTrue (is_writable self.old) → (out : List (Option Prepared)) → ImageInvariant S.view F.backing (pending_in S.view F.backing self.old out) self.old out → result.1 ≡ None → boundary_in self.old size < size_of self.old → HasNothingToFree self.new }
         ensures since { NotesChanges S.view self.old self.new }
         ensures changed { (out : List (Option Prepared)) → ImageInvariant S.view F.backing (pending_in S.view F.backing self.old out) self.old out → boundary_in self.old size < result.0 → ChangesRose self.old self.new }
-        ensures length { (out : List (Option Prepared)) → ImageInvariant S.view F.backing (pending_in S.view F.backing self.old out) self.old out → IsLongerByNeed (size_of self.old - 1) self.old.file.header.fields self.new.file.header.fields }
         ensures header_cluster { StaysBehindHeader S.view self.old self.new }
         ensures faults { NoFewerFaults S.view F.backing self.old self.new × IfSome result.1 (TellsFault S.view F.backing self.old self.new) × TellsEachIn S.view F.backing self.old self.new result.1 }
     {
@@ -158,7 +153,6 @@ impl<S: Storage, F: WrappedFormat<S>> Qcow2<S, F> {
         ensures emptied { IsTrue (is_writable self.old) → (out : List (Option Prepared)) → ImageInvariant S.view F.backing (pending_in S.view F.backing self.old out) self.old out → FreesTurn self.old self.new at result }
         ensures since { NotesPart S.view self.old self.new }
         ensures changed { (out : List (Option Prepared)) → ImageInvariant S.view F.backing (pending_in S.view F.backing self.old out) self.old out → IfOk result (λ next. boundary_in self.old at < next → ChangesRose self.old self.new) }
-        ensures length { (out : List (Option Prepared)) → ImageInvariant S.view F.backing (pending_in S.view F.backing self.old out) self.old out → IsLongerByNeed (size_of self.old - 1) self.old.file.header.fields self.new.file.header.fields }
         ensures header_cluster { StaysBehindHeader S.view self.old self.new }
         ensures faults { CountsImageFaults S.view F.backing self.old self.new result }
     {
@@ -186,7 +180,6 @@ impl<S: Storage, F: WrappedFormat<S>> Qcow2<S, F> {
         ensures emptied { (out : List (Option Prepared)) → ImageInvariant S.view F.backing (pending_in S.view F.backing self.old out) self.old out → OnOk result ((boundary_in self.old at < size_of self.old) ⊎ HasNothingToFree self.old → HasNothingToFree self.new) }
         ensures since { NotesPart S.view self.old self.new }
         ensures changed { (out : List (Option Prepared)) → ImageInvariant S.view F.backing (pending_in S.view F.backing self.old out) self.old out → IfOk result (λ next. boundary_in self.old at < next → ChangesRose self.old self.new) }
-        ensures length { (out : List (Option Prepared)) → ImageInvariant S.view F.backing (pending_in S.view F.backing self.old out) self.old out → IsLongerByNeed (size_of self.old - 1) self.old.file.header.fields self.new.file.header.fields }
         ensures header_cluster { StaysBehindHeader S.view self.old self.new }
         ensures faults { CountsImageFaults S.view F.backing self.old self.new result }
     {
@@ -296,7 +289,6 @@ impl<S: Storage, F: WrappedFormat<S>> Qcow2<S, F> {
         ensures stays { ImageStays self.old self.new }
         ensures notes { KeepsFileNotes S.view NoData self.old.file self.new.file }
         ensures noted { OnOk result (IsTrue self.new.file.caches.is_changed) }
-        ensures no_longer { ReachesAtMost offset self.old self.new }
         ensures header_cluster { StaysBehindHeader S.view self.old self.new }
         ensures cause { IfErr result IsMet }
         ensures placed { self.old.l1_table.cluster_bits ≡ self.old.file.header.fields.cluster_bits → OnOk result (IsPlacedNear self.new.l1_table) }
@@ -322,7 +314,6 @@ impl<S: Storage, F: WrappedFormat<S>> Qcow2<S, F> {
         ensures stays { ImageStays self.old self.new }
         ensures notes { KeepsFileNotes S.view NoData self.old.file self.new.file }
         ensures noted { OnOk result (IsTrue self.new.file.caches.is_changed) }
-        ensures no_longer { ReachesAtMost offset self.old self.new }
         ensures header_cluster { StaysBehindHeader S.view self.old self.new }
         ensures cause { IfErr result IsMet }
         ensures placed { self.old.l1_table.cluster_bits ≡ self.old.file.header.fields.cluster_bits → OnOk result (IsPlacedNear self.new.l1_table) }

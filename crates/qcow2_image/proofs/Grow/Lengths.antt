@@ -7,21 +7,21 @@ use Rattle.std.proofs.lemmas.Nat.{div-add-mod', div-mul-add, mod_below, pow_pos}
 use Rattle.image_access.specs.Backing.{BackingView}
 use Rattle.image_access.specs.Moments.{StorageView}
 use Rattle.qcow2_metadata.specs.declared.header.HeaderFields.{HeaderFields}
-use Rattle.qcow2_metadata.specs.Entries.{host_offset, l1_entry}
+use Rattle.qcow2_metadata.specs.Entries.{l1_entry}
 use Rattle.qcow2_metadata.specs.EntryTable.{EntryTableView, entry_count}
 use Rattle.qcow2_metadata.specs.Header.{HeaderView, cluster_size, entries_per_cluster, rounded_up}
 use Rattle.qcow2_metadata.specs.TableBytes.{entry_at}
 use Rattle.qcow2_laws.specs.CrashInvariant.{Pending}
 use Rattle.qcow2_laws.specs.Unseen.{KeepsFormat}
-use Rattle.qcow2_laws.proofs.Places.{div_mono, has_table}
-use Rattle.qcow2_alloc.specs.ImageFile.{KeepsHeader, contents_in}
+use Rattle.qcow2_laws.proofs.Places.{div_mono}
+use Rattle.qcow2_alloc.specs.ImageFile.{contents_in}
 use Rattle.qcow2_alloc.specs.declared.error.ImageError.{ImageError}
 use Rattle.qcow2_image.specs.declared.image.Qcow2.{Qcow2}
 use Rattle.qcow2_image.specs.declared.prepared.Prepared.{Prepared}
 use Rattle.qcow2_image.specs.Found.{l1_index_of}
 use Rattle.qcow2_image.specs.Growing.{FitsSize}
 use Rattle.qcow2_image.specs.ImageInvariant.{ImageInvariant}
-use Rattle.qcow2_image.specs.L1Entries.{ReachesOffset, ReachingStays, StaysAsLong, HasOwnTable}
+use Rattle.qcow2_image.specs.L1Entries.{ReachesOffset, ReachingStays, HasOwnTable}
 use Rattle.qcow2_image.specs.MetAlone.{KeepsL1Place}
 use Rattle.qcow2_image.specs.MovedTables.{MovesTables}
 use Rattle.qcow2_image.specs.UnseenSteps.{NamesOwn}
@@ -30,13 +30,6 @@ use Rattle.qcow2_image.specs.UnseenSteps.{NamesOwn}
 pub on_ok : {A P Q : Type 0} (r : Result A ImageError) → (P → Q) → OnOk r P → OnOk r Q
 on_ok (Ok x) so is = so is
 on_ok (Err e) so is = tt
-
--- a header of which at most the reftable moved
-pub kept_length : (v v' : HeaderView) → KeepsHeader v v' → v'.fields.l1_entries ≡ v.fields.l1_entries
-kept_length v v' keeps = ap (λ (x : HeaderView). x.fields.l1_entries) keeps
-
-pub same_length : (v v' : HeaderView) → v' ≡ v → v'.fields.l1_entries ≡ v.fields.l1_entries
-same_length v v' same = ap (λ (x : HeaderView). x.fields.l1_entries) same
 
 -- a table that stays where it is does so where a header is the same
 pub place_same : (h : HeaderFields) (v v' : HeaderView) → v' ≡ v → KeepsL1Place h v.fields → KeepsL1Place h v'.fields
@@ -80,21 +73,6 @@ last_cluster cs n some any =
     ap (λ x. x / cs) end ∙ div-mul-add k cs (cs - 1) (omega (arith, some))
 
 -- ---- parts, one after another
-pub stays_long_then : (h h' h'' : HeaderFields) (to : ℕ) → MovesTables h h' → StaysAsLong to h h' → StaysAsLong to h' h'' → StaysAsLong to h h''
-stays_long_then h h' h'' to file_step first then within =
-    let same = first within in
-    let index = index_moved h h' (to - 1) file_step in
-    then (omega (arith, within, same, index)) ∙ same
-
-pub stays_long_shorter : (h h' : HeaderFields) (mid to : ℕ) → mid ≤ to → StaysAsLong mid h h' → StaysAsLong to h h'
-stays_long_shorter h h' mid to le stays within =
-    let rising = index_rising h (mid - 1) (to - 1) (omega (arith, le)) in
-    stays (omega (arith, within, rising))
-
--- one that stays where it is stays as long
-pub stays_long : (h h' : HeaderFields) (to : ℕ) → ReachingStays to h h' → StaysAsLong to h h'
-stays_long h h' to stays within = (stays within).1
-
 pub reaching_stays_then : (h h' h'' : HeaderFields) (to : ℕ) → MovesTables h h' → ReachingStays to h h' → ReachingStays to h' h'' → ReachingStays to h h''
 reaching_stays_then h h' h'' to file_step first then within =
     let same = first within in
@@ -125,8 +103,8 @@ reaches_end h h' size any file_step is =
     let last : l1_index_of h' (rounded_up (cluster_size h') size - 1) ≡ l1_index_of h' (size - 1) = ap (λ x. x / entries_per_cluster h') (last_cluster (cluster_size h') size (pow_pos h'.cluster_bits) any) in
     omega (arith, is, index, last)
 
-pub reaches_on : (h h' h'' : HeaderFields) (size : ℕ) → 0 < size → MovesTables h h' → ReachesOffset (size - 1) h h' → StaysAsLong (rounded_up (cluster_size h') size) h' h'' → ReachesOffset (size - 1) h h''
-reaches_on h h' h'' size any file_step is stays = stays (reaches_end h h' size any file_step is) ∙ is
+pub reaches_on : (h h' h'' : HeaderFields) (size : ℕ) → 0 < size → MovesTables h h' → ReachesOffset (size - 1) h h' → ReachingStays (rounded_up (cluster_size h') size) h' h'' → ReachesOffset (size - 1) h h''
+reaches_on h h' h'' size any file_step is stays = (stays (reaches_end h h' size any file_step is)).1 ∙ is
 
 module _ {S F : Type 0} (view : S → StorageView) (backing : F → BackingView) (out : List (Option Prepared)) where
   -- what the L1 tables in memory have, the headers tell
@@ -136,14 +114,6 @@ module _ {S F : Type 0} (view : S → StorageView) (backing : F → BackingView)
       let a = was.l1_table.count in
       let b = is.l1_table.count in
       omega (arith, a, b, length)
-
-  module _ (p : Pending) (image : Qcow2 S F) (sound : ImageInvariant view backing p image out) (offset : ℕ) where
-    -- the L1 table reaches an offset that has an L2 table of its own
-    pub own_reached : (h' : HeaderFields) → HasOwnTable image offset → h'.l1_entries ≡ image.file.header.fields.l1_entries → ReachesOffset offset image.file.header.fields h'
-    own_reached h' own same =
-        let h = image.file.header.fields in
-        let lt = has_table h (contents_in view image.file) (l1_index_of h offset) (λ none. own.0 (ap host_offset (sound.l1_table.entries (l1_index_of h offset)) ∙ none)) in
-        omega (arith, lt, same)
 
   -- the L2 table that an L1 entry names on the storage, marked copied, is one of its own still once clusters were freed
   pub own_after : (p : Pending) (mid freed : Qcow2 S F) → ImageInvariant view backing p mid out → (offset index : ℕ) → l1_index_of mid.file.header.fields offset ≡ index → NamesOwn (l1_entry mid.file.header.fields (contents_in view mid.file) index)

@@ -33,7 +33,7 @@ use Rattle.qcow2_image.specs.Refusals.{IsMet, IsUnlimited}
 use Rattle.qcow2_image.proofs.Call.Called.{works_none}
 use Rattle.qcow2_image.proofs.Clear.ClearCalls.{under_before}
 use Rattle.qcow2_image.proofs.Clear.Ranges.{table_end, table_whole}
-use Rattle.qcow2_image.proofs.Grow.Lengths.{place_same, reaching_stays, reaching_stays_shorter, reaching_stays_then, same_length, stays_long, stays_long_shorter, stays_long_then}
+use Rattle.qcow2_image.proofs.Grow.Lengths.{place_same, reaching_stays, reaching_stays_shorter, reaching_stays_then}
 use Rattle.qcow2_image.proofs.Moved.{file_step_then}
 use Rattle.qcow2_image.proofs.Prepare.Lacked.{other_limit}
 use Rattle.qcow2_image.proofs.Prepare.Listing.{giving_kept, giving_none, giving_then}
@@ -135,7 +135,7 @@ module _ {S F : Type 0} (view : S → StorageView) (backing : F → BackingView)
   -- refused before anything was done
   pub refused_here : (image : Qcow2 S F) (first from to : ℕ) (e : ImageError) → (e ≡ I.TablePrepared → ⊥) → (e ≡ I.Limit → ⊥) → ImageInvariant view backing (pending_in view backing image out) image out
       → RefusedFill view backing first from to image image out e
-  refused_here image first from to e other unlimited sound = record { left = inl (some_none image from to sound); taken = λ is. absurd (other is); limit = λ is. absurd (unlimited is); length = λ within. refl }
+  refused_here image first from to e other unlimited sound = record { left = inl (some_none image from to sound); taken = λ is. absurd (other is); limit = λ is. absurd (unlimited is) }
 
   -- the first bytes of a range lack a place
   pub lacks_here : (old new : Qcow2 S F) (first from to n : ℕ) → ImageInvariant view backing (pending_in view backing old out) old out → 0 < n → from + n ≤ to → LacksPlaceFor view from n old new
@@ -240,7 +240,6 @@ module _ {S F : Type 0} (view : S → StorageView) (backing : F → BackingView)
       left = left_after a b c zeros from to x y x' y' low high low' high' first e then.left;
       taken = λ is. taken_wider a.file.header.fields b.file.header.fields x' y' from to out first.header low' high' (then.taken is);
       limit = λ is. lacks_after (then.limit is);
-      length = stays_long_then a.file.header.fields b.file.header.fields c.file.header.fields to first.header (stays_long_shorter a.file.header.fields b.file.header.fields y to high (stays_long a.file.header.fields b.file.header.fields y first.l1_table)) (stays_long_shorter b.file.header.fields c.file.header.fields y' to high' then.length);
     }
 
   -- a part, and then clusters are freed, which no guest sees
@@ -263,7 +262,6 @@ module _ {S F : Type 0} (view : S → StorageView) (backing : F → BackingView)
       left = left_after a b c zeros from to' from to from to' (omega arith) high (omega arith) (omega arith) first e (fill_unseen b c from to' e then);
       taken = met_taken e met;
       limit = other_limit (LacksPlaceOnWay view backing zeros from to' a c out) e unlimited;
-      length = λ within. same_length b.file.header c.file.header same ∙ stays_long_shorter a.file.header.fields b.file.header.fields to to' high (stays_long a.file.header.fields b.file.header.fields to first.l1_table) within;
     }
 
   -- whole clusters are cleared

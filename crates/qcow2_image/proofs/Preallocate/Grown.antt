@@ -139,7 +139,6 @@ module _ {S F : Type 0} (view : S → StorageView) (backing : F → BackingView)
         left = ⊎_elim (λ (part : FillsSome view backing (size_of old) end old new out). inl (in_part part)) (λ (interrupted : InterruptedGiving view backing (given_by_zeros (size_of old) end ∷ []) old new out e). inr (broken e interrupted)) refused.left;
         taken = λ is. (hides, subst (λ n. IsUnderMappingIn old.file.header.fields n end out) size_is (refused.taken is));
         limit = λ is. subst (λ f. LacksPlaceOnWay view backing f (size_of old) end old new out) begins (refused.limit is);
-        length = refused.length;
       }
 
       pub grown_or_refused : (first from : ℕ) → first ≡ first_zeros (cluster_size old.file.header.fields) from size mode → from ≡ size_of old → (r : Result (Unit {0}) ImageError) → FillsOrRefuses view backing first from end old new out r → FillsGrownOrRefuses view backing size mode old new out r

@@ -12,7 +12,6 @@ use Rattle.qcow2_image.specs.declared.image.Qcow2.{Qcow2}
 use Rattle.qcow2_image.specs.declared.prepared.Prepared.{Prepared}
 use Rattle.qcow2_image.specs.Calls.{Prepares}
 use Rattle.qcow2_image.specs.Image.{number_of, is_failed, has_noted_change}
-use Rattle.qcow2_image.specs.L1Entries.{ReachesOffset}
 use Rattle.qcow2_image.specs.ListedClusters.{PreparesList}
 use Rattle.qcow2_image.specs.CallParts.{IsExisting, IsReadied, PreparesRange}
 use Rattle.qcow2_image.proofs.Call.Marked.{MayMarkBy}
@@ -48,7 +47,6 @@ module _ {S F : Type 0} where
   pub lists_begun : (old begun new : Qcow2 S F) (failed : Bool) (offset : ℕ) (r : Result Prepared ImageError) → begun ≡ record old { file = record old.file { storage = begun.file.storage; caches = begun.file.caches } }
       → PreparesList offset begun new r → PreparesList offset old (record new { is_failed = failed }) r
   lists_begun old begun new failed offset (Ok p) rest lists = record {
-    reaches = subst (λ (i : Qcow2 S F). ReachesOffset offset i.file.header.fields new.file.header.fields) rest lists.reaches;
     lists = lists_as offset old begun new failed rest lists.lists;
   }
   lists_begun old begun new failed offset (Err e) rest lists = lists

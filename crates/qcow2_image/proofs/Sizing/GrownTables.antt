@@ -1,6 +1,6 @@
 -- What a larger disk says of the tables: the L1 table reaches its last byte, and an L2 table that is prepared refuses it only behind the old end.
 use Rattle.std.proofs.Common.{◌≡◌, ℕ, ◌+◌, ◌*◌, ◌-◌, ◌/◌, ◌%◌, ◌<◌, ◌≤◌, Bool, true, false, List, Option, refl, sym, ap, ◌∙◌, subst, arith, inl, inr}
-use Rattle.std.specs.Prelude.{IfErr, OnErr, OnOk, Result, Ok, Err, None, Some}
+use Rattle.std.specs.Prelude.{IfErr, OnOk, Result, Ok, Err, None, Some}
 use Rattle.std.proofs.lemmas.Bool.{cases_lt}
 use Rattle.std.proofs.lemmas.Nat.{div-add-mod', mod_below, pow_pos}
 use Rattle.image_access.specs.Backing.{BackingView}
@@ -43,7 +43,6 @@ use Rattle.qcow2_image.proofs.Preallocate.Filled.{taken_wider}
 use Rattle.qcow2_image.proofs.Preallocate.Grown.{up_least}
 use Rattle.qcow2_image.proofs.Preallocate.Turns.{same_size}
 use Rattle.qcow2_image.proofs.Sizes.{disk_size}
-use Rattle.qcow2_image.proofs.Sizing.NeededLengths.{longer_kept, longer_reached}
 
 -- ---- what stands for a filled cluster lies under an L1 entry
 copied_stands : (v : L2Mapping) → v ≡ Uncovered → is_copied_data v ≡ true → ⊥
@@ -151,15 +150,14 @@ module _ {S F : Type 0} (view : S → StorageView) (backing : F → BackingView)
       (taken.0, taken_wider old.file.header.fields long.file.header.fields d.size end (size_of old) (boundary_in old size) out call.header (omega (arith, shown, moved)) (omega (arith, last)) taken.1)
 
   -- the size is written last
-  pub tables_sized : (old filled new : Qcow2 S F) (marked : Bool) (size : ℕ) (mode : PreallocateMode) (r : Result (Unit {0}) ImageError) → MovesTables old.file.header.fields filled.file.header.fields → IfErr r IsFaultOfTables → OnOk r (new.file.header ≡ with_fields filled.file.header (with_size filled.file.header.fields size)) → OnErr r (new.file.header ≡ filled.file.header)
+  pub tables_sized : (old filled new : Qcow2 S F) (marked : Bool) (size : ℕ) (mode : PreallocateMode) (r : Result (Unit {0}) ImageError) → MovesTables old.file.header.fields filled.file.header.fields → IfErr r IsFaultOfTables → OnOk r (new.file.header ≡ with_fields filled.file.header (with_size filled.file.header.fields size))
       → ReachesSize (with_size filled.file.header.fields size) → ReachesOffset (size - 1) old.file.header.fields filled.file.header.fields → OnOk r (Leaves old new size mode) → HasNothingToFree new → (mode ≡ Mode.Zero → LacksZeros old → ⊥)
       → GrownFree mode (size_of old) size old.file.header.fields (known_in view old.file) out → GrowsTables view backing old (record new { is_failed = marked }) size mode out r
-  tables_sized old filled new marked size mode (Ok x) file_step cause header restored reached length covers emptied zeros free = record { free = free; emptied = emptied; zeros = zeros; autoclear = autoclear_sized old.file.header.fields filled.file.header.fields new.file.header.fields size file_step (ap (λ (v : HeaderView). v.fields) header); format = format_sized old.file.header.fields filled.file.header.fields new.file.header.fields size file_step (ap (λ (v : HeaderView). v.fields) header); reaches = subst (λ (v : HeaderView). ReachesSize v.fields) (sym header) reached; length = ap (λ (v : HeaderView). v.fields.l1_entries) header ∙ length; covers = covers }
-  tables_sized old filled new marked size mode (Err e) file_step cause header restored reached length covers emptied zeros free = record {
+  tables_sized old filled new marked size mode (Ok x) file_step cause header reached length covers emptied zeros free = record { free = free; emptied = emptied; zeros = zeros; autoclear = autoclear_sized old.file.header.fields filled.file.header.fields new.file.header.fields size file_step (ap (λ (v : HeaderView). v.fields) header); format = format_sized old.file.header.fields filled.file.header.fields new.file.header.fields size file_step (ap (λ (v : HeaderView). v.fields) header); reaches = subst (λ (v : HeaderView). ReachesSize v.fields) (sym header) reached; length = ap (λ (v : HeaderView). v.fields.l1_entries) header ∙ length; covers = covers }
+  tables_sized old filled new marked size mode (Err e) file_step cause header reached length covers emptied zeros free = record {
     taken = λ is. absurd (elim cause [ inl fault ↦ (let no : I.TablePrepared ≡ I.Storage = sym is ∙ fault in cc) | inr fault ↦ (let no : I.TablePrepared ≡ I.Memory = sym is ∙ fault in cc) ]);
     zeros = λ zero lacks. absurd (zeros zero lacks);
     version = λ zero lacks. absurd (zeros zero lacks);
-    length = longer_kept old.file.header.fields filled.file.header.fields new.file.header.fields (size - 1) (longer_reached old.file.header.fields filled.file.header.fields (size - 1) length) (ap (λ (v : HeaderView). v.fields.l1_entries) restored);
   }
 
   -- ---- the entries can't tell zeros

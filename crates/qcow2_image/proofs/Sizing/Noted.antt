@@ -1,5 +1,5 @@
 -- What a call noted is seen by no guest: what it did, it did also to the image with other notes.
-use Rattle.std.proofs.Common.{◌≡◌, ◌-◌, Bool, Option, Some, None, List, ℕ, inl, inr, refl, sym, subst, arith}
+use Rattle.std.proofs.Common.{◌≡◌, ◌-◌, Bool, Option, Some, None, List, ℕ, inl, inr, refl, sym, subst}
 use Rattle.std.specs.Prelude.{IfSome, Result, Ok, Err}
 use Rattle.image_access.specs.Backing.{BackingView}
 use Rattle.image_access.specs.Moments.{StorageView}
@@ -93,7 +93,6 @@ module _ {S F : Type 0} (view : S → StorageView) (backing : F → BackingView)
           | inl is ↦ inl is
           | inr other ↦ elim other [ inl fault ↦ inr (inl fault) | inr limit ↦ inr (inr (limit.0, reaching_marked view old image noted (is_failed image) (size - 1) limit.1)) ]
         ];
-        length = tables.length;
       }
 
   -- ---- the number of faults stays

@@ -28,8 +28,6 @@ use Rattle.qcow2_image.specs.declared.image.Qcow2.{Qcow2}
 use Rattle.qcow2_image.specs.declared.prepared.Prepared.{Prepared}
 use Rattle.qcow2_image.specs.Found.{l1_index_of}
 use Rattle.qcow2_image.specs.Image.{IsSameImage, is_external, is_failed, is_writable, number_of, size_of}
-use Rattle.qcow2_image.specs.L1Entries.{IsLongerByNeed}
-use Rattle.qcow2_image.proofs.Sizing.NeededLengths.{longer_then}
 use Rattle.qcow2_image.specs.ImageInvariant.{ImageInvariant, abstract_of, disk_of, pending_in}
 use Rattle.qcow2_image.specs.NewTables.{MayName}
 use Rattle.qcow2_image.specs.Refusals.{refuse_if}
@@ -112,12 +110,6 @@ module _ {S F : Type 0} (view : S → StorageView) (backing : F → BackingView)
 
       pub same_size : cluster_size now.file.header.fields ≡ cluster_size old.file.header.fields
       same_size = ap (λ (s : Setting). s.cluster_size) (so.so_far out sound).0.works.setting
-
-      -- the L1 table is longer only as far as the disk's last byte needs it, also behind a turn
-      pub lengthens_on : IsLongerByNeed (size_of old - 1) old.file.header.fields now.file.header.fields → IsLongerByNeed (size_of now - 1) now.file.header.fields new.file.header.fields → IsLongerByNeed (size_of old - 1) old.file.header.fields new.file.header.fields
-      lengthens_on before turn =
-          longer_then old.file.header.fields now.file.header.fields new.file.header.fields (size_of old - 1) same_size before
-          (subst (λ n. IsLongerByNeed (n - 1) now.file.header.fields new.file.header.fields) so.image.size turn)
 
     pub next_so_far : (next : ℕ) → at < next → next ≤ size_of now → UncoversNext view backing now new at (Ok next) → IsSameImage now new → is_failed new ≡ is_failed now → IsUncoveredSoFar old new size next end
     next_so_far next on within turn image failed =

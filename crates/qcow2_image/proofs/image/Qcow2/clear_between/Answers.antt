@@ -1,5 +1,5 @@
 use Rattle.qcow2_image.proofs.image.Qcow2.clear_between.Goals as goal
-use Rattle.std.proofs.Common.{subst, sym, refl, inl, ap}
+use Rattle.std.proofs.Common.{subst, sym, refl, inl}
 use Rattle.std.specs.Prelude.{IsTrue}
 use Rattle.qcow2_alloc.proofs.KeptMarks.{notes_then}
 use Rattle.qcow2_image.proofs.Call.BehindHeader.{behind_then}
@@ -12,8 +12,6 @@ use Rattle.qcow2_image.specs.L1Entries.{NeedsFarEntry}
 use Rattle.qcow2_image.specs.Backings.{HasPrepared}
 use Rattle.qcow2_image.specs.MetAlone.{IsMetTaking}
 use Rattle.qcow2_image.specs.Clearing.{IsUnderMapping}
-use Rattle.qcow2_image.proofs.Grow.NoLonger.{length_then}
-use Rattle.qcow2_metadata.specs.Header.{HeaderView}
 
 pub returns-in-Ok-clause-clears : goal.returns-in-Ok-clause-clears
 returns-in-Ok-clause-clears g c = λ out sound whole. c.in-Ok.ensures.clears out sound whole
@@ -37,9 +35,6 @@ returns-in-Err-clause-taken g c = λ out sound is. c.in-Err.ensures.taken out so
 
 pub returns-in-Ok-clause-free : goal.returns-in-Ok-clause-free
 returns-in-Ok-clause-free g c = λ out sound. c.in-Ok.ensures.free out sound
-
-pub returns-in-Ok-clause-reaches : goal.returns-in-Ok-clause-reaches
-returns-in-Ok-clause-reaches g c = λ out sound. c.in-Ok.ensures.reaches out sound
 
 pub returns-in-Err-clause-faults : goal.returns-in-Err-clause-faults
 returns-in-Err-clause-faults g c =
@@ -81,12 +76,6 @@ returns-in-Err-clause-met g c = λ out sound whole.
     let old = c.args.self.now in
     met_freed g.S.Storage.view g.F.BackingDisk.backing out (IsMetTaking (HasPrepared out) (IsUnderMapping old.file.header.fields c.args.from out) ⊥ (NeedsFarEntry old c.args.from)) (λ e fault. inl (inl (inl fault))) old c.clear_in_table.new.self c.free_after.new.self c.in-Err.refusal c.free_after.result (c.in-Err.ensures.clears out sound whole) c.free_after.ensures.fault
     (c.free_after.ensures.told out) (c.in-Err.ensures.met out sound whole)
-
-pub returns-in-Ok-clause-no_longer : goal.returns-in-Ok-clause-no_longer
-returns-in-Ok-clause-no_longer g c = c.clear_in_table.ensures.no_longer
-
-pub returns-in-Err-clause-no_longer : goal.returns-in-Err-clause-no_longer
-returns-in-Err-clause-no_longer g c = length_then c.clear_in_table.ensures.no_longer (ap (λ (v : HeaderView). v.fields.l1_entries) c.free_after.ensures.keeps_rest.header)
 
 pub returns-in-Ok-clause-gave : goal.returns-in-Ok-clause-gave
 returns-in-Ok-clause-gave g c = λ out sound. c.in-Ok.ensures.gave out sound

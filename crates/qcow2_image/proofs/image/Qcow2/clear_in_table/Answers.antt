@@ -1,7 +1,7 @@
 use Rattle.qcow2_image.proofs.image.Qcow2.clear_in_table.Goals as goal
 use Rattle.std.proofs.Common.{◌≡◌, ◌<◌, inl, ◌-◌, ◌/◌, ◌%◌, ◌^◌, ◌++◌, ap, ◌∙◌, subst, arith, ◌+◌, sym, inr, refl}
 use Rattle.qcow2_alloc.proofs.AllocationSteps.{handed_on}
-use Rattle.qcow2_metadata.specs.Header.{cluster_size, HeaderView}
+use Rattle.qcow2_metadata.specs.Header.{cluster_size}
 use Rattle.qcow2_alloc.specs.CachePins.{l2_pins}
 use Rattle.qcow2_image.specs.declared.image.Qcow2.{Qcow2}
 use Rattle.qcow2_image.specs.Clearing.{ClearsOrRefuses, ClearsTable, ReadsAll, IsUnderMapping}
@@ -23,7 +23,6 @@ use Rattle.qcow2_image.specs.Backings.{HasPrepared}
 use Rattle.qcow2_image.specs.MetAlone.{IsMetTaking}
 use Rattle.qcow2_image.proofs.Prepare.Met.{hands_met}
 use Rattle.qcow2_image.proofs.Prepare.MetTaking.{taking_as}
-use Rattle.qcow2_image.proofs.Grow.NoLonger.{length_then}
 use Rattle.qcow2_image.proofs.Prepare.Listing.{gave_still}
 
 pub returns-in_err-table-clause-clears : goal.returns-in_err-table-clause-clears
@@ -83,9 +82,6 @@ pub returns-then-l2_is_pinned-clause-lacks : goal.returns-then-l2_is_pinned-clau
 returns-then-l2_is_pinned-clause-lacks g c = λ out sound whole none.
     let found = c.in_ok-table.ensures.finds out sound in
     absurd (none (some_prepared g.S.Storage.view g.F.BackingDisk.backing c.table_for.new.self out found.0.sound c.in_ok-table.table (c.l2_is_pinned.ensures.0 c.if-l2_is_pinned.true)))
-
-pub returns-clause-reaches : goal.returns-clause-reaches
-returns-clause-reaches g c = λ out sound. ap (λ (i : Qcow2 _ _). i.file.header.fields.l1_entries) c.clear_entries.ensures.clears.rest ∙ c.in_ok-table.ensures.reaches out sound
 
 pub returns-in_err-table-clause-notes : goal.returns-in_err-table-clause-notes
 returns-in_err-table-clause-notes g c = c.table_for.ensures.notes
@@ -174,18 +170,6 @@ returns-in_err-old_data-clause-met g c = λ out sound whole.
     let fault = reading_fault view g.F.BackingDisk.backing out c.args.self.now mid c.args.how from c.args.to c.in_ok-table.table found.0 found.1 whole c.requires.some c.cluster-first.result ((c.args.to - from) / 2 ^ c.cluster_bits-bits.result) e first (ap (λ n. (c.args.to - from) / 2 ^ n) bits) c.in_err-old_data.ensures.only_faults in
     let old = c.args.self.now in
     hands_met (IsMetTaking (HasPrepared out) (IsUnderMapping old.file.header.fields from out) ⊥ (NeedsFarEntry old from)) c.from_residual-in_err-old_data.result e c.from_residual-in_err-old_data.ensures (inl (inl (inl fault)))
-
-pub returns-in_err-table-clause-no_longer : goal.returns-in_err-table-clause-no_longer
-returns-in_err-table-clause-no_longer g c = c.table_for.ensures.no_longer
-
-pub returns-then-l2_is_pinned-clause-no_longer : goal.returns-then-l2_is_pinned-clause-no_longer
-returns-then-l2_is_pinned-clause-no_longer g c = c.table_for.ensures.no_longer
-
-pub returns-in_err-old_data-clause-no_longer : goal.returns-in_err-old_data-clause-no_longer
-returns-in_err-old_data-clause-no_longer g c = c.table_for.ensures.no_longer
-
-pub returns-clause-no_longer : goal.returns-clause-no_longer
-returns-clause-no_longer g c = length_then c.table_for.ensures.no_longer (ap (λ (v : HeaderView). v.fields.l1_entries) (ap (λ (i : Qcow2 _ _). i.file.header) c.clear_entries.ensures.clears.rest))
 
 pub returns-clause-gave : goal.returns-clause-gave
 returns-clause-gave g c = λ out sound.

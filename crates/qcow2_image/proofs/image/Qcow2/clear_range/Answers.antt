@@ -4,7 +4,7 @@ use Rattle.std.proofs.lemmas.Bool.{or_right}
 use Rattle.qcow2_image.specs.Noted.{FailsOnceWritten}
 use Rattle.qcow2_image.proofs.Call.OnceWritten.{answered_counts, counts_begun, fails_marked, fails_none, fails_once, kept_noted, notes_begun, notes_part, notes_since, part_none}
 use Rattle.std.proofs.Common.{◌≡◌, ◌<◌, ◌+◌, ◌-◌, ℕ, min, sym, ap, ◌∙◌, subst, arith, inl, refl}
-use Rattle.std.specs.Prelude.{None, Some, Ok, Err, IfErr, IfOk, IsTrue, OnOk, Result}
+use Rattle.std.specs.Prelude.{None, Some, Ok, Err, IfErr, IfOk, IsTrue, Result}
 use Rattle.qcow2_alloc.specs.declared.error.ImageError.TheVariants.{Memory, TablePrepared, Limit}
 use Rattle.qcow2_image.specs.Backings.{HasPrepared}
 use Rattle.qcow2_image.specs.NewTables.{IsFaultOrLacksTable}
@@ -13,11 +13,10 @@ use Rattle.qcow2_image.specs.Clearing.{Clears, ClearsOrRefuses, ClearsPart, IsUn
 use Rattle.qcow2_image.specs.declared.image.Qcow2.{Qcow2}
 use Rattle.qcow2_image.specs.Image.{is_failed, has_noted_change}
 use Rattle.qcow2_image.specs.ImageInvariant.{ImageInvariant, pending_in}
-use Rattle.qcow2_image.specs.L1Entries.{NeedsFarEntry, ReachesOffset, HasOwnTable, ReachesAtMost}
+use Rattle.qcow2_image.specs.L1Entries.{NeedsFarEntry, HasOwnTable}
 use Rattle.qcow2_image.specs.Refusals.{FreesRefused}
 use Rattle.qcow2_image.proofs.Call.Marked.{MayMarkBy, marks_memory, may_mark, may_mark_refused}
 use Rattle.qcow2_image.proofs.Call.Called.{Quietly}
-use Rattle.qcow2_image.proofs.Grow.Lengths.{reaches_begun, same_length}
 use Rattle.qcow2_image.proofs.Call.CallOutcomes.{is_fault, outcome}
 use Rattle.qcow2_image.proofs.Sizing.Shrinking.{fault_of}
 use Rattle.qcow2_image.proofs.Clear.ClearCalls.{begins, clear_interruption, clear_covers, clear_done, clear_refused, clear_works, clears_early, clears_nothing, err_is, fault_interruption, if_some, not_refused, refused_for, under_after, under_before, ungiven_interruption, ungiven_early, ungiven_refused, whole_in}
@@ -37,8 +36,6 @@ use Rattle.qcow2_image.proofs.Call.Unlimited.{fault_unlimited}
 use Rattle.qcow2_image.specs.MetAlone.{IsMetTaking}
 use Rattle.qcow2_image.proofs.Prepare.MetTables.{far_before}
 use Rattle.qcow2_image.proofs.Prepare.MetTaking.{taking_as}
-use Rattle.qcow2_image.proofs.Grow.NoLonger.{length_then, reaches_behind}
-use Rattle.qcow2_metadata.specs.Header.{HeaderView}
 
 pub returns-in_err-from-clause-early : goal.returns-in_err-from-clause-early
 returns-in_err-from-clause-early g c =
@@ -314,24 +311,6 @@ returns-clause-faults g c =
     let old = c.args.self.now in
     let cleared = counted_marked view below old c.begin.new.self c.clear_between-cleared.new.self c.mark_failure.new.self c.clear_between-cleared.result c.mark_failure.result c.begin.ensures.faults c.clear_between-cleared.ensures.faults c.mark_failure.ensures.answer c.mark_failure.ensures.rest in
     counted_ok view below old c.end_freeing.new.self _ (faults_then view below old c.mark_failure.new.self c.end_freeing.new.self (same_of view below old c.mark_failure.new.self c.mark_failure.result _ cleared c.in_ok-mark_failure.was) c.in_ok-end_freeing.ensures.faults.told)
-
-pub returns-clause-reaches : goal.returns-clause-reaches
-returns-clause-reaches g c = λ lt out sound.
-    let view = g.S.Storage.view in
-    let below = g.F.BackingDisk.backing in
-    let old = c.args.self.now in
-    let begun = c.begin.new.self in
-    let entries = c.clear_between-cleared.new.self in
-    let range = not_refused c.check_clear.result _ (refuses_to_clear old c.args.offset c.args.length c.args.how) (c.in_ok-from.from, c.in_ok-from.to) c.check_clear.ensures.refusal c.in_ok-from.was in
-    let from : c.in_ok-from.from ≡ from_in c.args.self.now c.args.offset c.args.length = ap (λ (r : ℕ × ℕ). r.0) range.1 in
-    let done : c.clear_between-cleared.result ≡ Ok c.in_ok-mark_failure.field-0 = sym c.mark_failure.ensures.answer ∙ c.in_ok-mark_failure.was in
-    let works = clear_works old c.args.offset c.args.length c.args.how range.0 in
-    let quiet : (out : _) → _ → Quietly view below out old begun = λ out sound. record { keeps = c.begin.ensures.keeps (pending_in view below old out) out sound; list = c.begin.ensures.list } in
-    let step = c.begin.ensures.keeps (pending_in view below old out) out sound in
-    let began = begins view below old c.args.how c.args.offset c.args.length works begun entries quiet out sound in
-    let reached = subst (λ (r : Result _ _). OnOk r (ReachesOffset c.in_ok-from.from begun.file.header.fields entries.file.header.fields)) done (c.clear_between-cleared.ensures.reaches out began.sound) in
-    same_length entries.file.header c.end_freeing.new.self.file.header (c.end_freeing.ensures.header ∙ ap (λ (i : Qcow2 _ _). i.file.header) c.mark_failure.ensures.rest)
-    ∙ reaches_begun old.file.header.fields begun.file.header.fields entries.file.header.fields (from_in old c.args.offset c.args.length) step.unseen.header (subst (λ n. ReachesOffset n begun.file.header.fields entries.file.header.fields) from reached)
 
 pub returns-in_err-from-clause-since : goal.returns-in_err-from-clause-since
 returns-in_err-from-clause-since g c = part_none g.S.Storage.view c.args.self.now
@@ -621,30 +600,3 @@ returns-in_err-end_freeing-clause-limit g c = λ none some out sound.
     let x = c.in_err-end_freeing.field-0.0 in
     hands_limit (λ e. LacksTableFor view (from_in old offset n) old freed) c.from_residual-in_err-end_freeing.result x c.from_residual-in_err-end_freeing.ensures
     (other_limit _ x (fault_unlimited x (fault_of x (fault_interruption view below old how offset n works begun entries quiet parts freed c.end_freeing.result ends number x c.in_err-end_freeing.was out sound))))
-
-pub returns-in_err-from-clause-no_longer : goal.returns-in_err-from-clause-no_longer
-returns-in_err-from-clause-no_longer g c = inl refl
-
-pub returns-then-to-from-clause-no_longer : goal.returns-then-to-from-clause-no_longer
-returns-then-to-from-clause-no_longer g c = inl refl
-
-pub returns-in_err-mark_failure-clause-no_longer : goal.returns-in_err-mark_failure-clause-no_longer
-returns-in_err-mark_failure-clause-no_longer g c =
-    let old = c.args.self.now in
-    let range = not_refused c.check_clear.result _ (refuses_to_clear old c.args.offset c.args.length c.args.how) (c.in_ok-from.from, c.in_ok-from.to) c.check_clear.ensures.refusal c.in_ok-from.was in
-    let from : c.in_ok-from.from ≡ from_in c.args.self.now c.args.offset c.args.length = ap (λ (r : ℕ × ℕ). r.0) range.1 in
-    length_then (reaches_behind (from_in old c.args.offset c.args.length) old c.begin.new.self c.clear_between-cleared.new.self (ap (λ (i : Qcow2 _ _). i.file.header) c.begin.ensures.rest) (ap (λ (i : Qcow2 _ _). i.l1_table) c.begin.ensures.rest) (subst (λ n. ReachesAtMost n c.begin.new.self c.clear_between-cleared.new.self) from c.clear_between-cleared.ensures.no_longer)) (ap (λ (v : HeaderView). v.fields.l1_entries) (ap (λ (i : Qcow2 _ _). i.file.header) c.mark_failure.ensures.rest))
-
-pub returns-in_err-end_freeing-clause-no_longer : goal.returns-in_err-end_freeing-clause-no_longer
-returns-in_err-end_freeing-clause-no_longer g c =
-    let old = c.args.self.now in
-    let range = not_refused c.check_clear.result _ (refuses_to_clear old c.args.offset c.args.length c.args.how) (c.in_ok-from.from, c.in_ok-from.to) c.check_clear.ensures.refusal c.in_ok-from.was in
-    let from : c.in_ok-from.from ≡ from_in c.args.self.now c.args.offset c.args.length = ap (λ (r : ℕ × ℕ). r.0) range.1 in
-    length_then (length_then (reaches_behind (from_in old c.args.offset c.args.length) old c.begin.new.self c.clear_between-cleared.new.self (ap (λ (i : Qcow2 _ _). i.file.header) c.begin.ensures.rest) (ap (λ (i : Qcow2 _ _). i.l1_table) c.begin.ensures.rest) (subst (λ n. ReachesAtMost n c.begin.new.self c.clear_between-cleared.new.self) from c.clear_between-cleared.ensures.no_longer)) (ap (λ (v : HeaderView). v.fields.l1_entries) (ap (λ (i : Qcow2 _ _). i.file.header) c.mark_failure.ensures.rest))) (ap (λ (v : HeaderView). v.fields.l1_entries) c.end_freeing.ensures.header)
-
-pub returns-clause-no_longer : goal.returns-clause-no_longer
-returns-clause-no_longer g c =
-    let old = c.args.self.now in
-    let range = not_refused c.check_clear.result _ (refuses_to_clear old c.args.offset c.args.length c.args.how) (c.in_ok-from.from, c.in_ok-from.to) c.check_clear.ensures.refusal c.in_ok-from.was in
-    let from : c.in_ok-from.from ≡ from_in c.args.self.now c.args.offset c.args.length = ap (λ (r : ℕ × ℕ). r.0) range.1 in
-    length_then (length_then (reaches_behind (from_in old c.args.offset c.args.length) old c.begin.new.self c.clear_between-cleared.new.self (ap (λ (i : Qcow2 _ _). i.file.header) c.begin.ensures.rest) (ap (λ (i : Qcow2 _ _). i.l1_table) c.begin.ensures.rest) (subst (λ n. ReachesAtMost n c.begin.new.self c.clear_between-cleared.new.self) from c.clear_between-cleared.ensures.no_longer)) (ap (λ (v : HeaderView). v.fields.l1_entries) (ap (λ (i : Qcow2 _ _). i.file.header) c.mark_failure.ensures.rest))) (ap (λ (v : HeaderView). v.fields.l1_entries) c.end_freeing.ensures.header)

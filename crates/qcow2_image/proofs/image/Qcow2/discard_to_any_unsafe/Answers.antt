@@ -27,9 +27,6 @@ returns-clause-covers g c = c.discard_to_zero_unsafe.ensures.covers
 pub returns-clause-emptied : goal.returns-clause-emptied
 returns-clause-emptied g c = c.discard_to_zero_unsafe.ensures.emptied
 
-pub returns-clause-reaches : goal.returns-clause-reaches
-returns-clause-reaches g c = c.discard_to_zero_unsafe.ensures.reaches
-
 pub returns-clause-faults : goal.returns-clause-faults
 returns-clause-faults g c = c.discard_to_zero_unsafe.ensures.faults
 

@@ -27,9 +27,6 @@ returns-clause-covers g c = c.clear_range.ensures.covers
 pub returns-clause-emptied : goal.returns-clause-emptied
 returns-clause-emptied g c = c.clear_range.ensures.emptied
 
-pub returns-clause-reaches : goal.returns-clause-reaches
-returns-clause-reaches g c = c.clear_range.ensures.reaches
-
 pub returns-clause-faults : goal.returns-clause-faults
 returns-clause-faults g c = c.clear_range.ensures.faults
 

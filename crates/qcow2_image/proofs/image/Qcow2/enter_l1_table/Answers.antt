@@ -13,14 +13,12 @@ use Rattle.qcow2_image.proofs.Call.BehindHeader.{behind_allocated, behind_none, 
 use Rattle.qcow2_image.proofs.Prepare.Listing.{gave_former, gave_still}
 use Rattle.qcow2_alloc.proofs.KeptTables.Turning.{always_ok}
 use Rattle.qcow2_image.proofs.Prepare.Lacked.{cause_of, faults_or_limit, faults_unlimited, hands_either, hands_limit, placed_near, stands_untaken, table_clusters, table_more, unlimited_all}
-use Rattle.qcow2_metadata.specs.Header.{HeaderView}
 use Rattle.qcow2_metadata.specs.EntryTable.{entry_count, EntryTableView}
 use Rattle.qcow2_alloc.specs.Limits.{HasNoPlace, IsFaultOr}
 use Rattle.qcow2_alloc.specs.LowestRuns.{IsUsed}
 use Rattle.qcow2_image.specs.LackedPlaces.{HasNoTablePlace, StandsInWay}
 use Rattle.qcow2_image.proofs.Call.FaultCounts.{counted_since, same_told}
 use Rattle.qcow2_alloc.proofs.Hints.{ok_as}
-use Rattle.qcow2_image.proofs.Grow.NoLonger.{length_behind}
 
 pub returns-in_default-clause-takes : goal.returns-in_default-clause-takes
 returns-in_default-clause-takes g c = λ p out sound longer. refused_none g.S.Storage.view g.F.BackingDisk.backing out p c.args.self.now _ sound
@@ -142,15 +140,6 @@ returns-clause-faults g c =
     let taken = record old { file = c.allocate_meta.new.file; allocator = Some c.allocate_meta.new.self } in
     let same = same_told view below old taken c.allocate_meta.result c.in_ok-pending.pending c.allocate_meta.ensures.storage_faults c.in_ok-pending.was refl in
     counted_since view below old taken c.write_taken.new.self c.write_taken.result same c.write_taken.ensures.faults
-
-pub returns-in_default-clause-no_longer : goal.returns-in_default-clause-no_longer
-returns-in_default-clause-no_longer g c = inl refl
-
-pub returns-in_err-pending-clause-no_longer : goal.returns-in_err-pending-clause-no_longer
-returns-in_err-pending-clause-no_longer g c = inl (ap (λ (v : HeaderView). v.fields.l1_entries) c.allocate_meta.ensures.header)
-
-pub returns-clause-no_longer : goal.returns-clause-no_longer
-returns-clause-no_longer g c = length_behind (ap (λ (v : HeaderView). v.fields.l1_entries) c.allocate_meta.ensures.header) c.write_taken.ensures.no_longer
 
 pub returns-clause-bytes : goal.returns-clause-bytes
 returns-clause-bytes g c = ok_as (c.write_taken.new.self.l1_table ≡ record c.args.table { cluster = Some c.in_ok-pending.pending.first_cluster }) (c.write_taken.new.self.l1_table.bytes ≡ c.args.table.bytes) c.write_taken.result (λ is. ap (λ (t : EntryTableView). t.bytes) is) c.write_taken.ensures.placed

@@ -25,9 +25,6 @@ use Rattle.qcow2_image.specs.declared.image.Qcow2.{Qcow2}
 use Rattle.qcow2_image.proofs.Preallocate.Met.{hands_met, met_piece}
 use Rattle.qcow2_image.proofs.Grow.Lengths.{place_same}
 use Rattle.qcow2_image.specs.Backings.{HasPrepared}
-use Rattle.qcow2_metadata.specs.Header.{HeaderView}
-use Rattle.qcow2_image.proofs.Grow.NoLonger.{length_then}
-use Rattle.qcow2_image.proofs.Sizing.NeededLengths.{stays_told}
 use Rattle.qcow2_image.proofs.Call.ToldData.{notes_if}
 
 pub returns-in_err-prepared-clause-fills : goal.returns-in_err-prepared-clause-fills
@@ -50,7 +47,6 @@ returns-in_err-prepared-clause-fills g c = λ out sound whole.
       limit = λ is.
           lacks_here view below out old new c.args.to c.args.from c.args.to c.min.result sound some (omega (arith, asked, lt)) (c.in_err-prepared.ensures.limit some out sound is) (λ past. absurd (omega (arith, lt, past)))
           (emptied_by_limit new e (c.in_err-prepared.ensures.listed some out sound) is);
-      length = stays_told old new view below out c.args.from sound c.prepare.ensures.no_longer c.args.to lt;
     })
 
 pub returns-in-Err-clause-fills : goal.returns-in-Err-clause-fills
@@ -82,11 +78,6 @@ returns-in-Err-clause-fills g c = λ out sound whole.
       limit = λ is.
           let gone = sound_now view below out old mid p from n sound ready answered fits c.put_zeros.new.self c.release_prepared.new.self c.free_after.new.self to e e' within put c.release_prepared.ensures.sees c.free_after.ensures.fault in
           other_limit (LacksPlaceOnWay view below to from (from + p.length) old c.free_after.new.self out) e c.in-Err.ensures.limited (c.free_after.ensures.limit out gone is).0;
-      length =
-          let any = c.in_ok-prepared.ensures.some some in
-          let put : c.put_zeros.new.self.file.header ≡ c.prepare.new.self.file.header = ap (λ (i : Qcow2 _ _). i.file.header) c.put_zeros.ensures.written.rest in
-          let same = c.free_after.ensures.keeps_rest.header ∙ c.release_prepared.ensures.header ∙ put in
-          stays_told old c.free_after.new.self view below out from sound (length_then c.prepare.ensures.no_longer (ap (λ (v : HeaderView). v.fields.l1_entries) same)) (from + p.length) (omega (arith, any));
     })
 
 pub returns-in_err-free_listed-clause-fills : goal.returns-in_err-free_listed-clause-fills

@@ -3,7 +3,7 @@ use Rattle.qcow2_alloc.proofs.KeptMarks.{notes_then, notes_for}
 use Rattle.std.proofs.Common.{◌≡◌, ◌∙◌, ap, subst, sym, refl, Ok, Err}
 use Rattle.std.specs.Prelude.{IsTrue}
 use Rattle.qcow2_alloc.specs.declared.error.ImageError.TheVariants.{Version}
-use Rattle.qcow2_metadata.specs.Header.{HeaderView, cluster_size, rounded_up}
+use Rattle.qcow2_metadata.specs.Header.{cluster_size, rounded_up}
 use Rattle.qcow2_image.specs.declared.image.Qcow2.{Qcow2}
 use Rattle.qcow2_image.specs.Image.{size_of}
 use Rattle.qcow2_image.specs.Preallocation.{LacksPlaceOnWay, first_zeros}
@@ -45,7 +45,6 @@ returns-in-Err-clause-fills g c = λ out sound.
           let lacks = refused.limit before in
           let cs = cluster_size old.file.header.fields in
           subst (λ (image : Qcow2 _ _). LacksPlaceOnWay view below (first_zeros cs (size_of old) size c.args.mode) (size_of old) (rounded_up cs size) old image out) (sym (c.free_after.ensures.idle lacks.emptied).1) lacks;
-      length = λ within. ap (λ (v : HeaderView). v.fields.l1_entries) c.free_after.ensures.keeps_rest.header ∙ refused.length within;
     }
 
 pub returns-in-Err-clause-freed : goal.returns-in-Err-clause-freed

@@ -49,8 +49,6 @@ use Rattle.qcow2_image.specs.LackedTables.{CantGrowDisk, LacksPlaceBehind, Lacks
 use Rattle.qcow2_image.specs.LackedPlaces.{IsPlacedNear}
 use Rattle.qcow2_image.proofs.Preallocate.Met.{hands_met, met_behind, near_longer_ends}
 use Rattle.qcow2_image.specs.MetAlone.{IsMetGrowing}
-use Rattle.qcow2_image.proofs.Grow.NoLonger.{reaches_behind}
-use Rattle.qcow2_image.proofs.Sizing.NeededLengths.{longer_kept, longer_reached, longer_told}
 
 pub returns-in_err-mark_failure-clause-sees : goal.returns-in_err-mark_failure-clause-sees
 returns-in_err-mark_failure-clause-sees g c =
@@ -224,10 +222,6 @@ returns-in_err-mark_failure-clause-tables g c = λ out sound.
             | inl fault ↦ inr (inl fault)
             | inr is ↦ inr (inr (is, subst (λ (image : Qcow2 _ _). LacksTableReaching view offset old image) (sym c.mark_failure.ensures.rest) (longer_ended view offset old begun mid marked c.begin.ensures.rest (limit is))))
           ];
-      length =
-          let offset = c.args.size - 1 in
-          let reaches = reaches_behind offset old begun mid (ap (λ (i : Qcow2 _ _). i.file.header) c.begin.ensures.rest) (ap (λ (i : Qcow2 _ _). i.l1_table) c.begin.ensures.rest) c.renew_l1_table-longer.ensures.no_longer in
-          longer_kept old.file.header.fields mid.file.header.fields c.mark_failure.new.self.file.header.fields offset (longer_told old mid view below out offset sound reaches) (ap (λ (i : Qcow2 _ _). i.file.header.fields.l1_entries) c.mark_failure.ensures.rest);
     })
 
 pub returns-in_err-mark_fault-clause-tables : goal.returns-in_err-mark_fault-clause-tables
@@ -264,15 +258,6 @@ returns-in_err-mark_fault-clause-tables g c = λ out sound.
           (c.fill_grown-filled.ensures.stays.image.number ∙ c.mark_failure.ensures.image.number ∙ c.renew_l1_table-longer.ensures.stays.image.number ∙ c.begin.ensures.stays.image.number)
           (subst (λ (r : Result _ _). MayMarkBy r (is_failed filled) marked) done (may_mark c.fill_grown-filled.new.self c.mark_fault.new.self c.fill_grown-filled.result c.mark_fault.ensures.marks))));
       version = λ zero lacks. inl (let fault : Err e ≡ Err Version = sym done ∙ (none zero lacks).0 in let is : e ≡ Version = cc in is);
-      length =
-          let offset = c.args.size - 1 in
-          let length = subst (λ (r : Result _ _). OnOk r (entry_count mid.l1_table ≡ max (entry_count begun.l1_table) (l1_index_of begun.file.header.fields offset + 1))) made c.renew_l1_table-longer.ensures.length in
-          let told = reaches_begun old.file.header.fields begun.file.header.fields mid.file.header.fields offset (c.begin.ensures.keeps (pending_in view below old out) out sound).unseen.header
-          (reaches_told view below out (pending_in view below begun out) (pending_in view below mid out) begun mid offset begins.sound lengthens.sound length) in
-          let longer = subst (λ (image : Qcow2 _ _). ReachesOffset offset old.file.header.fields image.file.header.fields) (sym same) told in
-          let refused = subst (FillsGrownOrRefuses view below c.args.size c.args.mode long filled out) done (c.fill_grown-filled.ensures.fills out call.sound) in
-          let reached = reaches_on old.file.header.fields long.file.header.fields filled.file.header.fields c.args.size (let l = c.requires.larger in omega (arith, l)) call.header longer refused.length in
-          longer_kept old.file.header.fields filled.file.header.fields c.mark_fault.new.self.file.header.fields offset (longer_reached old.file.header.fields filled.file.header.fields offset reached) (ap (λ (i : Qcow2 _ _). i.file.header.fields.l1_entries) c.mark_fault.ensures.rest);
     })
 
 pub returns-clause-tables : goal.returns-clause-tables
@@ -303,7 +288,7 @@ returns-clause-tables g c = λ out sound.
     let told = reaches_begun old.file.header.fields begun.file.header.fields mid.file.header.fields (c.args.size - 1) step.unseen.header
     (reaches_told view below out (pending_in view below begun out) (pending_in view below mid out) begun mid (c.args.size - 1) begins.sound lengthens.sound length) in
     let longer = subst (λ (image : Qcow2 _ _). ReachesOffset (c.args.size - 1) old.file.header.fields image.file.header.fields) (sym same) told in
-    let as_long = reaches_on old.file.header.fields long.file.header.fields c.mark_fault.new.self.file.header.fields c.args.size (let l = c.requires.larger in omega (arith, l)) call.header longer (λ within. (grown.l1_table within).1) in
+    let as_long = reaches_on old.file.header.fields long.file.header.fields c.mark_fault.new.self.file.header.fields c.args.size (let l = c.requires.larger in omega (arith, l)) call.header longer grown.l1_table in
     let never : c.args.mode ≡ Zero → LacksZeros old → ⊥ = λ zero lacks.
     let empty : HasNothingToFree c.mark_failure.new.self = subst (λ (i : Qcow2 _ _). HasNothingToFree i) (sym same) (subst (λ (r : Result _ _). OnOk r (HasNothingToFree mid)) made c.renew_l1_table-longer.ensures.emptied) in
     let refused = c.fill_grown-filled.ensures.version empty zero (subst (λ n. n < 3) (sym (same_version old.file.header.fields long.file.header.fields call.header)) lacks) in
@@ -314,7 +299,7 @@ returns-clause-tables g c = λ out sound.
     let emptied : HasNothingToFree new = ap (λ (i : Qcow2 _ _). i.file.free_list) c.write_size-written.ensures.rest ∙ subst (λ (image : Qcow2 _ _). HasNothingToFree image) (sym whole) still in
     subst (λ (image : Qcow2 _ _). GrowsTables view below old image c.args.size c.args.mode out c.mark_fault-2.result) (sym c.mark_fault-2.ensures.rest)
     (subst (λ (r : Result _ _). GrowsTables view below old (with_marks new (is_changed_of c.mark_fault-2.new.self.file.storage) (is_failed c.mark_fault-2.new.self)) c.args.size c.args.mode out r) (sym c.mark_fault-2.ensures.answer)
-    (tables_noted view below old (record new { is_failed = is_failed c.mark_fault-2.new.self }) (is_changed_of c.mark_fault-2.new.self.file.storage) c.args.size c.args.mode out c.write_size-written.result (tables_sized view below out old c.mark_fault.new.self new (is_failed c.mark_fault-2.new.self) c.args.size c.args.mode c.write_size-written.result (file_step_then old.file.header.fields long.file.header.fields c.mark_fault.new.self.file.header.fields call.header grown.header) c.write_size-written.ensures.cause c.write_size-written.ensures.header c.write_size-written.ensures.restored
+    (tables_noted view below old (record new { is_failed = is_failed c.mark_fault-2.new.self }) (is_changed_of c.mark_fault-2.new.self.file.storage) c.args.size c.args.mode out c.write_size-written.result (tables_sized view below out old c.mark_fault.new.self new (is_failed c.mark_fault-2.new.self) c.args.size c.args.mode c.write_size-written.result (file_step_then old.file.header.fields long.file.header.fields c.mark_fault.new.self.file.header.fields call.header grown.header) c.write_size-written.ensures.cause c.write_size-written.ensures.header
     (subst (λ (image : Qcow2 _ _). ReachesSize (with_size image.file.header.fields c.args.size)) (sym whole) reached) as_long
     (leaves_sized view below out old long c.mark_fault.new.self new c.args.size c.args.mode c.write_size-written.result call grown (c.write_size-written.ensures.writes out grown.sound)) emptied never
     (untaken_grown view below out old long c.args.size c.args.mode call grown.free))))

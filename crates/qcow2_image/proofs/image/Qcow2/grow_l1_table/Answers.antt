@@ -14,7 +14,6 @@ use Rattle.std.proofs.lemmas.Bool.Decides.{nat_tests}
 use Rattle.qcow2_alloc.specs.ImageError.{of_metadata}
 use Rattle.qcow2_image.specs.LackedPlaces.{HasNoTablePlace, LacksLongerTable, StandsInWay}
 use Rattle.qcow2_metadata.specs.TableBytes.{entry_at}
-use Rattle.qcow2_image.proofs.Grow.NoLonger.{length_as}
 
 pub returns-then-index-ge-MAX_L1_ENTRIES-clause-lengthens : goal.returns-then-index-ge-MAX_L1_ENTRIES-clause-lengthens
 returns-then-index-ge-MAX_L1_ENTRIES-clause-lengthens g c = λ p out sound. refused_none g.S.Storage.view g.F.BackingDisk.backing out p c.args.self.now _ sound
@@ -134,21 +133,6 @@ returns-in-Err-clause-fault g c = λ writable p out sound.
     let longer = is_longer view g.F.BackingDisk.backing out p old sound t _ c.max-entries.result c.in_ok-table.ensures.table c.in_ok-table.ensures.length enough c.in_ok-table.ensures.entries in
     let many : entry_count t ≡ max (entry_count old.l1_table) (c.args.index + 1) = omega (arith, c.in_ok-table.ensures.length, c.max-entries.ensures, c.len.ensures.value) in
     c.in-Err.ensures.fault writable p out sound longer (omega (arith, many))
-
-pub returns-then-index-ge-MAX_L1_ENTRIES-clause-no_longer : goal.returns-then-index-ge-MAX_L1_ENTRIES-clause-no_longer
-returns-then-index-ge-MAX_L1_ENTRIES-clause-no_longer g c = inl refl
-
-pub returns-in_err-table-clause-no_longer : goal.returns-in_err-table-clause-no_longer
-returns-in_err-table-clause-no_longer g c = inl refl
-
-pub returns-in_err-old-clause-no_longer : goal.returns-in_err-old-clause-no_longer
-returns-in_err-old-clause-no_longer g c = inl refl
-
-pub returns-in-Ok-clause-no_longer : goal.returns-in-Ok-clause-no_longer
-returns-in-Ok-clause-no_longer g c = length_as (omega (arith, c.in_ok-table.ensures.length, c.max-entries.ensures, c.len.ensures.value)) c.enter_l1_table.ensures.no_longer
-
-pub returns-in-Err-clause-no_longer : goal.returns-in-Err-clause-no_longer
-returns-in-Err-clause-no_longer g c = length_as (omega (arith, c.in_ok-table.ensures.length, c.max-entries.ensures, c.len.ensures.value)) c.enter_l1_table.ensures.no_longer
 
 pub returns-in-Ok-clause-kept : goal.returns-in-Ok-clause-kept
 returns-in-Ok-clause-kept g c = λ i. ap (λ l. entry_at l i) c.in-Ok.ensures.bytes ∙ c.in_ok-table.ensures.entries i

@@ -17,8 +17,6 @@ use Rattle.qcow2_image.proofs.Prepare.Lacked.{faults_or_limit, faults_unlimited,
 use Rattle.qcow2_image.specs.LackedPlaces.{IsPlacedNear, LacksLongerTable}
 use Rattle.qcow2_image.specs.LackedTables.{LacksTableReaching}
 use Rattle.qcow2_image.proofs.image.Qcow2.lengthen_l1_table.Goals as goal
-use Rattle.qcow2_metadata.specs.Header.{HeaderView}
-use Rattle.qcow2_image.proofs.Grow.NoLonger.{length_as, length_then}
 
 pub returns-in_err-grow_l1_table-clause-makes : goal.returns-in_err-grow_l1_table-clause-makes
 returns-in_err-grow_l1_table-clause-makes g c = λ out sound.
@@ -114,17 +112,3 @@ returns-in_err-grow_l1_table-clause-kept g c = on_no_ok _ c.from_residual.result
 
 pub returns-clause-kept : goal.returns-clause-kept
 returns-clause-kept g c = always_ok c.free_listed.result (λ i. ap (λ (t : EntryTableView). entry_at t.bytes i) c.free_listed.ensures.table ∙ c.in_ok-grow_l1_table.ensures.kept i)
-
-pub returns-in_err-grow_l1_table-clause-no_longer : goal.returns-in_err-grow_l1_table-clause-no_longer
-returns-in_err-grow_l1_table-clause-no_longer g c =
-    let old = c.args.self.now in
-    let idx : c.l1_index-index.result ≡ l1_index_of old.file.header.fields c.args.offset =
-    c.l1_index-index.ensures ∙ ap (λ n. n / 2 ^ c.cluster_bits.result / (2 ^ c.cluster_bits.result / 8)) c.new.ensures ∙ ap (λ b. c.args.offset / 2 ^ b / (2 ^ b / 8)) c.cluster_bits.ensures.value in
-    length_as (ap (λ i. max (entry_count old.l1_table) (i + 1)) idx) c.grow_l1_table.ensures.no_longer
-
-pub returns-clause-no_longer : goal.returns-clause-no_longer
-returns-clause-no_longer g c =
-    let old = c.args.self.now in
-    let idx : c.l1_index-index.result ≡ l1_index_of old.file.header.fields c.args.offset =
-    c.l1_index-index.ensures ∙ ap (λ n. n / 2 ^ c.cluster_bits.result / (2 ^ c.cluster_bits.result / 8)) c.new.ensures ∙ ap (λ b. c.args.offset / 2 ^ b / (2 ^ b / 8)) c.cluster_bits.ensures.value in
-    length_then (length_as (ap (λ i. max (entry_count old.l1_table) (i + 1)) idx) c.grow_l1_table.ensures.no_longer) (ap (λ (v : HeaderView). v.fields.l1_entries) c.free_listed.ensures.keeps_rest.header)

@@ -1,5 +1,5 @@
 use Rattle.qcow2_image.proofs.image.Qcow2.name_l1_table.Goals as goal
-use Rattle.std.proofs.Common.{◌*◌, ◌^◌, ◌≤◌, ap, ◌∙◌, arith, inl, inr}
+use Rattle.std.proofs.Common.{◌*◌, ◌^◌, ◌≤◌, ap, ◌∙◌, arith}
 use Rattle.qcow2_metadata.specs.EntryTable.{entry_count}
 use Rattle.qcow2_alloc.specs.ImageError.{of_storage}
 use Rattle.qcow2_alloc.specs.ImageStorage.{storage_of}
@@ -58,12 +58,3 @@ returns-in_err-set_l1_table-clause-fault g c = absurd (let past = c.in_err-set_l
 pub returns-in_err-write_l1_table_pointer-clause-fault : goal.returns-in_err-write_l1_table_pointer-clause-fault
 returns-in_err-write_l1_table_pointer-clause-fault g c =
     hands_fault c.from_residual-in_err-write_l1_table_pointer.result (of_storage c.in_err-write_l1_table_pointer.field-0.0) c.from_residual-in_err-write_l1_table_pointer.ensures (storage_fault c.in_err-write_l1_table_pointer.field-0.0)
-
-pub returns-in_err-set_l1_table-clause-no_longer : goal.returns-in_err-set_l1_table-clause-no_longer
-returns-in_err-set_l1_table-clause-no_longer g c = inl (ap (λ (v : HeaderView). v.fields.l1_entries) c.in_err-set_l1_table.ensures.same)
-
-pub returns-in_err-write_l1_table_pointer-clause-no_longer : goal.returns-in_err-write_l1_table_pointer-clause-no_longer
-returns-in_err-write_l1_table_pointer-clause-no_longer g c = inr (ap (λ (v : HeaderView). v.fields.l1_entries) c.in_ok-set_l1_table.ensures.ok ∙ c.len.ensures.value)
-
-pub returns-clause-no_longer : goal.returns-clause-no_longer
-returns-clause-no_longer g c = inr (ap (λ (v : HeaderView). v.fields.l1_entries) c.in_ok-set_l1_table.ensures.ok ∙ c.len.ensures.value)

@@ -1,5 +1,5 @@
 use Rattle.qcow2_image.proofs.image.Qcow2.prepare.Goals as goal
-use Rattle.std.proofs.Common.{⊎_elim, inl, refl, sym, subst, ap}
+use Rattle.std.proofs.Common.{⊎_elim, inl, refl, sym, subst}
 use Rattle.std.specs.Prelude.{IsTrue}
 use Rattle.qcow2_alloc.specs.ImageError.{IsFault}
 use Rattle.qcow2_image.proofs.Call.Refused.{back_then_freed}
@@ -15,8 +15,6 @@ use Rattle.qcow2_image.specs.MetAlone.{CopiesCompressed, IsMetTaking}
 use Rattle.qcow2_image.proofs.Prepare.MetTables.{met_freed}
 use Rattle.qcow2_image.specs.Backings.{HasPrepared}
 use Rattle.qcow2_image.specs.Preparing.{IsTaken}
-use Rattle.qcow2_image.proofs.Grow.NoLonger.{length_then}
-use Rattle.qcow2_metadata.specs.Header.{HeaderView}
 
 pub returns-in-Ok-clause-readies : goal.returns-in-Ok-clause-readies
 returns-in-Ok-clause-readies g c = λ some out sound. c.in-Ok.ensures.readies some out sound
@@ -84,12 +82,6 @@ returns-in-Err-clause-met g c = λ some out sound.
     let known = known_in g.S.Storage.view old.file in
     met_freed g.S.Storage.view g.F.BackingDisk.backing out (IsMetTaking (HasPrepared out) (IsTaken h known c.args.offset c.args.length out) (CopiesCompressed c.args.offset c.args.length c.args.overwrite h known) (NeedsFarEntry old c.args.offset)) (λ e fault. inl (inl (inl fault))) old c.prepare_range.new.self c.free_after.new.self c.in-Err.refusal c.free_after.result
     (c.in-Err.ensures.readies some out sound) c.free_after.ensures.fault (c.free_after.ensures.told out) (c.in-Err.ensures.met some out sound)
-
-pub returns-in-Ok-clause-no_longer : goal.returns-in-Ok-clause-no_longer
-returns-in-Ok-clause-no_longer g c = c.prepare_range.ensures.no_longer
-
-pub returns-in-Err-clause-no_longer : goal.returns-in-Err-clause-no_longer
-returns-in-Err-clause-no_longer g c = length_then c.prepare_range.ensures.no_longer (ap (λ (v : HeaderView). v.fields.l1_entries) c.free_after.ensures.keeps_rest.header)
 
 pub returns-in-Ok-clause-freeing : goal.returns-in-Ok-clause-freeing
 returns-in-Ok-clause-freeing g c = λ some out sound. c.in-Ok.ensures.freeing some out sound

@@ -1,5 +1,5 @@
 use Rattle.qcow2_image.proofs.image.Qcow2.prepare_range.Goals as goal
-use Rattle.std.proofs.Common.{◌≡◌, true, false, inl, inr, refl, sym, ◌∙◌, subst, None, Option, [], ◌∷◌, ap, ◌<◌, ◌≤◌, ℕ}
+use Rattle.std.proofs.Common.{◌≡◌, true, false, inl, inr, refl, sym, subst, None, Option, [], ◌∷◌, ap, ◌<◌, ◌≤◌, ℕ}
 use Rattle.qcow2_alloc.specs.ImageFile.{known_in}
 use Rattle.qcow2_alloc.proofs.AllocationSteps.{handed_on}
 use Rattle.qcow2_image.specs.CallParts.{PreparesRange}
@@ -8,7 +8,7 @@ use Rattle.qcow2_image.specs.ImageInvariant.{meaning, pending_in}
 use Rattle.qcow2_image.proofs.Prepare.PreparedAs.{answered_before, answered_existing, answered_range, nowhere_before, taken_before}
 use Rattle.qcow2_image.proofs.Map.Loading.{if_ok}
 use Rattle.qcow2_image.proofs.Free.{free_places}
-use Rattle.qcow2_image.proofs.Grow.Lengths.{kept_length, on_ok}
+use Rattle.qcow2_image.proofs.Grow.Lengths.{on_ok}
 use Rattle.qcow2_image.proofs.Prepare.Preparing.{readied_existing}
 use Rattle.qcow2_image.proofs.Call.Refused.{prepares_after, readied_after}
 use Rattle.qcow2_image.proofs.Prepare.Taken.{if_err, taken_by}
@@ -20,7 +20,7 @@ use Rattle.qcow2_image.proofs.Prepare.Pinned.{found_pins, met_untaken, prepared_
 use Rattle.qcow2_image.proofs.Prepare.Lacked.{hands_limit, limits_as, other_limit}
 use Rattle.qcow2_image.proofs.Prepare.LackedBehind.{data_after_table}
 use Rattle.qcow2_image.specs.LackedPlaces.{LacksData, LacksRange}
-use Rattle.qcow2_metadata.specs.Header.{cluster_size, HeaderView}
+use Rattle.qcow2_metadata.specs.Header.{cluster_size}
 use Rattle.qcow2_metadata.specs.declared.header.HeaderFields.{HeaderFields}
 use Rattle.qcow2_image.specs.L1Entries.{NeedsFarEntry}
 use Rattle.qcow2_image.specs.MetAlone.{CopiesCompressed, IsMetTaking}
@@ -29,7 +29,6 @@ use Rattle.qcow2_image.proofs.Prepare.Unannounced.{compressed_as}
 use Rattle.qcow2_image.specs.Backings.{HasPrepared}
 use Rattle.qcow2_image.proofs.Prepare.Met.{hands_met}
 use Rattle.qcow2_image.proofs.Prepare.MetTaking.{if_err_both, taking_as, taking_kept}
-use Rattle.qcow2_image.proofs.Grow.NoLonger.{length_then}
 use Rattle.qcow2_alloc.specs.KeptMarks.{KeepsFileNotes}
 use Rattle.qcow2_image.specs.Noted.{DataUnlessExisting}
 
@@ -116,7 +115,6 @@ returns-in-None-clause-some g c = if_ok c.prepare_in.result (λ p has some. has)
 pub returns-in-Some-clause-tables : goal.returns-in-Some-clause-tables
 returns-in-Some-clause-tables g c = λ out sound.
     record {
-      reaches = c.in_ok-table.ensures.reaches out sound;
       lists = c.in_ok-table.ensures.freed out sound;
     }
 
@@ -124,7 +122,6 @@ pub returns-in-None-clause-tables : goal.returns-in-None-clause-tables
 returns-in-None-clause-tables g c = λ out sound.
     on_ok c.prepare_in.result
     (λ former. record {
-      reaches = kept_length c.table_for.new.self.file.header c.prepare_in.new.self.file.header c.prepare_in.ensures.header ∙ c.in_ok-table.ensures.reaches out sound;
       lists = lists_since c.args.offset c.args.self.now c.table_for.new.self c.prepare_in.new.self (c.in_ok-table.ensures.freed out sound) former;
     }) c.prepare_in.ensures.former
 
@@ -219,18 +216,6 @@ pub returns-in-None-clause-l1_place : goal.returns-in-None-clause-l1_place
 returns-in-None-clause-l1_place g c = λ within.
     on_ok c.prepare_in.result
     (λ former. place_then c.args.self.now.file.header.fields c.table_for.new.self.file.header.fields c.prepare_in.new.self.file.header.fields (c.in_ok-table.ensures.l1_place within) (place_kept c.table_for.new.self.file.header c.prepare_in.new.self.file.header c.prepare_in.ensures.header)) c.prepare_in.ensures.former
-
-pub returns-in_err-table-clause-no_longer : goal.returns-in_err-table-clause-no_longer
-returns-in_err-table-clause-no_longer g c = c.table_for.ensures.no_longer
-
-pub returns-in_err-host-clause-no_longer : goal.returns-in_err-host-clause-no_longer
-returns-in_err-host-clause-no_longer g c = c.table_for.ensures.no_longer
-
-pub returns-in-Some-clause-no_longer : goal.returns-in-Some-clause-no_longer
-returns-in-Some-clause-no_longer g c = c.table_for.ensures.no_longer
-
-pub returns-in-None-clause-no_longer : goal.returns-in-None-clause-no_longer
-returns-in-None-clause-no_longer g c = length_then c.table_for.ensures.no_longer (ap (λ (v : HeaderView). v.fields.l1_entries) c.prepare_in.ensures.header)
 
 pub returns-in-Some-clause-freeing : goal.returns-in-Some-clause-freeing
 returns-in-Some-clause-freeing g c = λ some out sound none. c.in_ok-table.ensures.freeing out sound

@@ -1,5 +1,5 @@
 use Rattle.qcow2_image.proofs.image.Qcow2.reach_entry.Goals as goal
-use Rattle.std.proofs.Common.{◌≡◌, ◌+◌, ◌/◌, ◌^◌, max, sym, ap, ◌∙◌, subst, ◌≤◌, arith, refl, inl}
+use Rattle.std.proofs.Common.{◌≡◌, ◌+◌, ◌/◌, ◌^◌, max, sym, ap, ◌∙◌, subst, ◌≤◌, arith, refl}
 use Rattle.qcow2_metadata.specs.EntryTable.{entry_count, EntryTableView}
 use Rattle.qcow2_laws.specs.CrashInvariant.{Pending}
 use Rattle.qcow2_alloc.proofs.AllocationSteps.{handed_on}
@@ -18,8 +18,6 @@ use Rattle.qcow2_image.proofs.Prepare.Listing.{some_kept, some_none}
 use Rattle.qcow2_image.proofs.Prepare.Lacked.{faults_unlimited, hands_limit, unlimited_all, faults_or_limit, hands_either}
 use Rattle.qcow2_image.specs.LackedPlaces.{EndsBefore, IsPlacedNear, LacksLongerTable}
 use Rattle.qcow2_metadata.specs.TableBytes.{entry_at}
-use Rattle.qcow2_image.proofs.Grow.NoLonger.{length_as, length_then}
-use Rattle.qcow2_metadata.specs.Header.{HeaderView}
 
 pub returns-then-in_bounds-clause-makes : goal.returns-then-in_bounds-clause-makes
 returns-then-in_bounds-clause-makes g c = λ out sound. makes_none g.S.Storage.view g.F.BackingDisk.backing out c.args.self.now sound
@@ -159,23 +157,6 @@ returns-clause-fault g c = λ out sound.
     let first = stays_moved view below out old mid sound (c.in_ok-grow_l1_table.ensures.lengthens (pending_in view below old out) out sound) in
     let listed = subst (λ (x : Pending). ImageInvariant view below x mid out) (all_listed view below mid out) first.sound in
     faults_or_limit c.free_listed.result (c.free_listed.ensures.faults (beside view below mid out) out listed)
-
-pub returns-then-in_bounds-clause-no_longer : goal.returns-then-in_bounds-clause-no_longer
-returns-then-in_bounds-clause-no_longer g c = inl refl
-
-pub returns-in_err-grow_l1_table-clause-no_longer : goal.returns-in_err-grow_l1_table-clause-no_longer
-returns-in_err-grow_l1_table-clause-no_longer g c =
-    let old = c.args.self.now in
-    let idx : c.l1_index-index.result ≡ l1_index_of old.file.header.fields c.args.offset =
-    c.l1_index-index.ensures ∙ ap (λ n. n / 2 ^ c.cluster_bits.result / (2 ^ c.cluster_bits.result / 8)) c.new.ensures ∙ ap (λ b. c.args.offset / 2 ^ b / (2 ^ b / 8)) c.cluster_bits.ensures.value in
-    length_as (ap (λ i. max (entry_count old.l1_table) (i + 1)) idx) c.grow_l1_table.ensures.no_longer
-
-pub returns-clause-no_longer : goal.returns-clause-no_longer
-returns-clause-no_longer g c =
-    let old = c.args.self.now in
-    let idx : c.l1_index-index.result ≡ l1_index_of old.file.header.fields c.args.offset =
-    c.l1_index-index.ensures ∙ ap (λ n. n / 2 ^ c.cluster_bits.result / (2 ^ c.cluster_bits.result / 8)) c.new.ensures ∙ ap (λ b. c.args.offset / 2 ^ b / (2 ^ b / 8)) c.cluster_bits.ensures.value in
-    length_then (length_as (ap (λ i. max (entry_count old.l1_table) (i + 1)) idx) c.grow_l1_table.ensures.no_longer) (ap (λ (v : HeaderView). v.fields.l1_entries) c.free_listed.ensures.keeps_rest.header)
 
 pub returns-then-in_bounds-clause-kept : goal.returns-then-in_bounds-clause-kept
 returns-then-in_bounds-clause-kept g c = λ i. refl

@@ -1,4 +1,4 @@
-use Rattle.std.proofs.Common.{subst, sym, refl, ap}
+use Rattle.std.proofs.Common.{subst, sym, refl}
 use Rattle.std.specs.Prelude.{IsTrue}
 use Rattle.qcow2_alloc.proofs.KeptMarks.{notes_then}
 use Rattle.qcow2_image.proofs.Call.BehindHeader.{behind_then}
@@ -8,8 +8,6 @@ use Rattle.qcow2_image.proofs.Call.Refused.{back_then_freed}
 use Rattle.qcow2_image.proofs.Prepare.Lacked.{either_frees, limited_frees}
 use Rattle.qcow2_image.proofs.Sizing.LackedTables.{longer_freed}
 use Rattle.qcow2_image.proofs.image.Qcow2.renew_l1_table.Goals as goal
-use Rattle.qcow2_metadata.specs.Header.{HeaderView}
-use Rattle.qcow2_image.proofs.Grow.NoLonger.{length_then}
 
 pub returns-in-Err-clause-cause : goal.returns-in-Err-clause-cause
 returns-in-Err-clause-cause g c = met_freed c.in-Err.refusal c.free_after.result c.in-Err.ensures.cause c.free_after.ensures.cause c.free_after.ensures.taken
@@ -65,9 +63,3 @@ returns-in-Err-clause-fault g c = λ out sound.
 
 pub returns-in-Ok-clause-kept : goal.returns-in-Ok-clause-kept
 returns-in-Ok-clause-kept g c = c.in-Ok.ensures.kept
-
-pub returns-in-Ok-clause-no_longer : goal.returns-in-Ok-clause-no_longer
-returns-in-Ok-clause-no_longer g c = c.lengthen_l1_table.ensures.no_longer
-
-pub returns-in-Err-clause-no_longer : goal.returns-in-Err-clause-no_longer
-returns-in-Err-clause-no_longer g c = length_then c.lengthen_l1_table.ensures.no_longer (ap (λ (v : HeaderView). v.fields.l1_entries) c.free_after.ensures.keeps_rest.header)

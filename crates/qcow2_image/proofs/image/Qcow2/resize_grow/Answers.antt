@@ -7,7 +7,6 @@ use Rattle.qcow2_image.proofs.Clear.ClearCalls.{err_is, not_refused, refused_for
 use Rattle.qcow2_image.proofs.Sizing.GrowCalls.{grows_early, grows_nothing, grows_over}
 use Rattle.qcow2_image.proofs.Sizing.ShrinkCalls.{resize_works}
 use Rattle.qcow2_image.proofs.Prepare.Taken.{if_err}
-use Rattle.qcow2_image.proofs.Sizing.NeededLengths.{longer_none}
 
 pub returns-in_err-check_resize-clause-sees : goal.returns-in_err-check_resize-clause-sees
 returns-in_err-check_resize-clause-sees g c =
@@ -32,7 +31,6 @@ returns-then-takes_over-clause-tables g c = λ none larger out sound. record {
   taken = λ is. absurd cc;
   zeros = λ zero lacks. absurd (let no : true ≡ false = sym c.if-takes_over.true ∙ c.takes_over.ensures ∙ ap (takes_over c.args.self.now) zero in cc);
   version = λ zero lacks. absurd (let no : true ≡ false = sym c.if-takes_over.true ∙ c.takes_over.ensures ∙ ap (takes_over c.args.self.now) zero in cc);
-  length = longer_none c.args.self.now.file.header.fields (c.args.size - 1);
 }
 
 pub returns-in_err-check_resize-clause-once_written : goal.returns-in_err-check_resize-clause-once_written

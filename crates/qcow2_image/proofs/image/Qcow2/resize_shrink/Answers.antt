@@ -13,7 +13,6 @@ use Rattle.qcow2_image.proofs.Sizing.ShrinkCalls.{fault_unprepared, met_prepared
 use Rattle.qcow2_image.proofs.Sizing.Tails.{mono_up}
 use Rattle.qcow2_image.proofs.Sizing.UncoveredTails.{uncovers_no_cluster}
 use Rattle.qcow2_image.proofs.image.Qcow2.resize_shrink.Goals as goal
-use Rattle.qcow2_image.proofs.Sizing.NeededLengths.{longer_none}
 
 pub returns-in_err-check_resize-clause-sees : goal.returns-in_err-check_resize-clause-sees
 returns-in_err-check_resize-clause-sees g c =
@@ -106,15 +105,3 @@ returns-clause-pinned g c = λ none smaller. (
   λ is. absurd (fault_unprepared c.shrink.result c.shrink.ensures.cause is),
   λ has. absurd (let unpinned = c.first_pinned_l2.ensures.none (sym c.is_some.ensures ∙ c.if-is_some.false) has.cluster in let some = has.pins in omega arith),
 )
-
-pub returns-in_err-check_resize-clause-length : goal.returns-in_err-check_resize-clause-length
-returns-in_err-check_resize-clause-length g c = λ out sound. longer_none c.args.self.now.file.header.fields (size_of c.args.self.now - 1)
-
-pub returns-then-size-clause-length : goal.returns-then-size-clause-length
-returns-then-size-clause-length g c = λ out sound. longer_none c.args.self.now.file.header.fields (size_of c.args.self.now - 1)
-
-pub returns-then-is_some-clause-length : goal.returns-then-is_some-clause-length
-returns-then-is_some-clause-length g c = λ out sound. longer_none c.args.self.now.file.header.fields (size_of c.args.self.now - 1)
-
-pub returns-clause-length : goal.returns-clause-length
-returns-clause-length g c = c.shrink.ensures.length

@@ -1,7 +1,7 @@
 use Rattle.std.proofs.Common.{◌≡◌, ◌∙◌, ◌-◌, inl, inr, sym, ap, subst}
 use Rattle.std.specs.Prelude.{Err, IfSome, MatchOption}
 use Rattle.image_access.proofs.EachMomentSince.{passes_none}
-use Rattle.qcow2_metadata.specs.Header.{HeaderView, cluster_size, rounded_up}
+use Rattle.qcow2_metadata.specs.Header.{cluster_size, rounded_up}
 use Rattle.qcow2_alloc.specs.KeptMarks.{HaveRisen}
 use Rattle.std.proofs.lemmas.Bool.{ltb-true}
 use Rattle.qcow2_alloc.specs.ImageError.{IsFault}
@@ -22,7 +22,6 @@ use Rattle.qcow2_image.specs.Faults.{TellsEachIn, TellsFault}
 use Rattle.qcow2_image.proofs.Call.OnceWritten.{call_then, changes_later, failed_part, kept_fewer, notes_part, refused_once, answered_counts, counts_noted}
 use Rattle.qcow2_image.proofs.Call.BehindHeader.{behind_by, behind_none, behind_then}
 use Rattle.qcow2_image.proofs.image.Qcow2.shrink.Goals as goal
-use Rattle.qcow2_image.proofs.Sizing.NeededLengths.{longer_kept}
 
 pub returns-in-Some-clause-sees : goal.returns-in-Some-clause-sees
 returns-in-Some-clause-sees g c =
@@ -181,22 +180,3 @@ returns-in-Err-clause-header_cluster g c = behind_then (behind_then c.uncover_ta
 
 pub returns-clause-header_cluster : goal.returns-clause-header_cluster
 returns-clause-header_cluster g c = behind_then c.uncover_tail-end.ensures.header_cluster c.write_size.ensures.header_cluster
-
-pub returns-in-Some-clause-length : goal.returns-in-Some-clause-length
-returns-in-Some-clause-length g c = λ out sound.
-    let old = c.args.self.now in
-    let mid = c.uncover_tail-end.new.self in
-    longer_kept old.file.header.fields mid.file.header.fields c.mark_refused.new.self.file.header.fields (size_of old - 1) (c.uncover_tail-end.ensures.length out sound) (ap (λ (i : Qcow2 _ _). i.file.header.fields.l1_entries) c.mark_refused.ensures.rest)
-
-pub returns-in-Err-clause-length : goal.returns-in-Err-clause-length
-returns-in-Err-clause-length g c = λ out sound.
-    let old = c.args.self.now in
-    let mid = c.uncover_tail-end.new.self in
-    longer_kept old.file.header.fields mid.file.header.fields c.mark_refused-in-Err.new.self.file.header.fields (size_of old - 1) (c.uncover_tail-end.ensures.length out sound)
-    (ap (λ (i : Qcow2 _ _). i.file.header.fields.l1_entries) c.mark_refused-in-Err.ensures.rest ∙ ap (λ (v : HeaderView). v.fields.l1_entries) c.in-Err.ensures.restored)
-
-pub returns-clause-length : goal.returns-clause-length
-returns-clause-length g c = λ out sound.
-    let old = c.args.self.now in
-    let mid = c.uncover_tail-end.new.self in
-    longer_kept old.file.header.fields mid.file.header.fields c.write_size.new.self.file.header.fields (size_of old - 1) (c.uncover_tail-end.ensures.length out sound) (ap (λ (v : HeaderView). v.fields.l1_entries) c.in_default-write_size.ensures.header)

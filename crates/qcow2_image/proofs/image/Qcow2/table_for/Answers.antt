@@ -13,7 +13,7 @@ use Rattle.qcow2_alloc.proofs.KeptTables.Turning.{always_ok}
 use Rattle.qcow2_image.specs.Found.{l1_index_of}
 use Rattle.qcow2_image.specs.UnseenSteps.{NamesOwn, pending_with_listed}
 use Rattle.qcow2_image.proofs.Prepare.Owning.{left_alone}
-use Rattle.qcow2_image.proofs.Grow.Lengths.{kept_length, own_after, own_reached, reaches_told, same_length}
+use Rattle.qcow2_image.proofs.Grow.Lengths.{own_after}
 use Rattle.qcow2_image.specs.NewTables.{IsFaultOrLacksTable}
 use Rattle.qcow2_alloc.proofs.KeptMarks.{notes_none, notes_then}
 use Rattle.qcow2_image.proofs.Call.BehindHeader.{behind_none, behind_then}
@@ -29,7 +29,6 @@ use Rattle.qcow2_image.specs.Backings.{HasPrepared}
 use Rattle.qcow2_image.specs.MetAlone.{IsMetTaking}
 use Rattle.qcow2_image.proofs.Prepare.Met.{hands_met, met_as}
 use Rattle.qcow2_image.proofs.Prepare.MetTaking.{taking_as}
-use Rattle.qcow2_image.proofs.Grow.NoLonger.{length_then}
 
 pub returns-then-has_own_l2-clause-finds : goal.returns-then-has_own_l2-clause-finds
 returns-then-has_own_l2-clause-finds g c = λ out sound.
@@ -141,28 +140,6 @@ returns-clause-lacks g c = λ out sound none.
     let listed = subst (λ (x : Pending). ImageInvariant view below x mid out) (all_listed view below mid out) first.sound in
     let second = tidy_stays view below mid out freed first.sound (c.in_ok-free_listed.ensures.frees (beside view below mid out) out listed) in
     c.ensure_l2-2.ensures.lacks (pending_in view below freed out) out second.sound none
-
-pub returns-then-has_own_l2-clause-reaches : goal.returns-then-has_own_l2-clause-reaches
-returns-then-has_own_l2-clause-reaches g c = λ out sound.
-    let view = g.S.Storage.view in
-    let below = g.F.BackingDisk.backing in
-    let old = c.args.self.now in
-    let new = c.ensure_l2.new.self in
-    always_ok c.ensure_l2.result
-    (own_reached view below out (pending_in view below old out) old sound c.args.offset new.file.header.fields (c.has_own_l2.ensures.0 c.if-has_own_l2.true) (kept_length old.file.header new.file.header c.ensure_l2.ensures.keeps_rest.header))
-
-pub returns-clause-reaches : goal.returns-clause-reaches
-returns-clause-reaches g c = λ out sound.
-    let view = g.S.Storage.view in
-    let below = g.F.BackingDisk.backing in
-    let old = c.args.self.now in
-    let long = c.reach_entry.new.self in
-    let mid = c.own_l2.new.self in
-    let freed = c.free_listed.new.self in
-    let reached = c.in_ok-reach_entry.ensures.makes out sound in
-    let told = reaches_told view below out (pending_in view below old out) (pending_in view below long out) old long c.args.offset sound reached.sound c.in_ok-reach_entry.ensures.length in
-    always_ok c.ensure_l2-2.result
-    (kept_length freed.file.header c.ensure_l2-2.new.self.file.header c.ensure_l2-2.ensures.keeps_rest.header ∙ same_length mid.file.header freed.file.header c.free_listed.ensures.keeps_rest.header ∙ kept_length long.file.header mid.file.header c.own_l2.ensures.keeps_rest.header ∙ told)
 
 pub returns-then-has_own_l2-clause-freed : goal.returns-then-has_own_l2-clause-freed
 returns-then-has_own_l2-clause-freed g c = λ out sound. let own = c.has_own_l2.ensures.0 c.if-has_own_l2.true in always_ok c.ensure_l2.result (lists_own c.args.offset c.args.self.now c.ensure_l2.new.self c.requires.writable own (c.ensure_l2.ensures.quiet own))
@@ -388,24 +365,6 @@ returns-in_err-own_l2-clause-faults g c =
     let old = c.args.self.now in
     let reached = same_of view below old c.reach_entry.new.self c.reach_entry.result c.in_ok-reach_entry.field-0 c.reach_entry.ensures.faults c.in_ok-reach_entry.was in
     counted_on view below old c.reach_entry.new.self c.own_l2.new.self c.own_l2.result c.in_err-own_l2.field-0.0 c.from_residual-in_err-own_l2.result reached c.own_l2.ensures.faults c.in_err-own_l2.was c.from_residual-in_err-own_l2.ensures
-
-pub returns-then-has_own_l2-clause-no_longer : goal.returns-then-has_own_l2-clause-no_longer
-returns-then-has_own_l2-clause-no_longer g c = inl (ap (λ (v : HeaderView). v.fields.l1_entries) c.ensure_l2.ensures.keeps_rest.header)
-
-pub returns-then-has_far_entry-clause-no_longer : goal.returns-then-has_far_entry-clause-no_longer
-returns-then-has_far_entry-clause-no_longer g c = inl refl
-
-pub returns-in_err-reach_entry-clause-no_longer : goal.returns-in_err-reach_entry-clause-no_longer
-returns-in_err-reach_entry-clause-no_longer g c = c.reach_entry.ensures.no_longer
-
-pub returns-in_err-own_l2-clause-no_longer : goal.returns-in_err-own_l2-clause-no_longer
-returns-in_err-own_l2-clause-no_longer g c = length_then c.reach_entry.ensures.no_longer (ap (λ (v : HeaderView). v.fields.l1_entries) c.own_l2.ensures.keeps_rest.header)
-
-pub returns-in_err-free_listed-clause-no_longer : goal.returns-in_err-free_listed-clause-no_longer
-returns-in_err-free_listed-clause-no_longer g c = length_then (length_then c.reach_entry.ensures.no_longer (ap (λ (v : HeaderView). v.fields.l1_entries) c.own_l2.ensures.keeps_rest.header)) (ap (λ (v : HeaderView). v.fields.l1_entries) c.free_listed.ensures.keeps_rest.header)
-
-pub returns-clause-no_longer : goal.returns-clause-no_longer
-returns-clause-no_longer g c = length_then (length_then (length_then c.reach_entry.ensures.no_longer (ap (λ (v : HeaderView). v.fields.l1_entries) c.own_l2.ensures.keeps_rest.header)) (ap (λ (v : HeaderView). v.fields.l1_entries) c.free_listed.ensures.keeps_rest.header)) (ap (λ (v : HeaderView). v.fields.l1_entries) c.ensure_l2-2.ensures.keeps_rest.header)
 
 pub returns-then-has_own_l2-clause-freeing : goal.returns-then-has_own_l2-clause-freeing
 returns-then-has_own_l2-clause-freeing g c = λ out sound. always_ok c.ensure_l2.result (inl (c.ensure_l2.ensures.quiet (c.has_own_l2.ensures.0 c.if-has_own_l2.true)).list)

@@ -1,11 +1,10 @@
 use Rattle.qcow2_image.proofs.Call.OnceWritten.{notes_part, parts_then}
-use Rattle.std.proofs.Common.{◌≡◌, ◌∙◌, ◌-◌, inl, inr, refl, sym, ap, subst}
+use Rattle.std.proofs.Common.{◌∙◌, ◌-◌, inl, inr, refl, sym, subst}
 use Rattle.std.specs.Prelude.{Err, IfErr, IsTrue, Result}
 use Rattle.qcow2_alloc.proofs.AllocationSteps.{handed_on}
 use Rattle.qcow2_alloc.proofs.Outcomes.{not_both, if_no_ok}
 use Rattle.qcow2_alloc.specs.ImageError.{IsFault}
 use Rattle.qcow2_image.specs.Image.{has_noted_change, is_failed, size_of}
-use Rattle.qcow2_image.specs.ImageInvariant.{ImageInvariant, pending_in}
 use Rattle.qcow2_image.specs.Refusals.{MarksFailed}
 use Rattle.qcow2_image.specs.Resizing.{FreesTurn, IsFaultOrCantUncover, UncoversNext}
 use Rattle.qcow2_image.proofs.Call.FaultCounts.{counted_as, counted_on, counted_still, untouched}
@@ -15,8 +14,6 @@ use Rattle.qcow2_image.proofs.Sizing.RefusedTurns.{failed_other, not_marked, tur
 use Rattle.qcow2_image.proofs.Sizing.Shrinking.{fault_of, written_stops}
 use Rattle.qcow2_image.proofs.Call.BehindHeader.{behind_then}
 use Rattle.qcow2_image.proofs.image.Qcow2.uncover_from.Goals as goal
-use Rattle.qcow2_metadata.specs.Header.{HeaderView}
-use Rattle.qcow2_image.proofs.Sizing.NeededLengths.{longer_kept}
 
 pub returns-in-Ok-clause-uncovers : goal.returns-in-Ok-clause-uncovers
 returns-in-Ok-clause-uncovers g c = c.in-Ok.ensures.uncovers
@@ -175,19 +172,3 @@ returns-in-Ok-clause-changed g c = λ out sound. c.in-Ok.ensures.changed out sou
 
 pub returns-in_err-end_freeing-in-Err-clause-changed : goal.returns-in_err-end_freeing-in-Err-clause-changed
 returns-in_err-end_freeing-in-Err-clause-changed g c = λ out sound. if_no_ok _ c.from_residual.result c.in_err-end_freeing-in-Err.field-0.0 c.from_residual.ensures
-
-pub returns-in-Ok-clause-length : goal.returns-in-Ok-clause-length
-returns-in-Ok-clause-length g c = c.uncover_next.ensures.length
-
-pub returns-then-is_fault-clause-length : goal.returns-then-is_fault-clause-length
-returns-then-is_fault-clause-length g c = c.uncover_next.ensures.length
-
-pub returns-in_err-end_freeing-in-Err-clause-length : goal.returns-in_err-end_freeing-in-Err-clause-length
-returns-in_err-end_freeing-in-Err-clause-length g c = λ out sound.
-    let old = c.args.self.now in
-    longer_kept old.file.header.fields c.uncover_next.new.self.file.header.fields c.end_freeing.new.self.file.header.fields (size_of old - 1) (c.uncover_next.ensures.length out sound) (ap (λ (v : HeaderView). v.fields.l1_entries) c.end_freeing.ensures.header)
-
-pub returns-in_ok-end_freeing-in-Err-clause-length : goal.returns-in_ok-end_freeing-in-Err-clause-length
-returns-in_ok-end_freeing-in-Err-clause-length g c = λ out sound.
-    let old = c.args.self.now in
-    longer_kept old.file.header.fields c.uncover_next.new.self.file.header.fields c.end_freeing.new.self.file.header.fields (size_of old - 1) (c.uncover_next.ensures.length out sound) (ap (λ (v : HeaderView). v.fields.l1_entries) c.end_freeing.ensures.header)

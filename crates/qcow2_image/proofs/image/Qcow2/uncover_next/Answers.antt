@@ -11,8 +11,6 @@ use Rattle.qcow2_image.specs.Clearing.{refuses_to_clear}
 use Rattle.qcow2_image.specs.declared.discarding.Clearance.TheVariants.{Uncovered}
 use Rattle.qcow2_image.proofs.image.Qcow2.uncover_next.Goals as goal
 use Rattle.qcow2_image.proofs.image.Qcow2.uncover_next.Goals.{else-at-next-via-then-at-next+else-next-end, else-at-next-via-else-at-next}
-use Rattle.qcow2_image.specs.Clearing.{from_in, to_in}
-use Rattle.qcow2_image.proofs.Sizing.NeededLengths.{clears_or_stays, turn_lengthens}
 
 pub returns-in_err-from-clause-uncovers : goal.returns-in_err-from-clause-uncovers
 returns-in_err-from-clause-uncovers g c =
@@ -92,27 +90,3 @@ returns-in_err-from-clause-faults g c =
     let below = g.F.BackingDisk.backing in
     let old = c.args.self.now in
     counted_on view below old old c.clear_range.new.self c.clear_range.result c.in_err-from.field-0.0 c.from_residual.result (untouched view below old old refl refl) c.clear_range.ensures.faults c.in_err-from.was c.from_residual.ensures
-
-pub returns-in_err-from-clause-length : goal.returns-in_err-from-clause-length
-returns-in_err-from-clause-length g c = λ out sound.
-    let old = c.args.self.now in
-    let new = c.clear_range.new.self in
-    let n = c.size-end.result - c.args.at in
-    turn_lengthens old new g.S.Storage.view g.F.BackingDisk.backing out sound c.args.at c.size-end.result c.size-end.ensures c.requires.inside c.clear_range.ensures.no_longer
-    (clears_or_stays old new c.clear_range.result (refuses_to_clear old c.args.at n Uncovered) (from_in old c.args.at n) (to_in old c.args.at n) c.clear_range.ensures.early c.clear_range.ensures.nothing)
-
-pub returns-then-next-end-clause-length : goal.returns-then-next-end-clause-length
-returns-then-next-end-clause-length g c = λ out sound.
-    let old = c.args.self.now in
-    let new = c.clear_range.new.self in
-    let n = c.size-end.result - c.args.at in
-    turn_lengthens old new g.S.Storage.view g.F.BackingDisk.backing out sound c.args.at c.size-end.result c.size-end.ensures c.requires.inside c.clear_range.ensures.no_longer
-    (clears_or_stays old new c.clear_range.result (refuses_to_clear old c.args.at n Uncovered) (from_in old c.args.at n) (to_in old c.args.at n) c.clear_range.ensures.early c.clear_range.ensures.nothing)
-
-pub returns-else-at-next-clause-length : goal.returns-else-at-next-clause-length
-returns-else-at-next-clause-length g c = λ out sound.
-    let old = c.args.self.now in
-    let new = c.clear_range.new.self in
-    let n = c.size-end.result - c.args.at in
-    turn_lengthens old new g.S.Storage.view g.F.BackingDisk.backing out sound c.args.at c.size-end.result c.size-end.ensures c.requires.inside c.clear_range.ensures.no_longer
-    (clears_or_stays old new c.clear_range.result (refuses_to_clear old c.args.at n Uncovered) (from_in old c.args.at n) (to_in old c.args.at n) c.clear_range.ensures.early c.clear_range.ensures.nothing)

@@ -1,9 +1,8 @@
 use Rattle.qcow2_image.proofs.Call.OnceWritten.{call_then, changes_later, notes_begun, part_none}
-use Rattle.std.proofs.Common.{◌∙◌, ◌-◌, ap, arith, inl, inr, refl, sym, subst, Some, None, Err}
+use Rattle.std.proofs.Common.{◌∙◌, ◌-◌, arith, inl, inr, refl, sym, subst, Some, None, Err}
 use Rattle.std.specs.Prelude.{IsTrue}
 use Rattle.qcow2_alloc.proofs.Outcomes.{not_both}
 use Rattle.qcow2_image.specs.ImageInvariant.{pending_in}
-use Rattle.qcow2_image.specs.declared.image.Qcow2.{Qcow2}
 use Rattle.qcow2_image.proofs.Sizing.RefusedTurns.{frees_next}
 use Rattle.qcow2_image.proofs.Sizing.Shrinking.{next_so_far, none_so_far, same_size, tail_refused, tail_stops}
 use Rattle.qcow2_image.proofs.Call.FaultCounts.{fewer_of, counted_as, faults_then}
@@ -14,10 +13,6 @@ use Rattle.std.proofs.lemmas.Nat.{pow_pos}
 use Rattle.qcow2_metadata.specs.Header.{cluster_size}
 use Rattle.qcow2_image.proofs.Call.BehindHeader.{behind_begun, behind_then}
 use Rattle.qcow2_image.proofs.image.Qcow2.uncover_tail.Goals as goal
-use Rattle.qcow2_image.specs.Image.{size_of}
-use Rattle.qcow2_image.specs.declared.image.Qcow2.{Qcow2}
-use Rattle.qcow2_image.proofs.Sizing.NeededLengths.{longer_kept, longer_none}
-use Rattle.qcow2_image.proofs.Sizing.Shrinking.{lengthens_on}
 
 pub loop-at-init : goal.loop-at-init
 loop-at-init g c =
@@ -31,10 +26,6 @@ loop-at-init g c =
       since = notes_begun g.S.Storage.view c.args.self.now c.begin.new.self c.begin.ensures.begun c.begin.new.self (part_none g.S.Storage.view c.begin.new.self);
       changed = λ out sound past. absurd (let up = rounded_from (cluster_size c.args.self.now.file.header.fields) c.args.size (pow_pos c.args.self.now.file.header.fields.cluster_bits) in omega (arith, past, up));
       behind = behind_begun g.S.Storage.view c.begin.ensures.begun;
-      length = λ out sound.
-          let old = c.args.self.now in
-          let h = old.file.header.fields in
-          longer_kept h h c.begin.new.self.file.header.fields (size_of old - 1) (longer_none h (size_of old - 1)) (ap (λ (i : Qcow2 _ _). i.file.header.fields.l1_entries) c.begin.ensures.rest);
     }
 
 pub loop-at-preserved : goal.loop-at-preserved
@@ -51,8 +42,6 @@ loop-at-preserved g c = record {
       turns_counted c.args.self.now c.loop-at.self c.uncover_from.new.self c.args.size c.loop-at.at c.in-Ok.next (same_size g.S.Storage.view g.F.BackingDisk.backing c.args.self.now c.loop-at.self c.uncover_from.new.self c.args.size c.loop-at.at c.size-end.result c.loop-at.invariant.turns out sound) c.loop-at.invariant.since.no_fewer c.uncover_from.ensures.since.no_fewer
       (c.loop-at.invariant.changed out sound) (c.in-Ok.ensures.changed out (c.loop-at.invariant.turns.so_far out sound).0.sound);
   behind = behind_then c.loop-at.invariant.behind c.uncover_from.ensures.header_cluster;
-  length = λ out sound.
-      lengthens_on g.S.Storage.view g.F.BackingDisk.backing c.args.self.now c.loop-at.self c.uncover_from.new.self c.args.size c.loop-at.at c.size-end.result c.loop-at.invariant.turns out sound (c.loop-at.invariant.length out sound) (c.uncover_from.ensures.length out (c.loop-at.invariant.turns.so_far out sound).0.sound);
 }
 
 pub returns-then-is_fault-clause-uncovers : goal.returns-then-is_fault-clause-uncovers
@@ -147,12 +136,3 @@ returns-in-Err-clause-changed g c = λ out sound past. changes_later c.args.self
 
 pub returns-clause-changed : goal.returns-clause-changed
 returns-clause-changed g c = λ out sound past. c.loop-at.invariant.changed out sound past
-
-pub returns-then-is_fault-clause-length : goal.returns-then-is_fault-clause-length
-returns-then-is_fault-clause-length g c = λ out sound. lengthens_on g.S.Storage.view g.F.BackingDisk.backing c.args.self.now c.loop-at.self c.uncover_from.new.self c.args.size c.loop-at.at c.size-end.result c.loop-at.invariant.turns out sound (c.loop-at.invariant.length out sound) (c.uncover_from.ensures.length out (c.loop-at.invariant.turns.so_far out sound).0.sound)
-
-pub returns-in-Err-clause-length : goal.returns-in-Err-clause-length
-returns-in-Err-clause-length g c = λ out sound. lengthens_on g.S.Storage.view g.F.BackingDisk.backing c.args.self.now c.loop-at.self c.uncover_from.new.self c.args.size c.loop-at.at c.size-end.result c.loop-at.invariant.turns out sound (c.loop-at.invariant.length out sound) (c.uncover_from.ensures.length out (c.loop-at.invariant.turns.so_far out sound).0.sound)
-
-pub returns-clause-length : goal.returns-clause-length
-returns-clause-length g c = c.loop-at.invariant.length

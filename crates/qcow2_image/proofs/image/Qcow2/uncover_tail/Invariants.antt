@@ -1,9 +1,8 @@
-use Rattle.std.proofs.Common.{◌-◌, ◌<◌, ◌≤◌, ◌≡◌, ◌⊎◌, List, Option}
+use Rattle.std.proofs.Common.{◌-◌, ◌<◌, ◌≡◌, ◌⊎◌, List, Option}
 use Rattle.std.specs.Prelude.{IsTrue}
 use Rattle.qcow2_image.specs.BehindHeader.{StaysBehindHeader}
 use Rattle.qcow2_image.specs.declared.prepared.Prepared.{Prepared}
-use Rattle.qcow2_image.specs.Image.{HasNothingToFree, is_writable, size_of}
-use Rattle.qcow2_image.specs.L1Entries.{IsLongerByNeed}
+use Rattle.qcow2_image.specs.Image.{HasNothingToFree, is_writable}
 use Rattle.qcow2_image.specs.ImageInvariant.{ImageInvariant, pending_in}
 use Rattle.qcow2_image.specs.Resizing.{boundary_in}
 use Rattle.qcow2_image.specs.Noted.{ChangesRose, NotesChanges}
@@ -21,7 +20,6 @@ invariant-loop-at g l = record {
   since : NotesChanges g.S.Storage.view l.fn.self l.self;
   changed : (out : List (Option Prepared)) → ImageInvariant g.S.Storage.view g.F.BackingDisk.backing (pending_in g.S.Storage.view g.F.BackingDisk.backing l.fn.self out) l.fn.self out → boundary_in l.fn.self l.fn.size < l.at → ChangesRose l.fn.self l.self;
   behind : StaysBehindHeader g.S.Storage.view l.fn.self l.self;
-  length : (out : List (Option Prepared)) → ImageInvariant g.S.Storage.view g.F.BackingDisk.backing (pending_in g.S.Storage.view g.F.BackingDisk.backing l.fn.self out) l.fn.self out → IsLongerByNeed (size_of l.fn.self - 1) l.fn.self.file.header.fields l.self.file.header.fields;
 }
 
 abbrev pub decreases-loop-at : goal.decreases-loop-at

@@ -11,8 +11,6 @@ use Rattle.qcow2_image.proofs.Call.FaultCounts.{counted_since, same_of}
 use Rattle.qcow2_image.specs.declared.image.Qcow2.{Qcow2}
 use Rattle.qcow2_image.proofs.Prepare.Lacked.{hands_fault}
 use Rattle.qcow2_metadata.specs.L2Mapping.{IsHostCluster}
-use Rattle.qcow2_image.proofs.Grow.NoLonger.{length_as, length_behind}
-use Rattle.qcow2_metadata.specs.Header.{HeaderView}
 
 pub returns-in_err-place_l1_table-clause-names : goal.returns-in_err-place_l1_table-clause-names
 returns-in_err-place_l1_table-clause-names g c = λ p out sound noted longer.
@@ -64,9 +62,3 @@ returns-clause-fault g c = λ p out sound longer. c.name_l1_table.ensures.fault
 
 pub returns-clause-placed : goal.returns-clause-placed
 returns-clause-placed g c = subst (λ (t : EntryTableView). OnOk c.name_l1_table.result (c.name_l1_table.new.self.l1_table ≡ t)) c.in_ok-place_l1_table.ensures.table c.name_l1_table.ensures.table
-
-pub returns-in_err-place_l1_table-clause-no_longer : goal.returns-in_err-place_l1_table-clause-no_longer
-returns-in_err-place_l1_table-clause-no_longer g c = inl (ap (λ (v : HeaderView). v.fields.l1_entries) (ap (λ (i : Qcow2 _ _). i.file.header) c.place_l1_table.ensures.rest))
-
-pub returns-clause-no_longer : goal.returns-clause-no_longer
-returns-clause-no_longer g c = length_behind (ap (λ (v : HeaderView). v.fields.l1_entries) (ap (λ (i : Qcow2 _ _). i.file.header) c.place_l1_table.ensures.rest)) (length_as (ap entry_count c.in_ok-place_l1_table.ensures.table) c.name_l1_table.ensures.no_longer)

@@ -40,6 +40,3 @@ pub returns-clause-placed : goal.returns-clause-placed
 returns-clause-placed g c =
     subst (λ (r : Result _ _). OnOk r (c.write_l1_table-done.new.self.l1_table ≡ record c.args.table { cluster = Some c.args.taken.first_cluster })) (sym c.keep_or_list.ensures.answer)
     (subst (λ n. OnOk c.write_l1_table-done.result (c.write_l1_table-done.new.self.l1_table ≡ record c.args.table { cluster = Some n })) c.cluster.ensures c.write_l1_table-done.ensures.placed)
-
-pub returns-clause-no_longer : goal.returns-clause-no_longer
-returns-clause-no_longer g c = c.write_l1_table-done.ensures.no_longer

@@ -26,7 +26,6 @@ use Rattle.qcow2_image.specs.MetAlone.{IsMetTaking}
 use Rattle.qcow2_image.proofs.Prepare.Met.{hands_met}
 use Rattle.qcow2_image.proofs.Prepare.MetTaking.{taking_as}
 use Rattle.qcow2_image.proofs.image.Qcow2.zero_first.Goals as goal
-use Rattle.qcow2_image.proofs.Sizing.NeededLengths.{stays_told}
 
 pub returns-then-to-from-clause-fills : goal.returns-then-to-from-clause-fills
 returns-then-to-from-clause-fills g c = λ out sound le whole version.
@@ -63,7 +62,6 @@ returns-in_err-clear_between-clause-fills g c = λ out sound le whole version.
       limit = λ limit.
           let lacks = c.in_err-clear_between.ensures.limit out sound can limit in
           lacks_here view below out old new 0 from to (to - from) sound (omega (arith, lt)) (omega (arith, lt)) (inl lacks) (λ _. lacks) (emptied_by_limit new e (c.in_err-clear_between.ensures.freed out sound can) limit);
-      length = stays_told old new view below out from sound c.clear_between.ensures.no_longer to (omega (arith, lt));
     })
 
 pub returns-in_err-free_listed-clause-fills : goal.returns-in_err-free_listed-clause-fills
