@@ -2,11 +2,9 @@
 ghost use Rattle.qcow2_image.specs.BehindHeader.{StaysBehindHeader};
 ghost use Rattle.std.specs.Prelude.{ℕ, List, Option, ◌≡◌, ◌%◌, ◌^◌, ◌<◌, ◌≤◌, Err, IfOk, IfErr, IsTrue, OnOk, max, replicate, slice_get, slice_set, None, Ok, Some};
 ghost use Rattle.qcow2_alloc.specs.ImageFile.{known_in};
-ghost use Rattle.qcow2_image.specs.Found.{l1_index_of};
-ghost use Rattle.qcow2_metadata.specs.EntryTable.{entry_count};
 ghost use Rattle.qcow2_image.specs.Backings.{HasPrepared};
 ghost use Rattle.qcow2_alloc.specs.ImageError.{IsFault};
-ghost use Rattle.qcow2_image.specs.MetAlone.{HasCompressedIn, HasNearEntries, IsMetGrowing, IsMetTaking, KeepsL1Place};
+ghost use Rattle.qcow2_image.specs.MetAlone.{HasCompressedIn, HasNearEntries, IsMetGrowing, IsMetTaking};
 ghost use Rattle.image_access.specs.declared.storage.PreallocateMode.TheVariants.{None as PreallocateNone, Zero};
 ghost use Rattle.qcow2_metadata.specs.Header.{cluster_size, rounded_up as rounded_up_to};
 ghost use Rattle.image_access.specs.Contents.{zeroed};
@@ -243,7 +241,6 @@ impl<S: Storage, F: WrappedFormat<S>> Qcow2<S, F> {
         ensures stays { ImageStays self.old self.new }
         ensures cause { IfErr result IsMetPreparing }
         ensures met { (out : List (Option Prepared)) → ImageInvariant S.view F.backing (pending_in S.view F.backing self.old out) self.old out → from ≤ to → IsWholeRange self.old.file.header.fields from to → 3 ≤ self.old.file.header.fields.version → HasNearEntries to self.old.file.header.fields → IfErr result (IsMetTaking (HasPrepared out) (HasPrepared out) ⊥ ⊥) }
-        ensures l1_place { (from < to → l1_index_of self.old.file.header.fields from < entry_count self.old.l1_table) → OnOk result (KeepsL1Place self.old.file.header.fields self.new.file.header.fields) }
         ensures emptied { HasNothingToFree self.old → OnOk result (HasNothingToFree self.new) }
         ensures next { IfOk result (λ next. (from ≤ next) × (from < to → from < next) × (next ≤ max from to)) }
         ensures whole { (out : List (Option Prepared)) → ImageInvariant S.view F.backing (pending_in S.view F.backing self.old out) self.old out → IsWholeRange self.old.file.header.fields from to → IfOk result (λ next. next % cluster_size self.old.file.header.fields ≡ 0) }
@@ -270,7 +267,6 @@ impl<S: Storage, F: WrappedFormat<S>> Qcow2<S, F> {
         ensures stays { ImageStays self.old self.new }
         ensures cause { IfErr result IsMetPreparing }
         ensures met { (out : List (Option Prepared)) → ImageInvariant S.view F.backing (pending_in S.view F.backing self.old out) self.old out → from ≤ to → to % cluster_size self.old.file.header.fields ≡ 0 → HasNearEntries to self.old.file.header.fields → IfErr result (IsMetTaking (HasPrepared out) (HasPrepared out) (HasCompressedIn from to self.old.file.header.fields (known_in S.view self.old.file)) ⊥) }
-        ensures l1_place { (out : List (Option Prepared)) → ImageInvariant S.view F.backing (pending_in S.view F.backing self.old out) self.old out → to % cluster_size self.old.file.header.fields ≡ 0 → HasNearEntries to self.old.file.header.fields → OnOk result (KeepsL1Place self.old.file.header.fields self.new.file.header.fields) }
         ensures emptied { HasNothingToFree self.old → OnOk result (HasNothingToFree self.new) }
         ensures fills { (out : List (Option Prepared)) → ImageInvariant S.view F.backing (pending_in S.view F.backing self.old out) self.old out
             → from ≤ to → to % cluster_size self.old.file.header.fields ≡ 0 → FillsOrRefuses S.view F.backing to from to self.old self.new out result }
@@ -294,7 +290,6 @@ impl<S: Storage, F: WrappedFormat<S>> Qcow2<S, F> {
         ensures stays { ImageStays self.old self.new }
         ensures cause { IfErr result IsMetPreparing }
         ensures met { (out : List (Option Prepared)) → ImageInvariant S.view F.backing (pending_in S.view F.backing self.old out) self.old out → to % cluster_size self.old.file.header.fields ≡ 0 → HasNearEntries to self.old.file.header.fields → IfErr result (IsMetTaking (HasPrepared out) (HasPrepared out) (HasCompressedIn from to self.old.file.header.fields (known_in S.view self.old.file)) ⊥) }
-        ensures l1_place { l1_index_of self.old.file.header.fields from < entry_count self.old.l1_table → OnOk result (KeepsL1Place self.old.file.header.fields self.new.file.header.fields) }
         ensures emptied { HasNothingToFree self.old → OnOk result (HasNothingToFree self.new) }
         ensures next { IfOk result (λ next. (from < next) × (next ≤ to)) }
         ensures fills { (out : List (Option Prepared)) → ImageInvariant S.view F.backing (pending_in S.view F.backing self.old out) self.old out

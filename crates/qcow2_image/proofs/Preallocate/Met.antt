@@ -27,12 +27,12 @@ use Rattle.qcow2_image.specs.Backings.{HasPrepared}
 use Rattle.qcow2_image.specs.CallParts.{UnseenCall}
 use Rattle.qcow2_image.specs.Clearing.{IsUnderMapping}
 use Rattle.qcow2_image.specs.Found.{l1_index_of}
-use Rattle.qcow2_image.specs.ImageInvariant.{ImageInvariant, pending_in}
+use Rattle.qcow2_image.specs.ImageInvariant.{ImageInvariant}
 use Rattle.qcow2_image.specs.L1Entries.{NeedsFarEntry, ReachesOffset}
 use Rattle.qcow2_image.specs.LackedPlaces.{IsPlacedNear}
 use Rattle.qcow2_image.specs.MetAlone.{copied_end, CopiesCompressed, HasCompressedIn, HasNearEntries, IsMetGrowing, IsMetTaking, KeepsL1Place}
 use Rattle.qcow2_image.specs.MovedTables.{MovesTables}
-use Rattle.qcow2_image.specs.Preallocation.{FillsPart, IsWholeRange}
+use Rattle.qcow2_image.specs.Preallocation.{FillsPart}
 use Rattle.qcow2_image.specs.Preparing.{IsTaken}
 use Rattle.qcow2_image.specs.declared.image.Qcow2.{Qcow2}
 use Rattle.qcow2_image.specs.declared.prepared.Prepared.{Prepared}
@@ -40,7 +40,6 @@ use Rattle.qcow2_image.proofs.Grow.Lengths.{index_moved, index_rising, last_clus
 use Rattle.qcow2_image.proofs.Preallocate.Covers.{touches_or}
 use Rattle.qcow2_image.proofs.Preallocate.Grown.{up_rising}
 use Rattle.qcow2_image.proofs.Preallocate.Turns.{same_size, same_version}
-use Rattle.qcow2_image.proofs.Prepare.MetRanges.{place_then}
 use Rattle.qcow2_image.proofs.Prepare.MetTaking.{taking_as}
 use Rattle.qcow2_image.proofs.Prepare.Unannounced.{compressed_in}
 
@@ -183,24 +182,12 @@ module _ {S F : Type 0} (view : S → StorageView) (backing : F → BackingView)
         → IsMetTaking (HasPrepared out) (HasPrepared out) (HasCompressedIn x y old.file.header.fields (known_in view old.file)) ⊥ e
     met_before from' to' x y low high e met = taking_as (λ held. held) (λ kept. kept) (compressed_before from' to' x y low high) (λ never. never) e met
 
-    -- the next part leaves the L1 table where it is
-    pub place_on : (to : ℕ) (new : Qcow2 S F) → at < to → KeepsL1Place old.file.header.fields now.file.header.fields → HasNearEntries to old.file.header.fields
-        → (l1_index_of now.file.header.fields at < entry_count now.l1_table → KeepsL1Place now.file.header.fields new.file.header.fields) → KeepsL1Place old.file.header.fields new.file.header.fields
-    place_on to new lt kept near next =
-        place_then old.file.header.fields now.file.header.fields new.file.header.fields kept
-        (next (entry_reached (pending_in view backing now out) now part.sound at to lt (near_moved old.file.header.fields now.file.header.fields to to part.header kept (omega arith) near)))
-
--- ---- turn by turn
-module _ {S F : Type 0} (view : S → StorageView) (backing : F → BackingView) (from to : ℕ) where
-  -- the L1 table stays where it is while a range is filled
-  abbrev pub KeepsPlaceFilling : Qcow2 S F → Qcow2 S F → Type 0
-  KeepsPlaceFilling old now = (out : List (Option Prepared)) → ImageInvariant view backing (pending_in view backing old out) old out → to % cluster_size old.file.header.fields ≡ 0 → HasNearEntries to old.file.header.fields
-      → KeepsL1Place old.file.header.fields now.file.header.fields
-
-  -- and while whole clusters become zeros
-  abbrev pub KeepsPlaceZeroing : Qcow2 S F → Qcow2 S F → Type 0
-  KeepsPlaceZeroing old now = (out : List (Option Prepared)) → ImageInvariant view backing (pending_in view backing old out) old out → from ≤ to → IsWholeRange old.file.header.fields from to → 3 ≤ old.file.header.fields.version
-      → HasNearEntries to old.file.header.fields → KeepsL1Place old.file.header.fields now.file.header.fields
+    -- the entries that they reach are near still: the L1 table stays where it is
+    pub near_behind : (to to' : ℕ) → at ≤ to → to' ≤ to → HasNearEntries to old.file.header.fields → HasNearEntries to' now.file.header.fields
+    near_behind to to' low le near =
+        let rising = index_rising old.file.header.fields (at - 1) (to - 1) (omega (arith, low)) in
+        let reaches = near.reaches in
+        near_moved old.file.header.fields now.file.header.fields to to' part.header (part.l1_table (omega (arith, rising, reaches))) le near
 
 -- ---- a larger disk
 module _ {S F : Type 0} (view : S → StorageView) (backing : F → BackingView) (out : List (Option Prepared)) where

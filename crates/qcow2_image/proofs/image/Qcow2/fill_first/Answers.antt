@@ -21,9 +21,7 @@ use Rattle.qcow2_alloc.specs.ImageError.{IsFault}
 use Rattle.qcow2_alloc.specs.ImageFile.{known_in}
 use Rattle.qcow2_alloc.specs.declared.error.ImageError.{ImageError}
 use Rattle.qcow2_image.specs.MetAlone.{HasCompressedIn, IsMetTaking}
-use Rattle.qcow2_image.specs.declared.image.Qcow2.{Qcow2}
 use Rattle.qcow2_image.proofs.Preallocate.Met.{hands_met, met_piece}
-use Rattle.qcow2_image.proofs.Grow.Lengths.{place_same}
 use Rattle.qcow2_image.specs.Backings.{HasPrepared}
 use Rattle.qcow2_image.proofs.Call.ToldData.{notes_if}
 
@@ -223,9 +221,3 @@ returns-in_err-free_listed-clause-met g c = λ out sound whole near.
     let listed = subst (λ (x : Pending). ImageInvariant view below x done out) (all_listed view below done out) part.sound in
     hands_met (IsMetTaking (HasPrepared out) (HasPrepared out) (HasCompressedIn from to old.file.header.fields (known_in view old.file)) ⊥) c.from_residual-in_err-free_listed.result c.in_err-free_listed.field-0.0 c.from_residual-in_err-free_listed.ensures
     (inl (inl (inl (c.in_err-free_listed.ensures.faults (beside view below done out) out listed))))
-
-pub returns-clause-l1_place : goal.returns-clause-l1_place
-returns-clause-l1_place g c = λ within.
-    let h = c.args.self.now.file.header.fields in
-    place_same h c.prepare.new.self.file.header c.free_listed.new.self.file.header (c.free_listed.ensures.keeps_rest.header ∙ c.commit_filled.ensures.header ∙ ap (λ (i : Qcow2 _ _). i.file.header) c.put_zeros.ensures.written.rest)
-    (c.in_ok-prepared.ensures.l1_place within)

@@ -7,7 +7,7 @@ use Rattle.qcow2_image.proofs.Call.FaultCounts.{counted_ok, counted_on, faults_t
 use Rattle.qcow2_image.proofs.Call.BehindHeader.{behind_none, behind_then}
 use Rattle.qcow2_alloc.specs.ImageFile.{known_in}
 use Rattle.qcow2_image.specs.MetAlone.{HasCompressedIn, IsMetTaking}
-use Rattle.qcow2_image.proofs.Preallocate.Met.{hands_met, met_before, near_moved, place_on}
+use Rattle.qcow2_image.proofs.Preallocate.Met.{hands_met, met_before, near_behind}
 use Rattle.qcow2_image.specs.Backings.{HasPrepared}
 use Rattle.qcow2_image.proofs.image.Qcow2.fill_range.Goals as goal
 
@@ -18,7 +18,6 @@ loop-at-init g c = record {
   emptied = λ none. none;
   behind = behind_none;
   notes = notes_none;
-  place = λ out sound whole near. (refl, refl);
 }
 
 pub returns-in_err-at-clause-fills : goal.returns-in_err-at-clause-fills
@@ -38,9 +37,6 @@ loop-at-preserved g c =
       emptied = λ none. c.in_ok-at.ensures.emptied (c.loop-at.invariant.emptied none);
       behind = behind_then c.loop-at.invariant.behind c.fill_first.ensures.header_cluster;
       notes = notes_then c.loop-at.invariant.notes c.fill_first.ensures.notes;
-      place = λ out sound whole near.
-          place_on g.S.Storage.view g.F.BackingDisk.backing out c.args.to c.args.from c.loop-at.at c.args.self.now c.loop-at.self (c.loop-at.invariant.turns.so_far out sound whole) c.args.to c.fill_first.new.self c.loop-at-test.true
-          (c.loop-at.invariant.place out sound whole near) near c.in_ok-at.ensures.l1_place;
     }
 
 pub returns-clause-fills : goal.returns-clause-fills
@@ -86,7 +82,6 @@ returns-in_err-at-clause-met g c = λ out sound le whole near.
     let lt = c.loop-at-test.true in
     let low = c.loop-at.invariant.turns.low in
     let part = c.loop-at.invariant.turns.so_far out sound whole in
-    let kept = c.loop-at.invariant.place out sound whole near in
     hands_met (IsMetTaking (HasPrepared out) (HasPrepared out) (HasCompressedIn from to old.file.header.fields (known_in view old.file)) ⊥) c.from_residual.result e c.from_residual.ensures
     (met_before view below out to from c.loop-at.at old now part c.loop-at.at to from to low (omega arith) e
-    (c.in_err-at.ensures.met out part.sound (still_at old.file.header.fields now.file.header.fields to part.header whole) (near_moved old.file.header.fields now.file.header.fields to to part.header kept (omega arith) near)))
+    (c.in_err-at.ensures.met out part.sound (still_at old.file.header.fields now.file.header.fields to part.header whole) (near_behind view below out to from c.loop-at.at old now part to to (omega (arith, lt)) (omega arith) near)))

@@ -4,11 +4,10 @@ use Rattle.std.proofs.Common.{◌-◌}
 use Rattle.qcow2_image.specs.BehindHeader.{StaysBehindHeader}
 use Rattle.qcow2_image.specs.Faults.{SameFaults}
 use Rattle.qcow2_image.specs.Image.{HasNothingToFree}
-use Rattle.qcow2_image.proofs.Preallocate.Met.{KeepsPlaceFilling}
 use Rattle.qcow2_image.proofs.Preallocate.Turns.{FilledTo}
 use Rattle.qcow2_image.proofs.image.Qcow2.fill_range.Given as goal
 
--- zeros stand as far as the turns came, which take the lowest places, and nothing is to be freed where nothing was; the L1 table stays where it is
+-- zeros stand as far as the turns came, which take the lowest places, and nothing is to be freed where nothing was
 abbrev pub invariant-loop-at : goal.invariant-loop-at
 invariant-loop-at g l = record {
   turns : FilledTo g.S.Storage.view g.F.BackingDisk.backing l.from l.to l.at l.fn.self l.self;
@@ -16,7 +15,6 @@ invariant-loop-at g l = record {
   emptied : HasNothingToFree l.fn.self → HasNothingToFree l.self;
   behind : StaysBehindHeader g.S.Storage.view l.fn.self l.self;
   notes : KeepsFileNotes g.S.Storage.view AlsoData l.fn.self.file l.self.file;
-  place : KeepsPlaceFilling g.S.Storage.view g.F.BackingDisk.backing l.from l.to l.fn.self l.self;
 }
 
 abbrev pub decreases-loop-at : goal.decreases-loop-at

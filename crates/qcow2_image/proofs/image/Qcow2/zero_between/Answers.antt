@@ -2,7 +2,7 @@ use Rattle.qcow2_image.proofs.image.Qcow2.zero_between.Goals as goal
 use Rattle.qcow2_alloc.proofs.KeptMarks.{notes_then, notes_for}
 use Rattle.std.proofs.Common.{◌≤◌, subst, sym, arith}
 use Rattle.qcow2_alloc.proofs.AllocationSteps.{handed_on}
-use Rattle.qcow2_image.specs.ImageInvariant.{abstract_of, pending_in}
+use Rattle.qcow2_image.specs.ImageInvariant.{abstract_of}
 use Rattle.qcow2_image.specs.Preallocation.{FillsOrRefuses}
 use Rattle.qcow2_image.proofs.Call.Called.{works_none}
 use Rattle.qcow2_image.proofs.Preallocate.Filled.{fills_before, fills_none, fills_or_refuses, refused_after, zeros_from}
@@ -10,8 +10,7 @@ use Rattle.qcow2_image.proofs.Preallocate.Turns.{same_version, still_at}
 use Rattle.qcow2_image.proofs.Call.BehindHeader.{behind_then}
 use Rattle.qcow2_alloc.specs.ImageFile.{known_in}
 use Rattle.qcow2_image.specs.MetAlone.{HasCompressedIn, IsMetTaking}
-use Rattle.qcow2_image.proofs.Preallocate.Met.{entry_reached, hands_met, met_before, near_moved}
-use Rattle.qcow2_image.proofs.Prepare.MetRanges.{place_then}
+use Rattle.qcow2_image.proofs.Preallocate.Met.{hands_met, met_before, near_behind}
 use Rattle.qcow2_image.proofs.Prepare.Taken.{if_err}
 use Rattle.qcow2_image.specs.Backings.{HasPrepared}
 use Rattle.qcow2_image.proofs.Prepare.MetTaking.{taking_as}
@@ -94,10 +93,10 @@ returns-in_err-fill_range-clause-met g c = λ out sound low high whole version n
     let h' = b.file.header.fields in
     let e = c.in_err-fill_range.field-0.0 in
     let first = c.in_ok-next.ensures.fills out sound high whole version in
-    let kept = c.in_ok-next.ensures.l1_place (λ lt. entry_reached view below out (pending_in view below a out) a sound c.args.from c.args.end lt near) in
+    let next = c.in_ok-next.ensures.next in
     hands_met (IsMetTaking (HasPrepared out) (HasPrepared out) (HasCompressedIn c.args.old c.args.from h (known_in view a.file)) ⊥) c.from_residual-in_err-fill_range.result e c.from_residual-in_err-fill_range.ensures
     (met_before view below out 0 c.args.from c.in_ok-next.next a b first c.args.old c.args.from c.args.old c.args.from (omega arith) (omega arith) e
-    (c.in_err-fill_range.ensures.met out first.sound low (still_at h h' c.args.from first.header whole.0) (near_moved h h' c.args.end c.args.from first.header kept high near)))
+    (c.in_err-fill_range.ensures.met out first.sound low (still_at h h' c.args.from first.header whole.0) (near_behind view below out 0 c.args.from c.in_ok-next.next a b first c.args.end c.args.from (omega (arith, next.2, high)) high near)))
 
 pub returns-clause-met : goal.returns-clause-met
 returns-clause-met g c = λ out sound low high whole version near.
@@ -114,9 +113,7 @@ returns-clause-met g c = λ out sound low high whole version near.
     let at = still_at h h' c.args.from first.header whole.0 in
     let second = c.in_ok-fill_range.ensures.fills out first.sound low at in
     let both = fills_before view below out a b d c.args.from c.args.old c.args.from c.in_ok-next.next low next.0 first second in
-    let kept = c.in_ok-next.ensures.l1_place (λ lt. entry_reached view below out (pending_in view below a out) a sound c.args.from c.args.end lt near) in
-    let still = place_then h h' h'' kept (c.in_ok-fill_range.ensures.l1_place out first.sound at (near_moved h h' c.args.end c.args.from first.header kept high near)) in
     let ends = c.in_ok-next.ensures.whole out sound whole in
     if_err c.zero_range.result (taking_as (λ held. held) (λ kept. kept) (λ no. absurd no) (λ no. no))
     (c.zero_range.ensures.met out both.sound (omega (arith, next.2, high)) (still_at h h'' c.in_ok-next.next both.header ends, still_at h h'' c.args.end both.header whole.1) (subst (λ v. 3 ≤ v) (sym (same_version h h'' both.header)) version)
-    (near_moved h h'' c.args.end c.args.end both.header still (omega arith) near))
+    (near_behind view below out _ c.args.old c.in_ok-next.next a d both c.args.end c.args.end (omega (arith, next.2, high)) (omega arith) near))

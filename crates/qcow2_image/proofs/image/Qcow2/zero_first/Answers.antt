@@ -20,7 +20,6 @@ use Rattle.qcow2_image.proofs.Call.Unlimited.{fault_unlimited}
 use Rattle.qcow2_image.proofs.Prepare.Lacked.{emptied_by_limit}
 use Rattle.qcow2_image.proofs.Call.BehindHeader.{behind_none, behind_then}
 use Rattle.qcow2_image.proofs.Preallocate.Met.{under_prepared, never_far}
-use Rattle.qcow2_image.proofs.Grow.Lengths.{place_same}
 use Rattle.qcow2_image.specs.Backings.{HasPrepared}
 use Rattle.qcow2_image.specs.MetAlone.{IsMetTaking}
 use Rattle.qcow2_image.proofs.Prepare.Met.{hands_met}
@@ -206,7 +205,3 @@ returns-in_err-free_listed-clause-met g c = λ out sound le whole version near.
     let listed = subst (λ (x : Pending). ImageInvariant view below x mid out) (all_listed view below mid out) part.sound in
     hands_met (IsMetTaking (HasPrepared out) (HasPrepared out) ⊥ ⊥) c.from_residual-in_err-free_listed.result c.in_err-free_listed.field-0.0 c.from_residual-in_err-free_listed.ensures
     (inl (inl (inl (c.in_err-free_listed.ensures.faults (beside view below mid out) out listed))))
-
-pub returns-clause-l1_place : goal.returns-clause-l1_place
-returns-clause-l1_place g c = λ within.
-    place_same c.args.self.now.file.header.fields c.clear_between.new.self.file.header c.free_listed.new.self.file.header c.free_listed.ensures.keeps_rest.header (c.in_ok-clear_between.ensures.l1_place (within c.if-to-from.false))

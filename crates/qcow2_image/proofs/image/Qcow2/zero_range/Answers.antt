@@ -5,7 +5,7 @@ use Rattle.qcow2_image.specs.Preallocation.{FillsOrRefuses, FillsPart}
 use Rattle.qcow2_image.proofs.Preallocate.Turns.{same_version, still_at, zeroed_first, zeroed_next, zeroed_refused}
 use Rattle.qcow2_image.proofs.Call.FaultCounts.{counted_ok, counted_on, faults_then, untouched}
 use Rattle.qcow2_image.proofs.Call.BehindHeader.{behind_none, behind_then}
-use Rattle.qcow2_image.proofs.Preallocate.Met.{near_moved, place_on}
+use Rattle.qcow2_image.proofs.Preallocate.Met.{near_behind}
 use Rattle.qcow2_image.specs.Backings.{HasPrepared}
 use Rattle.qcow2_image.specs.MetAlone.{IsMetTaking}
 use Rattle.qcow2_image.proofs.Prepare.Met.{hands_met}
@@ -18,7 +18,6 @@ loop-at-init g c = record {
   emptied = λ none. none;
   behind = behind_none;
   notes = notes_none;
-  place = λ out sound le whole version near. (refl, refl);
 }
 
 pub returns-in_err-at-clause-fills : goal.returns-in_err-at-clause-fills
@@ -39,10 +38,6 @@ loop-at-preserved g c =
       emptied = λ none. c.in_ok-at.ensures.emptied (c.loop-at.invariant.emptied none);
       behind = behind_then c.loop-at.invariant.behind c.zero_first.ensures.header_cluster;
       notes = notes_then c.loop-at.invariant.notes c.zero_first.ensures.notes;
-      place = λ out sound le whole version near.
-          let so = c.loop-at.invariant.turns.so_far out sound le whole version in
-          place_on g.S.Storage.view g.F.BackingDisk.backing out 0 c.args.from c.loop-at.at c.args.self.now c.loop-at.self so.0 c.args.to c.zero_first.new.self c.loop-at-test.true (c.loop-at.invariant.place out sound le whole version near) near
-          (λ within. c.in_ok-at.ensures.l1_place (λ lt. within));
     }
 
 pub returns-clause-fills : goal.returns-clause-fills
@@ -86,7 +81,6 @@ returns-in_err-at-clause-met g c = λ out sound le whole version near.
     let lt = c.loop-at-test.true in
     let so = c.loop-at.invariant.turns.so_far out sound le whole version in
     let file_step = so.0.header in
-    let kept = c.loop-at.invariant.place out sound le whole version near in
     hands_met (IsMetTaking (HasPrepared out) (HasPrepared out) ⊥ ⊥) c.from_residual.result c.in_err-at.field-0.0 c.from_residual.ensures
     (c.in_err-at.ensures.met out so.0.sound (omega (arith, lt)) (still_at h h' c.loop-at.at file_step so.1, still_at h h' to file_step whole.1) (subst (λ v. 3 ≤ v) (sym (same_version h h' file_step)) version)
-    (near_moved h h' to to file_step kept (omega arith) near))
+    (near_behind g.S.Storage.view g.F.BackingDisk.backing out 0 c.args.from c.loop-at.at old now so.0 to to (omega (arith, lt)) (omega arith) near))
