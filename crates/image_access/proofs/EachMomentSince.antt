@@ -36,12 +36,12 @@ module _ {old mid new : StorageView} where
 
   module _ {T : Type 0} {result : Result T StorageError} where
     -- one call more, which makes a whole change or none
-    pub passes_change : (P : List ℕ → Type 0) (changed : List ℕ) → EachMomentSince old mid P → Calls mid new result → Changes mid new result changed → mid.is_honest → P mid.contents → P changed → EachMomentSince old new P
-    passes_change P changed so_far call changes honest at_mid at_changed =
+    pub passes_change : (P : List ℕ → Type 0) (change : List ℕ → List ℕ) → EachMomentSince old mid P → Calls mid new result → Changes mid new result change → mid.is_honest → P mid.contents → P (change mid.contents) → EachMomentSince old new P
+    passes_change P change so_far call changes honest at_mid at_changed =
         passes_on P so_far (call.time honest) (λ c is. ⊎_elim
         (λ (e : new.contents ≡ mid.contents). subst P (sym (is ∙ e)) at_mid)
-        (λ (e : new.contents ≡ changed). subst P (sym (is ∙ e)) at_changed)
-        (whole_or_nothing result mid.contents changed new.contents (changes honest)))
+        (λ (e : new.contents ≡ change mid.contents). subst P (sym (is ∙ e)) at_changed)
+        (whole_or_nothing result mid.contents (change mid.contents) new.contents (changes honest)))
 
 module _ {old new : StorageView} where
   pub passes_if : {P : List ℕ → Type 0} (Q : List ℕ → Type 0) → ((c : List ℕ) → P c → Q c) → EachMomentSince old new P → EachMomentSince old new Q

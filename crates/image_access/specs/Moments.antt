@@ -48,22 +48,26 @@ pub record EachMomentSince (old new : StorageView) (P : List ℕ → Type 0) : T
   pub later : old.moment ≤ new.moment
   pub each : (t : ℕ) (c : List ℕ) → t ≤ old.moment → new.had_since t c → old.had_since t c ⊎ P c
 
+-- what being cut off now leaves of a storage: its contents
+abbrev pub IsLeftBy : StorageView → List ℕ → Type 0
+IsLeftBy v c = c ≡ v.contents
+
 -- What a call says that may change the contents: the storage stays honest, and a fault is counted. Of an honest one, each moment since is one of before or has the contents at the return.
 pub record Calls {T : Type 0} (old new : StorageView) (result : Result T StorageError) : Type 0 where
   pub honest : old.is_honest → new.is_honest
-  pub time : old.is_honest → EachMomentSince old new (λ c. c ≡ new.contents)
+  pub time : old.is_honest → EachMomentSince old new (IsLeftBy new)
   pub cause : HasCause old.faults new.faults result
 
 -- What a call says that changes nothing: the same, and of the moments of any storage.
 pub record QuietCalls {T : Type 0} (old new : StorageView) (result : Result T StorageError) : Type 0 where
   pub honest : old.is_honest → new.is_honest
-  pub time : EachMomentSince old new (λ c. c ≡ new.contents)
+  pub time : EachMomentSince old new (IsLeftBy new)
   pub cause : HasCause old.faults new.faults result
 
 -- the same contents
 abbrev pub ContentsStay : StorageView → StorageView → Type 0
 ContentsStay old new = old.is_honest → new.contents ≡ old.contents
 
--- the contents become these, or at a refusal may stay
-abbrev pub Changes : {T : Type 0} → StorageView → StorageView → Result T StorageError → List ℕ → Type 0
-Changes old new result changed = old.is_honest → ContentsBecome result old.contents changed new.contents
+-- the contents become what the change makes of them, or at a refusal may stay
+abbrev pub Changes : {T : Type 0} → StorageView → StorageView → Result T StorageError → (List ℕ → List ℕ) → Type 0
+Changes old new result change = old.is_honest → ContentsBecome result old.contents (change old.contents) new.contents

@@ -36,22 +36,22 @@ pub trait Storage: Drop {
 
     /// Writes bytes at an offset. Past the end it extends the contents, with zeros between.
     fn write(&mut self, at: u64, bytes: &[u8]) -> Result<(), StorageError>
-        ensures written { Changes (view self.old) (view self.new) result (overwritten (view self.old).contents at bytes.now) }
+        ensures written { Changes (view self.old) (view self.new) result (λ b. overwritten b at bytes.now) }
         ensures calls { Calls (view self.old) (view self.new) result };
 
     /// Writes so many zeros at an offset, as `write` does. The place that they take may be given back.
     fn write_zeroes(&mut self, at: u64, length: u64) -> Result<(), StorageError>
-        ensures zeroed { Changes (view self.old) (view self.new) result (zeroed (view self.old).contents at length) }
+        ensures zeroed { Changes (view self.old) (view self.new) result (λ b. zeroed b at length) }
         ensures calls { Calls (view self.old) (view self.new) result };
 
     /// The same, and the place that they take stays taken where it can.
     fn write_allocated_zeroes(&mut self, at: u64, length: u64) -> Result<(), StorageError>
-        ensures zeroed { Changes (view self.old) (view self.new) result (zeroed (view self.old).contents at length) }
+        ensures zeroed { Changes (view self.old) (view self.new) result (λ b. zeroed b at length) }
         ensures calls { Calls (view self.old) (view self.new) result };
 
     /// Cuts the contents to a size, or grows them to it by zeros.
     fn resize(&mut self, size: u64, preallocate: StoragePreallocate) -> Result<(), StorageError>
-        ensures resized { Changes (view self.old) (view self.new) result (resized (view self.old).contents size) }
+        ensures resized { Changes (view self.old) (view self.new) result (λ b. resized b size) }
         ensures calls { Calls (view self.old) (view self.new) result };
 
     /// Hands all that was written on: of a file, to the operating system. That outlives an end of the program, and a loss of power only after `sync`.

@@ -197,7 +197,7 @@ impl Storage for TraceStorage {
 
     #[tactic(auto, using(crate::proofs::Replays::replayed_push))]
     fn write(&mut self, at: u64, bytes: &[u8]) -> Result<(), StorageError>
-        ensures written { Changes (view_of_trace self.old) (view_of_trace self.new) result (overwritten (contents_of self.old) at bytes.now) }
+        ensures written { Changes (view_of_trace self.old) (view_of_trace self.new) result (λ b. overwritten b at bytes.now) }
         ensures calls { Calls (view_of_trace self.old) (view_of_trace self.new) result }
         ensures adds { Adds self.old self.new result (Change.Write at bytes.now) }
     {
@@ -209,7 +209,7 @@ impl Storage for TraceStorage {
 
     #[tactic(auto, using(crate::proofs::Replays::replayed_push))]
     fn write_zeroes(&mut self, at: u64, length: u64) -> Result<(), StorageError>
-        ensures zeroed { Changes (view_of_trace self.old) (view_of_trace self.new) result (zeroed (contents_of self.old) at length) }
+        ensures zeroed { Changes (view_of_trace self.old) (view_of_trace self.new) result (λ b. zeroed b at length) }
         ensures calls { Calls (view_of_trace self.old) (view_of_trace self.new) result }
         ensures adds { Adds self.old self.new result (Change.Zeroes at length) }
     {
@@ -219,7 +219,7 @@ impl Storage for TraceStorage {
     }
 
     fn write_allocated_zeroes(&mut self, at: u64, length: u64) -> Result<(), StorageError>
-        ensures zeroed { Changes (view_of_trace self.old) (view_of_trace self.new) result (zeroed (contents_of self.old) at length) }
+        ensures zeroed { Changes (view_of_trace self.old) (view_of_trace self.new) result (λ b. zeroed b at length) }
         ensures calls { Calls (view_of_trace self.old) (view_of_trace self.new) result }
         ensures adds { Adds self.old self.new result (Change.Zeroes at length) }
     {
@@ -228,7 +228,7 @@ impl Storage for TraceStorage {
 
     #[tactic(auto, using(crate::proofs::Replays::replayed_push))]
     fn resize(&mut self, size: u64, _preallocate: StoragePreallocate) -> Result<(), StorageError>
-        ensures resized { Changes (view_of_trace self.old) (view_of_trace self.new) result (resized (contents_of self.old) size) }
+        ensures resized { Changes (view_of_trace self.old) (view_of_trace self.new) result (λ b. resized b size) }
         ensures calls { Calls (view_of_trace self.old) (view_of_trace self.new) result }
         ensures adds { Adds self.old self.new result (Change.Resize size) }
     {
