@@ -21,10 +21,10 @@ after_becomes : {T : Type 0} (result : Result T StorageError) (old changed new :
 after_becomes (Ok _) old changed new P holds is = subst P (sym is) holds
 after_becomes (Err _) old changed new P holds is = tt
 
-pub after_write : {T : Type 0} (cluster : Option ℕ) (result : Result T StorageError) (old new : StorageView) (changed : ℕ → List ℕ) (Named : ℕ → Type 0) (P : List ℕ → Type 0)
-    → ((c : ℕ) → Named c → P (changed c)) → old.is_honest → IfSome cluster (λ c. Changes old new result (changed c)) → IfSome cluster (λ c. Named c → OnOk result (P new.contents))
-after_write None result old new changed Named P holds honest changes = tt
-after_write (Some c) result old new changed Named P holds honest changes = λ named. after_becomes result old.contents (changed c) new.contents P (holds c named) (changes honest)
+pub after_write : {T : Type 0} (cluster : Option ℕ) (result : Result T StorageError) (old new : StorageView) (change : ℕ → List ℕ → List ℕ) (Named : ℕ → Type 0) (P : List ℕ → Type 0)
+    → ((c : ℕ) → Named c → P (change c old.contents)) → old.is_honest → IfSome cluster (λ c. Changes old new result (change c)) → IfSome cluster (λ c. Named c → OnOk result (P new.contents))
+after_write None result old new change Named P holds honest changes = tt
+after_write (Some c) result old new change Named P holds honest changes = λ named. after_becomes result old.contents (change c old.contents) new.contents P (holds c named) (changes honest)
 
 -- ---- a whole table
 

@@ -1,6 +1,6 @@
 -- What a storage did in a call that answers a MetadataError, for the words of the storage's own calls.
 use Rattle.std.specs.Prelude.{◌≡◌, Result, Ok, Err}
-use Rattle.image_access.specs.Moments.{StorageView, HasCause, EachMomentSince}
+use Rattle.image_access.specs.Moments.{StorageView, HasCause, EachMomentSince, IsLeftBy}
 use Rattle.image_access.specs.declared.error.StorageError.{StorageError}
 use Rattle.image_access.specs.declared.error.StorageError.TheVariants.{Memory as StorageMemory}
 use Rattle.qcow2_metadata.specs.declared.error.MetadataError.{MetadataError}
@@ -20,5 +20,5 @@ storage_result (Err Format) = Ok tt
 pub record OnlyReads {T : Type 0} (old new : StorageView) (result : Result T MetadataError) : Type 0 where
   pub honest : old.is_honest → new.is_honest
   pub same : old.is_honest → new.contents ≡ old.contents
-  pub time : old.is_honest → EachMomentSince old new (λ c. c ≡ old.contents)
+  pub time : old.is_honest → EachMomentSince old new (IsLeftBy old)
   pub cause : HasCause old.faults new.faults (storage_result result)

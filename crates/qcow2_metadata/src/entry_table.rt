@@ -205,7 +205,7 @@ impl EntryTable {
     pub(crate) fn write<S: Storage>(&self, storage: &mut S) -> Result<(), StorageError>
         requires { IsSome self.now.cluster }
         ensures written { IfSome self.now.cluster (λ cluster. Changes (S.view storage.old) (S.view storage.new) result
-            (overwritten (S.view storage.old).contents (cluster * 2 ^ self.now.cluster_bits) self.now.bytes)) }
+            (λ b. overwritten b (cluster * 2 ^ self.now.cluster_bits) self.now.bytes)) }
         ensures table { IsEntryTable 4194304 self.now }
         ensures calls { Calls (S.view storage.old) (S.view storage.new) result }
     {
@@ -234,7 +234,7 @@ impl EntryTable {
         requires within { index < entry_count self.now }
         requires room { HasRoomIfPlaced self.now.cluster_bits (8 * index) self.now.cluster }
         ensures written { IfSome self.now.cluster (λ cluster. Changes (S.view storage.old) (S.view storage.new) result
-            (overwritten (S.view storage.old).contents (cluster * 2 ^ self.now.cluster_bits + 8 * index) (to_be_bytes w64 (entry_of self.now.bytes index)))) }
+            (λ b. overwritten b (cluster * 2 ^ self.now.cluster_bits + 8 * index) (to_be_bytes w64 (entry_of self.now.bytes index)))) }
         ensures fits { entry_of self.now.bytes index < 2 ^ 64 }
         ensures table { IsEntryTable 4194304 self.now }
         ensures calls { Calls (S.view storage.old) (S.view storage.new) result }

@@ -153,7 +153,7 @@ impl L2Table {
     pub fn write<S: Storage>(&self, storage: &mut S) -> Result<(), StorageError>
         requires { IsSome self.now.cluster }
         ensures written { IfSome self.now.cluster (λ cluster. Changes (S.view storage.old) (S.view storage.new) result
-            (overwritten (S.view storage.old).contents (cluster * 2 ^ self.now.cluster_bits) self.now.bytes)) }
+            (λ b. overwritten b (cluster * 2 ^ self.now.cluster_bits) self.now.bytes)) }
         ensures of_image { (S.view storage.old).is_honest → IfSome self.now.cluster (λ cluster.
             OnOk result (IsL2TableAt (byte_at (S.view storage.new).contents) (cluster * 2 ^ self.now.cluster_bits) self.now)) }
         ensures calls { Calls (S.view storage.old) (S.view storage.new) result }
@@ -173,7 +173,7 @@ impl L2Table {
     ) -> Result<(), StorageError>
         requires { HasPlace self.old.cluster_bits cluster }
         ensures written { IsTrue self.old.is_modified → Changes (S.view storage.old) (S.view storage.new) result
-            (overwritten (S.view storage.old).contents (cluster * 2 ^ self.old.cluster_bits) self.old.bytes) }
+            (λ b. overwritten b (cluster * 2 ^ self.old.cluster_bits) self.old.bytes) }
         ensures of_image { (S.view storage.old).is_honest → IsTrue self.old.is_modified
             → OnOk result (IsL2TableAt (byte_at (S.view storage.new).contents) (cluster * 2 ^ self.old.cluster_bits) self.old) }
         ensures idle { IsFalse self.old.is_modified → IsOk result × (storage.new ≡ storage.old) }

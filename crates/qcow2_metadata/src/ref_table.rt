@@ -163,7 +163,7 @@ impl RefTable {
     pub fn write<S: Storage>(&self, storage: &mut S) -> Result<(), StorageError>
         requires { IsSome self.now.cluster }
         ensures written { IfSome self.now.cluster (λ cluster. Changes (S.view storage.old) (S.view storage.new) result
-            (overwritten (S.view storage.old).contents (cluster * 2 ^ self.now.cluster_bits) self.now.bytes)) }
+            (λ b. overwritten b (cluster * 2 ^ self.now.cluster_bits) self.now.bytes)) }
         ensures of_image { (S.view storage.old).is_honest → (h : HeaderFields) → IfSome self.now.cluster (λ cluster.
             NamesRefTable h (cluster * 2 ^ self.now.cluster_bits) (entry_count self.now) → OnOk result (IsRefTableOf h (byte_at (S.view storage.new).contents) self.now)) }
         ensures calls { Calls (S.view storage.old) (S.view storage.new) result }
@@ -176,7 +176,7 @@ impl RefTable {
         requires placed { IsSome self.now.cluster }
         requires within { index < entry_count self.now }
         ensures written { IfSome self.now.cluster (λ cluster. Changes (S.view storage.old) (S.view storage.new) result
-            (overwritten (S.view storage.old).contents (cluster * 2 ^ self.now.cluster_bits + 8 * index) (to_be_bytes w64 (entry_at self.now.bytes index)))) }
+            (λ b. overwritten b (cluster * 2 ^ self.now.cluster_bits + 8 * index) (to_be_bytes w64 (entry_at self.now.bytes index)))) }
         ensures fits { entry_at self.now.bytes index < 2 ^ 64 }
         ensures of_image { (S.view storage.old).is_honest → (h : HeaderFields) → IfSome self.now.cluster (λ cluster.
             NamesRefTable h (cluster * 2 ^ self.now.cluster_bits) (entry_count self.now) × IsRefTableBut index h (byte_at (S.view storage.old).contents) self.now

@@ -144,7 +144,7 @@ impl Header {
     /// Writes the header and its names at the beginning of the image. It is made for the header of a new image: other extensions of a
     /// header that was loaded are lost. Refused `Memory` where its bytes have no room, and as the storage is.
     pub fn write<S: Storage>(&self, alloc: Global, storage: &mut S) -> Result<(), StorageError>
-        ensures written { Changes (S.view storage.old) (S.view storage.new) result (header_written self.now (S.view storage.old).contents) }
+        ensures written { Changes (S.view storage.old) (S.view storage.new) result (header_written self.now) }
         ensures reads { HasNewNames self.now → IsHeaderIn self.now (header_written self.now (S.view storage.old).contents) }
         ensures calls { Calls (S.view storage.old) (S.view storage.new) result }
     {
@@ -181,7 +181,7 @@ impl Header {
     /// Writes the size in its place. Refused as the storage is.
     #[tactic(auto, using(crate::proofs::WrittenHeader::size_after))]
     pub fn write_size<S: Storage>(&self, storage: &mut S) -> Result<(), StorageError>
-        ensures written { Changes (S.view storage.old) (S.view storage.new) result (size_written self.now.fields (S.view storage.old).contents) }
+        ensures written { Changes (S.view storage.old) (S.view storage.new) result (size_written self.now.fields) }
         ensures fields { header (byte_at (size_written self.now.fields (S.view storage.old).contents))
             ≡ with_size (header (byte_at (S.view storage.old).contents)) self.now.fields.size }
         ensures reads { (size : ℕ) → IsHeaderIn (with_fields self.now (with_size self.now.fields size)) (S.view storage.old).contents
@@ -194,7 +194,7 @@ impl Header {
     /// Writes the place and the length of the L1 table. Refused as the storage is.
     #[tactic(auto, using(crate::proofs::WrittenHeader::l1_table_after))]
     pub fn write_l1_table_pointer<S: Storage>(&self, storage: &mut S) -> Result<(), StorageError>
-        ensures written { Changes (S.view storage.old) (S.view storage.new) result (l1_table_pointer_written self.now.fields (S.view storage.old).contents) }
+        ensures written { Changes (S.view storage.old) (S.view storage.new) result (l1_table_pointer_written self.now.fields) }
         ensures fields { header (byte_at (l1_table_pointer_written self.now.fields (S.view storage.old).contents))
             ≡ with_l1_table (header (byte_at (S.view storage.old).contents)) self.now.fields.l1_offset self.now.fields.l1_entries }
         ensures reads { (offset entries : ℕ) → IsHeaderIn (with_fields self.now (with_l1_table self.now.fields offset entries)) (S.view storage.old).contents
@@ -208,7 +208,7 @@ impl Header {
     /// Writes the place and the length of the reftable. Refused as the storage is.
     #[tactic(auto, using(crate::proofs::WrittenHeader::reftable_after))]
     pub fn write_reftable_pointer<S: Storage>(&self, storage: &mut S) -> Result<(), StorageError>
-        ensures written { Changes (S.view storage.old) (S.view storage.new) result (reftable_pointer_written self.now.fields (S.view storage.old).contents) }
+        ensures written { Changes (S.view storage.old) (S.view storage.new) result (reftable_pointer_written self.now.fields) }
         ensures fields { header (byte_at (reftable_pointer_written self.now.fields (S.view storage.old).contents))
             ≡ with_reftable (header (byte_at (S.view storage.old).contents)) self.now.fields.reftable_offset self.now.fields.reftable_clusters }
         ensures reads { (offset clusters : ℕ) → IsHeaderIn (with_fields self.now (with_reftable self.now.fields offset clusters)) (S.view storage.old).contents
@@ -222,7 +222,7 @@ impl Header {
     /// Clears the autoclear bits in the image and here, if one is set. Refused as the storage is, they stay here.
     #[tactic(auto, using(crate::proofs::WrittenHeader::autoclear_after))]
     pub fn clear_autoclear<S: Storage>(&mut self, storage: &mut S) -> Result<(), StorageError>
-        ensures written { self.old.fields.autoclear ≢ 0 → Changes (S.view storage.old) (S.view storage.new) result (autoclear_cleared (S.view storage.old).contents) }
+        ensures written { self.old.fields.autoclear ≢ 0 → Changes (S.view storage.old) (S.view storage.new) result autoclear_cleared }
         ensures untouched { self.old.fields.autoclear ≡ 0 → IsOk result × (storage.new ≡ storage.old) }
         ensures ok { OnOk result (self.new ≡ with_fields self.old (without_autoclear self.old.fields)) }
         ensures err { OnErr result (self.new ≡ self.old) }

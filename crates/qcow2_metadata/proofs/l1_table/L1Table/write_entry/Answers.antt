@@ -16,7 +16,7 @@ returns-clause-of_image g c = λ honest h.
     let within : i < entry_count t = rw c.self.view_is c.requires.within in
     rw (← c.self.view_is)
     (after_write t.cluster c.write_entry.result before after
-    (λ cluster. overwritten before.contents (cluster * 2 ^ t.cluster_bits + 8 * i) (to_be_bytes w64 (entry_at t.bytes i)))
+    (λ cluster b. overwritten b (cluster * 2 ^ t.cluster_bits + 8 * i) (to_be_bytes w64 (entry_at t.bytes i)))
     (λ cluster. NamesL1Table h (cluster * 2 ^ t.cluster_bits) (entry_count t) × IsL1TableBut i h (byte_at before.contents) t)
     (λ (contents : List ℕ). IsL1TableOf h (byte_at contents) t)
     (λ cluster named. IsL1TableOf-written_entry h before.contents (cluster * 2 ^ t.cluster_bits) t i within c.write_entry.ensures.fits named)

@@ -12,7 +12,7 @@ returns-clause-of_image g c = λ honest h.
     let after = g.S.Storage.view c.write.new.storage in
     rw (← c.self.view_is)
     (after_write t.cluster c.write.result before after
-    (λ cluster. overwritten before.contents (cluster * 2 ^ t.cluster_bits) t.bytes)
+    (λ cluster b. overwritten b (cluster * 2 ^ t.cluster_bits) t.bytes)
     (λ cluster. NamesRefTable h (cluster * 2 ^ t.cluster_bits) (entry_count t))
     (λ (contents : List ℕ). IsRefTableOf h (byte_at contents) t)
     (λ cluster names. IsRefTableOf-written h before.contents (cluster * 2 ^ t.cluster_bits) t c.write.ensures.table.whole names)
