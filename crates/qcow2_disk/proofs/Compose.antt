@@ -1,11 +1,11 @@
 -- Calls one after another, as a session's read or write makes them, and where stops may find an image on the way. Each of these moments is built here.
 use Rattle.std.proofs.Common.{◌≡◌, ◌⊎◌, ⊎_elim, inl, inr, ℕ, List, IsTrue, sym, ap, ◌∙◌, subst}
-use Rattle.image_access.specs.Moments.{StorageView, EachMomentSince}
+use Rattle.image_access.specs.Moments.{StorageView, EachMomentSince, IsLeftBy}
 use Rattle.image_access.proofs.EachMomentSince.{passes_none, passes_if, passes_on}
 use Rattle.qcow2_metadata.specs.Bytes.{Bytes, byte_at}
 use Rattle.qcow2_metadata.specs.Guest.{Value}
 use Rattle.qcow2_disk.specs.Disk.{disk, disk_with}
-use Rattle.qcow2_disk.specs.Stops.{GivenBytes, IsGiven, Checkpoint, checkpoint_with, StopOkEverywhere, SafeThroughout}
+use Rattle.qcow2_disk.specs.Stops.{GivenBytes, IsGiven, Checkpoint, checkpoint_with, StopOkEverywhere, SafeThroughout, LeavesKept}
 use Rattle.qcow2_disk.specs.AbstractImages.{Setting, AbstractImage, stored_bytes, guest_of}
 use Rattle.qcow2_disk.specs.Calls.{StartsAt, Stops, EffectOnSound, EffectOnFailed}
 use Rattle.qcow2_disk.specs.UngivenCovers.{IsUngiven}
@@ -19,13 +19,13 @@ stops_none old new gs asked same known m starts =
     let here = kept_more old.setting.backing gs asked m (stored_bytes old) starts.0 in
     record {
       moments = subst (λ (v : StorageView). EachMomentSince old.storage v (λ c. StopOkEverywhere old.setting.backing (checkpoint_with gs asked m) (byte_at c))) (sym same) (passes_none old.storage _);
-      contents = subst (λ (v : StorageView). StopOkEverywhere old.setting.backing (checkpoint_with gs asked m) (byte_at v.contents)) (sym same) here;
+      contents = subst (λ (v : StorageView). LeavesKept old.setting.backing (checkpoint_with gs asked m) v) (sym same) here;
       known = λ h. subst (λ b. StopOkEverywhere old.setting.backing (checkpoint_with gs asked m) b) (sym (known h)) (kept_more old.setting.backing gs asked m old.known starts.1);
     }
 
 -- by what is safe at each moment of its storage since, and by what is known in the end
 pub stops_of : (old new : AbstractImage) (given : Bytes → List GivenBytes) (asked : List ℕ) → SafeThroughout old.storage new.storage old.known given asked
-    → (new.is_sound → (backing : Bytes) (m : Checkpoint) → StopOkEverywhere backing m (stored_bytes old) → StopOkEverywhere backing m old.known → StopOkEverywhere backing (checkpoint_with (given backing) asked m) new.known)
+    → (new.is_sound → (backing : Bytes) (m : Checkpoint) → LeavesKept backing m old.storage → StopOkEverywhere backing m old.known → StopOkEverywhere backing (checkpoint_with (given backing) asked m) new.known)
     → (m : Checkpoint) → StartsAt old m → Stops old new (given old.setting.backing) asked m
 stops_of old new given asked since known m starts =
     let backing = old.setting.backing in
@@ -45,7 +45,7 @@ stops_as old new old' new' gs asked setting from to still m s =
     record {
       moments = subst (λ (v : StorageView). EachMomentSince v new'.storage (λ c. StopOkEverywhere old'.setting.backing (checkpoint_with gs asked m) (byte_at c))) (sym from)
           (subst (λ (v : StorageView). EachMomentSince old.storage v (λ c. StopOkEverywhere old'.setting.backing (checkpoint_with gs asked m) (byte_at c))) (sym to) moments);
-      contents = subst (λ (v : StorageView). StopOkEverywhere old'.setting.backing (checkpoint_with gs asked m) (byte_at v.contents)) (sym to) (back (stored_bytes new) s.contents);
+      contents = subst (λ (v : StorageView). LeavesKept old'.setting.backing (checkpoint_with gs asked m) v) (sym to) (back (stored_bytes new) s.contents);
       known = λ h. let there = still h in subst (λ b. StopOkEverywhere old'.setting.backing (checkpoint_with gs asked m) b) (sym there.1) (back new.known (s.known there.0));
     }
 
@@ -73,7 +73,7 @@ rests_none old new setting same failed leaks = record {
   setting = setting;
   failed = failed;
   contents = ap (λ (v : StorageView). v.contents) same;
-  moments = subst (λ (v : StorageView). EachMomentSince old.storage v (λ c. c ≡ old.storage.contents)) (sym same) (passes_none old.storage _);
+  moments = subst (λ (v : StorageView). EachMomentSince old.storage v (IsLeftBy old.storage)) (sym same) (passes_none old.storage _);
   leaks = leaks;
 }
 
@@ -128,11 +128,11 @@ works_then old mid new gs asked there a b =
       leaks = b.leaks ∙ a.leaks;
       stops = λ m starts.
           let f = a.stops m starts in
-          let l = b.stops (checkpoint_with gs asked m) (subst (λ k. StopOkEverywhere k (checkpoint_with gs asked m) (stored_bytes mid)) (sym same) f.contents, subst (λ k. StopOkEverywhere k (checkpoint_with gs asked m) mid.known) (sym same) (f.known there)) in
+          let l = b.stops (checkpoint_with gs asked m) (subst (λ k. LeavesKept k (checkpoint_with gs asked m) mid.storage) (sym same) f.contents, subst (λ k. StopOkEverywhere k (checkpoint_with gs asked m) mid.known) (sym same) (f.known there)) in
           record {
             moments = passes_on (λ c. StopOkEverywhere old.setting.backing (checkpoint_with gs asked m) (byte_at c)) f.moments l.moments
                 (λ c k. kept_twice old.setting.backing gs asked m (byte_at c) (subst (λ q. StopOkEverywhere q (checkpoint_with gs asked (checkpoint_with gs asked m)) (byte_at c)) same k));
-            contents = kept_twice old.setting.backing gs asked m (stored_bytes new) (subst (λ q. StopOkEverywhere q (checkpoint_with gs asked (checkpoint_with gs asked m)) (stored_bytes new)) same l.contents);
+            contents = kept_twice old.setting.backing gs asked m (stored_bytes new) (subst (λ q. LeavesKept q (checkpoint_with gs asked (checkpoint_with gs asked m)) new.storage) same l.contents);
             known = λ h. kept_twice old.setting.backing gs asked m new.known (subst (λ q. StopOkEverywhere q (checkpoint_with gs asked (checkpoint_with gs asked m)) new.known) same (l.known h));
           };
     }
@@ -142,6 +142,6 @@ rests_then old mid new a b = record {
   setting = b.setting ∙ a.setting;
   failed = b.failed;
   contents = b.contents ∙ a.contents;
-  moments = passes_on (λ c. c ≡ old.storage.contents) a.moments b.moments (λ c e. e ∙ a.contents);
+  moments = passes_on (IsLeftBy old.storage) a.moments b.moments (λ c e. e ∙ a.contents);
   leaks = b.leaks ∙ a.leaks;
 }

@@ -8,7 +8,7 @@ use Rattle.qcow2_metadata.specs.Consistent.{IsConsistent}
 use Rattle.qcow2_metadata.specs.Guest.{Value}
 use Rattle.qcow2_disk.specs.Disk.{Disk, disk, disk_with}
 use Rattle.qcow2_disk.specs.HeaderRest.{KeepsHeaderRest}
-use Rattle.qcow2_disk.specs.Stops.{GivenBytes, IsGiven, Checkpoint, checkpoint_at, checkpoint_with, StopOkEverywhere, StopOk}
+use Rattle.qcow2_disk.specs.Stops.{GivenBytes, IsGiven, Checkpoint, checkpoint_at, checkpoint_with, StopOkEverywhere, StopOk, LeavesKept, LeavesOk}
 use Rattle.qcow2_disk.specs.Mappings.{PreparedMapping}
 use Rattle.qcow2_disk.specs.AbstractImages.{Setting, Guest, Abstraction, AbstractImage, abstract_image, guest_of, stored_bytes, IsWhole}
 use Rattle.qcow2_disk.specs.Calls.{Refusal, memory, storage, not_compressed, another, CallEffect, AnsweredEffect, RefusedEffect, IsRefusalByFault, EffectOnSound, EffectOnFailed, Stops}
@@ -27,7 +27,7 @@ pub record Ends (found : ℕ → Option Found) (old new : AbstractImage) (comman
   pub ends : (new.is_sound × CommandMeaning old.setting found (guest_of old) command reply (guest_of new) × (¬ IsStorageReply reply)) ⊎ (IsFaultReply reply × IsTrue new.is_failed)
   pub finds : new.is_sound → IsRightlyTold new.setting old.known new command reply
   pub checkpoint : (x : Setting) (s : State) → RefinesState x old s → s.is_failed ≡ false → new.is_sound → (checkpoint_after x s command reply (guest_of new) ≡ checkpoint_during x s command)
-      ⊎ (StopOkEverywhere new.setting.backing (checkpoint_after x s command reply (guest_of new)) new.known × StopOkEverywhere new.setting.backing (checkpoint_after x s command reply (guest_of new)) (stored_bytes new))
+      ⊎ (StopOkEverywhere new.setting.backing (checkpoint_after x s command reply (guest_of new)) new.known × LeavesKept new.setting.backing (checkpoint_after x s command reply (guest_of new)) new.storage)
 
 -- what a command may be answered, on an image that failed and on one that works, and how a resize passes
 pub record IsAnswer (old new : AbstractImage) (command : Command) (reply : Reply) : Type 0 where
@@ -45,7 +45,7 @@ module _ (x : Setting) (old new : AbstractImage) (s : State) (command : Command)
   rested : IsTrue s.is_failed → IsAnswerOfFailed command reply → EffectOnFailed old new → RefinesCommand x old new s command reply
   rested failed answer rests =
       let not_ok : s.is_failed ≡ false → ⊥ = λ e. let t : s.is_failed ≡ true = failed in cc in
-      let at : StopOk x.backing s.checkpoint (stored_bytes new) = subst (λ c. StopOk x.backing s.checkpoint (byte_at c)) (sym rests.contents) stands.at_rest in
+      let at : LeavesOk x.backing s.checkpoint new.storage = subst (λ c. StopOk x.backing s.checkpoint (byte_at c)) (sym rests.contents) stands.at_rest in
       record {
         end = s;
         step = inl (failed, answer, refl);
@@ -81,10 +81,10 @@ module _ (x : Setting) (old new : AbstractImage) (s : State) (command : Command)
     new_backing = ap (λ (y : Setting). y.backing) (acts.setting ∙ stands.setting)
 
     stops : Stops old new (given_by x s.guest command) (asked_by command) s.checkpoint
-    stops = acts.stops s.checkpoint (subst (λ b. StopOkEverywhere b s.checkpoint (stored_bytes old)) (sym backing-is) (stands.contents ok), subst (λ b. StopOkEverywhere b s.checkpoint old.known) (sym backing-is) (stands.known ok))
+    stops = acts.stops s.checkpoint (subst (λ b. LeavesKept b s.checkpoint old.storage) (sym backing-is) (stands.contents ok), subst (λ b. StopOkEverywhere b s.checkpoint old.known) (sym backing-is) (stands.known ok))
 
-    kept_contents : StopOkEverywhere x.backing (checkpoint_during x s command) (stored_bytes new)
-    kept_contents = subst (λ b. StopOkEverywhere b (checkpoint_during x s command) (stored_bytes new)) backing-is stops.contents
+    kept_contents : LeavesKept x.backing (checkpoint_during x s command) new.storage
+    kept_contents = subst (λ b. LeavesKept b (checkpoint_during x s command) new.storage) backing-is stops.contents
 
     kept_known : new.is_sound → StopOkEverywhere x.backing (checkpoint_during x s command) new.known
     kept_known sound = subst (λ b. StopOkEverywhere b (checkpoint_during x s command) new.known) backing-is (stops.known sound)
@@ -96,15 +96,15 @@ module _ (x : Setting) (old new : AbstractImage) (s : State) (command : Command)
 
     own : IsOwnInterval x.backing old.storage new.storage old.known (given_by x s.guest command) (asked_by command)
     own m contents known = subst (λ b. EachMomentSince old.storage new.storage (λ c. StopOkEverywhere b (checkpoint_with (given_by x s.guest command) (asked_by command) m) (byte_at c))) backing-is
-        (acts.stops m (subst (λ b. StopOkEverywhere b m (stored_bytes old)) (sym backing-is) contents, subst (λ b. StopOkEverywhere b m old.known) (sym backing-is) known)).moments
+        (acts.stops m (subst (λ b. LeavesKept b m old.storage) (sym backing-is) contents, subst (λ b. StopOkEverywhere b m old.known) (sym backing-is) known)).moments
 
-    safe_to : (after : Checkpoint) → StopOk x.backing after (stored_bytes new) → IsSafeWhile x.backing old.storage new.storage s.is_failed (checkpoint_during x s command) after
+    safe_to : (after : Checkpoint) → LeavesOk x.backing after new.storage → IsSafeWhile x.backing old.storage new.storage s.is_failed (checkpoint_during x s command) after
     safe_to after at = record { moments = λ _. moments; at_return = at; silent = λ f. absurd (not_failed f); unchanged = λ f. absurd (not_failed f) }
 
     failing : IsFaultReply reply → IsTrue new.is_failed → RefinesCommand x old new s command reply
     failing fault failed =
-        let at : StopOk x.backing (checkpoint_after x s command reply s.guest) (stored_bytes new) =
-        subst (λ m. StopOk x.backing m (stored_bytes new)) (sym (mark_of_fault x s command reply s.guest fault)) (stop_of_kept x.backing (checkpoint_during x s command) (stored_bytes new) kept_contents) in
+        let at : LeavesOk x.backing (checkpoint_after x s command reply s.guest) new.storage =
+        subst (λ m. LeavesOk x.backing m new.storage) (sym (mark_of_fault x s command reply s.guest fault)) (stop_of_kept x.backing (checkpoint_during x s command) (stored_bytes new) kept_contents) in
         record {
           end = stepped x s command reply s.guest true;
           step = inr (inr (ok, may, fault, refl));
@@ -125,15 +125,15 @@ module _ (x : Setting) (old new : AbstractImage) (s : State) (command : Command)
 
     going : new.is_sound → CommandMeaning x s.found s.guest command reply (guest_of new) → (¬ IsStorageReply reply) → IsRightlyTold new.setting old.known new command reply
         → ((checkpoint_after x s command reply (guest_of new) ≡ checkpoint_during x s command)
-        ⊎ (StopOkEverywhere new.setting.backing (checkpoint_after x s command reply (guest_of new)) new.known × StopOkEverywhere new.setting.backing (checkpoint_after x s command reply (guest_of new)) (stored_bytes new)))
+        ⊎ (StopOkEverywhere new.setting.backing (checkpoint_after x s command reply (guest_of new)) new.known × LeavesKept new.setting.backing (checkpoint_after x s command reply (guest_of new)) new.storage))
         → RefinesCommand x old new s command reply
     going sound means works finds checkpoint =
         let after = checkpoint_after x s command reply (guest_of new) in
-        let kept : StopOkEverywhere x.backing after (stored_bytes new) =
+        let kept : LeavesKept x.backing after new.storage =
         ⊎_elim
-        (λ (e : checkpoint_after x s command reply (guest_of new) ≡ checkpoint_during x s command). subst (λ m. StopOkEverywhere x.backing m (stored_bytes new)) (sym e) kept_contents)
-        (λ (f : StopOkEverywhere new.setting.backing (checkpoint_after x s command reply (guest_of new)) new.known × StopOkEverywhere new.setting.backing (checkpoint_after x s command reply (guest_of new)) (stored_bytes new)).
-        subst (λ b. StopOkEverywhere b (checkpoint_after x s command reply (guest_of new)) (stored_bytes new)) new_backing f.1) checkpoint in
+        (λ (e : checkpoint_after x s command reply (guest_of new) ≡ checkpoint_during x s command). subst (λ m. LeavesKept x.backing m new.storage) (sym e) kept_contents)
+        (λ (f : StopOkEverywhere new.setting.backing (checkpoint_after x s command reply (guest_of new)) new.known × LeavesKept new.setting.backing (checkpoint_after x s command reply (guest_of new)) new.storage).
+        subst (λ b. LeavesKept b (checkpoint_after x s command reply (guest_of new)) new.storage) new_backing f.1) checkpoint in
         let at = stop_of_kept x.backing after (stored_bytes new) kept in
         record {
           end = stepped x s command reply (guest_of new) false;
@@ -145,7 +145,7 @@ module _ (x : Setting) (old new : AbstractImage) (s : State) (command : Command)
             guest = λ _. refl;
             known = λ _. ⊎_elim
                 (λ (e : checkpoint_after x s command reply (guest_of new) ≡ checkpoint_during x s command). subst (λ m. StopOkEverywhere x.backing m new.known) (sym e) (kept_known sound))
-                (λ (f : StopOkEverywhere new.setting.backing (checkpoint_after x s command reply (guest_of new)) new.known × StopOkEverywhere new.setting.backing (checkpoint_after x s command reply (guest_of new)) (stored_bytes new)).
+                (λ (f : StopOkEverywhere new.setting.backing (checkpoint_after x s command reply (guest_of new)) new.known × LeavesKept new.setting.backing (checkpoint_after x s command reply (guest_of new)) new.storage).
                 subst (λ b. StopOkEverywhere b (checkpoint_after x s command reply (guest_of new)) new.known) new_backing f.0) checkpoint;
             contents = λ _. kept;
             at_rest = at;
@@ -258,10 +258,10 @@ flushed_as x old new s command is reply e stands answer does whole answered chec
       finds = λ _. finds;
       checkpoint = λ x' s' there ok _.
           let below : old.setting.backing ≡ x'.backing = ap (λ (y : Setting). y.backing) there.setting in
-          let stops = (does.acts.works sound).stops s'.checkpoint (subst (λ b. StopOkEverywhere b s'.checkpoint (stored_bytes old)) (sym below) (there.contents ok), subst (λ b. StopOkEverywhere b s'.checkpoint old.known) (sym below) (there.known ok)) in
+          let stops = (does.acts.works sound).stops s'.checkpoint (subst (λ b. LeavesKept b s'.checkpoint old.storage) (sym below) (there.contents ok), subst (λ b. StopOkEverywhere b s'.checkpoint old.known) (sym below) (there.known ok)) in
           inr (
             subst (λ m. StopOkEverywhere new.setting.backing m new.known) (sym (checkpoint x' s')) (kept_at_once new s'.checkpoint.header_bytes new.known (whole a.0) refl (stops.known a.0).rest),
-            subst (λ m. StopOkEverywhere new.setting.backing m (stored_bytes new)) (sym (checkpoint x' s')) (kept_at_once new s'.checkpoint.header_bytes (stored_bytes new) (whole a.0) (sym a.1.0) stops.contents.rest),
+            subst (λ m. LeavesKept new.setting.backing m new.storage) (sym (checkpoint x' s')) (kept_at_once new s'.checkpoint.header_bytes (stored_bytes new) (whole a.0) (sym a.1.0) stops.contents.rest),
           );
     }))
 
@@ -285,7 +285,7 @@ gave_less x old new s command is reply given e stands answer does within touches
       checkpoint = λ x' s' there ok sound'.
           let works = does.acts.works sound in
           let below : old.setting.backing ≡ x'.backing = ap (λ (y : Setting). y.backing) there.setting in
-          let stops = works.stops s'.checkpoint (subst (λ b. StopOkEverywhere b s'.checkpoint (stored_bytes old)) (sym below) (there.contents ok), subst (λ b. StopOkEverywhere b s'.checkpoint old.known) (sym below) (there.known ok)) in
+          let stops = works.stops s'.checkpoint (subst (λ b. LeavesKept b s'.checkpoint old.storage) (sym below) (there.contents ok), subst (λ b. StopOkEverywhere b s'.checkpoint old.known) (sym below) (there.known ok)) in
           let gave : gs ≡ given x' s'.guest = ap (λ (y : Setting). given y (guest_of old)) there.setting ∙ ap (λ (h : Guest). given x' h) (there.guest ok) in
           let marked : checkpoint_with gs (asked_by is) s'.checkpoint ≡ checkpoint_after x' s' is reply (guest_of new) = ap (λ (l : List GivenBytes). checkpoint_with l (asked_by is) s'.checkpoint) gave ∙ sym (checkpoint x' s') in
           let as_marked : (b : Bytes) → StopOkEverywhere old.setting.backing (checkpoint_with gs (asked_by is) s'.checkpoint) b → StopOkEverywhere new.setting.backing (checkpoint_after x' s' is reply (guest_of new)) b = λ b kept.
@@ -314,7 +314,7 @@ begins v sound whole same = record {
   at_rest = stop_of_kept v.setting.backing (started v).checkpoint (stored_bytes v) at_once;
 }
   where
-    at_once : StopOkEverywhere v.setting.backing (started v).checkpoint (stored_bytes v)
+    at_once : LeavesKept v.setting.backing (started v).checkpoint v.storage
     at_once = kept_at_once v (stored_bytes v) (stored_bytes v) whole (sym same) (header_rest_same (stored_bytes v))
 
 -- a run goes on by one step
@@ -351,7 +351,7 @@ module _ {D P : Type 0} (spec : Abstraction D P) (x : Setting) (before : ℕ →
 
   -- the moments of a run fall under its commands
   within : (old new : D) (s end : State) (commands : List Command) (replies : List Reply) (run : Run x s commands replies end) → RefinesAlong spec x before leaked old new s end commands replies run
-      → StopOk x.backing s.checkpoint (byte_at (spec.storage old).contents) → EachMomentSince (spec.storage old) (spec.storage new) (λ c. IsStopIn x s end commands replies run (byte_at c))
+      → LeavesOk x.backing s.checkpoint (spec.storage old) → EachMomentSince (spec.storage old) (spec.storage new) (λ c. IsStopIn x s end commands replies run (byte_at c))
   within old new s end [] [] run same at = subst (λ (d : D). EachMomentSince (spec.storage old) (spec.storage d) (λ c. StopOk x.backing end.checkpoint (byte_at c))) (sym same) (passes_none (spec.storage old) (λ c. StopOk x.backing end.checkpoint (byte_at c)))
   within old new s end (command ∷ commands) (reply ∷ replies) run safe at =
       let here : EachMomentSince (spec.storage old) (spec.storage safe.0) (λ c. StopOk x.backing (checkpoint_during x s command) (byte_at c)) = elim (bool_cases s.is_failed) [
@@ -370,23 +370,23 @@ module _ {D P : Type 0} (spec : Abstraction D P) (x : Setting) (before : ℕ →
   stop_at_end s end (command ∷ commands) [] run b at = absurd run
 
   rest_at_end : (old new : D) (s end : State) (commands : List Command) (replies : List Reply) (run : Run x s commands replies end) → RefinesAlong spec x before leaked old new s end commands replies run
-      → StopOk x.backing s.checkpoint (byte_at (spec.storage old).contents) → StopOk x.backing end.checkpoint (byte_at (spec.storage new).contents)
-  rest_at_end old new s end [] [] run same at = subst (λ (d : D). StopOk x.backing end.checkpoint (byte_at (spec.storage d).contents)) (sym same) (subst (λ (t : State). StopOk x.backing t.checkpoint (byte_at (spec.storage old).contents)) (sym run) at)
+      → LeavesOk x.backing s.checkpoint (spec.storage old) → LeavesOk x.backing end.checkpoint (spec.storage new)
+  rest_at_end old new s end [] [] run same at = subst (λ (d : D). LeavesOk x.backing end.checkpoint (spec.storage d)) (sym same) (subst (λ (t : State). LeavesOk x.backing t.checkpoint (spec.storage old)) (sym run) at)
   rest_at_end old new s end (command ∷ commands) (reply ∷ replies) run safe at = rest_at_end safe.0 new run.0 end commands replies run.2 safe.4 safe.3.safe.at_return
   rest_at_end old new s end [] (reply ∷ replies) run safe at = absurd run
   rest_at_end old new s end (command ∷ commands) [] run safe at = absurd run
 
   -- what stood at its start falls under the first, or the end
   first_in : (old new : D) (s end : State) (commands : List Command) (replies : List Reply) (run : Run x s commands replies end) → RefinesAlong spec x before leaked old new s end commands replies run
-      → StopOk x.backing s.checkpoint (byte_at (spec.storage old).contents) → IsStopIn x s end commands replies run (byte_at (spec.storage old).contents)
-  first_in old new s end [] [] run same at = subst (λ (t : State). StopOk x.backing t.checkpoint (byte_at (spec.storage old).contents)) (sym run) at
+      → LeavesOk x.backing s.checkpoint (spec.storage old) → IsStopIn x s end commands replies run (byte_at (spec.storage old).contents)
+  first_in old new s end [] [] run same at = subst (λ (t : State). LeavesOk x.backing t.checkpoint (spec.storage old)) (sym run) at
   first_in old new s end (command ∷ commands) (reply ∷ replies) run safe at = inl (stop_more x.backing (given_by x s.guest command) (asked_by command) s.checkpoint (byte_at (spec.storage old).contents) at)
   first_in old new s end [] (reply ∷ replies) run safe at = absurd run
   first_in old new s end (command ∷ commands) [] run safe at = absurd run
 
   -- and so do those while its mappings are let go
   pub whole_passes : (old last new : D) (s end : State) (commands : List Command) (replies : List Reply) (run : Run x s commands replies end)
-      → StopOk x.backing s.checkpoint (byte_at (spec.storage old).contents) → RefinesAlong spec x before leaked old last s end commands replies run → IsSafeWhile x.backing (spec.storage last) (spec.storage new) end.is_failed end.checkpoint end.checkpoint
+      → LeavesOk x.backing s.checkpoint (spec.storage old) → RefinesAlong spec x before leaked old last s end commands replies run → IsSafeWhile x.backing (spec.storage last) (spec.storage new) end.is_failed end.checkpoint end.checkpoint
       → EachMomentSince (spec.storage old) (spec.storage new) (λ c. IsStopIn x s end commands replies run (byte_at c))
   whole_passes old last new s end commands replies run at stops leaves =
       let In = λ (k : List ℕ). IsStopIn x s end commands replies run (byte_at k) in
@@ -399,7 +399,7 @@ module _ {D P : Type 0} (spec : Abstraction D P) (x : Setting) (before : ℕ →
 
   -- and none but these since its start
   pub since_start : (old last new : D) (s end : State) (commands : List Command) (replies : List Reply) (run : Run x s commands replies end) → ((c : List ℕ) → (spec.storage old).had_since (spec.storage old).moment c → c ≡ (spec.storage old).contents)
-      → StopOk x.backing s.checkpoint (byte_at (spec.storage old).contents) → RefinesAlong spec x before leaked old last s end commands replies run → IsSafeWhile x.backing (spec.storage last) (spec.storage new) end.is_failed end.checkpoint end.checkpoint
+      → LeavesOk x.backing s.checkpoint (spec.storage old) → RefinesAlong spec x before leaked old last s end commands replies run → IsSafeWhile x.backing (spec.storage last) (spec.storage new) end.is_failed end.checkpoint end.checkpoint
       → (c : List ℕ) → (spec.storage new).had_since (spec.storage old).moment c → IsStopIn x s end commands replies run (byte_at c)
   since_start old last new s end commands replies run only at stops leaves c had =
       let In = λ (k : List ℕ). IsStopIn x s end commands replies run (byte_at k) in
@@ -432,7 +432,7 @@ module _ {D P : Type 0} (spec : Abstraction D P) where
     at_end : ran.end.is_failed ≡ false → Stops (abstract_image spec last out) (abstract_image spec new []) [] [] ran.end.checkpoint
     at_end ok =
         (does.acts.works (ran.stands.works ok)).stops ran.end.checkpoint
-        (subst (λ b. StopOkEverywhere b ran.end.checkpoint (byte_at (spec.storage last).contents)) (sym backing_then) (ran.stands.contents ok), subst (λ b. StopOkEverywhere b ran.end.checkpoint (spec.known last)) (sym backing_then) (ran.stands.known ok))
+        (subst (λ b. LeavesKept b ran.end.checkpoint (spec.storage last)) (sym backing_then) (ran.stands.contents ok), subst (λ b. StopOkEverywhere b ran.end.checkpoint (spec.known last)) (sym backing_then) (ran.stands.known ok))
 
     setting_then : spec.setting new ≡ x
     setting_then = elim (bool_cases ran.end.is_failed) [
@@ -446,10 +446,10 @@ module _ {D P : Type 0} (spec : Abstraction D P) where
       | inr ok ↦ (does.acts.works (ran.stands.works ok)).leaks
     ]
 
-    kept_then : ran.end.is_failed ≡ false → StopOkEverywhere x.backing ran.end.checkpoint (byte_at (spec.storage new).contents)
-    kept_then ok = subst (λ b. StopOkEverywhere b ran.end.checkpoint (byte_at (spec.storage new).contents)) backing_then (at_end ok).contents
+    kept_then : ran.end.is_failed ≡ false → LeavesKept x.backing ran.end.checkpoint (spec.storage new)
+    kept_then ok = subst (λ b. LeavesKept b ran.end.checkpoint (spec.storage new)) backing_then (at_end ok).contents
 
-    resting : StopOk x.backing ran.end.checkpoint (byte_at (spec.storage new).contents)
+    resting : LeavesOk x.backing ran.end.checkpoint (spec.storage new)
     resting = elim (bool_cases ran.end.is_failed) [
       | inl failed ↦ subst (λ k. StopOk x.backing ran.end.checkpoint (byte_at k)) (sym (does.acts.rests (ran.stands.failed failed)).contents) ran.stands.at_rest
       | inr ok ↦ stop_of_kept x.backing ran.end.checkpoint (byte_at (spec.storage new).contents) (kept_then ok)

@@ -1,16 +1,16 @@
 -- What each call does to an image.
 use Rattle.std.specs.Prelude.{ℕ, ◌+◌, ◌≡◌, ◌⊎◌, ◌≤◌, ◌<◌, ◌==◌, ◌||◌, Bool, true, false, IsTrue, List, [], ◌∷◌, length, take, Option, nat_le, if◌then◌else◌}
-use Rattle.image_access.specs.Moments.{EachMomentSince}
+use Rattle.image_access.specs.Moments.{EachMomentSince, IsLeftBy}
 use Rattle.image_access.specs.declared.storage.PreallocateMode.{PreallocateMode}
 use Rattle.image_access.specs.declared.storage.PreallocateMode.TheVariants as Mode
 use Rattle.qcow2_metadata.specs.Bytes.{byte_at}
 use Rattle.qcow2_metadata.specs.Header.{rounded_up}
 use Rattle.qcow2_metadata.specs.Guest.{known_byte}
 use Rattle.qcow2_disk.specs.Disk.{Disk, with_bytes, zeroed_between, uncovered, grown, shrunk}
-use Rattle.qcow2_disk.specs.Stops.{GivenBytes, Checkpoint, checkpoint_with, StopOkEverywhere}
+use Rattle.qcow2_disk.specs.Stops.{GivenBytes, Checkpoint, checkpoint_with, StopOkEverywhere, LeavesKept}
 use Rattle.qcow2_disk.specs.Mappings.{PreparedMapping, given_shown}
 use Rattle.qcow2_disk.specs.Rules.{touched_from, touched_to}
-use Rattle.qcow2_disk.specs.AbstractImages.{Setting, Guest, AbstractImage, guest_of, stored_bytes}
+use Rattle.qcow2_disk.specs.AbstractImages.{Setting, Guest, AbstractImage, guest_of}
 use Rattle.qcow2_disk.specs.UngivenCovers.{UngivenStay}
 
 -- why a call was refused, as far as the state after it and what it tells depend on that
@@ -33,11 +33,11 @@ IsRefusalByFault (another number) = ⊥
 -- where a stop may find the image, with what a call gives and asks
 pub record Stops (old new : AbstractImage) (given : List GivenBytes) (asked : List ℕ) (m : Checkpoint) : Type 0 where
   pub moments : EachMomentSince old.storage new.storage (λ c. StopOkEverywhere old.setting.backing (checkpoint_with given asked m) (byte_at c))
-  pub contents : StopOkEverywhere old.setting.backing (checkpoint_with given asked m) (stored_bytes new)
+  pub contents : LeavesKept old.setting.backing (checkpoint_with given asked m) new.storage
   pub known : new.is_sound → StopOkEverywhere old.setting.backing (checkpoint_with given asked m) new.known
 
 abbrev pub StartsAt : AbstractImage → Checkpoint → Type 0
-StartsAt v m = StopOkEverywhere v.setting.backing m (stored_bytes v) × StopOkEverywhere v.setting.backing m v.known
+StartsAt v m = LeavesKept v.setting.backing m v.storage × StopOkEverywhere v.setting.backing m v.known
 
 -- What a call does to a sound image. While it is sound, what stands for guest clusters of which the call gives no byte stays. No cluster is leaked, even where the call was refused or broke off.
 pub record EffectOnSound (old new : AbstractImage) (given : List GivenBytes) (asked : List ℕ) : Type 0 where
@@ -52,7 +52,7 @@ pub record EffectOnFailed (old new : AbstractImage) : Type 0 where
   pub setting : new.setting ≡ old.setting
   pub failed : IsTrue new.is_failed
   pub contents : new.storage.contents ≡ old.storage.contents
-  pub moments : EachMomentSince old.storage new.storage (λ c. c ≡ old.storage.contents)
+  pub moments : EachMomentSince old.storage new.storage (IsLeftBy old.storage)
   pub leaks : new.leaked ≡ old.leaked
 
 -- a call that gives these values and asks for these sizes

@@ -1,13 +1,13 @@
 -- A run of commands with its replies.
 use Rattle.std.specs.Prelude.{ℕ, ◌+◌, ◌≡◌, ◌≢◌, ◌⊎◌, ◌≤◌, ◌<◌, ◌==◌, Bool, true, false, IsTrue, List, [], ◌∷◌, length, Option, Some, None, MatchOption, if◌then◌else◌}
-use Rattle.image_access.specs.Moments.{StorageView, EachMomentSince}
+use Rattle.image_access.specs.Moments.{StorageView, EachMomentSince, IsLeftBy}
 use Rattle.image_access.specs.declared.storage.PreallocateMode.{PreallocateMode}
 use Rattle.qcow2_metadata.specs.Bytes.{Bytes, byte_at}
 use Rattle.qcow2_metadata.specs.Consistent.{IsConsistent}
 use Rattle.qcow2_metadata.specs.Cover.{cover}
 use Rattle.qcow2_metadata.specs.Header.{header, cluster_size}
 use Rattle.qcow2_disk.specs.Disk.{Disk, with_bytes}
-use Rattle.qcow2_disk.specs.Stops.{GivenBytes, Checkpoint, checkpoint_at, checkpoint_with, StopOkEverywhere, StopOk}
+use Rattle.qcow2_disk.specs.Stops.{GivenBytes, Checkpoint, checkpoint_at, checkpoint_with, StopOkEverywhere, StopOk, LeavesKept, LeavesOk}
 use Rattle.qcow2_disk.specs.Rules.{answered}
 use Rattle.qcow2_disk.specs.Mappings.{PreparedMapping, IsPrepared, put_mapping, put_disk, committed, is_copied_data, IsPrivateIn, IsHiddenIn, given_of, given_by_put, given_by_commit}
 use Rattle.qcow2_disk.specs.Found.{Kind, IsFoundIn, IsCompressedAt}
@@ -220,8 +220,8 @@ Run x old (command ∷ commands) [] new = ⊥
 -- While a call is under way, at each moment the bytes are what a stop may leave at its checkpoint; at its return, at the checkpoint then. An image that has failed writes nothing.
 pub record IsSafeWhile (backing : Bytes) (old new : StorageView) (failed : Bool) (under after : Checkpoint) : Type 0 where
   pub moments : failed ≡ false → EachMomentSince old new (λ c. StopOk backing under (byte_at c))
-  pub at_return : StopOk backing after (byte_at new.contents)
-  pub silent : IsTrue failed → EachMomentSince old new (λ c. c ≡ old.contents)
+  pub at_return : LeavesOk backing after new
+  pub silent : IsTrue failed → EachMomentSince old new (IsLeftBy old)
   pub unchanged : IsTrue failed → new.contents ≡ old.contents
 
 -- An image at the return of a command, where it didn't fail: it is sound, and the guest sees what the run says. The known image is consistent, and no cluster was lost or gained since the start. Whether it failed or not, no cluster was leaked since.
@@ -235,7 +235,7 @@ pub record RefinesGuest (v : AbstractImage) (s : State) (before : ℕ → ℕ) (
 
 -- The moments on the way are the call's own. At whatever checkpoint a stop was safe as it began, each of them is safe with no more than it gives and asks.
 abbrev pub IsOwnInterval : Bytes → (old new : StorageView) → (known : Bytes) → List GivenBytes → List ℕ → Type 0
-IsOwnInterval backing old new known given asked = (m : Checkpoint) → StopOkEverywhere backing m (byte_at old.contents) → StopOkEverywhere backing m known
+IsOwnInterval backing old new known given asked = (m : Checkpoint) → LeavesKept backing m old → StopOkEverywhere backing m known
     → EachMomentSince old new (λ c. StopOkEverywhere backing (checkpoint_with given asked m) (byte_at c))
 
 -- What preparing answers is where the mapping in its slot is to be written. Of that mapping all is private but what was copied data, and hidden but where a zero cluster keeps its host cluster.
@@ -313,9 +313,9 @@ pub record RefinesState (x : Setting) (v : AbstractImage) (s : State) : Type 0 w
   pub failed : IsTrue s.is_failed → IsTrue v.is_failed
   pub guest : s.is_failed ≡ false → guest_of v ≡ s.guest
   pub known : s.is_failed ≡ false → StopOkEverywhere x.backing s.checkpoint v.known
-  pub contents : s.is_failed ≡ false → StopOkEverywhere x.backing s.checkpoint (stored_bytes v)
+  pub contents : s.is_failed ≡ false → LeavesKept x.backing s.checkpoint v.storage
   -- what a stop now leaves
-  pub at_rest : StopOk x.backing s.checkpoint (stored_bytes v)
+  pub at_rest : LeavesOk x.backing s.checkpoint v.storage
 
 -- one step of a run, with the moments on the way
 pub record RefinesCommand (x : Setting) (old new : AbstractImage) (s : State) (command : Command) (reply : Reply) : Type 0 where
@@ -355,7 +355,7 @@ module _ {D P : Type 0} (spec : Abstraction D P) where
     -- the replies are a run of the disk
     pub run : Run (spec.setting old) (started (abstract_image spec old [])) commands replies end
     -- Where it begins a stop is safe. Along it each moment is safe at the checkpoint of the command under way, and at each return the guest sees what the run says.
-    pub at_start : StopOk (spec.setting old).backing (started (abstract_image spec old [])).checkpoint (byte_at (spec.storage old).contents)
+    pub at_start : LeavesOk (spec.setting old).backing (started (abstract_image spec old [])).checkpoint (spec.storage old)
     pub last : D
     pub along : RefinesAlong spec (spec.setting old) (spec.surplus old []) (spec.leaked old) old last (started (abstract_image spec old [])) end commands replies run
     -- Then the mappings that are left are let go, as safely, and the guest still sees it.

@@ -54,7 +54,19 @@ pub record StopOkEverywhere (backing : Bytes) (m : Checkpoint) (image : Bytes) :
   pub size : ((disk image backing).size ≡ m.last.size) ⊎ IsAsked m.asked (disk image backing).size
   pub values : (o : ℕ) → ((disk image backing).value o ≡ m.last.value o) ⊎ IsGiven m.given o ((disk image backing).value o)
 
+-- what being cut off now leaves of a storage is kept
+abbrev pub LeavesKept : Bytes → Checkpoint → StorageView → Type 0
+LeavesKept backing m v = StopOkEverywhere backing m (byte_at v.contents)
+
+-- what being cut off now leaves of a storage is what a stop may leave
+abbrev pub LeavesOk : Bytes → Checkpoint → StorageView → Type 0
+LeavesOk backing m v = StopOk backing m (byte_at v.contents)
+
+-- These contents keep what was kept of a storage and of what was known, beside what was given and asked since.
+abbrev pub IsSafeAfter : StorageView → Bytes → (Bytes → List GivenBytes) → List ℕ → List ℕ → Type 0
+IsSafeAfter old known given asked c = (backing : Bytes) (m : Checkpoint) → LeavesKept backing m old → StopOkEverywhere backing m known → StopOkEverywhere backing (checkpoint_with (given backing) asked m) (byte_at c)
+
 -- At each moment of a storage since, what was kept of it and of what was known is kept.
 pub record SafeThroughout (old new : StorageView) (known : Bytes) (given : Bytes → List GivenBytes) (asked : List ℕ) : Type 0 where
-  pub moments : EachMomentSince old new (λ c. (backing : Bytes) (m : Checkpoint) → StopOkEverywhere backing m (byte_at old.contents) → StopOkEverywhere backing m known → StopOkEverywhere backing (checkpoint_with (given backing) asked m) (byte_at c))
-  pub contents : (backing : Bytes) (m : Checkpoint) → StopOkEverywhere backing m (byte_at old.contents) → StopOkEverywhere backing m known → StopOkEverywhere backing (checkpoint_with (given backing) asked m) (byte_at new.contents)
+  pub moments : EachMomentSince old new (IsSafeAfter old known given asked)
+  pub contents : IsSafeAfter old known given asked new.contents
