@@ -2,12 +2,12 @@
 use Rattle.std.proofs.Common.{◌≡◌, ◌⊎◌, inl, inr, ⊎_elim, ℕ, List, [], ◌++◌, Result, sym, ◌∙◌, subst, append_assoc}
 use Rattle.image_access.specs.declared.error.StorageError.{StorageError}
 use Rattle.image_access.specs.Contents.{overwritten}
-use Rattle.image_access.specs.Moments.{StorageView, EachMomentSince, Calls, Changes}
+use Rattle.image_access.specs.Moments.{StorageView, EachMomentSince, Calls, Changes, IsLeftBy}
 use Rattle.image_access.proofs.EachMomentSince.{whole_or_nothing, passes_none, passes_on, passes_if, passes_change}
 use Rattle.qcow2_metadata.specs.Bytes.{Bytes, byte_at}
 use Rattle.qcow2_metadata.specs.Guest.{Value}
 use Rattle.qcow2_disk.specs.Disk.{disk}
-use Rattle.qcow2_disk.specs.Stops.{GivenBytes, IsGiven, Checkpoint, checkpoint_with, StopOkEverywhere, SafeThroughout}
+use Rattle.qcow2_disk.specs.Stops.{GivenBytes, IsGiven, Checkpoint, checkpoint_with, StopOkEverywhere, SafeThroughout, LeavesKept, IsSafeAfter}
 use Rattle.qcow2_metadata.specs.declared.l2_mapping.L2Mapping.{L2Mapping}
 use Rattle.qcow2_laws.specs.GuestLaws.{MapsInTurn}
 use Rattle.qcow2_laws.specs.SafeSteps.{DriverState, StateInvariant, SafeStep}
@@ -70,79 +70,78 @@ pub entries_safe_throughout : (view : StorageView) (s s' : DriverState) (kind : 
 entries_safe_throughout view s s' kind first n given is turn safe_step = unwritten view s.known given
 
 -- one call of the storage, by what is safe at its return
-by_return : (old new : StorageView) (known : Bytes) (given : Bytes → List GivenBytes) (asked : List ℕ) → EachMomentSince old new (λ c. c ≡ new.contents)
-    → ((backing : Bytes) (m : Checkpoint) → StopOkEverywhere backing m (byte_at old.contents) → StopOkEverywhere backing m known → StopOkEverywhere backing (checkpoint_with (given backing) asked m) (byte_at new.contents))
+by_return : (old new : StorageView) (known : Bytes) (given : Bytes → List GivenBytes) (asked : List ℕ) → EachMomentSince old new (IsLeftBy new)
+    → IsSafeAfter old known given asked new.contents
     → SafeThroughout old new known given asked
 by_return old new known given asked time now =
-    let P : List ℕ → Type 0 = λ c. (backing : Bytes) (m : Checkpoint) → StopOkEverywhere backing m (byte_at old.contents) → StopOkEverywhere backing m known → StopOkEverywhere backing (checkpoint_with (given backing) asked m) (byte_at c) in
-    record { moments = passes_if P (λ c (is : c ≡ new.contents). subst P (sym is) now) time; contents = now }
+    record { moments = passes_if (IsSafeAfter old known given asked) (λ c (is : IsLeftBy new c). subst (IsSafeAfter old known given asked) (sym is) now) time; contents = now }
 
 -- a call of the storage that keeps the contents
-pub keep_safe_throughout : (old new : StorageView) (known : Bytes) → EachMomentSince old new (λ c. c ≡ new.contents) → new.contents ≡ old.contents → SafeThroughout old new known (λ _. []) []
+pub keep_safe_throughout : (old new : StorageView) (known : Bytes) → EachMomentSince old new (IsLeftBy new) → new.contents ≡ old.contents → SafeThroughout old new known (λ _. []) []
 keep_safe_throughout old new known time same = by_return old new known (λ _. []) [] time (λ backing m ok known_ok. subst (λ (c : List ℕ). StopOkEverywhere backing m (byte_at c)) (sym same) ok)
 
 -- one write of the storage that was done, and makes a step's change
-pub done_safe_throughout : (old new : StorageView) (s s' : DriverState) (given : Bytes → List GivenBytes) (asked : List ℕ) → EachMomentSince old new (λ c. c ≡ new.contents) → s.on_storage ≡ byte_at old.contents → s'.on_storage ≡ byte_at new.contents
+pub done_safe_throughout : (old new : StorageView) (s s' : DriverState) (given : Bytes → List GivenBytes) (asked : List ℕ) → EachMomentSince old new (IsLeftBy new) → s.on_storage ≡ byte_at old.contents → s'.on_storage ≡ byte_at new.contents
     → SafeStep s s' given asked → SafeThroughout old new s.known given asked
 done_safe_throughout old new s s' given asked time is is' safe_step =
     by_return old new s.known given asked time (λ backing m ok known_ok.
     subst (λ (b : Bytes). StopOkEverywhere backing (checkpoint_with (given backing) asked m) b) is' (safe_step.on_storage backing m (subst (StopOkEverywhere backing m) (sym is) ok) known_ok))
 
 -- a write of data that was done, with its range and what it gives
-pub data_safe_throughout : (old new : StorageView) (s s' : DriverState) (offset : ℕ) (bytes : List ℕ) (given : Bytes → List GivenBytes) → EachMomentSince old new (λ c. c ≡ new.contents) → new.contents ≡ overwritten old.contents offset bytes
+pub data_safe_throughout : (old new : StorageView) (s s' : DriverState) (offset : ℕ) (bytes : List ℕ) (given : Bytes → List GivenBytes) → EachMomentSince old new (IsLeftBy new) → new.contents ≡ overwritten old.contents offset bytes
     → s.on_storage ≡ byte_at old.contents → s'.on_storage ≡ byte_at new.contents → SafeStep s s' given [] → SafeThroughout old new s.known given []
 data_safe_throughout old new s s' offset bytes given time written is is' safe_step = done_safe_throughout old new s s' given [] time is is' safe_step
 
 -- one write of the storage, whatever it answers
-pub safe_throughout_write : {T : Type 0} {result : Result T StorageError} (old new : StorageView) (known : Bytes) (given : Bytes → List GivenBytes) (asked : List ℕ) (changed : List ℕ) → Calls old new result → Changes old new result changed → old.is_honest
-    → ((backing : Bytes) (m : Checkpoint) → StopOkEverywhere backing m (byte_at old.contents) → StopOkEverywhere backing m known → StopOkEverywhere backing (checkpoint_with (given backing) asked m) (byte_at changed))
+pub safe_throughout_write : {T : Type 0} {result : Result T StorageError} (old new : StorageView) (known : Bytes) (given : Bytes → List GivenBytes) (asked : List ℕ) (change : List ℕ → List ℕ) → Calls old new result → Changes old new result change → old.is_honest
+    → IsSafeAfter old known given asked (change old.contents)
     → SafeThroughout old new known given asked
-safe_throughout_write {result = result} old new known given asked changed call changes honest step =
-    let P : List ℕ → Type 0 = λ c. (backing : Bytes) (m : Checkpoint) → StopOkEverywhere backing m (byte_at old.contents) → StopOkEverywhere backing m known → StopOkEverywhere backing (checkpoint_with (given backing) asked m) (byte_at c) in
+safe_throughout_write {result = result} old new known given asked change call changes honest step =
+    let P = IsSafeAfter old known given asked in
     let before : P old.contents = λ backing m ok known_ok. kept_more backing (given backing) asked m (byte_at old.contents) ok in
     record {
-      moments = passes_change P changed (passes_none old P) call changes honest before step;
+      moments = passes_change P change (passes_none old P) call changes honest before step;
       contents = ⊎_elim
           (λ (e : new.contents ≡ old.contents). subst P (sym e) before)
-          (λ (e : new.contents ≡ changed). subst P (sym e) step)
-          (whole_or_nothing result old.contents changed new.contents (changes honest));
+          (λ (e : new.contents ≡ change old.contents). subst P (sym e) step)
+          (whole_or_nothing result old.contents (change old.contents) new.contents (changes honest));
     }
 
 -- one run of calls after another, from where a step led
 pub safe_throughout_then : (old mid new : StorageView) (known known' : Bytes) (first then : Bytes → List GivenBytes) (asked asks : List ℕ) → SafeThroughout old mid known first asked
-    → ((backing : Bytes) (m : Checkpoint) → StopOkEverywhere backing m (byte_at old.contents) → StopOkEverywhere backing m known → StopOkEverywhere backing (checkpoint_with (first backing) asked m) known')
+    → ((backing : Bytes) (m : Checkpoint) → LeavesKept backing m old → StopOkEverywhere backing m known → StopOkEverywhere backing (checkpoint_with (first backing) asked m) known')
     → SafeThroughout mid new known' then asks → SafeThroughout old new known (both_given first then) (asks ++ asked)
 safe_throughout_then old mid new known known' first then asked asks one step two =
-    let P : List ℕ → Type 0 = λ c. (backing : Bytes) (m : Checkpoint) → StopOkEverywhere backing m (byte_at old.contents) → StopOkEverywhere backing m known → StopOkEverywhere backing (checkpoint_with (both_given first then backing) (asks ++ asked) m) (byte_at c) in
+    let P = IsSafeAfter old known (both_given first then) (asks ++ asked) in
     let join = λ (backing : Bytes) (m : Checkpoint). sym (more_twice (first backing) (then backing) asked asks m) in
     record {
       moments = passes_on P
-          (passes_if P (λ c (kept : (backing : Bytes) (m : Checkpoint) → StopOkEverywhere backing m (byte_at old.contents) → StopOkEverywhere backing m known → StopOkEverywhere backing (checkpoint_with (first backing) asked m) (byte_at c)).
+          (passes_if P (λ c (kept : IsSafeAfter old known first asked c).
           λ backing m ok known_ok. subst (λ k. StopOkEverywhere backing k (byte_at c)) (join backing m) (kept_more backing (then backing) asks (checkpoint_with (first backing) asked m) (byte_at c) (kept backing m ok known_ok))) one.moments)
           two.moments
           (λ c kept backing m ok known_ok. subst (λ k. StopOkEverywhere backing k (byte_at c)) (join backing m)
           (kept backing (checkpoint_with (first backing) asked m) (one.contents backing m ok known_ok) (step backing m ok known_ok)));
-      contents = λ backing m ok known_ok. subst (λ k. StopOkEverywhere backing k (byte_at new.contents)) (join backing m)
+      contents = λ backing m ok known_ok. subst (λ k. LeavesKept backing k new) (join backing m)
           (two.contents backing (checkpoint_with (first backing) asked m) (one.contents backing m ok known_ok) (step backing m ok known_ok));
     }
 
 -- one write of the storage that makes a step's change, whatever it answers
-pub step_safe_throughout : {T : Type 0} {result : Result T StorageError} (old new : StorageView) (s s' : DriverState) (given : Bytes → List GivenBytes) (asked : List ℕ) (changed : List ℕ) → Calls old new result → Changes old new result changed → old.is_honest
-    → s.on_storage ≡ byte_at old.contents → s'.on_storage ≡ byte_at changed → SafeStep s s' given asked → SafeThroughout old new s.known given asked
-step_safe_throughout {result = result} old new s s' given asked changed call changes honest is is' safe_step =
-    safe_throughout_write {result = result} old new s.known given asked changed call changes honest (λ backing m ok known_ok.
+pub step_safe_throughout : {T : Type 0} {result : Result T StorageError} (old new : StorageView) (s s' : DriverState) (given : Bytes → List GivenBytes) (asked : List ℕ) (change : List ℕ → List ℕ) → Calls old new result → Changes old new result change → old.is_honest
+    → s.on_storage ≡ byte_at old.contents → s'.on_storage ≡ byte_at (change old.contents) → SafeStep s s' given asked → SafeThroughout old new s.known given asked
+step_safe_throughout {result = result} old new s s' given asked change call changes honest is is' safe_step =
+    safe_throughout_write {result = result} old new s.known given asked change call changes honest (λ backing m ok known_ok.
     subst (λ (b : Bytes). StopOkEverywhere backing (checkpoint_with (given backing) asked m) b) is' (safe_step.on_storage backing m (subst (StopOkEverywhere backing m) (sym is) ok) known_ok))
 
 -- one write of the storage, whatever it answers, that makes a step's change where it is done
-pub write_safe_throughout : {T : Type 0} {result : Result T StorageError} (old new : StorageView) (s : DriverState) (given : Bytes → List GivenBytes) (asked : List ℕ) (changed : List ℕ) → Calls old new result → Changes old new result changed → old.is_honest
-    → s.on_storage ≡ byte_at old.contents → (new.contents ≡ changed → (s' : DriverState) × (s'.on_storage ≡ byte_at new.contents) × SafeStep s s' given asked) → SafeThroughout old new s.known given asked
-write_safe_throughout {result = result} old new s given asked changed call changes honest is step =
+pub write_safe_throughout : {T : Type 0} {result : Result T StorageError} (old new : StorageView) (s : DriverState) (given : Bytes → List GivenBytes) (asked : List ℕ) (change : List ℕ → List ℕ) → Calls old new result → Changes old new result change → old.is_honest
+    → s.on_storage ≡ byte_at old.contents → (new.contents ≡ change old.contents → (s' : DriverState) × (s'.on_storage ≡ byte_at new.contents) × SafeStep s s' given asked) → SafeThroughout old new s.known given asked
+write_safe_throughout {result = result} old new s given asked change call changes honest is step =
     by_return old new s.known given asked (call.time honest) (λ backing m ok known_ok. ⊎_elim
     (λ (same : new.contents ≡ old.contents). subst (λ (c : List ℕ). StopOkEverywhere backing (checkpoint_with (given backing) asked m) (byte_at c)) (sym same) (kept_more backing (given backing) asked m (byte_at old.contents) ok))
-    (λ (done : new.contents ≡ changed).
+    (λ (done : new.contents ≡ change old.contents).
     let made = step done in
     subst (λ (b : Bytes). StopOkEverywhere backing (checkpoint_with (given backing) asked m) b) made.1 (made.2.on_storage backing m (subst (StopOkEverywhere backing m) (sym is) ok) known_ok))
-    (whole_or_nothing result old.contents changed new.contents (changes honest)))
+    (whole_or_nothing result old.contents (change old.contents) new.contents (changes honest)))
 
 -- more calls after a step
 pub steps_safe_throughout : (old mid new : StorageView) (s s' : DriverState) (first then : Bytes → List GivenBytes) (asked asks : List ℕ) → s.on_storage ≡ byte_at old.contents
