@@ -2,7 +2,7 @@
 use Rattle.std.proofs.Common.{◌≡◌, ⊎_elim, inl, ℕ, List, [], refl, sym, ap, ◌∙◌, subst, Result, Ok, Err, IfOk, false}
 use Rattle.std.specs.Option.{is_some}
 use Rattle.image_access.specs.Backing.{BackingView}
-use Rattle.image_access.specs.Moments.{StorageView}
+use Rattle.image_access.specs.Moments.{StorageView, IsLeftBy}
 use Rattle.image_access.proofs.EachMomentSince.{passes_if}
 use Rattle.qcow2_metadata.specs.Bytes.{byte_at}
 use Rattle.qcow2_metadata.specs.Consistent.{IsConsistent}
@@ -10,7 +10,7 @@ use Rattle.qcow2_disk.specs.AbstractImages.{IsOpened, guest_of}
 use Rattle.qcow2_disk.specs.Calls.{CallEffect}
 use Rattle.qcow2_disk.specs.Disk.{disk}
 use Rattle.qcow2_disk.specs.HeaderRest.{KeepsHeaderRest}
-use Rattle.qcow2_disk.specs.Stops.{StopOkEverywhere, checkpoint_at}
+use Rattle.qcow2_disk.specs.Stops.{StopOkEverywhere, checkpoint_at, LeavesKept}
 use Rattle.qcow2_alloc.specs.Quiet.{IsQuiet}
 use Rattle.qcow2_alloc.specs.declared.error.ImageError.{ImageError}
 use Rattle.qcow2_image.specs.declared.image.Qcow2.{Qcow2}
@@ -54,8 +54,8 @@ module _ {S F : Type 0} (view : S → StorageView) (backing : F → BackingView)
       let is : v.known ≡ b = opened.clean ∙ ap byte_at same in
       let start : StopOkEverywhere v.setting.backing (checkpoint_at (guest_of v).disk b) v.known = record { consistent = here; rest = subst (KeepsHeaderRest b) (sym is) (header_rest_same b); size = inl refl; values = λ o. inl refl } in
       let stops = (acts.works opened.sound).stops (checkpoint_at (guest_of v).disk b) (subst (StopOkEverywhere v.setting.backing (checkpoint_at (guest_of v).disk b)) opened.clean start, start) in
-      subst (λ d. StopOkEverywhere zeros_below (checkpoint_at d b) (byte_at (view (storage_of_image new)).contents)) disk_is
-      (subst (λ below. StopOkEverywhere below (checkpoint_at (guest_of v).disk b) (byte_at (view (storage_of_image new)).contents)) (none_below view backing old.backing alone) stops.contents)
+      subst (λ d. LeavesKept zeros_below (checkpoint_at d b) (view (storage_of_image new))) disk_is
+      (subst (λ below. LeavesKept below (checkpoint_at (guest_of v).disk b) (view (storage_of_image new))) (none_below view backing old.backing alone) stops.contents)
 
   pub keeps_disk : (result : Result ℕ ImageError) → IsUnchanged view backing old new result → KeepsDisk storage (view (storage_of_image new))
   keeps_disk (Ok n) unchanged = keeps (unchanged []).acts
@@ -63,4 +63,4 @@ module _ {S F : Type 0} (view : S → StorageView) (backing : F → BackingView)
 
 -- so nothing was written to it
 pub opened_quietly : (old new : StorageView) → new.is_honest → OpensAtOnce false old new → new.contents ≡ old.contents → IsQuiet old new
-opened_quietly old new honest time same = quiet_still old new honest (passes_if (λ c. c ≡ old.contents) (λ c is. ⊎_elim (λ (e : c ≡ old.contents). e) (λ (e : c ≡ old.contents). e) is) time) same
+opened_quietly old new honest time same = quiet_still old new honest (passes_if (IsLeftBy old) (λ c is. ⊎_elim (λ (e : c ≡ old.contents). e) (λ (e : c ≡ old.contents). e) is) time) same

@@ -11,7 +11,7 @@ use Rattle.qcow2_metadata.specs.Header.{header, count_width}
 use Rattle.qcow2_disk.specs.AbstractImages.{AbstractImage, IsOpened, stored_bytes}
 use Rattle.qcow2_disk.specs.Calls.{CallEffect}
 use Rattle.qcow2_disk.specs.Disk.{disk, disk_with}
-use Rattle.qcow2_disk.specs.Stops.{GivenBytes, StopOkEverywhere, checkpoint_at, checkpoint_with}
+use Rattle.qcow2_disk.specs.Stops.{GivenBytes, StopOkEverywhere, checkpoint_at, checkpoint_with, LeavesKept}
 use Rattle.qcow2_disk.specs.Mappings.{given_of}
 use Rattle.qcow2_disk.specs.HeaderRest.{KeepsHeaderRest}
 use Rattle.qcow2_disk.proofs.HeaderNames.{order_stays}
@@ -75,7 +75,7 @@ module _ (n : ℕ) (v w : AbstractImage) (given : List GivenBytes) (opened : IsO
   while_filled =
       let below = v.setting.backing in
       let m = checkpoint_at (disk (stored_bytes v) below) (stored_bytes v) in
-      let start : StopOkEverywhere below m (stored_bytes v) = starts n (stored_bytes v) image below in
+      let start : LeavesKept below m v.storage = starts n (stored_bytes v) image below in
       passes_if (λ c. IsImageOfSize n (byte_at c)) (λ c kept. size_stays n (stored_bytes v) image below given (byte_at c) kept)
       ((acts.works opened.sound).stops m (start, subst (StopOkEverywhere below m) (sym opened.clean) start)).moments
 
@@ -83,14 +83,14 @@ module _ (n : ℕ) (v w : AbstractImage) (given : List GivenBytes) (opened : IsO
   once_filled =
       let below = v.setting.backing in
       let m = checkpoint_at (disk (stored_bytes v) below) (stored_bytes v) in
-      let start : StopOkEverywhere below m (stored_bytes v) = starts n (stored_bytes v) image below in
+      let start : LeavesKept below m v.storage = starts n (stored_bytes v) image below in
       size_stays n (stored_bytes v) image below given (stored_bytes w) ((acts.works opened.sound).stops m (start, subst (StopOkEverywhere below m) (sym opened.clean) start)).contents
 
   pub counts_filled : count_width (header (stored_bytes w)) ≡ count_width (header (stored_bytes v))
   counts_filled =
       let below = v.setting.backing in
       let m = checkpoint_at (disk (stored_bytes v) below) (stored_bytes v) in
-      let start : StopOkEverywhere below m (stored_bytes v) = starts n (stored_bytes v) image below in
+      let start : LeavesKept below m v.storage = starts n (stored_bytes v) image below in
       same_counts (stored_bytes v) (stored_bytes w) image.consistent ((acts.works opened.sound).stops m (start, subst (StopOkEverywhere below m) (sym opened.clean) start)).contents.rest
 
 module _ {S F : Type 0} (view : S → StorageView) (backing : F → BackingView) (old new : Qcow2 S F) where

@@ -6,7 +6,7 @@ use Rattle.qcow2_metadata.specs.Bytes.{Bytes, byte_at}
 use Rattle.qcow2_metadata.specs.Consistent.{IsConsistent}
 use Rattle.qcow2_metadata.specs.Header.{header, cluster_size, count_width}
 use Rattle.qcow2_disk.specs.Disk.{Disk, disk}
-use Rattle.qcow2_disk.specs.Stops.{StopOkEverywhere, checkpoint_at}
+use Rattle.qcow2_disk.specs.Stops.{checkpoint_at, LeavesKept}
 use Rattle.qcow2_laws.specs.Opened.{HasNoLeaks}
 use Rattle.qcow2_image.specs.Created.{begins_image, IsAllowed, IsReasonNotToCreateOpen}
 use Rattle.qcow2_image.specs.Image.{is_writable, storage_of_image}
@@ -59,7 +59,7 @@ pub record IsExport (image : List ℕ) (n : ℕ) (raw : List ℕ) : Type 0 where
 
 -- The image on a storage is consistent still. Its disk is what it was, and so are the extensions and the names of its header.
 abbrev pub KeepsDisk : StorageView → StorageView → Type 0
-KeepsDisk old new = StopOkEverywhere zeros_below (checkpoint_at (disk_alone (byte_at old.contents)) (byte_at old.contents)) (byte_at new.contents)
+KeepsDisk old new = LeavesKept zeros_below (checkpoint_at (disk_alone (byte_at old.contents)) (byte_at old.contents)) new
 
 -- The numbers of faults of the image's storage and of the raw disk. Neither falls. Where the call is refused as a storage's failure, one of the two rose, or stood at the greatest u64. Where it isn't, both stay: each failure is told.
 pub record CountsBoth {T : Type 0} (before now raw_before raw_now : ℕ) (result : Result T ImageError) : Type 0 where

@@ -10,7 +10,7 @@ use Rattle.qcow2_metadata.specs.EntryTable.{EntryTableView}
 use Rattle.qcow2_metadata.specs.Header.{cluster_size}
 use Rattle.qcow2_metadata.specs.Entries.{l1_entry, count}
 use Rattle.qcow2_metadata.specs.Named.{named_for_tables}
-use Rattle.qcow2_disk.specs.Stops.{Checkpoint, StopOkEverywhere, SafeThroughout}
+use Rattle.qcow2_disk.specs.Stops.{Checkpoint, StopOkEverywhere, SafeThroughout, LeavesKept}
 use Rattle.qcow2_laws.specs.Clusters.{Direction}
 use Rattle.qcow2_laws.specs.CrashInvariant.{Pending}
 use Rattle.qcow2_laws.specs.Changes.{one_at, with_new_data, with_new_tables, without_old_tables, without_old_data, new_data_to_old_tables, new_tables_to_old_tables}
@@ -81,7 +81,7 @@ module _ {S : Type 0} (view : S → StorageView) where
   }
 
   pub safe_throughout_then : (a b c : ImageFile S) → SafeThroughout (view_in view a) (view_in view b) (known_in view a) nothing_given []
-      → ((backing : Bytes) (m : Checkpoint) → StopOkEverywhere backing m (contents_in view a) → StopOkEverywhere backing m (known_in view a) → StopOkEverywhere backing m (known_in view b))
+      → ((backing : Bytes) (m : Checkpoint) → LeavesKept backing m (view_in view a) → StopOkEverywhere backing m (known_in view a) → StopOkEverywhere backing m (known_in view b))
       → SafeThroughout (view_in view b) (view_in view c) (known_in view b) nothing_given [] → SafeThroughout (view_in view a) (view_in view c) (known_in view a) nothing_given []
   safe_throughout_then a b c first known second = record {
     moments = passes_on _ first.moments second.moments (λ l q backing m ok known_ok. q backing m (first.contents backing m ok known_ok) (known backing m ok known_ok));

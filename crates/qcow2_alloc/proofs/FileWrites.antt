@@ -1,6 +1,6 @@
 -- Bytes are written to clusters of an image's file that nothing names, and that aren't held.
 use Rattle.std.proofs.Common.{◌≡◌, ◌⊎◌, inl, inr, ℕ, [], refl, sym, ◌∙◌}
-use Rattle.image_access.specs.Moments.{StorageView, EachMomentSince}
+use Rattle.image_access.specs.Moments.{StorageView, EachMomentSince, IsLeftBy}
 use Rattle.qcow2_metadata.specs.Bytes.{byte_at}
 use Rattle.qcow2_metadata.specs.EntryTable.{EntryTableView}
 use Rattle.qcow2_metadata.specs.Header.{cluster_size}
@@ -65,7 +65,7 @@ module _ {S : Type 0} (view : S → StorageView) (p : Pending) (file : ImageFile
   }
 
   -- no guest sees it
-  pub file_step_written : EachMomentSince (view_in view file) (view (storage_of storage)) (λ c. c ≡ (view (storage_of storage)).contents) → UnseenFileStep view p p file written
+  pub file_step_written : EachMomentSince (view_in view file) (view (storage_of storage)) (IsLeftBy (view (storage_of storage))) → UnseenFileStep view p p file written
   file_step_written time =
       let h = file.header.fields in
       let unseen = unseen_written (state_in view file p) (state_in view written p) sound.caches.kept.kept.crash_invariant each_known refl in record {

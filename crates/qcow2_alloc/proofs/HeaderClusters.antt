@@ -58,13 +58,13 @@ module _ (IsKept : ℕ → Type 0) where
   above_kept old new at bytes above (inr is) = λ o kept. sym (ap (λ l. byte_at l o) is ∙ byte_at-overwritten_below old at bytes o (above o kept))
 
   pub wrote_above : {T : Type 0} (old new : StorageView) (result : Result T StorageError) (at : ℕ) (bytes : List ℕ) → ((o : ℕ) → IsKept o → o < at)
-      → Changes old new result (overwritten old.contents at bytes) → Calls old new result → old.is_honest → BytesStay IsKept old new
+      → Changes old new result (λ b. overwritten b at bytes) → Calls old new result → old.is_honest → BytesStay IsKept old new
   wrote_above old new result at bytes above written calls honest =
       call_keeps old new result calls honest (above_kept old.contents new.contents at bytes above (whole_or_nothing result old.contents (overwritten old.contents at bytes) new.contents (written honest)))
 
 -- a table that is written to another cluster
 pub placed_elsewhere : {T : Type 0} (bits : ℕ) (cluster : Option ℕ) (bytes : List ℕ) (old new : StorageView) (result : Result T StorageError) → IsSome cluster → IfSome cluster (λ c. 0 < c)
-    → IfSome cluster (λ c. Changes old new result (overwritten old.contents (c * 2 ^ bits) bytes)) → Calls old new result → KeepsHeaderCluster bits old new
+    → IfSome cluster (λ c. Changes old new result (λ b. overwritten b (c * 2 ^ bits) bytes)) → Calls old new result → KeepsHeaderCluster bits old new
 placed_elsewhere bits None bytes old new result some above written calls = absurd (let e : false ≡ true = some in cc)
 placed_elsewhere bits (Some c) bytes old new result some above written calls = wrote_above (IsInHeaderCluster bits) old new result (c * 2 ^ bits) bytes (λ o in_first. below_others bits c o above in_first) written calls
 

@@ -34,18 +34,18 @@ module _ {S : Type 0} {view : S → StorageView} where
 
   -- a write that the storage was told of before as none of data
   module _ (before mid now : ImageStorage S) (r : Result (Unit {0}) StorageError) (same : storage_of mid ≡ storage_of before) (noted : SameNotes before mid) (told : kind_of mid ≡ Other) where
-    pub told_kept : (changed : List ℕ) → Changes (view (storage_of mid)) (view (storage_of now)) r changed → Calls (view (storage_of mid)) (view (storage_of now)) r → NotesWrite mid now r → KeepsNotes view NoData before now
+    pub told_kept : (changed : List ℕ) → Changes (view (storage_of mid)) (view (storage_of now)) r (λ _. changed) → Calls (view (storage_of mid)) (view (storage_of now)) r → NotesWrite mid now r → KeepsNotes view NoData before now
     told_kept changed changes calls notes = kept_told before mid now same noted (write_kept mid now r changed changes calls notes (λ is. let both = sym told ∙ is in cc))
 
     -- of a table that has a place
-    pub placed_kept : (place : Option ℕ) (changed : ℕ → List ℕ) → IsSome place → IfSome place (λ k. Changes (view (storage_of mid)) (view (storage_of now)) r (changed k)) → Calls (view (storage_of mid)) (view (storage_of now)) r
+    pub placed_kept : (place : Option ℕ) (changed : ℕ → List ℕ) → IsSome place → IfSome place (λ k. Changes (view (storage_of mid)) (view (storage_of now)) r (λ _. changed k)) → Calls (view (storage_of mid)) (view (storage_of now)) r
         → NotesWrite mid now r → KeepsNotes view NoData before now
     placed_kept None changed placed changes calls notes = absurd cc
     placed_kept (Some k) changed placed changes calls notes = told_kept (changed k) changes calls notes
 
   -- one that may be told as data
   pub any_told_kept : (before mid now : ImageStorage S) (r : Result (Unit {0}) StorageError) → storage_of mid ≡ storage_of before → SameNotes before mid → (changed : List ℕ)
-      → Changes (view (storage_of mid)) (view (storage_of now)) r changed → Calls (view (storage_of mid)) (view (storage_of now)) r → NotesWrite mid now r → KeepsNotes view AlsoData before now
+      → Changes (view (storage_of mid)) (view (storage_of now)) r (λ _. changed) → Calls (view (storage_of mid)) (view (storage_of now)) r → NotesWrite mid now r → KeepsNotes view AlsoData before now
   any_told_kept before mid now r same noted changed changes calls notes = kept_told before mid now same noted (write_kept mid now r changed changes calls notes (λ _. tt))
 
   -- ---- what is noted of changes of a file

@@ -40,7 +40,7 @@ kind_kept Other before now same may = inr same
 
 module _ {S : Type 0} {view : S → StorageView} {MayTellData : Type 0} where
   -- A write that was made, or may have been, is noted; where memory was refused nothing changed. It isn't told as data, but where it may be.
-  pub write_kept : (before now : ImageStorage S) (r : Result (Unit {0}) StorageError) (changed : List ℕ) → Changes (view (storage_of before)) (view (storage_of now)) r changed → Calls (view (storage_of before)) (view (storage_of now)) r → NotesWrite before now r
+  pub write_kept : (before now : ImageStorage S) (r : Result (Unit {0}) StorageError) (changed : List ℕ) → Changes (view (storage_of before)) (view (storage_of now)) r (λ _. changed) → Calls (view (storage_of before)) (view (storage_of now)) r → NotesWrite before now r
       → (kind_of before ≡ Data → MayTellData) → KeepsNotes view MayTellData before now
   write_kept before now r changed changes calls notes may = record { honest = calls.honest; changes = counts r notes; contents = still r changes notes; no_fewer_data = no_fewer r notes; kinds = kinds r notes } where
     counts : (r : Result (Unit {0}) StorageError) → NotesWrite before now r → CountsChanges (is_changed_of before) (changes_of before) (is_changed_of now) (changes_of now)
@@ -48,7 +48,7 @@ module _ {S : Type 0} {view : S → StorageView} {MayTellData : Type 0} where
     counts (Err Fault) n = counts_one (is_changed_of before) (is_changed_of now) (changes_of before) (changes_of now) n.0
     counts (Err Memory) n = same_after before now n
 
-    still : (r : Result (Unit {0}) StorageError) → Changes (view (storage_of before)) (view (storage_of now)) r changed → NotesWrite before now r → ¬ IsTrue (is_changed_of now) → ContentsStay (view (storage_of before)) (view (storage_of now))
+    still : (r : Result (Unit {0}) StorageError) → Changes (view (storage_of before)) (view (storage_of now)) r (λ _. changed) → NotesWrite before now r → ¬ IsTrue (is_changed_of now) → ContentsStay (view (storage_of before)) (view (storage_of now))
     still (Ok _) changes n none = absurd (none n.0.0)
     still (Err Fault) changes n none = absurd (none n.0.0)
     still (Err Memory) changes n none = changes

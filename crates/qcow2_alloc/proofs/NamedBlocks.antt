@@ -5,7 +5,7 @@ use Rattle.std.proofs.lemmas.Nat.{div-add-mod', mod_below}
 use Rattle.std.specs.Option.{IfSome}
 use Rattle.std.specs.Int.{w64, to_be_bytes}
 use Rattle.image_access.specs.Contents.{overwritten}
-use Rattle.image_access.specs.Moments.{StorageView, EachMomentSince, Changes, Calls}
+use Rattle.image_access.specs.Moments.{StorageView, EachMomentSince, Changes, Calls, IsLeftBy}
 use Rattle.image_access.specs.declared.error.StorageError.{StorageError}
 use Rattle.qcow2_metadata.specs.Bytes.{Bytes, byte_at}
 use Rattle.qcow2_metadata.specs.EntryTable.{EntryTableView, IsRefTableOf, entry_count}
@@ -53,11 +53,11 @@ use Rattle.qcow2_alloc.proofs.PlacedBlocks.{IsFree, is_free, file_sizes, has_non
 
 -- what a write of an entry says
 pub entry_write_as : {S : Type 0} (view : S → StorageView) (before asked after : S) (cluster : Option ℕ) (k bits bits' place n : ℕ) (bytes : List ℕ) (result : Result (Unit {0}) StorageError) → asked ≡ before → cluster ≡ Some k → bits ≡ bits' → k * 2 ^ bits' ≡ place
-    → IfSome cluster (λ k. Changes (view asked) (view after) result (overwritten (view asked).contents (k * 2 ^ bits + n) bytes)) → Changes (view before) (view after) result (overwritten (view before).contents (place + n) bytes)
+    → IfSome cluster (λ k. Changes (view asked) (view after) result (λ b. overwritten b (k * 2 ^ bits + n) bytes)) → Changes (view before) (view after) result (λ b. overwritten b (place + n) bytes)
 entry_write_as view before asked after cluster k bits bits' place n bytes result same is same_bits at written =
-    subst (λ s. Changes (view s) (view after) result (overwritten (view s).contents (place + n) bytes)) same
-    (subst (λ o. Changes (view asked) (view after) result (overwritten (view asked).contents (o + n) bytes)) at
-    (subst (λ b. Changes (view asked) (view after) result (overwritten (view asked).contents (k * 2 ^ b + n) bytes)) same_bits (rw is at written)))
+    subst (λ s. Changes (view s) (view after) result (λ b. overwritten b (place + n) bytes)) same
+    (subst (λ o. Changes (view asked) (view after) result (λ b. overwritten b (o + n) bytes)) at
+    (subst (λ b. Changes (view asked) (view after) result (λ c. overwritten c (k * 2 ^ b + n) bytes)) same_bits (rw is at written)))
 
 -- a table that stands in a cluster lies in this one alone
 -- what is counted beside
@@ -290,7 +290,7 @@ module _ {S : Type 0} (view : S → StorageView) (d : Bool) (p : Pending) (range
       entries = table_now;
     }
 
-    pub file_step_named : (view (storage_of storage)).is_honest → EachMomentSince (view_in view file) (view (storage_of storage)) (λ c. c ≡ (view (storage_of storage)).contents) → UnseenFileStep view q p file named
+    pub file_step_named : (view (storage_of storage)).is_honest → EachMomentSince (view_in view file) (view (storage_of storage)) (IsLeftBy (view (storage_of storage))) → UnseenFileStep view q p file named
     file_step_named honest time = record {
       sound = record {
         honest = honest;
@@ -307,10 +307,10 @@ module _ {S : Type 0} (view : S → StorageView) (d : Bool) (p : Pending) (range
 
   -- what is kept of the storage and of what is known is kept, whether the write is done or not; and where it is done, the refblock is named
   module _ (storage : ImageStorage S) (result : Result (Unit {0}) StorageError) (calls : Calls (view_in view file) (view (storage_of storage)) result)
-      (changes : Changes (view_in view file) (view (storage_of storage)) result (overwritten (view_in view file).contents (h.reftable_offset + 8 * range) (to_be_bytes w64 entry))) where
+      (changes : Changes (view_in view file) (view (storage_of storage)) result (λ b. overwritten b (h.reftable_offset + 8 * range) (to_be_bytes w64 entry))) where
     pub safe_throughout_named : SafeThroughout (view_in view file) (view (storage_of storage)) (known_in view file) nothing_given []
     safe_throughout_named =
-        write_safe_throughout {result = result} (view_in view file) (view (storage_of storage)) (state_in view file q) nothing_given [] (overwritten (view_in view file).contents (h.reftable_offset + 8 * range) (to_be_bytes w64 entry)) calls changes sound.honest refl
+        write_safe_throughout {result = result} (view_in view file) (view (storage_of storage)) (state_in view file q) nothing_given [] (λ b. overwritten b (h.reftable_offset + 8 * range) (to_be_bytes w64 entry)) calls changes sound.honest refl
         (λ is. (state_in view (record file { storage = storage }) p, refl, safe_step storage is))
 
     pub named_so : (x : Unit {0}) → result ≡ Ok x → UnseenFileStep view q p file (record file { storage = storage }) × HasReftable view (record file { storage = storage }) t'

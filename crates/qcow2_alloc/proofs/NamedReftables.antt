@@ -83,8 +83,11 @@ module _ {S : Type 0} (view : S → StorageView) (p : Pending) (first blocks clu
   abbrev anew : ℕ → ℕ
   anew = counted_anew file.header.fields old first (blocks + clusters)
 
+  abbrev change : List ℕ → List ℕ
+  change = reftable_pointer_written (with_reftable file.header.fields ((first + blocks) * cluster_size file.header.fields) clusters)
+
   abbrev written : List ℕ
-  written = reftable_pointer_written (with_reftable file.header.fields ((first + blocks) * cluster_size file.header.fields) clusters) (view_in view file).contents
+  written = change (view_in view file).contents
 
   new : IsNewReftable h (order_of file.caches) q on_storage known place clusters (run_at first blocks) anew
   new = new_reftable view p first blocks clusters file old t sound has ready is_table
@@ -121,11 +124,11 @@ module _ {S : Type 0} (view : S → StorageView) (p : Pending) (first blocks clu
       (λ k. refl) (λ k. refl) (λ k. refl)) safe_step
 
   -- whatever the storage answers
-  pub lasts_named : (result : Result (Unit {0}) StorageError) (after : S) → Changes (view_in view file) (view after) result written → Calls (view_in view file) (view after) result
+  pub lasts_named : (result : Result (Unit {0}) StorageError) (after : S) → Changes (view_in view file) (view after) result change → Calls (view_in view file) (view after) result
       → SafeThroughout (view_in view file) (view after) known nothing_given []
   lasts_named result after wrote called =
       step_safe_throughout {result = result} (view_in view file) (view after) (state_in view file q) (record (state_in view file q) { header = h'; pending = without_reftable p h; on_storage = byte_at written; known = known_of h file.caches (byte_at written) })
-      nothing_given [] written called wrote sound.honest refl refl (safe_step_at (byte_at written) writes)
+      nothing_given [] change called wrote sound.honest refl refl (safe_step_at (byte_at written) writes)
 
   module _ (storage : ImageStorage S) (is : (view (storage_of storage)).contents ≡ written) (honest : (view (storage_of storage)).is_honest) where
     abbrev named : ImageFile S
@@ -249,7 +252,7 @@ module _ {S : Type 0} (view : S → StorageView) (p : Pending) (first blocks clu
 
   module _ (header : HeaderView) (storage : ImageStorage S) (asked : S) (result : Result (Unit {0}) StorageError) (is_header : header ≡ with_fields file.header (with_reftable file.header.fields offset count))
       (same : asked ≡ storage_of file.storage)
-      (wrote : Changes (view asked) (view (storage_of storage)) result (reftable_pointer_written header.fields (view asked).contents)) (calls : Calls (view asked) (view (storage_of storage)) result) where
+      (wrote : Changes (view asked) (view (storage_of storage)) result (reftable_pointer_written header.fields)) (calls : Calls (view asked) (view (storage_of storage)) result) where
     abbrev taken : Pending
     taken = with_run p file.header.fields allocator.reftable first (blocks + clusters)
 
@@ -264,10 +267,10 @@ module _ {S : Type 0} (view : S → StorageView) (p : Pending) (first blocks clu
         is_header ∙ ap (λ n. with_fields file.header (with_reftable file.header.fields n count)) offset_is
         ∙ ap (λ n. with_fields file.header (with_reftable file.header.fields ((first + blocks) * cluster_size file.header.fields) n)) count_is
 
-    changes : Changes (view_in view file) (view (storage_of storage)) result (reftable_pointer_written new_fields (view_in view file).contents)
+    changes : Changes (view_in view file) (view (storage_of storage)) result (reftable_pointer_written new_fields)
     changes =
-        subst (λ (s : S). Changes (view s) (view (storage_of storage)) result (reftable_pointer_written new_fields (view s).contents)) same
-        (subst (λ (v : HeaderView). Changes (view asked) (view (storage_of storage)) result (reftable_pointer_written v.fields (view asked).contents)) header_now wrote)
+        subst (λ (s : S). Changes (view s) (view (storage_of storage)) result (reftable_pointer_written new_fields)) same
+        (subst (λ (v : HeaderView). Changes (view asked) (view (storage_of storage)) result (reftable_pointer_written v.fields)) header_now wrote)
 
     calls_now : Calls (view_in view file) (view (storage_of storage)) result
     calls_now = subst (λ (s : S). Calls (view s) (view (storage_of storage)) result) same calls

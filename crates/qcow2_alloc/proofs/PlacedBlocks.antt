@@ -115,7 +115,7 @@ module _ {S : Type 0} (view : S → StorageView) where
   -- ---- bytes are written to it
   module _ (q : Pending) (file : ImageFile S) (storage : ImageStorage S) (at : ℕ) (bytes : List ℕ) (result : Result (Unit {0}) StorageError) (sound : FileInvariant view q file) (free : IsFree q file at)
       (long : length bytes ≡ cluster_size file.header.fields)
-      (writes : Changes (view_in view file) (view (storage_of storage)) result (overwritten (view_in view file).contents (at * cluster_size file.header.fields) bytes))
+      (writes : Changes (view_in view file) (view (storage_of storage)) result (λ b. overwritten b (at * cluster_size file.header.fields) bytes))
       (calls : Calls (view_in view file) (view (storage_of storage)) result) where
     abbrev rewritten : ImageFile S
     rewritten = record file { storage = storage }
@@ -141,10 +141,10 @@ module _ {S : Type 0} (view : S → StorageView) where
 
   -- what a write of a refblock says
   pub write_as : (before asked after : S) (at : ℕ) (cluster : Option ℕ) (bits bits' : ℕ) (bytes : List ℕ) (result : Result (Unit {0}) StorageError) → asked ≡ before → cluster ≡ Some at → bits ≡ bits'
-      → IfSome cluster (λ k. Changes (view asked) (view after) result (overwritten (view asked).contents (k * 2 ^ bits) bytes)) → Changes (view before) (view after) result (overwritten (view before).contents (at * 2 ^ bits') bytes)
+      → IfSome cluster (λ k. Changes (view asked) (view after) result (λ b. overwritten b (k * 2 ^ bits) bytes)) → Changes (view before) (view after) result (λ b. overwritten b (at * 2 ^ bits') bytes)
   write_as before asked after at cluster bits bits' bytes result same is same_bits written =
-      subst (λ (s : S). Changes (view s) (view after) result (overwritten (view s).contents (at * 2 ^ bits') bytes)) same
-      (subst (λ n. Changes (view asked) (view after) result (overwritten (view asked).contents (at * 2 ^ n) bytes)) same_bits (rw is at written))
+      subst (λ (s : S). Changes (view s) (view after) result (λ b. overwritten b (at * 2 ^ bits') bytes)) same
+      (subst (λ n. Changes (view asked) (view after) result (λ b. overwritten b (at * 2 ^ n) bytes)) same_bits (rw is at written))
 
   -- ---- and then it is put into its cache
   module _ (d : Bool) (p : Pending) (range at : ℕ) (file : ImageFile S) (t : EntryTableView) (sound : FileInvariant view (placing d p at) file) (has : HasReftable view file t)

@@ -104,7 +104,7 @@ module _ {S : Type 0} (view : S → StorageView) where
   -- ---- the bytes of a refblock are written to its cluster
   module _ (q : Pending) (file : ImageFile S) (a : Allocator) (storage : ImageStorage S) (at : ℕ) (bytes : List ℕ) (result : Result (Unit {0}) StorageError) (sound : AllocatorInvariant view a q file) (free : IsFree view q file at)
       (long : length bytes ≡ cluster_size file.header.fields)
-      (writes : Changes (view_in view file) (view (storage_of storage)) result (overwritten (view_in view file).contents (at * cluster_size file.header.fields) bytes))
+      (writes : Changes (view_in view file) (view (storage_of storage)) result (λ b. overwritten b (at * cluster_size file.header.fields) bytes))
       (calls : Calls (view_in view file) (view (storage_of storage)) result) where
     abbrev written : ImageFile S
     written = record file { storage = storage }
@@ -130,7 +130,7 @@ module _ {S : Type 0} (view : S → StorageView) where
       (same : IsFalse taken → caches ≡ file.caches) (takes : IsTrue taken → TakesBlock file.caches caches cluster)
       (asked : S) (after : ImageStorage S) (block : RefBlockView) (result : Result (Unit {0}) StorageError) (fits : IsBlockOf file.header.fields block) (is : block.cluster ≡ Some cluster) (whole : length block.bytes ≡ 2 ^ block.cluster_bits)
       (asked_same : asked ≡ storage_of file.storage)
-      (written : IfSome block.cluster (λ k. Changes (view asked) (view (storage_of after)) result (overwritten (view asked).contents (k * 2 ^ block.cluster_bits) block.bytes))) (calls : Calls (view asked) (view (storage_of after)) result) where
+      (written : IfSome block.cluster (λ k. Changes (view asked) (view (storage_of after)) result (λ b. overwritten b (k * 2 ^ block.cluster_bits) block.bytes))) (calls : Calls (view asked) (view (storage_of after)) result) where
     abbrev run_pending : Pending
     run_pending = with_run p file.header.fields a.reftable first n
 
@@ -152,7 +152,7 @@ module _ {S : Type 0} (view : S → StorageView) where
     long : length block.bytes ≡ cluster_size file.header.fields
     long = whole ∙ ap (λ b. 2 ^ b) fits.bits
 
-    writes : Changes (view_in view forgot) (view (storage_of after)) result (overwritten (view_in view forgot).contents (cluster * cluster_size file.header.fields) block.bytes)
+    writes : Changes (view_in view forgot) (view (storage_of after)) result (λ b. overwritten b (cluster * cluster_size file.header.fields) block.bytes)
     writes = write_as view (storage_of file.storage) asked (storage_of after) cluster block.cluster block.cluster_bits file.header.fields.cluster_bits block.bytes result asked_same is fits.bits written
 
     calls_now : Calls (view_in view forgot) (view (storage_of after)) result
@@ -179,7 +179,7 @@ module _ {S : Type 0} (view : S → StorageView) where
   module _ (p : Pending) (first n : ℕ) (file : ImageFile S) (a : Allocator) (sound : AllocatorInvariant view a (with_run p file.header.fields a.reftable first n) file) (may : BlocksMayGo (order_of file.caches) (l2_tables file.caches))
       (at m : ℕ) (low : first ≤ at) (high : at + m ≤ first + n) (t : EntryTableView) (t_bits : t.cluster_bits ≡ file.header.fields.cluster_bits) (long : length t.bytes ≡ m * cluster_size file.header.fields)
       (asked : S) (after : ImageStorage S) (result : Result (Unit {0}) StorageError) (asked_same : asked ≡ storage_of file.storage)
-      (written : Changes (view asked) (view (storage_of after)) result (overwritten (view asked).contents (at * 2 ^ t.cluster_bits) t.bytes)) (calls : Calls (view asked) (view (storage_of after)) result) where
+      (written : Changes (view asked) (view (storage_of after)) result (λ b. overwritten b (at * 2 ^ t.cluster_bits) t.bytes)) (calls : Calls (view asked) (view (storage_of after)) result) where
     abbrev table_pending : Pending
     table_pending = with_run p file.header.fields a.reftable first n
 
@@ -189,10 +189,10 @@ module _ {S : Type 0} (view : S → StorageView) where
     abbrev place : ℕ
     place = at * cluster_size file.header.fields
 
-    table_writes : Changes (view_in view file) (view (storage_of after)) result (overwritten (view_in view file).contents (at * cluster_size file.header.fields) t.bytes)
+    table_writes : Changes (view_in view file) (view (storage_of after)) result (λ b. overwritten b (at * cluster_size file.header.fields) t.bytes)
     table_writes =
-        subst (λ (s : S). Changes (view s) (view (storage_of after)) result (overwritten (view s).contents (at * cluster_size file.header.fields) t.bytes)) asked_same
-        (subst (λ b. Changes (view asked) (view (storage_of after)) result (overwritten (view asked).contents (at * 2 ^ b) t.bytes)) t_bits written)
+        subst (λ (s : S). Changes (view s) (view (storage_of after)) result (λ b. overwritten b (at * cluster_size file.header.fields) t.bytes)) asked_same
+        (subst (λ b. Changes (view asked) (view (storage_of after)) result (λ c. overwritten c (at * 2 ^ b) t.bytes)) t_bits written)
 
     table_calls : Calls (view_in view file) (view (storage_of after)) result
     table_calls = subst (λ (s : S). Calls (view s) (view (storage_of after)) result) asked_same calls

@@ -109,8 +109,8 @@ module _ {S : Type 0} (view : S → StorageView) where
   -- an entry of the reftable was changed and written
   module _ {T : Type 0} (r r' : EntryTableView) (f : ImageFile S) (caches : MetadataCaches S) (asked : S) (s : ImageStorage S) (index : ℕ) (entry : List ℕ) (result : Result T StorageError) (keep : KeepBehindHeader f.caches caches)
       (bits_stay : r'.cluster_bits ≡ r.cluster_bits) (place_stays : r'.cluster ≡ r.cluster) (same : asked ≡ storage_of f.storage)
-      (written : IfSome r'.cluster (λ c. Changes (view asked) (view (storage_of s)) result (overwritten (view asked).contents (c * 2 ^ r'.cluster_bits + 8 * index) entry))) (calls : Calls (view asked) (view (storage_of s)) result) where
-    entry_elsewhere : (o : Option ℕ) (bits n : ℕ) → n ≡ bits → ¬ (o ≡ Some 0) → IsSome o → IfSome o (λ c. Changes (view asked) (view (storage_of s)) result (overwritten (view asked).contents (c * 2 ^ n + 8 * index) entry)) → KeepsHeaderCluster bits (view asked) (view (storage_of s))
+      (written : IfSome r'.cluster (λ c. Changes (view asked) (view (storage_of s)) result (λ b. overwritten b (c * 2 ^ r'.cluster_bits + 8 * index) entry))) (calls : Calls (view asked) (view (storage_of s)) result) where
+    entry_elsewhere : (o : Option ℕ) (bits n : ℕ) → n ≡ bits → ¬ (o ≡ Some 0) → IsSome o → IfSome o (λ c. Changes (view asked) (view (storage_of s)) result (λ b. overwritten b (c * 2 ^ n + 8 * index) entry)) → KeepsHeaderCluster bits (view asked) (view (storage_of s))
     entry_elsewhere None bits n is elsewhere some wrote = absurd cc
     entry_elsewhere (Some c) bits n is elsewhere some wrote =
         wrote_above (IsInHeaderCluster bits) (view asked) (view (storage_of s)) result (c * 2 ^ n + 8 * index) entry
@@ -127,7 +127,7 @@ module _ {S : Type 0} (view : S → StorageView) where
   -- the header's pointer was written, and names a reftable that isn't at cluster 0
   module _ {T : Type 0} (r : EntryTableView) (f : ImageFile S) (header : HeaderView) (caches : MetadataCaches S) (asked : S) (s : ImageStorage S) (offset clusters : ℕ) (result : Result T StorageError)
       (header_is : header ≡ with_fields f.header (with_reftable f.header.fields offset clusters)) (keep : KeepBehindHeader f.caches caches) (same : asked ≡ storage_of f.storage)
-      (written : Changes (view asked) (view (storage_of s)) result (reftable_pointer_written header.fields (view asked).contents)) (calls : Calls (view asked) (view (storage_of s)) result) where
+      (written : Changes (view asked) (view (storage_of s)) result (reftable_pointer_written header.fields)) (calls : Calls (view asked) (view (storage_of s)) result) where
     beside : (o : ℕ) → (o < 48) ⊎ (60 ≤ o) → (new : List ℕ) → (new ≡ (view asked).contents) ⊎ (new ≡ reftable_pointer_written header.fields (view asked).contents) → byte_at (view asked).contents o ≡ byte_at new o
     beside o outside new (inl is) = ap (λ l. byte_at l o) (sym is)
     beside o outside new (inr is) = pointer_but header.fields (view asked).contents o outside ∙ ap (λ l. byte_at l o) (sym is)

@@ -10,7 +10,7 @@ use Rattle.qcow2_alloc.specs.TableSteps.{FailsToFlush}
 module _ {S V : Type 0} (view : S → StorageView) (cluster_bits : ℕ) (bytes : V → List ℕ) (is_modified : V → Bool) (cleared : V → V) (IsFit : V → Type 0) where
   pub write_fails : (s t : S) (k : ℕ) (v : V) (e : StorageError) (before : StorageView) → before ≡ view s
       → is_modified v ≡ true → length (bytes v) ≡ 2 ^ cluster_bits
-      → Changes {T = Unit {0}} before (view t) (Err e) (overwritten before.contents (k * 2 ^ cluster_bits) (bytes v))
+      → Changes {T = Unit {0}} before (view t) (Err e) (λ b. overwritten b (k * 2 ^ cluster_bits) (bytes v))
       → Calls {T = Unit {0}} before (view t) (Err e)
       → FailsToFlush view cluster_bits bytes is_modified cleared IsFit s k v (Storage e) t
   write_fails s t k v e before same modified fits changes calls = record {

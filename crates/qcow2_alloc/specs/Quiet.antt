@@ -1,6 +1,6 @@
 -- When nothing is written, and where the calls of the caches write nothing.
 use Rattle.std.specs.Prelude.{ℕ, ◌≡◌, ◌<◌, ◌==◌, ◌⊎◌, Bool, false, List, length, IfSome, IsSome, IsNone}
-use Rattle.image_access.specs.Moments.{StorageView, EachMomentSince}
+use Rattle.image_access.specs.Moments.{StorageView, EachMomentSince, IsLeftBy}
 use Rattle.qcow2_metadata.specs.L2Table.{L2TableView}
 use Rattle.qcow2_metadata.specs.RefBlock.{RefBlockView}
 use Rattle.qcow2_laws.specs.Caches.{BlocksMayGo, TablesMayGo}
@@ -15,7 +15,7 @@ use Rattle.qcow2_alloc.specs.declared.image_storage.ImageStorage.{ImageStorage}
 pub record IsQuiet (old new : StorageView) : Type 0 where
   pub honest : new.is_honest
   pub contents : new.contents ≡ old.contents
-  pub moments : EachMomentSince old new (λ c. c ≡ old.contents)
+  pub moments : EachMomentSince old new (IsLeftBy old)
 
 -- there is room for one entry more
 abbrev pub HasSpace : {B K V : Type 0} → Cache B K V → Type 0

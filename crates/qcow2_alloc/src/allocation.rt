@@ -1,6 +1,6 @@
 //! Taking clusters of the image's file.
 ghost use Rattle.std.specs.Prelude.{◌≡◌, ◌≢◌, max, false, ◌+◌, ◌-◌, ◌^◌, ◌<◌, ◌≤◌, ◌⊎◌, Bool, IsNone, IfOk, IfErr, OnOk, IsSome, IsTrue, MatchResult};
-ghost use Rattle.image_access.specs.Moments.{ContentsStay, EachMomentSince};
+ghost use Rattle.image_access.specs.Moments.{ContentsStay, EachMomentSince, IsLeftBy};
 ghost use Rattle.qcow2_laws.specs.Clusters.{L2DependsOnRb};
 ghost use Rattle.qcow2_laws.specs.CrashInvariant.{Pending};
 ghost use Rattle.qcow2_alloc.specs.Allocation.{MayTake, TakesCluster, TakesRun, TakesSomeRun, is_data, Allocates, AllocatesAt, SameLeaks};
@@ -45,7 +45,7 @@ impl Allocator {
         ensures rest { file.new ≡ record file.old { storage = file.new.storage } }
         ensures honest { (view_in S.view file.old).is_honest → (view_in S.view file.new).is_honest }
         ensures same { ContentsStay (view_in S.view file.old) (view_in S.view file.new) }
-        ensures time { EachMomentSince (view_in S.view file.old) (view_in S.view file.new) (λ c. c ≡ (view_in S.view file.new).contents) }
+        ensures time { EachMomentSince (view_in S.view file.old) (view_in S.view file.new) (IsLeftBy (view_in S.view file.new)) }
         ensures reftable { (view_in S.view file.old).is_honest → IfOk result (λ allocator. HasReftable S.view file.new allocator.reftable) }
         ensures first { IfOk result (λ allocator. allocator.first_free_cluster ≡ 0) }
         ensures leaks { IfOk result (λ allocator. allocator.leaked_clusters ≡ 0) }

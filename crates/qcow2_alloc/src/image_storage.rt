@@ -218,7 +218,7 @@ impl<S: Storage> Storage for ImageStorage<S> {
 
     // It isn't told its kind, so it is refused.
     fn write(&mut self, at: u64, bytes: &[u8]) -> Result<(), StorageError>
-        ensures written { Changes (S.view (storage_of self.old)) (S.view (storage_of self.new)) result (overwritten (S.view (storage_of self.old)).contents at bytes.now) }
+        ensures written { Changes (S.view (storage_of self.old)) (S.view (storage_of self.new)) result (λ b. overwritten b at bytes.now) }
         ensures calls { Calls (S.view (storage_of self.old)) (S.view (storage_of self.new)) result }
         ensures noted { NotesWrite self.old self.new result }
         ensures untold { IsRefusedUntold self.old self.new result }
@@ -229,7 +229,7 @@ impl<S: Storage> Storage for ImageStorage<S> {
 
     // It isn't told its kind, so it is refused.
     fn write_zeroes(&mut self, at: u64, length: u64) -> Result<(), StorageError>
-        ensures zeroed { Changes (S.view (storage_of self.old)) (S.view (storage_of self.new)) result (zeroed (S.view (storage_of self.old)).contents at length) }
+        ensures zeroed { Changes (S.view (storage_of self.old)) (S.view (storage_of self.new)) result (λ b. zeroed b at length) }
         ensures calls { Calls (S.view (storage_of self.old)) (S.view (storage_of self.new)) result }
         ensures noted { NotesWrite self.old self.new result }
         ensures untold { IsRefusedUntold self.old self.new result }
@@ -240,7 +240,7 @@ impl<S: Storage> Storage for ImageStorage<S> {
 
     // It isn't told its kind, so it is refused.
     fn write_allocated_zeroes(&mut self, at: u64, length: u64) -> Result<(), StorageError>
-        ensures zeroed { Changes (S.view (storage_of self.old)) (S.view (storage_of self.new)) result (zeroed (S.view (storage_of self.old)).contents at length) }
+        ensures zeroed { Changes (S.view (storage_of self.old)) (S.view (storage_of self.new)) result (λ b. zeroed b at length) }
         ensures calls { Calls (S.view (storage_of self.old)) (S.view (storage_of self.new)) result }
         ensures noted { NotesWrite self.old self.new result }
         ensures untold { IsRefusedUntold self.old self.new result }
@@ -251,7 +251,7 @@ impl<S: Storage> Storage for ImageStorage<S> {
 
     // It isn't told its kind, so it is refused.
     fn resize(&mut self, size: u64, preallocate: StoragePreallocate) -> Result<(), StorageError>
-        ensures resized { Changes (S.view (storage_of self.old)) (S.view (storage_of self.new)) result (resized (S.view (storage_of self.old)).contents size) }
+        ensures resized { Changes (S.view (storage_of self.old)) (S.view (storage_of self.new)) result (λ b. resized b size) }
         ensures calls { Calls (S.view (storage_of self.old)) (S.view (storage_of self.new)) result }
         ensures noted { NotesWrite self.old self.new result }
         ensures untold { IsRefusedUntold self.old self.new result }

@@ -1,6 +1,6 @@
 -- Reads one after the other.
 use Rattle.std.proofs.Common.{◌≡◌, Result, ◌∙◌}
-use Rattle.image_access.specs.Moments.{StorageView}
+use Rattle.image_access.specs.Moments.{StorageView, IsLeftBy}
 use Rattle.image_access.proofs.EachMomentSince.{passes_on, cause_since}
 use Rattle.qcow2_metadata.specs.declared.error.MetadataError.{MetadataError}
 use Rattle.qcow2_metadata.specs.MetadataError.{OnlyReads}
@@ -9,6 +9,6 @@ pub reads_more : {T U : Type 0} {one : Result T MetadataError} {two : Result U M
 reads_more old mid new first counted next = record {
   honest = λ h. next.honest (first.honest h);
   same = λ h. next.same (first.honest h) ∙ first.same h;
-  time = λ h. passes_on (λ c. c ≡ old.contents) (first.time h) (next.time (first.honest h)) (λ c is. is ∙ first.same h);
+  time = λ h. passes_on (IsLeftBy old) (first.time h) (next.time (first.honest h)) (λ c is. is ∙ first.same h);
   cause = cause_since _ _ _ counted next.cause;
 }

@@ -5,7 +5,7 @@ use Rattle.qcow2_alloc.specs.ImageError.{IsFault as IsFaultOfTables}
 use Rattle.std.specs.Prelude.{Bool, true, false, ℕ, ◌+◌, ◌*◌, ◌/◌, ◌≡◌, ◌<◌, ◌≤◌, ◌==◌, ◌⊎◌, List, [], ◌∷◌, length, Option, Some, None, IsSome, IsTrue, Result, Ok, Err, slice_get, slice_set, if◌then◌else◌}
 use Rattle.image_access.specs.Backing.{BackingView}
 use Rattle.image_access.specs.Contents.{overwritten}
-use Rattle.image_access.specs.Moments.{StorageView, EachMomentSince}
+use Rattle.image_access.specs.Moments.{StorageView, EachMomentSince, IsLeftBy}
 use Rattle.qcow2_disk.specs.Calls.{IsRefusalByFault, IsSame, RefusedEffect, EffectOnSound, with_disk, with_slot}
 use Rattle.qcow2_metadata.specs.Cover.{cover}
 use Rattle.qcow2_image.specs.declared.prepared.Share.TheVariants.{InPlace}
@@ -75,7 +75,7 @@ module _ {S F : Type 0} (view : S → StorageView) where
   pub record WritesBytes (old new : Qcow2 S F) (host : ℕ) (bytes : List ℕ) (result : Result (Unit {0}) ImageError) : Type 0 where
     pub rest : new ≡ record old { file = record old.file { storage = new.file.storage } }
     pub honest : (view_in view old.file).is_honest → (view_in view new.file).is_honest
-    pub time : (view_in view old.file).is_honest → EachMomentSince (view_in view old.file) (view_in view new.file) (λ c. c ≡ (view_in view new.file).contents)
+    pub time : (view_in view old.file).is_honest → EachMomentSince (view_in view old.file) (view_in view new.file) (IsLeftBy (view_in view new.file))
     pub written : (view_in view old.file).is_honest → IsWriteOutcome result (view_in view old.file).contents (overwritten (view_in view old.file).contents host bytes) (view_in view new.file).contents
 
   module _ (backing : F → BackingView) where

@@ -2,7 +2,7 @@
 use Rattle.std.specs.Prelude.{◌≡◌, ◌⊎◌, ℕ, ◌+◌, ◌<◌, ◌≤◌, List, Option, Result, Ok, Err, IfErr, IsErrOf, IsSome, IsTrue}
 use Rattle.image_access.specs.Backing.{BackingView}
 use Rattle.image_access.specs.Contents.{overwritten}
-use Rattle.image_access.specs.Moments.{StorageView, ContentsStay, EachMomentSince}
+use Rattle.image_access.specs.Moments.{StorageView, ContentsStay, EachMomentSince, IsLeftBy}
 use Rattle.qcow2_alloc.specs.declared.error.ImageError.{ImageError}
 use Rattle.qcow2_alloc.specs.declared.error.ImageError.TheVariants.{Memory}
 use Rattle.qcow2_alloc.specs.ImageFile.{view_in}
@@ -83,5 +83,5 @@ pub record PutsOnce {S F : Type 0} (view : S → StorageView) (backing : F → B
   pub honest : (view_in view old.file).is_honest → (view_in view before.file).is_honest
   pub unseen : (out : List (Option Prepared)) → (abstract_of view backing old out).is_sound → UnseenCall view backing old before out
   pub idle : IsSome (table_of p) → (storage_of_image before ≡ storage_of_image old) × (changes_of before.file.storage ≡ changes_of old.file.storage)
-  pub time : (view_in view before.file).is_honest → EachMomentSince (view_in view before.file) (view_in view new.file) (λ c. c ≡ (view_in view new.file).contents)
+  pub time : (view_in view before.file).is_honest → EachMomentSince (view_in view before.file) (view_in view new.file) (IsLeftBy (view_in view new.file))
   pub written : (view_in view before.file).is_honest → IsWriteOutcome result (view_in view before.file).contents (overwritten (view_in view before.file).contents (offset_of p + at) bytes) (view_in view new.file).contents

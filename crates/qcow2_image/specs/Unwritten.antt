@@ -1,6 +1,6 @@
 -- An image that is only read: what stands on its storage stays.
 use Rattle.std.specs.Prelude.{◌≡◌}
-use Rattle.image_access.specs.Moments.{ContentsStay, StorageView, EachMomentSince}
+use Rattle.image_access.specs.Moments.{ContentsStay, StorageView, EachMomentSince, IsLeftBy}
 use Rattle.qcow2_alloc.specs.ImageFile.{contents_in, known_in}
 use Rattle.qcow2_alloc.specs.MetadataCaches.{AreAllWritten}
 use Rattle.qcow2_alloc.specs.Quiet.{KeepAllWritten}
@@ -8,7 +8,7 @@ use Rattle.qcow2_image.specs.declared.image.Qcow2.{Qcow2}
 
 -- the contents are the same now, and at each moment since
 abbrev pub ContentsStayThroughout : StorageView → StorageView → Type 0
-ContentsStayThroughout old new = ContentsStay old new × EachMomentSince old new (λ c. c ≡ old.contents)
+ContentsStayThroughout old new = ContentsStay old new × EachMomentSince old new (IsLeftBy old)
 
 module _ {S F : Type 0} (view : S → StorageView) where
   -- what is known stands on the storage

@@ -93,7 +93,7 @@ impl<S: Storage, F: WrappedFormat<S>> Qcow2<S, F> {
     ghost use Rattle.qcow2_alloc.specs.ImageStorage.{storage_of};
     ghost use Rattle.qcow2_image.specs.ListedClusters.{KeepsReftable};
     ghost use Rattle.qcow2_image.specs.Refusals.{unusable, IsMet, MarksFailed, MarksRefused};
-    ghost use Rattle.image_access.specs.Moments.{ContentsStay, EachMomentSince};
+    ghost use Rattle.image_access.specs.Moments.{ContentsStay, EachMomentSince, IsLeftBy};
     ghost use Rattle.qcow2_metadata.specs.Bytes.{byte_at};
     ghost use Rattle.qcow2_metadata.specs.Consistent.{IsConsistent};
     ghost use Rattle.qcow2_alloc.specs.KeptAllocators.{IsAllocatorOf};
@@ -114,7 +114,7 @@ impl<S: Storage, F: WrappedFormat<S>> Qcow2<S, F> {
         ensures same { ContentsStay (S.view storage.old) (S.view storage.new) }
         ensures honest { (S.view storage.old).is_honest → (S.view storage.new).is_honest }
         ensures faults { FaultsTold (S.view storage.old).faults (S.view storage.new).faults result }
-        ensures time { EachMomentSince (S.view storage.old) (S.view storage.new) (λ c. c ≡ (S.view storage.new).contents) }
+        ensures time { EachMomentSince (S.view storage.old) (S.view storage.new) (IsLeftBy (S.view storage.new)) }
         ensures cause { IfErr result IsFault }
     {
         let mut first = [0u8; 8];
@@ -287,7 +287,7 @@ impl<S: Storage, F: WrappedFormat<S>> Qcow2<S, F> {
         ensures honest { (view_in S.view file.old).is_honest → (view_in S.view file.new).is_honest }
         ensures faults { FaultsTold (view_in S.view file.old).faults (view_in S.view file.new).faults result }
         ensures same { ContentsStay (view_in S.view file.old) (view_in S.view file.new) }
-        ensures time { EachMomentSince (view_in S.view file.old) (view_in S.view file.new) (λ c. c ≡ (view_in S.view file.new).contents) }
+        ensures time { EachMomentSince (view_in S.view file.old) (view_in S.view file.new) (IsLeftBy (view_in S.view file.new)) }
         ensures table { (view_in S.view file.old).is_honest → IfOk result (HasL1Table S.view F.backing file.new) }
         ensures cause { IfErr result IsMet }
         ensures why { (view_in S.view file.old).is_honest → MatchResult result (λ table. L1TableReads file.old.header.fields (contents_in S.view file.old)) (IsReasonAgainstL1Table file.old.header.fields (contents_in S.view file.old)) }

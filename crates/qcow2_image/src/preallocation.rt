@@ -77,7 +77,7 @@ impl ZeroWrites {
         requires few { count ≤ most_of self.now }
         requires zeros { AreZeros self.now }
         requires told { IsToldData storage.old }
-        ensures written { Changes (S.view (storage_of storage.old)) (S.view (storage_of storage.new)) result (zeroed (S.view (storage_of storage.old)).contents at count) }
+        ensures written { Changes (S.view (storage_of storage.old)) (S.view (storage_of storage.new)) result (λ b. zeroed b at count) }
         ensures calls { Calls (S.view (storage_of storage.old)) (S.view (storage_of storage.new)) result }
         ensures noted { NotesWrite storage.old storage.new result }
     {

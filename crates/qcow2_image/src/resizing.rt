@@ -6,7 +6,7 @@ ghost use Rattle.qcow2_alloc.specs.KeptNotes.{NoData};
 ghost use Rattle.std.specs.Prelude.{ℕ, List, Option, ◌≡◌, ◌↔◌, ◌⊎◌, ◌+◌, ◌-◌, ◌<◌, ◌≤◌, max, [], Some, None, Ok, Err, IfOk, IfErr, IfSome, OnOk, OnErr, IsTrue, MatchOption, false};
 ghost use Rattle.qcow2_image.specs.LackedPlaces.{IsPlacedNear};
 ghost use Rattle.qcow2_image.specs.MetAlone.{IsMetGrowing};
-ghost use Rattle.image_access.specs.Moments.{EachMomentSince};
+ghost use Rattle.image_access.specs.Moments.{IsLeftBy, EachMomentSince};
 ghost use Rattle.qcow2_metadata.specs.EntryTable.{entry_count};
 ghost use Rattle.qcow2_metadata.specs.TableBytes.{entry_at};
 ghost use Rattle.qcow2_image.specs.Found.{l1_index_of};
@@ -350,7 +350,7 @@ impl<S: Storage, F: WrappedFormat<S>> Qcow2<S, F> {
         ensures rest { self.new ≡ record self.old { file = record self.old.file { storage = self.new.file.storage; header = self.new.file.header } } }
         ensures header { OnOk result (self.new.file.header ≡ with_fields self.old.file.header (with_size self.old.file.header.fields size)) }
         ensures restored { OnErr result (self.new.file.header ≡ self.old.file.header) }
-        ensures time { (view_in S.view self.old.file).is_honest → EachMomentSince (view_in S.view self.old.file) (view_in S.view self.new.file) (λ c. c ≡ (view_in S.view self.new.file).contents) }
+        ensures time { (view_in S.view self.old.file).is_honest → EachMomentSince (view_in S.view self.old.file) (view_in S.view self.new.file) (IsLeftBy (view_in S.view self.new.file)) }
         ensures writes { (out : List (Option Prepared)) → ImageInvariant S.view F.backing (pending_in S.view F.backing self.old out) self.old out → WritesSize S.view F.backing self.old self.new out size result }
         ensures resizes { (p : Pending) → ImageInvariant S.view F.backing p self.old [] → Resizes S.view F.backing p self.old self.new size result }
         ensures notes { KeepsFileNotes S.view NoData self.old.file self.new.file }

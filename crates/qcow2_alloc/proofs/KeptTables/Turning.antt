@@ -1,6 +1,6 @@
 -- Calls of the caches one after another, and turns of the direction.
 use Rattle.std.proofs.Common.{◌≡◌, ◌⊎◌, inl, inr, List, ℕ, Result, Ok, Err, OnOk, refl, sym, ◌∙◌, subst}
-use Rattle.image_access.specs.Moments.{StorageView, EachMomentSince}
+use Rattle.image_access.specs.Moments.{StorageView, EachMomentSince, IsLeftBy}
 use Rattle.image_access.proofs.EachMomentSince.{passes_none, passes_on, passes_if}
 use Rattle.qcow2_metadata.specs.Bytes.{Bytes, byte_at}
 use Rattle.qcow2_metadata.specs.declared.header.HeaderFields.{HeaderFields}
@@ -23,7 +23,7 @@ pub safe_none : (v : StorageView) (known : Bytes) → IsSafeSince v v known
 safe_none v known = record { moments = passes_none v _; contents = λ backing m ok known_ok. ok }
 
 -- a call of the storage that keeps the contents
-pub safe_keep : (old new : StorageView) (known : Bytes) → EachMomentSince old new (λ c. c ≡ new.contents) → new.contents ≡ old.contents → IsSafeSince old new known
+pub safe_keep : (old new : StorageView) (known : Bytes) → EachMomentSince old new (IsLeftBy new) → new.contents ≡ old.contents → IsSafeSince old new known
 safe_keep old new known time same = record {
   moments = passes_if (λ c. IsSafeBetween (byte_at old.contents) known (byte_at c)) (λ c is backing m ok known_ok. subst (λ (l : List ℕ). StopOkEverywhere backing m (byte_at l)) (sym (is ∙ same)) ok) time;
   contents = λ backing m ok known_ok. subst (λ (l : List ℕ). StopOkEverywhere backing m (byte_at l)) (sym same) ok;

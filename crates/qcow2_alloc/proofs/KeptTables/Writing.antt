@@ -4,7 +4,7 @@ use Rattle.std.proofs.lemmas.Bool.{cases_lt, and_from, le-leb, lt-ltb}
 use mathlib.Core.Path.{fun_ext}
 use Rattle.std.specs.Option.{option_or}
 use Rattle.image_access.specs.Contents.{overwritten}
-use Rattle.image_access.specs.Moments.{StorageView, EachMomentSince}
+use Rattle.image_access.specs.Moments.{StorageView, EachMomentSince, IsLeftBy}
 use Rattle.image_access.proofs.Bytes.{byte_at-overwritten, byte_at-overwritten_outside}
 use Rattle.image_access.proofs.EachMomentSince.{passes_none, passes_on, passes_if}
 use Rattle.qcow2_metadata.specs.Bytes.{Bytes, byte_at, is_within}
@@ -41,7 +41,7 @@ pub record Safety : Type 1 where
   pub Since : StorageView → StorageView → Bytes → Type 0
   pub same : (b known c : Bytes) → c ≡ b → Safe b known c
   pub none : (v : StorageView) (known : Bytes) → Since v v known
-  pub one : (old new : StorageView) (known : Bytes) → EachMomentSince old new (λ c. c ≡ new.contents) → Safe (byte_at old.contents) known (byte_at new.contents) → Since old new known
+  pub one : (old new : StorageView) (known : Bytes) → EachMomentSince old new (IsLeftBy new) → Safe (byte_at old.contents) known (byte_at new.contents) → Since old new known
   pub more : (old mid new : StorageView) (known known' : Bytes) → known' ≡ known → Since old mid known → Since mid new known' → Since old new known
 
 -- it is as safe as before
@@ -203,7 +203,7 @@ module _ {S V : Type 0} (view : S → StorageView) (bits : ℕ) (bytes : V → L
       subst (λ (y : Slot V). IsWrittenSo (2 ^ bits) (table e) (table (e.0, y)) (contents s) (contents t)) (sym f.1) (failed_so s t e.0 e.1.value e.1.pins x honest f.0)
 
   entry_calls : (s t : S) (e : ℕ × Slot V) (x : Option MetadataError) (d : Slot V) → (view s).is_honest → FlushesEntry (table_steps view bits bytes is_modified cleared IsFit) s e x t d
-      → (view t).is_honest × EachMomentSince (view s) (view t) (λ c. c ≡ (view t).contents)
+      → (view t).is_honest × EachMomentSince (view s) (view t) (IsLeftBy (view t))
   entry_calls s t e None d honest f = (f.0.calls.honest honest, f.0.calls.time honest)
   entry_calls s t e (Some x) d honest f = (f.0.calls.honest honest, f.0.calls.time honest)
 

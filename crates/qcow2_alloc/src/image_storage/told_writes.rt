@@ -23,7 +23,7 @@ impl<S: Storage> ImageStorage<S> {
     /// Writes a guest's bytes at an offset, in bytes. Refused 14 (memory), 15 (storage), as the storage is.
     pub fn write_data(&mut self, at: u64, bytes: &[u8]) -> Result<(), StorageError>
         requires { IsToldData self.old }
-        ensures written { Changes (S.view (storage_of self.old)) (S.view (storage_of self.new)) result (overwritten (S.view (storage_of self.old)).contents at bytes.now) }
+        ensures written { Changes (S.view (storage_of self.old)) (S.view (storage_of self.new)) result (λ b. overwritten b at bytes.now) }
         ensures calls { Calls (S.view (storage_of self.old)) (S.view (storage_of self.new)) result }
         ensures noted { NotesWrite self.old self.new result }
     {
@@ -35,7 +35,7 @@ impl<S: Storage> ImageStorage<S> {
     /// 14 (memory), 15 (storage), as the storage is.
     pub fn write_zero_data(&mut self, at: u64, length: u64) -> Result<(), StorageError>
         requires { IsToldData self.old }
-        ensures zeroed { Changes (S.view (storage_of self.old)) (S.view (storage_of self.new)) result (zeroed (S.view (storage_of self.old)).contents at length) }
+        ensures zeroed { Changes (S.view (storage_of self.old)) (S.view (storage_of self.new)) result (λ b. zeroed b at length) }
         ensures calls { Calls (S.view (storage_of self.old)) (S.view (storage_of self.new)) result }
         ensures noted { NotesWrite self.old self.new result }
     {
@@ -46,7 +46,7 @@ impl<S: Storage> ImageStorage<S> {
     /// The same, and the place that they take stays taken where it can. Refused 14 (memory), 15 (storage), as the storage is.
     pub fn write_allocated_zero_data(&mut self, at: u64, length: u64) -> Result<(), StorageError>
         requires { IsToldData self.old }
-        ensures zeroed { Changes (S.view (storage_of self.old)) (S.view (storage_of self.new)) result (zeroed (S.view (storage_of self.old)).contents at length) }
+        ensures zeroed { Changes (S.view (storage_of self.old)) (S.view (storage_of self.new)) result (λ b. zeroed b at length) }
         ensures calls { Calls (S.view (storage_of self.old)) (S.view (storage_of self.new)) result }
         ensures noted { NotesWrite self.old self.new result }
     {
@@ -63,7 +63,7 @@ impl<S: Storage> ImageStorage<S> {
         requires place { HasPlace table.old.cluster_bits cluster }
         requires told { IsToldL2Table self.old }
         ensures written { IsTrue table.old.is_modified → Changes (S.view (storage_of self.old)) (S.view (storage_of self.new)) result
-            (overwritten (S.view (storage_of self.old)).contents (cluster * 2 ^ table.old.cluster_bits) table.old.bytes) }
+            (λ b. overwritten b (cluster * 2 ^ table.old.cluster_bits) table.old.bytes) }
         ensures idle { IsFalse table.old.is_modified → IsOk result × (self.new ≡ self.old) }
         ensures calls { Calls (S.view (storage_of self.old)) (S.view (storage_of self.new)) result }
         ensures noted { IsTrue table.old.is_modified → NotesWrite self.old self.new result }
@@ -85,7 +85,7 @@ impl<S: Storage> ImageStorage<S> {
         requires place { HasPlace block.old.cluster_bits cluster }
         requires told { IsToldRefBlock self.old }
         ensures written { IsTrue block.old.is_modified → Changes (S.view (storage_of self.old)) (S.view (storage_of self.new)) result
-            (overwritten (S.view (storage_of self.old)).contents (cluster * 2 ^ block.old.cluster_bits) block.old.bytes) }
+            (λ b. overwritten b (cluster * 2 ^ block.old.cluster_bits) block.old.bytes) }
         ensures idle { IsFalse block.old.is_modified → IsOk result × (self.new ≡ self.old) }
         ensures calls { Calls (S.view (storage_of self.old)) (S.view (storage_of self.new)) result }
         ensures noted { IsTrue block.old.is_modified → NotesWrite self.old self.new result }
@@ -103,7 +103,7 @@ impl<S: Storage> ImageStorage<S> {
         requires placed { IsSome table.now.cluster }
         requires told { IsToldOther self.old }
         ensures written { IfSome table.now.cluster (λ cluster. Changes (S.view (storage_of self.old)) (S.view (storage_of self.new)) result
-            (overwritten (S.view (storage_of self.old)).contents (cluster * 2 ^ table.now.cluster_bits) table.now.bytes)) }
+            (λ b. overwritten b (cluster * 2 ^ table.now.cluster_bits) table.now.bytes)) }
         ensures calls { Calls (S.view (storage_of self.old)) (S.view (storage_of self.new)) result }
         ensures noted { NotesWrite self.old self.new result }
     {
@@ -116,7 +116,7 @@ impl<S: Storage> ImageStorage<S> {
         requires placed { IsSome block.now.cluster }
         requires told { IsToldOther self.old }
         ensures written { IfSome block.now.cluster (λ cluster. Changes (S.view (storage_of self.old)) (S.view (storage_of self.new)) result
-            (overwritten (S.view (storage_of self.old)).contents (cluster * 2 ^ block.now.cluster_bits) block.now.bytes)) }
+            (λ b. overwritten b (cluster * 2 ^ block.now.cluster_bits) block.now.bytes)) }
         ensures of_image { (S.view (storage_of self.old)).is_honest → IfSome block.now.cluster (λ cluster.
             OnOk result (IsRefBlockAt (byte_at (S.view (storage_of self.new)).contents) (cluster * 2 ^ block.now.cluster_bits) block.now)) }
         ensures calls { Calls (S.view (storage_of self.old)) (S.view (storage_of self.new)) result }
@@ -132,7 +132,7 @@ impl<S: Storage> ImageStorage<S> {
         requires elsewhere { IfSome block.now.cluster (λ cluster. 0 < cluster) }
         requires told { IsToldOther self.old }
         ensures written { IfSome block.now.cluster (λ cluster. Changes (S.view (storage_of self.old)) (S.view (storage_of self.new)) result
-            (overwritten (S.view (storage_of self.old)).contents (cluster * 2 ^ block.now.cluster_bits) block.now.bytes)) }
+            (λ b. overwritten b (cluster * 2 ^ block.now.cluster_bits) block.now.bytes)) }
         ensures header_cluster { KeepsHeaderCluster block.now.cluster_bits (S.view (storage_of self.old)) (S.view (storage_of self.new)) }
         ensures calls { Calls (S.view (storage_of self.old)) (S.view (storage_of self.new)) result }
         ensures noted { NotesWrite self.old self.new result }
@@ -145,7 +145,7 @@ impl<S: Storage> ImageStorage<S> {
         requires placed { IsSome table.now.cluster }
         requires told { IsToldOther self.old }
         ensures written { IfSome table.now.cluster (λ cluster. Changes (S.view (storage_of self.old)) (S.view (storage_of self.new)) result
-            (overwritten (S.view (storage_of self.old)).contents (cluster * 2 ^ table.now.cluster_bits) table.now.bytes)) }
+            (λ b. overwritten b (cluster * 2 ^ table.now.cluster_bits) table.now.bytes)) }
         ensures calls { Calls (S.view (storage_of self.old)) (S.view (storage_of self.new)) result }
         ensures noted { NotesWrite self.old self.new result }
     {
@@ -161,7 +161,7 @@ impl<S: Storage> ImageStorage<S> {
         requires room { HasRoomIfPlaced table.now.cluster_bits (8 * index) table.now.cluster }
         requires told { IsToldOther self.old }
         ensures written { IfSome table.now.cluster (λ cluster. Changes (S.view (storage_of self.old)) (S.view (storage_of self.new)) result
-            (overwritten (S.view (storage_of self.old)).contents (cluster * 2 ^ table.now.cluster_bits + 8 * index) (to_be_bytes w64 (entry_at table.now.bytes index)))) }
+            (λ b. overwritten b (cluster * 2 ^ table.now.cluster_bits + 8 * index) (to_be_bytes w64 (entry_at table.now.bytes index)))) }
         ensures fits { entry_at table.now.bytes index < 2 ^ 64 }
         ensures calls { Calls (S.view (storage_of self.old)) (S.view (storage_of self.new)) result }
         ensures noted { NotesWrite self.old self.new result }
@@ -175,7 +175,7 @@ impl<S: Storage> ImageStorage<S> {
         requires placed { IsSome table.now.cluster }
         requires told { IsToldOther self.old }
         ensures written { IfSome table.now.cluster (λ cluster. Changes (S.view (storage_of self.old)) (S.view (storage_of self.new)) result
-            (overwritten (S.view (storage_of self.old)).contents (cluster * 2 ^ table.now.cluster_bits) table.now.bytes)) }
+            (λ b. overwritten b (cluster * 2 ^ table.now.cluster_bits) table.now.bytes)) }
         ensures calls { Calls (S.view (storage_of self.old)) (S.view (storage_of self.new)) result }
         ensures noted { NotesWrite self.old self.new result }
     {
@@ -189,7 +189,7 @@ impl<S: Storage> ImageStorage<S> {
         requires elsewhere { IfSome table.now.cluster (λ cluster. 0 < cluster) }
         requires told { IsToldOther self.old }
         ensures written { IfSome table.now.cluster (λ cluster. Changes (S.view (storage_of self.old)) (S.view (storage_of self.new)) result
-            (overwritten (S.view (storage_of self.old)).contents (cluster * 2 ^ table.now.cluster_bits) table.now.bytes)) }
+            (λ b. overwritten b (cluster * 2 ^ table.now.cluster_bits) table.now.bytes)) }
         ensures header_cluster { KeepsHeaderCluster table.now.cluster_bits (S.view (storage_of self.old)) (S.view (storage_of self.new)) }
         ensures calls { Calls (S.view (storage_of self.old)) (S.view (storage_of self.new)) result }
         ensures noted { NotesWrite self.old self.new result }
@@ -207,7 +207,7 @@ impl<S: Storage> ImageStorage<S> {
         requires within { index < entry_count table.now }
         requires told { IsToldOther self.old }
         ensures written { IfSome table.now.cluster (λ cluster. Changes (S.view (storage_of self.old)) (S.view (storage_of self.new)) result
-            (overwritten (S.view (storage_of self.old)).contents (cluster * 2 ^ table.now.cluster_bits + 8 * index) (to_be_bytes w64 (entry_at table.now.bytes index)))) }
+            (λ b. overwritten b (cluster * 2 ^ table.now.cluster_bits + 8 * index) (to_be_bytes w64 (entry_at table.now.bytes index)))) }
         ensures fits { entry_at table.now.bytes index < 2 ^ 64 }
         ensures calls { Calls (S.view (storage_of self.old)) (S.view (storage_of self.new)) result }
         ensures noted { NotesWrite self.old self.new result }
@@ -219,7 +219,7 @@ impl<S: Storage> ImageStorage<S> {
     /// Empties the storage. Refused 14 (memory), 15 (storage), as the storage is.
     pub fn clear(&mut self) -> Result<(), StorageError>
         requires { IsToldOther self.old }
-        ensures cleared { Changes (S.view (storage_of self.old)) (S.view (storage_of self.new)) result (resized (S.view (storage_of self.old)).contents 0) }
+        ensures cleared { Changes (S.view (storage_of self.old)) (S.view (storage_of self.new)) result (λ b. resized b 0) }
         ensures calls { Calls (S.view (storage_of self.old)) (S.view (storage_of self.new)) result }
         ensures noted { NotesWrite self.old self.new result }
     {
@@ -231,7 +231,7 @@ impl<S: Storage> ImageStorage<S> {
     /// (storage), as the storage is.
     pub fn write_new_header(&mut self, alloc: Global, header: &Header) -> Result<(), StorageError>
         requires { IsToldOther self.old }
-        ensures written { Changes (S.view (storage_of self.old)) (S.view (storage_of self.new)) result (header_written header.now (S.view (storage_of self.old)).contents) }
+        ensures written { Changes (S.view (storage_of self.old)) (S.view (storage_of self.new)) result (header_written header.now) }
         ensures reads { HasNewNames header.now → IsHeaderIn header.now (header_written header.now (S.view (storage_of self.old)).contents) }
         ensures calls { Calls (S.view (storage_of self.old)) (S.view (storage_of self.new)) result }
         ensures noted { NotesWrite self.old self.new result }
@@ -243,7 +243,7 @@ impl<S: Storage> ImageStorage<S> {
     /// Writes the place and the length of the L1 table. Refused 14 (memory), 15 (storage), as the storage is.
     pub fn write_l1_table_pointer(&mut self, header: &Header) -> Result<(), StorageError>
         requires { IsToldOther self.old }
-        ensures written { Changes (S.view (storage_of self.old)) (S.view (storage_of self.new)) result (l1_table_pointer_written header.now.fields (S.view (storage_of self.old)).contents) }
+        ensures written { Changes (S.view (storage_of self.old)) (S.view (storage_of self.new)) result (l1_table_pointer_written header.now.fields) }
         ensures calls { Calls (S.view (storage_of self.old)) (S.view (storage_of self.new)) result }
         ensures noted { NotesWrite self.old self.new result }
     {
@@ -254,7 +254,7 @@ impl<S: Storage> ImageStorage<S> {
     /// Writes the place and the length of the reftable. Refused 14 (memory), 15 (storage), as the storage is.
     pub fn write_reftable_pointer(&mut self, header: &Header) -> Result<(), StorageError>
         requires { IsToldOther self.old }
-        ensures written { Changes (S.view (storage_of self.old)) (S.view (storage_of self.new)) result (reftable_pointer_written header.now.fields (S.view (storage_of self.old)).contents) }
+        ensures written { Changes (S.view (storage_of self.old)) (S.view (storage_of self.new)) result (reftable_pointer_written header.now.fields) }
         ensures calls { Calls (S.view (storage_of self.old)) (S.view (storage_of self.new)) result }
         ensures noted { NotesWrite self.old self.new result }
     {
@@ -265,7 +265,7 @@ impl<S: Storage> ImageStorage<S> {
     /// Writes the disk's size. Refused 14 (memory), 15 (storage), as the storage is.
     pub fn write_size(&mut self, header: &Header) -> Result<(), StorageError>
         requires { IsToldOther self.old }
-        ensures written { Changes (S.view (storage_of self.old)) (S.view (storage_of self.new)) result (size_written header.now.fields (S.view (storage_of self.old)).contents) }
+        ensures written { Changes (S.view (storage_of self.old)) (S.view (storage_of self.new)) result (size_written header.now.fields) }
         ensures calls { Calls (S.view (storage_of self.old)) (S.view (storage_of self.new)) result }
         ensures noted { NotesWrite self.old self.new result }
     {
@@ -277,7 +277,7 @@ impl<S: Storage> ImageStorage<S> {
     /// They stay in the header then.
     pub fn clear_autoclear(&mut self, header: &mut Header) -> Result<(), StorageError>
         requires { IsToldOther self.old }
-        ensures written { header.old.fields.autoclear ≢ 0 → Changes (S.view (storage_of self.old)) (S.view (storage_of self.new)) result (autoclear_cleared (S.view (storage_of self.old)).contents) }
+        ensures written { header.old.fields.autoclear ≢ 0 → Changes (S.view (storage_of self.old)) (S.view (storage_of self.new)) result autoclear_cleared }
         ensures idle { header.old.fields.autoclear ≡ 0 → IsOk result × (self.new ≡ self.old) }
         ensures ok { OnOk result (header.new ≡ with_fields header.old (without_autoclear header.old.fields)) }
         ensures err { OnErr result (header.new ≡ header.old) }

@@ -151,7 +151,7 @@ module _ {S : Type 0} where
     -- A write beside the bytes that stay. The storage was told before what it is for.
     pub behind_write : {T : Type 0} {v told v' : StorageView} {caches : MetadataCaches S} (result : Result T StorageError) (at : ℕ) (bytes : List ℕ) → told ≡ v
         → ((bits : ℕ) → TablesBehindHeader bits own l1 caches a → (o : ℕ) → IsBesideNumbers bits o → (o < at) ⊎ (at + length bytes ≤ o))
-        → Changes told v' result (overwritten told.contents at bytes) → Calls told v' result → KeepsTablesBehind own l1 v caches a own l1 v' caches a
+        → Changes told v' result (λ b. overwritten b at bytes) → Calls told v' result → KeepsTablesBehind own l1 v caches a own l1 v' caches a
     behind_write {v} {told} {v'} {caches} result at bytes same beside wrote calls = subst (λ (s : StorageView). KeepsTablesBehind own l1 s caches a own l1 v' caches a) same (record {
       kept = λ bits lies. lies;
       bytes = λ bits lies honest. call_keeps (IsBesideNumbers bits) told v' result calls honest
@@ -164,18 +164,18 @@ module _ {S : Type 0} where
 
     -- one behind cluster 0
     pub behind_wrote : {T : Type 0} {v told v' : StorageView} {caches : MetadataCaches S} (result : Result T StorageError) (at : ℕ) (bytes : List ℕ) → told ≡ v → ((bits : ℕ) → TablesBehindHeader bits own l1 caches a → 2 ^ bits ≤ at)
-        → Changes told v' result (overwritten told.contents at bytes) → Calls told v' result → KeepsTablesBehind own l1 v caches a own l1 v' caches a
+        → Changes told v' result (λ b. overwritten b at bytes) → Calls told v' result → KeepsTablesBehind own l1 v caches a own l1 v' caches a
     behind_wrote result at bytes same behind wrote calls = behind_write result at bytes same (λ bits lies o kept. inl (below_first bits o at kept.0 (behind bits lies))) wrote calls
 
     -- one to a place in a cluster that isn't cluster 0
     pub behind_placed : {T : Type 0} {v told v' : StorageView} {caches : MetadataCaches S} (result : Result T StorageError) (cluster : Option ℕ) (at : ℕ → ℕ) (bytes : List ℕ) → told ≡ v → IsSome cluster
-        → ((bits : ℕ) → TablesBehindHeader bits own l1 caches a → IfSome cluster (λ c. 2 ^ bits ≤ at c)) → IfSome cluster (λ c. Changes told v' result (overwritten told.contents (at c) bytes)) → Calls told v' result
+        → ((bits : ℕ) → TablesBehindHeader bits own l1 caches a → IfSome cluster (λ c. 2 ^ bits ≤ at c)) → IfSome cluster (λ c. Changes told v' result (λ b. overwritten b (at c) bytes)) → Calls told v' result
         → KeepsTablesBehind own l1 v caches a own l1 v' caches a
     behind_placed result (Some c) at bytes same some behind wrote calls = behind_wrote result (at c) bytes same behind wrote calls
     behind_placed result None at bytes same some behind wrote calls = absurd (let e : false ≡ true = some in cc)
 
     -- of the size
-    pub behind_size : {T : Type 0} {v told v' : StorageView} {caches : MetadataCaches S} (result : Result T StorageError) (h : HeaderFields) → told ≡ v → Changes told v' result (size_written h told.contents) → Calls told v' result
+    pub behind_size : {T : Type 0} {v told v' : StorageView} {caches : MetadataCaches S} (result : Result T StorageError) (h : HeaderFields) → told ≡ v → Changes told v' result (size_written h) → Calls told v' result
         → KeepsTablesBehind own l1 v caches a own l1 v' caches a
     behind_size result h same wrote calls = behind_write result 24 (to_be_bytes w64 h.size) same (λ bits lies o kept. beside o kept.1) wrote calls
       where
@@ -185,7 +185,7 @@ module _ {S : Type 0} where
         beside o (inr (inr above)) = inr (omega (arith, above))
 
     -- of the place of the L1 table
-    pub behind_pointer : {T : Type 0} {v told v' : StorageView} {caches : MetadataCaches S} (result : Result T StorageError) (h : HeaderFields) → told ≡ v → Changes told v' result (l1_table_pointer_written h told.contents) → Calls told v' result
+    pub behind_pointer : {T : Type 0} {v told v' : StorageView} {caches : MetadataCaches S} (result : Result T StorageError) (h : HeaderFields) → told ≡ v → Changes told v' result (l1_table_pointer_written h) → Calls told v' result
         → KeepsTablesBehind own l1 v caches a own l1 v' caches a
     unfolding bytes_of_numbers
     behind_pointer result h same wrote calls = behind_write result 36 _ same (λ bits lies o kept. beside o kept.1) wrote calls

@@ -15,7 +15,7 @@ use Rattle.qcow2_metadata.specs.declared.header.HeaderFields.{HeaderFields}
 use Rattle.qcow2_metadata.specs.Header.{HeaderView, cluster_size, count_width, header}
 use Rattle.qcow2_metadata.specs.HeaderWrite.{new_header, new_fields, HasNewNames}
 use Rattle.qcow2_disk.specs.Disk.{disk, disk_with}
-use Rattle.qcow2_disk.specs.Stops.{SafeThroughout, Checkpoint, checkpoint_at, checkpoint_with, IsAsked, StopOkEverywhere}
+use Rattle.qcow2_disk.specs.Stops.{SafeThroughout, Checkpoint, checkpoint_at, checkpoint_with, IsAsked, StopOkEverywhere, LeavesKept}
 use Rattle.qcow2_laws.specs.NewImages.{IsNewImage}
 use Rattle.qcow2_laws.specs.Opened.{HasNoLeaks}
 use Rattle.qcow2_laws.specs.Tops.{places_of, with_places}
@@ -90,7 +90,7 @@ opening_stops mode size old new unwritten since =
 
 -- ---- it is made larger and flushed, where no place is taken
 module _ (size : ℕ) (old new : StorageView) (known : Bytes) (unwritten : IsUnwritten 0 (byte_at old.contents)) (clean : known ≡ byte_at old.contents) (since : SafeThroughout old new known nothing_given (size ∷ [])) where
-  as_known : (backing : Bytes) (m : Checkpoint) → StopOkEverywhere backing m (byte_at old.contents) → StopOkEverywhere backing m known
+  as_known : (backing : Bytes) (m : Checkpoint) → LeavesKept backing m old → StopOkEverywhere backing m known
   as_known backing m ok = subst (StopOkEverywhere backing m) (sym clean) ok
 
   pub growing_stops : StopsCreating Mode.None size old new

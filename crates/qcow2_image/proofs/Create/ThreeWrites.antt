@@ -48,10 +48,10 @@ new_unwritten h b new none = record {
 pub stops_none : (n : ℕ) (v : StorageView) → v.is_honest → StaysCreating Mode.None n v v
 stops_none n v honest = record { honest = honest; moments = passes_none v _ }
 
-pub stops_write : {T : Type 0} (result : Result T StorageError) (n : ℕ) (start old new : StorageView) (changed : List ℕ) → StaysCreating Mode.None n start old → Calls old new result → Changes old new result changed → IsStopOfCreating Mode.None n (byte_at old.contents)
-    → IsStopOfCreating Mode.None n (byte_at changed) → StaysCreating Mode.None n start new
-stops_write result n start old new changed stops calls changes before after =
-    record { honest = calls.honest stops.honest; moments = passes_change (λ c. IsStopOfCreating Mode.None n (byte_at c)) changed stops.moments calls changes stops.honest before after }
+pub stops_write : {T : Type 0} (result : Result T StorageError) (n : ℕ) (start old new : StorageView) (change : List ℕ → List ℕ) → StaysCreating Mode.None n start old → Calls old new result → Changes old new result change → IsStopOfCreating Mode.None n (byte_at old.contents)
+    → IsStopOfCreating Mode.None n (byte_at (change old.contents)) → StaysCreating Mode.None n start new
+stops_write result n start old new change stops calls changes before after =
+    record { honest = calls.honest stops.honest; moments = passes_change (λ c. IsStopOfCreating Mode.None n (byte_at c)) change stops.moments calls changes stops.honest before after }
 
 module _ {S : Type 0} (view : S → StorageView) (v : HeaderView) (new : IsNewHeader v) (block : RefBlockView) (counts : CountsThree v.fields block) (t : EntryTableView) (names : NamesOne v.fields t)
     (start : S) (honest : (view start).is_honest) (empty : (view start).contents ≡ []) where
@@ -65,38 +65,38 @@ module _ {S : Type 0} (view : S → StorageView) (v : HeaderView) (new : IsNewHe
   blank i lt = ap (λ (l : List ℕ). byte_at l i) empty
 
   module _ (told s1 : S) (same : told ≡ start) (r1 : Result (Unit {0}) StorageError)
-      (wrote : IfSome block.cluster (λ c. Changes (view told) (view s1) r1 (overwritten (view told).contents (c * 2 ^ block.cluster_bits) block.bytes))) (called : Calls (view told) (view s1) r1) where
+      (wrote : IfSome block.cluster (λ c. Changes (view told) (view s1) r1 (λ b. overwritten b (c * 2 ^ block.cluster_bits) block.bytes))) (called : Calls (view told) (view s1) r1) where
     abbrev c1 : List ℕ
     c1 = overwritten (view start).contents (2 * cluster_size v.fields) block.bytes
 
-    writes_first : Changes (view start) (view s1) r1 c1
+    writes_first : Changes (view start) (view s1) r1 (λ b. overwritten b (2 * cluster_size h) block.bytes)
     writes_first =
-        subst (λ (s : S). Changes (view s) (view s1) r1 (overwritten (view s).contents (2 * cluster_size h) block.bytes)) same
-        (subst (λ n. Changes (view told) (view s1) r1 (overwritten (view told).contents (2 * 2 ^ n) block.bytes)) counts.bits
-        (subst (λ (k : Option ℕ). IfSome k (λ c. Changes (view told) (view s1) r1 (overwritten (view told).contents (c * 2 ^ block.cluster_bits) block.bytes))) counts.cluster_is wrote))
+        subst (λ (s : S). Changes (view s) (view s1) r1 (λ b. overwritten b (2 * cluster_size h) block.bytes)) same
+        (subst (λ n. Changes (view told) (view s1) r1 (λ b. overwritten b (2 * 2 ^ n) block.bytes)) counts.bits
+        (subst (λ (k : Option ℕ). IfSome k (λ c. Changes (view told) (view s1) r1 (λ b. overwritten b (c * 2 ^ block.cluster_bits) block.bytes))) counts.cluster_is wrote))
 
     blank_first : IsBlank c1
     blank_first = blank_still (view start).contents (2 * cluster_size h) block.bytes (omega (arith, large)) blank
 
     pub stops_first : StaysCreating Mode.None 0 (view start) (view s1)
     stops_first =
-        stops_write r1 0 (view start) (view start) (view s1) c1 (stops_none 0 (view start) honest) (subst (λ (s : S). Calls (view s) (view s1) r1) same called) writes_first (inl (no_image (view start).contents blank)) (inl (no_image c1 blank_first))
+        stops_write r1 0 (view start) (view start) (view s1) (λ b. overwritten b (2 * cluster_size h) block.bytes) (stops_none 0 (view start) honest) (subst (λ (s : S). Calls (view s) (view s1) r1) same called) writes_first (inl (no_image (view start).contents blank)) (inl (no_image c1 blank_first))
 
     module _ (x : Unit {0}) (done : r1 ≡ Ok x) (told' s2 : S) (same' : told' ≡ s1) (r2 : Result (Unit {0}) StorageError)
-        (wrote' : IfSome t.cluster (λ c. Changes (view told') (view s2) r2 (overwritten (view told').contents (c * 2 ^ t.cluster_bits) t.bytes))) (called' : Calls (view told') (view s2) r2) where
+        (wrote' : IfSome t.cluster (λ c. Changes (view told') (view s2) r2 (λ b. overwritten b (c * 2 ^ t.cluster_bits) t.bytes))) (called' : Calls (view told') (view s2) r2) where
       first_is : (view s1).contents ≡ c1
       first_is = rw done at (writes_first honest)
 
       abbrev c2 : List ℕ
       c2 = overwritten (view s1).contents (cluster_size v.fields) t.bytes
 
-      writes_second : Changes (view s1) (view s2) r2 c2
+      writes_second : Changes (view s1) (view s2) r2 (λ b. overwritten b (cluster_size h) t.bytes)
       writes_second =
           let once : 1 * cluster_size h ≡ cluster_size h = omega arith in
-          subst (λ (s : S). Changes (view s) (view s2) r2 (overwritten (view s).contents (cluster_size h) t.bytes)) same'
-          (subst (λ n. Changes (view told') (view s2) r2 (overwritten (view told').contents n t.bytes)) once
-          (subst (λ n. Changes (view told') (view s2) r2 (overwritten (view told').contents (1 * 2 ^ n) t.bytes)) names.bits
-          (subst (λ (k : Option ℕ). IfSome k (λ c. Changes (view told') (view s2) r2 (overwritten (view told').contents (c * 2 ^ t.cluster_bits) t.bytes))) names.cluster_is wrote')))
+          subst (λ (s : S). Changes (view s) (view s2) r2 (λ b. overwritten b (cluster_size h) t.bytes)) same'
+          (subst (λ n. Changes (view told') (view s2) r2 (λ b. overwritten b n t.bytes)) once
+          (subst (λ n. Changes (view told') (view s2) r2 (λ b. overwritten b (1 * 2 ^ n) t.bytes)) names.bits
+          (subst (λ (k : Option ℕ). IfSome k (λ c. Changes (view told') (view s2) r2 (λ b. overwritten b (c * 2 ^ t.cluster_bits) t.bytes))) names.cluster_is wrote')))
 
       blank_there : IsBlank (view s1).contents
       blank_there = subst IsBlank (sym first_is) blank_first
@@ -105,13 +105,13 @@ module _ {S : Type 0} (view : S → StorageView) (v : HeaderView) (new : IsNewHe
       blank_second = blank_still (view s1).contents (cluster_size h) t.bytes large blank_there
 
       pub stops_second : StaysCreating Mode.None 0 (view start) (view s2)
-      stops_second = stops_write r2 0 (view start) (view s1) (view s2) c2 stops_first (subst (λ (s : S). Calls (view s) (view s2) r2) same' called') writes_second (inl (no_image (view s1).contents blank_there)) (inl (no_image c2 blank_second))
+      stops_second = stops_write r2 0 (view start) (view s1) (view s2) (λ b. overwritten b (cluster_size h) t.bytes) stops_first (subst (λ (s : S). Calls (view s) (view s2) r2) same' called') writes_second (inl (no_image (view s1).contents blank_there)) (inl (no_image c2 blank_second))
 
       module _ (y : Unit {0}) (done' : r2 ≡ Ok y) (stands : (view told).is_honest → IfSome block.cluster (λ c. OnOk r1 (IsRefBlockAt (byte_at (view s1).contents) (c * 2 ^ block.cluster_bits) block)))
-          (told'' s3 : S) (same'' : told'' ≡ s2) (r3 : Result (Unit {0}) StorageError) (wrote'' : Changes (view told'') (view s3) r3 (header_written v (view told'').contents)) (called'' : Calls (view told'') (view s3) r3)
+          (told'' s3 : S) (same'' : told'' ≡ s2) (r3 : Result (Unit {0}) StorageError) (wrote'' : Changes (view told'') (view s3) r3 (header_written v)) (called'' : Calls (view told'') (view s3) r3)
           (there : IsHeaderIn v (header_written v (view told'').contents)) where
-        writes_third : Changes (view s2) (view s3) r3 (header_written v (view s2).contents)
-        writes_third = subst (λ (s : S). Changes (view s) (view s3) r3 (header_written v (view s).contents)) same'' wrote''
+        writes_third : Changes (view s2) (view s3) r3 (header_written v)
+        writes_third = subst (λ (s : S). Changes (view s) (view s3) r3 (header_written v)) same'' wrote''
 
         there_second : IsHeaderIn v (header_written v (view s2).contents)
         there_second = subst (λ (s : S). IsHeaderIn v (header_written v (view s).contents)) same'' there
@@ -131,7 +131,7 @@ module _ {S : Type 0} (view : S → StorageView) (v : HeaderView) (new : IsNewHe
         pub stops_third : StaysCreating Mode.None 0 (view start) (view s3)
         stops_third =
             let none : h.size ≡ 0 = ap (λ (w : HeaderView). w.fields.size) new.is in
-            stops_write r3 0 (view start) (view s2) (view s3) (header_written v (view s2).contents) stops_second (subst (λ (s : S). Calls (view s) (view s3) r3) same'' called'') writes_third (inl (no_image (view s2).contents (subst IsBlank (sym second_is) blank_second)))
+            stops_write r3 0 (view start) (view s2) (view s3) (header_written v) stops_second (subst (λ (s : S). Calls (view s) (view s3) r3) same'' called'') writes_third (inl (no_image (view s2).contents (subst IsBlank (sym second_is) blank_second)))
             (inr (inl (new_unwritten h (byte_at (header_written v (view s2).contents)) new_there none)))
 
         pub new_stands : (z : Unit {0}) → r3 ≡ Ok z → IsNewImage h (byte_at (view s3).contents)

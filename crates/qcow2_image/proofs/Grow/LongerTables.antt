@@ -51,11 +51,11 @@ same_run h t cluster c bits =
 
 -- what a write of a table that was given its cluster says
 pub table_write_as : {S : Type 0} (view : S → StorageView) (t : EntryTableView) (cluster bits : ℕ) (t' : EntryTableView) (result : Result (Unit {0}) StorageError) (asked after : S) → t' ≡ record t { cluster = Some cluster } → t.cluster_bits ≡ bits
-    → IfSome t'.cluster (λ k. Changes (view asked) (view after) result (overwritten (view asked).contents (k * 2 ^ t'.cluster_bits) t'.bytes))
-    → Changes (view asked) (view after) result (overwritten (view asked).contents (cluster * 2 ^ bits) t.bytes)
+    → IfSome t'.cluster (λ k. Changes (view asked) (view after) result (λ b. overwritten b (k * 2 ^ t'.cluster_bits) t'.bytes))
+    → Changes (view asked) (view after) result (λ b. overwritten b (cluster * 2 ^ bits) t.bytes)
 table_write_as view t cluster bits t' result asked after is same wrote =
-    subst (λ n. Changes (view asked) (view after) result (overwritten (view asked).contents (cluster * 2 ^ n) t.bytes)) same
-    (subst (λ (u : EntryTableView). IfSome u.cluster (λ k. Changes (view asked) (view after) result (overwritten (view asked).contents (k * 2 ^ u.cluster_bits) u.bytes))) is wrote)
+    subst (λ n. Changes (view asked) (view after) result (λ b. overwritten b (cluster * 2 ^ n) t.bytes)) same
+    (subst (λ (u : EntryTableView). IfSome u.cluster (λ k. Changes (view asked) (view after) result (λ b. overwritten b (k * 2 ^ u.cluster_bits) u.bytes))) is wrote)
 
 -- nothing names clusters that were taken for a table, and none is held for data
 pub run_free : {S F : Type 0} (view : S → StorageView) (p : Pending) (image : Qcow2 S F) (t : EntryTableView) (cluster : ℕ) → FileInvariant view (with_table p t cluster) image.file → t.cluster_bits ≡ image.file.header.fields.cluster_bits
@@ -82,9 +82,9 @@ module _ {S F : Type 0} (view : S → StorageView) (backing : F → BackingView)
   place = cluster * cluster_size image.file.header.fields
 
   module _ (asked after : S) (result : Result (Unit {0}) StorageError) (same : asked ≡ storage_of image.file.storage)
-      (wrote : Changes (view asked) (view after) result (overwritten (view asked).contents (cluster * 2 ^ image.file.header.fields.cluster_bits) t.bytes)) (called : Calls (view asked) (view after) result) where
-    writes : Changes (view_in view image.file) (view after) result (overwritten (view_in view image.file).contents place t.bytes)
-    writes = subst (λ (s : S). Changes (view s) (view after) result (overwritten (view s).contents place t.bytes)) same wrote
+      (wrote : Changes (view asked) (view after) result (λ b. overwritten b (cluster * 2 ^ image.file.header.fields.cluster_bits) t.bytes)) (called : Calls (view asked) (view after) result) where
+    writes : Changes (view_in view image.file) (view after) result (λ b. overwritten b place t.bytes)
+    writes = subst (λ (s : S). Changes (view s) (view after) result (λ b. overwritten b place t.bytes)) same wrote
 
     calls : Calls (view_in view image.file) (view after) result
     calls = subst (λ (s : S). Calls (view s) (view after) result) same called

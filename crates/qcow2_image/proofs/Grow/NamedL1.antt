@@ -113,14 +113,14 @@ module _ {S F : Type 0} (view : S → StorageView) (backing : F → BackingView)
       (λ k. let run = same_run h t cluster k ready.table.bits in let is = run_is k in omega (arith, run, is)) (λ k. refl) (λ k. refl) (λ k. refl)) safe_step
 
   -- whatever the storage answers
-  pub lasts_named : {T : Type 0} (result : Result T StorageError) (asked after : S) → asked ≡ storage_of old.file.storage → Changes (view asked) (view after) result (l1_table_pointer_written h' (view asked).contents)
+  pub lasts_named : {T : Type 0} (result : Result T StorageError) (asked after : S) → asked ≡ storage_of old.file.storage → Changes (view asked) (view after) result (l1_table_pointer_written h')
       → Calls (view asked) (view after) result → SafeThroughout (view_in view old.file) (view after) known nothing_given []
   lasts_named result asked after same wrote called =
       let new = byte_at (l1_table_pointer_written h' (view_in view old.file).contents) in
       step_safe_throughout {result = result} (view_in view old.file) (view after) (state_in view old.file q) (record (state_in view old.file q) { header = h'; pending = without_l1 p h; on_storage = new; known = known_of h old.file.caches new }) nothing_given []
-      (l1_table_pointer_written h' (view_in view old.file).contents)
+      (l1_table_pointer_written h')
       (subst (λ (s : S). Calls (view s) (view after) result) same called)
-      (subst (λ (s : S). Changes (view s) (view after) result (l1_table_pointer_written h' (view s).contents)) same wrote)
+      (subst (λ (s : S). Changes (view s) (view after) result (l1_table_pointer_written h')) same wrote)
       sound.file.honest refl refl (safe_step_at new (l1_pointer_writes view q old.file sound.file place (entry_count t) few near_64))
 
   module _ (storage : ImageStorage S) (is : (view (storage_of storage)).contents ≡ l1_table_pointer_written h' (view_in view old.file).contents) (honest : (view (storage_of storage)).is_honest) where
@@ -204,22 +204,22 @@ module _ {S F : Type 0} (view : S → StorageView) (backing : F → BackingView)
     header_now : header ≡ with_fields old.file.header h'
     header_now = is_header ∙ ap (λ n. with_fields old.file.header (with_l1_table old.file.header.fields n entries)) at ∙ ap (λ n. with_fields old.file.header (with_l1_table old.file.header.fields place n)) many
 
-    pub pointer_written_as : {T : Type 0} (result : Result T StorageError) (asked after : S) → Changes (view asked) (view after) result (l1_table_pointer_written header.fields (view asked).contents)
-        → Changes (view asked) (view after) result (l1_table_pointer_written h' (view asked).contents)
-    pointer_written_as result asked after wrote = subst (λ (v : HeaderView). Changes (view asked) (view after) result (l1_table_pointer_written v.fields (view asked).contents)) header_now wrote
+    pub pointer_written_as : {T : Type 0} (result : Result T StorageError) (asked after : S) → Changes (view asked) (view after) result (l1_table_pointer_written header.fields)
+        → Changes (view asked) (view after) result (l1_table_pointer_written h')
+    pointer_written_as result asked after wrote = subst (λ (v : HeaderView). Changes (view asked) (view after) result (l1_table_pointer_written v.fields)) header_now wrote
 
-    pub named_so : (result : Result (Unit {0}) StorageError) (storage : ImageStorage S) (asked : S) → asked ≡ storage_of old.file.storage → Changes (view asked) (view (storage_of storage)) result (l1_table_pointer_written header.fields (view asked).contents)
+    pub named_so : (result : Result (Unit {0}) StorageError) (storage : ImageStorage S) (asked : S) → asked ≡ storage_of old.file.storage → Changes (view asked) (view (storage_of storage)) result (l1_table_pointer_written header.fields)
         → Calls (view asked) (view (storage_of storage)) result → (x : Unit {0}) → result ≡ Ok x
         → NamesTable view backing p old (record old { file = record old.file { storage = storage; header = header }; l1_table = t }) out t cluster (Ok x)
     named_so result storage asked same wrote called x done =
         let wrote' = pointer_written_as result asked (storage_of storage) wrote in
         let calls : Calls (view_in view old.file) (view (storage_of storage)) result = subst (λ (s : S). Calls (view s) (view (storage_of storage)) result) same called in
-        let is = rw done at (subst (λ (s : S). Changes (view s) (view (storage_of storage)) result (l1_table_pointer_written h' (view s).contents)) same wrote' sound.file.honest) in
+        let is = rw done at (subst (λ (s : S). Changes (view s) (view (storage_of storage)) result (l1_table_pointer_written h')) same wrote' sound.file.honest) in
         subst (λ (v : HeaderView). NamesTable view backing p old (record old { file = record old.file { storage = storage; header = v }; l1_table = t }) out t cluster (Ok x)) (sym header_now)
         (named_file_step storage is (calls.honest sound.file.honest) (lasts_named result asked (storage_of storage) same wrote' called))
 
     -- the storage failed
-    pub named_interruption : {T : Type 0} (result : Result T StorageError) (storage : ImageStorage S) (asked : S) → asked ≡ storage_of old.file.storage → Changes (view asked) (view (storage_of storage)) result (l1_table_pointer_written header.fields (view asked).contents)
+    pub named_interruption : {T : Type 0} (result : Result T StorageError) (storage : ImageStorage S) (asked : S) → asked ≡ storage_of old.file.storage → Changes (view asked) (view (storage_of storage)) result (l1_table_pointer_written header.fields)
         → Calls (view asked) (view (storage_of storage)) result → (e : StorageError) → IsTrue old.file.caches.is_changed
         → NamesTable view backing p old (record old { file = record old.file { storage = storage; header = header } }) out t cluster (Err (of_storage e))
     named_interruption result storage asked same wrote called e noted = inr (record {

@@ -2,7 +2,7 @@
 use Rattle.std.proofs.Common.{◌≡◌, ℕ, ◌+◌, List, [], refl, sym, ap, ◌∙◌, subst, arith}
 use Rattle.std.specs.Prelude.{Option, Some, None, IfSome, Result, Ok, Err, IfOk, true}
 use Rattle.image_access.specs.Backing.{BackingView}
-use Rattle.image_access.specs.Moments.{StorageView}
+use Rattle.image_access.specs.Moments.{StorageView, IsLeftBy}
 use Rattle.qcow2_metadata.specs.Bytes.{Bytes, byte_at}
 use Rattle.qcow2_metadata.specs.Entries.{l1_entry, reftable_entry, count}
 use Rattle.qcow2_metadata.specs.Cover.{cover}
@@ -125,7 +125,7 @@ if_ok_any (Err e) all = tt
 -- ---- where the contents stay, while time goes on
 
 module _ {S : Type 0} (h : HeaderFields) (p : Pending) (caches : MetadataCaches S) (v v' : StorageView) where
-  pub stays_still : v'.is_honest → EachMomentSince v v' (λ c. c ≡ v'.contents) → v'.contents ≡ v.contents → CacheInvariant h p caches (byte_at v.contents) → UnseenCacheStep h p v caches v' caches
+  pub stays_still : v'.is_honest → EachMomentSince v v' (IsLeftBy v') → v'.contents ≡ v.contents → CacheInvariant h p caches (byte_at v.contents) → UnseenCacheStep h p v caches v' caches
   stays_still honest time same sound = record {
     honest = honest;
     sound = subst (λ c. CacheInvariant h p caches (byte_at c)) (sym same) sound;
@@ -135,7 +135,7 @@ module _ {S : Type 0} (h : HeaderFields) (p : Pending) (caches : MetadataCaches 
   }
 
 module _ {S F : Type 0} (view : S → StorageView) (backing : F → BackingView) (image : Qcow2 S F) (out : List (Option Prepared)) (p : Pending) (sound : ImageInvariant view backing p image out) where
-  pub still_moved : (storage' : ImageStorage S) → (view (storage_of storage')).is_honest → EachMomentSince (view_in view image.file) (view (storage_of storage')) (λ c. c ≡ (view (storage_of storage')).contents)
+  pub still_moved : (storage' : ImageStorage S) → (view (storage_of storage')).is_honest → EachMomentSince (view_in view image.file) (view (storage_of storage')) (IsLeftBy (view (storage_of storage')))
       → (view (storage_of storage')).contents ≡ (view_in view image.file).contents → UnseenStep view backing p p image (with_caches view backing image out p sound storage' image.file.caches) out
   still_moved storage' honest time same = caches_moved view backing image out p sound storage' image.file.caches
       (stays_still image.file.header.fields p image.file.caches (view_in view image.file) (view (storage_of storage')) honest time same sound.file.caches) (λ room. room) (λ table. refl)

@@ -93,7 +93,7 @@ module _ {S F : Type 0} (view : S → StorageView) (backing : F → BackingView)
       ])
 
   -- whatever the storage answers
-  pub kept_after : {T : Type 0} (result : Result T StorageError) (storage : ImageStorage S) → (file.header.fields.autoclear ≢ 0 → Changes (view_in view file) (view (storage_of storage)) result (autoclear_cleared (view_in view file).contents))
+  pub kept_after : {T : Type 0} (result : Result T StorageError) (storage : ImageStorage S) → (file.header.fields.autoclear ≢ 0 → Changes (view_in view file) (view (storage_of storage)) result autoclear_cleared)
       → (file.header.fields.autoclear ≡ 0 → storage ≡ file.storage) → Calls (view_in view file) (view (storage_of storage)) result
       → header (byte_at (autoclear_cleared (view_in view file).contents)) ≡ without_autoclear (header (byte_at (view_in view file).contents))
       → (file.header.fields.autoclear ≢ 0 → IsHeaderIn file.header (view_in view file).contents → IsHeaderIn (with_fields file.header (without_autoclear file.header.fields)) (autoclear_cleared (view_in view file).contents))
@@ -104,6 +104,6 @@ module _ {S F : Type 0} (view : S → StorageView) (backing : F → BackingView)
         let new = autoclear_cleared (view_in view file).contents in
         let writes = autoclear_beside h (order_of file.caches) p (l2_tables file.caches) (refblocks file.caches) (view_in view file).contents kept (with_fields file.header h') some fields (reads some new_tables.header) in
         let safe_step = header_is_written.same_size (state_in view file p) (byte_at new) (known_of h file.caches (byte_at new)) 0 kept.crash_invariant writes in
-        safe_throughout_write (view_in view file) (view (storage_of storage)) on_storage nothing_given [] new call (written some) new_tables.sound.honest
+        safe_throughout_write (view_in view file) (view (storage_of storage)) on_storage nothing_given [] autoclear_cleared call (written some) new_tables.sound.honest
         (λ backing m ok known_ok. safe_step.on_storage backing m ok (subst (StopOkEverywhere backing m) (sym (new_tables.clean on_storage)) ok))
   ]

@@ -2,7 +2,7 @@
 use Rattle.std.proofs.Common.{◌≡◌, ◌≢◌, ◌⊎◌, inl, inr, ℕ, ◌≤◌, Bool, true, false, List, Result, Ok, Err, refl, sym, ap, ◌∙◌, subst}
 use Rattle.std.specs.Prelude.{◌&&◌, ◌==◌, not, if◌then◌else◌, IsOk}
 use Rattle.std.proofs.lemmas.Bool.{cases_eq, ne_eqb}
-use Rattle.image_access.specs.Moments.{Calls, Changes, ContentsBecome, ContentsStay, EachMomentSince, HasCause, StorageView}
+use Rattle.image_access.specs.Moments.{Calls, Changes, ContentsBecome, ContentsStay, EachMomentSince, HasCause, StorageView, IsLeftBy}
 use Rattle.image_access.specs.declared.error.StorageError.{StorageError}
 use Rattle.image_access.specs.declared.error.StorageError.TheVariants.{Fault, Memory}
 use Rattle.image_access.proofs.EachMomentSince.{passes_if, passes_on, rose_since, whole_or_nothing}
@@ -37,10 +37,10 @@ pub opened_some : (contents : List ℕ) → (header (byte_at contents)).autoclea
 opened_some contents some = cleared_else (header (byte_at contents)).autoclear some (autoclear_cleared contents) contents
 
 -- ---- a storage that was read
-pub moments_read : (writable : Bool) (old new : StorageView) → EachMomentSince old new (λ c. c ≡ new.contents) → new.contents ≡ old.contents → OpensAtOnce writable old new
+pub moments_read : (writable : Bool) (old new : StorageView) → EachMomentSince old new (IsLeftBy new) → new.contents ≡ old.contents → OpensAtOnce writable old new
 moments_read writable old new time same = passes_if _ (λ c is. inl (is ∙ same)) time
 
-moments_then : (writable : Bool) (old mid new : StorageView) → EachMomentSince old mid (λ c. c ≡ old.contents) → mid.contents ≡ old.contents → OpensAtOnce writable mid new → OpensAtOnce writable old new
+moments_then : (writable : Bool) (old mid new : StorageView) → EachMomentSince old mid (IsLeftBy old) → mid.contents ≡ old.contents → OpensAtOnce writable mid new → OpensAtOnce writable old new
 moments_then writable old mid new time same more =
     passes_on (λ (c : List ℕ). (c ≡ old.contents) ⊎ (c ≡ opened_contents writable old.contents)) (passes_if _ (λ c is. inl is) time) more
     (λ c is. subst (λ (l : List ℕ). (c ≡ l) ⊎ (c ≡ opened_contents writable l)) same is)
@@ -57,11 +57,11 @@ refused_then writable old mid new e le same stands = elim stands [
 module _ {S : Type 0} (view : S → StorageView) where
   -- ---- a file that was read
   module _ (writable : Bool) (old mid : ImageFile S) (rest : mid ≡ record old { storage = mid.storage }) (honest : (view_in view old).is_honest → (view_in view mid).is_honest)
-      (same : ContentsStay (view_in view old) (view_in view mid)) (time : EachMomentSince (view_in view old) (view_in view mid) (λ c. c ≡ (view_in view mid).contents)) where
+      (same : ContentsStay (view_in view old) (view_in view mid)) (time : EachMomentSince (view_in view old) (view_in view mid) (IsLeftBy (view_in view mid))) where
     stands_still : (view_in view old).is_honest → IsHeaderIn old.header (view_in view old).contents → IsHeaderIn mid.header (view_in view mid).contents
     stands_still is there = subst (λ (v : HeaderView). IsHeaderIn v (view_in view mid).contents) (sym (ap (λ (f : ImageFile S). f.header) rest)) (subst (IsHeaderIn old.header) (sym (same is)) there)
 
-    time_still : (view_in view old).is_honest → EachMomentSince (view_in view old) (view_in view mid) (λ c. c ≡ (view_in view old).contents)
+    time_still : (view_in view old).is_honest → EachMomentSince (view_in view old) (view_in view mid) (IsLeftBy (view_in view old))
     time_still is = passes_if _ (λ c at. at ∙ same is) time
 
     -- and refused
@@ -97,7 +97,7 @@ module _ {S : Type 0} (view : S → StorageView) where
 
   -- ---- the autoclear bits are cleared, where one is set
   module _ (file : ImageFile S) (told after : ImageStorage S) (same : storage_of told ≡ storage_of file.storage) (result : Result (Unit {0}) StorageError) (calls : Calls (view (storage_of told)) (view (storage_of after)) result)
-      (written : file.header.fields.autoclear ≢ 0 → Changes (view (storage_of told)) (view (storage_of after)) result (autoclear_cleared (view (storage_of told)).contents))
+      (written : file.header.fields.autoclear ≢ 0 → Changes (view (storage_of told)) (view (storage_of after)) result autoclear_cleared)
       (idle : file.header.fields.autoclear ≡ 0 → IsOk result × (after ≡ told)) where
     abbrev was : StorageView
     was = view (storage_of told)

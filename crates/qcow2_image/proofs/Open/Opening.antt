@@ -2,7 +2,7 @@
 use Rattle.std.proofs.Common.{◌≡◌, ℕ, ◌*◌, ◌/◌, ◌^◌, [], List, Result, length, refl, sym, ap, ◌∙◌, subst, arith}
 use Rattle.std.specs.Prelude.{Some, None, false}
 use Rattle.image_access.specs.Backing.{BackingView}
-use Rattle.image_access.specs.Moments.{StorageView, EachMomentSince}
+use Rattle.image_access.specs.Moments.{StorageView, EachMomentSince, IsLeftBy}
 use Rattle.image_access.proofs.EachMomentSince.{passes_if}
 use Rattle.qcow2_metadata.specs.Bytes.{Bytes, byte_at}
 use Rattle.qcow2_metadata.specs.Header.{HeaderView, cluster_size}
@@ -38,7 +38,7 @@ pub named_still : (old new : HeaderView) (contents : List ℕ) → IsHeaderIn ol
 named_still old new contents is same = record { fields = refl; reads = is.reads; backing_name = same.0 ∙ is.backing_name; backing_format = same.1 ∙ is.backing_format; data_file_name = same.2 ∙ is.data_file_name }
 
 -- ---- what is kept
-pub kept_read : (old new : StorageView) → EachMomentSince old new (λ c. c ≡ new.contents) → new.contents ≡ old.contents → IsKeptSince old new
+pub kept_read : (old new : StorageView) → EachMomentSince old new (IsLeftBy new) → new.contents ≡ old.contents → IsKeptSince old new
 kept_read old new time same = keep_safe_throughout old new (byte_at old.contents) time same
 
 pub kept_then : (old mid new : StorageView) → IsKeptSince old mid → IsKeptSince mid new → IsKeptSince old new
@@ -97,7 +97,7 @@ module _ {S F : Type 0} (view : S → StorageView) (backing : F → BackingView)
 
   -- the storage is told what is written next
   pub told_new_tables : (p : Pending) (old file : ImageFile S) (told : ImageStorage S) → IsFresh view backing p old → file ≡ record old { storage = file.storage } → ((view_in view old).is_honest → (view_in view file).is_honest)
-      → ((view_in view old).is_honest → (view_in view file).contents ≡ (view_in view old).contents) → EachMomentSince (view_in view old) (view_in view file) (λ c. c ≡ (view_in view file).contents) → storage_of told ≡ storage_of file.storage
+      → ((view_in view old).is_honest → (view_in view file).contents ≡ (view_in view old).contents) → EachMomentSince (view_in view old) (view_in view file) (IsLeftBy (view_in view file)) → storage_of told ≡ storage_of file.storage
       → IsFresh view backing p (record file { storage = told }) × IsKeptSince (view_in view old) (view (storage_of told))
   told_new_tables p old file told new_tables rest honest same time is =
       let read = new_tables_then p old file new_tables rest honest same in (

@@ -6,7 +6,7 @@ use Rattle.std.proofs.lemmas.List.{length-replicate}
 use Rattle.std.proofs.lemmas.Nat.{div-add-mod', div-mul-add, mod_below, pow_pos}
 use Rattle.image_access.specs.Backing.{BackingView}
 use Rattle.image_access.specs.Contents.{overwritten}
-use Rattle.image_access.specs.Moments.{StorageView, EachMomentSince}
+use Rattle.image_access.specs.Moments.{StorageView, EachMomentSince, IsLeftBy}
 use Rattle.qcow2_metadata.specs.EntryTable.{entry_count}
 use Rattle.qcow2_metadata.specs.Bytes.{Bytes}
 use Rattle.qcow2_metadata.specs.declared.header.HeaderFields.{HeaderFields}
@@ -209,7 +209,7 @@ module _ {S F : Type 0} (view : S → StorageView) (backing : F → BackingView)
         omega (arith, first)
 
     -- zeros are written
-    module _ (storage : ImageStorage S) (honest : (view (storage_of storage)).is_honest) (time : EachMomentSince (view_in view mid.file) (view (storage_of storage)) (λ c. c ≡ (view (storage_of storage)).contents)) where
+    module _ (storage : ImageStorage S) (honest : (view (storage_of storage)).is_honest) (time : EachMomentSince (view_in view mid.file) (view (storage_of storage)) (IsLeftBy (view (storage_of storage)))) where
       pub zeros_put : (r : Result (Unit {0}) ImageError) → IsWriteOutcome r (view_in view mid.file).contents (overwritten (view_in view mid.file).contents p.offset (zeros_of p.length)) (view (storage_of storage)).contents
           → PutsPart view backing mid (record mid { file = record mid.file { storage = storage } }) (Some p ∷ out) 0 p 0 (zeros_of p.length) r
       zeros_put r is =

@@ -7,7 +7,7 @@ use Rattle.std.proofs.lemmas.List.{append_assoc, append-nil}
 use mathlib.Core.Path.{fun_ext}
 use Rattle.image_access.specs.Backing.{BackingView}
 use Rattle.image_access.specs.Contents.{overwritten}
-use Rattle.image_access.specs.Moments.{StorageView, EachMomentSince}
+use Rattle.image_access.specs.Moments.{StorageView, EachMomentSince, IsLeftBy}
 use Rattle.image_access.proofs.Bytes.{byte_at-overwritten}
 use Rattle.qcow2_metadata.specs.Bytes.{byte_at}
 use Rattle.qcow2_metadata.specs.declared.header.HeaderFields.{HeaderFields}
@@ -127,7 +127,7 @@ module _ {S F : Type 0} (view : S → StorageView) (backing : F → BackingView)
 
   -- bytes are written to a cluster that is held, and that no mapping has yet
   module _ (old : Qcow2 S F) (p : Pending) (sound : ImageInvariant view backing p old out) (cluster at : ℕ) (bytes : List ℕ) (own : IsInHeldCluster view backing p old out cluster at (length bytes))
-      (storage : ImageStorage S) (honest : (view (storage_of storage)).is_honest) (time : EachMomentSince (view_in view old.file) (view (storage_of storage)) (λ c. c ≡ (view (storage_of storage)).contents))
+      (storage : ImageStorage S) (honest : (view (storage_of storage)).is_honest) (time : EachMomentSince (view_in view old.file) (view (storage_of storage)) (IsLeftBy (view (storage_of storage))))
       (is : (view (storage_of storage)).contents ≡ overwritten (view_in view old.file).contents at bytes) where
     abbrev h : HeaderFields
     h = old.file.header.fields

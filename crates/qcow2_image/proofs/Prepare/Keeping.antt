@@ -7,7 +7,7 @@ use Rattle.std.proofs.lemmas.Nat.{div-add-mod', div-mul-add, mod-mul-add, mod_be
 use mathlib.Core.Path.{fun_ext}
 use Rattle.image_access.specs.Backing.{BackingView}
 use Rattle.image_access.specs.Contents.{overwritten}
-use Rattle.image_access.specs.Moments.{StorageView, EachMomentSince}
+use Rattle.image_access.specs.Moments.{StorageView, EachMomentSince, IsLeftBy}
 use Rattle.qcow2_metadata.specs.Bytes.{Bytes, byte_at}
 use Rattle.qcow2_metadata.specs.declared.header.HeaderFields.{HeaderFields}
 use Rattle.qcow2_metadata.specs.Header.{cluster_size, entries_per_cluster}
@@ -78,7 +78,7 @@ module _ {S F : Type 0} (view : S → StorageView) (backing : F → BackingView)
   no_table : (i : ℕ) → i < length bytes → named_for_tables h (contents_in view old.file) ((host + at + i) / size) ≡ 0
   no_table i lt = beside_tables s HostedKept (guest * size + at + i) (host + at + i) crash_invariant (hosts i lt)
 
-  module _ (storage : ImageStorage S) (honest : (view (storage_of storage)).is_honest) (time : EachMomentSince (view_in view old.file) (view (storage_of storage)) (λ c. c ≡ (view (storage_of storage)).contents))
+  module _ (storage : ImageStorage S) (honest : (view (storage_of storage)).is_honest) (time : EachMomentSince (view_in view old.file) (view (storage_of storage)) (IsLeftBy (view (storage_of storage))))
       (is : (view (storage_of storage)).contents ≡ overwritten (view_in view old.file).contents (host + at) bytes) where
     abbrev new : Qcow2 S F
     new = written view backing old out sound storage (host + at) bytes is

@@ -57,7 +57,7 @@ module _ {S F : Type 0} (view : S → StorageView) (backing : F → BackingView)
     (stored : IsStored view old) (at : ℕ) (some : 0 < p.new_tables at) where
   -- the bytes of a new table were written to its cluster: its cache refuses it where no table may go, or for a fault
   pub put_refused : (storage : ImageStorage S) (asked : S) (t t' u : L2TableView) (wrote : Result (Unit {0}) StorageError) (x : Unit {0}) (r : Result (Unit {0}) ImageError) → asked ≡ storage_of old.file.storage → t' ≡ record t { cluster = Some at } → u ≡ record t' { is_modified = false }
-      → IsTableOf old.file.header.fields t → length t.bytes ≡ 2 ^ t.cluster_bits → IfSome t'.cluster (λ k. Changes (view asked) (view (storage_of storage)) wrote (overwritten (view asked).contents (k * 2 ^ t'.cluster_bits) t'.bytes))
+      → IsTableOf old.file.header.fields t → length t.bytes ≡ 2 ^ t.cluster_bits → IfSome t'.cluster (λ k. Changes (view asked) (view (storage_of storage)) wrote (λ b. overwritten b (k * 2 ^ t'.cluster_bits) t'.bytes))
       → Calls (view asked) (view (storage_of storage)) wrote → wrote ≡ Ok x → PutRefusesBy (IsInUseOrFault old.file.caches) view storage old.file.caches (λ h. IsTableOf h u) u.cluster u.bytes u.is_modified r → IfErr r (IsInUseOrFault old.file.caches)
   put_refused storage asked t t' u wrote x r same is last format whole written called done refuses =
       let h = old.file.header.fields in

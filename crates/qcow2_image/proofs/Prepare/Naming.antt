@@ -7,7 +7,7 @@ use Rattle.std.specs.Prelude.{IfSome}
 use Rattle.std.specs.Int.{w64, to_be_bytes}
 use Rattle.image_access.specs.Backing.{BackingView}
 use Rattle.image_access.specs.Contents.{overwritten}
-use Rattle.image_access.specs.Moments.{StorageView, EachMomentSince, Changes, Calls}
+use Rattle.image_access.specs.Moments.{StorageView, EachMomentSince, Changes, Calls, IsLeftBy}
 use Rattle.image_access.specs.declared.error.StorageError.{StorageError}
 use Rattle.qcow2_metadata.specs.Bytes.{Bytes, byte_at}
 use Rattle.qcow2_metadata.specs.declared.header.HeaderFields.{HeaderFields}
@@ -333,7 +333,7 @@ module _ {S F : Type 0} (view : S → StorageView) (backing : F → BackingView)
     ready_named j r is_ready =
         still_ready h known on_storage (known_in view named.file) on_storage' r sound.file.caches.kept.kept.crash_invariant.same_top.l1 safe_step.sound.same_top.l1 own_stays (λ i. unseen.covers (cluster_of h r + i)) r.table is_ready
 
-    pub keeps_named : (view (storage_of storage)).is_honest → EachMomentSince (view_in view old.file) (view (storage_of storage)) (λ c. c ≡ (view (storage_of storage)).contents) → UnseenStep view backing q (replacing view p old index) old named out
+    pub keeps_named : (view (storage_of storage)).is_honest → EachMomentSince (view_in view old.file) (view (storage_of storage)) (IsLeftBy (view (storage_of storage))) → UnseenStep view backing q (replacing view p old index) old named out
     keeps_named honest time = record {
       sound = record {
         works = sound.works;
@@ -364,11 +364,11 @@ module _ {S F : Type 0} (view : S → StorageView) (backing : F → BackingView)
 
   -- ---- the write is done, or is not
   module _ (storage : ImageStorage S) (asked : S) (result : Result (Unit {0}) StorageError) (before : asked ≡ storage_of old.file.storage)
-      (wrote : IfSome t'.cluster (λ k. Changes (view asked) (view (storage_of storage)) result (overwritten (view asked).contents (k * 2 ^ t'.cluster_bits + 8 * index) (to_be_bytes w64 entry)))) (called : Calls (view asked) (view (storage_of storage)) result) where
+      (wrote : IfSome t'.cluster (λ k. Changes (view asked) (view (storage_of storage)) result (λ b. overwritten b (k * 2 ^ t'.cluster_bits + 8 * index) (to_be_bytes w64 entry)))) (called : Calls (view asked) (view (storage_of storage)) result) where
     calls : Calls (view_in view old.file) (view (storage_of storage)) result
     calls = subst (λ s. Calls (view s) (view (storage_of storage)) result) before called
 
-    changes : Changes (view_in view old.file) (view (storage_of storage)) result (overwritten (view_in view old.file).contents (h.l1_offset + 8 * index) (to_be_bytes w64 entry))
+    changes : Changes (view_in view old.file) (view (storage_of storage)) result (λ b. overwritten b (h.l1_offset + 8 * index) (to_be_bytes w64 entry))
     changes =
         let few : 0 < h.l1_entries = let e = sound.l1_table.count in omega (arith, within, e) in
         let aligned = sound.file.caches.kept.kept.crash_invariant.top.l1_aligned in
@@ -377,7 +377,7 @@ module _ {S F : Type 0} (view : S → StorageView) (backing : F → BackingView)
 
     pub safe_throughout_named : SafeThroughout (view_in view old.file) (view (storage_of storage)) known nothing_given []
     safe_throughout_named =
-        write_safe_throughout {result = result} (view_in view old.file) (view (storage_of storage)) (state_in view old.file q) nothing_given [] (overwritten (view_in view old.file).contents (h.l1_offset + 8 * index) (to_be_bytes w64 entry)) calls changes
+        write_safe_throughout {result = result} (view_in view old.file) (view (storage_of storage)) (state_in view old.file q) nothing_given [] (λ b. overwritten b (h.l1_offset + 8 * index) (to_be_bytes w64 entry)) calls changes
         sound.file.honest refl (λ is. (state_in view (record old.file { storage = storage }) (replacing view p old index), refl, safe_step storage is))
 
     pub named_so : (x : Unit {0}) → result ≡ Ok x → UnseenStep view backing q (replacing view p old index) old (record old { file = record old.file { storage = storage }; l1_table = t' }) out × NamesCopied view (record old { file = record old.file { storage = storage }; l1_table = t' }) index at

@@ -50,7 +50,7 @@ module _ {S F : Type 0} (view : S → StorageView) (backing : F → BackingView)
       }
 
   module _ (storage : ImageStorage S) (asked : S) (t t' : L2TableView) (result : Result (Unit {0}) StorageError) (same : asked ≡ storage_of old.file.storage) (is : t' ≡ record t { cluster = Some at }) (format : t.cluster_bits ≡ h.cluster_bits)
-      (long : length t.bytes ≡ 2 ^ t.cluster_bits) (wrote : IfSome t'.cluster (λ k. Changes (view asked) (view (storage_of storage)) result (overwritten (view asked).contents (k * 2 ^ t'.cluster_bits) t'.bytes)))
+      (long : length t.bytes ≡ 2 ^ t.cluster_bits) (wrote : IfSome t'.cluster (λ k. Changes (view asked) (view (storage_of storage)) result (λ b. overwritten b (k * 2 ^ t'.cluster_bits) t'.bytes)))
       (called : Calls (view asked) (view (storage_of storage)) result) where
     abbrev bytes : List ℕ
     bytes = t.bytes
@@ -58,10 +58,10 @@ module _ {S F : Type 0} (view : S → StorageView) (backing : F → BackingView)
     abbrev pub placed : Qcow2 S F
     placed = record old { file = record old.file { storage = storage } }
 
-    writes : Changes (view_in view old.file) (view (storage_of storage)) result (overwritten (view_in view old.file).contents (at * cluster_size h) bytes)
+    writes : Changes (view_in view old.file) (view (storage_of storage)) result (λ b. overwritten b (at * cluster_size h) bytes)
     writes =
-        subst (λ (s : S). Changes (view s) (view (storage_of storage)) result (overwritten (view s).contents (at * cluster_size h) bytes)) same
-        (subst (λ n. Changes (view asked) (view (storage_of storage)) result (overwritten (view asked).contents (at * 2 ^ n) bytes)) format (subst (λ (u : L2TableView). IfSome u.cluster (λ k. Changes (view asked) (view (storage_of storage)) result (overwritten (view asked).contents (k * 2 ^ u.cluster_bits) u.bytes))) is wrote))
+        subst (λ (s : S). Changes (view s) (view (storage_of storage)) result (λ b. overwritten b (at * cluster_size h) bytes)) same
+        (subst (λ n. Changes (view asked) (view (storage_of storage)) result (λ b. overwritten b (at * 2 ^ n) bytes)) format (subst (λ (u : L2TableView). IfSome u.cluster (λ k. Changes (view asked) (view (storage_of storage)) result (λ b. overwritten b (k * 2 ^ u.cluster_bits) u.bytes))) is wrote))
 
     calls : Calls (view_in view old.file) (view (storage_of storage)) result
     calls = subst (λ (s : S). Calls (view s) (view (storage_of storage)) result) same called

@@ -3,7 +3,7 @@ use Rattle.std.proofs.Common.{◌≡◌, ◌⊎◌, inl, inr, ℕ, ◌-◌, ◌<
 use Rattle.std.specs.Prelude.{IfErr, IsTrue, Option, Result, Ok, Err}
 use Rattle.std.proofs.lemmas.Bool.{cond-false, lt-leb}
 use Rattle.image_access.specs.Backing.{BackingView}
-use Rattle.image_access.specs.Moments.{StorageView, EachMomentSince}
+use Rattle.image_access.specs.Moments.{StorageView, EachMomentSince, IsLeftBy}
 use Rattle.image_access.specs.declared.storage.PreallocateMode.{PreallocateMode}
 use Rattle.image_access.proofs.EachMomentSince.{passes_if, passes_on}
 use Rattle.qcow2_metadata.specs.Bytes.{byte_at}
@@ -238,7 +238,7 @@ module _ {S F : Type 0} (view : S → StorageView) (backing : F → BackingView)
         grows_sized (Ok x) marked marks cause fault writes = done marked marks writes
         grows_sized (Err e) marked marks cause fault writes = undone e marked cause (fault cause) writes
 
-        pub last_sized : (marked : Bool) → ((view_in view filled.file).is_honest → EachMomentSince (view_in view filled.file) (view_in view new.file) (λ c. c ≡ (view_in view new.file).contents)) → (out : List (Option Prepared)) → ImageInvariant view backing (pending_in view backing old out) old out
+        pub last_sized : (marked : Bool) → ((view_in view filled.file).is_honest → EachMomentSince (view_in view filled.file) (view_in view new.file) (IsLeftBy (view_in view new.file))) → (out : List (Option Prepared)) → ImageInvariant view backing (pending_in view backing old out) old out
             → WritesSizeLast view backing old (record new { is_failed = marked })
         last_sized marked time out sound =
             passes_on (λ c. ((header (byte_at c)).size ≡ size_of old) ⊎ (c ≡ (view_in view new.file).contents))

@@ -5,7 +5,7 @@ use Rattle.std.specs.Option.{option_or}
 use Rattle.std.proofs.lemmas.Bool.{cases_lt, cond-true, cond-false, eq-eqb, ne_eqb, lt-ltb}
 use Rattle.std.proofs.lemmas.Nat.{pow_pos}
 use Rattle.image_access.specs.Backing.{BackingView}
-use Rattle.image_access.specs.Moments.{StorageView, EachMomentSince}
+use Rattle.image_access.specs.Moments.{IsLeftBy, StorageView, EachMomentSince}
 use Rattle.image_access.proofs.EachMomentSince.{passes_if, passes_on}
 use Rattle.qcow2_metadata.specs.Bytes.{byte_at}
 use Rattle.qcow2_metadata.specs.Guest.{Value, known_byte}
@@ -394,7 +394,7 @@ module _ {S F : Type 0} (view : S → StorageView) (backing : F → BackingView)
   uncovered_honest old mid size at out tail = tail.0.sound.file.honest
 
   pub size_is_last : (old mid new : Qcow2 S F) (size at : ℕ) (r : Option ImageError) → ((out : List (Option Prepared)) → ImageInvariant view backing (pending_in view backing old out) old out → UncoversTail view backing old mid size at r out)
-      → EachMomentSince (view_in view mid.file) (view_in view new.file) (λ c. c ≡ (view_in view new.file).contents) → (out : List (Option Prepared)) → ImageInvariant view backing (pending_in view backing old out) old out → WritesSizeLast view backing old new
+      → EachMomentSince (view_in view mid.file) (view_in view new.file) (IsLeftBy (view_in view new.file)) → (out : List (Option Prepared)) → ImageInvariant view backing (pending_in view backing old out) old out → WritesSizeLast view backing old new
   size_is_last old mid new size at r tail time out sound =
       let works = tail_works old mid size at r out (tail out sound) in
       let v = abstract_of view backing old out in

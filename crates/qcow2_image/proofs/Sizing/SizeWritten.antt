@@ -4,7 +4,7 @@ use Rattle.std.specs.Prelude.{IfSome, IsTrue, slice_get}
 use Rattle.std.proofs.lemmas.Bool.{cond-true, cond-false}
 use mathlib.Core.Path.{fun_ext}
 use Rattle.image_access.specs.Backing.{BackingView}
-use Rattle.image_access.specs.Moments.{StorageView, Calls, Changes, EachMomentSince}
+use Rattle.image_access.specs.Moments.{StorageView, Calls, Changes, EachMomentSince, IsLeftBy}
 use Rattle.image_access.specs.declared.error.StorageError.{StorageError}
 use Rattle.image_access.specs.declared.error.StorageError.TheVariants as SE
 use Rattle.qcow2_metadata.specs.Bytes.{Bytes, byte_at}
@@ -101,8 +101,11 @@ module _ {S F : Type 0} (view : S → StorageView) (backing : F → BackingView)
   abbrev known : Bytes
   known = known_in view old.file
 
+  abbrev change : List ℕ → List ℕ
+  change = size_written (with_size old.file.header.fields size)
+
   abbrev changed : List ℕ
-  changed = size_written (with_size old.file.header.fields size) (view_in view old.file).contents
+  changed = change (view_in view old.file).contents
 
   -- what is there where it is written
   safe_step_at : (b : Bytes) → WritesHeader h (resized_places h size h.autoclear) on_storage known b (known_of h old.file.caches b)
@@ -110,14 +113,14 @@ module _ {S F : Type 0} (view : S → StorageView) (backing : F → BackingView)
   safe_step_at b writes = header_is_written.size (state_in view old.file p) b (known_of h old.file.caches b) size h.autoclear sound.file.caches.kept.kept.crash_invariant writes
 
   -- whatever the storage answers
-  pub lasts_resized : {T : Type 0} (result : Result T StorageError) (asked after : S) → asked ≡ storage_of old.file.storage → Changes (view asked) (view after) result (size_written (with_size old.file.header.fields size) (view asked).contents)
+  pub lasts_resized : {T : Type 0} (result : Result T StorageError) (asked after : S) → asked ≡ storage_of old.file.storage → Changes (view asked) (view after) result (size_written (with_size old.file.header.fields size))
       → Calls (view asked) (view after) result → SafeThroughout (view_in view old.file) (view after) known nothing_given (size ∷ [])
   lasts_resized result asked after same wrote called =
       let writes = size_writes view p old.file sound.file size fits in
       step_safe_throughout {result = result} (view_in view old.file) (view after) (state_in view old.file p) (record (state_in view old.file p) { header = with_size h size; on_storage = byte_at changed; known = known_of h old.file.caches (byte_at changed) })
-      nothing_given (size ∷ []) changed
+      nothing_given (size ∷ []) change
       (subst (λ (s : S). Calls (view s) (view after) result) same called)
-      (subst (λ (s : S). Changes (view s) (view after) result (size_written (with_size old.file.header.fields size) (view s).contents)) same wrote)
+      (subst (λ (s : S). Changes (view s) (view after) result (size_written (with_size old.file.header.fields size))) same wrote)
       sound.file.honest refl refl (safe_step_at (byte_at changed) writes)
 
   module _ (storage : ImageStorage S) (is : (view (storage_of storage)).contents ≡ size_written (with_size old.file.header.fields size) (view_in view old.file).contents) (honest : (view (storage_of storage)).is_honest) where
@@ -273,18 +276,18 @@ module _ {S F : Type 0} (view : S → StorageView) (backing : F → BackingView)
       };
     }
 
-    unsized_stays : EachMomentSince (view_in view old.file) (view (storage_of storage)) (λ c. c ≡ (view (storage_of storage)).contents) → (view (storage_of storage)).contents ≡ (view_in view old.file).contents → UnseenCall view backing old unsized out
+    unsized_stays : EachMomentSince (view_in view old.file) (view (storage_of storage)) (IsLeftBy (view (storage_of storage))) → (view (storage_of storage)).contents ≡ (view_in view old.file).contents → UnseenCall view backing old unsized out
     unsized_stays time same =
         stays_kept view backing out old unsized sound (listed view backing out old unsized (λ s. record { keeps = still_moved view backing old out q s storage honest time same; list = refl }) sound)
 
   -- as the storage's call says it
   module _ (storage : ImageStorage S) (result : Result (Unit {0}) StorageError) (asked : S) (same : asked ≡ storage_of old.file.storage)
-      (wrote : Changes (view asked) (view (storage_of storage)) result (size_written (with_size old.file.header.fields size) (view asked).contents)) (called : Calls (view asked) (view (storage_of storage)) result) where
+      (wrote : Changes (view asked) (view (storage_of storage)) result (size_written (with_size old.file.header.fields size))) (called : Calls (view asked) (view (storage_of storage)) result) where
     calls : Calls (view_in view old.file) (view (storage_of storage)) result
     calls = subst (λ (s : S). Calls (view s) (view (storage_of storage)) result) same called
 
-    changes : Changes (view_in view old.file) (view (storage_of storage)) result (size_written (with_size old.file.header.fields size) (view_in view old.file).contents)
-    changes = subst (λ (s : S). Changes (view s) (view (storage_of storage)) result (size_written (with_size old.file.header.fields size) (view s).contents)) same wrote
+    changes : Changes (view_in view old.file) (view (storage_of storage)) result (size_written (with_size old.file.header.fields size))
+    changes = subst (λ (s : S). Changes (view s) (view (storage_of storage)) result (size_written (with_size old.file.header.fields size))) same wrote
 
     since : SafeThroughout (view_in view old.file) (view (storage_of storage)) (known_in view old.file) nothing_given (size ∷ [])
     since = lasts_resized view backing out q old sound size fits result asked (storage_of storage) same wrote called
@@ -302,14 +305,14 @@ module _ {S F : Type 0} (view : S → StorageView) (backing : F → BackingView)
 
 -- ---- while no mapping is out, whatever is pending
 module _ {S F : Type 0} (view : S → StorageView) (backing : F → BackingView) (p : Pending) (old : Qcow2 S F) (sound : ImageInvariant view backing p old []) (size : ℕ) (fits : size < 2 ^ 64) (storage : ImageStorage S) (result : Result (Unit {0}) StorageError) (asked : S)
-    (same : asked ≡ storage_of old.file.storage) (wrote : Changes (view asked) (view (storage_of storage)) result (size_written (with_size old.file.header.fields size) (view asked).contents)) (called : Calls (view asked) (view (storage_of storage)) result) where
+    (same : asked ≡ storage_of old.file.storage) (wrote : Changes (view asked) (view (storage_of storage)) result (size_written (with_size old.file.header.fields size))) (called : Calls (view asked) (view (storage_of storage)) result) where
   all_since : SafeThroughout (view_in view old.file) (view (storage_of storage)) (known_in view old.file) nothing_given (size ∷ [])
   all_since = lasts_resized view backing [] p old sound size fits result asked (storage_of storage) same wrote called
 
   pub resizes_so : (x : Unit {0}) → result ≡ Ok x → (new : Qcow2 S F) → new ≡ record old { file = record old.file { storage = storage; header = with_fields old.file.header (with_size old.file.header.fields size) } } → Resizes view backing p old new size (Ok x)
   resizes_so x done new is =
       let calls : Calls (view_in view old.file) (view (storage_of storage)) result = subst (λ (s : S). Calls (view s) (view (storage_of storage)) result) same called in
-      let contents = rw done at (subst (λ (s : S). Changes (view s) (view (storage_of storage)) result (size_written (with_size old.file.header.fields size) (view s).contents)) same wrote sound.file.honest) in
+      let contents = rw done at (subst (λ (s : S). Changes (view s) (view (storage_of storage)) result (size_written (with_size old.file.header.fields size))) same wrote sound.file.honest) in
       let honest = calls.honest sound.file.honest in
       let final = sized view backing [] p old sound size fits storage contents honest in
       let extends : Extends view backing p p old (sized view backing [] p old sound size fits storage contents honest) (size ∷ []) =

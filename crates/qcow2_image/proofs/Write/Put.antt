@@ -8,7 +8,7 @@ use Rattle.std.proofs.lemmas.Option.{slice_get_within}
 use mathlib.Core.Path.{fun_ext}
 use Rattle.image_access.specs.Backing.{BackingView}
 use Rattle.image_access.specs.Contents.{overwritten}
-use Rattle.image_access.specs.Moments.{StorageView, EachMomentSince}
+use Rattle.image_access.specs.Moments.{StorageView, EachMomentSince, IsLeftBy}
 use Rattle.qcow2_metadata.specs.Bytes.{byte_at, is_within, laid_over}
 use Rattle.qcow2_metadata.specs.declared.header.HeaderFields.{HeaderFields}
 use Rattle.qcow2_metadata.specs.Header.{cluster_size}
@@ -80,7 +80,7 @@ given_as d m at bytes i lt (Some (New taken old_data)) is = tt
 
 module _ {S F : Type 0} (view : S → StorageView) (backing : F → BackingView) (old : Qcow2 S F) (out : List (Option Prepared)) (sound : ImageInvariant view backing (pending_in view backing old out) old out)
     (storage : ImageStorage S) (bytes : List ℕ) (k : ℕ) (q : Prepared) (at : ℕ) (is : (view (storage_of storage)).contents ≡ overwritten (view_in view old.file).contents (q.offset + at) bytes)
-    (honest : (view (storage_of storage)).is_honest) (time : EachMomentSince (view_in view old.file) (view (storage_of storage)) (λ c. c ≡ (view (storage_of storage)).contents))
+    (honest : (view (storage_of storage)).is_honest) (time : EachMomentSince (view_in view old.file) (view (storage_of storage)) (IsLeftBy (view (storage_of storage))))
     (placed : slice_get out k ≡ Some (Some q)) (fits : at + length bytes ≤ q.length) (in_place : q.table ≡ None → AreDataAt old.file.header.fields (known_in view old.file) true (q.guest + at) (q.offset + at) (length bytes)) where
   abbrev new : Qcow2 S F
   new = written view backing old out sound storage (q.offset + at) bytes is

@@ -3,7 +3,7 @@ use Rattle.std.proofs.Common.{◌≡◌, ⊎_elim, inl, inr, ℕ, ◌+◌, ◌/�
 use Rattle.std.specs.Prelude.{Option, Some, None, Result, Ok, Err, slice_get}
 use Rattle.image_access.specs.Backing.{BackingView}
 use Rattle.image_access.specs.Contents.{overwritten}
-use Rattle.image_access.specs.Moments.{StorageView, EachMomentSince}
+use Rattle.image_access.specs.Moments.{StorageView, EachMomentSince, IsLeftBy}
 use Rattle.qcow2_metadata.specs.Bytes.{Bytes}
 use Rattle.qcow2_metadata.specs.declared.header.HeaderFields.{HeaderFields}
 use Rattle.qcow2_metadata.specs.Header.{cluster_size}
@@ -113,7 +113,7 @@ module _ {S F : Type 0} (view : S → StorageView) (backing : F → BackingView)
   -- the write itself
   module _ (old : Qcow2 S F) (sound : ImageInvariant view backing (pending_in view backing old out) old out) (fits : at + length bytes ≤ p.length)
       (in_place : p.table ≡ None → AreDataAt old.file.header.fields (known_in view old.file) true (p.guest + at) (p.offset + at) (length bytes)) where
-    module _ (storage : ImageStorage S) (honest : (view (storage_of storage)).is_honest) (time : EachMomentSince (view_in view old.file) (view (storage_of storage)) (λ c. c ≡ (view (storage_of storage)).contents)) where
+    module _ (storage : ImageStorage S) (honest : (view (storage_of storage)).is_honest) (time : EachMomentSince (view_in view old.file) (view (storage_of storage)) (IsLeftBy (view (storage_of storage)))) where
       abbrev new : Qcow2 S F
       new = record old { file = record old.file { storage = storage } }
 

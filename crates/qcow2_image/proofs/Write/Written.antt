@@ -4,7 +4,7 @@ use Rattle.std.specs.Prelude.{Option, IfSome}
 use Rattle.std.proofs.lemmas.Bool.{cases_lt}
 use Rattle.image_access.specs.Backing.{BackingView}
 use Rattle.image_access.specs.Contents.{overwritten}
-use Rattle.image_access.specs.Moments.{StorageView, EachMomentSince}
+use Rattle.image_access.specs.Moments.{StorageView, EachMomentSince, IsLeftBy}
 use Rattle.image_access.proofs.Bytes.{byte_at-overwritten}
 use Rattle.qcow2_metadata.specs.Bytes.{Bytes, byte_at}
 use Rattle.qcow2_metadata.specs.declared.header.HeaderFields.{HeaderFields}
@@ -86,7 +86,7 @@ module _ {S F : Type 0} {p : Pending} (view : S → StorageView) (backing : F �
     }
 
     -- a step that keeps what stands for each guest cluster
-    module _ (given : Bytes → List GivenBytes) (honest : (view (storage_of storage)).is_honest) (time : EachMomentSince (view_in view old.file) (view (storage_of storage)) (λ c. c ≡ (view (storage_of storage)).contents))
+    module _ (given : Bytes → List GivenBytes) (honest : (view (storage_of storage)).is_honest) (time : EachMomentSince (view_in view old.file) (view (storage_of storage)) (IsLeftBy (view (storage_of storage))))
         (safe_step : SafeStep (state_in view old.file p) (state_in view written.file p) given [])
         (covers : SameCovers h (known_in view old.file) (known_in view written.file)) where
       reftable_written : (a : Option Allocator) → IfSome a (IsAllocatorOf view old.file) → IfSome a (IsAllocatorOf view written.file)
@@ -131,7 +131,7 @@ module _ {S F : Type 0} {p : Pending} (view : S → StorageView) (backing : F �
 pub steps_written : {S F : Type 0} (view : S → StorageView) (backing : F → BackingView) (old : Qcow2 S F) (out : List (Option Prepared)) (sound : ImageInvariant view backing (pending_in view backing old out) old out)
     (storage : ImageStorage S) (host : ℕ) (bytes : List ℕ) (is : (view (storage_of storage)).contents ≡ overwritten (view_in view old.file).contents host bytes)
     (free : (i : ℕ) → i < length bytes → named_for_tables old.file.header.fields (contents_in view old.file) ((host + i) / cluster_size old.file.header.fields) ≡ 0)
-    (given : Bytes → List GivenBytes) (honest : (view (storage_of storage)).is_honest) (time : EachMomentSince (view_in view old.file) (view (storage_of storage)) (λ c. c ≡ (view (storage_of storage)).contents))
+    (given : Bytes → List GivenBytes) (honest : (view (storage_of storage)).is_honest) (time : EachMomentSince (view_in view old.file) (view (storage_of storage)) (IsLeftBy (view (storage_of storage))))
     (safe_step : SafeStep (state_in view old.file (pending_in view backing old out)) (state_in view (written view backing old out sound storage host bytes is).file (pending_in view backing old out)) given [])
     (covers : SameCovers old.file.header.fields (known_in view old.file) (known_in view (written view backing old out sound storage host bytes is).file))
     → Steps view backing old (written view backing old out sound storage host bytes is) out out given (pending_in view backing old out)

@@ -18,7 +18,7 @@ returns-in_err-place_reftable-clause-sound g c = λ p first n clusters a sound m
     let view = g.S.Storage.view in
     let old = c.args.file.now in
     let asked = storage_of c.will_write.new.self in
-    let written = subst (λ (x : EntryTableView). IfSome x.cluster (λ k. Changes (view asked) (view (storage_of c.place_reftable.new.self)) c.place_reftable.result (overwritten (view asked).contents (k * 2 ^ x.cluster_bits) x.bytes))) c.set_cluster.ensures c.place_reftable.ensures.written in
+    let written = subst (λ (x : EntryTableView). IfSome x.cluster (λ k. Changes (view asked) (view (storage_of c.place_reftable.new.self)) c.place_reftable.result (λ b. overwritten b (k * 2 ^ x.cluster_bits) x.bytes))) c.set_cluster.ensures c.place_reftable.ensures.written in
     handed_on (WritesTable view (with_run p old.header.fields a.reftable first n) old a (record old { storage = c.place_reftable.new.self }) c.args.cluster clusters c.args.table.now.bytes) c.from_residual.result (of_storage c.in_err-place_reftable.field-0.0) c.from_residual.ensures
     (table_refused view p first n old a sound may c.args.cluster clusters low high c.args.table.now t_bits long asked c.place_reftable.new.self c.place_reftable.result c.will_write.ensures.storage written c.place_reftable.ensures.calls c.in_err-place_reftable.field-0.0)
 
@@ -27,7 +27,7 @@ returns-clause-sound g c = λ p first n clusters a sound may low high t_bits lon
     let view = g.S.Storage.view in
     let old = c.args.file.now in
     let asked = storage_of c.will_write.new.self in
-    let written = subst (λ (x : EntryTableView). IfSome x.cluster (λ k. Changes (view asked) (view (storage_of c.place_reftable.new.self)) c.place_reftable.result (overwritten (view asked).contents (k * 2 ^ x.cluster_bits) x.bytes))) c.set_cluster.ensures c.place_reftable.ensures.written in
+    let written = subst (λ (x : EntryTableView). IfSome x.cluster (λ k. Changes (view asked) (view (storage_of c.place_reftable.new.self)) c.place_reftable.result (λ b. overwritten b (k * 2 ^ x.cluster_bits) x.bytes))) c.set_cluster.ensures c.place_reftable.ensures.written in
     table_stands view p first n old a sound may c.args.cluster clusters low high c.args.table.now t_bits long asked c.place_reftable.new.self c.place_reftable.result c.will_write.ensures.storage written c.place_reftable.ensures.calls c.in_ok-place_reftable.field-0 c.in_ok-place_reftable.was
 
 pub returns-in_err-place_reftable-clause-header_cluster : goal.returns-in_err-place_reftable-clause-header_cluster

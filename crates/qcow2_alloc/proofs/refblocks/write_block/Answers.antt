@@ -49,7 +49,7 @@ module _ {S : Type 0} (view : S → StorageView) (d : Bool) (p : Pending) (range
 
   module _ (asked : S) (after : ImageStorage S) (block : RefBlockView) (result : Result (Unit {0}) StorageError) (first : BlocksMayGo (order_of caches) (l2_tables caches)) (place : HasPlaceFor d h t.reftable range at)
       (fits : IsBlockOf h block) (is : block.cluster ≡ Some at) (whole : length block.bytes ≡ 2 ^ block.cluster_bits) (same : asked ≡ storage_of storage)
-      (written : IfSome block.cluster (λ k. Changes (view asked) (view (storage_of after)) result (overwritten (view asked).contents (k * 2 ^ block.cluster_bits) block.bytes))) (calls : Calls (view asked) (view (storage_of after)) result) where
+      (written : IfSome block.cluster (λ k. Changes (view asked) (view (storage_of after)) result (λ b. overwritten b (k * 2 ^ block.cluster_bits) block.bytes))) (calls : Calls (view asked) (view (storage_of after)) result) where
     abbrev done : ImageFile S
     done = record flushed { storage = after }
 
@@ -62,7 +62,7 @@ module _ {S : Type 0} (view : S → StorageView) (d : Bool) (p : Pending) (range
     long : length block.bytes ≡ cluster_size h
     long = whole ∙ ap (λ n. 2 ^ n) fits.bits
 
-    writes : Changes (view (storage_of storage)) (view (storage_of after)) result (overwritten (view (storage_of storage)).contents (at * cluster_size h) block.bytes)
+    writes : Changes (view (storage_of storage)) (view (storage_of after)) result (λ b. overwritten b (at * cluster_size h) block.bytes)
     writes = write_as view (storage_of storage) asked (storage_of after) at block.cluster block.cluster_bits h.cluster_bits block.bytes result same is fits.bits written
 
     calls_now : Calls (view (storage_of storage)) (view (storage_of after)) result

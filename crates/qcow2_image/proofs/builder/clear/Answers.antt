@@ -16,7 +16,7 @@ returns-in_err-clear-clause-time g c = λ honest.
     let new = storage_of c.clear.new.self in
     let still = c.size.ensures.calls.honest honest in
     asked_first c.size.result c.clear.result (λ t le. g.S.Storage.counts_now old t honest le) (λ t le. g.S.Storage.counts_now mid t still le) c.size.ensures.calls (c.size.ensures.same honest)
-    (subst (λ s. Calls (view s) (view new) c.clear.result) c.will_write.ensures.storage c.clear.ensures.calls) (subst (λ s. Changes (view s) (view new) c.clear.result (resized (view s).contents 0)) c.will_write.ensures.storage c.clear.ensures.cleared) still
+    (subst (λ s. Calls (view s) (view new) c.clear.result) c.will_write.ensures.storage c.clear.ensures.calls) (subst (λ s. Changes (view s) (view new) c.clear.result (λ b. resized b 0)) c.will_write.ensures.storage c.clear.ensures.cleared) still
 
 pub returns-clause-time : goal.returns-clause-time
 returns-clause-time g c = λ honest.
@@ -26,7 +26,7 @@ returns-clause-time g c = λ honest.
     let new = storage_of c.clear.new.self in
     let still = c.size.ensures.calls.honest honest in
     asked_first c.size.result c.clear.result (λ t le. g.S.Storage.counts_now old t honest le) (λ t le. g.S.Storage.counts_now mid t still le) c.size.ensures.calls (c.size.ensures.same honest)
-    (subst (λ s. Calls (view s) (view new) c.clear.result) c.will_write.ensures.storage c.clear.ensures.calls) (subst (λ s. Changes (view s) (view new) c.clear.result (resized (view s).contents 0)) c.will_write.ensures.storage c.clear.ensures.cleared) still
+    (subst (λ s. Calls (view s) (view new) c.clear.result) c.will_write.ensures.storage c.clear.ensures.calls) (subst (λ s. Changes (view s) (view new) c.clear.result (λ b. resized b 0)) c.will_write.ensures.storage c.clear.ensures.cleared) still
 
 pub returns-clause-cleared : goal.returns-clause-cleared
 returns-clause-cleared g c = λ honest.

@@ -47,7 +47,7 @@ module _ {S : Type 0} (view : S → StorageView) (d : Bool) (p : Pending) (range
     (place : HasPlaceFor d file.header.fields t.reftable range at) (within : range < entry_count t.reftable)
     (rest : t' ≡ record t.reftable { bytes = t'.bytes }) (enters : ChangesEntry t.reftable.bytes t'.bytes range (at * 2 ^ t.reftable.cluster_bits)) (offset : block_offset (entry_at t'.bytes range) ≡ at * 2 ^ t.reftable.cluster_bits)
     (fits : entry_at t'.bytes range < 2 ^ 64) (whole : IsRefBlock block) (format : IsBlockOf file.header.fields block) (counts : (i : ℕ) → count_at block i ≡ first_counts d i) (same : asked ≡ storage_of file.storage)
-    (written : IfSome t'.cluster (λ k. Changes (view asked) (view (storage_of storage)) result (overwritten (view asked).contents (k * 2 ^ t'.cluster_bits + 8 * range) (to_be_bytes w64 (entry_at t'.bytes range)))))
+    (written : IfSome t'.cluster (λ k. Changes (view asked) (view (storage_of storage)) result (λ b. overwritten b (k * 2 ^ t'.cluster_bits + 8 * range) (to_be_bytes w64 (entry_at t'.bytes range)))))
     (calls : Calls (view asked) (view (storage_of storage)) result) where
   abbrev q : Pending
   q = placing d p at
@@ -61,7 +61,7 @@ module _ {S : Type 0} (view : S → StorageView) (d : Bool) (p : Pending) (range
   now : AllocatorInvariant view t q file
   now = is_sound_now view q q old file t before.0
 
-  changes : Changes (view_in view file) (view (storage_of storage)) result (overwritten (view_in view file).contents (h.reftable_offset + 8 * range) (to_be_bytes w64 (entry_at t'.bytes range)))
+  changes : Changes (view_in view file) (view (storage_of storage)) result (λ b. overwritten b (h.reftable_offset + 8 * range) (to_be_bytes w64 (entry_at t'.bytes range)))
   changes =
       let aligned = now.sound.caches.kept.kept.crash_invariant.top.reftable_aligned in
       let e = div-add-mod' h.reftable_offset (cluster_size h) in

@@ -17,7 +17,7 @@ returns-in-Ok-clause-writes g c = λ out sound.
     let old = c.args.self.now in
     let after = c.write_size.new.self in
     let asked = storage_of c.will_write.new.self in
-    let wrote = subst (λ (v : HeaderView). Changes (view asked) (view (storage_of after)) c.write_size.result (size_written v.fields (view asked).contents)) c.set_size.ensures c.write_size.ensures.written in
+    let wrote = subst (λ (v : HeaderView). Changes (view asked) (view (storage_of after)) c.write_size.result (size_written v.fields)) c.set_size.ensures c.write_size.ensures.written in
     size_is_set view g.F.BackingDisk.backing out old sound c.args.size c.ranges.size.fits after c.write_size.result asked c.will_write.ensures.storage wrote c.write_size.ensures.calls c.in-Ok.field-0 c.in-Ok.is _
     (ap (λ (v : HeaderView). record old { file = record old.file { storage = after; header = v } }) c.set_size.ensures)
 
@@ -27,7 +27,7 @@ returns-in-Ok-clause-resizes g c = λ p sound.
     let old = c.args.self.now in
     let after = c.write_size.new.self in
     let asked = storage_of c.will_write.new.self in
-    let wrote = subst (λ (v : HeaderView). Changes (view asked) (view (storage_of after)) c.write_size.result (size_written v.fields (view asked).contents)) c.set_size.ensures c.write_size.ensures.written in
+    let wrote = subst (λ (v : HeaderView). Changes (view asked) (view (storage_of after)) c.write_size.result (size_written v.fields)) c.set_size.ensures c.write_size.ensures.written in
     resizes_so view g.F.BackingDisk.backing p old sound c.args.size c.ranges.size.fits after c.write_size.result asked c.will_write.ensures.storage wrote c.write_size.ensures.calls c.in-Ok.field-0 c.in-Ok.is _
     (ap (λ (v : HeaderView). record old { file = record old.file { storage = after; header = v } }) c.set_size.ensures)
 
@@ -37,7 +37,7 @@ returns-in-Err-clause-writes g c = λ out sound.
     let old = c.args.self.now in
     let after = c.write_size.new.self in
     let asked = storage_of c.will_write.new.self in
-    let wrote = subst (λ (v : HeaderView). Changes (view asked) (view (storage_of after)) c.write_size.result (size_written v.fields (view asked).contents)) c.set_size.ensures c.write_size.ensures.written in
+    let wrote = subst (λ (v : HeaderView). Changes (view asked) (view (storage_of after)) c.write_size.result (size_written v.fields)) c.set_size.ensures c.write_size.ensures.written in
     let header : c.set_size-in-Err.new.self ≡ old.file.header = c.set_size-in-Err.ensures ∙ ap (λ n. with_fields c.set_size.new.self (with_size c.set_size.new.self.fields n)) c.size-old.ensures ∙ ap (λ (v : HeaderView). with_fields v (with_size v.fields old.file.header.fields.size)) c.set_size.ensures in
     let new : Qcow2 _ _ = record old { file = record old.file { storage = after; header = c.set_size-in-Err.new.self } } in
     subst (λ e. WritesSize view g.F.BackingDisk.backing old new out c.args.size (Err e)) (sym c.from.ensures)
@@ -50,7 +50,7 @@ returns-in-Err-clause-resizes g c = λ p sound.
     let old = c.args.self.now in
     let after = c.write_size.new.self in
     let asked = storage_of c.will_write.new.self in
-    let wrote = subst (λ (v : HeaderView). Changes (view asked) (view (storage_of after)) c.write_size.result (size_written v.fields (view asked).contents)) c.set_size.ensures c.write_size.ensures.written in
+    let wrote = subst (λ (v : HeaderView). Changes (view asked) (view (storage_of after)) c.write_size.result (size_written v.fields)) c.set_size.ensures c.write_size.ensures.written in
     resizes_refused view g.F.BackingDisk.backing p old sound c.args.size c.ranges.size.fits after c.write_size.result asked c.will_write.ensures.storage wrote c.write_size.ensures.calls _ c.in-Err.refusal refl
 
 pub returns-in-Ok-clause-notes : goal.returns-in-Ok-clause-notes
