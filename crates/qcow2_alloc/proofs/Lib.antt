@@ -6,6 +6,7 @@ pub mod TableErrors
 pub mod Faults
 pub mod Outcomes
 pub mod KeptTables
+pub mod FileInvariants
 pub mod FileSteps
 pub mod AllocationSteps
 pub mod Runs
