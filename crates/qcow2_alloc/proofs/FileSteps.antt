@@ -36,6 +36,7 @@ use Rattle.qcow2_alloc.specs.KeptTables.{IsSafeSince}
 use Rattle.qcow2_alloc.specs.MetadataCaches.{order_of, l2_tables, refblocks, known_of, UnseenCacheStep, Made}
 use Rattle.qcow2_alloc.proofs.CountsStay.{counts_follow}
 use Rattle.qcow2_alloc.proofs.KeptTables.BlocksNamed.{top_still}
+use Rattle.qcow2_alloc.proofs.FileInvariants.{file_invariant_of}
 
 -- ---- what is pending
 
@@ -154,7 +155,7 @@ module _ {S : Type 0} (view : S → StorageView) where
 
     pub file_step_cached : KeepsPinsAndNotes file.caches caches → Moved p p file called
     file_step_cached marks = record {
-      sound = record { honest = stays.honest; caches = stays.sound; named_blocks = stays.named_blocks sound.named_blocks; room = marks.room sound.room };
+      sound = file_invariant_of stays.honest stays.sound (stays.named_blocks sound.named_blocks) (marks.room sound.room);
       safe_step = record {
         sound = stays.sound.kept.kept.crash_invariant;
         on_storage = λ backing m ok known_ok. stays.since.contents backing m ok known_ok;
@@ -196,7 +197,7 @@ module _ {S : Type 0} (view : S → StorageView) where
       raised_as q same safe_step =
           let safe_step' : SafeStep (state_in view file p) (state_in view counted q) nothing_given [] =
           subst (λ (d : Direction). SafeStep (state_in view file p) (record (state_in view file p) { direction = d; pending = q; known = now_known }) nothing_given []) (sym turned) safe_step in record {
-            sound = record { honest = sound.honest; caches = made.sound q safe_step'.sound; named_blocks = made.named_blocks sound.named_blocks; room = marks.room sound.room };
+            sound = file_invariant_of sound.honest (made.sound q safe_step'.sound) (made.named_blocks sound.named_blocks) (marks.room sound.room);
             safe_step = safe_step';
             since = raise_safe_throughout (view_in view file) (state_in view file p) now_known c refl made.change;
             unseen = unseen_count (state_in view file p) (state_in view counted q) sound.caches.kept.kept.crash_invariant c refl made.change.real made.change.outside;
@@ -227,7 +228,7 @@ module _ {S : Type 0} (view : S → StorageView) where
       lowered_as same safe_step =
           let safe_step' : SafeStep (state_in view file p) (state_in view counted q) nothing_given [] =
           subst (λ (d : Direction). SafeStep (state_in view file p) (record (state_in view file p) { direction = d; pending = q; known = now_known }) nothing_given []) (sym turned) safe_step in record {
-            sound = record { honest = sound.honest; caches = made.sound q safe_step'.sound; named_blocks = made.named_blocks sound.named_blocks; room = marks.room sound.room };
+            sound = file_invariant_of sound.honest (made.sound q safe_step'.sound) (made.named_blocks sound.named_blocks) (marks.room sound.room);
             safe_step = safe_step';
             since = fall_safe_throughout (view_in view file) (state_in view file p) now_known c refl made.change;
             unseen = unseen_count (state_in view file p) (state_in view counted q) sound.caches.kept.kept.crash_invariant c refl made.change.real made.change.outside;

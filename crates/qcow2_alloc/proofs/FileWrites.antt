@@ -19,6 +19,7 @@ use Rattle.qcow2_alloc.specs.ImageStorage.{storage_of}
 use Rattle.qcow2_alloc.specs.MetadataCaches.{order_of, l2_tables, refblocks}
 use Rattle.qcow2_alloc.proofs.CountsStay.{counts_follow, fixed_more}
 use Rattle.qcow2_alloc.proofs.KeptTables.Beside.{top_beside, named_blocks_beside_write, sound_beside}
+use Rattle.qcow2_alloc.proofs.FileInvariants.{file_invariant_of}
 
 module _ {S : Type 0} (view : S → StorageView) (p : Pending) (file : ImageFile S) (storage : ImageStorage S) (sound : FileInvariant view p file) (honest : (view (storage_of storage)).is_honest)
     (each : (c : ℕ) → SameIn (cluster_size file.header.fields) c (contents_in view file) (byte_at (view (storage_of storage)).contents)
@@ -69,12 +70,11 @@ module _ {S : Type 0} (view : S → StorageView) (p : Pending) (file : ImageFile
   file_step_written time =
       let h = file.header.fields in
       let unseen = unseen_written (state_in view file p) (state_in view written p) sound.caches.kept.kept.crash_invariant each_known refl in record {
-        sound = record {
-          honest = honest;
-          caches = sound_beside file.header.fields p p file.caches (contents_in view file) (contents_in view written) sound.caches sound.named_blocks tables_stay safe_step_written.sound;
-          named_blocks = named_blocks_beside_write file.header.fields p p file.caches (contents_in view file) (contents_in view written) sound.caches sound.named_blocks tables_stay;
-          room = sound.room;
-        };
+        sound = file_invariant_of
+            honest
+            (sound_beside file.header.fields p p file.caches (contents_in view file) (contents_in view written) sound.caches sound.named_blocks tables_stay safe_step_written.sound)
+            (named_blocks_beside_write file.header.fields p p file.caches (contents_in view file) (contents_in view written) sound.caches sound.named_blocks tables_stay)
+            sound.room;
         safe_step = safe_step_written;
         since = done_safe_throughout (view_in view file) (view (storage_of storage)) (state_in view file p) (state_in view written p) nothing_given [] time refl refl safe_step_written;
         unseen = unseen.0;

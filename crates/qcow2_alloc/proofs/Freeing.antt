@@ -24,6 +24,7 @@ use Rattle.qcow2_alloc.specs.ImageFile.{contents_in, known_in, FileInvariant, Al
 use Rattle.qcow2_alloc.proofs.AllocationSteps.{owed_counted}
 use Rattle.qcow2_alloc.proofs.FileSteps.{pending_same, file_step_then, interrupted_then}
 use Rattle.qcow2_alloc.proofs.Runs.{run_before, run_after, run_first}
+use Rattle.qcow2_alloc.proofs.FileInvariants.{file_invariant_of}
 
 -- ---- what is listed
 
@@ -163,7 +164,7 @@ module _ {S : Type 0} (view : S → StorageView) where
   -- ---- another list
 
   sound_relisted : (p : Pending) (a : ImageFile S) (l : List ClustersToFreeEntry) → FileInvariant view p a → FileInvariant view p (record a { free_list = l })
-  sound_relisted p a l sound = record { honest = sound.honest; caches = sound.caches; named_blocks = sound.named_blocks; room = sound.room }
+  sound_relisted p a l sound = file_invariant_of sound.honest sound.caches sound.named_blocks sound.room
 
   reftable_relisted : (a : ImageFile S) (l : List ClustersToFreeEntry) (t : EntryTableView) → HasReftable view a t → HasReftable view (record a { free_list = l }) t
   reftable_relisted a l t has = record { cluster = has.cluster; bits = has.bits; count = has.count; entries = has.entries }

@@ -35,6 +35,7 @@ use Rattle.qcow2_alloc.proofs.Hints.{used_stays, uses_then}
 use Rattle.qcow2_alloc.proofs.NamedReftables.{reftable_run}
 use Rattle.qcow2_alloc.proofs.PlacedBlocks.{file_sizes}
 use Rattle.qcow2_alloc.proofs.Rooms.{ends_room}
+use Rattle.qcow2_alloc.proofs.FileInvariants.{file_invariant_of}
 
 -- ---- in memory: the entries that it has more name nothing
 none_named : (h : HeaderFields) (c e : ℕ) → e ≡ 0 → table_in h c (block_offset e) ≡ 0
@@ -128,7 +129,7 @@ module _ {S : Type 0} (view : S → StorageView) (p : Pending) (old new : ImageF
       subst (λ (q : Pending). UnseenAllocatorGrowth view p old allocator (record new { free_list = l ++ former ∷ [] }) q) (listed l)
       (record {
         file_step = record {
-          sound = record { honest = allocator_step.file_step.sound.honest; caches = allocator_step.file_step.sound.caches; named_blocks = allocator_step.file_step.sound.named_blocks; room = allocator_step.file_step.sound.room };
+          sound = file_invariant_of allocator_step.file_step.sound.honest allocator_step.file_step.sound.caches allocator_step.file_step.sound.named_blocks allocator_step.file_step.sound.room;
           safe_step = allocator_step.file_step.safe_step;
           since = allocator_step.file_step.since;
           unseen = allocator_step.file_step.unseen;

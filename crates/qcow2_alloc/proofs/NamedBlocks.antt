@@ -50,6 +50,7 @@ use Rattle.qcow2_alloc.proofs.KeptTables.Getting.{cluster_aligned}
 use Rattle.qcow2_alloc.proofs.KeptTables.Named.{AreCurrentIn, current_entry, named_blocks_named, sound_named}
 use Rattle.qcow2_alloc.proofs.KeptTables.Standing.{own_cluster}
 use Rattle.qcow2_alloc.proofs.PlacedBlocks.{IsFree, is_free, file_sizes, has_none, covers_written, known_there, in_own, range_of_first}
+use Rattle.qcow2_alloc.proofs.FileInvariants.{file_invariant_of}
 
 -- what a write of an entry says
 pub entry_write_as : {S : Type 0} (view : S → StorageView) (before asked after : S) (cluster : Option ℕ) (k bits bits' place n : ℕ) (bytes : List ℕ) (result : Result (Unit {0}) StorageError) → asked ≡ before → cluster ≡ Some k → bits ≡ bits' → k * 2 ^ bits' ≡ place
@@ -292,12 +293,11 @@ module _ {S : Type 0} (view : S → StorageView) (d : Bool) (p : Pending) (range
 
     pub file_step_named : (view (storage_of storage)).is_honest → EachMomentSince (view_in view file) (view (storage_of storage)) (IsLeftBy (view (storage_of storage))) → UnseenFileStep view q p file named
     file_step_named honest time = record {
-      sound = record {
-        honest = honest;
-        caches = sound_named h q p file.caches on_storage on_storage' sound.caches sound.named_blocks l2_still rb_still l2_now rb_now safe_step.sound;
-        named_blocks = named_blocks_named h q p file.caches on_storage on_storage' sound.caches sound.named_blocks l2_still rb_still l2_now rb_now;
-        room = sound.room;
-      };
+      sound = file_invariant_of
+          honest
+          (sound_named h q p file.caches on_storage on_storage' sound.caches sound.named_blocks l2_still rb_still l2_now rb_now safe_step.sound)
+          (named_blocks_named h q p file.caches on_storage on_storage' sound.caches sound.named_blocks l2_still rb_still l2_now rb_now)
+          sound.room;
       safe_step = safe_step;
       since = done_safe_throughout (view_in view file) (view (storage_of storage)) (state_in view file q) (state_in view named p) nothing_given [] time refl refl safe_step;
       unseen = unseen.0;

@@ -41,6 +41,7 @@ use Rattle.qcow2_alloc.proofs.KeptTables.Named.{AreCurrentIn, current_none}
 use Rattle.qcow2_alloc.proofs.KeptTables.Standing.{own_cluster}
 use Rattle.qcow2_alloc.proofs.Numbers.{reftable_pointer_writes}
 use Rattle.qcow2_alloc.proofs.PlacedBlocks.{file_sizes}
+use Rattle.qcow2_alloc.proofs.FileInvariants.{file_invariant_of}
 
 -- the clusters of the reftable in memory are those that the header names
 pub reftable_run : {S : Type 0} (view : S → StorageView) (q : Pending) (file : ImageFile S) (t : EntryTableView) (cluster : ℕ) → FileInvariant view q file → HasReftable view file t → IsRefTable t → t.cluster ≡ Some cluster
@@ -189,12 +190,11 @@ module _ {S : Type 0} (view : S → StorageView) (p : Pending) (first blocks clu
 
     pub on_named : SafeThroughout (view_in view file) (view (storage_of storage)) known nothing_given [] → UnseenFileGrowth view q (without_reftable p h) file named
     on_named since = record {
-      sound = record {
-        honest = honest;
-        caches = header_sound view q (without_reftable p h) file sound (with_reftable_at h place clusters) on_storage' writes_now safe_step_now.sound l1_now rb_still rb_now;
-        named_blocks = header_named_blocks view q (without_reftable p h) file sound (with_reftable_at h place clusters) on_storage' writes_now safe_step_now.sound l1_now rb_still rb_now;
-        room = sound.room;
-      };
+      sound = file_invariant_of
+          honest
+          (header_sound view q (without_reftable p h) file sound (with_reftable_at h place clusters) on_storage' writes_now safe_step_now.sound l1_now rb_still rb_now)
+          (header_named_blocks view q (without_reftable p h) file sound (with_reftable_at h place clusters) on_storage' writes_now safe_step_now.sound l1_now rb_still rb_now)
+          sound.room;
       safe_step = safe_step_now;
       since = since;
       unseen = unseen_now;

@@ -42,6 +42,7 @@ use Rattle.qcow2_image.proofs.Open.Reftables.{reftable_still}
 use Rattle.qcow2_image.proofs.Sound.{free_more}
 use Rattle.qcow2_image.proofs.UngivenCovers.{ungiven_stay}
 use Rattle.qcow2_disk.specs.UngivenCovers.{IsUngiven}
+use Rattle.qcow2_alloc.proofs.FileInvariants.{file_invariant_of}
 
 -- what is listed is no table
 pub listed_no_table : (how : Clearance) (h : HeaderFields) (known : Bytes) (first n k : ℕ) → to_free of_tables (listed_by how h known first n) k ≡ 0
@@ -261,7 +262,7 @@ module _ {S F : Type 0} (view : S → StorageView) (backing : F → BackingView)
     steps = record {
       sound = record {
         works = all.sound_now.works;
-        file = record { honest = all.sound_now.file.honest; caches = all.sound_now.file.caches; named_blocks = all.sound_now.file.named_blocks; room = all.sound_now.file.room };
+        file = file_invariant_of all.sound_now.file.honest all.sound_now.file.caches all.sound_now.file.named_blocks all.sound_now.file.room;
         l1_table = record { cluster = sound.l1_table.cluster; bits = sound.l1_table.bits; count = sound.l1_table.count; entries = sound.l1_table.entries };
         reftable = reftable_still view (record a.file { caches = caches }) final.file refl refl (λ k. refl) a.allocator all.sound_now.reftable;
         below = all.sound_now.below;

@@ -34,6 +34,7 @@ use Rattle.qcow2_alloc.specs.declared.cache.MetadataCaches.{MetadataCaches}
 use Rattle.qcow2_alloc.specs.ImageFile.{state_in, contents_in, known_in}
 use Rattle.qcow2_alloc.specs.MetadataCaches.{IsEntryAt, MadeEntry, known_of, l2_at}
 use Rattle.qcow2_alloc.proofs.KeptTables.Standing.{own_cluster}
+use Rattle.qcow2_alloc.proofs.FileInvariants.{file_invariant_of}
 use Rattle.qcow2_image.specs.Clearing.{ClearsEntry, cover_once_cleared, cleared_entry, is_cleared, needs_zero_entries}
 use Rattle.qcow2_image.specs.declared.discarding.Clearance.{Clearance}
 use Rattle.qcow2_image.specs.declared.discarding.Clearance.TheVariants.{Uncovered, Zeros, KeptZeros}
@@ -269,12 +270,11 @@ module _ {S F : Type 0} (view : S → StorageView) (backing : F → BackingView)
   final_sound : ImageInvariant view backing after final out
   final_sound = record {
     works = sound.works;
-    file = record {
-      honest = sound.file.honest;
-      caches = entry.sound after sound.file.named_blocks (subst (λ d. CrashInvariant h d after s.on_storage known) (sym clears.order) mapped.sound_then);
-      named_blocks = entry.named_blocks sound.file.named_blocks;
-      room = clears.marks.room sound.file.room;
-    };
+    file = file_invariant_of
+        sound.file.honest
+        (entry.sound after sound.file.named_blocks (subst (λ d. CrashInvariant h d after s.on_storage known) (sym clears.order) mapped.sound_then))
+        (entry.named_blocks sound.file.named_blocks)
+        (clears.marks.room sound.file.room);
     l1_table = record { cluster = sound.l1_table.cluster; bits = sound.l1_table.bits; count = sound.l1_table.count; entries = sound.l1_table.entries };
     reftable = reftable_still view a.file final.file refl refl counts_stay a.allocator sound.reftable;
     below = sound.below;

@@ -48,6 +48,7 @@ use Rattle.qcow2_alloc.specs.declared.clusters_to_free.ClustersToFreeEntry.{Clus
 use Rattle.qcow2_alloc.specs.MetadataCaches.{IsEntryAt, ChangesKnownEntry, MadeEntry, MapsCachedEntry, l2_at, order_of, known_of}
 use Rattle.qcow2_alloc.proofs.Runs.{run_in, run_before, run_after}
 use Rattle.qcow2_alloc.specs.ImageFile.{state_in, view_in}
+use Rattle.qcow2_alloc.proofs.FileInvariants.{file_invariant_of}
 use Rattle.qcow2_image.specs.declared.image.Qcow2.{Qcow2}
 use Rattle.qcow2_image.specs.declared.prepared.Prepared.{Prepared}
 use Rattle.qcow2_image.specs.declared.prepared.Share.{Share}
@@ -386,12 +387,11 @@ module _ {S F : Type 0} (view : S → StorageView) (backing : F → BackingView)
     enters_sound : ImageInvariant view backing made.after final now
     enters_sound = record {
       works = sound.works;
-      file = record {
-        honest = sound.file.honest;
-        caches = entry.sound made.after sound.file.named_blocks (subst (λ d. CrashInvariant h d made.after s.on_storage known) (sym order) made.mapped.safe_step.sound);
-        named_blocks = entry.named_blocks sound.file.named_blocks;
-        room = marks.room sound.file.room;
-      };
+      file = file_invariant_of
+          sound.file.honest
+          (entry.sound made.after sound.file.named_blocks (subst (λ d. CrashInvariant h d made.after s.on_storage known) (sym order) made.mapped.safe_step.sound))
+          (entry.named_blocks sound.file.named_blocks)
+          (marks.room sound.file.room);
       l1_table = record { cluster = sound.l1_table.cluster; bits = sound.l1_table.bits; count = sound.l1_table.count; entries = sound.l1_table.entries };
       reftable = reftable_still view old.file final.file refl refl (counts_now s known row column (copied_entry host) sound.file.caches.kept.kept.crash_invariant at_entry.real at_entry.within entry.change) old.allocator sound.reftable;
       below = sound.below;

@@ -38,6 +38,7 @@ use Rattle.qcow2_image.proofs.Call.Stepped.{Steps, stepped_sound, stepped_works}
 use Rattle.qcow2_disk.proofs.Compose.{rests_none}
 use Rattle.qcow2_metadata.specs.Header.{header}
 use Rattle.qcow2_metadata.specs.Cover.{cover}
+use Rattle.qcow2_alloc.proofs.FileInvariants.{file_invariant_of}
 
 -- what is kept of the caches is kept while something else is pending that is guarded too
 pub sound_while : {S : Type 0} (h : HeaderFields) (p q : Pending) (caches : MetadataCaches S) (on_storage : Bytes) → CrashInvariant h (order_of caches) q on_storage (known_of h caches on_storage) → CacheInvariant h p caches on_storage → CacheInvariant h q caches on_storage
@@ -100,12 +101,11 @@ module _ {S F : Type 0} (view : S → StorageView) (backing : F → BackingView)
       release_prepared_sound : ImageInvariant view backing after left (slice_set out k None)
       release_prepared_sound = record {
         works = sound.works;
-        file = record {
-          honest = sound.file.honest;
-          caches = sound_while h (pending_in view backing old out) after caches (contents_in view old.file) release_prepared_safe_step.sound (tables.sound h (pending_in view backing old out) (contents_in view old.file) sound.file.caches);
-          named_blocks = subst (λ (ts : List CachedTable). AreNamedBlocks h ts (contents_in view old.file)) (sym tables.refblocks) sound.file.named_blocks;
-          room = tables.room sound.file.room;
-        };
+        file = file_invariant_of
+            sound.file.honest
+            (sound_while h (pending_in view backing old out) after caches (contents_in view old.file) release_prepared_safe_step.sound (tables.sound h (pending_in view backing old out) (contents_in view old.file) sound.file.caches))
+            (subst (λ (ts : List CachedTable). AreNamedBlocks h ts (contents_in view old.file)) (sym tables.refblocks) sound.file.named_blocks)
+            (tables.room sound.file.room);
         l1_table = record { cluster = sound.l1_table.cluster; bits = sound.l1_table.bits; count = sound.l1_table.count; entries = sound.l1_table.entries };
         reftable = reftable_still view old.file left.file refl refl (λ k. ap (λ (b : Bytes). count h b k) (sym same_known)) old.allocator sound.reftable;
         below = sound.below;

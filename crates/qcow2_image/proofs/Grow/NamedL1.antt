@@ -41,6 +41,7 @@ use Rattle.qcow2_alloc.proofs.PlacedBlocks.{file_sizes, known_there}
 use Rattle.qcow2_alloc.specs.KeptAllocators.{IsAllocatorOf}
 use Rattle.qcow2_alloc.proofs.KeptAllocators.{allocator_kept}
 use Rattle.qcow2_laws.proofs.Headers.{header_known_counts}
+use Rattle.qcow2_alloc.proofs.FileInvariants.{file_invariant_of}
 use Rattle.qcow2_image.specs.declared.image.Qcow2.{Qcow2}
 use Rattle.qcow2_image.specs.declared.prepared.Prepared.{Prepared}
 use Rattle.qcow2_image.specs.LongerTables.{with_table, without_l1, StandsWhole, UnseenMove, NamesTable}
@@ -162,12 +163,11 @@ module _ {S F : Type 0} (view : S → StorageView) (backing : F → BackingView)
     named_sound : ImageInvariant view backing (without_l1 p h) now out
     named_sound = record {
       works = sound.works;
-      file = record {
-        honest = honest;
-        caches = placed_sound view q (without_l1 p h) old.file sound.file (with_l1_at h place (entry_count t)) (contents_in view now.file) writes_now safe_step_now.sound l1_now blocks_now;
-        named_blocks = placed_named_blocks view q (without_l1 p h) old.file sound.file (with_l1_at h place (entry_count t)) (contents_in view now.file) writes_now safe_step_now.sound l1_now blocks_now;
-        room = sound.file.room;
-      };
+      file = file_invariant_of
+          honest
+          (placed_sound view q (without_l1 p h) old.file sound.file (with_l1_at h place (entry_count t)) (contents_in view now.file) writes_now safe_step_now.sound l1_now blocks_now)
+          (placed_named_blocks view q (without_l1 p h) old.file sound.file (with_l1_at h place (entry_count t)) (contents_in view now.file) writes_now safe_step_now.sound l1_now blocks_now)
+          sound.file.room;
       l1_table = record {
         cluster = λ some. ready.cluster_is ∙ ap (λ n. Some n) (sym (own_cluster old.file.header.fields.cluster_bits cluster));
         bits = ready.table.bits;

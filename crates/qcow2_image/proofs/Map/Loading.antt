@@ -35,6 +35,7 @@ use Rattle.qcow2_image.specs.UnseenSteps.{UnseenStep}
 use Rattle.qcow2_image.proofs.Ready.{still_ready}
 use Rattle.qcow2_alloc.proofs.FileSteps.{cached_safe_throughout}
 use Rattle.qcow2_alloc.proofs.KeptTables.Turning.{safe_none, safe_keep}
+use Rattle.qcow2_alloc.proofs.FileInvariants.{file_invariant_of}
 
 -- of two sound stands with the same header and the same known bytes the tables above are the same on the storage
 module _ (s s' : DriverState) (sound : StateInvariant s) (sound' : StateInvariant s') (header : s'.header ≡ s.header) (known : s'.known ≡ s.known) where
@@ -68,7 +69,7 @@ module _ {S F : Type 0} (view : S → StorageView) (backing : F → BackingView)
     caches_moved = record {
       sound = record {
         works = sound.works;
-        file = record { honest = stay.honest; caches = stay.sound; named_blocks = stay.named_blocks sound.file.named_blocks; room = room sound.file.room };
+        file = file_invariant_of stay.honest stay.sound (stay.named_blocks sound.file.named_blocks) (room sound.file.room);
         l1_table = record { cluster = sound.l1_table.cluster; bits = sound.l1_table.bits; count = sound.l1_table.count; entries = λ i. sound.l1_table.entries i ∙ sym (l1_still i) };
         reftable = allocator_still old.allocator sound.reftable;
         below = sound.below;

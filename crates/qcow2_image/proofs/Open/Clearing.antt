@@ -22,6 +22,7 @@ use Rattle.qcow2_alloc.specs.declared.image_storage.ImageStorage.{ImageStorage}
 use Rattle.qcow2_alloc.specs.ImageFile.{nothing_given, view_in, contents_in, known_in, state_in}
 use Rattle.qcow2_alloc.specs.ImageStorage.{storage_of}
 use Rattle.qcow2_alloc.specs.MetadataCaches.{order_of, l2_tables, refblocks, known_of, CacheInvariant}
+use Rattle.qcow2_alloc.proofs.FileInvariants.{file_invariant_of}
 use Rattle.qcow2_image.proofs.Open.HeaderKept.{resized_l1, resized_reftable, placed_named_blocks, placed_sound}
 use Rattle.qcow2_image.specs.Opened.{IsFresh, StaysFresh, IsKeptSince}
 
@@ -64,7 +65,7 @@ module _ {S F : Type 0} (view : S → StorageView) (backing : F → BackingView)
       subst (λ (c : List ℕ). WritesHeader h (resized_places h h.size 0) on_storage (known_in view file) (byte_at c) (known_of h file.caches (byte_at c))) (sym same)
       (autoclear_beside h (order_of file.caches) p (l2_tables file.caches) (refblocks file.caches) (view_in view file).contents kept (with_fields file.header h') some fields there) in record {
         new_tables = record {
-          sound = record { honest = honest; caches = cleared_sound on_storage' writes; named_blocks = cleared_named_blocks on_storage' writes; room = new_tables.sound.room };
+          sound = file_invariant_of honest (cleared_sound on_storage' writes) (cleared_named_blocks on_storage' writes) new_tables.sound.room;
           header = subst (IsHeaderIn (with_fields file.header h')) (sym same) there;
           clean = new_tables.clean;
           unpinned = new_tables.unpinned;

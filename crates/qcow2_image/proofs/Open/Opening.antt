@@ -27,6 +27,7 @@ use Rattle.qcow2_alloc.specs.ImageFile.{l2_pins, CachesHaveRoom, view_in, conten
 use Rattle.qcow2_alloc.specs.ImageStorage.{storage_of}
 use Rattle.qcow2_alloc.specs.MetadataCaches.{refblocks, known_of, CacheInvariant}
 use Rattle.qcow2_alloc.proofs.KeptTables.Standing.{own_cluster}
+use Rattle.qcow2_alloc.proofs.FileInvariants.{file_invariant_of}
 use Rattle.qcow2_image.specs.declared.image.Qcow2.{Qcow2}
 use Rattle.qcow2_image.specs.Image.{is_failed}
 use Rattle.qcow2_image.specs.Opened.{IsFresh, StaysFresh, IsLoaded, IsKeptSince, SameNames, HasNamesIn}
@@ -75,12 +76,11 @@ module _ {S F : Type 0} (view : S → StorageView) (backing : F → BackingView)
       → StaysFresh view backing p file (record file { storage = storage })
   new_tables_read p file storage new_tables honest same = record {
     new_tables = record {
-      sound = record {
-        honest = honest;
-        caches = subst (λ (c : List ℕ). CacheInvariant file.header.fields p file.caches (byte_at c)) (sym same) new_tables.sound.caches;
-        named_blocks = subst (λ (c : List ℕ). AreNamedBlocks file.header.fields (refblocks file.caches) (byte_at c)) (sym same) new_tables.sound.named_blocks;
-        room = new_tables.sound.room;
-      };
+      sound = file_invariant_of
+          honest
+          (subst (λ (c : List ℕ). CacheInvariant file.header.fields p file.caches (byte_at c)) (sym same) new_tables.sound.caches)
+          (subst (λ (c : List ℕ). AreNamedBlocks file.header.fields (refblocks file.caches) (byte_at c)) (sym same) new_tables.sound.named_blocks)
+          new_tables.sound.room;
       header = subst (λ (c : List ℕ). IsHeaderIn file.header c) (sym same) new_tables.header;
       clean = new_tables.clean;
       unpinned = new_tables.unpinned;
@@ -131,12 +131,11 @@ module _ {S F : Type 0} (view : S → StorageView) (backing : F → BackingView)
       let p = nothing_pending (surplus_of file.header.fields (byte_at contents)) in
       let crash_invariant : CrashInvariant h Neither p (byte_at contents) (byte_at contents) =
       opened_crash_invariant file.header.fields (byte_at contents) (subst (λ k. Consistent k (byte_at contents)) (sym there.fields) consistent) (sym there.fields) in record {
-        sound = record {
-          honest = honest;
-          caches = subst (λ (c : List ℕ). CacheInvariant file.header.fields (nothing_pending (surplus_of file.header.fields (byte_at contents))) file.caches (byte_at c)) (sym same) (sound p (byte_at contents) crash_invariant);
-          named_blocks = named_blocks (contents_in view file);
-          room = room;
-        };
+        sound = file_invariant_of
+            honest
+            (subst (λ (c : List ℕ). CacheInvariant file.header.fields (nothing_pending (surplus_of file.header.fields (byte_at contents))) file.caches (byte_at c)) (sym same) (sound p (byte_at contents) crash_invariant))
+            (named_blocks (contents_in view file))
+            room;
         header = subst (IsHeaderIn file.header) (sym same) there;
         clean = known;
         unpinned = pins;

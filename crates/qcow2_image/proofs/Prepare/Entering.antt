@@ -32,6 +32,7 @@ use Rattle.qcow2_alloc.proofs.FileSteps.{safe_throughout_then, one_few, one_here
 use Rattle.qcow2_alloc.proofs.Runs.{run_before, run_after, run_last}
 use Rattle.qcow2_alloc.proofs.KeptAllocators.{refused_kept}
 use Rattle.qcow2_alloc.specs.LowestRuns.{NoFreeBelowHint, BrokeOff}
+use Rattle.qcow2_alloc.proofs.FileInvariants.{file_invariant_of}
 use Rattle.qcow2_image.proofs.Open.Reftables.{reftable_still}
 use Rattle.qcow2_image.specs.declared.image.Qcow2.{Qcow2}
 use Rattle.qcow2_image.specs.declared.prepared.Prepared.{Prepared}
@@ -112,7 +113,11 @@ module _ {S F : Type 0} (view : S → StorageView) (backing : F → BackingView)
     keeps_listed = record {
       sound = record {
         works = sound.works;
-        file = record { honest = sound.file.honest; caches = sound_while image.file.header.fields p q image.file.caches (contents_in view image.file) new_data.sound sound.file.caches; named_blocks = sound.file.named_blocks; room = sound.file.room };
+        file = file_invariant_of
+            sound.file.honest
+            (sound_while image.file.header.fields p q image.file.caches (contents_in view image.file) new_data.sound sound.file.caches)
+            sound.file.named_blocks
+            sound.file.room;
         l1_table = record { cluster = sound.l1_table.cluster; bits = sound.l1_table.bits; count = sound.l1_table.count; entries = sound.l1_table.entries };
         reftable = reftable_still view image.file relisted.file refl refl (λ k. refl) image.allocator sound.reftable;
         below = sound.below;

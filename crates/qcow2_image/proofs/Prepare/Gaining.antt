@@ -31,6 +31,7 @@ use Rattle.qcow2_image.specs.declared.image.Qcow2.{Qcow2}
 use Rattle.qcow2_image.specs.declared.prepared.Prepared.{Prepared}
 use Rattle.qcow2_alloc.specs.LowestRuns.{IsUsed, NoFreeBelowHint, KeepsNoFreeBelowHint, BrokeOff}
 use Rattle.qcow2_metadata.specs.L2Mapping.{IsHostCluster}
+use Rattle.qcow2_alloc.proofs.FileInvariants.{file_invariant_of}
 use Rattle.qcow2_image.specs.Ranges.{TakesDataAt}
 use Rattle.qcow2_image.specs.UnseenSteps.{pending_with_listed, is_announced, IsFilled, UnseenFillingStep, RefusedFillingStep, HoldsAll, ListGrows, TakesData}
 use Rattle.qcow2_image.specs.ImageInvariant.{run_of, of_data, of_tables, to_free, new_data_by, over_all, disk_of, ImageInvariant}
@@ -116,12 +117,11 @@ module _ {S F : Type 0} (view : S → StorageView) (backing : F → BackingView)
     image_step_handed_back = record {
       sound = record {
         works = sound.works;
-        file = record {
-          honest = sound.file.honest;
-          caches = sound_while old.file.header.fields new_data after old.file.caches (contents_in view old.file) safe_step.sound sound.file.caches;
-          named_blocks = sound.file.named_blocks;
-          room = sound.file.room;
-        };
+        file = file_invariant_of
+            sound.file.honest
+            (sound_while old.file.header.fields new_data after old.file.caches (contents_in view old.file) safe_step.sound sound.file.caches)
+            sound.file.named_blocks
+            sound.file.room;
         l1_table = record { cluster = sound.l1_table.cluster; bits = sound.l1_table.bits; count = sound.l1_table.count; entries = sound.l1_table.entries };
         reftable = reftable_still view old.file left.file refl refl (λ k. refl) old.allocator sound.reftable;
         below = sound.below;

@@ -56,6 +56,7 @@ use Rattle.qcow2_alloc.proofs.NamedBlocks.{entry_write_as}
 use Rattle.qcow2_alloc.proofs.PlacedBlocks.{IsFree, covers_written, file_sizes, in_own, known_there}
 use Rattle.qcow2_alloc.specs.KeptAllocators.{IsAllocatorOf}
 use Rattle.qcow2_alloc.proofs.KeptAllocators.{allocator_kept}
+use Rattle.qcow2_alloc.proofs.FileInvariants.{file_invariant_of}
 use Rattle.qcow2_image.specs.declared.image.Qcow2.{Qcow2}
 use Rattle.qcow2_image.specs.declared.prepared.Prepared.{Prepared}
 use Rattle.qcow2_image.specs.NewTables.{SaysKnown, StandsReady, MayName, NamesCopied, replacing}
@@ -337,7 +338,7 @@ module _ {S F : Type 0} (view : S → StorageView) (backing : F → BackingView)
     keeps_named honest time = record {
       sound = record {
         works = sound.works;
-        file = record { honest = honest; caches = caches_named; named_blocks = λ c. inl (clean_free (cluster_size h) (refblocks old.file.caches) ready.stored.counts c); room = sound.file.room };
+        file = file_invariant_of honest caches_named (λ c. inl (clean_free (cluster_size h) (refblocks old.file.caches) ready.stored.counts c)) sound.file.room;
         l1_table = l1_named;
         reftable = reftable_named old.allocator sound.reftable;
         below = sound.below;

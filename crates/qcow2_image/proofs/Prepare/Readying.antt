@@ -21,6 +21,7 @@ use Rattle.qcow2_alloc.specs.CachePins.{l2_pins, SameTables}
 use Rattle.qcow2_alloc.specs.declared.cache.MetadataCaches.{MetadataCaches}
 use Rattle.qcow2_alloc.specs.ImageFile.{state_in, contents_in, known_in, nothing_given}
 use Rattle.qcow2_metadata.specs.Entries.{count}
+use Rattle.qcow2_alloc.proofs.FileInvariants.{file_invariant_of}
 use Rattle.qcow2_image.specs.declared.image.Qcow2.{Qcow2}
 use Rattle.qcow2_image.specs.declared.mapping.Place.TheVariants.{Image}
 use Rattle.qcow2_image.specs.declared.prepared.Prepared.{Prepared}
@@ -143,12 +144,11 @@ module _ {S F : Type 0} (view : S → StorageView) (backing : F → BackingView)
   sound_now : ImageInvariant view backing q new now
   sound_now = record {
     works = image_step.sound.works;
-    file = record {
-      honest = image_step.sound.file.honest;
-      caches = tables.sound h q (contents_in view mid.file) image_step.sound.file.caches;
-      named_blocks = subst (λ (ts : List CachedTable). AreNamedBlocks h ts (contents_in view mid.file)) (sym tables.refblocks) image_step.sound.file.named_blocks;
-      room = tables.room image_step.sound.file.room;
-    };
+    file = file_invariant_of
+        image_step.sound.file.honest
+        (tables.sound h q (contents_in view mid.file) image_step.sound.file.caches)
+        (subst (λ (ts : List CachedTable). AreNamedBlocks h ts (contents_in view mid.file)) (sym tables.refblocks) image_step.sound.file.named_blocks)
+        (tables.room image_step.sound.file.room);
     l1_table = record { cluster = image_step.sound.l1_table.cluster; bits = image_step.sound.l1_table.bits; count = image_step.sound.l1_table.count; entries = image_step.sound.l1_table.entries };
     reftable = reftable_still view mid.file new.file refl refl (λ k. ap (λ (b : Bytes). count h b k) (sym same_known)) mid.allocator image_step.sound.reftable;
     below = image_step.sound.below;

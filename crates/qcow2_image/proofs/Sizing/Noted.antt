@@ -11,6 +11,7 @@ use Rattle.qcow2_alloc.specs.declared.allocation.Allocator.{Allocator}
 use Rattle.qcow2_alloc.specs.declared.error.ImageError.{ImageError}
 use Rattle.qcow2_alloc.specs.KeptAllocators.{IsAllocatorOf}
 use Rattle.qcow2_alloc.specs.ImageStorage.{is_changed_of}
+use Rattle.qcow2_alloc.proofs.FileInvariants.{file_invariant_of}
 use Rattle.qcow2_image.specs.declared.image.Qcow2.{Qcow2}
 use Rattle.qcow2_image.specs.declared.prepared.Prepared.{Prepared}
 use Rattle.qcow2_image.specs.Faults.{CountsImageFaults, SameFaults}
@@ -29,7 +30,7 @@ module _ {S F : Type 0} (view : S → StorageView) (backing : F → BackingView)
       → ImageInvariant view backing (pending_in view backing (with_marks image noted (is_failed image)) out) (with_marks image noted (is_failed image)) out
   sound_noted image noted out s = record {
     works = s.works;
-    file = record { honest = s.file.honest; caches = s.file.caches; named_blocks = s.file.named_blocks; room = s.file.room };
+    file = file_invariant_of s.file.honest s.file.caches s.file.named_blocks s.file.room;
     l1_table = record { cluster = s.l1_table.cluster; bits = s.l1_table.bits; count = s.l1_table.count; entries = s.l1_table.entries };
     reftable = reftable_noted image noted image.allocator s.reftable;
     below = s.below;

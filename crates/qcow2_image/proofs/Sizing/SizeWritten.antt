@@ -58,6 +58,7 @@ use Rattle.qcow2_image.proofs.Ready.{still_ready}
 use Rattle.qcow2_image.proofs.Shares.{private_used}
 use Rattle.qcow2_image.proofs.Sound.{pending_is}
 use Rattle.qcow2_disk.proofs.Compose.{stops_of}
+use Rattle.qcow2_alloc.proofs.FileInvariants.{file_invariant_of}
 use Rattle.qcow2_image.proofs.UngivenCovers.{all_stay}
 
 -- ---- what is read with a header of another size
@@ -169,12 +170,11 @@ module _ {S F : Type 0} (view : S → StorageView) (backing : F → BackingView)
         let l1 = resized_l1 view p old.file sound.file size h.autoclear (contents_in view sized.file) writes_now in
         let blocks = resized_reftable view p old.file sound.file size h.autoclear (contents_in view sized.file) writes_now in record {
           works = sound.works;
-          file = record {
-            honest = honest;
-            caches = placed_sound view p p old.file sound.file (resized_places h size h.autoclear) (contents_in view sized.file) writes_now safe_step_now.sound l1 blocks;
-            named_blocks = placed_named_blocks view p p old.file sound.file (resized_places h size h.autoclear) (contents_in view sized.file) writes_now safe_step_now.sound l1 blocks;
-            room = sound.file.room;
-          };
+          file = file_invariant_of
+              honest
+              (placed_sound view p p old.file sound.file (resized_places h size h.autoclear) (contents_in view sized.file) writes_now safe_step_now.sound l1 blocks)
+              (placed_named_blocks view p p old.file sound.file (resized_places h size h.autoclear) (contents_in view sized.file) writes_now safe_step_now.sound l1 blocks)
+              sound.file.room;
           l1_table = record { cluster = sound.l1_table.cluster; bits = sound.l1_table.bits; count = sound.l1_table.count; entries = λ i. sound.l1_table.entries i ∙ sym (l1 i) };
           reftable = reftable_now old.allocator sound.reftable;
           below = sound.below;

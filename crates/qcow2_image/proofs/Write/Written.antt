@@ -28,6 +28,7 @@ use Rattle.qcow2_alloc.proofs.KeptTables.Beside.{top_beside, named_blocks_beside
 use Rattle.qcow2_alloc.specs.KeptAllocators.{IsAllocatorOf}
 use Rattle.qcow2_alloc.proofs.KeptAllocators.{allocator_kept}
 use Rattle.qcow2_alloc.proofs.CountsStay.{counts_follow, fixed_more}
+use Rattle.qcow2_alloc.proofs.FileInvariants.{file_invariant_of}
 use Rattle.qcow2_image.specs.declared.image.Qcow2.{Qcow2}
 use Rattle.qcow2_image.specs.declared.prepared.Prepared.{Prepared}
 use Rattle.qcow2_image.specs.ImageInvariant.{cluster_of, pending_in, ImageInvariant, backing_bytes}
@@ -103,12 +104,11 @@ module _ {S F : Type 0} {p : Pending} (view : S → StorageView) (backing : F �
           let top = top_beside h p p old.file.caches (contents_in view old.file) (contents_in view written.file) sound.file.caches sound.file.named_blocks tables_stay in
           record {
             works = sound.works;
-            file = record {
-              honest = honest;
-              caches = sound_beside h p p old.file.caches (contents_in view old.file) (contents_in view written.file) sound.file.caches sound.file.named_blocks tables_stay safe_step.sound;
-              named_blocks = named_blocks_beside_write h p p old.file.caches (contents_in view old.file) (contents_in view written.file) sound.file.caches sound.file.named_blocks tables_stay;
-              room = sound.file.room;
-            };
+            file = file_invariant_of
+                honest
+                (sound_beside h p p old.file.caches (contents_in view old.file) (contents_in view written.file) sound.file.caches sound.file.named_blocks tables_stay safe_step.sound)
+                (named_blocks_beside_write h p p old.file.caches (contents_in view old.file) (contents_in view written.file) sound.file.caches sound.file.named_blocks tables_stay)
+                sound.file.room;
             l1_table = record { cluster = sound.l1_table.cluster; bits = sound.l1_table.bits; count = sound.l1_table.count; entries = λ i. sound.l1_table.entries i ∙ top.l1 i };
             reftable = reftable_written old.allocator sound.reftable;
             below = sound.below;
