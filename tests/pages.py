@@ -1,6 +1,6 @@
 #!/usr/bin/env python3
 """Checks the repository's pages (README.md, docs/*.md, crates/*/README.md): links, files, names, clauses and wrong bodies that they name are there, and examples are code as it stands. Of the
-proofs it checks that they build no moment outside of the files for that. It needs no program. The last line counts the checks that found nothing, and what the others found."""
+proofs it checks that they build no moment outside of the files for that, and that what a stop leaves is said by its word. It needs no program. The last line counts the checks that found nothing, and what the others found."""
 
 import os
 import re
@@ -26,6 +26,8 @@ WORDS_OF_MOMENTS = re.compile(r"""crates/(image_access/proofs/EachMomentSince|qc
     |qcow2_image/proofs/(Create/\w+|Map/Unmodified|Sizing/Noted))\.antt$""", re.VERBOSE)
 # a record with its moments, one of `EachMomentSince`, and a record that is taken over with other contents
 MOMENT = re.compile(r"\b(moments|later) = |\brecord [^{}]*[\w)] \{[^{}]*\b(contents) = ")
+# the contents that a stop now leaves of a storage, without the word for that
+CONTENTS = re.compile(r"\(λ (\w+)\. \1 ≡ (?:[\w.']+|\([^()]*(?:\([^()]*\)[^()]*)*\))\.contents\)")
 
 
 class Code:
@@ -147,9 +149,17 @@ def moments_by_hand(code):
                 yield path, text.count("\n", 0, found.end()) + 1, f"a moment is built here: {found[found.lastindex]}"
 
 
+def contents_at_length(code):
+    """What a stop leaves of a storage, said at length above the crate that has the word for it."""
+    for path, text in code.texts.items():
+        if re.match(r"crates/\w+/(src|proofs|specs)/.*\.(antt|rt)$", path) and not path.startswith("crates/image_access/"):
+            for found in CONTENTS.finditer(text):
+                yield path, text.count("\n", 0, found.start()) + 1, f"what a stop leaves is said at length: {found[0]}"
+
+
 def main():
     code, passed, failed = Code(), 0, 0
-    for check in (dead_links, missing_names, missing_clauses, missing_bodies, other_code, moments_by_hand):
+    for check in (dead_links, missing_names, missing_clauses, missing_bodies, other_code, moments_by_hand, contents_at_length):
         found = list(check(code))
         for page, line, what in found:
             print(f"{page}:{line}: FAILED: {what}")
