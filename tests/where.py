@@ -16,8 +16,8 @@ import re
 import sys
 
 ROOT = os.path.dirname(os.path.dirname(os.path.abspath(__file__)))
-STEPS_IN_A_SECOND = 1_400_000
-BYTES_IN_A_SECOND = 900_000
+STEPS_IN_A_SECOND = 2_000_000
+BYTES_IN_A_SECOND = 1_600_000
 PARTS = {
     "walk": ["Code", "Lts", "Kinds", "Named", "Layout", "Symbol", "Reads", "Given", "Goals"],
     "search": ["Proof"],
