@@ -5,3 +5,4 @@ pub mod Entries
 pub mod Cleared
 pub mod Between
 pub mod ClearCalls
+pub mod ClearedCalls

@@ -21,6 +21,7 @@ pub mod Growing
 pub mod Backings
 pub mod Ranges
 pub mod Clearing
+pub mod ClearingCalls
 pub mod SpecialReads
 pub mod Resizing
 pub mod Preallocation

@@ -2,7 +2,6 @@
 ghost use Rattle.qcow2_image.specs.ListedClusters.{SomeGaveWay};
 ghost use Rattle.qcow2_image.specs.LackedPlaces.{IsLimitedByTable};
 ghost use Rattle.qcow2_image.specs.BehindHeader.{StaysBehindHeader};
-ghost use Rattle.qcow2_image.specs.Noted.{ChangesRose, FailsOnceWritten, NotesPart};
 ghost use Rattle.qcow2_alloc.specs.KeptMarks.{KeepsFileNotes};
 ghost use Rattle.qcow2_alloc.specs.KeptNotes.{NoData};
 ghost use Rattle.std.specs.Prelude.{ℕ, List, Option, ◌≡◌, ◌+◌, ◌-◌, ◌/◌, ◌%◌, ◌^◌, ◌<◌, ◌≤◌, ◌++◌, true, false, Some, None, Ok, Err, IfOk, IfErr, IfSome, OnOk, IsSome, IsTrue, MatchOption, if◌then◌else◌};
@@ -12,7 +11,6 @@ ghost use Rattle.qcow2_image.specs.MetAlone.{KeepsL1Place, IsMetTaking};
 ghost use Rattle.qcow2_metadata.specs.Header.{cluster_size, entries_per_cluster, rounded_up as rounded_up_to};
 ghost use Rattle.qcow2_metadata.specs.L2Mapping.{IsInReach, old_data_run};
 ghost use Rattle.qcow2_laws.specs.CrashInvariant.{Pending};
-ghost use Rattle.qcow2_disk.specs.Rules.{answered};
 ghost use Rattle.qcow2_alloc.specs.ImageError.{IsFault};
 ghost use Rattle.qcow2_alloc.specs.ImageFile.{known_in, FileInvariant};
 ghost use Rattle.qcow2_alloc.specs.MetadataCaches.{IsEntryAt, l2_at};
@@ -22,10 +20,11 @@ ghost use Rattle.qcow2_image.specs.Backings.{HasPrepared};
 ghost use Rattle.qcow2_image.specs.L1Entries.{HasOwnTable, NeedsFarEntry};
 ghost use Rattle.qcow2_image.specs.NewTables.{IsFaultOrLacksTable};
 ghost use Rattle.qcow2_image.specs.PinnedTables.{HeedsPins};
-ghost use Rattle.qcow2_image.specs.Image.{HasNothingToFree, IsSameImage, ImageStays, is_writable, size_of};
+ghost use Rattle.qcow2_image.specs.Image.{ImageStays, is_writable, size_of};
 ghost use Rattle.qcow2_image.specs.ImageInvariant.{ImageInvariant, abstract_of, pending_in, listed_run};
-ghost use Rattle.qcow2_image.specs.Refusals.{FreesRefused, IsMet, IsMetPreparing, MarksFailed, passes as passes_size};
-ghost use Rattle.qcow2_image.specs.Clearing.{Clears, ClearsImageCovers, ClearsEntry, ClearsOrRefuses, ClearsTable, IsUnderMapping, IsClearable, ReadsAll, ReadsDropped, RefusesClearing, cover_once_cleared, from_in, to_in, needs_zero_entries, refuses_to_clear, rounds_past};
+ghost use Rattle.qcow2_image.specs.Refusals.{FreesRefused, IsMet, IsMetPreparing, passes as passes_size};
+ghost use Rattle.qcow2_image.specs.ClearingCalls.{ClearsStep, ClearsSoundly, FailsToClear};
+ghost use Rattle.qcow2_image.specs.Clearing.{ClearsEntry, ClearsOrRefuses, ClearsTable, IsUnderMapping, IsClearable, ReadsAll, ReadsDropped, cover_once_cleared, from_in, to_in, needs_zero_entries, refuses_to_clear, rounds_past};
 ghost use Rattle.qcow2_image.specs.Faults.{CountsImageFaults, IsNotOfStorage};
 
 use crate::Qcow2;
@@ -121,25 +120,10 @@ impl<S: Storage, F: WrappedFormat<S>> Qcow2<S, F> {
         offset: u64,
         length: u64,
     ) -> Result<(u64, u64), ImageError>
-        ensures early { IfSome (refuses_to_clear self.old offset length Clearance.Uncovered) (λ e. (result ≡ Err e) × (self.new ≡ self.old)) }
-        ensures late { refuses_to_clear self.old offset length Clearance.Uncovered ≡ None → IfErr result IsMetPreparing }
-        ensures refused { IfErr result (RefusesClearing S.view F.backing Clearance.Uncovered self.old self.new offset length) }
+        ensures step { ClearsStep S.view F.backing self.old self.new result }
+        ensures fails { FailsToClear S.view F.backing Clearance.Uncovered self.old self.new offset length result }
+        ensures sound { ClearsSoundly S.view F.backing Clearance.Uncovered self.old self.new offset length result }
         ensures limit { refuses_to_clear self.old offset length Clearance.Uncovered ≡ None → from_in self.old offset length < to_in self.old offset length → (out : List (Option Prepared)) → (abstract_of S.view F.backing self.old out).is_sound → IfErr result (IsLimitedByTable S.view (from_in self.old offset length) self.old self.new) }
-        ensures nothing { refuses_to_clear self.old offset length Clearance.Uncovered ≡ None → to_in self.old offset length ≤ from_in self.old offset length → (result ≡ Ok (from_in self.old offset length, 0)) × (self.new ≡ self.old) }
-        ensures marks { MarksFailed self.old self.new result }
-        ensures image { IsSameImage self.old self.new }
-        ensures under { refuses_to_clear self.old offset length Clearance.Uncovered ≡ None → from_in self.old offset length < to_in self.old offset length → (out : List (Option Prepared)) → (abstract_of S.view F.backing self.old out).is_sound
-            → IfErr result (λ e. e ≡ TablePrepared → IsUnderMapping self.old.file.header.fields (from_in self.old offset length) out) × IfOk result (λ range. IsUnderMapping self.old.file.header.fields (from_in self.old offset length) out → ⊥) }
-        ensures sees { Clears S.view F.backing Clearance.Uncovered self.old self.new offset length result }
-        ensures covers { (out : List (Option Prepared)) → (abstract_of S.view F.backing self.old out).is_sound
-            → OnOk result (ClearsImageCovers Clearance.Uncovered (from_in self.old offset length) (to_in self.old offset length) self.old.file.header.fields (known_in S.view self.old.file) self.new.file.header.fields (known_in S.view self.new.file)) }
-        ensures emptied { from_in self.old offset length < to_in self.old offset length → OnOk result (HasNothingToFree self.new) }
-        ensures range { IfOk result (λ range. range ≡ answered (cluster_size self.old.file.header.fields) (size_of self.old) offset length) }
-        ensures freed { refuses_to_clear self.old offset length Clearance.Uncovered ≡ None → from_in self.old offset length < to_in self.old offset length → (out : List (Option Prepared)) → (abstract_of S.view F.backing self.old out).is_sound → IfErr result (FreesRefused self.new) }
-        ensures pinned { from_in self.old offset length < to_in self.old offset length → refuses_to_clear self.old offset length Clearance.Uncovered ≡ None → HasOwnTable self.old (from_in self.old offset length) → HeedsPins self.old (from_in self.old offset length) result }
-        ensures once_written { FailsOnceWritten S.view self.old self.new result }
-        ensures header_cluster { StaysBehindHeader S.view self.old self.new }
-        ensures faults { CountsImageFaults S.view F.backing self.old self.new result }
     {
         self.clear_range(offset, length, Clearance::Uncovered)
     }
@@ -156,25 +140,10 @@ impl<S: Storage, F: WrappedFormat<S>> Qcow2<S, F> {
         offset: u64,
         length: u64,
     ) -> Result<(u64, u64), ImageError>
-        ensures early { IfSome (refuses_to_clear self.old offset length Clearance.Zeros) (λ e. (result ≡ Err e) × (self.new ≡ self.old)) }
-        ensures late { refuses_to_clear self.old offset length Clearance.Zeros ≡ None → IfErr result IsMetPreparing }
-        ensures refused { IfErr result (RefusesClearing S.view F.backing Clearance.Zeros self.old self.new offset length) }
+        ensures step { ClearsStep S.view F.backing self.old self.new result }
+        ensures fails { FailsToClear S.view F.backing Clearance.Zeros self.old self.new offset length result }
+        ensures sound { ClearsSoundly S.view F.backing Clearance.Zeros self.old self.new offset length result }
         ensures limit { refuses_to_clear self.old offset length Clearance.Zeros ≡ None → from_in self.old offset length < to_in self.old offset length → (out : List (Option Prepared)) → (abstract_of S.view F.backing self.old out).is_sound → IfErr result (IsLimitedByTable S.view (from_in self.old offset length) self.old self.new) }
-        ensures nothing { refuses_to_clear self.old offset length Clearance.Zeros ≡ None → to_in self.old offset length ≤ from_in self.old offset length → (result ≡ Ok (from_in self.old offset length, 0)) × (self.new ≡ self.old) }
-        ensures marks { MarksFailed self.old self.new result }
-        ensures image { IsSameImage self.old self.new }
-        ensures under { refuses_to_clear self.old offset length Clearance.Zeros ≡ None → from_in self.old offset length < to_in self.old offset length → (out : List (Option Prepared)) → (abstract_of S.view F.backing self.old out).is_sound
-            → IfErr result (λ e. e ≡ TablePrepared → IsUnderMapping self.old.file.header.fields (from_in self.old offset length) out) × IfOk result (λ range. IsUnderMapping self.old.file.header.fields (from_in self.old offset length) out → ⊥) }
-        ensures sees { Clears S.view F.backing Clearance.Zeros self.old self.new offset length result }
-        ensures covers { (out : List (Option Prepared)) → (abstract_of S.view F.backing self.old out).is_sound
-            → OnOk result (ClearsImageCovers Clearance.Zeros (from_in self.old offset length) (to_in self.old offset length) self.old.file.header.fields (known_in S.view self.old.file) self.new.file.header.fields (known_in S.view self.new.file)) }
-        ensures emptied { from_in self.old offset length < to_in self.old offset length → OnOk result (HasNothingToFree self.new) }
-        ensures range { IfOk result (λ range. range ≡ answered (cluster_size self.old.file.header.fields) (size_of self.old) offset length) }
-        ensures freed { refuses_to_clear self.old offset length Clearance.Zeros ≡ None → from_in self.old offset length < to_in self.old offset length → (out : List (Option Prepared)) → (abstract_of S.view F.backing self.old out).is_sound → IfErr result (FreesRefused self.new) }
-        ensures pinned { from_in self.old offset length < to_in self.old offset length → refuses_to_clear self.old offset length Clearance.Zeros ≡ None → HasOwnTable self.old (from_in self.old offset length) → HeedsPins self.old (from_in self.old offset length) result }
-        ensures once_written { FailsOnceWritten S.view self.old self.new result }
-        ensures header_cluster { StaysBehindHeader S.view self.old self.new }
-        ensures faults { CountsImageFaults S.view F.backing self.old self.new result }
     {
         self.clear_range(offset, length, Clearance::Zeros)
     }
@@ -191,25 +160,10 @@ impl<S: Storage, F: WrappedFormat<S>> Qcow2<S, F> {
         offset: u64,
         length: u64,
     ) -> Result<(u64, u64), ImageError>
-        ensures early { IfSome (refuses_to_clear self.old offset length Clearance.Zeros) (λ e. (result ≡ Err e) × (self.new ≡ self.old)) }
-        ensures late { refuses_to_clear self.old offset length Clearance.Zeros ≡ None → IfErr result IsMetPreparing }
-        ensures refused { IfErr result (RefusesClearing S.view F.backing Clearance.Zeros self.old self.new offset length) }
+        ensures step { ClearsStep S.view F.backing self.old self.new result }
+        ensures fails { FailsToClear S.view F.backing Clearance.Zeros self.old self.new offset length result }
+        ensures sound { ClearsSoundly S.view F.backing Clearance.Zeros self.old self.new offset length result }
         ensures limit { refuses_to_clear self.old offset length Clearance.Zeros ≡ None → from_in self.old offset length < to_in self.old offset length → (out : List (Option Prepared)) → (abstract_of S.view F.backing self.old out).is_sound → IfErr result (IsLimitedByTable S.view (from_in self.old offset length) self.old self.new) }
-        ensures nothing { refuses_to_clear self.old offset length Clearance.Zeros ≡ None → to_in self.old offset length ≤ from_in self.old offset length → (result ≡ Ok (from_in self.old offset length, 0)) × (self.new ≡ self.old) }
-        ensures marks { MarksFailed self.old self.new result }
-        ensures image { IsSameImage self.old self.new }
-        ensures under { refuses_to_clear self.old offset length Clearance.Zeros ≡ None → from_in self.old offset length < to_in self.old offset length → (out : List (Option Prepared)) → (abstract_of S.view F.backing self.old out).is_sound
-            → IfErr result (λ e. e ≡ TablePrepared → IsUnderMapping self.old.file.header.fields (from_in self.old offset length) out) × IfOk result (λ range. IsUnderMapping self.old.file.header.fields (from_in self.old offset length) out → ⊥) }
-        ensures sees { Clears S.view F.backing Clearance.Zeros self.old self.new offset length result }
-        ensures covers { (out : List (Option Prepared)) → (abstract_of S.view F.backing self.old out).is_sound
-            → OnOk result (ClearsImageCovers Clearance.Zeros (from_in self.old offset length) (to_in self.old offset length) self.old.file.header.fields (known_in S.view self.old.file) self.new.file.header.fields (known_in S.view self.new.file)) }
-        ensures emptied { from_in self.old offset length < to_in self.old offset length → OnOk result (HasNothingToFree self.new) }
-        ensures range { IfOk result (λ range. range ≡ answered (cluster_size self.old.file.header.fields) (size_of self.old) offset length) }
-        ensures freed { refuses_to_clear self.old offset length Clearance.Zeros ≡ None → from_in self.old offset length < to_in self.old offset length → (out : List (Option Prepared)) → (abstract_of S.view F.backing self.old out).is_sound → IfErr result (FreesRefused self.new) }
-        ensures pinned { from_in self.old offset length < to_in self.old offset length → refuses_to_clear self.old offset length Clearance.Zeros ≡ None → HasOwnTable self.old (from_in self.old offset length) → HeedsPins self.old (from_in self.old offset length) result }
-        ensures once_written { FailsOnceWritten S.view self.old self.new result }
-        ensures header_cluster { StaysBehindHeader S.view self.old self.new }
-        ensures faults { CountsImageFaults S.view F.backing self.old self.new result }
     {
         self.discard_to_zero_unsafe(offset, length)
     }
@@ -226,25 +180,10 @@ impl<S: Storage, F: WrappedFormat<S>> Qcow2<S, F> {
         offset: u64,
         length: u64,
     ) -> Result<(u64, u64), ImageError>
-        ensures early { IfSome (refuses_to_clear self.old offset length Clearance.KeptZeros) (λ e. (result ≡ Err e) × (self.new ≡ self.old)) }
-        ensures late { refuses_to_clear self.old offset length Clearance.KeptZeros ≡ None → IfErr result IsMetPreparing }
-        ensures refused { IfErr result (RefusesClearing S.view F.backing Clearance.KeptZeros self.old self.new offset length) }
+        ensures step { ClearsStep S.view F.backing self.old self.new result }
+        ensures fails { FailsToClear S.view F.backing Clearance.KeptZeros self.old self.new offset length result }
+        ensures sound { ClearsSoundly S.view F.backing Clearance.KeptZeros self.old self.new offset length result }
         ensures limit { refuses_to_clear self.old offset length Clearance.KeptZeros ≡ None → from_in self.old offset length < to_in self.old offset length → (out : List (Option Prepared)) → (abstract_of S.view F.backing self.old out).is_sound → IfErr result (IsLimitedByTable S.view (from_in self.old offset length) self.old self.new) }
-        ensures nothing { refuses_to_clear self.old offset length Clearance.KeptZeros ≡ None → to_in self.old offset length ≤ from_in self.old offset length → (result ≡ Ok (from_in self.old offset length, 0)) × (self.new ≡ self.old) }
-        ensures marks { MarksFailed self.old self.new result }
-        ensures image { IsSameImage self.old self.new }
-        ensures under { refuses_to_clear self.old offset length Clearance.KeptZeros ≡ None → from_in self.old offset length < to_in self.old offset length → (out : List (Option Prepared)) → (abstract_of S.view F.backing self.old out).is_sound
-            → IfErr result (λ e. e ≡ TablePrepared → IsUnderMapping self.old.file.header.fields (from_in self.old offset length) out) × IfOk result (λ range. IsUnderMapping self.old.file.header.fields (from_in self.old offset length) out → ⊥) }
-        ensures sees { Clears S.view F.backing Clearance.KeptZeros self.old self.new offset length result }
-        ensures covers { (out : List (Option Prepared)) → (abstract_of S.view F.backing self.old out).is_sound
-            → OnOk result (ClearsImageCovers Clearance.KeptZeros (from_in self.old offset length) (to_in self.old offset length) self.old.file.header.fields (known_in S.view self.old.file) self.new.file.header.fields (known_in S.view self.new.file)) }
-        ensures emptied { from_in self.old offset length < to_in self.old offset length → OnOk result (HasNothingToFree self.new) }
-        ensures range { IfOk result (λ range. range ≡ answered (cluster_size self.old.file.header.fields) (size_of self.old) offset length) }
-        ensures freed { refuses_to_clear self.old offset length Clearance.KeptZeros ≡ None → from_in self.old offset length < to_in self.old offset length → (out : List (Option Prepared)) → (abstract_of S.view F.backing self.old out).is_sound → IfErr result (FreesRefused self.new) }
-        ensures pinned { from_in self.old offset length < to_in self.old offset length → refuses_to_clear self.old offset length Clearance.KeptZeros ≡ None → HasOwnTable self.old (from_in self.old offset length) → HeedsPins self.old (from_in self.old offset length) result }
-        ensures once_written { FailsOnceWritten S.view self.old self.new result }
-        ensures header_cluster { StaysBehindHeader S.view self.old self.new }
-        ensures faults { CountsImageFaults S.view F.backing self.old self.new result }
     {
         self.clear_range(offset, length, Clearance::KeptZeros)
     }
@@ -256,26 +195,10 @@ impl<S: Storage, F: WrappedFormat<S>> Qcow2<S, F> {
         length: u64,
         how: Clearance,
     ) -> Result<(u64, u64), ImageError>
-        ensures early { IfSome (refuses_to_clear self.old offset length how) (λ e. (result ≡ Err e) × (self.new ≡ self.old)) }
-        ensures late { refuses_to_clear self.old offset length how ≡ None → IfErr result IsMetPreparing }
+        ensures step { ClearsStep S.view F.backing self.old self.new result }
+        ensures fails { FailsToClear S.view F.backing how self.old self.new offset length result }
+        ensures sound { ClearsSoundly S.view F.backing how self.old self.new offset length result }
         ensures limit { refuses_to_clear self.old offset length how ≡ None → from_in self.old offset length < to_in self.old offset length → (out : List (Option Prepared)) → (abstract_of S.view F.backing self.old out).is_sound → IfErr result (IsLimitedByTable S.view (from_in self.old offset length) self.old self.new) }
-        ensures nothing { refuses_to_clear self.old offset length how ≡ None → to_in self.old offset length ≤ from_in self.old offset length → (result ≡ Ok (from_in self.old offset length, 0)) × (self.new ≡ self.old) }
-        ensures image { IsSameImage self.old self.new × MarksFailed self.old self.new result }
-        ensures under { refuses_to_clear self.old offset length how ≡ None → from_in self.old offset length < to_in self.old offset length → (out : List (Option Prepared)) → (abstract_of S.view F.backing self.old out).is_sound
-            → IfErr result (λ e. e ≡ TablePrepared → IsUnderMapping self.old.file.header.fields (from_in self.old offset length) out) × IfOk result (λ range. IsUnderMapping self.old.file.header.fields (from_in self.old offset length) out → ⊥) }
-        ensures sees { Clears S.view F.backing how self.old self.new offset length result }
-        ensures covers { (out : List (Option Prepared)) → (abstract_of S.view F.backing self.old out).is_sound
-            → OnOk result (ClearsImageCovers how (from_in self.old offset length) (to_in self.old offset length) self.old.file.header.fields (known_in S.view self.old.file) self.new.file.header.fields (known_in S.view self.new.file)) }
-        ensures emptied { from_in self.old offset length < to_in self.old offset length → OnOk result (HasNothingToFree self.new) }
-        ensures freed { refuses_to_clear self.old offset length how ≡ None → from_in self.old offset length < to_in self.old offset length → (out : List (Option Prepared)) → (abstract_of S.view F.backing self.old out).is_sound → IfErr result (FreesRefused self.new) }
-        ensures pinned { from_in self.old offset length < to_in self.old offset length → refuses_to_clear self.old offset length how ≡ None → HasOwnTable self.old (from_in self.old offset length) → HeedsPins self.old (from_in self.old offset length) result }
-        ensures range { IfOk result (λ range. range ≡ answered (cluster_size self.old.file.header.fields) (size_of self.old) offset length) }
-        ensures refused { IfErr result (RefusesClearing S.view F.backing how self.old self.new offset length) }
-        ensures since { NotesPart S.view self.old self.new }
-        ensures once_written { FailsOnceWritten S.view self.old self.new result }
-        ensures changed { (out : List (Option Prepared)) → (abstract_of S.view F.backing self.old out).is_sound → from_in self.old offset length < to_in self.old offset length → OnOk result (ChangesRose self.old self.new) }
-        ensures header_cluster { StaysBehindHeader S.view self.old self.new }
-        ensures faults { CountsImageFaults S.view F.backing self.old self.new result }
     {
         let (from, to) = self.check_clear(offset, length, how)?;
         if to <= from {

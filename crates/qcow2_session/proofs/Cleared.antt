@@ -21,12 +21,14 @@ use Rattle.qcow2_image.specs.Calls.{AnswersCall}
 use Rattle.qcow2_image.specs.Clearing.{from_in, setting_of, to_in}
 use Rattle.qcow2_image.specs.declared.image.Qcow2.{Qcow2}
 use Rattle.qcow2_image.specs.declared.prepared.Prepared.{Prepared}
+use Rattle.qcow2_image.specs.Faults.{CountsImageFaults}
 use Rattle.qcow2_image.specs.Image.{is_writable, size_of}
 use Rattle.qcow2_image.specs.ImageInvariant.{ImageInvariant, abstract_of, disk_of, pending_in}
 use Rattle.qcow2_image.specs.Refusals.{passes, refuse_if, unusable}
 use Rattle.qcow2_image.proofs.HiddenBytes.{header_is}
 use Rattle.qcow2_image.proofs.Sizes.{disk_size}
 use Rattle.qcow2_session.specs.Commands.{reply_of, reply_of_clearing}
+use Rattle.qcow2_session.specs.CountedFaults.{CommandCounts}
 use Rattle.qcow2_session.specs.Told.{TellsRange}
 use Rattle.qcow2_session.specs.declared.session.Reply.{Reply}
 use Rattle.qcow2_session.proofs.Answering.{error_is, first_of_all, not_both}
@@ -115,3 +117,12 @@ range_told {S = S} {F = F} view backing old new offset n r reply is range = subs
     by : (q : Result (ℕ × ℕ) ImageError) → IfOk q (λ range. range ≡ answered (cluster_size old.file.header.fields) (size_of old) offset n) → TellsRange view backing old new offset n (reply_of_clearing q)
     by (Ok range) is = is
     by (Err e) is = tt
+
+-- the failures that it counted
+pub clearing_counted : {S F : Type 0} (view : S → StorageView) (backing : F → BackingView) (old new : Qcow2 S F) (r : Result (ℕ × ℕ) ImageError) (reply : Reply) → reply ≡ reply_of_clearing r
+    → CountsImageFaults view backing old new r → CommandCounts view backing old new reply
+clearing_counted {S = S} {F = F} view backing old new r reply is counts = subst (λ q. CommandCounts view backing old new q) (sym is) (by r counts)
+  where
+    by : (q : Result (ℕ × ℕ) ImageError) → CountsImageFaults view backing old new q → CommandCounts view backing old new (reply_of_clearing q)
+    by (Ok range) counts = record { no_fewer = counts.no_fewer; rose = tt; told = counts.told }
+    by (Err e) counts = record { no_fewer = counts.no_fewer; rose = counts.rose; told = counts.told }

@@ -1,0 +1,61 @@
+-- What each of the calls does that clear the whole clusters of a range: one contract, whatever stands for a cluster once it is cleared.
+use Rattle.std.specs.Prelude.{ℕ, ◌≡◌, ◌<◌, ◌≤◌, List, Option, None, Result, Ok, Err, IfErr, IfOk, IfSome, OnOk}
+use Rattle.image_access.specs.Backing.{BackingView}
+use Rattle.image_access.specs.Moments.{StorageView}
+use Rattle.qcow2_metadata.specs.Header.{cluster_size}
+use Rattle.qcow2_disk.specs.Rules.{answered}
+use Rattle.qcow2_alloc.specs.ImageFile.{known_in}
+use Rattle.qcow2_alloc.specs.declared.error.ImageError.{ImageError}
+use Rattle.qcow2_alloc.specs.declared.error.ImageError.TheVariants.{TablePrepared}
+use Rattle.qcow2_image.specs.BehindHeader.{StaysBehindHeader}
+use Rattle.qcow2_image.specs.Clearing.{Clears, ClearsImageCovers, IsUnderMapping, RefusesClearing, from_in, refuses_to_clear, to_in}
+use Rattle.qcow2_image.specs.Faults.{CountsImageFaults}
+use Rattle.qcow2_image.specs.Image.{HasNothingToFree, IsSameImage, size_of}
+use Rattle.qcow2_image.specs.ImageInvariant.{abstract_of}
+use Rattle.qcow2_image.specs.L1Entries.{HasOwnTable}
+use Rattle.qcow2_image.specs.Noted.{ChangesRose, FailsOnceWritten, NotesPart}
+use Rattle.qcow2_image.specs.PinnedTables.{HeedsPins}
+use Rattle.qcow2_image.specs.Refusals.{FreesRefused, IsMetPreparing, MarksFailed}
+use Rattle.qcow2_image.specs.declared.discarding.Clearance.{Clearance}
+use Rattle.qcow2_image.specs.declared.image.Qcow2.{Qcow2}
+use Rattle.qcow2_image.specs.declared.prepared.Prepared.{Prepared}
+
+module _ {S F : Type 0} (view : S → StorageView) (backing : F → BackingView) where
+  -- Whatever the contents, it stays the same image, marked as failed by rule. Its changes are noted and counted, the header's cluster is left alone, and each fault is told.
+  pub record ClearsStep (old new : Qcow2 S F) (result : Result (ℕ × ℕ) ImageError) : Type 0 where
+    pub image : IsSameImage old new
+    pub marks : MarksFailed old new result
+    pub since : NotesPart view old new
+    pub once_written : FailsOnceWritten view old new result
+    pub header_cluster : StaysBehindHeader view old new
+    pub faults : CountsImageFaults view backing old new result
+
+  module _ (how : Clearance) (old new : Qcow2 S F) (offset n : ℕ) (result : Result (ℕ × ℕ) ImageError) where
+    abbrev pub may_clear : Type 0
+    may_clear = refuses_to_clear old offset n how ≡ None
+
+    -- the range has a whole cluster
+    abbrev pub touches_some : Type 0
+    touches_some = from_in old offset n < to_in old offset n
+
+    -- It is refused at once, with nothing changed, where something forbids it, and else where the work meets it.
+    -- The L2 table of the first offset is changed only where no mapping keeps it as it is, and the call is refused 9 only where one does.
+    -- A refusal leaves no cluster to be freed, but for a fault and for 9.
+    pub record FailsToClear : Type 0 where
+      pub early : IfSome (refuses_to_clear old offset n how) (λ e. (result ≡ Err e) × (new ≡ old))
+      pub late : may_clear → IfErr result IsMetPreparing
+      pub refused : IfErr result (RefusesClearing view backing how old new offset n)
+      pub pinned : touches_some → may_clear → HasOwnTable old (from_in old offset n) → HeedsPins old (from_in old offset n) result
+      pub under : may_clear → touches_some → (out : List (Option Prepared)) → (abstract_of view backing old out).is_sound
+          → IfErr result (λ e. e ≡ TablePrepared → IsUnderMapping old.file.header.fields (from_in old offset n) out) × IfOk result (λ range. IsUnderMapping old.file.header.fields (from_in old offset n) out → ⊥)
+      pub freed : may_clear → touches_some → (out : List (Option Prepared)) → (abstract_of view backing old out).is_sound → IfErr result (FreesRefused new)
+
+    -- It answers how much of the range was cleared, and changes nothing where no cluster is whole. On a sound image the guest sees the whole clusters cleared, which is noted, and nothing is left to be freed.
+    pub record ClearsSoundly : Type 0 where
+      pub range : IfOk result (λ range. range ≡ answered (cluster_size old.file.header.fields) (size_of old) offset n)
+      pub nothing : may_clear → to_in old offset n ≤ from_in old offset n → (result ≡ Ok (from_in old offset n, 0)) × (new ≡ old)
+      pub sees : Clears view backing how old new offset n result
+      pub covers : (out : List (Option Prepared)) → (abstract_of view backing old out).is_sound
+          → OnOk result (ClearsImageCovers how (from_in old offset n) (to_in old offset n) old.file.header.fields (known_in view old.file) new.file.header.fields (known_in view new.file))
+      pub emptied : touches_some → OnOk result (HasNothingToFree new)
+      pub changed : (out : List (Option Prepared)) → (abstract_of view backing old out).is_sound → touches_some → OnOk result (ChangesRose old new)
