@@ -5,12 +5,14 @@ use Rattle.image_access.specs.Moments.{StorageView}
 use Rattle.qcow2_metadata.specs.Header.{cluster_size}
 use Rattle.qcow2_disk.specs.Rules.{answered}
 use Rattle.qcow2_alloc.specs.ImageFile.{known_in}
+use Rattle.qcow2_alloc.specs.KeptMarks.{KeepsFileNotes}
+use Rattle.qcow2_alloc.specs.KeptNotes.{NoData}
 use Rattle.qcow2_alloc.specs.declared.error.ImageError.{ImageError}
 use Rattle.qcow2_alloc.specs.declared.error.ImageError.TheVariants.{TablePrepared}
 use Rattle.qcow2_image.specs.BehindHeader.{StaysBehindHeader}
 use Rattle.qcow2_image.specs.Clearing.{Clears, ClearsImageCovers, IsUnderMapping, RefusesClearing, from_in, refuses_to_clear, to_in}
 use Rattle.qcow2_image.specs.Faults.{CountsImageFaults}
-use Rattle.qcow2_image.specs.Image.{HasNothingToFree, IsSameImage, size_of}
+use Rattle.qcow2_image.specs.Image.{HasNothingToFree, ImageStays, IsSameImage, size_of}
 use Rattle.qcow2_image.specs.ImageInvariant.{abstract_of}
 use Rattle.qcow2_image.specs.L1Entries.{HasOwnTable}
 use Rattle.qcow2_image.specs.Noted.{ChangesRose, FailsOnceWritten, NotesPart}
@@ -21,6 +23,13 @@ use Rattle.qcow2_image.specs.declared.image.Qcow2.{Qcow2}
 use Rattle.qcow2_image.specs.declared.prepared.Prepared.{Prepared}
 
 module _ {S F : Type 0} (view : S → StorageView) (backing : F → BackingView) where
+  -- Whatever the contents, a part of a call keeps the image and its notes, leaves the header's cluster alone, and tells each fault.
+  pub record PartStep (old new : Qcow2 S F) (result : Result (Unit {0}) ImageError) : Type 0 where
+    pub stays : ImageStays old new
+    pub notes : KeepsFileNotes view NoData old.file new.file
+    pub header_cluster : StaysBehindHeader view old new
+    pub faults : CountsImageFaults view backing old new result
+
   -- Whatever the contents, it stays the same image, marked as failed by rule. Its changes are noted and counted, the header's cluster is left alone, and each fault is told.
   pub record ClearsStep (old new : Qcow2 S F) (result : Result (ℕ × ℕ) ImageError) : Type 0 where
     pub image : IsSameImage old new

@@ -1,9 +1,6 @@
 //! Clearing the whole clusters of a range: to zeros, or to what the disk below shows.
 ghost use Rattle.qcow2_image.specs.ListedClusters.{SomeGaveWay};
 ghost use Rattle.qcow2_image.specs.LackedPlaces.{IsLimitedByTable};
-ghost use Rattle.qcow2_image.specs.BehindHeader.{StaysBehindHeader};
-ghost use Rattle.qcow2_alloc.specs.KeptMarks.{KeepsFileNotes};
-ghost use Rattle.qcow2_alloc.specs.KeptNotes.{NoData};
 ghost use Rattle.std.specs.Prelude.{ℕ, List, Option, ◌≡◌, ◌+◌, ◌-◌, ◌/◌, ◌%◌, ◌^◌, ◌<◌, ◌≤◌, ◌++◌, true, false, Some, None, Ok, Err, IfOk, IfErr, IfSome, OnOk, IsSome, IsTrue, MatchOption, if◌then◌else◌};
 ghost use Rattle.qcow2_image.specs.Found.{l1_index_of};
 ghost use Rattle.qcow2_metadata.specs.EntryTable.{entry_count};
@@ -23,9 +20,9 @@ ghost use Rattle.qcow2_image.specs.PinnedTables.{HeedsPins};
 ghost use Rattle.qcow2_image.specs.Image.{ImageStays, is_writable, size_of};
 ghost use Rattle.qcow2_image.specs.ImageInvariant.{ImageInvariant, abstract_of, pending_in, listed_run};
 ghost use Rattle.qcow2_image.specs.Refusals.{FreesRefused, IsMet, IsMetPreparing, passes as passes_size};
-ghost use Rattle.qcow2_image.specs.ClearingCalls.{ClearsStep, ClearsSoundly, FailsToClear};
+ghost use Rattle.qcow2_image.specs.ClearingCalls.{PartStep, ClearsStep, ClearsSoundly, FailsToClear};
 ghost use Rattle.qcow2_image.specs.Clearing.{ClearsEntry, ClearsOrRefuses, ClearsTable, IsUnderMapping, IsClearable, ReadsAll, ReadsDropped, cover_once_cleared, from_in, to_in, needs_zero_entries, refuses_to_clear, rounds_past};
-ghost use Rattle.qcow2_image.specs.Faults.{CountsImageFaults, IsNotOfStorage};
+ghost use Rattle.qcow2_image.specs.Faults.{IsNotOfStorage};
 
 use crate::Qcow2;
 use crate::mappings::passes;
@@ -265,9 +262,7 @@ impl<S: Storage, F: WrappedFormat<S>> Qcow2<S, F> {
     ) -> Result<(), ImageError>
         requires writable { IsTrue (is_writable self.old) }
         requires some { from < to }
-        ensures stays { ImageStays self.old self.new }
-        ensures notes { KeepsFileNotes S.view NoData self.old.file self.new.file }
-        ensures header_cluster { StaysBehindHeader S.view self.old self.new }
+        ensures step { PartStep S.view F.backing self.old self.new result }
         ensures cause { IfErr result IsMetPreparing }
         ensures met { (out : List (Option Prepared)) → ImageInvariant S.view F.backing (pending_in S.view F.backing self.old out) self.old out → IsClearable self.old.file.header.fields how from to → IfErr result (IsMetTaking (HasPrepared out) (IsUnderMapping self.old.file.header.fields from out) ⊥ (NeedsFarEntry self.old from)) }
         ensures l1_place { l1_index_of self.old.file.header.fields from < entry_count self.old.l1_table → OnOk result (KeepsL1Place self.old.file.header.fields self.new.file.header.fields) }
@@ -284,7 +279,6 @@ impl<S: Storage, F: WrappedFormat<S>> Qcow2<S, F> {
         ensures freed { (out : List (Option Prepared)) → ImageInvariant S.view F.backing (pending_in S.view F.backing self.old out) self.old out → IsClearable self.old.file.header.fields how from to
             → IfErr result (FreesRefused self.new) }
         ensures pinned { HasOwnTable self.old from → HeedsPins self.old from result }
-        ensures faults { CountsImageFaults S.view F.backing self.old self.new result }
     {
         match self.clear_in_table(from, to, how) {
             Ok(()) => Ok(()),
@@ -296,9 +290,7 @@ impl<S: Storage, F: WrappedFormat<S>> Qcow2<S, F> {
     fn clear_in_table(&mut self, from: u64, to: u64, how: Clearance) -> Result<(), ImageError>
         requires writable { IsTrue (is_writable self.old) }
         requires some { from < to }
-        ensures stays { ImageStays self.old self.new }
-        ensures notes { KeepsFileNotes S.view NoData self.old.file self.new.file }
-        ensures header_cluster { StaysBehindHeader S.view self.old self.new }
+        ensures step { PartStep S.view F.backing self.old self.new result }
         ensures cause { IfErr result IsMetPreparing }
         ensures met { (out : List (Option Prepared)) → ImageInvariant S.view F.backing (pending_in S.view F.backing self.old out) self.old out → IsClearable self.old.file.header.fields how from to → IfErr result (IsMetTaking (HasPrepared out) (IsUnderMapping self.old.file.header.fields from out) ⊥ (NeedsFarEntry self.old from)) }
         ensures l1_place { l1_index_of self.old.file.header.fields from < entry_count self.old.l1_table → OnOk result (KeepsL1Place self.old.file.header.fields self.new.file.header.fields) }
@@ -313,7 +305,6 @@ impl<S: Storage, F: WrappedFormat<S>> Qcow2<S, F> {
             → IfOk result (λ done. IsUnderMapping self.old.file.header.fields from out → ⊥) }
         ensures gave { (out : List (Option Prepared)) → ImageInvariant S.view F.backing (pending_in S.view F.backing self.old out) self.old out → OnOk result (SomeGaveWay self.old self.new) }
         ensures pinned { HasOwnTable self.old from → HeedsPins self.old from result }
-        ensures faults { CountsImageFaults S.view F.backing self.old self.new result }
     {
         let table = self.table_for(from)?;
         if self.file.caches.l2_is_pinned(table) {

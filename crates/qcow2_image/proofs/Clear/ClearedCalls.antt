@@ -17,7 +17,7 @@ use Rattle.qcow2_alloc.specs.declared.error.ImageError.TheVariants as I
 use Rattle.qcow2_image.specs.CallParts.{UnseenCall}
 use Rattle.qcow2_image.specs.Clearing.{ClearsImageCovers, ClearsOrRefuses, ClearsPart, IsClearable, cover_once_cleared, from_in, is_between, needs_zero_entries, refuses_to_clear, rounds_past, to_in}
 use Rattle.qcow2_image.specs.ClearingCalls.{ClearsSoundly, ClearsStep, FailsToClear}
-use Rattle.qcow2_image.specs.Faults.{IsNotOfStorage}
+use Rattle.qcow2_image.specs.Faults.{CountsImageFaults, IsNotOfStorage, SameFaults}
 use Rattle.qcow2_image.specs.Image.{IsSameImage, has_noted_change, is_external, is_failed, is_writable, size_of}
 use Rattle.qcow2_image.specs.ImageInvariant.{ImageInvariant, pending_in}
 use Rattle.qcow2_image.specs.Refusals.{failed_after, passes, refuse_if}
@@ -62,6 +62,10 @@ none_between h from to g least = elim (cases_lt (g * cluster_size h) from) [
 covers_none : (how : Clearance) (from to : ℕ) (h : HeaderFields) (known : Bytes) → to ≤ from → ClearsImageCovers how from to h known h known
 covers_none how from to h known least g = sym (cond-false (is_between h from to g) (cover_once_cleared how (cover h known g)) (cover h known g) (none_between h from to g least))
 
+-- a refusal of a call that counted no fault
+pub counted_other : {T S F : Type 0} (view : S → StorageView) (backing : F → BackingView) (old new : Qcow2 S F) (e : ImageError) → IsNotOfStorage e → SameFaults view backing old new → CountsImageFaults view backing {T = T} old new (Err e)
+counted_other view backing old new e other same = record { no_fewer = fewer_of view backing old new same; rose = λ is. absurd (other is); told = λ _. same }
+
 module _ {S F : Type 0} (view : S → StorageView) (backing : F → BackingView) (old : Qcow2 S F) (how : Clearance) (offset n : ℕ) (checked : Result (ℕ × ℕ) ImageError)
     (check : MatchOption (refuses_to_clear old offset n how) (checked ≡ Ok (from_in old offset n, to_in old offset n)) (λ e. checked ≡ Err e)) where
   -- ---- it is refused at once
@@ -74,7 +78,6 @@ module _ {S F : Type 0} (view : S → StorageView) (backing : F → BackingView)
 
     step_refused : IsNotOfStorage e → ClearsStep view backing old old (Err e)
     step_refused other =
-        let same = untouched view backing old old refl refl in
         record {
           image = record { number = refl; size = refl; writable = refl; external = refl };
           marks = early_marks (is_failed old) (is_external old) (not (is_writable old)) (passes (size_of old) offset n) (needs_zero_entries how && nat_lt old.file.header.fields.version 3)
@@ -82,7 +85,7 @@ module _ {S F : Type 0} (view : S → StorageView) (backing : F → BackingView)
           since = part_none view old;
           once_written = fails_none view old (Err e);
           header_cluster = behind_none;
-          faults = record { no_fewer = fewer_of view backing old old same; rose = λ bad. absurd (other bad); told = λ _. same };
+          faults = counted_other view backing old old e other (untouched view backing old old refl refl);
         }
 
     fails_refused : FailsToClear view backing how old old offset n (Err e)

@@ -1,5 +1,5 @@
 use Rattle.qcow2_image.proofs.image.Qcow2.clear_between.Goals as goal
-use Rattle.std.proofs.Common.{subst, sym, refl, inl}
+use Rattle.std.proofs.Common.{◌∙◌, subst, sym, refl, inl}
 use Rattle.std.specs.Prelude.{IsTrue}
 use Rattle.qcow2_alloc.proofs.KeptMarks.{notes_then}
 use Rattle.qcow2_image.proofs.Call.BehindHeader.{behind_then}
@@ -12,6 +12,7 @@ use Rattle.qcow2_image.specs.L1Entries.{NeedsFarEntry}
 use Rattle.qcow2_image.specs.Backings.{HasPrepared}
 use Rattle.qcow2_image.specs.MetAlone.{IsMetTaking}
 use Rattle.qcow2_image.specs.Clearing.{IsUnderMapping}
+use Rattle.qcow2_image.proofs.Clear.ClearedCalls.{same_image_then}
 
 pub returns-in-Ok-clause-clears : goal.returns-in-Ok-clause-clears
 returns-in-Ok-clause-clears g c = λ out sound whole. c.in-Ok.ensures.clears out sound whole
@@ -28,33 +29,13 @@ returns-in-Err-clause-lacks g c = λ out sound whole none.
 pub returns-in-Err-clause-freed : goal.returns-in-Err-clause-freed
 returns-in-Err-clause-freed g c = λ out sound whole.
     refused_freed g.S.Storage.view g.F.BackingDisk.backing out c.args.self.now c.clear_in_table.new.self c.free_after.new.self c.in-Err.refusal c.free_after.result (c.in-Err.ensures.clears out sound whole) c.free_after.ensures.fault
-    (c.free_after.ensures.emptied (subst IsTrue (sym c.clear_in_table.ensures.stays.image.writable) c.requires.writable) out)
+    (c.free_after.ensures.emptied (subst IsTrue (sym c.clear_in_table.ensures.step.stays.image.writable) c.requires.writable) out)
 
 pub returns-in-Err-clause-taken : goal.returns-in-Err-clause-taken
 returns-in-Err-clause-taken g c = λ out sound is. c.in-Err.ensures.taken out sound (c.free_after.ensures.taken c.in-Err.ensures.cause is)
 
 pub returns-in-Ok-clause-free : goal.returns-in-Ok-clause-free
 returns-in-Ok-clause-free g c = λ out sound. c.in-Ok.ensures.free out sound
-
-pub returns-in-Err-clause-faults : goal.returns-in-Err-clause-faults
-returns-in-Err-clause-faults g c =
-    let view = g.S.Storage.view in
-    let below = g.F.BackingDisk.backing in
-    let old = c.args.self.now in
-    counted_of view below old c.free_after.new.self c.free_after.result
-    (c.free_after.ensures.faults old (counted_as view below old old c.clear_in_table.new.self c.clear_in_table.result c.in-Err.refusal (untouched view below old old refl refl) c.clear_in_table.ensures.faults c.in-Err.is))
-
-pub returns-in-Ok-clause-notes : goal.returns-in-Ok-clause-notes
-returns-in-Ok-clause-notes g c = c.clear_in_table.ensures.notes
-
-pub returns-in-Err-clause-notes : goal.returns-in-Err-clause-notes
-returns-in-Err-clause-notes g c = notes_then c.clear_in_table.ensures.notes c.free_after.ensures.notes
-
-pub returns-in-Ok-clause-header_cluster : goal.returns-in-Ok-clause-header_cluster
-returns-in-Ok-clause-header_cluster g c = c.clear_in_table.ensures.header_cluster
-
-pub returns-in-Err-clause-header_cluster : goal.returns-in-Err-clause-header_cluster
-returns-in-Err-clause-header_cluster g c = behind_then c.clear_in_table.ensures.header_cluster c.free_after.ensures.header_cluster
 
 pub returns-in-Ok-clause-pinned : goal.returns-in-Ok-clause-pinned
 returns-in-Ok-clause-pinned g c = λ own. c.in-Ok.ensures.pinned own
@@ -79,3 +60,19 @@ returns-in-Err-clause-met g c = λ out sound whole.
 
 pub returns-in-Ok-clause-gave : goal.returns-in-Ok-clause-gave
 returns-in-Ok-clause-gave g c = λ out sound. c.in-Ok.ensures.gave out sound
+
+pub returns-in-Ok-clause-step : goal.returns-in-Ok-clause-step
+returns-in-Ok-clause-step g c = c.in-Ok.ensures.step
+
+pub returns-in-Err-clause-step : goal.returns-in-Err-clause-step
+returns-in-Err-clause-step g c =
+    let view = g.S.Storage.view in
+    let below = g.F.BackingDisk.backing in
+    let old = c.args.self.now in
+    record {
+      stays = record { image = same_image_then c.clear_in_table.ensures.step.stays.image c.free_after.ensures.stays.image; failed = c.free_after.ensures.stays.failed ∙ c.clear_in_table.ensures.step.stays.failed };
+      notes = notes_then c.clear_in_table.ensures.step.notes c.free_after.ensures.notes;
+      header_cluster = behind_then c.clear_in_table.ensures.step.header_cluster c.free_after.ensures.header_cluster;
+      faults = counted_of view below old c.free_after.new.self c.free_after.result
+          (c.free_after.ensures.faults old (counted_as view below old old c.clear_in_table.new.self c.clear_in_table.result c.in-Err.refusal (untouched view below old old refl refl) c.clear_in_table.ensures.step.faults c.in-Err.is));
+    }

@@ -24,6 +24,10 @@ use Rattle.qcow2_image.specs.MetAlone.{IsMetTaking}
 use Rattle.qcow2_image.proofs.Prepare.Met.{hands_met}
 use Rattle.qcow2_image.proofs.Prepare.MetTaking.{taking_as}
 use Rattle.qcow2_image.proofs.Prepare.Listing.{gave_still}
+use Rattle.qcow2_image.specs.Faults.{CountsImageFaults}
+use Rattle.qcow2_image.proofs.Call.FaultCounts.{counted_ok, counted_on, faults_then, untouched}
+use Rattle.qcow2_image.proofs.Clear.ClearedCalls.{counted_other}
+use Rattle.qcow2_alloc.specs.declared.error.ImageError.TheVariants.{TablePrepared}
 
 pub returns-in_err-table-clause-clears : goal.returns-in_err-table-clause-clears
 returns-in_err-table-clause-clears g c = λ out sound whole.
@@ -82,30 +86,6 @@ pub returns-then-l2_is_pinned-clause-lacks : goal.returns-then-l2_is_pinned-clau
 returns-then-l2_is_pinned-clause-lacks g c = λ out sound whole none.
     let found = c.in_ok-table.ensures.finds out sound in
     absurd (none (some_prepared g.S.Storage.view g.F.BackingDisk.backing c.table_for.new.self out found.0.sound c.in_ok-table.table (c.l2_is_pinned.ensures.0 c.if-l2_is_pinned.true)))
-
-pub returns-in_err-table-clause-notes : goal.returns-in_err-table-clause-notes
-returns-in_err-table-clause-notes g c = c.table_for.ensures.notes
-
-pub returns-then-l2_is_pinned-clause-notes : goal.returns-then-l2_is_pinned-clause-notes
-returns-then-l2_is_pinned-clause-notes g c = c.table_for.ensures.notes
-
-pub returns-in_err-old_data-clause-notes : goal.returns-in_err-old_data-clause-notes
-returns-in_err-old_data-clause-notes g c = c.table_for.ensures.notes
-
-pub returns-clause-notes : goal.returns-clause-notes
-returns-clause-notes g c = notes_then c.table_for.ensures.notes (table_kept c.table_for.new.self c.clear_entries.new.self (ap (λ (i : Qcow2 _ _). i.file.storage) c.clear_entries.ensures.clears.rest) c.clear_entries.ensures.clears.marks)
-
-pub returns-in_err-table-clause-header_cluster : goal.returns-in_err-table-clause-header_cluster
-returns-in_err-table-clause-header_cluster g c = c.table_for.ensures.header_cluster
-
-pub returns-then-l2_is_pinned-clause-header_cluster : goal.returns-then-l2_is_pinned-clause-header_cluster
-returns-then-l2_is_pinned-clause-header_cluster g c = c.table_for.ensures.header_cluster
-
-pub returns-in_err-old_data-clause-header_cluster : goal.returns-in_err-old_data-clause-header_cluster
-returns-in_err-old_data-clause-header_cluster g c = c.table_for.ensures.header_cluster
-
-pub returns-clause-header_cluster : goal.returns-clause-header_cluster
-returns-clause-header_cluster g c = behind_then c.table_for.ensures.header_cluster (behind_by g.S.Storage.view c.clear_entries.ensures.clears.rest (behind_tables c.clear_entries.ensures.clears.behind))
 
 pub returns-in_err-table-clause-pinned : goal.returns-in_err-table-clause-pinned
 returns-in_err-table-clause-pinned g c = λ own. heeds_refused c.args.self.now c.args.from c.from_residual.result c.in_err-table.field-0.0 c.from_residual.ensures (λ is. absurd (met_untaken c.in_err-table.field-0.0 c.in_err-table.ensures.cause is))
@@ -176,3 +156,61 @@ returns-clause-gave g c = λ out sound.
     let since = c.in_ok-table.ensures.freed out sound in
     let new = record c.clear_entries.new.self { file = record c.clear_entries.new.self.file { free_list = c.hand_back.new.list } } in
     (since.freed ++ since.more, gave_still (since.freed ++ since.more) c.args.self.now c.table_for.new.self new since.gone (ap (λ (i : Qcow2 _ _). i.allocator) c.clear_entries.ensures.clears.rest))
+
+pub returns-in_err-table-clause-step : goal.returns-in_err-table-clause-step
+returns-in_err-table-clause-step g c =
+    let view = g.S.Storage.view in
+    let below = g.F.BackingDisk.backing in
+    let old = c.args.self.now in
+    let mid = c.table_for.new.self in
+    record {
+      stays = c.table_for.ensures.stays;
+      notes = c.table_for.ensures.notes;
+      header_cluster = c.table_for.ensures.header_cluster;
+      faults = counted_on view below old old mid c.table_for.result c.in_err-table.field-0.0 c.from_residual.result (untouched view below old old refl refl) c.table_for.ensures.faults c.in_err-table.was c.from_residual.ensures;
+    }
+
+pub returns-then-l2_is_pinned-clause-step : goal.returns-then-l2_is_pinned-clause-step
+returns-then-l2_is_pinned-clause-step g c =
+    let view = g.S.Storage.view in
+    let below = g.F.BackingDisk.backing in
+    let old = c.args.self.now in
+    let mid = c.table_for.new.self in
+    record {
+      stays = c.table_for.ensures.stays;
+      notes = c.table_for.ensures.notes;
+      header_cluster = c.table_for.ensures.header_cluster;
+      faults = counted_other view below old mid TablePrepared (λ is. cc) c.in_ok-table.ensures.faults.told;
+    }
+
+pub returns-in_err-old_data-clause-step : goal.returns-in_err-old_data-clause-step
+returns-in_err-old_data-clause-step g c =
+    let view = g.S.Storage.view in
+    let below = g.F.BackingDisk.backing in
+    let old = c.args.self.now in
+    let mid = c.table_for.new.self in
+    let e = c.in_err-old_data.field-0.0 in
+    record {
+      stays = c.table_for.ensures.stays;
+      notes = c.table_for.ensures.notes;
+      header_cluster = c.table_for.ensures.header_cluster;
+      faults = handed_on (λ r. CountsImageFaults view below old mid r) c.from_residual-in_err-old_data.result e c.from_residual-in_err-old_data.ensures (counted_other view below old mid e c.in_err-old_data.ensures.faults c.in_ok-table.ensures.faults.told);
+    }
+
+pub returns-clause-step : goal.returns-clause-step
+returns-clause-step g c =
+    let view = g.S.Storage.view in
+    let below = g.F.BackingDisk.backing in
+    let old = c.args.self.now in
+    let mid = c.table_for.new.self in
+    let b = c.clear_entries.new.self in
+    let rest = c.clear_entries.ensures.clears.rest in
+    let was = c.table_for.ensures.stays in
+    let is = c.clear_entries.ensures.stays in
+    record {
+      stays = record { image = record { number = is.image.number ∙ was.image.number; size = is.image.size ∙ was.image.size; writable = is.image.writable ∙ was.image.writable; external = is.image.external ∙ was.image.external }; failed = is.failed ∙ was.failed };
+      notes = notes_then c.table_for.ensures.notes (table_kept mid b (ap (λ (i : Qcow2 _ _). i.file.storage) rest) c.clear_entries.ensures.clears.marks);
+      header_cluster = behind_then c.table_for.ensures.header_cluster (behind_by view rest (behind_tables c.clear_entries.ensures.clears.behind));
+      faults = counted_ok view below old (record b { file = record b.file { free_list = c.hand_back.new.list } }) tt
+          (faults_then view below old mid (record b { file = record b.file { free_list = c.hand_back.new.list } }) c.in_ok-table.ensures.faults.told (untouched view below mid (record b { file = record b.file { free_list = c.hand_back.new.list } }) (ap (λ (i : Qcow2 _ _). i.file.storage) rest) (ap (λ (i : Qcow2 _ _). i.backing) rest)));
+    }

@@ -93,7 +93,7 @@ returns-in_err-end_freeing-clause-limit g c = λ none some out sound.
     (subst (λ k. IsClearable begun.file.header.fields how k c.in_ok-from.to) (sym from) (subst (λ k. IsClearable begun.file.header.fields how (from_in old offset n) k) (sym to)
     (whole_in view below old how offset n works begun entries quiet out call c.in_ok-from.ensures.version)))))) in
     let ends = subst (λ (image : Qcow2 _ _). (out : _) → ImageInvariant view below (pending_in view below image out) image out → EndsFreeing view below image freed out c.end_freeing.result) same c.end_freeing.ensures.frees in
-    let number = c.end_freeing.ensures.image.number ∙ c.mark_failure.ensures.image.number ∙ c.clear_between-cleared.ensures.stays.image.number ∙ c.begin.ensures.stays.image.number in
+    let number = c.end_freeing.ensures.image.number ∙ c.mark_failure.ensures.image.number ∙ c.clear_between-cleared.ensures.step.stays.image.number ∙ c.begin.ensures.stays.image.number in
     let x = c.in_err-end_freeing.field-0.0 in
     hands_limit (λ e. LacksTableFor view (from_in old offset n) old freed) c.from_residual-in_err-end_freeing.result x c.from_residual-in_err-end_freeing.ensures
     (other_limit _ x (fault_unlimited x (fault_of x (fault_interruption view below old how offset n works begun entries quiet parts freed c.end_freeing.result ends number x c.in_err-end_freeing.was out sound))))
@@ -126,16 +126,16 @@ returns-in_err-mark_failure-clause-step g c =
     let new = c.mark_failure.new.self in
     let e = c.in_err-mark_failure.field-0.0 in
     let done : c.clear_between-cleared.result ≡ Err c.in_err-mark_failure.field-0.0 = sym c.mark_failure.ensures.answer ∙ c.in_err-mark_failure.was in
-    let failed : is_failed c.clear_between-cleared.new.self ≡ is_failed c.args.self.now = c.clear_between-cleared.ensures.stays.failed ∙ c.begin.ensures.stays.failed in
-    let kept = notes_then c.clear_between-cleared.ensures.notes (same_kept c.clear_between-cleared.new.self c.mark_failure.new.self (ap (λ (i : Qcow2 _ _). i.file.storage) c.mark_failure.ensures.rest) (ap (λ (i : Qcow2 _ _). i.file.caches) c.mark_failure.ensures.rest)) in
-    let cleared = counted_marked view below old c.begin.new.self c.clear_between-cleared.new.self c.mark_failure.new.self c.clear_between-cleared.result c.mark_failure.result c.begin.ensures.faults c.clear_between-cleared.ensures.faults c.mark_failure.ensures.answer c.mark_failure.ensures.rest in
-    let image = same_image_then (same_image_then c.begin.ensures.stays.image c.clear_between-cleared.ensures.stays.image) c.mark_failure.ensures.image in
+    let failed : is_failed c.clear_between-cleared.new.self ≡ is_failed c.args.self.now = c.clear_between-cleared.ensures.step.stays.failed ∙ c.begin.ensures.stays.failed in
+    let kept = notes_then c.clear_between-cleared.ensures.step.notes (same_kept c.clear_between-cleared.new.self c.mark_failure.new.self (ap (λ (i : Qcow2 _ _). i.file.storage) c.mark_failure.ensures.rest) (ap (λ (i : Qcow2 _ _). i.file.caches) c.mark_failure.ensures.rest)) in
+    let cleared = counted_marked view below old c.begin.new.self c.clear_between-cleared.new.self c.mark_failure.new.self c.clear_between-cleared.result c.mark_failure.result c.begin.ensures.faults c.clear_between-cleared.ensures.step.faults c.mark_failure.ensures.answer c.mark_failure.ensures.rest in
+    let image = same_image_then (same_image_then c.begin.ensures.stays.image c.clear_between-cleared.ensures.step.stays.image) c.mark_failure.ensures.image in
     handed_on (λ (r : Result (ℕ × ℕ) ImageError). ClearsStep view below old new r) c.from_residual-in_err-mark_failure.result e c.from_residual-in_err-mark_failure.ensures (record {
       image = image;
       marks = refused_since old entries new failed e (subst (λ (r : Result (Unit {0}) ImageError). MarksFailed entries new r) done c.mark_failure.ensures.marks);
       since = notes_since view old begun c.begin.ensures.begun new kept;
-      once_written = fails_once view old begun c.begin.ensures.begun entries new c.clear_between-cleared.result c.clear_between-cleared.ensures.notes failed c.mark_failure.ensures.marks c.mark_failure.ensures.rest (Err e) (λ memory. done ∙ err_as e Memory memory);
-      header_cluster = behind_call view c.begin.ensures.begun c.clear_between-cleared.ensures.header_cluster c.mark_failure.ensures.rest;
+      once_written = fails_once view old begun c.begin.ensures.begun entries new c.clear_between-cleared.result c.clear_between-cleared.ensures.step.notes failed c.mark_failure.ensures.marks c.mark_failure.ensures.rest (Err e) (λ memory. done ∙ err_as e Memory memory);
+      header_cluster = behind_call view c.begin.ensures.begun c.clear_between-cleared.ensures.step.header_cluster c.mark_failure.ensures.rest;
       faults = counted_as view below old old new c.mark_failure.result e (untouched view below old old refl refl) cleared c.in_err-mark_failure.was;
     })
 
@@ -155,7 +155,7 @@ returns-in_err-mark_failure-clause-fails g c =
     let b = begins_clearing view below old how offset n c.check_clear.result c.check_clear.ensures.refusal c.in_ok-from.from c.in_ok-from.to c.in_ok-from.was begun c.begin.ensures.keeps c.begin.ensures.list c.in_ok-from.ensures.version in
     let done : c.clear_between-cleared.result ≡ Err c.in_err-mark_failure.field-0.0 = sym c.mark_failure.ensures.answer ∙ c.in_err-mark_failure.was in
     let marked = is_failed c.mark_failure.new.self in
-    let number = c.clear_between-cleared.ensures.stays.image.number ∙ c.begin.ensures.stays.image.number in
+    let number = c.clear_between-cleared.ensures.step.stays.image.number ∙ c.begin.ensures.stays.image.number in
     let may = subst (λ (r : Result _ _). MayMarkBy r (is_failed entries) marked) done (may_mark c.clear_between-cleared.new.self c.mark_failure.new.self c.clear_between-cleared.result c.mark_failure.ensures.marks) in
     let memory = subst (λ (r : Result _ _). IfErr r (λ x. x ≡ Memory → IsTrue (has_noted_change entries) → IsTrue marked)) done (marks_memory c.clear_between-cleared.new.self c.mark_failure.new.self c.clear_between-cleared.new.self c.clear_between-cleared.result c.mark_failure.ensures.marks (ap (λ (i : Qcow2 _ _). i.file) c.mark_failure.ensures.rest)) in
     let refuses : (out : _) → UnseenCall view below old begun out → RefusedCall view below begun entries out e = λ out call. subst (ClearsOrRefuses view below how c.in_ok-from.from c.in_ok-from.to begun entries out) done (c.clear_between-cleared.ensures.clears out call.sound (b.whole out call)) in
@@ -201,7 +201,7 @@ returns-in_err-mark_failure-clause-sound g c =
     let b = begins_clearing view below old how offset n c.check_clear.result c.check_clear.ensures.refusal c.in_ok-from.from c.in_ok-from.to c.in_ok-from.was begun c.begin.ensures.keeps c.begin.ensures.list c.in_ok-from.ensures.version in
     let done : c.clear_between-cleared.result ≡ Err c.in_err-mark_failure.field-0.0 = sym c.mark_failure.ensures.answer ∙ c.in_err-mark_failure.was in
     let marked = is_failed c.mark_failure.new.self in
-    let number = c.clear_between-cleared.ensures.stays.image.number ∙ c.begin.ensures.stays.image.number in
+    let number = c.clear_between-cleared.ensures.step.stays.image.number ∙ c.begin.ensures.stays.image.number in
     let may = subst (λ (r : Result _ _). MayMarkBy r (is_failed entries) marked) done (may_mark c.clear_between-cleared.new.self c.mark_failure.new.self c.clear_between-cleared.result c.mark_failure.ensures.marks) in
     let memory = subst (λ (r : Result _ _). IfErr r (λ x. x ≡ Memory → IsTrue (has_noted_change entries) → IsTrue marked)) done (marks_memory c.clear_between-cleared.new.self c.mark_failure.new.self c.clear_between-cleared.new.self c.clear_between-cleared.result c.mark_failure.ensures.marks (ap (λ (i : Qcow2 _ _). i.file) c.mark_failure.ensures.rest)) in
     let refuses : (out : _) → UnseenCall view below old begun out → RefusedCall view below begun entries out e = λ out call. subst (ClearsOrRefuses view below how c.in_ok-from.from c.in_ok-from.to begun entries out) done (c.clear_between-cleared.ensures.clears out call.sound (b.whole out call)) in
@@ -225,17 +225,17 @@ returns-in_err-end_freeing-clause-step g c =
     let freed = c.end_freeing.new.self in
     let x = c.in_err-end_freeing.field-0.0 in
     let done : c.clear_between-cleared.result ≡ Ok c.in_ok-mark_failure.field-0 = sym c.mark_failure.ensures.answer ∙ c.in_ok-mark_failure.was in
-    let failed : is_failed c.clear_between-cleared.new.self ≡ is_failed c.args.self.now = c.clear_between-cleared.ensures.stays.failed ∙ c.begin.ensures.stays.failed in
+    let failed : is_failed c.clear_between-cleared.new.self ≡ is_failed c.args.self.now = c.clear_between-cleared.ensures.step.stays.failed ∙ c.begin.ensures.stays.failed in
     let marks = subst (λ (r : Result _ _). MayMarkBy r (is_failed entries) (is_failed c.mark_failure.new.self)) done (may_mark c.clear_between-cleared.new.self c.mark_failure.new.self c.clear_between-cleared.result c.mark_failure.ensures.marks) in
-    let kept = notes_then c.clear_between-cleared.ensures.notes (same_kept c.clear_between-cleared.new.self c.mark_failure.new.self (ap (λ (i : Qcow2 _ _). i.file.storage) c.mark_failure.ensures.rest) (ap (λ (i : Qcow2 _ _). i.file.caches) c.mark_failure.ensures.rest)) in
-    let cleared = counted_marked view below old c.begin.new.self c.clear_between-cleared.new.self c.mark_failure.new.self c.clear_between-cleared.result c.mark_failure.result c.begin.ensures.faults c.clear_between-cleared.ensures.faults c.mark_failure.ensures.answer c.mark_failure.ensures.rest in
-    let image = same_image_then (same_image_then c.begin.ensures.stays.image c.clear_between-cleared.ensures.stays.image) c.mark_failure.ensures.image in
+    let kept = notes_then c.clear_between-cleared.ensures.step.notes (same_kept c.clear_between-cleared.new.self c.mark_failure.new.self (ap (λ (i : Qcow2 _ _). i.file.storage) c.mark_failure.ensures.rest) (ap (λ (i : Qcow2 _ _). i.file.caches) c.mark_failure.ensures.rest)) in
+    let cleared = counted_marked view below old c.begin.new.self c.clear_between-cleared.new.self c.mark_failure.new.self c.clear_between-cleared.result c.mark_failure.result c.begin.ensures.faults c.clear_between-cleared.ensures.step.faults c.mark_failure.ensures.answer c.mark_failure.ensures.rest in
+    let image = same_image_then (same_image_then c.begin.ensures.stays.image c.clear_between-cleared.ensures.step.stays.image) c.mark_failure.ensures.image in
     handed_on (λ (r : Result (ℕ × ℕ) ImageError). ClearsStep view below old freed r) c.from_residual-in_err-end_freeing.result x c.from_residual-in_err-end_freeing.ensures (record {
       image = same_image_then image c.end_freeing.ensures.image;
       marks = refused_since old c.mark_failure.new.self freed (marks ∙ failed) x c.in_err-end_freeing.ensures.marks;
       since = notes_since view old begun c.begin.ensures.begun freed (notes_then kept c.end_freeing.ensures.notes);
       once_written = fails_marked view old begun c.begin.ensures.begun c.mark_failure.new.self freed c.end_freeing.result (notes_then kept c.end_freeing.ensures.notes) (marks ∙ failed) c.end_freeing.ensures.marks (Err x) (λ memory. c.in_err-end_freeing.was ∙ err_as x Memory memory);
-      header_cluster = behind_then (behind_call view c.begin.ensures.begun c.clear_between-cleared.ensures.header_cluster c.mark_failure.ensures.rest) c.end_freeing.ensures.header_cluster;
+      header_cluster = behind_then (behind_call view c.begin.ensures.begun c.clear_between-cleared.ensures.step.header_cluster c.mark_failure.ensures.rest) c.end_freeing.ensures.header_cluster;
       faults = counted_as view below old c.mark_failure.new.self freed c.end_freeing.result x (same_of view below old c.mark_failure.new.self c.mark_failure.result _ cleared c.in_ok-mark_failure.was) c.end_freeing.ensures.faults c.in_err-end_freeing.was;
     })
 
@@ -257,7 +257,7 @@ returns-in_err-end_freeing-clause-fails g c =
     let same : c.mark_failure.new.self ≡ c.clear_between-cleared.new.self = c.mark_failure.ensures.rest ∙ ap (λ f. record entries { is_failed = f }) marks in
     let parts = parts_cleared view below old how offset n begun c.in_ok-from.from c.in_ok-from.to b entries c.clear_between-cleared.result c.in_ok-mark_failure.field-0 done c.clear_between-cleared.ensures.clears in
     let ends = subst (λ (image : Qcow2 _ _). (out : _) → ImageInvariant view below (pending_in view below image out) image out → EndsFreeing view below image freed out c.end_freeing.result) same c.end_freeing.ensures.frees in
-    let number = c.end_freeing.ensures.image.number ∙ c.mark_failure.ensures.image.number ∙ c.clear_between-cleared.ensures.stays.image.number ∙ c.begin.ensures.stays.image.number in
+    let number = c.end_freeing.ensures.image.number ∙ c.mark_failure.ensures.image.number ∙ c.clear_between-cleared.ensures.step.stays.image.number ∙ c.begin.ensures.stays.image.number in
     let fault : (out : _) → ImageInvariant view below (pending_in view below old out) old out → IsFault c.in_err-end_freeing.field-0.0 = λ out sound. fault_of x (fault_interruption view below old how offset n b.works begun entries b.quiet parts freed c.end_freeing.result ends number x c.in_err-end_freeing.was out sound) in
     handed_on (λ (r : Result (ℕ × ℕ) ImageError). FailsToClear view below how old freed offset n r) c.from_residual-in_err-end_freeing.result x c.from_residual-in_err-end_freeing.ensures (record {
       early = not_early view below old how offset n c.check_clear.result c.check_clear.ensures.refusal c.in_ok-from.from c.in_ok-from.to c.in_ok-from.was freed (Err x);
@@ -290,7 +290,7 @@ returns-in_err-end_freeing-clause-sound g c =
     let same : c.mark_failure.new.self ≡ c.clear_between-cleared.new.self = c.mark_failure.ensures.rest ∙ ap (λ f. record entries { is_failed = f }) marks in
     let parts = parts_cleared view below old how offset n begun c.in_ok-from.from c.in_ok-from.to b entries c.clear_between-cleared.result c.in_ok-mark_failure.field-0 done c.clear_between-cleared.ensures.clears in
     let ends = subst (λ (image : Qcow2 _ _). (out : _) → ImageInvariant view below (pending_in view below image out) image out → EndsFreeing view below image freed out c.end_freeing.result) same c.end_freeing.ensures.frees in
-    let number = c.end_freeing.ensures.image.number ∙ c.mark_failure.ensures.image.number ∙ c.clear_between-cleared.ensures.stays.image.number ∙ c.begin.ensures.stays.image.number in
+    let number = c.end_freeing.ensures.image.number ∙ c.mark_failure.ensures.image.number ∙ c.clear_between-cleared.ensures.step.stays.image.number ∙ c.begin.ensures.stays.image.number in
     let some : from_in c.args.self.now c.args.offset c.args.length < to_in c.args.self.now c.args.offset c.args.length = let is = b.first_is in let at = b.last_is in omega (arith, c.if-to-from.false, is, at) in
     handed_on (λ (r : Result (ℕ × ℕ) ImageError). ClearsSoundly view below how old freed offset n r) c.from_residual-in_err-end_freeing.result x c.from_residual-in_err-end_freeing.ensures (record {
       range = tt;
@@ -311,17 +311,17 @@ returns-clause-step g c =
     let entries = c.clear_between-cleared.new.self in
     let freed = c.end_freeing.new.self in
     let done : c.clear_between-cleared.result ≡ Ok c.in_ok-mark_failure.field-0 = sym c.mark_failure.ensures.answer ∙ c.in_ok-mark_failure.was in
-    let failed : is_failed c.clear_between-cleared.new.self ≡ is_failed c.args.self.now = c.clear_between-cleared.ensures.stays.failed ∙ c.begin.ensures.stays.failed in
+    let failed : is_failed c.clear_between-cleared.new.self ≡ is_failed c.args.self.now = c.clear_between-cleared.ensures.step.stays.failed ∙ c.begin.ensures.stays.failed in
     let marks = subst (λ (r : Result _ _). MayMarkBy r (is_failed entries) (is_failed c.mark_failure.new.self)) done (may_mark c.clear_between-cleared.new.self c.mark_failure.new.self c.clear_between-cleared.result c.mark_failure.ensures.marks) in
-    let kept = notes_then c.clear_between-cleared.ensures.notes (same_kept c.clear_between-cleared.new.self c.mark_failure.new.self (ap (λ (i : Qcow2 _ _). i.file.storage) c.mark_failure.ensures.rest) (ap (λ (i : Qcow2 _ _). i.file.caches) c.mark_failure.ensures.rest)) in
-    let cleared = counted_marked view below old c.begin.new.self c.clear_between-cleared.new.self c.mark_failure.new.self c.clear_between-cleared.result c.mark_failure.result c.begin.ensures.faults c.clear_between-cleared.ensures.faults c.mark_failure.ensures.answer c.mark_failure.ensures.rest in
-    let image = same_image_then (same_image_then c.begin.ensures.stays.image c.clear_between-cleared.ensures.stays.image) c.mark_failure.ensures.image in
+    let kept = notes_then c.clear_between-cleared.ensures.step.notes (same_kept c.clear_between-cleared.new.self c.mark_failure.new.self (ap (λ (i : Qcow2 _ _). i.file.storage) c.mark_failure.ensures.rest) (ap (λ (i : Qcow2 _ _). i.file.caches) c.mark_failure.ensures.rest)) in
+    let cleared = counted_marked view below old c.begin.new.self c.clear_between-cleared.new.self c.mark_failure.new.self c.clear_between-cleared.result c.mark_failure.result c.begin.ensures.faults c.clear_between-cleared.ensures.step.faults c.mark_failure.ensures.answer c.mark_failure.ensures.rest in
+    let image = same_image_then (same_image_then c.begin.ensures.stays.image c.clear_between-cleared.ensures.step.stays.image) c.mark_failure.ensures.image in
     record {
       image = same_image_then image c.end_freeing.ensures.image;
       marks = c.in_ok-end_freeing.ensures.marks ∙ marks ∙ failed;
       since = notes_since view old begun c.begin.ensures.begun freed (notes_then kept c.end_freeing.ensures.notes);
       once_written = answered_counts view old freed _ (counts_begun view old begun c.begin.ensures.begun freed (notes_then kept c.end_freeing.ensures.notes));
-      header_cluster = behind_then (behind_call view c.begin.ensures.begun c.clear_between-cleared.ensures.header_cluster c.mark_failure.ensures.rest) c.end_freeing.ensures.header_cluster;
+      header_cluster = behind_then (behind_call view c.begin.ensures.begun c.clear_between-cleared.ensures.step.header_cluster c.mark_failure.ensures.rest) c.end_freeing.ensures.header_cluster;
       faults = counted_ok view below old freed _ (faults_then view below old c.mark_failure.new.self freed (same_of view below old c.mark_failure.new.self c.mark_failure.result _ cleared c.in_ok-mark_failure.was) c.in_ok-end_freeing.ensures.faults.told);
     }
 
@@ -370,13 +370,13 @@ returns-clause-sound g c =
     let same : c.mark_failure.new.self ≡ c.clear_between-cleared.new.self = c.mark_failure.ensures.rest ∙ ap (λ f. record entries { is_failed = f }) marks in
     let parts = parts_cleared view below old how offset n begun c.in_ok-from.from c.in_ok-from.to b entries c.clear_between-cleared.result c.in_ok-mark_failure.field-0 done c.clear_between-cleared.ensures.clears in
     let ends = subst (λ (image : Qcow2 _ _). (out : _) → ImageInvariant view below (pending_in view below image out) image out → EndsFreeing view below image freed out c.end_freeing.result) same c.end_freeing.ensures.frees in
-    let number = c.end_freeing.ensures.image.number ∙ c.mark_failure.ensures.image.number ∙ c.clear_between-cleared.ensures.stays.image.number ∙ c.begin.ensures.stays.image.number in
-    let kept = notes_then c.clear_between-cleared.ensures.notes (same_kept c.clear_between-cleared.new.self c.mark_failure.new.self (ap (λ (i : Qcow2 _ _). i.file.storage) c.mark_failure.ensures.rest) (ap (λ (i : Qcow2 _ _). i.file.caches) c.mark_failure.ensures.rest)) in
+    let number = c.end_freeing.ensures.image.number ∙ c.mark_failure.ensures.image.number ∙ c.clear_between-cleared.ensures.step.stays.image.number ∙ c.begin.ensures.stays.image.number in
+    let kept = notes_then c.clear_between-cleared.ensures.step.notes (same_kept c.clear_between-cleared.new.self c.mark_failure.new.self (ap (λ (i : Qcow2 _ _). i.file.storage) c.mark_failure.ensures.rest) (ap (λ (i : Qcow2 _ _). i.file.caches) c.mark_failure.ensures.rest)) in
     let some : from_in c.args.self.now c.args.offset c.args.length < to_in c.args.self.now c.args.offset c.args.length = let is = b.first_is in let at = b.last_is in omega (arith, c.if-to-from.false, is, at) in
     let many : c.saturating_sub.result ≡ min (to_in c.args.self.now c.args.offset c.args.length) (c.args.offset + c.args.length) - from_in c.args.self.now c.args.offset c.args.length =
     c.saturating_sub.ensures ∙ ap (λ k. k - c.in_ok-from.from) c.min.ensures ∙ ap (λ k. min k (offset + n) - c.in_ok-from.from) b.last_is ∙ ap (λ k. min (to_in old offset n) (offset + n) - k) b.first_is in
     let all = notes_then kept c.end_freeing.ensures.notes in
-    let writable = subst IsTrue (sym (c.mark_failure.ensures.image.writable ∙ c.clear_between-cleared.ensures.stays.image.writable ∙ c.begin.ensures.stays.image.writable)) c.in_ok-from.ensures.writable in
+    let writable = subst IsTrue (sym (c.mark_failure.ensures.image.writable ∙ c.clear_between-cleared.ensures.step.stays.image.writable ∙ c.begin.ensures.stays.image.writable)) c.in_ok-from.ensures.writable in
     record {
       range = some_answered first last offset n c.in_ok-from.from c.saturating_sub.result b.first_is some many;
       nothing = λ none least. absurd (omega (arith, some, least));

@@ -134,31 +134,31 @@ returns-clause-fills g c = λ out sound le whole version.
     fills_stays view below out old mid new 0 from next part (tidy_stays view below mid out new part.sound (c.in_ok-free_listed.ensures.frees (beside view below mid out) out listed)) c.free_listed.ensures.keeps_rest.header c.free_listed.ensures.former
 
 pub returns-clause-emptied : goal.returns-clause-emptied
-returns-clause-emptied g c = λ none. c.in_ok-free_listed.ensures.emptied (subst IsTrue (sym c.clear_between.ensures.stays.image.writable) c.requires.writable)
+returns-clause-emptied g c = λ none. c.in_ok-free_listed.ensures.emptied (subst IsTrue (sym c.clear_between.ensures.step.stays.image.writable) c.requires.writable)
 
 pub returns-then-to-from-clause-header_cluster : goal.returns-then-to-from-clause-header_cluster
 returns-then-to-from-clause-header_cluster g c = behind_none
 
 pub returns-in_err-clear_between-clause-header_cluster : goal.returns-in_err-clear_between-clause-header_cluster
-returns-in_err-clear_between-clause-header_cluster g c = c.clear_between.ensures.header_cluster
+returns-in_err-clear_between-clause-header_cluster g c = c.clear_between.ensures.step.header_cluster
 
 pub returns-in_err-free_listed-clause-header_cluster : goal.returns-in_err-free_listed-clause-header_cluster
-returns-in_err-free_listed-clause-header_cluster g c = behind_then c.clear_between.ensures.header_cluster c.free_listed.ensures.header_cluster
+returns-in_err-free_listed-clause-header_cluster g c = behind_then c.clear_between.ensures.step.header_cluster c.free_listed.ensures.header_cluster
 
 pub returns-clause-header_cluster : goal.returns-clause-header_cluster
-returns-clause-header_cluster g c = behind_then c.clear_between.ensures.header_cluster c.free_listed.ensures.header_cluster
+returns-clause-header_cluster g c = behind_then c.clear_between.ensures.step.header_cluster c.free_listed.ensures.header_cluster
 
 pub returns-then-to-from-clause-notes : goal.returns-then-to-from-clause-notes
 returns-then-to-from-clause-notes g c = notes_none
 
 pub returns-in_err-clear_between-clause-notes : goal.returns-in_err-clear_between-clause-notes
-returns-in_err-clear_between-clause-notes g c = c.clear_between.ensures.notes
+returns-in_err-clear_between-clause-notes g c = c.clear_between.ensures.step.notes
 
 pub returns-in_err-free_listed-clause-notes : goal.returns-in_err-free_listed-clause-notes
-returns-in_err-free_listed-clause-notes g c = notes_then c.clear_between.ensures.notes c.free_listed.ensures.notes
+returns-in_err-free_listed-clause-notes g c = notes_then c.clear_between.ensures.step.notes c.free_listed.ensures.notes
 
 pub returns-clause-notes : goal.returns-clause-notes
-returns-clause-notes g c = notes_then c.clear_between.ensures.notes c.free_listed.ensures.notes
+returns-clause-notes g c = notes_then c.clear_between.ensures.step.notes c.free_listed.ensures.notes
 
 pub returns-in_err-clear_between-clause-met : goal.returns-in_err-clear_between-clause-met
 returns-in_err-clear_between-clause-met g c = λ out sound le whole version near.
