@@ -77,10 +77,13 @@ module _ {S F : Type 0} (image : Qcow2 S F) (offset n : ℕ) where
   to_in = touched_to (cluster_size image.file.header.fields) (size_of image) offset n
 
   -- Of clearing a range, in this order: what makes the image unusable, and that it isn't to be written. Then a range beyond the size, version 2 where zeros are needed, and offsets past 64 bits.
-  abbrev pub refuses_to_clear : Clearance → Option ImageError
-  refuses_to_clear how =
+  abbrev pub refuses_clearing : Clearing → Option ImageError
+  refuses_clearing how =
       option_or (unusable image) (option_or (refuse_if (not (is_writable image)) I.ReadOnly) (option_or (refuse_if (passes (size_of image) offset n) I.BeyondSize)
-      (option_or (refuse_if (needs_zero_entries how && nat_lt image.file.header.fields.version 3) I.Version) (refuse_if (rounds_past (cluster_size image.file.header.fields) (size_of image) offset n) I.Overflow))))
+      (option_or (refuse_if (zeros_for how && nat_lt image.file.header.fields.version 3) I.Version) (refuse_if (rounds_past (cluster_size image.file.header.fields) (size_of image) offset n) I.Overflow))))
+
+  abbrev pub refuses_to_clear : Clearance → Option ImageError
+  refuses_to_clear how = refuses_clearing (shown_by how)
 
 -- a mapping that is out, and isn't existing, lies in the L2 table of an offset
 pub record IsUnderMapping (h : HeaderFields) (offset : ℕ) (out : List (Option Prepared)) : Type 0 where

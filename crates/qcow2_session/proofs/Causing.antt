@@ -13,7 +13,7 @@ use Rattle.image_access.specs.Moments.{StorageView}
 use Rattle.qcow2_disk.specs.Calls.{Clearing}
 use Rattle.qcow2_alloc.specs.ImageFile.{known_in}
 use Rattle.qcow2_alloc.specs.declared.error.ImageError.{ImageError}
-use Rattle.qcow2_image.specs.Clearing.{IsUnderMapping, from_in, to_in}
+use Rattle.qcow2_image.specs.Clearing.{IsUnderMapping, from_in, refuses_clearing, to_in}
 use Rattle.qcow2_image.specs.Image.{is_external, is_failed, number_of}
 use Rattle.qcow2_image.specs.ImageInvariant.{abstract_of}
 use Rattle.qcow2_image.proofs.Prepare.MetTaking.{taking_as}
@@ -27,7 +27,7 @@ use Rattle.qcow2_image.specs.declared.prepared.Prepared.{Prepared}
 use Rattle.qcow2_image.specs.Preallocation.{IsUnderMappingIn}
 use Rattle.qcow2_image.specs.Prepared.{IsHandedBackBy}
 use Rattle.qcow2_image.specs.Refusals.{IsMet, IsMetPreparing, passes, refuse_if, refuses_mapping, refuses_to_prepare, refuses_to_read, unusable}
-use Rattle.qcow2_session.specs.Causes.{HasNothingToDo, MeetsOnSound, IsRightlyRefused, IsUntouchedUnder, MayMeet, TellsMisuse, first_cause, refuses_clearing, MeetsClearing, MeetsTaking}
+use Rattle.qcow2_session.specs.Causes.{HasNothingToDo, MeetsOnSound, IsRightlyRefused, IsUntouchedUnder, MayMeet, TellsMisuse, first_cause, MeetsClearing, MeetsTaking}
 use Rattle.qcow2_session.specs.Commands.{reply_of_clearing}
 use Rattle.qcow2_session.specs.CountedFaults.{refusal_in}
 use Rattle.qcow2_session.specs.Sessions.{HeedsMappings, IsOfReading, LacksPlaceToWrite, NeedsFarToWrite}
@@ -275,24 +275,24 @@ grow_meets e old size takes none larger (inr mode) = absurd (elim (cases_lt old 
 -- ---- clearing a range
 
 module _ {S F : Type 0} (view : S → StorageView) (backing : F → BackingView) (old new : Qcow2 S F) (before : List (Option Prepared)) {found : ℕ → Option Mapping} (offset n : ℕ) (how : Clearing) (command : Command)
-    (cause : first_cause old command ≡ refuses_clearing old how offset n) (nothing : HasNothingToDo view backing old new before command → to_in old offset n ≤ from_in old offset n)
+    (cause : first_cause old command ≡ refuses_clearing old offset n how) (nothing : HasNothingToDo view backing old new before command → to_in old offset n ≤ from_in old offset n)
     (may : (e : ImageError) → IsMetPreparing e → MayMeet command e) (taking : (e : ImageError) → MeetsClearing view old new before offset n e → MeetsTaking view old new before command e) (heed : (reply : Reply) → IsUntouchedUnder view backing old new before offset n reply → MeetsOnSound view backing old new before found command reply)
     (misuse : (reply : Reply) → (reply ≡ R.Misuse → ⊥) → TellsMisuse before found command reply) where
-  clears_as : (r : Result (ℕ × ℕ) ImageError) → IfSome (refuses_clearing old how offset n) (λ e. (r ≡ Err e) × (new ≡ old)) → (refuses_clearing old how offset n ≡ None → IfErr r IsMetPreparing) → (refuses_clearing old how offset n ≡ None → (abstract_of view backing old before).is_sound → IfErr r (MeetsClearing view old new before offset n))
-      → (refuses_clearing old how offset n ≡ None → to_in old offset n ≤ from_in old offset n → (r ≡ Ok (from_in old offset n, 0)) × (new ≡ old))
-      → (refuses_clearing old how offset n ≡ None → from_in old offset n < to_in old offset n → (abstract_of view backing old before).is_sound → IfErr r (λ e. e ≡ I.TablePrepared → IsUnderMapping old.file.header.fields (from_in old offset n) before) × IfOk r (λ range. ¬ IsUnderMapping old.file.header.fields (from_in old offset n) before))
+  clears_as : (r : Result (ℕ × ℕ) ImageError) → IfSome (refuses_clearing old offset n how) (λ e. (r ≡ Err e) × (new ≡ old)) → (refuses_clearing old offset n how ≡ None → IfErr r IsMetPreparing) → (refuses_clearing old offset n how ≡ None → (abstract_of view backing old before).is_sound → IfErr r (MeetsClearing view old new before offset n))
+      → (refuses_clearing old offset n how ≡ None → to_in old offset n ≤ from_in old offset n → (r ≡ Ok (from_in old offset n, 0)) × (new ≡ old))
+      → (refuses_clearing old offset n how ≡ None → from_in old offset n < to_in old offset n → (abstract_of view backing old before).is_sound → IfErr r (λ e. e ≡ I.TablePrepared → IsUnderMapping old.file.header.fields (from_in old offset n) before) × IfOk r (λ range. ¬ IsUnderMapping old.file.header.fields (from_in old offset n) before))
       → IsRightlyRefused view backing old new before found command (reply_of_clearing r)
   clears_as (Ok range) early late met idle under =
       is_answered view backing old new before command (new ≡ old) range (R.Range range.0 range.1) (λ is. absurd cc) (misuse (R.Range range.0 range.1) (λ is. absurd cc)) refl (subst (λ o. IfSome o (λ e. (◌≡◌ {A = Result (ℕ × ℕ) ImageError} (Ok range) (Err e)) × (new ≡ old))) (sym cause) early)
       (λ none sound. heed (R.Range range.0 range.1) (λ some is. (under (sym cause ∙ none) some sound).1 is))
   clears_as (Err e) early late met idle under =
-      is_refused view backing old new before command e (R.Refused e) (λ is. absurd cc) (misuse (R.Refused e) (λ is. absurd cc)) refl (subst (λ o. IfSome o (λ x. (e ≡ x) × (new ≡ old))) (sym cause) (begun_with (ℕ × ℕ) (new ≡ old) e (refuses_clearing old how offset n) early))
+      is_refused view backing old new before command e (R.Refused e) (λ is. absurd cc) (misuse (R.Refused e) (λ is. absurd cc)) refl (subst (λ o. IfSome o (λ x. (e ≡ x) × (new ≡ old))) (sym cause) (begun_with (ℕ × ℕ) (new ≡ old) e (refuses_clearing old offset n how) early))
       (λ none. may e (late (sym cause ∙ none))) (λ none sound. taking e (met (sym cause ∙ none) sound))
       (λ none is. let no : (◌≡◌ {A = Result (ℕ × ℕ) ImageError} (Err e) (Ok (from_in old offset n, 0))) = (idle (sym cause ∙ none) (nothing is)).0 in absurd cc)
       (λ none sound. heed (R.Refused e) (λ some is. (under (sym cause ∙ none) some sound).0 (some_error is)))
 
-  pub clears_rightly : (r : Result (ℕ × ℕ) ImageError) (reply : Reply) → reply ≡ reply_of_clearing r → IfSome (refuses_clearing old how offset n) (λ e. (r ≡ Err e) × (new ≡ old)) → (refuses_clearing old how offset n ≡ None → IfErr r IsMetPreparing) → (refuses_clearing old how offset n ≡ None → (abstract_of view backing old before).is_sound → IfErr r (MeetsClearing view old new before offset n))
-      → (refuses_clearing old how offset n ≡ None → to_in old offset n ≤ from_in old offset n → (r ≡ Ok (from_in old offset n, 0)) × (new ≡ old))
-      → (refuses_clearing old how offset n ≡ None → from_in old offset n < to_in old offset n → (abstract_of view backing old before).is_sound → IfErr r (λ e. e ≡ I.TablePrepared → IsUnderMapping old.file.header.fields (from_in old offset n) before) × IfOk r (λ range. ¬ IsUnderMapping old.file.header.fields (from_in old offset n) before))
+  pub clears_rightly : (r : Result (ℕ × ℕ) ImageError) (reply : Reply) → reply ≡ reply_of_clearing r → IfSome (refuses_clearing old offset n how) (λ e. (r ≡ Err e) × (new ≡ old)) → (refuses_clearing old offset n how ≡ None → IfErr r IsMetPreparing) → (refuses_clearing old offset n how ≡ None → (abstract_of view backing old before).is_sound → IfErr r (MeetsClearing view old new before offset n))
+      → (refuses_clearing old offset n how ≡ None → to_in old offset n ≤ from_in old offset n → (r ≡ Ok (from_in old offset n, 0)) × (new ≡ old))
+      → (refuses_clearing old offset n how ≡ None → from_in old offset n < to_in old offset n → (abstract_of view backing old before).is_sound → IfErr r (λ e. e ≡ I.TablePrepared → IsUnderMapping old.file.header.fields (from_in old offset n) before) × IfOk r (λ range. ¬ IsUnderMapping old.file.header.fields (from_in old offset n) before))
       → IsRightlyRefused view backing old new before found command reply
   clears_rightly r reply is early late met idle under = subst (λ q. IsRightlyRefused view backing old new before found command q) (sym is) (clears_as r early late met idle under)

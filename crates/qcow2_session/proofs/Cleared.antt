@@ -18,7 +18,7 @@ use Rattle.qcow2_alloc.specs.declared.error.ImageError.{ImageError}
 use Rattle.qcow2_alloc.specs.declared.error.ImageError.TheVariants as I
 use Rattle.qcow2_alloc.specs.ImageFile.{known_in}
 use Rattle.qcow2_image.specs.Calls.{AnswersCall}
-use Rattle.qcow2_image.specs.Clearing.{from_in, setting_of, to_in}
+use Rattle.qcow2_image.specs.Clearing.{from_in, refuses_clearing, setting_of, to_in}
 use Rattle.qcow2_image.specs.declared.image.Qcow2.{Qcow2}
 use Rattle.qcow2_image.specs.declared.prepared.Prepared.{Prepared}
 use Rattle.qcow2_image.specs.Faults.{CountsImageFaults}
@@ -68,9 +68,7 @@ module _ {S F : Type 0} (view : S → StorageView) (backing : F → BackingView)
 
   -- what is refused before any work, and what stands for guest clusters where it is answered
   abbrev IsEarly : Result (ℕ × ℕ) ImageError → Type 0
-  IsEarly r =
-      IfSome (option_or (unusable old) (option_or (refuse_if (not (is_writable old)) I.ReadOnly) (option_or (refuse_if (passes (size_of old) offset n) I.BeyondSize)
-      (option_or (refuse_if (needs_zeros how && nat_lt old.file.header.fields.version 3) I.Version) (refuse_if (rounds_past (cluster_size old.file.header.fields) (size_of old) offset n) I.Overflow))))) (λ e. (r ≡ Err e) × (new ≡ old))
+  IsEarly r = IfSome (refuses_clearing old offset n how) (λ e. (r ≡ Err e) × (new ≡ old))
 
   abbrev IsCovered : Result (ℕ × ℕ) ImageError → Type 0
   IsCovered r = (out : List (Option Prepared)) → (abstract_of view backing old out).is_sound

@@ -8,13 +8,12 @@ use Rattle.image_access.specs.Backing.{BackingView}
 use Rattle.image_access.specs.Moments.{StorageView}
 use Rattle.image_access.specs.declared.storage.PreallocateMode.{PreallocateMode}
 use Rattle.qcow2_metadata.specs.Header.{cluster_size, rounded_up}
-use Rattle.qcow2_disk.specs.Calls.{Clearing, shows_old, to_backing, to_kept_zero, to_zero}
-use Rattle.qcow2_disk.specs.ClearedCovers.{needs_zeros, rounds_past}
+use Rattle.qcow2_disk.specs.Calls.{shows_old, to_backing, to_kept_zero, to_zero}
 use Rattle.qcow2_alloc.specs.ImageError.{IsFault, IsOfTables}
 use Rattle.qcow2_alloc.specs.ImageFile.{known_in}
 use Rattle.qcow2_alloc.specs.declared.error.ImageError.{ImageError}
 use Rattle.qcow2_image.specs.Backings.{HasPrepared}
-use Rattle.qcow2_image.specs.Clearing.{IsUnderMapping, from_in, to_in}
+use Rattle.qcow2_image.specs.Clearing.{IsUnderMapping, from_in, refuses_clearing, to_in}
 use Rattle.qcow2_image.specs.Found.{IsFoundWhole, further_by}
 use Rattle.qcow2_image.specs.Image.{is_failed, is_writable, size_of}
 use Rattle.qcow2_image.specs.ImageInvariant.{abstract_of}
@@ -23,7 +22,7 @@ use Rattle.qcow2_image.specs.MetAlone.{CopiesCompressed, IsCacheHeld, IsMetLooki
 use Rattle.qcow2_image.specs.Preallocation.{IsUnderMappingIn}
 use Rattle.qcow2_image.specs.Prepared.{length_of, table_of}
 use Rattle.qcow2_image.specs.Preparing.{IsTaken}
-use Rattle.qcow2_image.specs.Refusals.{IsMet, IsMetPreparing, passes, refuse_if, refuses_to_prepare, refuses_to_read, unusable}
+use Rattle.qcow2_image.specs.Refusals.{IsMet, IsMetPreparing, refuse_if, refuses_to_prepare, refuses_to_read, unusable}
 use Rattle.qcow2_image.specs.Resizing.{boundary_in, refuses_to_resize, takes_over}
 use Rattle.qcow2_image.specs.declared.image.Qcow2.{Qcow2}
 use Rattle.qcow2_image.specs.declared.mapping.Mapping.{Mapping}
@@ -42,12 +41,6 @@ module _ {S F : Type 0} (image : Qcow2 S F) where
   abbrev pub refuses_to_put : ℕ → Option ImageError
   refuses_to_put n = option_or (unusable image) (refuse_if (nat_lt 0 n && not (is_writable image)) I.ReadOnly)
 
-  -- of clearing a range, in this order: what makes the image unusable, that it isn't to be written, a range beyond the size, version 2 where zeros are needed, and offsets past 64 bits
-  abbrev pub refuses_clearing : Clearing → (offset n : ℕ) → Option ImageError
-  refuses_clearing how offset n =
-      option_or (unusable image) (option_or (refuse_if (not (is_writable image)) I.ReadOnly) (option_or (refuse_if (passes (size_of image) offset n) I.BeyondSize)
-      (option_or (refuse_if (needs_zeros how && nat_lt image.file.header.fields.version 3) I.Version) (refuse_if (rounds_past (cluster_size image.file.header.fields) (size_of image) offset n) I.Overflow))))
-
   -- of a larger disk: what refuses each other size, and that the mode takes clusters where there is a disk below
   abbrev pub refuses_to_grow : ℕ → PreallocateMode → Option ImageError
   refuses_to_grow size mode = option_or (refuses_to_resize image) (refuse_if (nat_lt (size_of image) size && takes_over image mode) I.Preallocation)
@@ -62,10 +55,10 @@ module _ {S F : Type 0} (image : Qcow2 S F) where
   first_cause (C.WriteMapped slot at bytes) = refuses_to_put (length bytes.items)
   first_cause (C.CommitDataMapping slot) = refuse_if (is_failed image) I.Failed
   first_cause (C.DiscardDataMapping slot) = None
-  first_cause (C.EnsureZeroMapping offset n) = refuses_clearing to_kept_zero offset n
-  first_cause (C.DiscardToZero offset n) = refuses_clearing to_zero offset n
-  first_cause (C.DiscardToAny offset n) = refuses_clearing to_zero offset n
-  first_cause (C.DiscardToBacking offset n) = refuses_clearing to_backing offset n
+  first_cause (C.EnsureZeroMapping offset n) = refuses_clearing image offset n to_kept_zero
+  first_cause (C.DiscardToZero offset n) = refuses_clearing image offset n to_zero
+  first_cause (C.DiscardToAny offset n) = refuses_clearing image offset n to_zero
+  first_cause (C.DiscardToBacking offset n) = refuses_clearing image offset n to_backing
   first_cause (C.ReadvSpecial offset n) = unusable image
   first_cause (C.TryReadvSpecial offset n) = unusable image
   first_cause C.Flush = refuse_if (is_failed image) I.Failed
