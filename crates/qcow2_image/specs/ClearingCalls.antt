@@ -10,11 +10,15 @@ use Rattle.qcow2_alloc.specs.KeptNotes.{NoData}
 use Rattle.qcow2_alloc.specs.declared.error.ImageError.{ImageError}
 use Rattle.qcow2_alloc.specs.declared.error.ImageError.TheVariants.{TablePrepared}
 use Rattle.qcow2_image.specs.BehindHeader.{StaysBehindHeader}
-use Rattle.qcow2_image.specs.Clearing.{Clears, ClearsImageCovers, IsUnderMapping, RefusesClearing, from_in, refuses_to_clear, to_in}
+use Rattle.qcow2_image.specs.Backings.{HasPrepared}
+use Rattle.qcow2_image.specs.Clearing.{Clears, ClearsImageCovers, ClearsOrRefuses, IsClearable, IsUnderMapping, RefusesClearing, from_in, refuses_to_clear, to_in}
 use Rattle.qcow2_image.specs.Faults.{CountsImageFaults}
 use Rattle.qcow2_image.specs.Image.{HasNothingToFree, ImageStays, IsSameImage, size_of}
-use Rattle.qcow2_image.specs.ImageInvariant.{abstract_of}
-use Rattle.qcow2_image.specs.L1Entries.{HasOwnTable}
+use Rattle.qcow2_image.specs.ImageInvariant.{ImageInvariant, abstract_of, pending_in}
+use Rattle.qcow2_image.specs.L1Entries.{HasOwnTable, NeedsFarEntry}
+use Rattle.qcow2_image.specs.LackedPlaces.{IsLimitedByTable}
+use Rattle.qcow2_image.specs.MetAlone.{IsMetTaking}
+use Rattle.qcow2_image.specs.NewTables.{IsFaultOrLacksTable}
 use Rattle.qcow2_image.specs.Noted.{ChangesRose, FailsOnceWritten, NotesPart}
 use Rattle.qcow2_image.specs.PinnedTables.{HeedsPins}
 use Rattle.qcow2_image.specs.Refusals.{FreesRefused, IsMetPreparing, MarksFailed}
@@ -68,3 +72,38 @@ module _ {S F : Type 0} (view : S → StorageView) (backing : F → BackingView)
           → OnOk result (ClearsImageCovers how (from_in old offset n) (to_in old offset n) old.file.header.fields (known_in view old.file) new.file.header.fields (known_in view new.file))
       pub emptied : touches_some → OnOk result (HasNothingToFree new)
       pub changed : (out : List (Option Prepared)) → (abstract_of view backing old out).is_sound → touches_some → OnOk result (ChangesRose old new)
+
+    -- On a sound image it is refused 13 only for want of a place for the L2 table of the first offset.
+    abbrev pub LimitsClearing : Type 0
+    LimitsClearing = may_clear → touches_some → (out : List (Option Prepared)) → (abstract_of view backing old out).is_sound → IfErr result (IsLimitedByTable view (from_in old offset n) old new)
+
+  -- ---- the clusters between two offsets within one L2 table
+  module _ (how : Clearance) (from to : ℕ) (old new : Qcow2 S F) (result : Result (Unit {0}) ImageError) where
+    -- of a sound image, where the offsets are those of clusters
+    abbrev pub OfWhole : (List (Option Prepared) → Type 0) → Type 0
+    OfWhole P = (out : List (Option Prepared)) → ImageInvariant view backing (pending_in view backing old out) old out → IsClearable old.file.header.fields how from to → P out
+
+    -- they are cleared, or that was refused
+    abbrev pub ClearsBetween : Type 0
+    ClearsBetween = OfWhole (λ out. ClearsOrRefuses view backing how from to old new out result)
+
+    -- it is refused only for these causes
+    abbrev pub MeetsBetween : Type 0
+    MeetsBetween = OfWhole (λ out. IfErr result (IsMetTaking (HasPrepared out) (IsUnderMapping old.file.header.fields from out) ⊥ (NeedsFarEntry old from)))
+
+    -- where no mapping is prepared, only for a fault, or where the first offset has no L2 table of its own
+    abbrev pub LacksBetween : Type 0
+    LacksBetween = OfWhole (λ out. (HasPrepared out → ⊥) → IfErr result (IsFaultOrLacksTable view new from))
+
+    -- a refusal leaves no cluster to be freed, but for a fault and for 9
+    abbrev pub FreesBetween : Type 0
+    FreesBetween = OfWhole (λ out. IfErr result (FreesRefused new))
+
+  module _ (from : ℕ) (old : Qcow2 S F) (result : Result (Unit {0}) ImageError) where
+    -- on a sound image it is refused 9 only where a mapping that isn't existing lies in that L2 table
+    abbrev pub RefusedUnder : Type 0
+    RefusedUnder = (out : List (Option Prepared)) → ImageInvariant view backing (pending_in view backing old out) old out → IfErr result (λ e. e ≡ TablePrepared → IsUnderMapping old.file.header.fields from out)
+
+    -- and is answered only where none does
+    abbrev pub AnsweredBeside : Type 0
+    AnsweredBeside = (out : List (Option Prepared)) → ImageInvariant view backing (pending_in view backing old out) old out → IfOk result (λ done. IsUnderMapping old.file.header.fields from out → ⊥)

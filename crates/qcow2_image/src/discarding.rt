@@ -4,7 +4,7 @@ ghost use Rattle.qcow2_image.specs.LackedPlaces.{IsLimitedByTable};
 ghost use Rattle.std.specs.Prelude.{ℕ, List, Option, ◌≡◌, ◌+◌, ◌-◌, ◌/◌, ◌%◌, ◌^◌, ◌<◌, ◌≤◌, ◌++◌, true, false, Some, None, Ok, Err, IfOk, IfErr, IfSome, OnOk, IsSome, IsTrue, MatchOption, if◌then◌else◌};
 ghost use Rattle.qcow2_image.specs.Found.{l1_index_of};
 ghost use Rattle.qcow2_metadata.specs.EntryTable.{entry_count};
-ghost use Rattle.qcow2_image.specs.MetAlone.{KeepsL1Place, IsMetTaking};
+ghost use Rattle.qcow2_image.specs.MetAlone.{KeepsL1Place};
 ghost use Rattle.qcow2_metadata.specs.Header.{cluster_size, entries_per_cluster, rounded_up as rounded_up_to};
 ghost use Rattle.qcow2_metadata.specs.L2Mapping.{IsInReach, old_data_run};
 ghost use Rattle.qcow2_laws.specs.CrashInvariant.{Pending};
@@ -13,15 +13,13 @@ ghost use Rattle.qcow2_alloc.specs.ImageFile.{known_in, FileInvariant};
 ghost use Rattle.qcow2_alloc.specs.MetadataCaches.{IsEntryAt, l2_at};
 ghost use Rattle.qcow2_alloc.specs.declared.error.ImageError.TheVariants.{TablePrepared};
 ghost use Rattle.qcow2_image.specs.declared.prepared.Prepared.{Prepared};
-ghost use Rattle.qcow2_image.specs.Backings.{HasPrepared};
-ghost use Rattle.qcow2_image.specs.L1Entries.{HasOwnTable, NeedsFarEntry};
-ghost use Rattle.qcow2_image.specs.NewTables.{IsFaultOrLacksTable};
+ghost use Rattle.qcow2_image.specs.L1Entries.{HasOwnTable};
 ghost use Rattle.qcow2_image.specs.PinnedTables.{HeedsPins};
 ghost use Rattle.qcow2_image.specs.Image.{ImageStays, is_writable, size_of};
 ghost use Rattle.qcow2_image.specs.ImageInvariant.{ImageInvariant, abstract_of, pending_in, listed_run};
-ghost use Rattle.qcow2_image.specs.Refusals.{FreesRefused, IsMet, IsMetPreparing, passes as passes_size};
-ghost use Rattle.qcow2_image.specs.ClearingCalls.{PartStep, ClearsStep, ClearsSoundly, FailsToClear};
-ghost use Rattle.qcow2_image.specs.Clearing.{ClearsEntry, ClearsOrRefuses, ClearsTable, IsUnderMapping, IsClearable, ReadsAll, ReadsDropped, cover_once_cleared, from_in, to_in, needs_zero_entries, refuses_to_clear, rounds_past};
+ghost use Rattle.qcow2_image.specs.Refusals.{IsMet, IsMetPreparing, passes as passes_size};
+ghost use Rattle.qcow2_image.specs.ClearingCalls.{AnsweredBeside, ClearsBetween, FreesBetween, LacksBetween, LimitsClearing, MeetsBetween, RefusedUnder, PartStep, ClearsStep, ClearsSoundly, FailsToClear};
+ghost use Rattle.qcow2_image.specs.Clearing.{ClearsEntry, ClearsTable, IsClearable, ReadsAll, ReadsDropped, cover_once_cleared, from_in, to_in, needs_zero_entries, refuses_to_clear, rounds_past};
 ghost use Rattle.qcow2_image.specs.Faults.{IsNotOfStorage};
 
 use crate::Qcow2;
@@ -120,7 +118,7 @@ impl<S: Storage, F: WrappedFormat<S>> Qcow2<S, F> {
         ensures step { ClearsStep S.view F.backing self.old self.new result }
         ensures fails { FailsToClear S.view F.backing Clearance.Uncovered self.old self.new offset length result }
         ensures sound { ClearsSoundly S.view F.backing Clearance.Uncovered self.old self.new offset length result }
-        ensures limit { refuses_to_clear self.old offset length Clearance.Uncovered ≡ None → from_in self.old offset length < to_in self.old offset length → (out : List (Option Prepared)) → (abstract_of S.view F.backing self.old out).is_sound → IfErr result (IsLimitedByTable S.view (from_in self.old offset length) self.old self.new) }
+        ensures limit { LimitsClearing S.view F.backing Clearance.Uncovered self.old self.new offset length result }
     {
         self.clear_range(offset, length, Clearance::Uncovered)
     }
@@ -140,7 +138,7 @@ impl<S: Storage, F: WrappedFormat<S>> Qcow2<S, F> {
         ensures step { ClearsStep S.view F.backing self.old self.new result }
         ensures fails { FailsToClear S.view F.backing Clearance.Zeros self.old self.new offset length result }
         ensures sound { ClearsSoundly S.view F.backing Clearance.Zeros self.old self.new offset length result }
-        ensures limit { refuses_to_clear self.old offset length Clearance.Zeros ≡ None → from_in self.old offset length < to_in self.old offset length → (out : List (Option Prepared)) → (abstract_of S.view F.backing self.old out).is_sound → IfErr result (IsLimitedByTable S.view (from_in self.old offset length) self.old self.new) }
+        ensures limit { LimitsClearing S.view F.backing Clearance.Zeros self.old self.new offset length result }
     {
         self.clear_range(offset, length, Clearance::Zeros)
     }
@@ -160,7 +158,7 @@ impl<S: Storage, F: WrappedFormat<S>> Qcow2<S, F> {
         ensures step { ClearsStep S.view F.backing self.old self.new result }
         ensures fails { FailsToClear S.view F.backing Clearance.Zeros self.old self.new offset length result }
         ensures sound { ClearsSoundly S.view F.backing Clearance.Zeros self.old self.new offset length result }
-        ensures limit { refuses_to_clear self.old offset length Clearance.Zeros ≡ None → from_in self.old offset length < to_in self.old offset length → (out : List (Option Prepared)) → (abstract_of S.view F.backing self.old out).is_sound → IfErr result (IsLimitedByTable S.view (from_in self.old offset length) self.old self.new) }
+        ensures limit { LimitsClearing S.view F.backing Clearance.Zeros self.old self.new offset length result }
     {
         self.discard_to_zero_unsafe(offset, length)
     }
@@ -180,7 +178,7 @@ impl<S: Storage, F: WrappedFormat<S>> Qcow2<S, F> {
         ensures step { ClearsStep S.view F.backing self.old self.new result }
         ensures fails { FailsToClear S.view F.backing Clearance.KeptZeros self.old self.new offset length result }
         ensures sound { ClearsSoundly S.view F.backing Clearance.KeptZeros self.old self.new offset length result }
-        ensures limit { refuses_to_clear self.old offset length Clearance.KeptZeros ≡ None → from_in self.old offset length < to_in self.old offset length → (out : List (Option Prepared)) → (abstract_of S.view F.backing self.old out).is_sound → IfErr result (IsLimitedByTable S.view (from_in self.old offset length) self.old self.new) }
+        ensures limit { LimitsClearing S.view F.backing Clearance.KeptZeros self.old self.new offset length result }
     {
         self.clear_range(offset, length, Clearance::KeptZeros)
     }
@@ -195,7 +193,7 @@ impl<S: Storage, F: WrappedFormat<S>> Qcow2<S, F> {
         ensures step { ClearsStep S.view F.backing self.old self.new result }
         ensures fails { FailsToClear S.view F.backing how self.old self.new offset length result }
         ensures sound { ClearsSoundly S.view F.backing how self.old self.new offset length result }
-        ensures limit { refuses_to_clear self.old offset length how ≡ None → from_in self.old offset length < to_in self.old offset length → (out : List (Option Prepared)) → (abstract_of S.view F.backing self.old out).is_sound → IfErr result (IsLimitedByTable S.view (from_in self.old offset length) self.old self.new) }
+        ensures limit { LimitsClearing S.view F.backing how self.old self.new offset length result }
     {
         let (from, to) = self.check_clear(offset, length, how)?;
         if to <= from {
@@ -264,20 +262,15 @@ impl<S: Storage, F: WrappedFormat<S>> Qcow2<S, F> {
         requires some { from < to }
         ensures step { PartStep S.view F.backing self.old self.new result }
         ensures cause { IfErr result IsMetPreparing }
-        ensures met { (out : List (Option Prepared)) → ImageInvariant S.view F.backing (pending_in S.view F.backing self.old out) self.old out → IsClearable self.old.file.header.fields how from to → IfErr result (IsMetTaking (HasPrepared out) (IsUnderMapping self.old.file.header.fields from out) ⊥ (NeedsFarEntry self.old from)) }
+        ensures met { MeetsBetween S.view F.backing how from to self.old self.new result }
         ensures l1_place { l1_index_of self.old.file.header.fields from < entry_count self.old.l1_table → OnOk result (KeepsL1Place self.old.file.header.fields self.new.file.header.fields) }
         ensures limit { (out : List (Option Prepared)) → ImageInvariant S.view F.backing (pending_in S.view F.backing self.old out) self.old out → IsClearable self.old.file.header.fields how from to → IfErr result (IsLimitedByTable S.view from self.old self.new) }
-        ensures lacks { (out : List (Option Prepared)) → ImageInvariant S.view F.backing (pending_in S.view F.backing self.old out) self.old out → IsClearable self.old.file.header.fields how from to
-            → (HasPrepared out → ⊥) → IfErr result (IsFaultOrLacksTable S.view self.new from) }
-        ensures clears { (out : List (Option Prepared)) → ImageInvariant S.view F.backing (pending_in S.view F.backing self.old out) self.old out → IsClearable self.old.file.header.fields how from to
-            → ClearsOrRefuses S.view F.backing how from to self.old self.new out result }
-        ensures taken { (out : List (Option Prepared)) → ImageInvariant S.view F.backing (pending_in S.view F.backing self.old out) self.old out
-            → IfErr result (λ e. e ≡ TablePrepared → IsUnderMapping self.old.file.header.fields from out) }
-        ensures free { (out : List (Option Prepared)) → ImageInvariant S.view F.backing (pending_in S.view F.backing self.old out) self.old out
-            → IfOk result (λ done. IsUnderMapping self.old.file.header.fields from out → ⊥) }
+        ensures lacks { LacksBetween S.view F.backing how from to self.old self.new result }
+        ensures clears { ClearsBetween S.view F.backing how from to self.old self.new result }
+        ensures taken { RefusedUnder S.view F.backing from self.old result }
+        ensures free { AnsweredBeside S.view F.backing from self.old result }
         ensures gave { (out : List (Option Prepared)) → ImageInvariant S.view F.backing (pending_in S.view F.backing self.old out) self.old out → OnOk result (SomeGaveWay self.old self.new) }
-        ensures freed { (out : List (Option Prepared)) → ImageInvariant S.view F.backing (pending_in S.view F.backing self.old out) self.old out → IsClearable self.old.file.header.fields how from to
-            → IfErr result (FreesRefused self.new) }
+        ensures freed { FreesBetween S.view F.backing how from to self.old self.new result }
         ensures pinned { HasOwnTable self.old from → HeedsPins self.old from result }
     {
         match self.clear_in_table(from, to, how) {
@@ -292,17 +285,13 @@ impl<S: Storage, F: WrappedFormat<S>> Qcow2<S, F> {
         requires some { from < to }
         ensures step { PartStep S.view F.backing self.old self.new result }
         ensures cause { IfErr result IsMetPreparing }
-        ensures met { (out : List (Option Prepared)) → ImageInvariant S.view F.backing (pending_in S.view F.backing self.old out) self.old out → IsClearable self.old.file.header.fields how from to → IfErr result (IsMetTaking (HasPrepared out) (IsUnderMapping self.old.file.header.fields from out) ⊥ (NeedsFarEntry self.old from)) }
+        ensures met { MeetsBetween S.view F.backing how from to self.old self.new result }
         ensures l1_place { l1_index_of self.old.file.header.fields from < entry_count self.old.l1_table → OnOk result (KeepsL1Place self.old.file.header.fields self.new.file.header.fields) }
         ensures limit { (out : List (Option Prepared)) → ImageInvariant S.view F.backing (pending_in S.view F.backing self.old out) self.old out → IsClearable self.old.file.header.fields how from to → IfErr result (IsLimitedByTable S.view from self.old self.new) }
-        ensures lacks { (out : List (Option Prepared)) → ImageInvariant S.view F.backing (pending_in S.view F.backing self.old out) self.old out → IsClearable self.old.file.header.fields how from to
-            → (HasPrepared out → ⊥) → IfErr result (IsFaultOrLacksTable S.view self.new from) }
-        ensures clears { (out : List (Option Prepared)) → ImageInvariant S.view F.backing (pending_in S.view F.backing self.old out) self.old out → IsClearable self.old.file.header.fields how from to
-            → ClearsOrRefuses S.view F.backing how from to self.old self.new out result }
-        ensures taken { (out : List (Option Prepared)) → ImageInvariant S.view F.backing (pending_in S.view F.backing self.old out) self.old out
-            → IfErr result (λ e. e ≡ TablePrepared → IsUnderMapping self.old.file.header.fields from out) }
-        ensures free { (out : List (Option Prepared)) → ImageInvariant S.view F.backing (pending_in S.view F.backing self.old out) self.old out
-            → IfOk result (λ done. IsUnderMapping self.old.file.header.fields from out → ⊥) }
+        ensures lacks { LacksBetween S.view F.backing how from to self.old self.new result }
+        ensures clears { ClearsBetween S.view F.backing how from to self.old self.new result }
+        ensures taken { RefusedUnder S.view F.backing from self.old result }
+        ensures free { AnsweredBeside S.view F.backing from self.old result }
         ensures gave { (out : List (Option Prepared)) → ImageInvariant S.view F.backing (pending_in S.view F.backing self.old out) self.old out → OnOk result (SomeGaveWay self.old self.new) }
         ensures pinned { HasOwnTable self.old from → HeedsPins self.old from result }
     {
