@@ -10,7 +10,6 @@ numbers, whatever ran beside the check; the seconds are those of a processor tha
 loading."""
 
 import argparse
-import json
 import os
 import re
 import sys
@@ -26,7 +25,7 @@ PARTS = {
 }
 PART_OF = {module: part for part, modules in PARTS.items() for module in modules}
 MODULE = re.compile(rf"(?P<function>.+?)\.(?P<module>{'|'.join(PART_OF)})(\.\w+)?")
-DECLARATIONS = re.compile(rb'\[\{"aux":')
+DECLARATION = re.compile(rb'"name":"([^"]+)","notes":[^\n]*?"steps":\[(\d+),(\d+)')
 
 
 def kept_by(crate):
@@ -40,45 +39,34 @@ def kept_by(crate):
     return max(found, key=os.path.getmtime)
 
 
-def declarations(path):
-    """What a module's record says of its declarations."""
+def steps_of(path):
+    """How many steps each declaration of a module took, as the module's record says, by name."""
     if not os.path.isfile(path):
-        return []
+        return {}
     with open(path, "rb") as it:
-        data = it.read()
-    found, read = [], json.JSONDecoder()
-    for start in DECLARATIONS.finditer(data):
-        try:
-            found += read.raw_decode(data[start.start() :].decode("utf-8", "replace"))[0]
-        except json.JSONDecodeError:
-            pass
-    return found
-
-
-def seconds_of(declaration):
-    """How long a declaration took, about."""
-    return sum(declaration["steps"]) / STEPS_IN_A_SECOND
+        return {name.decode(): int(first) + int(second) for name, first, second in DECLARATION.findall(it.read())}
 
 
 def took(kept, name):
     """How long a module took, about."""
-    record = declarations(f"{kept}/records/{name}.decls.oantt")
-    if record or not re.search(r"\.Lts(\.\w+)?$", name):
-        return sum(map(seconds_of, record))
+    steps = steps_of(f"{kept}/records/{name}.decls.oantt")
+    if steps or not re.search(r"\.Lts(\.\w+)?$", name):
+        return sum(steps.values()) / STEPS_IN_A_SECOND
     return os.path.getsize(f"{kept}/{name}.oantt") / BYTES_IN_A_SECOND
 
 
-def table_of(kept, crate):
-    """For each function its seconds by part, and the seconds of the other modules by kind."""
+def table_of(kept, crate, wanted):
+    """For each function its seconds by part, and the seconds of the other modules by kind; where functions are wanted, of those alone."""
     functions, others = {}, {"lemmas": 0, "specs and contracts": 0, "types": 0}
     for file in sorted(os.listdir(kept)):
         name = file.removesuffix(".oantt")
         own = re.match(rf"Rattle-{crate}-(proofs|specs)\.(.*)", name) if file.endswith(".oantt") else None
         of_a_function = MODULE.fullmatch(own[2]) if own and own[1] == "proofs" else None
-        if of_a_function:
-            parts = functions.setdefault(of_a_function["function"].replace(".", "::"), dict.fromkeys(PARTS, 0))
+        path = of_a_function["function"].replace(".", "::") if of_a_function else ""
+        if of_a_function and (not wanted or any(f"::{path}".endswith(f"::{it}") for it in wanted)):
+            parts = functions.setdefault(path, dict.fromkeys(PARTS, 0))
             parts[PART_OF[of_a_function["module"]]] += took(kept, name)
-        elif own:
+        elif own and not wanted and not of_a_function:
             is_of_a_type = re.search(r"\.The(Laws|Inside|Knot|Reach|Links)\b", name)
             others["specs and contracts" if own[1] == "specs" else "types" if is_of_a_type else "lemmas"] += took(kept, name)
     return functions, others
@@ -98,14 +86,12 @@ def print_table(functions, others, most):
 def print_goals(kept, crate, function, parts, most):
     """Prints the goals of a function, dearest first: the seconds of the search, or of what takes the answer, those of the answer itself, and the steps."""
     path = f"Rattle-{crate}-proofs.{function.replace('::', '.')}"
-    search, answers = ({it["name"]: it for it in declarations(f"{kept}/records/{path}.{module}.decls.oantt")} for module in ("Proof", "Answers"))
-    goals = sorted({*search, *answers}, key=lambda it: -sum(seconds_of(found[it]) for found in (search, answers) if it in found))
+    both = [steps_of(f"{kept}/records/{path}.{module}.decls.oantt") for module in ("Proof", "Answers")]
+    steps = {name: sum(found.get(name, 0) for found in both) for name in {*both[0], *both[1]}}
     print(f"{function}: " + ", ".join(f"{part} {seconds:.1f}" for part, seconds in parts.items()))
     print(f"{'search':>9}{'answer':>9}{'steps':>12}  goal")
-    for name in goals[: most or None]:
-        both = [found.get(name) for found in (search, answers)]
-        steps = sum(sum(it["steps"]) for it in both if it)
-        print("".join(f"{seconds_of(it):9.2f}" if it else f"{'-':>9}" for it in both) + f"{steps:12}  {name}")
+    for name in sorted(steps, key=lambda it: -steps[it])[: most or None]:
+        print("".join(f"{found[name] / STEPS_IN_A_SECOND:9.2f}" if name in found else f"{'-':>9}" for found in both) + f"{steps[name]:12}  {name}")
 
 
 def main():
@@ -115,9 +101,9 @@ def main():
     parser.add_argument("--most", type=int, default=40)
     given = parser.parse_args()
     kept = kept_by(given.crate)
-    functions, others = table_of(kept, given.crate)
+    functions, others = table_of(kept, given.crate, given.functions)
     for wanted in given.functions:
-        found = [it for it in functions if it == wanted or it.endswith("::" + wanted)]
+        found = [it for it in functions if f"::{it}".endswith(f"::{wanted}")]
         if not found:
             sys.exit(f"no function {wanted} in what is kept of {given.crate}")
         for function in found:
