@@ -45,7 +45,7 @@ class Code:
         for path in [it for it in self.texts if re.match(r"crates/\w+/src/.*\.rt$", it)]:
             owner = function = ""
             for found in DECLARED.finditer(self.texts[path]):
-                owner, function = found[1] or (owner if found[2] != "" else ""), found[3] or function
+                owner, function = (found[1], "") if found[1] else (owner if found[2] != "" else "", found[3] or function)
                 self.clauses.setdefault((path, owner, function), set()).update([found[4]] if found[4] else [])
 
     def clauses_in(self, start, names=()):
