@@ -16,6 +16,7 @@ use Rattle.qcow2_alloc.proofs.AllocationSteps.{handed_on, counted_at, none_named
 use Rattle.qcow2_alloc.proofs.CachedEntries.Putting.{some_of}
 use Rattle.qcow2_alloc.proofs.Outcomes.{if_no_ok}
 use Rattle.qcow2_alloc.specs.declared.error.ImageError.TheVariants as I
+use Rattle.qcow2_alloc.proofs.Faults.{told_on, told_ok}
 use Rattle.qcow2_alloc.proofs.allocation.Allocator.behind_used.Goals as goal
 
 -- a cluster behind another one in its range
@@ -127,3 +128,12 @@ returns-in_default-clause-none g c = λ none. (c.in_ok-block.ensures.none (subst
 
 pub returns-clause-none : goal.returns-clause-none
 returns-clause-none g c = λ none. rw c.rb_used_from-used.ensures.same (c.in_ok-block.ensures.none (subst (λ n. HasNone c.args.self.now.reftable (c.args.cluster / n)) c.rb_bits-bits.ensures.counts none)).1
+
+pub returns-in_err-block-clause-storage_faults : goal.returns-in_err-block-clause-storage_faults
+returns-in_err-block-clause-storage_faults g c = told_on _ _ c.load_block.result c.in_err-block.field-0.0 c.from_residual.result c.load_block.ensures.storage_faults c.in_err-block.was c.from_residual.ensures
+
+pub returns-in_default-clause-storage_faults : goal.returns-in_default-clause-storage_faults
+returns-in_default-clause-storage_faults g c = told_ok _ _ _ c.in_ok-block.ensures.storage_faults.told
+
+pub returns-clause-storage_faults : goal.returns-clause-storage_faults
+returns-clause-storage_faults g c = told_ok _ _ _ c.in_ok-block.ensures.storage_faults.told

@@ -1,14 +1,14 @@
 use Rattle.std.proofs.Common.{◌≡◌, inl, inr, ℕ, ◌+◌, ◌-◌, ◌*◌, ◌/◌, ◌%◌, ◌^◌, ◌<◌, ◌≤◌, length, None, refl, sym, ap, ◌∙◌, subst, arith}
 use Rattle.std.proofs.lemmas.Nat.{div-add-mod'}
-use Rattle.std.proofs.Math.Nat.{div-le_self}
-use Rattle.qcow2_metadata.specs.L2Mapping.{greatest_offset}
+use Rattle.std.proofs.Math.Nat.{div-le_self, mul-le-mul_left}
+use Rattle.qcow2_metadata.specs.L2Mapping.{greatest_offset, IsHostCluster}
 use Rattle.qcow2_metadata.specs.EntryTable.{EntryTableView, entry_count}
 use Rattle.qcow2_metadata.specs.declared.header.HeaderFields.{HeaderFields}
-use Rattle.qcow2_metadata.specs.Header.{cluster_size, counts_per_block}
+use Rattle.qcow2_metadata.specs.Header.{HeaderView, cluster_size, counts_per_block}
 use Rattle.qcow2_laws.specs.Caches.{AreClean}
 use Rattle.qcow2_laws.specs.Tops.{IsSameOutside}
 use Rattle.qcow2_metadata.specs.Bytes.{one_if}
-use Rattle.qcow2_metadata.specs.TableBytes.{ChangesEntry}
+use Rattle.qcow2_metadata.specs.TableBytes.{ChangesEntry, HasPlace}
 use Rattle.qcow2_alloc.specs.Allocation.{run_at, NamesLacking, StandAt, UnseenAllocatorStep}
 use Rattle.qcow2_alloc.specs.GrownTables.{with_run}
 use Rattle.qcow2_alloc.specs.HeaderClusters.{KeepsHeaderCluster}
@@ -252,3 +252,33 @@ returns-in_err-write_new_block-clause-marks g c = kept_marks_then c.placing.inva
 
 pub returns-clause-marks : goal.returns-clause-marks
 returns-clause-marks g c = c.placing.invariant.marks
+
+fits_below : (at greatest size : ℕ) → at ≤ greatest / size → at * size ≤ greatest
+fits_below at greatest size le = let product : size * at ≤ size * (greatest / size) = mul-le-mul_left size le in let e = div-add-mod' greatest size in omega (arith, product, e)
+
+at_fits : (at cluster first n end greatest size : ℕ) → at ≤ cluster → cluster < end → end ≡ first + n → first + n ≤ greatest / size + 1 → at * size ≤ greatest
+at_fits at cluster first n end greatest size low lt is near = fits_below at greatest size (omega arith)
+
+pub run_block-requires-clause-place : goal.run_block-requires-clause-place
+run_block-requires-clause-place g c =
+    let inv = c.placing.invariant in
+    let fits = at_fits c.placing.at c.placing.cluster c.args.room.first (room_length c.args.room) _ greatest_offset (2 ^ c.args.file.now.header.fields.cluster_bits) inv.high c.placing-test.true inv.end_is c.requires.near in
+    let below : c.placing.at * 2 ^ c.args.file.now.header.fields.cluster_bits < 2 ^ 64 = omega arith in
+    subst (λ (m : ℕ). HasPlace c.placing.file.header.fields.cluster_bits m) (sym c.new-place.ensures) (subst (λ (x : HeaderView). HasPlace x.fields.cluster_bits c.placing.at) (sym inv.header) below)
+
+pub enter_refblock-requires-clause-within : goal.enter_refblock-requires-clause-within
+enter_refblock-requires-clause-within g c =
+    let inv = c.placing.invariant in
+    let h = c.args.file.now.header.fields in
+    let first = c.args.room.first in
+    let n = room_length c.args.room in
+    let within = range_within c.placing.cluster (first + n) (entry_count c.placing.table) (counts_per_block h)
+    (let lt = c.placing-test.true in let end = inv.end_is in omega (arith, lt, end)) (subst (λ m. first + n ≤ m / 8 * counts_per_block h) (sym inv.as_long) c.requires.within) in
+    subst (λ (m : ℕ). c.placing.cluster / m < entry_count c.placing.table) inv.counts within
+
+pub enter_refblock-requires-clause-cluster : goal.enter_refblock-requires-clause-cluster
+enter_refblock-requires-clause-cluster g c =
+    let inv = c.placing.invariant in
+    let fits = at_fits c.placing.at c.placing.cluster c.args.room.first (room_length c.args.room) _ greatest_offset (2 ^ c.args.file.now.header.fields.cluster_bits) inv.high c.placing-test.true inv.end_is c.requires.near in
+    let bits = ap (λ (x : EntryTableView). x.cluster_bits) inv.rest ∙ c.requires.bits in
+    subst (λ (m : ℕ). IsHostCluster c.placing.table.cluster_bits m) (sym c.new-place.ensures) (subst (λ (b : ℕ). IsHostCluster b c.placing.at) (sym bits) fits)

@@ -16,6 +16,8 @@ use Rattle.qcow2_alloc.proofs.allocation.Allocator.raise.Goals.{then-rb_is_zero,
 use Rattle.qcow2_alloc.proofs.SparedHeaders.{spares_then, spares_tables}
 use Rattle.qcow2_alloc.specs.SparedHeaders.{SparesHeader}
 use Rattle.qcow2_alloc.specs.declared.image_file.ImageFile.{ImageFile}
+use Rattle.qcow2_alloc.proofs.Faults.{told_on, told_ok}
+use Rattle.qcow2_alloc.specs.Faults.{faults_of}
 use Rattle.qcow2_alloc.proofs.allocation.Allocator.raise.Goals as goal
 
 zero_of : (n : _) → (n == 0) ≡ true → n ≡ 0
@@ -101,4 +103,30 @@ pub returns-clause-marks : goal.returns-clause-marks
 returns-clause-marks g c = elim c.if-rb_is_zero.branch [
   | then-rb_is_zero w ↦ subst (λ (f : ImageFile g.row.S.Denot). KeepsMarks g.S.Storage.view c.args.file.now f) (sym w.file-is) (kept_marks_then c.load_block.ensures.marks (marks_of_caches w.rb_increment.ensures.marks w.rb_increment.ensures.order))
   | else-rb_is_zero w ↦ subst (λ (f : ImageFile g.row.S.Denot). KeepsMarks g.S.Storage.view c.args.file.now f) (sym w.file-is) c.load_block.ensures.marks
+]
+
+pub returns-in_err-block-clause-storage_faults : goal.returns-in_err-block-clause-storage_faults
+returns-in_err-block-clause-storage_faults g c = told_on _ _ c.load_block.result c.in_err-block.field-0.0 c.from_residual.result c.load_block.ensures.storage_faults c.in_err-block.was c.from_residual.ensures
+
+pub returns-in_default-clause-storage_faults : goal.returns-in_default-clause-storage_faults
+returns-in_default-clause-storage_faults g c = told_ok _ _ _ c.in_ok-block.ensures.storage_faults.told
+
+pub returns-clause-storage_faults : goal.returns-clause-storage_faults
+returns-clause-storage_faults g c =
+    let same : faults_of g.S.Storage.view c.if-rb_is_zero.file.storage ≡ faults_of g.S.Storage.view c.load_block.new.file.storage = elim c.if-rb_is_zero.branch [
+      | then-rb_is_zero w ↦ ap (λ (f : ImageFile g.row.S.Denot). faults_of g.S.Storage.view f.storage) w.file-is
+      | else-rb_is_zero w ↦ ap (λ (f : ImageFile g.row.S.Denot). faults_of g.S.Storage.view f.storage) w.file-is
+    ] in
+    told_ok _ _ _ (same ∙ c.in_ok-block.ensures.storage_faults.told)
+
+pub returns-clause-header : goal.returns-clause-header
+returns-clause-header g c = elim c.if-rb_is_zero.branch [
+  | then-rb_is_zero w ↦ ap (λ (f : ImageFile g.row.S.Denot). f.header) w.file-is ∙ c.load_block.ensures.header
+  | else-rb_is_zero w ↦ ap (λ (f : ImageFile g.row.S.Denot). f.header) w.file-is ∙ c.load_block.ensures.header
+]
+
+pub returns-clause-list : goal.returns-clause-list
+returns-clause-list g c = elim c.if-rb_is_zero.branch [
+  | then-rb_is_zero w ↦ ap (λ (f : ImageFile g.row.S.Denot). f.free_list) w.file-is ∙ c.load_block.ensures.list
+  | else-rb_is_zero w ↦ ap (λ (f : ImageFile g.row.S.Denot). f.free_list) w.file-is ∙ c.load_block.ensures.list
 ]

@@ -14,6 +14,7 @@ use Rattle.qcow2_alloc.proofs.KeptMarks.{kept_marks_then, marks_of_caches}
 use Rattle.qcow2_alloc.specs.declared.error.ImageError.TheVariants as I
 use Rattle.qcow2_alloc.proofs.AlignedBlocks.{unaligned_as}
 use Rattle.qcow2_alloc.proofs.Outcomes.{handed_unaligned, ok_no_err}
+use Rattle.qcow2_alloc.proofs.Faults.{told_on, told_ok}
 use Rattle.qcow2_alloc.proofs.allocation.Allocator.try_lower.Goals as goal
 
 pub returns-in_err-block-clause-sound : goal.returns-in_err-block-clause-sound
@@ -88,3 +89,12 @@ returns-in_default-clause-unaligned g c = λ u. ok_no_err _ I.UnalignedTable (c.
 
 pub returns-clause-unaligned : goal.returns-clause-unaligned
 returns-clause-unaligned g c = λ u. ok_no_err _ I.UnalignedTable (c.in_ok-block.ensures.unaligned (unaligned_as c.args.file.now.header.fields c.args.self.now.reftable c.args.cluster _ c.rb_bits-bits.ensures.counts u)).0
+
+pub returns-in_err-block-clause-storage_faults : goal.returns-in_err-block-clause-storage_faults
+returns-in_err-block-clause-storage_faults g c = told_on _ _ c.load_block.result c.in_err-block.field-0.0 c.from_residual.result c.load_block.ensures.storage_faults c.in_err-block.was c.from_residual.ensures
+
+pub returns-in_default-clause-storage_faults : goal.returns-in_default-clause-storage_faults
+returns-in_default-clause-storage_faults g c = told_ok _ _ _ c.in_ok-block.ensures.storage_faults.told
+
+pub returns-clause-storage_faults : goal.returns-clause-storage_faults
+returns-clause-storage_faults g c = told_ok _ _ _ c.in_ok-block.ensures.storage_faults.told
