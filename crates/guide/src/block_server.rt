@@ -5,7 +5,7 @@ use qcow2_session::{read, write};
 use std::alloc::Global;
 
 /// What a client asks for.
-#[derive(Debug, PartialEq, Drop)]
+#[derive(Drop)]
 pub enum Request {
     Read { offset: u64, length: u64 },
     Write { offset: u64, bytes: Vec<u8> },

@@ -37,7 +37,7 @@ use std::alloc::Global;
 
 /// A call on an image. Prepared mappings stand in 256 slots, and mappings in 256 others. Offsets, lengths and sizes are in bytes. Each
 /// but `Write` is replied `Refused` where its call is refused.
-#[derive(Debug, PartialEq, Drop)]
+#[derive(Drop)]
 pub enum Command {
     /// `read` of so many bytes from a guest offset on. Replied `Bytes`.
     Read {
