@@ -14,7 +14,7 @@ use std::alloc::{AllocError, Global};
 const LONGEST: u64 = 1_048_576;
 
 /// Why a line gives no command.
-#[derive(Clone, Copy, Debug, PartialEq, Eq)]
+#[derive(Clone, Copy)]
 pub enum LineError {
     /// It isn't the line of a command.
     Unreadable,

@@ -12,7 +12,7 @@ use std::io;
 use std::io::BufRead;
 
 /// Where the commands of an input end.
-#[derive(Clone, Copy, Debug, PartialEq, Eq)]
+#[derive(Clone, Copy, PartialEq, Eq)]
 pub enum ScriptEnd {
     /// At the end of the input.
     Whole,
@@ -23,7 +23,7 @@ pub enum ScriptEnd {
 }
 
 /// The commands of an input.
-#[derive(Debug, Drop)]
+#[derive(Drop)]
 pub struct Script {
     /// The commands of the lines before that, in their order.
     pub commands: Vec<Command>,
