@@ -1,4 +1,4 @@
-ghost use Rattle.std.specs.Prelude.{◌≡◌, map, string_bytes};
+ghost use Rattle.std.specs.Prelude.{◌≡◌, ◌∷◌, [], map, string_bytes};
 ghost use Rattle.std.specs.Option.{option_map};
 ghost use Rattle.qimg.specs.Words.{asked, asked_by_words};
 
@@ -47,34 +47,91 @@ pub enum Invocation<'a> {
 pub fn words(words: &[String]) -> Option<Invocation<'_>>
     ensures { option_map asked result ≡ asked_by_words (map string_bytes words.now) }
 {
-    match words {
-        [name, file] if name.as_str() == "run" => Some(Invocation::Run {
-            file: file.as_str(),
-        }),
-        [name, file] if name.as_str() == "check" => Some(Invocation::Check {
-            file: file.as_str(),
-        }),
-        [name, file, raw] if name.as_str() == "export" => Some(Invocation::Export {
-            file: file.as_str(),
-            raw: raw.as_str(),
-        }),
-        [name, raw, file, cluster, width] if name.as_str() == "import" => Some(
-            Invocation::Import {
-                raw: raw.as_str(),
-                file: file.as_str(),
-                cluster: number(cluster.as_str())?,
-                width: number(width.as_str())?,
-            },
-        ),
-        [name, file, size, cluster, width, mode] if name.as_str() == "create" => Some(
-            Invocation::Create {
-                file: file.as_str(),
-                size: number(size.as_str())?,
-                cluster: number(cluster.as_str())?,
-                width: number(width.as_str())?,
-                mode: preallocation(mode.as_str())?,
-            },
-        ),
+    if let [name, file] = words {
+        return words_of_a_file(name.as_str(), file.as_str());
+    }
+    if let [name, file, raw] = words {
+        return words_of_an_export(name.as_str(), file.as_str(), raw.as_str());
+    }
+    if let [name, raw, file, cluster, width] = words {
+        return words_of_an_import(
+            name.as_str(),
+            raw.as_str(),
+            file.as_str(),
+            cluster.as_str(),
+            width.as_str(),
+        );
+    }
+    let [name, file, size, cluster, width, mode] = words else {
+        return None;
+    };
+    words_of_a_creation(
+        name.as_str(),
+        file.as_str(),
+        size.as_str(),
+        cluster.as_str(),
+        width.as_str(),
+        mode.as_str(),
+    )
+}
+
+fn words_of_a_file<'a>(name: &str, file: &'a str) -> Option<Invocation<'a>>
+    ensures { option_map asked result ≡ asked_by_words (name.now ∷ file.now ∷ []) }
+{
+    match name {
+        "run" => Some(Invocation::Run { file }),
+        "check" => Some(Invocation::Check { file }),
         _ => None,
     }
+}
+
+fn words_of_an_export<'a>(name: &str, file: &'a str, raw: &'a str) -> Option<Invocation<'a>>
+    ensures { option_map asked result ≡ asked_by_words (name.now ∷ file.now ∷ raw.now ∷ []) }
+{
+    if name != "export" {
+        return None;
+    }
+    Some(Invocation::Export { file, raw })
+}
+
+fn words_of_an_import<'a>(
+    name: &str,
+    raw: &'a str,
+    file: &'a str,
+    cluster: &str,
+    width: &str,
+) -> Option<Invocation<'a>>
+    ensures { option_map asked result ≡ asked_by_words (name.now ∷ raw.now ∷ file.now ∷ cluster.now ∷ width.now ∷ []) }
+{
+    if name != "import" {
+        return None;
+    }
+    Some(Invocation::Import {
+        raw,
+        file,
+        cluster: number(cluster)?,
+        width: number(width)?,
+    })
+}
+
+fn words_of_a_creation<'a>(
+    name: &str,
+    file: &'a str,
+    size: &str,
+    cluster: &str,
+    width: &str,
+    mode: &str,
+) -> Option<Invocation<'a>>
+    ensures { option_map asked result ≡ asked_by_words (name.now ∷ file.now ∷ size.now ∷ cluster.now ∷ width.now ∷ mode.now ∷ []) }
+{
+    if name != "create" {
+        return None;
+    }
+    Some(Invocation::Create {
+        file,
+        size: number(size)?,
+        cluster: number(cluster)?,
+        width: number(width)?,
+        mode: preallocation(mode)?,
+    })
 }
