@@ -5,12 +5,12 @@ use Rattle.qcow2_metadata.specs.EntryTable.{entry_count}
 use Rattle.qcow2_metadata.specs.Header.{HeaderView, counts_per_block, entries_per_cluster}
 use Rattle.qcow2_laws.specs.CrashInvariant.{Pending}
 use Rattle.qcow2_alloc.specs.declared.clusters_to_free.ClustersToFreeEntry.{ClustersToFreeEntry}
-use Rattle.qcow2_alloc.specs.Allocation.{UnseenAllocatorGrowth, RefusedGrowth}
+use Rattle.qcow2_alloc.specs.Allocation.{UnseenAllocatorGrowth, RefusedGrowth, GrowsTable}
 use Rattle.qcow2_alloc.specs.declared.error.ImageError.{ImageError}
 use Rattle.qcow2_alloc.specs.FreeList.{pending_then, GivesWay}
 use Rattle.qcow2_alloc.specs.Growing.{IsLongEnough}
 use Rattle.qcow2_alloc.specs.Limits.{IsFaultOr, HasNoRoomFor, CantGrow}
-use Rattle.qcow2_alloc.proofs.AllocationSteps.{handed_on, lacking_clone}
+use Rattle.qcow2_alloc.proofs.AllocationSteps.{handed_on, lacking_clone, on_none}
 use Rattle.qcow2_alloc.proofs.FullRooms.{cant_grow}
 use Rattle.qcow2_alloc.proofs.Limits.{cause_as}
 use Rattle.qcow2_alloc.proofs.ListedAfter.{listed_after_same}
@@ -154,3 +154,17 @@ returns-in-Ok-clause-made g c = λ p sound.
 
 pub returns-in-Err-clause-made : goal.returns-in-Err-clause-made
 returns-in-Err-clause-made g c = λ p sound. made_unentered g.S.Storage.view p c.args.file.now c.enter_reftable.new.file c.args.self.now c.enter_reftable.new.self sound c.in-Err.refusal c.enter_reftable.ensures.list c.in-Err.ensures.kept (c.in-Err.ensures.enters p sound c.in_ok-table.ensures.entries c.in_ok-table.ensures.length.enough.whole)
+
+pub returns-in_err-table-clause-sound : goal.returns-in_err-table-clause-sound
+returns-in_err-table-clause-sound g c = λ p sound.
+    let old = c.args.file.now in
+    let same = sym (listed_after_same p old.free_list old.free_list refl) in
+    handed_on (GrowsTable g.S.Storage.view p old c.args.self.now old (pending_then p old.free_list old.free_list)) c.from_residual.result c.in_err-table.field-0.0 c.from_residual.ensures
+    (inl (subst (λ (q : Pending). UnseenAllocatorGrowth g.S.Storage.view p old c.args.self.now old q) same (on_none g.S.Storage.view p old c.args.self.now sound)))
+
+pub returns-in_err-former-clause-sound : goal.returns-in_err-former-clause-sound
+returns-in_err-former-clause-sound g c = λ p sound.
+    let old = c.args.file.now in
+    let same = sym (listed_after_same p old.free_list old.free_list refl) in
+    handed_on (GrowsTable g.S.Storage.view p old c.args.self.now old (pending_then p old.free_list old.free_list)) c.from_residual-in_err-former.result c.in_err-former.field-0.0 c.from_residual-in_err-former.ensures
+    (inl (subst (λ (q : Pending). UnseenAllocatorGrowth g.S.Storage.view p old c.args.self.now old q) same (on_none g.S.Storage.view p old c.args.self.now sound)))
