@@ -1,17 +1,16 @@
 -- One step after another keeps the marks of an image's file.
-use Rattle.std.proofs.Common.{◌≡◌, ℕ, List, Option, Some, None, IsSome, Result, inl, inr, refl, sym, ◌∙◌, subst}
+use Rattle.std.proofs.Common.{◌≡◌, ℕ, List, Option, Some, None, IsSome, Result, refl, sym, ◌∙◌, subst}
 use Rattle.std.specs.Option.{IfSome}
 use Rattle.image_access.specs.Moments.{StorageView, Calls, Changes}
 use Rattle.image_access.specs.declared.error.StorageError.{StorageError}
 use Rattle.qcow2_alloc.specs.CachePins.{KeepsPinsAndNotes}
-use Rattle.qcow2_alloc.specs.ImageStorage.{storage_of, kind_of, NotesWrite, SameNotes}
+use Rattle.qcow2_alloc.specs.ImageStorage.{storage_of, NotesWrite, SameNotes}
 use Rattle.qcow2_alloc.specs.CountedChanges.{counts_none, counts_then}
 use Rattle.qcow2_alloc.specs.KeptMarks.{KeepMarks, KeepNotes}
-use Rattle.qcow2_alloc.specs.KeptNotes.{KeepsNotes, AlsoData, NoData, kept_same, kept_then}
+use Rattle.qcow2_alloc.specs.KeptNotes.{KeepsNotes, kept_same, kept_then}
 use Rattle.qcow2_alloc.specs.MetadataCaches.{order_of}
 use Rattle.qcow2_alloc.specs.declared.cache.MetadataCaches.{MetadataCaches}
 use Rattle.qcow2_alloc.specs.declared.image_storage.ImageStorage.{ImageStorage}
-use Rattle.qcow2_alloc.specs.declared.image_storage.WriteKind.TheVariants.{Other}
 use Rattle.qcow2_alloc.proofs.CachePins.{marks_none, marks_then}
 use Rattle.qcow2_alloc.proofs.KeptNotes.{kept_told, write_kept}
 
@@ -26,48 +25,36 @@ module _ {S : Type 0} {view : S → StorageView} where
   pub marks_of_caches : {s : ImageStorage S} {a b : MetadataCaches S} → KeepsPinsAndNotes a b → order_of b ≡ order_of a → KeepMarks view s a s b
   marks_of_caches {s} pins order = record { pins = pins; order = order; notes = kept_same s }
 
-  pub marks_of_storage : {r s : ImageStorage S} {a b : MetadataCaches S} → b ≡ a → KeepsNotes view NoData r s → KeepMarks view r a s b
+  pub marks_of_storage : {r s : ImageStorage S} {a b : MetadataCaches S} → b ≡ a → KeepsNotes view r s → KeepMarks view r a s b
   marks_of_storage {r} {s} {a} same notes = subst (λ (x : MetadataCaches S). KeepMarks view r a s x) (sym same) (record { pins = marks_none a; order = refl; notes = notes })
 
-  pub marks_of_both : {r s : ImageStorage S} {a b : MetadataCaches S} → KeepsPinsAndNotes a b → order_of b ≡ order_of a → KeepsNotes view NoData r s → KeepMarks view r a s b
+  pub marks_of_both : {r s : ImageStorage S} {a b : MetadataCaches S} → KeepsPinsAndNotes a b → order_of b ≡ order_of a → KeepsNotes view r s → KeepMarks view r a s b
   marks_of_both pins order notes = record { pins = pins; order = order; notes = notes }
 
-  -- a write that the storage was told of before as none of data
-  module _ (before mid now : ImageStorage S) (r : Result (Unit {0}) StorageError) (same : storage_of mid ≡ storage_of before) (noted : SameNotes before mid) (told : kind_of mid ≡ Other) where
-    pub told_kept : (changed : List ℕ) → Changes (view (storage_of mid)) (view (storage_of now)) r (λ _. changed) → Calls (view (storage_of mid)) (view (storage_of now)) r → NotesWrite mid now r → KeepsNotes view NoData before now
-    told_kept changed changes calls notes = kept_told before mid now same noted (write_kept mid now r changed changes calls notes (λ is. let both = sym told ∙ is in cc))
+  -- a write that the storage was told of before
+  module _ (before mid now : ImageStorage S) (r : Result (Unit {0}) StorageError) (same : storage_of mid ≡ storage_of before) (noted : SameNotes before mid) where
+    pub told_kept : (changed : List ℕ) → Changes (view (storage_of mid)) (view (storage_of now)) r (λ _. changed) → Calls (view (storage_of mid)) (view (storage_of now)) r → NotesWrite mid now r → KeepsNotes view before now
+    told_kept changed changes calls notes = kept_told before mid now same noted (write_kept mid now r changed changes calls notes)
 
     -- of a table that has a place
     pub placed_kept : (place : Option ℕ) (changed : ℕ → List ℕ) → IsSome place → IfSome place (λ k. Changes (view (storage_of mid)) (view (storage_of now)) r (λ _. changed k)) → Calls (view (storage_of mid)) (view (storage_of now)) r
-        → NotesWrite mid now r → KeepsNotes view NoData before now
+        → NotesWrite mid now r → KeepsNotes view before now
     placed_kept None changed placed changes calls notes = absurd cc
     placed_kept (Some k) changed placed changes calls notes = told_kept (changed k) changes calls notes
 
-  -- one that may be told as data
-  pub any_told_kept : (before mid now : ImageStorage S) (r : Result (Unit {0}) StorageError) → storage_of mid ≡ storage_of before → SameNotes before mid → (changed : List ℕ)
-      → Changes (view (storage_of mid)) (view (storage_of now)) r (λ _. changed) → Calls (view (storage_of mid)) (view (storage_of now)) r → NotesWrite mid now r → KeepsNotes view AlsoData before now
-  any_told_kept before mid now r same noted changed changes calls notes = kept_told before mid now same noted (write_kept mid now r changed changes calls notes (λ _. tt))
-
   -- ---- what is noted of changes of a file
-  pub notes_none : {MayTellData : Type 0} {s : ImageStorage S} {a : MetadataCaches S} → KeepNotes view MayTellData s a s a
+  pub notes_none : {s : ImageStorage S} {a : MetadataCaches S} → KeepNotes view s a s a
   notes_none {s} {a} = record { storage = kept_same s; tables = counts_none a.is_changed a.changes }
 
-  pub notes_then : {MayTellData : Type 0} {r s t : ImageStorage S} {a b c : MetadataCaches S} → KeepNotes view MayTellData r a s b → KeepNotes view MayTellData s b t c → KeepNotes view MayTellData r a t c
+  pub notes_then : {r s t : ImageStorage S} {a b c : MetadataCaches S} → KeepNotes view r a s b → KeepNotes view s b t c → KeepNotes view r a t c
   notes_then {r} {s} {t} {a} {b} {c} first then = record { storage = kept_then r s t first.storage then.storage; tables = counts_then a.is_changed b.is_changed c.is_changed a.changes b.changes c.changes first.tables then.tables }
 
-  -- what tells nothing as data does so where it might
-  kept_for : {MayTellData : Type 0} {r s : ImageStorage S} → KeepsNotes view NoData r s → KeepsNotes view MayTellData r s
-  kept_for notes = record { honest = notes.honest; changes = notes.changes; contents = notes.contents; no_fewer_data = notes.no_fewer_data; kinds = elim notes.kinds [ inl none ↦ absurd none | inr same ↦ inr same ] }
-
-  pub notes_for : {MayTellData : Type 0} {r s : ImageStorage S} {a b : MetadataCaches S} → KeepNotes view NoData r a s b → KeepNotes view MayTellData r a s b
-  notes_for notes = record { storage = kept_for notes.storage; tables = notes.tables }
-
   -- a call of both, one of the storage alone, and one of the caches alone
-  pub notes_of_marks : {MayTellData : Type 0} {r s : ImageStorage S} {a b : MetadataCaches S} → KeepMarks view r a s b → KeepNotes view MayTellData r a s b
-  notes_of_marks marks = record { storage = kept_for marks.notes; tables = marks.pins.changes }
+  pub notes_of_marks : {r s : ImageStorage S} {a b : MetadataCaches S} → KeepMarks view r a s b → KeepNotes view r a s b
+  notes_of_marks marks = record { storage = marks.notes; tables = marks.pins.changes }
 
-  pub notes_of_both : {MayTellData : Type 0} {r s : ImageStorage S} {a b : MetadataCaches S} → KeepsPinsAndNotes a b → KeepsNotes view NoData r s → KeepNotes view MayTellData r a s b
-  notes_of_both pins notes = record { storage = kept_for notes; tables = pins.changes }
+  pub notes_of_both : {r s : ImageStorage S} {a b : MetadataCaches S} → KeepsPinsAndNotes a b → KeepsNotes view r s → KeepNotes view r a s b
+  notes_of_both pins notes = record { storage = notes; tables = pins.changes }
 
-  pub notes_of_storage : {MayTellData : Type 0} {r s : ImageStorage S} {a : MetadataCaches S} → KeepsNotes view MayTellData r s → KeepNotes view MayTellData r a s a
+  pub notes_of_storage : {r s : ImageStorage S} {a : MetadataCaches S} → KeepsNotes view r s → KeepNotes view r a s a
   notes_of_storage {r} {s} {a} notes = record { storage = notes; tables = counts_none a.is_changed a.changes }

@@ -1,11 +1,10 @@
 -- What the image's storage is made of.
-use Rattle.std.specs.Prelude.{◌≡◌, ℕ, Bool, true, Result, Ok, Err, IsTrue}
+use Rattle.std.specs.Prelude.{◌≡◌, ℕ, Bool, Result, Ok, Err, IsTrue}
 use Rattle.image_access.specs.declared.error.StorageError.{StorageError}
 use Rattle.image_access.specs.declared.error.StorageError.TheVariants.{Fault, Memory}
 use Rattle.qcow2_alloc.specs.CountedChanges.{IsOneChange}
 use Rattle.qcow2_alloc.specs.declared.image_storage.ImageStorage.{ImageStorage}
 use Rattle.qcow2_alloc.specs.declared.image_storage.WriteKind.{WriteKind}
-use Rattle.qcow2_alloc.specs.declared.image_storage.WriteKind.TheVariants.{Data, RefBlock, L2Table, Other}
 
 -- the storage that is written
 abbrev pub storage_of : {S : Type 0} → ImageStorage S → S
@@ -23,30 +22,18 @@ is_changed_of s = s.is_changed
 abbrev pub changes_of : {S : Type 0} → ImageStorage S → ℕ
 changes_of s = s.changes
 
--- how many of those were told as data, up to the greatest u64
-abbrev pub data_changes_of : {S : Type 0} → ImageStorage S → ℕ
-data_changes_of s = s.data_changes
-
 -- nothing is noted anew, and nothing is counted
 pub record SameNotes {S : Type 0} (old new : ImageStorage S) : Type 0 where
   pub note : is_changed_of new ≡ is_changed_of old
   pub count : changes_of new ≡ changes_of old
-  pub kinds : data_changes_of new ≡ data_changes_of old
 
 -- whether a call failed since faults are watched
 abbrev pub met_fault_of : {S : Type 0} → ImageStorage S → Bool
 met_fault_of s = s.met_fault
 
--- a change that is told as data is one more of data; after one of another kind their number is as before
-abbrev pub CountsKind : WriteKind → ℕ → ℕ → Type 0
-CountsKind Data before now = IsOneChange true before now
-CountsKind RefBlock before now = now ≡ before
-CountsKind L2Table before now = now ≡ before
-CountsKind Other before now = now ≡ before
-
--- a change is noted and counted, and as what it was told
+-- a change is noted and counted
 abbrev pub CountsWrite : {S : Type 0} → ImageStorage S → ImageStorage S → Type 0
-CountsWrite old new = IsOneChange (is_changed_of new) (changes_of old) (changes_of new) × CountsKind (kind_of old) (data_changes_of old) (data_changes_of new)
+CountsWrite old new = IsOneChange (is_changed_of new) (changes_of old) (changes_of new)
 
 -- a write is noted and counted that was made, or may have been; where memory was refused nothing is
 abbrev pub NotesWrite : {S T : Type 0} → ImageStorage S → ImageStorage S → Result T StorageError → Type 0

@@ -3,30 +3,30 @@ use Rattle.std.specs.Prelude.{◌≡◌, ◌⊎◌, ℕ, IsTrue}
 use Rattle.image_access.specs.Moments.{StorageView, Rose}
 use Rattle.qcow2_alloc.specs.CachePins.{KeepsPinsAndNotes, CountsTableChanges}
 use Rattle.qcow2_alloc.specs.ImageStorage.{is_changed_of, changes_of}
-use Rattle.qcow2_alloc.specs.KeptNotes.{KeepsNotes, NoData}
+use Rattle.qcow2_alloc.specs.KeptNotes.{KeepsNotes}
 use Rattle.qcow2_alloc.specs.MetadataCaches.{order_of}
 use Rattle.qcow2_alloc.specs.declared.cache.MetadataCaches.{MetadataCaches}
 use Rattle.qcow2_alloc.specs.declared.image_file.ImageFile.{ImageFile}
 use Rattle.qcow2_alloc.specs.declared.image_storage.ImageStorage.{ImageStorage}
 
 module _ {S : Type 0} (view : S → StorageView) where
-  -- Pins stay, and so does the order of writes. What is noted of changes goes on. Where no change of the storage is noted, its contents stayed. Nothing is told as data.
+  -- Pins stay, and so does the order of writes. What is noted of changes goes on. Where no change of the storage is noted, its contents stayed.
   pub record KeepMarks (old : ImageStorage S) (caches : MetadataCaches S) (new : ImageStorage S) (caches' : MetadataCaches S) : Type 0 where
     pub pins : KeepsPinsAndNotes caches caches'
     pub order : order_of caches' ≡ order_of caches
-    pub notes : KeepsNotes view NoData old new
+    pub notes : KeepsNotes view old new
 
   -- so it is of an image's file
   abbrev pub KeepsMarks : ImageFile S → ImageFile S → Type 0
   KeepsMarks file file' = KeepMarks file.storage file.caches file'.storage file'.caches
 
-  -- What is noted of changes goes on: of the storage, and of the tables. Nothing is told as data, but where the call may tell that.
-  pub record KeepNotes (MayTellData : Type 0) (old : ImageStorage S) (caches : MetadataCaches S) (new : ImageStorage S) (caches' : MetadataCaches S) : Type 0 where
-    pub storage : KeepsNotes view MayTellData old new
+  -- What is noted of changes goes on: of the storage, and of the tables.
+  pub record KeepNotes (old : ImageStorage S) (caches : MetadataCaches S) (new : ImageStorage S) (caches' : MetadataCaches S) : Type 0 where
+    pub storage : KeepsNotes view old new
     pub tables : CountsTableChanges caches caches'
 
-  abbrev pub KeepsFileNotes : Type 0 → ImageFile S → ImageFile S → Type 0
-  KeepsFileNotes MayTellData file file' = KeepNotes MayTellData file.storage file.caches file'.storage file'.caches
+  abbrev pub KeepsFileNotes : ImageFile S → ImageFile S → Type 0
+  KeepsFileNotes file file' = KeepNotes file.storage file.caches file'.storage file'.caches
 
 module _ {S : Type 0} where
   -- how many changes were counted: of the storage, and of the tables

@@ -7,7 +7,7 @@ ghost use Rattle.qcow2_alloc.specs.Allocation.{MayTake, TakesCluster, TakesRun, 
 ghost use Rattle.qcow2_alloc.specs.FreeList.{pending_then, run_of, ListsTables, ListsReftables};
 ghost use Rattle.qcow2_alloc.specs.MadeClusters.{run_in, IsMadeInTurn, IsMadeOnTheWay, ListsUsed, TakesAlone};
 ghost use Rattle.qcow2_alloc.specs.KeptMarks.{KeepsMarks};
-ghost use Rattle.qcow2_alloc.specs.KeptNotes.{KeepsNotes, NoData};
+ghost use Rattle.qcow2_alloc.specs.KeptNotes.{KeepsNotes};
 ghost use Rattle.qcow2_alloc.specs.CachePins.{KeepsPinsAndNotes};
 ghost use Rattle.qcow2_alloc.specs.Faults.{CountsFaults};
 ghost use Rattle.qcow2_alloc.specs.SparedHeaders.{AreBehindHeader, NamesReftableBehind, StandsBehindHeader, SparesHeaderButPointer};
@@ -125,7 +125,7 @@ impl Allocator {
         count: ClusterCount,
     ) -> Result<PendingClusters, ImageError>
         ensures marks { KeepsPinsAndNotes file.old.caches file.new.caches }
-        ensures notes { KeepsNotes S.view NoData file.old.storage file.new.storage }
+        ensures notes { KeepsNotes S.view file.old.storage file.new.storage }
         ensures order { OnOk result (order_of file.new.caches ≡ L2DependsOnRb) }
         ensures noted { OnOk result (IsTrue file.new.caches.is_changed) }
         ensures sound { (p : Pending) → AllocatorInvariant S.view self.old p file.old → Allocates S.view p file.old self.new file.new (pending_then p file.old.free_list file.new.free_list) ClusterKind.Data count result }
@@ -158,7 +158,7 @@ impl Allocator {
         cluster: HostCluster,
     ) -> Result<Option<PendingClusters>, ImageError>
         ensures marks { KeepsPinsAndNotes file.old.caches file.new.caches }
-        ensures notes { KeepsNotes S.view NoData file.old.storage file.new.storage }
+        ensures notes { KeepsNotes S.view file.old.storage file.new.storage }
         ensures order { OnOk result (order_of file.new.caches ≡ L2DependsOnRb) }
         ensures noted { IfOk result (λ run. IsSome run → IsTrue file.new.caches.is_changed) }
         ensures sound { (p : Pending) → AllocatorInvariant S.view self.old p file.old → AllocatesAt S.view p file.old self.new file.new (pending_then p file.old.free_list file.new.free_list) cluster result }

@@ -8,7 +8,6 @@ ghost use Rattle.qcow2_laws.specs.Clusters.{Neither, L2DependsOnRb, RbDependsOnL
 ghost use Rattle.qcow2_laws.specs.Caches.{IsFreeOf, AreClean, AreNamedBlocks, BlocksMayGo, TablesMayGo};
 ghost use Rattle.qcow2_alloc.specs.ImageError.{IsOfTables, IsFault};
 ghost use Rattle.qcow2_alloc.specs.CountedChanges.{IsOneChange};
-ghost use Rattle.qcow2_alloc.specs.ImageStorage.{storage_of};
 ghost use Rattle.qcow2_alloc.specs.AsyncLruCache.{can_remove};
 ghost use Rattle.qcow2_alloc.specs.TableCaches.{IsTableOf, IsBlockOf};
 ghost use Rattle.qcow2_alloc.specs.MetadataCaches.{order_of, l2_at, rb_at, l2_tables, refblocks, known_of, AreAllWritten, CacheInvariant, KeepSound, PutSound, RefusesBy, PutRefusesBy, RaisesCount, LowersCount, TellsZero, RaisesZero, LowersSome, MapsCachedEntry, ZeroesEntry, DiscardsEntry, NotesEntry, NotesHeld, ShowsKnown, TakesOff, TakesBlock, LaysTable, LaysBlock, WritesInOrder};
@@ -20,7 +19,7 @@ ghost use Rattle.qcow2_alloc.specs.TableChanges.{CountsMore, CountsLess, SetsEnt
 ghost use Rattle.qcow2_alloc.specs.Quiet.{WritesNothing, GetsTableQuietly, GetsBlockQuietly, PutsTableQuietly, PutsBlockQuietly, OtherTablesStay, OtherBlocksStay, KeepAllWritten};
 ghost use Rattle.qcow2_alloc.specs.Faults.{CountsFaults};
 ghost use Rattle.qcow2_alloc.specs.SparedHeaders.{AreBehindHeader, KeepBehindHeader, CachesSpareHeader};
-ghost use Rattle.qcow2_alloc.specs.KeptNotes.{KeepsNotes, NoData};
+ghost use Rattle.qcow2_alloc.specs.KeptNotes.{KeepsNotes};
 ghost use Rattle.qcow2_alloc.specs.CachePins.{l2_pins, CachesHaveRoom, KeepsPinsAndNotes, SameTables, SetsPins, IsInUseOrFault, LeavesPinned};
 
 mod backends;
@@ -91,7 +90,7 @@ impl<S: Storage> MetadataCaches<S> {
     fn write_tables(&mut self, storage: &mut ImageStorage<S>) -> Result<(), ImageError>
         ensures cause { IfErr result IsOfTables }
         ensures storage_faults { CountsFaults S.view storage.old storage.new result }
-        ensures notes { KeepsNotes S.view NoData storage.old storage.new }
+        ensures notes { KeepsNotes S.view storage.old storage.new }
         ensures direction { self.new.direction ≡ self.old.direction }
         ensures refblocks { self.new.rb ≡ self.old.rb }
         ensures written { OnOk result (AreClean (l2_tables self.new)) }
@@ -116,7 +115,7 @@ impl<S: Storage> MetadataCaches<S> {
     fn write_blocks(&mut self, storage: &mut ImageStorage<S>) -> Result<(), ImageError>
         ensures cause { IfErr result IsOfTables }
         ensures storage_faults { CountsFaults S.view storage.old storage.new result }
-        ensures notes { KeepsNotes S.view NoData storage.old storage.new }
+        ensures notes { KeepsNotes S.view storage.old storage.new }
         ensures direction { self.new.direction ≡ self.old.direction }
         ensures tables { self.new.l2 ≡ self.old.l2 }
         ensures written { OnOk result (AreClean (refblocks self.new)) }
@@ -142,7 +141,7 @@ impl<S: Storage> MetadataCaches<S> {
     pub fn l2_depends_on_rb(&mut self, storage: &mut ImageStorage<S>) -> Result<(), ImageError>
         ensures cause { IfErr result IsOfTables }
         ensures storage_faults { CountsFaults S.view storage.old storage.new result }
-        ensures notes { KeepsNotes S.view NoData storage.old storage.new }
+        ensures notes { KeepsNotes S.view storage.old storage.new }
         ensures order { OnOk result (order_of self.new ≡ L2DependsOnRb) }
         ensures refused { OnErr result (order_of self.new ≡ order_of self.old) }
         ensures turned { OnErr result (order_of self.old ≡ RbDependsOnL2) }
@@ -174,7 +173,7 @@ impl<S: Storage> MetadataCaches<S> {
     pub fn rb_depends_on_l2(&mut self, storage: &mut ImageStorage<S>) -> Result<(), ImageError>
         ensures cause { IfErr result IsOfTables }
         ensures storage_faults { CountsFaults S.view storage.old storage.new result }
-        ensures notes { KeepsNotes S.view NoData storage.old storage.new }
+        ensures notes { KeepsNotes S.view storage.old storage.new }
         ensures order { OnOk result (order_of self.new ≡ RbDependsOnL2) }
         ensures refused { OnErr result (order_of self.new ≡ order_of self.old) }
         ensures written { order_of self.old ≡ L2DependsOnRb → OnOk result (AreClean (refblocks self.new)) }
@@ -202,7 +201,7 @@ impl<S: Storage> MetadataCaches<S> {
     pub fn flush_all(&mut self, storage: &mut ImageStorage<S>) -> Result<(), ImageError>
         ensures cause { IfErr result IsOfTables }
         ensures storage_faults { CountsFaults S.view storage.old storage.new result }
-        ensures notes { KeepsNotes S.view NoData storage.old storage.new }
+        ensures notes { KeepsNotes S.view storage.old storage.new }
         ensures order { order_of self.new ≡ order_of self.old }
         ensures written { OnOk result (AreAllWritten self.new) }
         ensures marks { KeepsPinsAndNotes self.old self.new }
@@ -231,7 +230,7 @@ impl<S: Storage> MetadataCaches<S> {
     pub fn flush_rb(&mut self, storage: &mut ImageStorage<S>) -> Result<(), ImageError>
         ensures cause { IfErr result IsOfTables }
         ensures storage_faults { CountsFaults S.view storage.old storage.new result }
-        ensures notes { KeepsNotes S.view NoData storage.old storage.new }
+        ensures notes { KeepsNotes S.view storage.old storage.new }
         ensures order { order_of self.new ≡ order_of self.old }
         ensures written { OnOk result (AreClean (refblocks self.new)) }
         ensures first { OnOk result (BlocksMayGo (order_of self.new) (l2_tables self.new)) }
@@ -257,7 +256,7 @@ impl<S: Storage> MetadataCaches<S> {
     fn before_l2(&mut self, storage: &mut ImageStorage<S>) -> Result<(), ImageError>
         ensures cause { IfErr result IsOfTables }
         ensures storage_faults { CountsFaults S.view storage.old storage.new result }
-        ensures notes { KeepsNotes S.view NoData storage.old storage.new }
+        ensures notes { KeepsNotes S.view storage.old storage.new }
         ensures order { order_of self.new ≡ order_of self.old }
         ensures tables { self.new.l2 ≡ self.old.l2 }
         ensures blocks { AreClean (refblocks self.old) → AreClean (refblocks self.new) }
@@ -282,7 +281,7 @@ impl<S: Storage> MetadataCaches<S> {
     fn before_rb(&mut self, storage: &mut ImageStorage<S>) -> Result<(), ImageError>
         ensures cause { IfErr result IsOfTables }
         ensures storage_faults { CountsFaults S.view storage.old storage.new result }
-        ensures notes { KeepsNotes S.view NoData storage.old storage.new }
+        ensures notes { KeepsNotes S.view storage.old storage.new }
         ensures order { order_of self.new ≡ order_of self.old }
         ensures refblocks { self.new.rb ≡ self.old.rb }
         ensures free { (size cluster : ℕ) → IsFreeOf size (l2_tables self.old) cluster → IsFreeOf size (l2_tables self.new) cluster }
@@ -313,7 +312,7 @@ impl<S: Storage> MetadataCaches<S> {
     ) -> Result<(), ImageError>
         ensures cause { IfErr result IsOfTables }
         ensures storage_faults { CountsFaults S.view storage.old storage.new result }
-        ensures notes { KeepsNotes S.view NoData storage.old storage.new }
+        ensures notes { KeepsNotes S.view storage.old storage.new }
         ensures order { order_of self.new ≡ order_of self.old }
         ensures cached { OnOk result (IsSome (l2_at self.new cluster)) }
         ensures marks { KeepsPinsAndNotes self.old self.new }
@@ -345,7 +344,7 @@ impl<S: Storage> MetadataCaches<S> {
     ) -> Result<(), ImageError>
         ensures cause { IfErr result IsOfTables }
         ensures storage_faults { CountsFaults S.view storage.old storage.new result }
-        ensures notes { KeepsNotes S.view NoData storage.old storage.new }
+        ensures notes { KeepsNotes S.view storage.old storage.new }
         ensures order { order_of self.new ≡ order_of self.old }
         ensures cached { OnOk result (IsSome (rb_at self.new cluster)) }
         ensures marks { KeepsPinsAndNotes self.old self.new }
@@ -379,7 +378,7 @@ impl<S: Storage> MetadataCaches<S> {
         requires { IsSome table.cluster }
         ensures cause { IfErr result IsOfTables }
         ensures storage_faults { CountsFaults S.view storage.old storage.new result }
-        ensures notes { KeepsNotes S.view NoData storage.old storage.new }
+        ensures notes { KeepsNotes S.view storage.old storage.new }
         ensures order { order_of self.new ≡ order_of self.old }
         ensures cached { OnOk result (IfSome table.cluster (λ cluster. l2_at self.new cluster ≡ Some table)) }
         ensures marks { KeepsPinsAndNotes self.old self.new }
@@ -422,7 +421,7 @@ impl<S: Storage> MetadataCaches<S> {
         requires { IsSome block.cluster }
         ensures cause { IfErr result IsOfTables }
         ensures storage_faults { CountsFaults S.view storage.old storage.new result }
-        ensures notes { KeepsNotes S.view NoData storage.old storage.new }
+        ensures notes { KeepsNotes S.view storage.old storage.new }
         ensures order { order_of self.new ≡ order_of self.old }
         ensures cached { OnOk result (IfSome block.cluster (λ cluster. rb_at self.new cluster ≡ Some block)) }
         ensures marks { KeepsPinsAndNotes self.old self.new }

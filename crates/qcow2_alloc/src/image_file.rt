@@ -21,7 +21,7 @@ pub struct ImageFile<S: Storage> {
 impl<S: Storage> ImageFile<S> {
     ghost use Rattle.std.specs.Prelude.{◌≡◌, false};
     ghost use Rattle.qcow2_alloc.specs.CachePins.{SameTables};
-    ghost use Rattle.qcow2_alloc.specs.ImageStorage.{storage_of, changes_of, data_changes_of, is_changed_of};
+    ghost use Rattle.qcow2_alloc.specs.ImageStorage.{storage_of, changes_of, is_changed_of};
     ghost use Rattle.qcow2_alloc.specs.ImageFile.{has_noted};
     ghost use Rattle.qcow2_alloc.specs.KeptMarks.{changes_in, NotesSince};
 
@@ -31,7 +31,6 @@ impl<S: Storage> ImageFile<S> {
         ensures storage { storage_of self.new.storage ≡ storage_of self.old.storage }
         ensures unchanged { is_changed_of self.new.storage ≡ false }
         ensures changes { changes_of self.new.storage ≡ changes_of self.old.storage }
-        ensures kinds { data_changes_of self.new.storage ≡ data_changes_of self.old.storage }
         ensures caches { self.new.caches ≡ record self.old.caches { is_changed = false } }
         ensures tables { SameTables self.old.caches self.new.caches }
         ensures free_list { self.new.free_list ≡ self.old.free_list }

@@ -1,6 +1,5 @@
 ghost use Rattle.std.specs.Prelude.{◌≡◌, true};
 ghost use Rattle.qcow2_alloc.specs.CountedChanges.{IsOneChange};
-ghost use Rattle.qcow2_alloc.specs.ImageStorage.{CountsKind};
 
 mod table_loads;
 mod told_writes;
@@ -28,16 +27,6 @@ pub(crate) fn one_more(changes: u64) -> u64
     changes.saturating_add(1)
 }
 
-// The number of changes that were told as data, with one more of a kind, up to the greatest u64.
-fn with_kind(kind: WriteKind, data_changes: u64) -> u64
-    ensures { CountsKind kind data_changes result }
-{
-    match kind {
-        WriteKind::Data => one_more(data_changes),
-        WriteKind::RefBlock | WriteKind::L2Table | WriteKind::Other => data_changes,
-    }
-}
-
 /// The image's storage. Each write to it is a call that demands to have been told its kind. Reading, its size and flushes pass through
 /// to the storage below. What writes without being told is refused 14 (memory), and changes nothing. All else is refused where that
 /// storage refuses it: 15 (storage) for a fault, 14 (memory) for want of memory, and then nothing changed.
@@ -47,12 +36,11 @@ pub struct ImageStorage<S: Storage> {
     kind: WriteKind,
     pub(crate) is_changed: bool,
     changes: u64,
-    data_changes: u64,
     met_fault: bool,
 }
 
 impl<S: Storage> ImageStorage<S> {
-    ghost use Rattle.qcow2_alloc.specs.ImageStorage.{storage_of, kind_of, is_changed_of, changes_of, data_changes_of, met_fault_of, NotesFault, NotesWrite, SameNotes};
+    ghost use Rattle.qcow2_alloc.specs.ImageStorage.{storage_of, kind_of, is_changed_of, changes_of, met_fault_of, NotesFault, NotesWrite, SameNotes};
     ghost use Rattle.std.specs.Prelude.{true, false};
     ghost use Rattle.qcow2_alloc.specs.declared.error.ImageError.TheVariants.{Storage};
 
@@ -60,14 +48,13 @@ impl<S: Storage> ImageStorage<S> {
     pub fn new(storage: S) -> Self
         ensures storage { storage_of result ≡ storage }
         ensures unchanged { is_changed_of result ≡ false }
-        ensures counts { (changes_of result ≡ 0) × (data_changes_of result ≡ 0) }
+        ensures counts { changes_of result ≡ 0 }
     {
         ImageStorage {
             storage,
             kind: WriteKind::Other,
             is_changed: false,
             changes: 0,
-            data_changes: 0,
             met_fault: false,
         }
     }
@@ -81,7 +68,6 @@ impl<S: Storage> ImageStorage<S> {
             kind: _,
             is_changed: _,
             changes: _,
-            data_changes: _,
             met_fault: _,
         } = self;
         storage
@@ -108,7 +94,6 @@ impl<S: Storage> ImageStorage<S> {
     pub fn begin(&mut self)
         ensures unchanged { is_changed_of self.new ≡ false }
         ensures changes { changes_of self.new ≡ changes_of self.old }
-        ensures kinds { data_changes_of self.new ≡ data_changes_of self.old }
         ensures storage { storage_of self.new ≡ storage_of self.old }
     {
         self.is_changed = false;
@@ -128,13 +113,6 @@ impl<S: Storage> ImageStorage<S> {
         self.changes
     }
 
-    /// How many of those were told as data, up to the greatest u64.
-    pub fn data_changes(&self) -> u64
-        ensures { result ≡ data_changes_of self.now }
-    {
-        self.data_changes
-    }
-
     // Notes and counts a change that was made, or may have been. Where memory was refused there was none.
     pub(crate) fn noted(&mut self, done: Result<(), StorageError>) -> Result<(), StorageError>
         ensures answer { result ≡ done }
@@ -150,7 +128,6 @@ impl<S: Storage> ImageStorage<S> {
             Ok(()) | Err(StorageError::Fault) => {
                 self.is_changed = true;
                 self.changes = one_more(self.changes);
-                self.data_changes = with_kind(self.kind, self.data_changes);
             }
         }
         done

@@ -9,7 +9,7 @@ ghost use Rattle.qcow2_laws.specs.Caches.{AreClean, BlocksMayGo};
 ghost use Rattle.qcow2_laws.specs.CrashInvariant.{Pending};
 ghost use Rattle.qcow2_alloc.specs.Allocation.{run_at, NamesLacking, SameLeaks};
 ghost use Rattle.qcow2_alloc.specs.KeptMarks.{KeepsMarks};
-ghost use Rattle.qcow2_alloc.specs.KeptNotes.{KeepsNotes, NoData};
+ghost use Rattle.qcow2_alloc.specs.KeptNotes.{KeepsNotes};
 ghost use Rattle.qcow2_alloc.specs.Faults.{CountsFaults};
 ghost use Rattle.qcow2_alloc.specs.SparedHeaders.{KeepBehindHeader, SparesHeaderButPointer};
 ghost use Rattle.qcow2_alloc.specs.GrownTables.{with_run, NamesReftable};
@@ -98,7 +98,7 @@ pub(crate) fn place_table<S: Storage>(
     requires nameable { IsHostCluster table.old.cluster_bits cluster }
     requires elsewhere { 0 < cluster }
     ensures caches { file.new.caches ≡ file.old.caches }
-    ensures notes { KeepsNotes S.view NoData file.old.storage file.new.storage }
+    ensures notes { KeepsNotes S.view file.old.storage file.new.storage }
     ensures noted { OnOk result (IsTrue (is_changed_of file.new.storage)) }
     ensures table { table.new ≡ placed_at table.old cluster }
     ensures sound { (p : Pending) (first n clusters : ℕ) (allocator : AllocatorView) → AllocatorInvariant S.view allocator (with_run p file.old.header.fields allocator.reftable first n) file.old

@@ -8,7 +8,6 @@ pub mod Stepped
 pub mod CallOutcomes
 pub mod Refused
 pub mod Slots
-pub mod ToldData
 pub mod OnceWritten
 pub mod Notes
 pub mod BehindHeader

@@ -6,7 +6,6 @@ use Rattle.qcow2_metadata.specs.Header.{cluster_size}
 use Rattle.qcow2_disk.specs.Rules.{answered}
 use Rattle.qcow2_alloc.specs.ImageFile.{known_in}
 use Rattle.qcow2_alloc.specs.KeptMarks.{KeepsFileNotes}
-use Rattle.qcow2_alloc.specs.KeptNotes.{NoData}
 use Rattle.qcow2_alloc.specs.declared.error.ImageError.{ImageError}
 use Rattle.qcow2_alloc.specs.declared.error.ImageError.TheVariants.{TablePrepared}
 use Rattle.qcow2_image.specs.BehindHeader.{StaysBehindHeader}
@@ -30,7 +29,7 @@ module _ {S F : Type 0} (view : S → StorageView) (backing : F → BackingView)
   -- Whatever the contents, a part of a call keeps the image and its notes, leaves the header's cluster alone, and tells each fault.
   pub record PartStep (old new : Qcow2 S F) (result : Result (Unit {0}) ImageError) : Type 0 where
     pub stays : ImageStays old new
-    pub notes : KeepsFileNotes view NoData old.file new.file
+    pub notes : KeepsFileNotes view old.file new.file
     pub header_cluster : StaysBehindHeader view old new
     pub faults : CountsImageFaults view backing old new result
 

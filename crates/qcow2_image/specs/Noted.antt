@@ -1,5 +1,5 @@
 -- What want of memory leaves of an image, and what a call counts of changes.
-use Rattle.std.specs.Prelude.{◌≡◌, ◌⊎◌, ℕ, ◌+◌, ◌<◌, ◌≤◌, List, Option, Result, Ok, Err, IfErr, IsErrOf, IsSome, IsTrue}
+use Rattle.std.specs.Prelude.{◌≡◌, ◌⊎◌, ℕ, ◌+◌, ◌<◌, ◌≤◌, List, Option, Result, IfErr, IsErrOf, IsSome, IsTrue}
 use Rattle.image_access.specs.Backing.{BackingView}
 use Rattle.image_access.specs.Contents.{overwritten}
 use Rattle.image_access.specs.Moments.{StorageView, ContentsStay, EachMomentSince, IsLeftBy}
@@ -15,7 +15,6 @@ use Rattle.qcow2_image.specs.ImageInvariant.{abstract_of}
 use Rattle.qcow2_image.specs.Prepared.{offset_of, table_of}
 use Rattle.qcow2_alloc.specs.ImageStorage.{changes_of}
 use Rattle.qcow2_alloc.specs.KeptMarks.{HaveRisen, changes_in}
-use Rattle.qcow2_alloc.specs.KeptNotes.{AlsoData}
 use Rattle.qcow2_image.specs.Image.{has_noted_change, is_failed, storage_of_image}
 
 module _ {S F : Type 0} where
@@ -31,11 +30,6 @@ module _ {S F : Type 0} where
   pub record NoFewerChanges (old new : Qcow2 S F) : Type 0 where
     pub storage : changes_of old.file.storage ≤ changes_of new.file.storage
     pub tables : old.file.caches.changes ≤ new.file.caches.changes
-
--- what preparing may tell as data: nothing, where it answers an existing mapping
-abbrev pub DataUnlessExisting : Result Prepared ImageError → Type 0
-DataUnlessExisting (Ok p) = IsSome (table_of p)
-DataUnlessExisting (Err e) = AlsoData
 
 -- What a call leaves that want of memory refused. While the image hasn't failed, the contents stayed. It failed by this call only where a change was counted in it, and wherever one was.
 pub record MarksOnceChanged {S F : Type 0} (view : S → StorageView) (old new : Qcow2 S F) : Type 0 where

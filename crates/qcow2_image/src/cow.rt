@@ -1,7 +1,6 @@
 //! Filling a new cluster with the bytes that the guest saw there before.
 ghost use Rattle.qcow2_image.specs.BehindHeader.{StaysBehindHeader};
 ghost use Rattle.qcow2_alloc.specs.KeptMarks.{KeepsFileNotes};
-ghost use Rattle.qcow2_alloc.specs.KeptNotes.{AlsoData};
 ghost use Rattle.std.specs.Prelude.{◌≡◌, ◌/◌, ◌^◌, ◌<◌, ◌≤◌, ℕ, List, Option, Some, true, false, replicate, IfOk, IfErr, IfSome, ◌⊎◌};
 ghost use Rattle.qcow2_alloc.specs.ImageError.{IsFault};
 ghost use Rattle.qcow2_image.specs.MetAlone.{HasUnannounced, IsCopiedCompressed, IsMetReading};
@@ -41,7 +40,7 @@ impl<S: Storage, F: WrappedFormat<S>> Qcow2<S, F> {
         requires reach { IsInReach old.now }
         ensures value { self.new.file.header ≡ self.old.file.header }
         ensures stays { ImageStays self.old self.new }
-        ensures notes { KeepsFileNotes S.view AlsoData self.old.file self.new.file }
+        ensures notes { KeepsFileNotes S.view self.old.file self.new.file }
         ensures header_cluster { StaysBehindHeader S.view self.old self.new }
         ensures cause { IfErr result IsMet }
         ensures met { 0 < cluster → IfErr result (λ e. IsFault e ⊎ ((e ≡ ImageError.Compressed) × IsCopiedCompressed self.old.file.header.fields old.now offset length overwrite)) }
@@ -77,7 +76,7 @@ impl<S: Storage, F: WrappedFormat<S>> Qcow2<S, F> {
     ) -> Result<(), ImageError>
         requires reach { host ≤ greatest_offset }
         ensures stays { ImageStays self.old self.new }
-        ensures notes { KeepsFileNotes S.view AlsoData self.old.file self.new.file }
+        ensures notes { KeepsFileNotes S.view self.old.file self.new.file }
         ensures header_cluster { StaysBehindHeader S.view self.old self.new }
         ensures cause { IfErr result IsMet }
         ensures fault { cluster_size self.old.file.header.fields ≤ host → IfErr result IsFault }
@@ -119,7 +118,7 @@ impl<S: Storage, F: WrappedFormat<S>> Qcow2<S, F> {
     ) -> Result<(), ImageError>
         ensures value { self.new.file.header ≡ self.old.file.header }
         ensures stays { ImageStays self.old self.new }
-        ensures notes { KeepsFileNotes S.view AlsoData self.old.file self.new.file }
+        ensures notes { KeepsFileNotes S.view self.old.file self.new.file }
         ensures header_cluster { StaysBehindHeader S.view self.old self.new }
         ensures cause { IfErr result IsMet }
         ensures met { cluster_size self.old.file.header.fields ≤ at → IfErr result (IsMetReading kind.now) }
@@ -143,7 +142,7 @@ impl<S: Storage, F: WrappedFormat<S>> Qcow2<S, F> {
     // Writes zeros as data. A place in cluster 0, which no entry names, is refused 19 (metadata).
     fn write_zeros(&mut self, at: u64, length: u64) -> Result<(), ImageError>
         ensures stays { ImageStays self.old self.new }
-        ensures notes { KeepsFileNotes S.view AlsoData self.old.file self.new.file }
+        ensures notes { KeepsFileNotes S.view self.old.file self.new.file }
         ensures header_cluster { StaysBehindHeader S.view self.old self.new }
         ensures cause { IfErr result IsMet }
         ensures fault { cluster_size self.old.file.header.fields ≤ at → IfErr result IsFault }

@@ -5,7 +5,6 @@ ghost use Rattle.qcow2_metadata.specs.TableBytes.{HasPlace};
 ghost use Rattle.qcow2_image.specs.BehindHeader.{StaysBehindHeader};
 ghost use Rattle.qcow2_image.specs.PreparedPlaces.{MarkedIsBehind};
 ghost use Rattle.qcow2_alloc.specs.KeptMarks.{KeepsFileNotes};
-ghost use Rattle.qcow2_alloc.specs.KeptNotes.{AlsoData, NoData};
 ghost use Rattle.std.specs.Prelude.{List, Option, ◌≡◌, ◌+◌, ◌-◌, ◌/◌, ◌%◌, ◌^◌, ◌<◌, ◌≤◌, true, false, Some, [], ◌∷◌, vec_capacity, IfOk, IfErr, IsSome, IsTrue, OnOk};
 ghost use Rattle.qcow2_image.specs.Backings.{HasPrepared};
 ghost use Rattle.qcow2_alloc.specs.ImageError.{IsFault};
@@ -63,7 +62,7 @@ impl<S: Storage, F: WrappedFormat<S>> Qcow2<S, F> {
         requires writable { IsTrue (is_writable self.old) }
         ensures stays { ImageStays self.old self.new }
         ensures header { KeepsHeader self.old.file.header self.new.file.header }
-        ensures notes { KeepsFileNotes S.view AlsoData self.old.file self.new.file }
+        ensures notes { KeepsFileNotes S.view self.old.file self.new.file }
         ensures header_cluster { 0 < table → StaysBehindHeader S.view self.old self.new }
         ensures cause { IfErr result IsMetPreparing }
         ensures met { (out : List (Option Prepared)) → ImageInvariant S.view F.backing (pending_in S.view F.backing self.old out) self.old out → HoldsTable S.view F.backing self.old offset table → IfErr result (IsMetTaking (HasPrepared out) (0 < l2_pins self.old.file.caches table) (IsCopiedCompressed self.old.file.header.fields (cover self.old.file.header.fields (known_in S.view self.old.file) (offset / cluster_size self.old.file.header.fields)) offset length overwrite) ⊥) }
@@ -112,7 +111,7 @@ impl<S: Storage, F: WrappedFormat<S>> Qcow2<S, F> {
         requires empty { room.items ≡ [] }
         requires room { 0 < vec_capacity room }
         ensures stays { ImageStays self.old self.new }
-        ensures notes { KeepsFileNotes S.view AlsoData self.old.file self.new.file }
+        ensures notes { KeepsFileNotes S.view self.old.file self.new.file }
         ensures header_cluster { 0 < table → StaysBehindHeader S.view self.old self.new }
         ensures cause { IfErr result IsMet }
         ensures met { (out : List (Option Prepared)) → ImageInvariant S.view F.backing (pending_in S.view F.backing self.old out) self.old out → HoldsTable S.view F.backing self.old offset table → cover self.old.file.header.fields (known_in S.view self.old.file) (offset / cluster_size self.old.file.header.fields) ≡ old.now → IfErr result (IsMetTaking (HasPrepared out) ⊥ (IsCopiedCompressed self.old.file.header.fields old.now offset length overwrite) ⊥) }
@@ -152,7 +151,7 @@ impl<S: Storage, F: WrappedFormat<S>> Qcow2<S, F> {
         requires empty { room.items ≡ [] }
         requires room { 0 < vec_capacity room }
         ensures stays { ImageStays self.old self.new }
-        ensures notes { KeepsFileNotes S.view AlsoData self.old.file self.new.file }
+        ensures notes { KeepsFileNotes S.view self.old.file self.new.file }
         ensures header_cluster { StaysBehindHeader S.view self.old self.new }
         ensures cause { IfErr result IsMet }
         ensures fault { (out : List (Option Prepared)) → ImageInvariant S.view F.backing (pending_in S.view F.backing self.old out) self.old out → cover self.old.file.header.fields (known_in S.view self.old.file) (offset / cluster_size self.old.file.header.fields) ≡ L2Mapping.Zero (Some (host, true)) → IfErr result IsFault }
@@ -192,7 +191,7 @@ impl<S: Storage, F: WrappedFormat<S>> Qcow2<S, F> {
         requires empty { room.items ≡ [] }
         requires room { 0 < vec_capacity room }
         ensures stays { ImageStays self.old self.new }
-        ensures notes { KeepsFileNotes S.view AlsoData self.old.file self.new.file }
+        ensures notes { KeepsFileNotes S.view self.old.file self.new.file }
         ensures header_cluster { 0 < table → StaysBehindHeader S.view self.old self.new }
         ensures cause { IfErr result IsMet }
         ensures met { (out : List (Option Prepared)) → ImageInvariant S.view F.backing (pending_in S.view F.backing self.old out) self.old out → HoldsTable S.view F.backing self.old offset table → IfErr result (IsMetTaking (HasPrepared out) ⊥ (IsCopiedCompressed self.old.file.header.fields old.now offset length overwrite) ⊥) }
@@ -232,7 +231,7 @@ impl<S: Storage, F: WrappedFormat<S>> Qcow2<S, F> {
     fn load_l2(&mut self, table: HostCluster) -> Result<(), ImageError>
         ensures header { self.new.file.header ≡ self.old.file.header }
         ensures stays { ImageStays self.old self.new }
-        ensures notes { KeepsFileNotes S.view NoData self.old.file self.new.file }
+        ensures notes { KeepsFileNotes S.view self.old.file self.new.file }
         ensures header_cluster { 0 < table → StaysBehindHeader S.view self.old self.new }
         ensures cause { IfErr result IsMet }
         ensures met { (p : Pending) (out : List (Option Prepared)) → ImageInvariant S.view F.backing p self.old out → HasPlace self.old.file.header.fields.cluster_bits table → IfErr result (IsMetLooking (HasPrepared out)) }
@@ -305,7 +304,7 @@ impl<S: Storage, F: WrappedFormat<S>> Qcow2<S, F> {
         ensures elsewhere { IfOk result (λ p. 0 < p.first_cluster) }
         ensures header { KeepsHeader self.old.file.header self.new.file.header }
         ensures stays { ImageStays self.old self.new }
-        ensures notes { KeepsFileNotes S.view AlsoData self.old.file self.new.file }
+        ensures notes { KeepsFileNotes S.view self.old.file self.new.file }
         ensures header_cluster { StaysBehindHeader S.view self.old self.new }
         ensures cause { IfErr result IsMet }
         ensures met { (p : Pending) (out : List (Option Prepared)) → ImageInvariant S.view F.backing p self.old out → HoldsAll S.view F.backing p out → IfErr result (IsMetAlone (IsCopiedCompressed self.old.file.header.fields old.now offset length overwrite) ⊥) }
@@ -334,7 +333,7 @@ impl<S: Storage, F: WrappedFormat<S>> Qcow2<S, F> {
         ensures header { KeepsHeader self.old.file.header self.new.file.header }
         ensures list { ListGrows self.old self.new }
         ensures stays { ImageStays self.old self.new }
-        ensures notes { KeepsFileNotes S.view NoData self.old.file self.new.file }
+        ensures notes { KeepsFileNotes S.view self.old.file self.new.file }
         ensures header_cluster { StaysBehindHeader S.view self.old self.new }
         ensures cause { IfErr result IsMet }
         ensures fault { (p : Pending) (out : List (Option Prepared)) → ImageInvariant S.view F.backing p self.old out → IfErr result IsFaultOrLimit }

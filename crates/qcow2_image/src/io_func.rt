@@ -24,7 +24,6 @@ ghost use Rattle.qcow2_image.specs.SpecialReads.{TellsCompressed, TellsWhether};
 ghost use Rattle.qcow2_image.specs.Unwritten.{ReadsQuietly};
 ghost use Rattle.qcow2_alloc.specs.declared.error.ImageError.TheVariants.{Compressed, NotCompressed, OutdatedMapping, ReadOnly};
 ghost use Rattle.qcow2_alloc.specs.KeptMarks.{KeepsFileNotes};
-ghost use Rattle.qcow2_alloc.specs.KeptNotes.{AlsoData, NoData};
 ghost use Rattle.qcow2_image.specs.Noted.{FailsOnceWritten, PutsOnce};
 ghost use Rattle.qcow2_alloc.specs.ImageFile.{known_in};
 
@@ -108,7 +107,7 @@ impl<S: Storage, F: WrappedFormat<S>> Qcow2<S, F> {
         ensures mapped { (p : Pending) (out : List (Option Prepared)) → ImageInvariant S.view F.backing p self.old out → OnOk result (IsFoundWhole S.view self.old (mapping.now.offset + at) (further_by at mapping.now.kind) (length bytes.old)) }
         ensures shows { 0 < length bytes.old → (p : Pending) (out : List (Option Prepared)) → ImageInvariant S.view F.backing p self.old out → IfOk result (λ done. Shows (disk_of S.view F.backing self.new) (mapping.now.offset + at) bytes.new) }
         ensures faults { CountsImageFaults S.view F.backing self.old self.new result }
-        ensures notes { KeepsFileNotes S.view NoData self.old.file self.new.file }
+        ensures notes { KeepsFileNotes S.view self.old.file self.new.file }
         ensures quiet { ReadsQuietly S.view self.old self.new }
         ensures held { 0 < length bytes.old → HeedsHeld self.new (mapping.now.offset + at) (further_by at mapping.now.kind) (length bytes.old) result }
         ensures header_cluster { StaysBehindHeader S.view self.old self.new }
@@ -150,7 +149,7 @@ impl<S: Storage, F: WrappedFormat<S>> Qcow2<S, F> {
         ensures mapped { 0 < length → (p : Pending) (out : List (Option Prepared)) → ImageInvariant S.view F.backing p self.old out → IfOk result (λ done. IsMappedAs S.view self.new offset wanted.now length) }
         ensures found { (p : Pending) (out : List (Option Prepared)) → ImageInvariant S.view F.backing p self.old out → OnOk result (IsFoundWhole S.view self.old offset wanted.now length) }
         ensures faults { CountsImageFaults S.view F.backing self.old self.new result }
-        ensures notes { KeepsFileNotes S.view NoData self.old.file self.new.file }
+        ensures notes { KeepsFileNotes S.view self.old.file self.new.file }
         ensures quiet { ReadsQuietly S.view self.old self.new }
         ensures held { 0 < length → HeedsHeld self.new offset wanted.now length result }
         ensures header_cluster { StaysBehindHeader S.view self.old self.new }
@@ -183,7 +182,7 @@ impl<S: Storage, F: WrappedFormat<S>> Qcow2<S, F> {
         ensures shows { (p : Pending) (out : List (Option Prepared)) → ImageInvariant S.view F.backing p self.old out → IsMappedAs S.view self.old offset kind.now (length bytes.old)
             → IfOk result (λ done. Shows (disk_of S.view F.backing self.new) offset bytes.new) }
         ensures faults { CountsImageFaults S.view F.backing self.old self.new result }
-        ensures notes { KeepsFileNotes S.view NoData self.old.file self.new.file }
+        ensures notes { KeepsFileNotes S.view self.old.file self.new.file }
         ensures quiet { ReadsQuietly S.view self.old self.new }
         ensures tables { KeepsHeld self.old self.new }
         ensures header_cluster { StaysBehindHeader S.view self.old self.new }
@@ -220,7 +219,7 @@ impl<S: Storage, F: WrappedFormat<S>> Qcow2<S, F> {
         ensures keeps { (p : Pending) (out : List (Option Prepared)) → ImageInvariant S.view F.backing p self.old out → UnseenStep S.view F.backing p p self.old self.new out }
         ensures reads { IsHonestBacking S.view F.backing self.old.backing → IfOk result (λ done. (length bytes.new ≡ length bytes.old) × AreBytesOf (backing_bytes S.view F.backing self.old.backing) offset bytes.new) }
         ensures faults { CountsImageFaults S.view F.backing self.old self.new result }
-        ensures notes { KeepsFileNotes S.view NoData self.old.file self.new.file }
+        ensures notes { KeepsFileNotes S.view self.old.file self.new.file }
         ensures below { is_some self.new.backing ≡ is_some self.old.backing }
         ensures header_cluster { StaysBehindHeader S.view self.old self.new }
     {
@@ -303,7 +302,7 @@ impl<S: Storage, F: WrappedFormat<S>> Qcow2<S, F> {
         ensures keeps { (p : Pending) (out : List (Option Prepared)) → ImageInvariant S.view F.backing p self.old out → UnseenStep S.view F.backing p p self.old self.new out }
         ensures tells { (p : Pending) (out : List (Option Prepared)) → ImageInvariant S.view F.backing p self.old out → TellsWhether (known_in S.view self.old.file) offset result }
         ensures faults { CountsImageFaults S.view F.backing self.old self.new result }
-        ensures notes { KeepsFileNotes S.view NoData self.old.file self.new.file }
+        ensures notes { KeepsFileNotes S.view self.old.file self.new.file }
         ensures quiet { ReadsQuietly S.view self.old self.new }
         ensures header_cluster { StaysBehindHeader S.view self.old self.new }
     {
@@ -381,7 +380,7 @@ impl<S: Storage, F: WrappedFormat<S>> Qcow2<S, F> {
         ensures puts { 0 < length bytes.now → at + length bytes.now ≤ prepared.now.length → (out : List (Option Prepared)) (k : ℕ) → slice_get out k ≡ Some (Some prepared.now)
             → ImageInvariant S.view F.backing (pending_in S.view F.backing self.old out) self.old out → PutsPart S.view F.backing self.old self.new out k prepared.now at bytes.now result }
         ensures faults { CountsImageFaults S.view F.backing self.old self.new result }
-        ensures notes { KeepsFileNotes S.view AlsoData self.old.file self.new.file }
+        ensures notes { KeepsFileNotes S.view self.old.file self.new.file }
         ensures list { ListStays self.old self.new }
         ensures held { table_of prepared.now ≡ None → 0 < length bytes.now → HeedsHeld self.new (prepared.now.guest + at) (Raw Image (prepared.now.offset + at) true) (length bytes.now) result }
         ensures header_cluster { StaysBehindHeader S.view self.old self.new }
@@ -414,7 +413,7 @@ impl<S: Storage, F: WrappedFormat<S>> Qcow2<S, F> {
         ensures found { table_of prepared.now ≡ None → (p : Pending) (out : List (Option Prepared)) → ImageInvariant S.view F.backing p self.old out → OnOk result (IsFoundWhole S.view self.old (prepared.now.guest + at) (Raw Image host true) length) }
         ensures private { IsSome (table_of prepared.now) → result ≡ Ok tt }
         ensures faults { CountsImageFaults S.view F.backing self.old self.new result }
-        ensures notes { KeepsFileNotes S.view NoData self.old.file self.new.file }
+        ensures notes { KeepsFileNotes S.view self.old.file self.new.file }
         ensures held { table_of prepared.now ≡ None → 0 < length → HeedsHeld self.new (prepared.now.guest + at) (Raw Image host true) length result }
         ensures header_cluster { StaysBehindHeader S.view self.old self.new }
         ensures idle { IsSome (table_of prepared.now) → self.new ≡ self.old }
@@ -441,7 +440,7 @@ impl<S: Storage, F: WrappedFormat<S>> Qcow2<S, F> {
         ensures current { result ≢ Err OutdatedMapping }
         ensures written { WritesBytes S.view self.old self.new host bytes.now result }
         ensures faults { CountsImageFaults S.view F.backing self.old self.new result }
-        ensures notes { KeepsFileNotes S.view AlsoData self.old.file self.new.file }
+        ensures notes { KeepsFileNotes S.view self.old.file self.new.file }
         ensures header_cluster { StaysBehindHeader S.view self.old self.new }
     {
         if host < self.file.header.cluster_size() {

@@ -3,7 +3,6 @@ ghost use Rattle.qcow2_metadata.specs.TableBytes.{entry_at};
 ghost use Rattle.qcow2_image.specs.BehindHeader.{KeepsL1TableBehind, StaysBehindHeader};
 ghost use Rattle.qcow2_alloc.specs.ImageError.{IsFault};
 ghost use Rattle.qcow2_alloc.specs.KeptMarks.{KeepsFileNotes};
-ghost use Rattle.qcow2_alloc.specs.KeptNotes.{NoData};
 ghost use Rattle.std.specs.Prelude.{ℕ, List, Option, ◌≡◌, ◌<◌, ◌≤◌, ◌++◌, ◌∷◌, [], ◌+◌, max, Some, IfErr, IfOk, IsTrue, OnErr, OnOk};
 ghost use Rattle.qcow2_metadata.specs.EntryTable.{entry_count};
 ghost use Rattle.qcow2_metadata.specs.L2Mapping.{IsHostCluster};
@@ -34,7 +33,7 @@ impl<S: Storage, F: WrappedFormat<S>> Qcow2<S, F> {
     pub(crate) fn reach_entry(&mut self, offset: u64) -> Result<(), ImageError>
         requires writable { IsTrue (is_writable self.old) }
         ensures stays { ImageStays self.old self.new }
-        ensures notes { KeepsFileNotes S.view NoData self.old.file self.new.file }
+        ensures notes { KeepsFileNotes S.view self.old.file self.new.file }
         ensures header_cluster { StaysBehindHeader S.view self.old self.new }
         ensures cause { IfErr result IsMet }
         ensures fault { (out : List (Option Prepared)) → ImageInvariant S.view F.backing (pending_in S.view F.backing self.old out) self.old out → IfErr result IsFaultOrLimit }
@@ -60,7 +59,7 @@ impl<S: Storage, F: WrappedFormat<S>> Qcow2<S, F> {
     // Makes a new L1 table that has an entry of this index, with all old entries. The clusters of the old one are to be freed.
     pub(crate) fn grow_l1_table(&mut self, index: usize) -> Result<(), ImageError>
         ensures stays { ImageStays self.old self.new }
-        ensures notes { KeepsFileNotes S.view NoData self.old.file self.new.file }
+        ensures notes { KeepsFileNotes S.view self.old.file self.new.file }
         ensures noted { OnOk result (IsTrue self.new.file.caches.is_changed) }
         ensures header_cluster { StaysBehindHeader S.view self.old self.new }
         ensures cause { IsTrue (is_writable self.old) → IfErr result IsMet }
@@ -110,7 +109,7 @@ impl<S: Storage, F: WrappedFormat<S>> Qcow2<S, F> {
     // Gives an L1 table clusters, writes it there, and then the pointer that names it.
     fn enter_l1_table(&mut self, table: L1Table) -> Result<(), ImageError>
         ensures stays { ImageStays self.old self.new }
-        ensures notes { KeepsFileNotes S.view NoData self.old.file self.new.file }
+        ensures notes { KeepsFileNotes S.view self.old.file self.new.file }
         ensures noted { OnOk result (IsTrue self.new.file.caches.is_changed) }
         ensures header_cluster { table.cluster_bits ≡ self.old.l1_table.cluster_bits → StaysBehindHeader S.view self.old self.new }
         ensures cause { IsTrue (is_writable self.old) → IfErr result IsMet }
@@ -135,7 +134,7 @@ impl<S: Storage, F: WrappedFormat<S>> Qcow2<S, F> {
     fn write_taken(&mut self, table: L1Table, taken: PendingClusters) -> Result<(), ImageError>
         requires { IsHostCluster self.old.file.header.fields.cluster_bits taken.first_cluster }
         ensures stays { ImageStays self.old self.new }
-        ensures notes { KeepsFileNotes S.view NoData self.old.file self.new.file }
+        ensures notes { KeepsFileNotes S.view self.old.file self.new.file }
         ensures header_cluster { table.cluster_bits ≡ self.old.l1_table.cluster_bits → 0 < taken.first_cluster → StaysBehindHeader S.view self.old self.new }
         ensures cause { IfErr result IsMet }
         ensures fault { (p : Pending) (out : List (Option Prepared)) → ImageInvariant S.view F.backing (with_table p table taken.first_cluster) self.old out → IsLongerL1 self.old table → IfErr result IsFault }
@@ -156,7 +155,7 @@ impl<S: Storage, F: WrappedFormat<S>> Qcow2<S, F> {
     fn write_l1_table(&mut self, mut table: L1Table, cluster: HostCluster) -> Result<(), ImageError>
         requires { IsHostCluster self.old.file.header.fields.cluster_bits cluster }
         ensures stays { ImageStays self.old self.new }
-        ensures notes { KeepsFileNotes S.view NoData self.old.file self.new.file }
+        ensures notes { KeepsFileNotes S.view self.old.file self.new.file }
         ensures header_cluster { table.cluster_bits ≡ self.old.l1_table.cluster_bits → 0 < cluster → StaysBehindHeader S.view self.old self.new }
         ensures cause { IfErr result IsMet }
         ensures fault { (p : Pending) (out : List (Option Prepared)) → ImageInvariant S.view F.backing (with_table p table cluster) self.old out → IsLongerL1 self.old table → IfErr result IsFault }
@@ -178,7 +177,7 @@ impl<S: Storage, F: WrappedFormat<S>> Qcow2<S, F> {
         table: &mut L1Table,
         cluster: HostCluster,
     ) -> Result<(), ImageError>
-        ensures notes { KeepsFileNotes S.view NoData self.old.file self.new.file }
+        ensures notes { KeepsFileNotes S.view self.old.file self.new.file }
         ensures header_cluster { table.old.cluster_bits ≡ self.old.l1_table.cluster_bits → 0 < cluster → StaysBehindHeader S.view self.old self.new }
         ensures cause { IfErr result IsMet }
         ensures fault { (p : Pending) (out : List (Option Prepared)) → ImageInvariant S.view F.backing (with_table p table.old cluster) self.old out → IsHostCluster table.old.cluster_bits cluster → IfErr result IsFault }
@@ -203,7 +202,7 @@ impl<S: Storage, F: WrappedFormat<S>> Qcow2<S, F> {
     fn name_l1_table(&mut self, table: L1Table, cluster: HostCluster) -> Result<(), ImageError>
         requires { IsHostCluster self.old.file.header.fields.cluster_bits cluster }
         ensures stays { ImageStays self.old self.new }
-        ensures notes { KeepsFileNotes S.view NoData self.old.file self.new.file }
+        ensures notes { KeepsFileNotes S.view self.old.file self.new.file }
         ensures header_cluster { KeepsL1TableBehind self.old.l1_table table → StaysBehindHeader S.view self.old self.new }
         ensures cause { IfErr result IsMet }
         ensures fault { IfErr result IsFault }

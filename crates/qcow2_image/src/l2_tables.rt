@@ -1,7 +1,6 @@
 //! The L2 table of a range: found, made, or put in the place of one that others may name too.
 ghost use Rattle.qcow2_image.specs.BehindHeader.{StaysBehindHeader};
 ghost use Rattle.qcow2_alloc.specs.KeptMarks.{KeepsFileNotes};
-ghost use Rattle.qcow2_alloc.specs.KeptNotes.{NoData};
 ghost use Rattle.std.specs.Prelude.{List, Option, is_some, ◌≡◌, ◌≢◌, ◌-◌, ◌*◌, Some, ◌^◌, ◌<◌, ◌↔◌, IfOk, IfErr, OnOk, IsSome, IsTrue, Ok, Err, length, ◌⊎◌};
 ghost use Rattle.qcow2_image.specs.MetAlone.{KeepsL1Place, IsMetLooking, IsMetTaking};
 ghost use Rattle.qcow2_metadata.specs.L2Mapping.{IsHostCluster};
@@ -41,7 +40,7 @@ impl<S: Storage, F: WrappedFormat<S>> Qcow2<S, F> {
     pub(crate) fn table_for(&mut self, offset: u64) -> Result<HostCluster, ImageError>
         requires writable { IsTrue (is_writable self.old) }
         ensures stays { ImageStays self.old self.new }
-        ensures notes { KeepsFileNotes S.view NoData self.old.file self.new.file }
+        ensures notes { KeepsFileNotes S.view self.old.file self.new.file }
         ensures elsewhere { IfOk result (λ table. 0 < table) }
         ensures header_cluster { StaysBehindHeader S.view self.old self.new }
         ensures cause { IfErr result IsMet }
@@ -92,7 +91,7 @@ impl<S: Storage, F: WrappedFormat<S>> Qcow2<S, F> {
         requires writable { IsTrue (is_writable self.old) }
         ensures stays { ImageStays self.old self.new }
         ensures keeps_rest { KeepsRestOn self.old self.new }
-        ensures notes { KeepsFileNotes S.view NoData self.old.file self.new.file }
+        ensures notes { KeepsFileNotes S.view self.old.file self.new.file }
         ensures elsewhere { IfOk result (λ table. 0 < table) }
         ensures header_cluster { StaysBehindHeader S.view self.old self.new }
         ensures cause { IfErr result IsMet }
@@ -118,7 +117,7 @@ impl<S: Storage, F: WrappedFormat<S>> Qcow2<S, F> {
         requires writable { IsTrue (is_writable self.old) }
         ensures stays { ImageStays self.old self.new }
         ensures keeps_rest { KeepsRestOn self.old self.new }
-        ensures notes { KeepsFileNotes S.view NoData self.old.file self.new.file }
+        ensures notes { KeepsFileNotes S.view self.old.file self.new.file }
         ensures elsewhere { IfOk result (λ table. 0 < table) }
         ensures header_cluster { StaysBehindHeader S.view self.old self.new }
         ensures cause { IfErr result IsMet }
@@ -155,7 +154,7 @@ impl<S: Storage, F: WrappedFormat<S>> Qcow2<S, F> {
         requires writable { IsTrue (is_writable self.old) }
         ensures stays { ImageStays self.old self.new }
         ensures keeps_rest { KeepsRestOn self.old self.new }
-        ensures notes { KeepsFileNotes S.view NoData self.old.file self.new.file }
+        ensures notes { KeepsFileNotes S.view self.old.file self.new.file }
         ensures elsewhere { IfOk result (λ table. 0 < table) }
         ensures header_cluster { 0 < old → StaysBehindHeader S.view self.old self.new }
         ensures cause { IfErr result IsMet }
@@ -186,7 +185,7 @@ impl<S: Storage, F: WrappedFormat<S>> Qcow2<S, F> {
         requires writable { IsTrue (is_writable self.old) }
         ensures stays { ImageStays self.old self.new }
         ensures keeps_rest { KeepsRestOn self.old self.new }
-        ensures notes { KeepsFileNotes S.view NoData self.old.file self.new.file }
+        ensures notes { KeepsFileNotes S.view self.old.file self.new.file }
         ensures elsewhere { IfOk result (λ table. 0 < table) }
         ensures header_cluster { StaysBehindHeader S.view self.old self.new }
         ensures cause { IfErr result IsMet }
@@ -216,7 +215,7 @@ impl<S: Storage, F: WrappedFormat<S>> Qcow2<S, F> {
         requires writable { IsTrue (is_writable self.old) }
         ensures stays { ImageStays self.old self.new }
         ensures keeps_rest { KeepsRestOn self.old self.new }
-        ensures notes { KeepsFileNotes S.view NoData self.old.file self.new.file }
+        ensures notes { KeepsFileNotes S.view self.old.file self.new.file }
         ensures elsewhere { IfOk result (λ table. 0 < table) }
         ensures header_cluster { StaysBehindHeader S.view self.old self.new }
         ensures cause { IfErr result IsMet }
@@ -253,7 +252,7 @@ impl<S: Storage, F: WrappedFormat<S>> Qcow2<S, F> {
     ) -> Result<(), ImageError>
         ensures stays { ImageStays self.old self.new }
         ensures keeps_rest { KeepsRest self.old self.new }
-        ensures notes { KeepsFileNotes S.view NoData self.old.file self.new.file }
+        ensures notes { KeepsFileNotes S.view self.old.file self.new.file }
         ensures header_cluster { 0 < cluster → StaysBehindHeader S.view self.old self.new }
         ensures cause { IfErr result IsMet }
         ensures met { (p : Pending) (out : List (Option Prepared)) → ImageInvariant S.view F.backing (with_new_tables p (one_at cluster)) self.old out → SaysKnown self.old.file.header.fields (known_in S.view self.old.file) index table → HasNearEntry self.old index → IsHostCluster self.old.file.header.fields.cluster_bits cluster → IfErr result (IsMetLooking (HasPrepared out)) }
@@ -278,7 +277,7 @@ impl<S: Storage, F: WrappedFormat<S>> Qcow2<S, F> {
     fn store_first(&mut self) -> Result<(), ImageError>
         ensures stays { ImageStays self.old self.new }
         ensures keeps_rest { KeepsRest self.old self.new }
-        ensures notes { KeepsFileNotes S.view NoData self.old.file self.new.file }
+        ensures notes { KeepsFileNotes S.view self.old.file self.new.file }
         ensures header_cluster { StaysBehindHeader S.view self.old self.new }
         ensures cause { IfErr result IsMet }
         ensures fault { (p : Pending) (out : List (Option Prepared)) → ImageInvariant S.view F.backing p self.old out → IfErr result IsFault }
@@ -296,7 +295,7 @@ impl<S: Storage, F: WrappedFormat<S>> Qcow2<S, F> {
     fn place_l2(&mut self, cluster: HostCluster, mut table: L2Table) -> Result<(), ImageError>
         ensures stays { ImageStays self.old self.new }
         ensures keeps_rest { KeepsRest self.old self.new }
-        ensures notes { KeepsFileNotes S.view NoData self.old.file self.new.file }
+        ensures notes { KeepsFileNotes S.view self.old.file self.new.file }
         ensures header_cluster { 0 < cluster → StaysBehindHeader S.view self.old self.new }
         ensures cause { IfErr result IsMet }
         ensures met { (p : Pending) (out : List (Option Prepared)) → ImageInvariant S.view F.backing p self.old out → 0 < p.new_tables cluster → IsTableOf self.old.file.header.fields table → IsStored S.view self.old → IsHostCluster table.cluster_bits cluster → IfErr result (IsMetLooking (HasPrepared out)) }
@@ -329,7 +328,7 @@ impl<S: Storage, F: WrappedFormat<S>> Qcow2<S, F> {
         requires nameable { IsHostCluster self.old.l1_table.cluster_bits cluster }
         ensures stays { ImageStays self.old self.new }
         ensures keeps_rest { KeepsRest self.old self.new }
-        ensures notes { KeepsFileNotes S.view NoData self.old.file self.new.file }
+        ensures notes { KeepsFileNotes S.view self.old.file self.new.file }
         ensures header_cluster { StaysBehindHeader S.view self.old self.new }
         ensures cause { IfErr result IsMet }
         ensures allocator { self.new.allocator ≡ self.old.allocator }

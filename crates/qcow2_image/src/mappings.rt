@@ -16,8 +16,7 @@ ghost use Rattle.qcow2_image.specs.Ranges.{ReleasesOneMapping, Reaches};
 ghost use Rattle.qcow2_laws.specs.CrashInvariant.{Pending};
 ghost use Rattle.qcow2_alloc.specs.MetadataCaches.{IsEntryAt, l2_at};
 ghost use Rattle.qcow2_alloc.specs.KeptMarks.{KeepsFileNotes};
-ghost use Rattle.qcow2_alloc.specs.KeptNotes.{NoData};
-ghost use Rattle.qcow2_image.specs.Noted.{CommitFailsOnceWritten, FailsOnceWritten, DataUnlessExisting};
+ghost use Rattle.qcow2_image.specs.Noted.{CommitFailsOnceWritten, FailsOnceWritten};
 ghost use Rattle.qcow2_alloc.specs.ImageFile.{known_in, FileInvariant, KeepsHeader};
 ghost use Rattle.qcow2_image.specs.L1Entries.{HasOwnTable, NeedsFarEntry};
 ghost use Rattle.qcow2_image.specs.ListedClusters.{ListsFormer, PreparesList, PreparesTable, ListStays, ListsNoMore};
@@ -231,7 +230,7 @@ impl<S: Storage, F: WrappedFormat<S>> Qcow2<S, F> {
     ) -> Result<Prepared, ImageError>
         requires writable { IsTrue (is_writable self.old) }
         ensures stays { ImageStays self.old self.new }
-        ensures notes { KeepsFileNotes S.view (DataUnlessExisting result) self.old.file self.new.file }
+        ensures notes { KeepsFileNotes S.view self.old.file self.new.file }
         ensures header_cluster { StaysBehindHeader S.view self.old self.new }
         ensures cause { IfErr result IsMetPreparing }
         ensures met { 0 < length → (out : List (Option Prepared)) → ImageInvariant S.view F.backing (pending_in S.view F.backing self.old out) self.old out → IfErr result (IsMetTaking (HasPrepared out) (IsTaken self.old.file.header.fields (known_in S.view self.old.file) offset length out) (CopiesCompressed offset length overwrite self.old.file.header.fields (known_in S.view self.old.file)) (NeedsFarEntry self.old offset)) }
@@ -262,7 +261,7 @@ impl<S: Storage, F: WrappedFormat<S>> Qcow2<S, F> {
     ) -> Result<Prepared, ImageError>
         requires writable { IsTrue (is_writable self.old) }
         ensures stays { ImageStays self.old self.new }
-        ensures notes { KeepsFileNotes S.view (DataUnlessExisting result) self.old.file self.new.file }
+        ensures notes { KeepsFileNotes S.view self.old.file self.new.file }
         ensures header_cluster { StaysBehindHeader S.view self.old self.new }
         ensures cause { IfErr result IsMetPreparing }
         ensures met { 0 < length → (out : List (Option Prepared)) → ImageInvariant S.view F.backing (pending_in S.view F.backing self.old out) self.old out → IfErr result (IsMetTaking (HasPrepared out) (IsTaken self.old.file.header.fields (known_in S.view self.old.file) offset length out) (CopiesCompressed offset length overwrite self.old.file.header.fields (known_in S.view self.old.file)) (NeedsFarEntry self.old offset)) }
@@ -290,7 +289,7 @@ impl<S: Storage, F: WrappedFormat<S>> Qcow2<S, F> {
         ensures stays { ImageStays self.old self.new }
         ensures keeps_rest { KeepsRest self.old self.new }
         ensures table { self.new.l1_table ≡ self.old.l1_table }
-        ensures notes { KeepsFileNotes S.view NoData self.old.file self.new.file }
+        ensures notes { KeepsFileNotes S.view self.old.file self.new.file }
         ensures header_cluster { StaysBehindHeader S.view self.old self.new }
         ensures cause { IsMetPreparing refusal → IsMetPreparing result }
         ensures limit { (out : List (Option Prepared)) → ImageInvariant S.view F.backing (pending_in S.view F.backing self.old out) self.old out → result ≡ ImageError.Limit → (refusal ≡ ImageError.Limit) × FreesJustListed S.view self.old self.new }
@@ -347,7 +346,7 @@ impl<S: Storage, F: WrappedFormat<S>> Qcow2<S, F> {
     ) -> Result<Prepared, ImageError>
         requires writable { IsTrue (is_writable self.old) }
         ensures stays { ImageStays self.old self.new }
-        ensures notes { KeepsFileNotes S.view (DataUnlessExisting result) self.old.file self.new.file }
+        ensures notes { KeepsFileNotes S.view self.old.file self.new.file }
         ensures header_cluster { 0 < table → StaysBehindHeader S.view self.old self.new }
         ensures cause { IfErr result IsMetPreparing }
         ensures met { (out : List (Option Prepared)) → ImageInvariant S.view F.backing (pending_in S.view F.backing self.old out) self.old out → HoldsTable S.view F.backing self.old offset table → 0 < length → IfErr result (IsMetTaking (HasPrepared out) (0 < l2_pins self.old.file.caches table) (CopiesCompressed offset length overwrite self.old.file.header.fields (known_in S.view self.old.file)) ⊥) }
@@ -478,7 +477,7 @@ impl<S: Storage, F: WrappedFormat<S>> Qcow2<S, F> {
         ensures left { freed_by prepared.new.shares.items ≡ [] }
         ensures header { self.new.file.header ≡ self.old.file.header }
         ensures rest { self.new ≡ record self.old { file = record self.old.file { caches = self.new.file.caches; free_list = self.new.file.free_list } } }
-        ensures notes { KeepsFileNotes S.view NoData self.old.file self.new.file }
+        ensures notes { KeepsFileNotes S.view self.old.file self.new.file }
         ensures quiet { DropsNothing prepared.old → self.new.file.free_list ≡ self.old.file.free_list }
         ensures header_cluster { StaysBehindHeader S.view self.old self.new }
         ensures faults { SameFaults S.view F.backing self.old self.new }
@@ -558,7 +557,7 @@ impl<S: Storage, F: WrappedFormat<S>> Qcow2<S, F> {
         ensures header { self.new.file.header ≡ self.old.file.header }
         ensures list { self.new.file.free_list ≡ self.old.file.free_list ++ freed_by prepared.shares.items }
         ensures rest { ReleasesOneMapping S.view self.old self.new }
-        ensures notes { KeepsFileNotes S.view NoData self.old.file self.new.file }
+        ensures notes { KeepsFileNotes S.view self.old.file self.new.file }
         ensures sees { Discards S.view F.backing self.old self.new prepared }
         ensures header_cluster { StaysBehindHeader S.view self.old self.new }
         ensures faults { SameFaults S.view F.backing self.old self.new }

@@ -2,7 +2,6 @@
 ghost use Rattle.qcow2_image.specs.BehindHeader.{StaysBehindHeader};
 ghost use Rattle.qcow2_image.specs.Noted.{ChangesRose, FailsOnceWritten, NotesChanges, NotesPart};
 ghost use Rattle.qcow2_alloc.specs.KeptMarks.{HaveRisen, KeepsFileNotes};
-ghost use Rattle.qcow2_alloc.specs.KeptNotes.{NoData};
 ghost use Rattle.std.specs.Prelude.{ℕ, List, Option, ◌≡◌, ◌↔◌, ◌⊎◌, ◌+◌, ◌-◌, ◌<◌, ◌≤◌, max, [], Some, None, Ok, Err, IfOk, IfErr, IfSome, OnOk, OnErr, IsTrue, MatchOption, false};
 ghost use Rattle.qcow2_image.specs.LackedPlaces.{IsPlacedNear};
 ghost use Rattle.qcow2_image.specs.MetAlone.{IsMetGrowing};
@@ -287,7 +286,7 @@ impl<S: Storage, F: WrappedFormat<S>> Qcow2<S, F> {
     fn renew_l1_table(&mut self, offset: u64) -> Result<(), ImageError>
         requires writable { IsTrue (is_writable self.old) }
         ensures stays { ImageStays self.old self.new }
-        ensures notes { KeepsFileNotes S.view NoData self.old.file self.new.file }
+        ensures notes { KeepsFileNotes S.view self.old.file self.new.file }
         ensures noted { OnOk result (IsTrue self.new.file.caches.is_changed) }
         ensures header_cluster { StaysBehindHeader S.view self.old self.new }
         ensures cause { IfErr result IsMet }
@@ -312,7 +311,7 @@ impl<S: Storage, F: WrappedFormat<S>> Qcow2<S, F> {
     fn lengthen_l1_table(&mut self, offset: u64) -> Result<(), ImageError>
         requires writable { IsTrue (is_writable self.old) }
         ensures stays { ImageStays self.old self.new }
-        ensures notes { KeepsFileNotes S.view NoData self.old.file self.new.file }
+        ensures notes { KeepsFileNotes S.view self.old.file self.new.file }
         ensures noted { OnOk result (IsTrue self.new.file.caches.is_changed) }
         ensures header_cluster { StaysBehindHeader S.view self.old self.new }
         ensures cause { IfErr result IsMet }
@@ -353,7 +352,7 @@ impl<S: Storage, F: WrappedFormat<S>> Qcow2<S, F> {
         ensures time { (view_in S.view self.old.file).is_honest → EachMomentSince (view_in S.view self.old.file) (view_in S.view self.new.file) (IsLeftBy (view_in S.view self.new.file)) }
         ensures writes { (out : List (Option Prepared)) → ImageInvariant S.view F.backing (pending_in S.view F.backing self.old out) self.old out → WritesSize S.view F.backing self.old self.new out size result }
         ensures resizes { (p : Pending) → ImageInvariant S.view F.backing p self.old [] → Resizes S.view F.backing p self.old self.new size result }
-        ensures notes { KeepsFileNotes S.view NoData self.old.file self.new.file }
+        ensures notes { KeepsFileNotes S.view self.old.file self.new.file }
         ensures header_cluster { StaysBehindHeader S.view self.old self.new }
         ensures faults { CountsImageFaults S.view F.backing self.old self.new result }
     {

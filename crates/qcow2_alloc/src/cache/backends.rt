@@ -21,7 +21,7 @@ impl<S: Storage> AsyncLruCacheBackend for L2CacheBackend<S> {
     ghost use Rattle.qcow2_alloc.specs.ImageStorage.{storage_of};
     ghost use Rattle.qcow2_alloc.specs.TableCaches.{l2_steps, cleared_l2, IsTableOf};
     ghost use Rattle.qcow2_alloc.specs.TableLaws.{table_laws};
-    ghost use Rattle.qcow2_alloc.specs.KeptNotes.{KeepsNotes, NoData, kept_same, kept_then};
+    ghost use Rattle.qcow2_alloc.specs.KeptNotes.{KeepsNotes, kept_same, kept_then};
     ghost use Rattle.qcow2_alloc.specs.MetFaults.{NotesFaults, met_same, met_then};
 
     type Key = HostCluster;
@@ -44,7 +44,7 @@ impl<S: Storage> AsyncLruCacheBackend for L2CacheBackend<S> {
 
     ghost is_modified = { λ v. v.is_modified };
 
-    ghost keeps = { λ s t. KeepsNotes S.view NoData s t × NotesFaults S.view s t };
+    ghost keeps = { λ s t. KeepsNotes S.view s t × NotesFaults S.view s t };
 
     fn load(
         &self,
@@ -125,7 +125,7 @@ impl<S: Storage> AsyncLruCacheBackend for RefBlockCacheBackend<S> {
     ghost use Rattle.qcow2_alloc.specs.ImageStorage.{storage_of};
     ghost use Rattle.qcow2_alloc.specs.TableCaches.{rb_steps, cleared_rb, IsBlockOf};
     ghost use Rattle.qcow2_alloc.specs.TableLaws.{table_laws};
-    ghost use Rattle.qcow2_alloc.specs.KeptNotes.{KeepsNotes, NoData, kept_same, kept_then};
+    ghost use Rattle.qcow2_alloc.specs.KeptNotes.{KeepsNotes, kept_same, kept_then};
     ghost use Rattle.qcow2_alloc.specs.MetFaults.{NotesFaults, met_same, met_then};
 
     type Key = HostCluster;
@@ -148,7 +148,7 @@ impl<S: Storage> AsyncLruCacheBackend for RefBlockCacheBackend<S> {
 
     ghost is_modified = { λ v. v.is_modified };
 
-    ghost keeps = { λ s t. KeepsNotes S.view NoData s t × NotesFaults S.view s t };
+    ghost keeps = { λ s t. KeepsNotes S.view s t × NotesFaults S.view s t };
 
     fn load(
         &self,

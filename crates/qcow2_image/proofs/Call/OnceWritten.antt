@@ -6,7 +6,6 @@ use Rattle.std.proofs.Math.Nat.{le_refl, le_trans}
 use Rattle.image_access.specs.Moments.{StorageView, ContentsStay, Rose}
 use Rattle.qcow2_alloc.specs.CountedChanges.{CountsChanges}
 use Rattle.qcow2_alloc.specs.KeptMarks.{KeepsFileNotes}
-use Rattle.qcow2_alloc.specs.KeptNotes.{NoData}
 use Rattle.qcow2_alloc.specs.ImageFile.{view_in}
 use Rattle.qcow2_alloc.specs.ImageStorage.{changes_of, is_changed_of, storage_of}
 use Rattle.qcow2_alloc.specs.declared.cache.MetadataCaches.{MetadataCaches}
@@ -99,7 +98,7 @@ module _ {S F : Type 0} (view : S → StorageView) where
       }
 
   -- ---- a part that keeps the notes
-  module _ {MayTellData : Type 0} (old new : Qcow2 S F) (kept : KeepsFileNotes view MayTellData old.file new.file) where
+  module _ (old new : Qcow2 S F) (kept : KeepsFileNotes view old.file new.file) where
     pub kept_fewer : NoFewerChanges old new
     kept_fewer = record { storage = kept.storage.changes.no_fewer; tables = kept.tables.no_fewer }
 
@@ -125,7 +124,7 @@ module _ {S F : Type 0} (view : S → StorageView) where
     kept_contents none = kept.storage.contents (λ noted. none (or_left (is_changed_of new.file.storage) new.file.caches.is_changed noted))
 
   -- one that tells nothing as data
-  pub notes_part : (old new : Qcow2 S F) → KeepsFileNotes view NoData old.file new.file → NotesPart view old new
+  pub notes_part : (old new : Qcow2 S F) → KeepsFileNotes view old.file new.file → NotesPart view old new
   notes_part old new kept = record {
     honest = kept.storage.honest;
     no_fewer = kept_fewer old new kept;
@@ -200,10 +199,10 @@ module _ {S F : Type 0} (view : S → StorageView) where
     pub part_of_call : (new : Qcow2 S F) → NotesChanges view old new → NotesPart view old new
     part_of_call new call = record { honest = call.honest; no_fewer = call.no_fewer; why = λ noted. inr (call.why noted); contents = λ none. call.contents }
 
-    pub notes_since : (new : Qcow2 S F) → KeepsFileNotes view NoData begun.file new.file → NotesPart view old new
+    pub notes_since : (new : Qcow2 S F) → KeepsFileNotes view begun.file new.file → NotesPart view old new
     notes_since new kept = part_of_call new (notes_begun new (notes_part begun new kept))
 
-    pub counts_begun : {MayTellData : Type 0} (new : Qcow2 S F) → KeepsFileNotes view MayTellData begun.file new.file → CountsImageChanges view old new
+    pub counts_begun : (new : Qcow2 S F) → KeepsFileNotes view begun.file new.file → CountsImageChanges view old new
     counts_begun new kept = record {
       no_fewer = record {
         storage = subst (λ n. n ≤ changes_of new.file.storage) begins.counts (kept_fewer begun new kept).storage;
@@ -215,7 +214,7 @@ module _ {S F : Type 0} (view : S → StorageView) where
     }
 
     -- where it is marked at its end, and wasn't before
-    pub once_marked : {MayTellData A : Type 0} (mid new : Qcow2 S F) (done : Result A ImageError) → KeepsFileNotes view MayTellData begun.file new.file → is_failed mid ≡ is_failed old → MarksFailed mid new done → done ≡ Err Memory → MarksOnceChanged view old new
+    pub once_marked : {A : Type 0} (mid new : Qcow2 S F) (done : Result A ImageError) → KeepsFileNotes view begun.file new.file → is_failed mid ≡ is_failed old → MarksFailed mid new done → done ≡ Err Memory → MarksOnceChanged view old new
     once_marked {A} mid new done kept same marks is =
         let mark : is_failed new ≡ (is_failed mid || has_noted_change new) = subst (λ (r : Result A ImageError). MarksFailed mid new r) is marks in
         record {
@@ -227,18 +226,18 @@ module _ {S F : Type 0} (view : S → StorageView) where
           marked = λ more. mark ∙ or_right (is_failed mid) (has_noted_change new) (kept_counted begun new kept (more_begun new more));
         }
 
-    pub fails_marked : {MayTellData A B : Type 0} (mid new : Qcow2 S F) (done : Result A ImageError) → KeepsFileNotes view MayTellData begun.file new.file → is_failed mid ≡ is_failed old → MarksFailed mid new done → (result : Result B ImageError) → (result ≡ Err Memory → done ≡ Err Memory)
+    pub fails_marked : {A B : Type 0} (mid new : Qcow2 S F) (done : Result A ImageError) → KeepsFileNotes view begun.file new.file → is_failed mid ≡ is_failed old → MarksFailed mid new done → (result : Result B ImageError) → (result ≡ Err Memory → done ≡ Err Memory)
         → FailsOnceWritten view old new result
     fails_marked mid new done kept same marks result from = record { counts = counts_begun new kept; memory = λ memory. once_marked mid new done kept same marks (from memory) }
 
-    pub fails_once : {MayTellData A B : Type 0} (last new : Qcow2 S F) (done : Result A ImageError) → KeepsFileNotes view MayTellData begun.file last.file → is_failed last ≡ is_failed old → MarksFailed last new done → new ≡ record last { is_failed = new.is_failed } → (result : Result B ImageError)
+    pub fails_once : {A B : Type 0} (last new : Qcow2 S F) (done : Result A ImageError) → KeepsFileNotes view begun.file last.file → is_failed last ≡ is_failed old → MarksFailed last new done → new ≡ record last { is_failed = new.is_failed } → (result : Result B ImageError)
         → (result ≡ Err Memory → done ≡ Err Memory) → FailsOnceWritten view old new result
-    fails_once {MayTellData} last new done kept same marks rest result from =
-        fails_marked last new done (subst (λ (f : ImageFile S). KeepsFileNotes view MayTellData begun.file f) (sym (ap (λ (i : Qcow2 S F). i.file) rest)) kept) same marks result from
+    fails_once last new done kept same marks rest result from =
+        fails_marked last new done (subst (λ (f : ImageFile S). KeepsFileNotes view begun.file f) (sym (ap (λ (i : Qcow2 S F). i.file) rest)) kept) same marks result from
 
     -- what was answered is marked by nothing
-    pub answered_once : {MayTellData B : Type 0} (last new : Qcow2 S F) → KeepsFileNotes view MayTellData begun.file last.file → new ≡ record last { is_failed = new.is_failed } → (x : B) → FailsOnceWritten view old new (Ok x)
-    answered_once {MayTellData} last new kept rest x = answered_counts old new x (counts_begun new (subst (λ (f : ImageFile S). KeepsFileNotes view MayTellData begun.file f) (sym (ap (λ (i : Qcow2 S F). i.file) rest)) kept))
+    pub answered_once : {B : Type 0} (last new : Qcow2 S F) → KeepsFileNotes view begun.file last.file → new ≡ record last { is_failed = new.is_failed } → (x : B) → FailsOnceWritten view old new (Ok x)
+    answered_once last new kept rest x = answered_counts old new x (counts_begun new (subst (λ (f : ImageFile S). KeepsFileNotes view begun.file f) (sym (ap (λ (i : Qcow2 S F). i.file) rest)) kept))
 
   -- Where all was done before it is marked, and it is noted whether anything was counted since the call began.
   marks_refused : {A : Type 0} (old last new : Qcow2 S F) (done : Result A ImageError) → NotesChanges view old last → (done ≡ Err Memory → IsTrue (is_failed last) → IsTrue (is_failed old) ⊎ ChangesRose old last)

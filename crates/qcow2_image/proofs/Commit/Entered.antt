@@ -1,6 +1,5 @@
 -- The shares of a prepared mapping are entered one after another, until nothing of it is private.
 use Rattle.qcow2_alloc.specs.KeptMarks.{KeepsFileNotes}
-use Rattle.qcow2_alloc.specs.KeptNotes.{NoData}
 use Rattle.qcow2_image.proofs.Call.Notes.{same_kept, table_kept}
 use Rattle.qcow2_alloc.proofs.KeptMarks.{notes_none, notes_then}
 use Rattle.std.proofs.Common.{◌≡◌, ◌⊎◌, inl, inr, ℕ, ◌+◌, ◌-◌, ◌*◌, ◌/◌, ◌%◌, ◌^◌, ◌<◌, ◌≤◌, Bool, true, false, List, length, [], ◌∷◌, ◌++◌, refl, sym, ap, ◌∙◌, subst, arith, min}
@@ -249,7 +248,7 @@ module _ {S F : Type 0} (view : S → StorageView) (backing : F → BackingView)
     pub in_place : (j : ℕ) → j < n → slice_get q.shares.items j ≡ Some InPlace
     pub parts : (out : List (Option Prepared)) (k : ℕ) → slice_get out k ≡ Some (Some p) → IsSome p.table → ImageInvariant view backing (pending_in view backing old out) old out
         → CommitsPart view backing old now out k p q × (IsTrue entered → IsTrue now.file.caches.is_changed)
-    pub notes : KeepsFileNotes view NoData old.file now.file
+    pub notes : KeepsFileNotes view old.file now.file
     pub quiet : DropsNothing p → DropsNothing q × (now.file.free_list ≡ old.file.free_list)
     pub behind : StaysBehindHeader view old now
 

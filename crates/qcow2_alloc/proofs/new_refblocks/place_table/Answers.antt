@@ -42,13 +42,13 @@ returns-clause-header_cluster g c =
 
 pub returns-in_err-place_reftable-clause-notes : goal.returns-in_err-place_reftable-clause-notes
 returns-in_err-place_reftable-clause-notes g c =
-    placed_kept c.args.file.now.storage c.will_write.new.self c.place_reftable.new.self c.place_reftable.result c.will_write.ensures.storage c.will_write.ensures.changed c.will_write.ensures.kind c.set_cluster.new.self.cluster _
+    placed_kept c.args.file.now.storage c.will_write.new.self c.place_reftable.new.self c.place_reftable.result c.will_write.ensures.storage c.will_write.ensures.changed c.set_cluster.new.self.cluster _
     (subst (λ (x : EntryTableView). IsSome x.cluster) (sym c.set_cluster.ensures) refl) c.place_reftable.ensures.written c.place_reftable.ensures.calls c.place_reftable.ensures.noted
 
 pub returns-clause-notes : goal.returns-clause-notes
 returns-clause-notes g c =
-    placed_kept c.args.file.now.storage c.will_write.new.self c.place_reftable.new.self c.place_reftable.result c.will_write.ensures.storage c.will_write.ensures.changed c.will_write.ensures.kind c.set_cluster.new.self.cluster _
+    placed_kept c.args.file.now.storage c.will_write.new.self c.place_reftable.new.self c.place_reftable.result c.will_write.ensures.storage c.will_write.ensures.changed c.set_cluster.new.self.cluster _
     (subst (λ (x : EntryTableView). IsSome x.cluster) (sym c.set_cluster.ensures) refl) c.place_reftable.ensures.written c.place_reftable.ensures.calls c.place_reftable.ensures.noted
 
 pub returns-clause-noted : goal.returns-clause-noted
-returns-clause-noted g c = c.in_ok-place_reftable.ensures.noted.0.0
+returns-clause-noted g c = c.in_ok-place_reftable.ensures.noted.0

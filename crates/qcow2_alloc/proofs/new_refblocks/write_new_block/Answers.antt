@@ -47,11 +47,11 @@ returns-clause-behind_header g c = c.rb_remove.ensures.header_cluster
 pub returns-in_err-place_refblock-clause-marks : goal.returns-in_err-place_refblock-clause-marks
 returns-in_err-place_refblock-clause-marks g c =
     kept_marks_then (marks_of_caches c.rb_remove.ensures.marks c.rb_remove.ensures.order)
-    (marks_of_storage refl (placed_kept c.args.file.now.storage c.will_write.new.self c.place_refblock.new.self c.place_refblock.result c.will_write.ensures.storage c.will_write.ensures.changed c.will_write.ensures.kind c.args.block.now.cluster _ (subst (λ (o : Option ℕ). IsSome o) (sym c.requires.place) refl)
+    (marks_of_storage refl (placed_kept c.args.file.now.storage c.will_write.new.self c.place_refblock.new.self c.place_refblock.result c.will_write.ensures.storage c.will_write.ensures.changed c.args.block.now.cluster _ (subst (λ (o : Option ℕ). IsSome o) (sym c.requires.place) refl)
     c.place_refblock.ensures.written c.place_refblock.ensures.calls c.place_refblock.ensures.noted))
 
 pub returns-clause-marks : goal.returns-clause-marks
 returns-clause-marks g c =
     kept_marks_then (marks_of_caches c.rb_remove.ensures.marks c.rb_remove.ensures.order)
-    (marks_of_storage refl (placed_kept c.args.file.now.storage c.will_write.new.self c.place_refblock.new.self c.place_refblock.result c.will_write.ensures.storage c.will_write.ensures.changed c.will_write.ensures.kind c.args.block.now.cluster _ (subst (λ (o : Option ℕ). IsSome o) (sym c.requires.place) refl)
+    (marks_of_storage refl (placed_kept c.args.file.now.storage c.will_write.new.self c.place_refblock.new.self c.place_refblock.result c.will_write.ensures.storage c.will_write.ensures.changed c.args.block.now.cluster _ (subst (λ (o : Option ℕ). IsSome o) (sym c.requires.place) refl)
     c.place_refblock.ensures.written c.place_refblock.ensures.calls c.place_refblock.ensures.noted))

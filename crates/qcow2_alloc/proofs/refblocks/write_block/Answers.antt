@@ -144,12 +144,12 @@ pub returns-in_err-flush_rb-clause-marks : goal.returns-in_err-flush_rb-clause-m
 returns-in_err-flush_rb-clause-marks g c = marks_of_both c.flush_rb.ensures.marks c.flush_rb.ensures.order c.flush_rb.ensures.notes
 
 pub returns-in_err-place_refblock-clause-marks : goal.returns-in_err-place_refblock-clause-marks
-returns-in_err-place_refblock-clause-marks g c = kept_marks_then (marks_of_both c.flush_rb.ensures.marks c.flush_rb.ensures.order c.flush_rb.ensures.notes) (marks_of_storage refl (placed_kept c.flush_rb.new.storage c.will_write.new.self c.place_refblock.new.self c.place_refblock.result c.will_write.ensures.storage c.will_write.ensures.changed c.will_write.ensures.kind c.args.block.cluster _ c.requires.placed c.place_refblock.ensures.written c.place_refblock.ensures.calls c.place_refblock.ensures.noted))
+returns-in_err-place_refblock-clause-marks g c = kept_marks_then (marks_of_both c.flush_rb.ensures.marks c.flush_rb.ensures.order c.flush_rb.ensures.notes) (marks_of_storage refl (placed_kept c.flush_rb.new.storage c.will_write.new.self c.place_refblock.new.self c.place_refblock.result c.will_write.ensures.storage c.will_write.ensures.changed c.args.block.cluster _ c.requires.placed c.place_refblock.ensures.written c.place_refblock.ensures.calls c.place_refblock.ensures.noted))
 
 pub returns-clause-marks : goal.returns-clause-marks
 returns-clause-marks g c =
-    kept_marks_then (kept_marks_then (marks_of_both c.flush_rb.ensures.marks c.flush_rb.ensures.order c.flush_rb.ensures.notes) (marks_of_storage refl (placed_kept c.flush_rb.new.storage c.will_write.new.self c.place_refblock.new.self c.place_refblock.result c.will_write.ensures.storage c.will_write.ensures.changed c.will_write.ensures.kind c.args.block.cluster _ c.requires.placed c.place_refblock.ensures.written c.place_refblock.ensures.calls c.place_refblock.ensures.noted)))
+    kept_marks_then (kept_marks_then (marks_of_both c.flush_rb.ensures.marks c.flush_rb.ensures.order c.flush_rb.ensures.notes) (marks_of_storage refl (placed_kept c.flush_rb.new.storage c.will_write.new.self c.place_refblock.new.self c.place_refblock.result c.will_write.ensures.storage c.will_write.ensures.changed c.args.block.cluster _ c.requires.placed c.place_refblock.ensures.written c.place_refblock.ensures.calls c.place_refblock.ensures.noted)))
     (marks_of_both c.rb_insert.ensures.marks c.rb_insert.ensures.order c.rb_insert.ensures.notes)
 
 pub returns-clause-noted : goal.returns-clause-noted
-returns-clause-noted g c = on_ok _ c.rb_insert.result (c.rb_insert.ensures.notes.changes.noted c.in_ok-place_refblock.ensures.noted.0.0)
+returns-clause-noted g c = on_ok _ c.rb_insert.result (c.rb_insert.ensures.notes.changes.noted c.in_ok-place_refblock.ensures.noted.0)

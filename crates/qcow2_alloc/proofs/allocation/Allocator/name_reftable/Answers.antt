@@ -6,7 +6,6 @@ use Rattle.qcow2_alloc.proofs.AllocationSteps.{handed_on, fault_of_storage}
 use Rattle.qcow2_alloc.proofs.NamedReftables.{within_limit, interrupted_named, allocator_step_named, keeps_used}
 use Rattle.qcow2_alloc.proofs.ListedAfter.{header_same}
 use Rattle.qcow2_alloc.proofs.Outcomes.{told_limit, on_no_ok, handed_cause, on_err}
-use Rattle.std.proofs.Math.Nat.{le_refl}
 use Rattle.qcow2_alloc.proofs.KeptNotes.{note_kept}
 use Rattle.qcow2_alloc.proofs.TableErrors.{storage_of_tables, metadata_of_tables}
 use Rattle.qcow2_alloc.proofs.SparedHeaders.{spares_none, spares_pointer, placed_above}
@@ -94,7 +93,7 @@ returns-in_err-set_reftable-clause-cause g c = handed_cause c.from_residual.resu
 
 pub returns-in_err-write_reftable_pointer-clause-marks : goal.returns-in_err-write_reftable_pointer-clause-marks
 returns-in_err-write_reftable_pointer-clause-marks g c =
-    (marks_of_storage refl (told_kept c.args.file.now.storage c.will_write.new.self c.write_reftable_pointer.new.self c.write_reftable_pointer.result c.will_write.ensures.storage c.will_write.ensures.changed c.will_write.ensures.kind _ c.write_reftable_pointer.ensures.written c.write_reftable_pointer.ensures.calls c.write_reftable_pointer.ensures.noted))
+    (marks_of_storage refl (told_kept c.args.file.now.storage c.will_write.new.self c.write_reftable_pointer.new.self c.write_reftable_pointer.result c.will_write.ensures.storage c.will_write.ensures.changed _ c.write_reftable_pointer.ensures.written c.write_reftable_pointer.ensures.calls c.write_reftable_pointer.ensures.noted))
 
 pub returns-in_err-write_reftable_pointer-clause-list : goal.returns-in_err-write_reftable_pointer-clause-list
 returns-in_err-write_reftable_pointer-clause-list g c = refl
@@ -113,7 +112,7 @@ returns-in_err-write_reftable_pointer-clause-cause g c = handed_cause c.from_res
 
 pub returns-clause-marks : goal.returns-clause-marks
 returns-clause-marks g c =
-    (marks_of_storage refl (told_kept c.args.file.now.storage c.will_write.new.self c.write_reftable_pointer.new.self c.write_reftable_pointer.result c.will_write.ensures.storage c.will_write.ensures.changed c.will_write.ensures.kind _ c.write_reftable_pointer.ensures.written c.write_reftable_pointer.ensures.calls c.write_reftable_pointer.ensures.noted))
+    (marks_of_storage refl (told_kept c.args.file.now.storage c.will_write.new.self c.write_reftable_pointer.new.self c.write_reftable_pointer.result c.will_write.ensures.storage c.will_write.ensures.changed _ c.write_reftable_pointer.ensures.written c.write_reftable_pointer.ensures.calls c.write_reftable_pointer.ensures.noted))
 
 pub returns-clause-list : goal.returns-clause-list
 returns-clause-list g c = refl

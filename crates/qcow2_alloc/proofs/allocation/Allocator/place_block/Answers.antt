@@ -1,4 +1,4 @@
-use Rattle.std.proofs.Common.{◌≡◌, inr, ℕ, ◌+◌, ◌*◌, ◌/◌, ◌^◌, ◌<◌, Bool, true, IsTrue, Some, Result, Ok, Err, refl, sym, ap, ◌∙◌, subst, arith, IsSome}
+use Rattle.std.proofs.Common.{◌≡◌, inr, ℕ, ◌+◌, ◌*◌, ◌/◌, ◌^◌, ◌<◌, Bool, IsTrue, Some, Result, Ok, Err, refl, sym, ap, ◌∙◌, subst, arith, IsSome}
 use Rattle.std.proofs.lemmas.Nat.{div-add-mod'}
 use Rattle.std.specs.Option.{IfSome}
 use Rattle.std.specs.Int.{w64, to_be_bytes}
@@ -151,7 +151,7 @@ returns-in_err-write_block-clause-entries g c = entries_none _ c.args.self.now.r
 pub returns-in_err-write_reftable_entry-clause-marks : goal.returns-in_err-write_reftable_entry-clause-marks
 returns-in_err-write_reftable_entry-clause-marks g c =
     kept_marks_then c.write_block.ensures.marks
-    (marks_of_storage refl (placed_kept c.write_block.new.file.storage c.will_write.new.self c.write_reftable_entry.new.self c.write_reftable_entry.result c.will_write.ensures.storage c.will_write.ensures.changed c.will_write.ensures.kind c.enter_refblock.new.self.cluster _
+    (marks_of_storage refl (placed_kept c.write_block.new.file.storage c.will_write.new.self c.write_reftable_entry.new.self c.write_reftable_entry.result c.will_write.ensures.storage c.will_write.ensures.changed c.enter_refblock.new.self.cluster _
     (subst (λ (x : EntryTableView). IsSome x.cluster) (sym c.enter_refblock.ensures.rest) c.requires.placed) c.write_reftable_entry.ensures.written c.write_reftable_entry.ensures.calls c.write_reftable_entry.ensures.noted))
 
 pub returns-in_err-write_reftable_entry-clause-header : goal.returns-in_err-write_reftable_entry-clause-header
@@ -166,7 +166,7 @@ returns-in_err-write_reftable_entry-clause-first g c = refl
 pub returns-clause-marks : goal.returns-clause-marks
 returns-clause-marks g c =
     kept_marks_then c.write_block.ensures.marks
-    (marks_of_storage refl (placed_kept c.write_block.new.file.storage c.will_write.new.self c.write_reftable_entry.new.self c.write_reftable_entry.result c.will_write.ensures.storage c.will_write.ensures.changed c.will_write.ensures.kind c.enter_refblock.new.self.cluster _
+    (marks_of_storage refl (placed_kept c.write_block.new.file.storage c.will_write.new.self c.write_reftable_entry.new.self c.write_reftable_entry.result c.will_write.ensures.storage c.will_write.ensures.changed c.enter_refblock.new.self.cluster _
     (subst (λ (x : EntryTableView). IsSome x.cluster) (sym c.enter_refblock.ensures.rest) c.requires.placed) c.write_reftable_entry.ensures.written c.write_reftable_entry.ensures.calls c.write_reftable_entry.ensures.noted))
 
 pub returns-clause-header : goal.returns-clause-header

@@ -74,10 +74,10 @@ pub returns-clause-header_cluster : goal.returns-clause-header_cluster
 returns-clause-header_cluster g c = let spared = blocks_flushed_behind g.S.Storage.view (record c.args.storage.now { met_fault = false }) c.flush.new.store c.args.self.now c.flush.new.self c.flush.result c.flush.ensures.others (rw c.watch_faults.ensures at c.flush.ensures.flushed) in record { bytes = spared.bytes; behind = spared.behind }
 
 pub returns-in-Err-clause-notes : goal.returns-in-Err-clause-notes
-returns-in-Err-clause-notes g c = let kept = (rw c.watch_faults.ensures at c.flush.ensures.keeps).0 in record { honest = kept.honest; changes = kept.changes; contents = kept.contents; no_fewer_data = kept.no_fewer_data; kinds = kept.kinds }
+returns-in-Err-clause-notes g c = let kept = (rw c.watch_faults.ensures at c.flush.ensures.keeps).0 in record { honest = kept.honest; changes = kept.changes; contents = kept.contents }
 
 pub returns-clause-notes : goal.returns-clause-notes
-returns-clause-notes g c = let kept = (rw c.watch_faults.ensures at c.flush.ensures.keeps).0 in record { honest = kept.honest; changes = kept.changes; contents = kept.contents; no_fewer_data = kept.no_fewer_data; kinds = kept.kinds }
+returns-clause-notes g c = let kept = (rw c.watch_faults.ensures at c.flush.ensures.keeps).0 in record { honest = kept.honest; changes = kept.changes; contents = kept.contents }
 
 pub returns-in-Err-clause-apart : goal.returns-in-Err-clause-apart
 returns-in-Err-clause-apart g c = λ may. let kept = blocks_flushed_apart g.S.Storage.view (record c.args.storage.now { met_fault = false }) c.flush.new.store c.args.self.now c.flush.new.self c.flush.ensures.others c.flush.ensures.distinct c.flush.result (rw c.watch_faults.ensures at c.flush.ensures.flushed) may in record { stays = kept.stays }

@@ -10,7 +10,7 @@ use Rattle.qcow2_image.specs.ImageInvariant.{backing_bytes}
 use Rattle.qcow2_image.proofs.Map.Loading.{if_ok}
 use Rattle.qcow2_image.proofs.Map.Reading.{none_below, zero_shown}
 use Rattle.qcow2_image.proofs.Prepare.Filling.{disk_kept, image_step_data, image_step_kept, image_step_then, own_of, there_written}
-use Rattle.qcow2_alloc.proofs.KeptMarks.{notes_for, notes_then}
+use Rattle.qcow2_alloc.proofs.KeptMarks.{notes_then}
 use Rattle.qcow2_image.proofs.Call.BehindHeader.{behind_then}
 use Rattle.qcow2_image.proofs.Prepare.Lacked.{hands_unlimited}
 use Rattle.qcow2_image.proofs.Prepare.Met.{hands_met, met_as}
@@ -77,10 +77,10 @@ pub returns-in-Zero-clause-notes : goal.returns-in-Zero-clause-notes
 returns-in-Zero-clause-notes g c = c.write_zeros.ensures.notes
 
 pub returns-in_err-read_as-clause-notes : goal.returns-in_err-read_as-clause-notes
-returns-in_err-read_as-clause-notes g c = notes_for c.read_as.ensures.notes
+returns-in_err-read_as-clause-notes g c = c.read_as.ensures.notes
 
 pub returns-clause-notes : goal.returns-clause-notes
-returns-clause-notes g c = notes_then (notes_for c.read_as.ensures.notes) c.write_data.ensures.notes
+returns-clause-notes g c = notes_then c.read_as.ensures.notes c.write_data.ensures.notes
 
 pub returns-in-Zero-clause-header_cluster : goal.returns-in-Zero-clause-header_cluster
 returns-in-Zero-clause-header_cluster g c = c.write_zeros.ensures.header_cluster

@@ -1,5 +1,5 @@
 use Rattle.qcow2_image.proofs.image.Qcow2.fill_first.Goals as goal
-use Rattle.qcow2_alloc.proofs.KeptMarks.{notes_then, notes_for}
+use Rattle.qcow2_alloc.proofs.KeptMarks.{notes_then}
 use Rattle.std.specs.Prelude.{Err, IsTrue}
 use Rattle.std.proofs.Common.{◌≡◌, ◌∙◌, ◌+◌, ◌++◌, ◌^◌, ◌≤◌, ◌<◌, ◌∷◌, [], None, true, inl, min, refl, sym, ap, subst, arith, rules}
 use Rattle.qcow2_laws.specs.CrashInvariant.{Pending}
@@ -23,7 +23,6 @@ use Rattle.qcow2_alloc.specs.declared.error.ImageError.{ImageError}
 use Rattle.qcow2_image.specs.MetAlone.{HasCompressedIn, IsMetTaking}
 use Rattle.qcow2_image.proofs.Preallocate.Met.{hands_met, met_piece}
 use Rattle.qcow2_image.specs.Backings.{HasPrepared}
-use Rattle.qcow2_image.proofs.Call.ToldData.{notes_if}
 
 pub returns-in_err-prepared-clause-fills : goal.returns-in_err-prepared-clause-fills
 returns-in_err-prepared-clause-fills g c = λ out sound whole.
@@ -158,16 +157,16 @@ pub returns-clause-header_cluster : goal.returns-clause-header_cluster
 returns-clause-header_cluster g c = behind_then (behind_then (behind_then c.prepare.ensures.header_cluster c.put_zeros.ensures.header_cluster) c.commit_filled.ensures.header_cluster) c.free_listed.ensures.header_cluster
 
 pub returns-in_err-prepared-clause-notes : goal.returns-in_err-prepared-clause-notes
-returns-in_err-prepared-clause-notes g c = notes_if (λ _. tt) c.prepare.ensures.notes
+returns-in_err-prepared-clause-notes g c = c.prepare.ensures.notes
 
 pub returns-in-Err-clause-notes : goal.returns-in-Err-clause-notes
-returns-in-Err-clause-notes g c = notes_then (notes_then (notes_then (notes_if (λ _. tt) c.prepare.ensures.notes) c.put_zeros.ensures.notes) (notes_for c.release_prepared.ensures.notes)) (notes_for c.free_after.ensures.notes)
+returns-in-Err-clause-notes g c = notes_then (notes_then (notes_then c.prepare.ensures.notes c.put_zeros.ensures.notes) c.release_prepared.ensures.notes) c.free_after.ensures.notes
 
 pub returns-in_err-free_listed-clause-notes : goal.returns-in_err-free_listed-clause-notes
-returns-in_err-free_listed-clause-notes g c = notes_then (notes_then (notes_then (notes_if (λ _. tt) c.prepare.ensures.notes) c.put_zeros.ensures.notes) (notes_for c.commit_filled.ensures.notes)) (notes_for c.free_listed.ensures.notes)
+returns-in_err-free_listed-clause-notes g c = notes_then (notes_then (notes_then c.prepare.ensures.notes c.put_zeros.ensures.notes) c.commit_filled.ensures.notes) c.free_listed.ensures.notes
 
 pub returns-clause-notes : goal.returns-clause-notes
-returns-clause-notes g c = notes_then (notes_then (notes_then (notes_if (λ _. tt) c.prepare.ensures.notes) c.put_zeros.ensures.notes) (notes_for c.commit_filled.ensures.notes)) (notes_for c.free_listed.ensures.notes)
+returns-clause-notes g c = notes_then (notes_then (notes_then c.prepare.ensures.notes c.put_zeros.ensures.notes) c.commit_filled.ensures.notes) c.free_listed.ensures.notes
 
 pub returns-in_err-prepared-clause-met : goal.returns-in_err-prepared-clause-met
 returns-in_err-prepared-clause-met g c = λ out sound whole near.

@@ -1,5 +1,4 @@
 use Rattle.qcow2_alloc.specs.KeptMarks.{KeepsFileNotes}
-use Rattle.qcow2_alloc.specs.KeptNotes.{AlsoData}
 use Rattle.std.proofs.Common.{◌-◌}
 use Rattle.qcow2_image.specs.BehindHeader.{StaysBehindHeader}
 use Rattle.qcow2_image.specs.Faults.{SameFaults}
@@ -14,7 +13,7 @@ invariant-loop-at g l = record {
   faults : SameFaults g.S.Storage.view g.F.BackingDisk.backing l.fn.self l.self;
   emptied : HasNothingToFree l.fn.self → HasNothingToFree l.self;
   behind : StaysBehindHeader g.S.Storage.view l.fn.self l.self;
-  notes : KeepsFileNotes g.S.Storage.view AlsoData l.fn.self.file l.self.file;
+  notes : KeepsFileNotes g.S.Storage.view l.fn.self.file l.self.file;
 }
 
 abbrev pub decreases-loop-at : goal.decreases-loop-at

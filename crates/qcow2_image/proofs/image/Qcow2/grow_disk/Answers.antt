@@ -3,7 +3,7 @@ use Rattle.std.proofs.lemmas.Bool.{or_right}
 use Rattle.qcow2_alloc.specs.declared.image_file.ImageFile.{ImageFile}
 use Rattle.qcow2_alloc.specs.ImageFile.{has_noted, known_in}
 use Rattle.qcow2_image.proofs.Call.Notes.{same_kept}
-use Rattle.qcow2_alloc.proofs.KeptMarks.{notes_then, notes_for}
+use Rattle.qcow2_alloc.proofs.KeptMarks.{notes_then}
 use Rattle.std.proofs.Common.{inl, inr, ◌≡◌, ◌∙◌, ◌+◌, ◌-◌, ◌<◌, max, sym, ap, subst, arith, refl}
 use Rattle.std.specs.Prelude.{Err, IfErr, IsTrue, Ok, OnOk, Result}
 use Rattle.qcow2_metadata.specs.declared.header.HeaderFields.{HeaderFields}
@@ -341,7 +341,7 @@ returns-in_err-mark_fault-clause-once_written g c =
     let long : is_failed c.mark_failure.new.self ≡ is_failed c.args.self.now = subst (λ (r : Result _ _). MayMarkBy r (is_failed c.renew_l1_table-longer.new.self) (is_failed c.mark_failure.new.self)) made (may_mark c.renew_l1_table-longer.new.self c.mark_failure.new.self c.renew_l1_table-longer.result c.mark_failure.ensures.marks)
     ∙ c.renew_l1_table-longer.ensures.stays.failed ∙ c.begin.ensures.stays.failed in
     handed_on (λ r. FailsOnceWritten g.S.Storage.view c.args.self.now c.mark_fault.new.self r) c.from_residual-in_err-mark_fault.result c.in_err-mark_fault.field-0.0 c.from_residual-in_err-mark_fault.ensures
-    (fails_marked g.S.Storage.view c.args.self.now c.begin.new.self c.begin.ensures.begun c.fill_grown-filled.new.self c.mark_fault.new.self c.fill_grown-filled.result (notes_then (notes_then (notes_then (notes_for c.renew_l1_table-longer.ensures.notes) (same_kept c.renew_l1_table-longer.new.self c.mark_failure.new.self (ap (λ (i : Qcow2 _ _). i.file.storage) c.mark_failure.ensures.rest) (ap (λ (i : Qcow2 _ _). i.file.caches) c.mark_failure.ensures.rest))) c.fill_grown-filled.ensures.notes) (same_kept c.fill_grown-filled.new.self c.mark_fault.new.self (ap (λ (f : ImageFile _). f.storage) c.mark_fault.ensures.file) (ap (λ (f : ImageFile _). f.caches) c.mark_fault.ensures.file)))
+    (fails_marked g.S.Storage.view c.args.self.now c.begin.new.self c.begin.ensures.begun c.fill_grown-filled.new.self c.mark_fault.new.self c.fill_grown-filled.result (notes_then (notes_then (notes_then c.renew_l1_table-longer.ensures.notes (same_kept c.renew_l1_table-longer.new.self c.mark_failure.new.self (ap (λ (i : Qcow2 _ _). i.file.storage) c.mark_failure.ensures.rest) (ap (λ (i : Qcow2 _ _). i.file.caches) c.mark_failure.ensures.rest))) c.fill_grown-filled.ensures.notes) (same_kept c.fill_grown-filled.new.self c.mark_fault.new.self (ap (λ (f : ImageFile _). f.storage) c.mark_fault.ensures.file) (ap (λ (f : ImageFile _). f.caches) c.mark_fault.ensures.file)))
     (c.fill_grown-filled.ensures.stays.failed ∙ long) c.mark_fault.ensures.marks (Err c.in_err-mark_fault.field-0.0) (λ memory. sym c.mark_fault.ensures.answer ∙ c.in_err-mark_fault.was ∙ err_as c.in_err-mark_fault.field-0.0 Memory memory))
 
 pub returns-clause-once_written : goal.returns-clause-once_written
@@ -351,7 +351,7 @@ returns-clause-once_written g c =
     ∙ c.renew_l1_table-longer.ensures.stays.failed ∙ c.begin.ensures.stays.failed in
     let put : c.fill_grown-filled.result ≡ Ok c.in_ok-mark_fault.field-0 = sym c.mark_fault.ensures.answer ∙ c.in_ok-mark_fault.was in
     let whole : c.mark_fault.new.self ≡ c.fill_grown-filled.new.self = subst (λ (r : Result _ _). OnOk r (c.mark_fault.new.self ≡ c.fill_grown-filled.new.self)) put c.mark_fault.ensures.same in
-    fails_marked g.S.Storage.view c.args.self.now c.begin.new.self c.begin.ensures.begun c.write_size-written.new.self c.mark_fault-2.new.self c.write_size-written.result (notes_then (notes_then (notes_then (notes_then (notes_then (notes_for c.renew_l1_table-longer.ensures.notes) (same_kept c.renew_l1_table-longer.new.self c.mark_failure.new.self (ap (λ (i : Qcow2 _ _). i.file.storage) c.mark_failure.ensures.rest) (ap (λ (i : Qcow2 _ _). i.file.caches) c.mark_failure.ensures.rest))) c.fill_grown-filled.ensures.notes) (same_kept c.fill_grown-filled.new.self c.mark_fault.new.self (ap (λ (f : ImageFile _). f.storage) c.mark_fault.ensures.file) (ap (λ (f : ImageFile _). f.caches) c.mark_fault.ensures.file))) (notes_for c.write_size-written.ensures.notes)) (same_kept c.write_size-written.new.self c.mark_fault-2.new.self (ap (λ (f : ImageFile _). f.storage) c.mark_fault-2.ensures.file) (ap (λ (f : ImageFile _). f.caches) c.mark_fault-2.ensures.file)))
+    fails_marked g.S.Storage.view c.args.self.now c.begin.new.self c.begin.ensures.begun c.write_size-written.new.self c.mark_fault-2.new.self c.write_size-written.result (notes_then (notes_then (notes_then (notes_then (notes_then c.renew_l1_table-longer.ensures.notes (same_kept c.renew_l1_table-longer.new.self c.mark_failure.new.self (ap (λ (i : Qcow2 _ _). i.file.storage) c.mark_failure.ensures.rest) (ap (λ (i : Qcow2 _ _). i.file.caches) c.mark_failure.ensures.rest))) c.fill_grown-filled.ensures.notes) (same_kept c.fill_grown-filled.new.self c.mark_fault.new.self (ap (λ (f : ImageFile _). f.storage) c.mark_fault.ensures.file) (ap (λ (f : ImageFile _). f.caches) c.mark_fault.ensures.file))) c.write_size-written.ensures.notes) (same_kept c.write_size-written.new.self c.mark_fault-2.new.self (ap (λ (f : ImageFile _). f.storage) c.mark_fault-2.ensures.file) (ap (λ (f : ImageFile _). f.caches) c.mark_fault-2.ensures.file)))
     (ap (λ (i : Qcow2 _ _). i.is_failed) c.write_size-written.ensures.rest ∙ ap (λ (i : Qcow2 _ _). i.is_failed) whole ∙ c.fill_grown-filled.ensures.stays.failed ∙ long) c.mark_fault-2.ensures.marks c.mark_fault-2.result (λ memory. sym c.mark_fault-2.ensures.answer ∙ memory)
 
 pub returns-in_err-mark_failure-clause-header_cluster : goal.returns-in_err-mark_failure-clause-header_cluster

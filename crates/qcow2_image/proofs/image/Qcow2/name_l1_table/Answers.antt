@@ -38,10 +38,10 @@ pub returns-in_err-set_l1_table-clause-notes : goal.returns-in_err-set_l1_table-
 returns-in_err-set_l1_table-clause-notes g c = notes_none
 
 pub returns-in_err-write_l1_table_pointer-clause-notes : goal.returns-in_err-write_l1_table_pointer-clause-notes
-returns-in_err-write_l1_table_pointer-clause-notes g c = notes_of_storage (told_kept c.args.self.now.file.storage c.will_write.new.self c.write_l1_table_pointer.new.self c.write_l1_table_pointer.result c.will_write.ensures.storage c.will_write.ensures.changed c.will_write.ensures.kind _ c.write_l1_table_pointer.ensures.written c.write_l1_table_pointer.ensures.calls c.write_l1_table_pointer.ensures.noted)
+returns-in_err-write_l1_table_pointer-clause-notes g c = notes_of_storage (told_kept c.args.self.now.file.storage c.will_write.new.self c.write_l1_table_pointer.new.self c.write_l1_table_pointer.result c.will_write.ensures.storage c.will_write.ensures.changed _ c.write_l1_table_pointer.ensures.written c.write_l1_table_pointer.ensures.calls c.write_l1_table_pointer.ensures.noted)
 
 pub returns-clause-notes : goal.returns-clause-notes
-returns-clause-notes g c = notes_of_storage (told_kept c.args.self.now.file.storage c.will_write.new.self c.write_l1_table_pointer.new.self c.write_l1_table_pointer.result c.will_write.ensures.storage c.will_write.ensures.changed c.will_write.ensures.kind _ c.write_l1_table_pointer.ensures.written c.write_l1_table_pointer.ensures.calls c.write_l1_table_pointer.ensures.noted)
+returns-clause-notes g c = notes_of_storage (told_kept c.args.self.now.file.storage c.will_write.new.self c.write_l1_table_pointer.new.self c.write_l1_table_pointer.result c.will_write.ensures.storage c.will_write.ensures.changed _ c.write_l1_table_pointer.ensures.written c.write_l1_table_pointer.ensures.calls c.write_l1_table_pointer.ensures.noted)
 
 pub returns-in_err-set_l1_table-clause-header_cluster : goal.returns-in_err-set_l1_table-clause-header_cluster
 returns-in_err-set_l1_table-clause-header_cluster g c = λ keeps. behind_bits (ap (λ (v : HeaderView). v.fields.cluster_bits) c.in_err-set_l1_table.ensures.same)

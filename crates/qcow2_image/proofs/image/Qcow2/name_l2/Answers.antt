@@ -32,10 +32,10 @@ returns-clause-names g c = λ p out table sound may noted says whole ready.
     c.write_l1_entry.ensures.written c.write_l1_entry.ensures.calls c.in_ok-write_l1_entry.field-0 c.in_ok-write_l1_entry.was
 
 pub returns-in_err-write_l1_entry-clause-notes : goal.returns-in_err-write_l1_entry-clause-notes
-returns-in_err-write_l1_entry-clause-notes g c = notes_of_storage (placed_kept c.args.self.now.file.storage c.will_write.new.self c.write_l1_entry.new.self c.write_l1_entry.result c.will_write.ensures.storage c.will_write.ensures.changed c.will_write.ensures.kind c.enter_l2_table.new.self.cluster _ (subst (λ (x : EntryTableView). IsSome x.cluster) (sym c.enter_l2_table.ensures.rest) c.requires.placed) c.write_l1_entry.ensures.written c.write_l1_entry.ensures.calls c.write_l1_entry.ensures.noted)
+returns-in_err-write_l1_entry-clause-notes g c = notes_of_storage (placed_kept c.args.self.now.file.storage c.will_write.new.self c.write_l1_entry.new.self c.write_l1_entry.result c.will_write.ensures.storage c.will_write.ensures.changed c.enter_l2_table.new.self.cluster _ (subst (λ (x : EntryTableView). IsSome x.cluster) (sym c.enter_l2_table.ensures.rest) c.requires.placed) c.write_l1_entry.ensures.written c.write_l1_entry.ensures.calls c.write_l1_entry.ensures.noted)
 
 pub returns-clause-notes : goal.returns-clause-notes
-returns-clause-notes g c = notes_of_storage (placed_kept c.args.self.now.file.storage c.will_write.new.self c.write_l1_entry.new.self c.write_l1_entry.result c.will_write.ensures.storage c.will_write.ensures.changed c.will_write.ensures.kind c.enter_l2_table.new.self.cluster _ (subst (λ (x : EntryTableView). IsSome x.cluster) (sym c.enter_l2_table.ensures.rest) c.requires.placed) c.write_l1_entry.ensures.written c.write_l1_entry.ensures.calls c.write_l1_entry.ensures.noted)
+returns-clause-notes g c = notes_of_storage (placed_kept c.args.self.now.file.storage c.will_write.new.self c.write_l1_entry.new.self c.write_l1_entry.result c.will_write.ensures.storage c.will_write.ensures.changed c.enter_l2_table.new.self.cluster _ (subst (λ (x : EntryTableView). IsSome x.cluster) (sym c.enter_l2_table.ensures.rest) c.requires.placed) c.write_l1_entry.ensures.written c.write_l1_entry.ensures.calls c.write_l1_entry.ensures.noted)
 
 pub returns-in_err-write_l1_entry-clause-header_cluster : goal.returns-in_err-write_l1_entry-clause-header_cluster
 returns-in_err-write_l1_entry-clause-header_cluster g c =

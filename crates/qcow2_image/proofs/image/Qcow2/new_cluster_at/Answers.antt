@@ -13,7 +13,7 @@ use Rattle.qcow2_image.specs.ImageInvariant.{run_of, new_data_by, over_all}
 use Rattle.qcow2_image.proofs.Prepare.Gaining.{listed_after_on, image_step_left, taken_new_data, taken_unused, still_holds, filled_as}
 use Rattle.qcow2_image.proofs.Prepare.Filling.{image_step_then}
 use Rattle.qcow2_image.proofs.Prepare.Listing.{lists_still}
-use Rattle.qcow2_alloc.proofs.KeptMarks.{notes_for, notes_then}
+use Rattle.qcow2_alloc.proofs.KeptMarks.{notes_then}
 use Rattle.qcow2_image.proofs.Call.Notes.{same_kept}
 use Rattle.qcow2_image.proofs.Call.BehindHeader.{behind_by, behind_none, behind_then}
 use Rattle.qcow2_image.proofs.Prepare.InUse.{used_stays}
@@ -81,13 +81,13 @@ pub returns-in-Ok-clause-former : goal.returns-in-Ok-clause-former
 returns-in-Ok-clause-former g c = lists_still c.args.self.now c.take_data_at.new.self c.fill_cluster.new.self c.take_data_at.ensures.former (record { allocator = c.fill_cluster.ensures.allocator; list = c.fill_cluster.ensures.list })
 
 pub returns-in_default-clause-notes : goal.returns-in_default-clause-notes
-returns-in_default-clause-notes g c = notes_for c.take_data_at.ensures.notes
+returns-in_default-clause-notes g c = c.take_data_at.ensures.notes
 
 pub returns-in-Ok-clause-notes : goal.returns-in-Ok-clause-notes
-returns-in-Ok-clause-notes g c = notes_then (notes_for c.take_data_at.ensures.notes) c.fill_cluster.ensures.notes
+returns-in-Ok-clause-notes g c = notes_then c.take_data_at.ensures.notes c.fill_cluster.ensures.notes
 
 pub returns-in-Err-clause-notes : goal.returns-in-Err-clause-notes
-returns-in-Err-clause-notes g c = notes_then (notes_then (notes_for c.take_data_at.ensures.notes) c.fill_cluster.ensures.notes) (same_kept c.fill_cluster.new.self c.hand_back.new.self (ap (λ (i : Qcow2 _ _). i.file.storage) c.hand_back.ensures) (ap (λ (i : Qcow2 _ _). i.file.caches) c.hand_back.ensures))
+returns-in-Err-clause-notes g c = notes_then (notes_then c.take_data_at.ensures.notes c.fill_cluster.ensures.notes) (same_kept c.fill_cluster.new.self c.hand_back.new.self (ap (λ (i : Qcow2 _ _). i.file.storage) c.hand_back.ensures) (ap (λ (i : Qcow2 _ _). i.file.caches) c.hand_back.ensures))
 
 pub returns-in_default-clause-header_cluster : goal.returns-in_default-clause-header_cluster
 returns-in_default-clause-header_cluster g c = c.take_data_at.ensures.header_cluster

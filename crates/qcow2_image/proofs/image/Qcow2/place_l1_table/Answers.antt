@@ -76,10 +76,10 @@ pub returns-in_err-flush_rb-clause-notes : goal.returns-in_err-flush_rb-clause-n
 returns-in_err-flush_rb-clause-notes g c = (notes_of_both c.flush_rb.ensures.marks c.flush_rb.ensures.notes)
 
 pub returns-in_err-write_l1_table-clause-notes : goal.returns-in_err-write_l1_table-clause-notes
-returns-in_err-write_l1_table-clause-notes g c = notes_then (notes_of_both c.flush_rb.ensures.marks c.flush_rb.ensures.notes) (notes_of_storage (placed_kept c.flush_rb.new.storage c.will_write.new.self c.write_l1_table.new.self c.write_l1_table.result c.will_write.ensures.storage c.will_write.ensures.changed c.will_write.ensures.kind c.set_cluster.new.self.cluster _ (subst (λ (x : EntryTableView). IsSome x.cluster) (sym c.set_cluster.ensures) refl) c.write_l1_table.ensures.written c.write_l1_table.ensures.calls c.write_l1_table.ensures.noted))
+returns-in_err-write_l1_table-clause-notes g c = notes_then (notes_of_both c.flush_rb.ensures.marks c.flush_rb.ensures.notes) (notes_of_storage (placed_kept c.flush_rb.new.storage c.will_write.new.self c.write_l1_table.new.self c.write_l1_table.result c.will_write.ensures.storage c.will_write.ensures.changed c.set_cluster.new.self.cluster _ (subst (λ (x : EntryTableView). IsSome x.cluster) (sym c.set_cluster.ensures) refl) c.write_l1_table.ensures.written c.write_l1_table.ensures.calls c.write_l1_table.ensures.noted))
 
 pub returns-clause-notes : goal.returns-clause-notes
-returns-clause-notes g c = notes_then (notes_of_both c.flush_rb.ensures.marks c.flush_rb.ensures.notes) (notes_of_storage (placed_kept c.flush_rb.new.storage c.will_write.new.self c.write_l1_table.new.self c.write_l1_table.result c.will_write.ensures.storage c.will_write.ensures.changed c.will_write.ensures.kind c.set_cluster.new.self.cluster _ (subst (λ (x : EntryTableView). IsSome x.cluster) (sym c.set_cluster.ensures) refl) c.write_l1_table.ensures.written c.write_l1_table.ensures.calls c.write_l1_table.ensures.noted))
+returns-clause-notes g c = notes_then (notes_of_both c.flush_rb.ensures.marks c.flush_rb.ensures.notes) (notes_of_storage (placed_kept c.flush_rb.new.storage c.will_write.new.self c.write_l1_table.new.self c.write_l1_table.result c.will_write.ensures.storage c.will_write.ensures.changed c.set_cluster.new.self.cluster _ (subst (λ (x : EntryTableView). IsSome x.cluster) (sym c.set_cluster.ensures) refl) c.write_l1_table.ensures.written c.write_l1_table.ensures.calls c.write_l1_table.ensures.noted))
 
 pub returns-then-not-is_nameable-clause-header_cluster : goal.returns-then-not-is_nameable-clause-header_cluster
 returns-then-not-is_nameable-clause-header_cluster g c = λ as_wide some. behind_none

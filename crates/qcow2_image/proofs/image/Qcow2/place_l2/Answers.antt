@@ -66,10 +66,10 @@ pub returns-then-not-is_nameable-clause-notes : goal.returns-then-not-is_nameabl
 returns-then-not-is_nameable-clause-notes g c = notes_none
 
 pub returns-in_err-write_new_l2_table-clause-notes : goal.returns-in_err-write_new_l2_table-clause-notes
-returns-in_err-write_new_l2_table-clause-notes g c = notes_of_storage (placed_kept c.args.self.now.file.storage c.will_write.new.self c.write_new_l2_table.new.self c.write_new_l2_table.result c.will_write.ensures.storage c.will_write.ensures.changed c.will_write.ensures.kind c.set_cluster.new.self.cluster _ (subst (λ (x : L2TableView). IsSome x.cluster) (sym c.set_cluster.ensures) refl) c.write_new_l2_table.ensures.written c.write_new_l2_table.ensures.calls c.write_new_l2_table.ensures.noted)
+returns-in_err-write_new_l2_table-clause-notes g c = notes_of_storage (placed_kept c.args.self.now.file.storage c.will_write.new.self c.write_new_l2_table.new.self c.write_new_l2_table.result c.will_write.ensures.storage c.will_write.ensures.changed c.set_cluster.new.self.cluster _ (subst (λ (x : L2TableView). IsSome x.cluster) (sym c.set_cluster.ensures) refl) c.write_new_l2_table.ensures.written c.write_new_l2_table.ensures.calls c.write_new_l2_table.ensures.noted)
 
 pub returns-clause-notes : goal.returns-clause-notes
-returns-clause-notes g c = notes_then (notes_of_storage (placed_kept c.args.self.now.file.storage c.will_write.new.self c.write_new_l2_table.new.self c.write_new_l2_table.result c.will_write.ensures.storage c.will_write.ensures.changed c.will_write.ensures.kind c.set_cluster.new.self.cluster _ (subst (λ (x : L2TableView). IsSome x.cluster) (sym c.set_cluster.ensures) refl) c.write_new_l2_table.ensures.written c.write_new_l2_table.ensures.calls c.write_new_l2_table.ensures.noted)) (notes_of_both c.l2_insert.ensures.marks c.l2_insert.ensures.notes)
+returns-clause-notes g c = notes_then (notes_of_storage (placed_kept c.args.self.now.file.storage c.will_write.new.self c.write_new_l2_table.new.self c.write_new_l2_table.result c.will_write.ensures.storage c.will_write.ensures.changed c.set_cluster.new.self.cluster _ (subst (λ (x : L2TableView). IsSome x.cluster) (sym c.set_cluster.ensures) refl) c.write_new_l2_table.ensures.written c.write_new_l2_table.ensures.calls c.write_new_l2_table.ensures.noted)) (notes_of_both c.l2_insert.ensures.marks c.l2_insert.ensures.notes)
 
 pub returns-then-not-is_nameable-clause-header_cluster : goal.returns-then-not-is_nameable-clause-header_cluster
 returns-then-not-is_nameable-clause-header_cluster g c = λ some. behind_none

@@ -4,7 +4,7 @@ use Rattle.std.specs.Prelude.{IsTrue}
 use Rattle.qcow2_alloc.specs.ImageError.{IsFault}
 use Rattle.qcow2_image.proofs.Call.Refused.{back_then_freed}
 use Rattle.qcow2_image.proofs.Call.FaultCounts.{counted_as, counted_of, untouched}
-use Rattle.qcow2_alloc.proofs.KeptMarks.{notes_then, notes_for}
+use Rattle.qcow2_alloc.proofs.KeptMarks.{notes_then}
 use Rattle.qcow2_image.proofs.Call.BehindHeader.{behind_then}
 use Rattle.qcow2_image.proofs.Prepare.Lacked.{emptied_by_limit, limited_frees}
 use Rattle.qcow2_image.proofs.Prepare.LackedBehind.{range_freed}
@@ -47,7 +47,7 @@ pub returns-in-Ok-clause-notes : goal.returns-in-Ok-clause-notes
 returns-in-Ok-clause-notes g c = c.in-Ok.ensures.notes
 
 pub returns-in-Err-clause-notes : goal.returns-in-Err-clause-notes
-returns-in-Err-clause-notes g c = notes_then c.in-Err.ensures.notes (notes_for c.free_after.ensures.notes)
+returns-in-Err-clause-notes g c = notes_then c.in-Err.ensures.notes c.free_after.ensures.notes
 
 pub returns-in-Ok-clause-header_cluster : goal.returns-in-Ok-clause-header_cluster
 returns-in-Ok-clause-header_cluster g c = c.prepare_range.ensures.header_cluster

@@ -15,7 +15,7 @@ use Rattle.qcow2_image.proofs.Free.{free_places}
 use Rattle.qcow2_image.proofs.Prepare.Onward.{release_prepared_broken, refused_free}
 use Rattle.qcow2_image.proofs.Call.FaultCounts.{counted_as, counted_still}
 use Rattle.qcow2_image.proofs.Prepare.Listing.{lists_then}
-use Rattle.qcow2_alloc.proofs.KeptMarks.{notes_then, notes_for}
+use Rattle.qcow2_alloc.proofs.KeptMarks.{notes_then}
 use Rattle.qcow2_image.proofs.Call.BehindHeader.{behind_then}
 use Rattle.qcow2_image.proofs.Prepare.InUse.{first_of}
 use Rattle.qcow2_image.proofs.Prepare.Lacked.{hands_limit}
@@ -39,9 +39,6 @@ use Rattle.qcow2_image.specs.Backings.{HasPrepared}
 use Rattle.qcow2_image.proofs.Prepare.Met.{hands_met}
 use Rattle.qcow2_image.proofs.Prepare.MetTaking.{taking_as}
 use Rattle.qcow2_alloc.specs.CachePins.{l2_pins}
-use Rattle.qcow2_alloc.specs.KeptMarks.{KeepsFileNotes}
-use Rattle.qcow2_image.specs.Noted.{DataUnlessExisting}
-use Rattle.qcow2_image.proofs.Call.ToldData.{notes_if, some_under}
 
 pub returns-in_err-prepared-clause-readies : goal.returns-in_err-prepared-clause-readies
 returns-in_err-prepared-clause-readies g c = λ out sound holds.
@@ -140,16 +137,13 @@ pub returns-in-Ok-clause-former : goal.returns-in-Ok-clause-former
 returns-in-Ok-clause-former g c = lists_then c.args.self.now c.prepare_first.new.self c.prepare_rest.new.self c.in_ok-prepared.ensures.former c.in-Ok.ensures.former
 
 pub returns-in_err-prepared-clause-notes : goal.returns-in_err-prepared-clause-notes
-returns-in_err-prepared-clause-notes g c =
-    handed_on (λ r. KeepsFileNotes g.S.Storage.view (DataUnlessExisting r) c.args.self.now.file c.prepare_first.new.self.file) c.from_residual.result c.in_err-prepared.field-0.0 c.from_residual.ensures c.prepare_first.ensures.notes
+returns-in_err-prepared-clause-notes g c = c.prepare_first.ensures.notes
 
 pub returns-in-Ok-clause-notes : goal.returns-in-Ok-clause-notes
-returns-in-Ok-clause-notes g c =
-    let under = c.prepare_rest.ensures.longer.under ∙ c.in_ok-prepared.ensures.first.under in
-    notes_if (λ _. some_under c.prepare_rest.new.prepared under) (notes_then c.prepare_first.ensures.notes c.prepare_rest.ensures.notes)
+returns-in-Ok-clause-notes g c = notes_then c.prepare_first.ensures.notes c.prepare_rest.ensures.notes
 
 pub returns-in-Err-clause-notes : goal.returns-in-Err-clause-notes
-returns-in-Err-clause-notes g c = notes_then (notes_then c.prepare_first.ensures.notes c.prepare_rest.ensures.notes) (notes_for c.release_prepared.ensures.notes)
+returns-in-Err-clause-notes g c = notes_then (notes_then c.prepare_first.ensures.notes c.prepare_rest.ensures.notes) c.release_prepared.ensures.notes
 
 pub returns-in_err-prepared-clause-header_cluster : goal.returns-in_err-prepared-clause-header_cluster
 returns-in_err-prepared-clause-header_cluster g c = c.prepare_first.ensures.header_cluster

@@ -18,7 +18,7 @@ use Rattle.qcow2_image.proofs.Prepare.Filling.{image_step_kept, image_step_then}
 use Rattle.qcow2_image.proofs.Prepare.Owning.{refused as any_refusal}
 use Rattle.qcow2_image.proofs.Prepare.ReadyingNew.{back_none, readied_new}
 use Rattle.qcow2_image.proofs.Prepare.Listing.{lists_still}
-use Rattle.qcow2_alloc.proofs.KeptMarks.{notes_none, notes_then, notes_for}
+use Rattle.qcow2_alloc.proofs.KeptMarks.{notes_none, notes_then}
 use Rattle.qcow2_image.proofs.Call.Notes.{same_kept, pins_kept}
 use Rattle.qcow2_image.proofs.Call.BehindHeader.{behind_by, behind_none, behind_tables, behind_then, behind_zero}
 use Rattle.std.proofs.lemmas.Nat.{div-mul-add, mod_below, pow_pos}
@@ -122,10 +122,10 @@ pub returns-in_err-pending-clause-notes : goal.returns-in_err-pending-clause-not
 returns-in_err-pending-clause-notes g c = c.new_cluster.ensures.notes
 
 pub returns-in-Ok-clause-notes : goal.returns-in-Ok-clause-notes
-returns-in-Ok-clause-notes g c = notes_then (notes_then c.new_cluster.ensures.notes (notes_for c.load_l2.ensures.notes)) (pins_kept c.load_l2.new.self c.prepare_at.new.self (ap (λ (i : Qcow2 _ _). i.file.storage) c.prepare_at.ensures.pins.rest) c.prepare_at.ensures.pins.changed c.prepare_at.ensures.pins.counted)
+returns-in-Ok-clause-notes g c = notes_then (notes_then c.new_cluster.ensures.notes c.load_l2.ensures.notes) (pins_kept c.load_l2.new.self c.prepare_at.new.self (ap (λ (i : Qcow2 _ _). i.file.storage) c.prepare_at.ensures.pins.rest) c.prepare_at.ensures.pins.changed c.prepare_at.ensures.pins.counted)
 
 pub returns-in-Err-clause-notes : goal.returns-in-Err-clause-notes
-returns-in-Err-clause-notes g c = notes_then (notes_then c.new_cluster.ensures.notes (notes_for c.load_l2.ensures.notes)) (same_kept c.load_l2.new.self c.hand_back-in-Err.new.self (ap (λ (i : Qcow2 _ _). i.file.storage) c.hand_back-in-Err.ensures) (ap (λ (i : Qcow2 _ _). i.file.caches) c.hand_back-in-Err.ensures))
+returns-in-Err-clause-notes g c = notes_then (notes_then c.new_cluster.ensures.notes c.load_l2.ensures.notes) (same_kept c.load_l2.new.self c.hand_back-in-Err.new.self (ap (λ (i : Qcow2 _ _). i.file.storage) c.hand_back-in-Err.ensures) (ap (λ (i : Qcow2 _ _). i.file.caches) c.hand_back-in-Err.ensures))
 
 pub returns-in_err-old_data-clause-header_cluster : goal.returns-in_err-old_data-clause-header_cluster
 returns-in_err-old_data-clause-header_cluster g c = λ some. behind_none

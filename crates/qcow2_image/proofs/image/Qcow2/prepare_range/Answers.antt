@@ -14,7 +14,7 @@ use Rattle.qcow2_image.proofs.Call.Refused.{prepares_after, readied_after}
 use Rattle.qcow2_image.proofs.Prepare.Taken.{if_err, taken_by}
 use Rattle.qcow2_image.proofs.Prepare.Listing.{lists_since}
 use Rattle.std.specs.Prelude.{IsSome, IfSome}
-use Rattle.qcow2_alloc.proofs.KeptMarks.{notes_then, notes_for}
+use Rattle.qcow2_alloc.proofs.KeptMarks.{notes_then}
 use Rattle.qcow2_image.proofs.Call.BehindHeader.{behind_then}
 use Rattle.qcow2_image.proofs.Prepare.Pinned.{found_pins, met_untaken, prepared_unpinned, unpinned_refused}
 use Rattle.qcow2_image.proofs.Prepare.Lacked.{hands_limit, limits_as, other_limit}
@@ -29,8 +29,6 @@ use Rattle.qcow2_image.proofs.Prepare.Unannounced.{compressed_as}
 use Rattle.qcow2_image.specs.Backings.{HasPrepared}
 use Rattle.qcow2_image.proofs.Prepare.Met.{hands_met}
 use Rattle.qcow2_image.proofs.Prepare.MetTaking.{if_err_both, taking_as, taking_kept}
-use Rattle.qcow2_alloc.specs.KeptMarks.{KeepsFileNotes}
-use Rattle.qcow2_image.specs.Noted.{DataUnlessExisting}
 
 pub returns-in_err-table-clause-readies : goal.returns-in_err-table-clause-readies
 returns-in_err-table-clause-readies g c = λ some out sound.
@@ -126,18 +124,16 @@ returns-in-None-clause-tables g c = λ out sound.
     }) c.prepare_in.ensures.former
 
 pub returns-in_err-table-clause-notes : goal.returns-in_err-table-clause-notes
-returns-in_err-table-clause-notes g c =
-    handed_on (λ r. KeepsFileNotes g.S.Storage.view (DataUnlessExisting r) c.args.self.now.file c.table_for.new.self.file) c.from_residual.result c.in_err-table.field-0.0 c.from_residual.ensures (notes_for c.table_for.ensures.notes)
+returns-in_err-table-clause-notes g c = c.table_for.ensures.notes
 
 pub returns-in_err-host-clause-notes : goal.returns-in_err-host-clause-notes
-returns-in_err-host-clause-notes g c =
-    handed_on (λ r. KeepsFileNotes g.S.Storage.view (DataUnlessExisting r) c.args.self.now.file c.table_for.new.self.file) c.from_residual-in_err-host.result c.in_err-host.field-0.0 c.from_residual-in_err-host.ensures (notes_for c.table_for.ensures.notes)
+returns-in_err-host-clause-notes g c = c.table_for.ensures.notes
 
 pub returns-in-Some-clause-notes : goal.returns-in-Some-clause-notes
-returns-in-Some-clause-notes g c = notes_for c.table_for.ensures.notes
+returns-in-Some-clause-notes g c = c.table_for.ensures.notes
 
 pub returns-in-None-clause-notes : goal.returns-in-None-clause-notes
-returns-in-None-clause-notes g c = notes_then (notes_for c.table_for.ensures.notes) c.prepare_in.ensures.notes
+returns-in-None-clause-notes g c = notes_then c.table_for.ensures.notes c.prepare_in.ensures.notes
 
 pub returns-in_err-table-clause-header_cluster : goal.returns-in_err-table-clause-header_cluster
 returns-in_err-table-clause-header_cluster g c = c.table_for.ensures.header_cluster

@@ -5,7 +5,6 @@ use Rattle.qcow2_image.specs.CallParts.{IsReadied}
 use Rattle.qcow2_image.specs.declared.image.Qcow2.{Qcow2}
 use Rattle.qcow2_image.specs.declared.prepared.Prepared.{Prepared}
 use Rattle.qcow2_alloc.specs.KeptMarks.{KeepsFileNotes}
-use Rattle.qcow2_alloc.specs.KeptNotes.{AlsoData}
 use Rattle.qcow2_image.specs.BehindHeader.{StaysBehindHeader}
 use Rattle.qcow2_image.specs.Faults.{SameFaults}
 use Rattle.qcow2_image.specs.ListedClusters.{ListsFormer}
@@ -19,7 +18,7 @@ invariant-loop-prepared g l = record {
   faults : SameFaults g.S.Storage.view g.F.BackingDisk.backing l.fn.self l.self;
   former : ListsFormer l.fn.self l.self;
   uses : (start : Qcow2 _ _) (out : List (Option Prepared)) (k : ℕ) → slice_get out k ≡ Some None → l.fn.prepared.table ≡ Some l.table → IsReadied g.S.Storage.view g.F.BackingDisk.backing start l.fn.self out k l.fn.prepared.guest l.length l.overwrite l.fn.prepared → StaysUsed g.S.Storage.view l.fn.self.file l.self.file;
-  notes : KeepsFileNotes g.S.Storage.view AlsoData l.fn.self.file l.self.file;
+  notes : KeepsFileNotes g.S.Storage.view l.fn.self.file l.self.file;
   behind : StaysBehindHeader g.S.Storage.view l.fn.self l.self;
 }
 

@@ -1,5 +1,5 @@
 use Rattle.std.proofs.Common.{ap, replicate}
-use Rattle.qcow2_alloc.proofs.KeptMarks.{notes_none, notes_of_storage, any_told_kept}
+use Rattle.qcow2_alloc.proofs.KeptMarks.{notes_none, notes_of_storage, told_kept}
 use Rattle.qcow2_image.proofs.Call.BehindHeader.{behind_guard, behind_none, behind_wrote}
 use Rattle.qcow2_alloc.specs.ImageError.{of_storage}
 use Rattle.qcow2_image.proofs.Call.Unlimited.{storage_fault, storage_unlimited}
@@ -13,10 +13,10 @@ pub returns-then-host-cluster_size-clause-notes : goal.returns-then-host-cluster
 returns-then-host-cluster_size-clause-notes g c = notes_none
 
 pub returns-in_err-write-clause-notes : goal.returns-in_err-write-clause-notes
-returns-in_err-write-clause-notes g c = notes_of_storage (any_told_kept c.args.self.now.file.storage c.will_write.new.self c.write.new.storage c.write.result c.will_write.ensures.storage c.will_write.ensures.changed _ c.write.ensures.written c.write.ensures.calls c.write.ensures.noted)
+returns-in_err-write-clause-notes g c = notes_of_storage (told_kept c.args.self.now.file.storage c.will_write.new.self c.write.new.storage c.write.result c.will_write.ensures.storage c.will_write.ensures.changed _ c.write.ensures.written c.write.ensures.calls c.write.ensures.noted)
 
 pub returns-clause-notes : goal.returns-clause-notes
-returns-clause-notes g c = notes_of_storage (any_told_kept c.args.self.now.file.storage c.will_write.new.self c.write.new.storage c.write.result c.will_write.ensures.storage c.will_write.ensures.changed _ c.write.ensures.written c.write.ensures.calls c.write.ensures.noted)
+returns-clause-notes g c = notes_of_storage (told_kept c.args.self.now.file.storage c.will_write.new.self c.write.new.storage c.write.result c.will_write.ensures.storage c.will_write.ensures.changed _ c.write.ensures.written c.write.ensures.calls c.write.ensures.noted)
 
 pub returns-then-host-cluster_size-clause-header_cluster : goal.returns-then-host-cluster_size-clause-header_cluster
 returns-then-host-cluster_size-clause-header_cluster g c = behind_none

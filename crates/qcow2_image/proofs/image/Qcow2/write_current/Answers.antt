@@ -13,7 +13,7 @@ use Rattle.qcow2_image.specs.CallParts.{PutsPart, IsWriteOutcome}
 use Rattle.qcow2_image.specs.ImageInvariant.{pending_in}
 use Rattle.qcow2_image.proofs.Write.PutParts.{mapped_in_place, puts_nothing, puts_refused, puts_then, puts_written}
 use Rattle.qcow2_image.proofs.Call.Called.{Quietly, quiet_sound}
-use Rattle.qcow2_alloc.proofs.KeptMarks.{notes_then, notes_for}
+use Rattle.qcow2_alloc.proofs.KeptMarks.{notes_then}
 use Rattle.qcow2_image.proofs.Call.BehindHeader.{behind_then}
 use Rattle.qcow2_image.proofs.Map.Held.{heeds_then, held_as, keeps_storage}
 use Rattle.qcow2_image.specs.HeldMappings.{HeedsHeld, IsHeldAs}
@@ -75,7 +75,7 @@ pub returns-in_default-clause-puts : goal.returns-in_default-clause-puts
 returns-in_default-clause-puts g c = λ some fits out k placed sound. puts_nothing g.S.Storage.view g.F.BackingDisk.backing out k c.args.prepared.now c.args.at c.args.bytes.now placed c.args.self.now Overflow sound
 
 pub returns-clause-notes : goal.returns-clause-notes
-returns-clause-notes g c = notes_then (notes_for c.check_in_place.ensures.notes) c.write_data.ensures.notes
+returns-clause-notes g c = notes_then c.check_in_place.ensures.notes c.write_data.ensures.notes
 
 pub returns-clause-mapped : goal.returns-clause-mapped
 returns-clause-mapped g c = λ none p out sound.

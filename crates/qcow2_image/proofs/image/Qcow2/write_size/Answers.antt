@@ -54,10 +54,10 @@ returns-in-Err-clause-resizes g c = λ p sound.
     resizes_refused view g.F.BackingDisk.backing p old sound c.args.size c.ranges.size.fits after c.write_size.result asked c.will_write.ensures.storage wrote c.write_size.ensures.calls _ c.in-Err.refusal refl
 
 pub returns-in-Ok-clause-notes : goal.returns-in-Ok-clause-notes
-returns-in-Ok-clause-notes g c = notes_of_storage (told_kept c.args.self.now.file.storage c.will_write.new.self c.write_size.new.self c.write_size.result c.will_write.ensures.storage c.will_write.ensures.changed c.will_write.ensures.kind _ c.write_size.ensures.written c.write_size.ensures.calls c.write_size.ensures.noted)
+returns-in-Ok-clause-notes g c = notes_of_storage (told_kept c.args.self.now.file.storage c.will_write.new.self c.write_size.new.self c.write_size.result c.will_write.ensures.storage c.will_write.ensures.changed _ c.write_size.ensures.written c.write_size.ensures.calls c.write_size.ensures.noted)
 
 pub returns-in-Err-clause-notes : goal.returns-in-Err-clause-notes
-returns-in-Err-clause-notes g c = notes_of_storage (told_kept c.args.self.now.file.storage c.will_write.new.self c.write_size.new.self c.write_size.result c.will_write.ensures.storage c.will_write.ensures.changed c.will_write.ensures.kind _ c.write_size.ensures.written c.write_size.ensures.calls c.write_size.ensures.noted)
+returns-in-Err-clause-notes g c = notes_of_storage (told_kept c.args.self.now.file.storage c.will_write.new.self c.write_size.new.self c.write_size.result c.will_write.ensures.storage c.will_write.ensures.changed _ c.write_size.ensures.written c.write_size.ensures.calls c.write_size.ensures.noted)
 
 pub returns-in-Ok-clause-header_cluster : goal.returns-in-Ok-clause-header_cluster
 returns-in-Ok-clause-header_cluster g c = behind_then (behind_size c.write_size.result c.set_size.new.self.fields (ap g.S.Storage.view c.will_write.ensures.storage) c.write_size.ensures.written c.write_size.ensures.calls) (behind_bits (ap (λ (v : HeaderView). v.fields.cluster_bits) c.set_size.ensures))

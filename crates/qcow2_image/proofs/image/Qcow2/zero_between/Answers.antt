@@ -1,5 +1,5 @@
 use Rattle.qcow2_image.proofs.image.Qcow2.zero_between.Goals as goal
-use Rattle.qcow2_alloc.proofs.KeptMarks.{notes_then, notes_for}
+use Rattle.qcow2_alloc.proofs.KeptMarks.{notes_then}
 use Rattle.std.proofs.Common.{◌≤◌, subst, sym, arith}
 use Rattle.qcow2_alloc.proofs.AllocationSteps.{handed_on}
 use Rattle.qcow2_image.specs.ImageInvariant.{abstract_of}
@@ -69,13 +69,13 @@ pub returns-clause-header_cluster : goal.returns-clause-header_cluster
 returns-clause-header_cluster g c = behind_then (behind_then c.zero_first.ensures.header_cluster c.fill_range.ensures.header_cluster) c.zero_range.ensures.header_cluster
 
 pub returns-in_err-next-clause-notes : goal.returns-in_err-next-clause-notes
-returns-in_err-next-clause-notes g c = notes_for c.zero_first.ensures.notes
+returns-in_err-next-clause-notes g c = c.zero_first.ensures.notes
 
 pub returns-in_err-fill_range-clause-notes : goal.returns-in_err-fill_range-clause-notes
-returns-in_err-fill_range-clause-notes g c = notes_then (notes_for c.zero_first.ensures.notes) c.fill_range.ensures.notes
+returns-in_err-fill_range-clause-notes g c = notes_then c.zero_first.ensures.notes c.fill_range.ensures.notes
 
 pub returns-clause-notes : goal.returns-clause-notes
-returns-clause-notes g c = notes_then (notes_then (notes_for c.zero_first.ensures.notes) c.fill_range.ensures.notes) (notes_for c.zero_range.ensures.notes)
+returns-clause-notes g c = notes_then (notes_then c.zero_first.ensures.notes c.fill_range.ensures.notes) c.zero_range.ensures.notes
 
 pub returns-in_err-next-clause-met : goal.returns-in_err-next-clause-met
 returns-in_err-next-clause-met g c = λ out sound low high whole version near.

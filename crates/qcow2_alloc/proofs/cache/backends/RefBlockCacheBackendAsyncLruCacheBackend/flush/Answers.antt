@@ -21,13 +21,13 @@ returns-in-Err-clause-err g c =
 pub returns-in-Err-clause-keeps : goal.returns-in-Err-clause-keeps
 returns-in-Err-clause-keeps g c =
     let modified : c.args.value.now.is_modified ≡ true = sym c.is_modified.ensures.value ∙ c.if-not-is_modified.false in (
-      kept_told c.args.store.now c.will_write.new.self c.write_refblock.new.self c.will_write.ensures.storage c.will_write.ensures.changed (write_kept _ _ c.write_refblock.result _ (c.write_refblock.ensures.written modified) c.write_refblock.ensures.calls (c.write_refblock.ensures.noted modified) (λ is. let both = sym c.will_write.ensures.kind ∙ is in cc)),
+      kept_told c.args.store.now c.will_write.new.self c.write_refblock.new.self c.will_write.ensures.storage c.will_write.ensures.changed (write_kept _ _ c.write_refblock.result _ (c.write_refblock.ensures.written modified) c.write_refblock.ensures.calls (c.write_refblock.ensures.noted modified)),
       met_written c.args.store.now c.will_write.new.self c.write_refblock.new.self c.write_refblock.result c.will_write.ensures.storage c.will_write.ensures.faults c.write_refblock.ensures.calls.cause (c.write_refblock.ensures.faults modified),
     )
 
 pub returns-in-Ok-clause-keeps : goal.returns-in-Ok-clause-keeps
 returns-in-Ok-clause-keeps g c =
     let modified : c.args.value.now.is_modified ≡ true = sym c.is_modified.ensures.value ∙ c.if-not-is_modified.false in (
-      kept_told c.args.store.now c.will_write.new.self c.write_refblock.new.self c.will_write.ensures.storage c.will_write.ensures.changed (write_kept _ _ c.write_refblock.result _ (c.write_refblock.ensures.written modified) c.write_refblock.ensures.calls (c.write_refblock.ensures.noted modified) (λ is. let both = sym c.will_write.ensures.kind ∙ is in cc)),
+      kept_told c.args.store.now c.will_write.new.self c.write_refblock.new.self c.will_write.ensures.storage c.will_write.ensures.changed (write_kept _ _ c.write_refblock.result _ (c.write_refblock.ensures.written modified) c.write_refblock.ensures.calls (c.write_refblock.ensures.noted modified)),
       met_written c.args.store.now c.will_write.new.self c.write_refblock.new.self c.write_refblock.result c.will_write.ensures.storage c.will_write.ensures.faults c.write_refblock.ensures.calls.cause (c.write_refblock.ensures.faults modified),
     )
