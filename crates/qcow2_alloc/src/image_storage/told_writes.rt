@@ -27,8 +27,8 @@ impl<S: Storage> ImageStorage<S> {
         ensures calls { Calls (S.view (storage_of self.old)) (S.view (storage_of self.new)) result }
         ensures noted { NotesWrite self.old self.new result }
     {
-        let data_written = self.storage.write(at, bytes);
-        self.noted(data_written)
+        let done = self.storage.write(at, bytes);
+        self.noted(done)
     }
 
     /// Writes so many zeros at an offset, both in bytes, as a guest's bytes. The place that they take may be given back. Refused
@@ -39,8 +39,8 @@ impl<S: Storage> ImageStorage<S> {
         ensures calls { Calls (S.view (storage_of self.old)) (S.view (storage_of self.new)) result }
         ensures noted { NotesWrite self.old self.new result }
     {
-        let zeros_written = self.storage.write_zeroes(at, length);
-        self.noted(zeros_written)
+        let done = self.storage.write_zeroes(at, length);
+        self.noted(done)
     }
 
     /// The same, and the place that they take stays taken where it can. Refused 14 (memory), 15 (storage), as the storage is.
@@ -50,8 +50,8 @@ impl<S: Storage> ImageStorage<S> {
         ensures calls { Calls (S.view (storage_of self.old)) (S.view (storage_of self.new)) result }
         ensures noted { NotesWrite self.old self.new result }
     {
-        let allocated_zeros_written = self.storage.write_allocated_zeroes(at, length);
-        self.noted(allocated_zeros_written)
+        let done = self.storage.write_allocated_zeroes(at, length);
+        self.noted(done)
     }
 
     /// Writes an L2 table of the cache to a cluster, if it is modified. Refused 14 (memory), 15 (storage), as the storage is.
@@ -223,8 +223,8 @@ impl<S: Storage> ImageStorage<S> {
         ensures calls { Calls (S.view (storage_of self.old)) (S.view (storage_of self.new)) result }
         ensures noted { NotesWrite self.old self.new result }
     {
-        let storage_emptied = self.storage.resize(0, StoragePreallocate::None);
-        self.noted(storage_emptied)
+        let done = self.storage.resize(0, StoragePreallocate::None);
+        self.noted(done)
     }
 
     /// Writes the header of a new image with its names. Refused 14 (memory) where its bytes have no room. Refused 14 (memory), 15
@@ -236,8 +236,8 @@ impl<S: Storage> ImageStorage<S> {
         ensures calls { Calls (S.view (storage_of self.old)) (S.view (storage_of self.new)) result }
         ensures noted { NotesWrite self.old self.new result }
     {
-        let new_header_written = header.write(alloc, &mut self.storage);
-        self.noted(new_header_written)
+        let done = header.write(alloc, &mut self.storage);
+        self.noted(done)
     }
 
     /// Writes the place and the length of the L1 table. Refused 14 (memory), 15 (storage), as the storage is.
@@ -247,8 +247,8 @@ impl<S: Storage> ImageStorage<S> {
         ensures calls { Calls (S.view (storage_of self.old)) (S.view (storage_of self.new)) result }
         ensures noted { NotesWrite self.old self.new result }
     {
-        let l1_table_named = header.write_l1_table_pointer(&mut self.storage);
-        self.noted(l1_table_named)
+        let done = header.write_l1_table_pointer(&mut self.storage);
+        self.noted(done)
     }
 
     /// Writes the place and the length of the reftable. Refused 14 (memory), 15 (storage), as the storage is.
@@ -258,8 +258,8 @@ impl<S: Storage> ImageStorage<S> {
         ensures calls { Calls (S.view (storage_of self.old)) (S.view (storage_of self.new)) result }
         ensures noted { NotesWrite self.old self.new result }
     {
-        let reftable_named = header.write_reftable_pointer(&mut self.storage);
-        self.noted(reftable_named)
+        let done = header.write_reftable_pointer(&mut self.storage);
+        self.noted(done)
     }
 
     /// Writes the disk's size. Refused 14 (memory), 15 (storage), as the storage is.
@@ -269,8 +269,8 @@ impl<S: Storage> ImageStorage<S> {
         ensures calls { Calls (S.view (storage_of self.old)) (S.view (storage_of self.new)) result }
         ensures noted { NotesWrite self.old self.new result }
     {
-        let size_done = header.write_size(&mut self.storage);
-        self.noted(size_done)
+        let done = header.write_size(&mut self.storage);
+        self.noted(done)
     }
 
     /// Clears the autoclear bits in the image and in its header, if one is set. Refused 14 (memory), 15 (storage), as the storage is.
