@@ -78,7 +78,8 @@ def trial_reads(crate, folder, body):
     lines = cut.split("\n")
     own = [lines[i].strip() for i in body.lines(text)]
     code = [it for it in own if it and not it.startswith("//") and not EMPTY.fullmatch(it)]
-    return code, {path: answers_read(it) for path, it in kept.items()}
+    # how its lines are broken is layout
+    return " ".join(code), {path: answers_read(it) for path, it in kept.items()}
 
 
 def is_touched(crate, folder, body, former, former_folder):
