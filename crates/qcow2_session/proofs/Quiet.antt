@@ -11,7 +11,7 @@ use Rattle.qcow2_image.specs.Ranges.{ReleasesOneMapping}
 use Rattle.qcow2_image.specs.Unwritten.{ReadsQuietly}
 use Rattle.qcow2_image.proofs.Map.Quiet.{reads_none, reads_same, reads_aside}
 use Rattle.qcow2_alloc.proofs.KeptTables.AllWritten.{written_then}
-use Rattle.qcow2_session.specs.Told.{AreExisting, IsLeftQuietly, IsToldAlong, RunPoint}
+use Rattle.qcow2_session.specs.Told.{AreExisting, IsLeftQuietly, IsNeverWritten, IsToldAlong, RunPoint, StaysQuiet}
 use Rattle.qcow2_session.specs.declared.session.Command.{Command}
 use Rattle.qcow2_session.specs.declared.session.Reply.{Reply}
 
@@ -19,6 +19,10 @@ module _ {S F : Type 0} (view : S → StorageView) where
   -- the image is the same one
   pub quiet_image : (old new : Qcow2 S F) → new ≡ old → ReadsQuietly view old new
   quiet_image old new same = reads_same view old new (ap (λ (image : Qcow2 S F). image.file) same)
+
+  -- so an image opened for reading is never written, from its opening on
+  pub never_written : (old new : Qcow2 S F) → StaysQuiet view old new → IsNeverWritten view old new
+  never_written old new stays reading unmodified = (stays reading).quiet unmodified
 
   -- a mapping was let go
   pub quiet_release : (old new : Qcow2 S F) → ReleasesOneMapping view old new → ReadsQuietly view old new

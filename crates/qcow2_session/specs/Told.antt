@@ -17,7 +17,8 @@ use Rattle.qcow2_image.specs.ImageInvariant.{abstract_of, meaning}
 use Rattle.qcow2_image.specs.ListedClusters.{ListsNoMore}
 use Rattle.qcow2_image.specs.Prepared.{length_of, offset_of, table_of}
 use Rattle.qcow2_image.specs.Preparing.{IsAnswered, IsOfNothing}
-use Rattle.qcow2_image.specs.Unwritten.{ReadsQuietly}
+use Rattle.qcow2_alloc.specs.Quiet.{WritesNothing}
+use Rattle.qcow2_image.specs.Unwritten.{HoldsNothingModified, ReadsQuietly}
 use Rattle.qcow2_session.specs.Causes.{IsRightlyRefused}
 use Rattle.qcow2_session.specs.Commands.{command_of, reply_of}
 use Rattle.qcow2_session.specs.CountedFaults.{CommandCounts, refusal_in}
@@ -73,6 +74,10 @@ module _ {S F : Type 0} (view : S → StorageView) where
   -- Of an image opened for reading, in any state and whatever its contents are: where no cached table is modified, none is then, and nothing is written to an honest storage.
   abbrev pub StaysQuiet : (old new : Qcow2 S F) → Type 0
   StaysQuiet old new = is_writable old ≡ false → ReadsQuietly view old new
+
+  -- An image opened for reading is never written: opening leaves no cached table modified, and then an honest storage has the same contents at each moment.
+  abbrev pub IsNeverWritten : (old new : Qcow2 S F) → Type 0
+  IsNeverWritten old new = is_writable old ≡ false → HoldsNothingModified old → WritesNothing view old.file.storage new.file.storage
 
   -- so it is of a command, which leaves existing mappings alone
   pub record IsLeftQuietly (old new : Qcow2 S F) (after : List (Option Prepared)) : Type 0 where
