@@ -34,7 +34,8 @@ pub fn zeroes_are_read()
 #[tactic(auto, using(crate::proofs::Bytes::reads))]
 pub fn resizes_are_read()
     ensures size { (contents : List ℕ) (size : ℕ) → length (resized contents size) ≡ size }
-    ensures below { (contents : List ℕ) (size offset : ℕ) → offset < size → stored_byte (resized contents size) offset ≡ stored_byte contents offset }
+    ensures below { (contents : List ℕ) (size offset : ℕ) → offset < size
+        → stored_byte (resized contents size) offset ≡ stored_byte contents offset }
     ensures past { (contents : List ℕ) (size offset : ℕ) → size ≤ offset → stored_byte (resized contents size) offset ≡ 0 }
 {}
 

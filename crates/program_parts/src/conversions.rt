@@ -32,13 +32,19 @@ pub fn make_image<R: Storage, S: Storage>(
     cluster: u64,
     width: u64,
 ) -> (S, Result<u64, ImageError>)
-    ensures image { (R.view raw.old).is_honest → (S.view storage).is_honest → IfOk result.1 (λ n. IsImageOf (S.view result.0) (R.view raw.old).contents cluster width) }
+    ensures image { (R.view raw.old).is_honest → (S.view storage).is_honest
+        → IfOk result.1 (λ n. IsImageOf (S.view result.0) (R.view raw.old).contents cluster width) }
     ensures count { (R.view raw.old).is_honest → IfOk result.1 (λ n. n ≡ length (R.view raw.old).contents) }
     ensures raw { IsLeft (R.view raw.old) (R.view raw.new) }
-    ensures stops { (R.view raw.old).is_honest → (S.view storage).is_honest → EachMomentSince (S.view storage) (S.view result.0) (λ c. IsStopOfMaking (length (R.view raw.old).contents) (byte_at c)) }
+    ensures stops { (R.view raw.old).is_honest → (S.view storage).is_honest
+        → EachMomentSince (S.view storage) (S.view result.0)
+        (λ c. IsStopOfMaking (length (R.view raw.old).contents) (byte_at c)) }
     ensures refused { ¬ IsLayout cluster width → IsRefusedUntouched InvalidOption storage result }
-    ensures limit { (R.view raw.old).is_honest → IsLayout cluster width → longest_disk cluster < length (R.view raw.old).contents → IsRefusedUntouched Limit storage result }
-    ensures cause { (R.view raw.old).is_honest → (S.view storage).is_honest → IfErr result.1 (IsReasonNotToMake S.view (asked_for storage (length (R.view raw.old).contents) cluster width) result.0) }
+    ensures limit { (R.view raw.old).is_honest → IsLayout cluster width
+        → longest_disk cluster < length (R.view raw.old).contents → IsRefusedUntouched Limit storage result }
+    ensures cause { (R.view raw.old).is_honest → (S.view storage).is_honest
+        → IfErr result.1 (IsReasonNotToMake S.view
+        (asked_for storage (length (R.view raw.old).contents) cluster width) result.0) }
     ensures faults { CountsBoth (S.view storage).faults (S.view result.0).faults (R.view raw.old).faults (R.view raw.new).faults result.1 }
 {
     let size = match raw.size() {
@@ -74,10 +80,16 @@ fn fill<R: Storage, S: Storage, F: WrappedFormat<S>>(
     ensures emptied { IsTrue (is_writable image.old) → IfOk result (λ n. HasNothingToFree image.new) }
     ensures raw { IsLeft (R.view raw.old) (R.view raw.new) }
     ensures cause { IfErr result IsOfImporting }
-    ensures stops { (n : ℕ) → IsOpened (abstract_of S.view F.backing image.old []) → IsImageOfSize n (byte_at (S.view (storage_of_image image.old)).contents)
-        → EachMomentSince (S.view (storage_of_image image.old)) (S.view (storage_of_image image.new)) (λ c. IsImageOfSize n (byte_at c)) }
-    ensures stands { (n : ℕ) → IsOpened (abstract_of S.view F.backing image.old []) → IsImageOfSize n (byte_at (S.view (storage_of_image image.old)).contents) → IsImageOfSize n (byte_at (S.view (storage_of_image image.new)).contents) }
-    ensures met { (R.view raw.old).is_honest → length (R.view raw.old).contents ≡ size_of image.old → IsOpened (abstract_of S.view F.backing image.old []) → IfErr result (IsMetImporting S.view 0 (size_of image.old) image.new []) }
+    ensures stops { (n : ℕ) → IsOpened (abstract_of S.view F.backing image.old [])
+        → IsImageOfSize n (byte_at (S.view (storage_of_image image.old)).contents)
+        → EachMomentSince (S.view (storage_of_image image.old)) (S.view (storage_of_image image.new))
+        (λ c. IsImageOfSize n (byte_at c)) }
+    ensures stands { (n : ℕ) → IsOpened (abstract_of S.view F.backing image.old [])
+        → IsImageOfSize n (byte_at (S.view (storage_of_image image.old)).contents)
+        → IsImageOfSize n (byte_at (S.view (storage_of_image image.new)).contents) }
+    ensures met { (R.view raw.old).is_honest → length (R.view raw.old).contents ≡ size_of image.old
+        → IsOpened (abstract_of S.view F.backing image.old [])
+        → IfErr result (IsMetImporting S.view 0 (size_of image.old) image.new []) }
     ensures faults { ConversionCounts S.view F.backing image.old image.new (R.view raw.old).faults (R.view raw.new).faults result }
 {
     let count = to_qcow2(alloc, raw, image)?;
@@ -98,9 +110,13 @@ pub fn make_raw_disk<S: Storage, R: Storage>(
     ensures raw { (R.view raw.old).is_honest → (S.view storage).is_honest → IsConsistent (byte_at (S.view storage).contents)
         → IfOk result.1 (λ n. IsExport (S.view storage).contents n (R.view raw.new).contents) }
     ensures image { (S.view storage).is_honest → IsConsistent (byte_at (S.view storage).contents) → KeepsDisk (S.view storage) (S.view result.0) }
-    ensures another { (S.view storage).is_honest → NeedsAnother (S.view storage).contents → ContentsStay (S.view storage) (S.view result.0) × (raw.new ≡ raw.old) }
-    ensures unreadable { (S.view storage).is_honest → ¬ OpensToExport (S.view storage).contents → IsErrAnd result.1 (IsUnopened (S.view storage).contents raw.old raw.new) }
-    ensures cause { (S.view storage).is_honest → IfErr result.1 (λ e. IsUnopened (S.view storage).contents raw.old raw.new e ⊎ IsMetExporting (S.view storage).contents e) }
+    ensures another { (S.view storage).is_honest → NeedsAnother (S.view storage).contents
+        → ContentsStay (S.view storage) (S.view result.0) × (raw.new ≡ raw.old) }
+    ensures unreadable { (S.view storage).is_honest → ¬ OpensToExport (S.view storage).contents
+        → IsErrAnd result.1 (IsUnopened (S.view storage).contents raw.old raw.new) }
+    ensures cause { (S.view storage).is_honest
+        → IfErr result.1 (λ e. IsUnopened (S.view storage).contents raw.old raw.new e
+        ⊎ IsMetExporting (S.view storage).contents e) }
     ensures quiet { (S.view storage).is_honest → IsQuiet (S.view storage) (S.view result.0) }
     ensures faults { CountsBoth (S.view storage).faults (S.view result.0).faults (R.view raw.old).faults (R.view raw.new).faults result.1 }
 {
@@ -119,7 +135,8 @@ fn flushed<R: Storage>(raw: &mut R, copied: Result<u64, ImageError>) -> Result<u
     ensures same { ContentsStay (R.view raw.old) (R.view raw.new) }
     ensures told { IfOk result (λ n. copied ≡ Ok n) }
     ensures cause { IfErr result (λ e. (copied ≡ Err e) ⊎ IsFault e) }
-    ensures faults { (before now raw_before : ℕ) → CountsBoth before now raw_before (R.view raw.old).faults copied → CountsBoth before now raw_before (R.view raw.new).faults result }
+    ensures faults { (before now raw_before : ℕ) → CountsBoth before now raw_before (R.view raw.old).faults copied
+        → CountsBoth before now raw_before (R.view raw.new).faults result }
 {
     let count = copied?;
     raw.flush()?;

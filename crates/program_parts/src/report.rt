@@ -9,7 +9,8 @@ use std::io::Write;
 
 /// Prints the lines of a report: each breach, each leaked cluster, and what that comes to. Refused as the output is.
 pub fn print_report<W: Write>(output: &mut W, report: &Report) -> io::Result<()>
-    ensures { OnOk result (Appends (W.contents output.old) (W.contents output.new) (text_of_report report.now.breaches.items report.now.leaks.items)) }
+    ensures { OnOk result (Appends (W.contents output.old) (W.contents output.new)
+        (text_of_report report.now.breaches.items report.now.leaks.items)) }
 {
     print_breaches(output, &report.breaches)?;
     print_leaks(output, &report.leaks)?;

@@ -41,7 +41,9 @@ impl Allocator {
     pub fn new<S: Storage>(file: &mut ImageFile<S>) -> Result<Allocator, ImageError>
         ensures cause { IfErr result IsOfTables }
         ensures storage_faults { CountsFaults S.view file.old.storage file.new.storage result }
-        ensures why { (view_in S.view file.old).is_honest → MatchResult result (λ allocator. ReftableReads file.old.header.fields (contents_in S.view file.old)) (IsReasonAgainstReftable file.old.header.fields (contents_in S.view file.old)) }
+        ensures why { (view_in S.view file.old).is_honest
+            → MatchResult result (λ allocator. ReftableReads file.old.header.fields (contents_in S.view file.old))
+            (IsReasonAgainstReftable file.old.header.fields (contents_in S.view file.old)) }
         ensures rest { file.new ≡ record file.old { storage = file.new.storage } }
         ensures honest { (view_in S.view file.old).is_honest → (view_in S.view file.new).is_honest }
         ensures same { ContentsStay (view_in S.view file.old) (view_in S.view file.new) }
@@ -49,7 +51,10 @@ impl Allocator {
         ensures reftable { (view_in S.view file.old).is_honest → IfOk result (λ allocator. HasReftable S.view file.new allocator.reftable) }
         ensures first { IfOk result (λ allocator. allocator.first_free_cluster ≡ 0) }
         ensures leaks { IfOk result (λ allocator. allocator.leaked_clusters ≡ 0) }
-        ensures header_cluster { NamesReftableBehind file.old.header.fields → AreBehindHeader file.old.header.fields.cluster_bits file.old.caches → IfOk result (λ allocator. StandsBehindHeader file.old.header.fields.cluster_bits allocator.reftable file.new) }
+        ensures header_cluster { NamesReftableBehind file.old.header.fields
+            → AreBehindHeader file.old.header.fields.cluster_bits file.old.caches
+            → IfOk result (λ allocator. StandsBehindHeader file.old.header.fields.cluster_bits allocator.reftable
+            file.new) }
     {
         let bits = file.header.cluster_bits();
         let Some(cluster) = file.header.reftable_offset().checked_cluster(bits) else {
@@ -97,18 +102,24 @@ impl Allocator {
     ) -> Result<PendingClusters, ImageError>
         ensures marks { KeepsMarks S.view file.old file.new }
         ensures noted { OnOk result (IsTrue file.new.caches.is_changed) }
-        ensures sound { (p : Pending) → AllocatorInvariant S.view self.old p file.old → Allocates S.view p file.old self.new file.new (pending_then p file.old.free_list file.new.free_list) ClusterKind.Metadata count result }
+        ensures sound { (p : Pending) → AllocatorInvariant S.view self.old p file.old
+            → Allocates S.view p file.old self.new file.new
+            (pending_then p file.old.free_list file.new.free_list) ClusterKind.Metadata count result }
         ensures header { KeepsHeader file.old.header file.new.header }
         ensures list { ListsTables file.old.free_list file.new.free_list }
         ensures nameable { IfOk result (λ p. IsHostCluster file.old.header.fields.cluster_bits p.first_cluster) }
         ensures elsewhere { IfOk result (λ p. 0 < p.first_cluster) }
         ensures cause { IfErr result IsOfTables }
         ensures former { ListsReftables self.old.reftable self.new.reftable file.old.free_list file.new.free_list }
-        ensures made { (p : Pending) → AllocatorInvariant S.view self.old p file.old → TakesAlone S.view run_of (IsMadeInTurn file.old.header.fields self.old.reftable self.new.reftable file.old.free_list file.new.free_list) file.old file.new result }
+        ensures made { (p : Pending) → AllocatorInvariant S.view self.old p file.old
+            → TakesAlone S.view run_of (IsMadeInTurn file.old.header.fields self.old.reftable self.new.reftable
+            file.old.free_list file.new.free_list) file.old file.new result }
         ensures storage_faults { CountsFaults S.view file.old.storage file.new.storage result }
         ensures leaks { (p : Pending) → AllocatorInvariant S.view self.old p file.old → SameLeaks self.old self.new }
-        ensures limit { (p : Pending) → SoundAllocator S.view self.old p file.old → 0 < count → IfErr result (IsFaultOr (HasNoPlace (IsUsed S.view file.new) file.new.header.fields self.new count)) }
-        ensures lowest { (p : Pending) → SoundAllocator S.view self.old p file.old → IfOk result (λ run. IsLowestRun (IsUsed S.view file.new) run.first_cluster count) }
+        ensures limit { (p : Pending) → SoundAllocator S.view self.old p file.old → 0 < count
+            → IfErr result (IsFaultOr (HasNoPlace (IsUsed S.view file.new) file.new.header.fields self.new count)) }
+        ensures lowest { (p : Pending) → SoundAllocator S.view self.old p file.old
+            → IfOk result (λ run. IsLowestRun (IsUsed S.view file.new) run.first_cluster count) }
         ensures uses { (p : Pending) → AllocatorInvariant S.view self.old p file.old → OnOk result (StaysUsed S.view file.old file.new) }
         ensures hint { (p : Pending) → SoundAllocator S.view self.old p file.old → KeepsNoFreeBelowHint S.view self.new file.new result }
         ensures header_cluster { SparesHeaderButPointer S.view self.old.reftable file.old self.new.reftable file.new }
@@ -128,18 +139,24 @@ impl Allocator {
         ensures notes { KeepsNotes S.view file.old.storage file.new.storage }
         ensures order { OnOk result (order_of file.new.caches ≡ L2DependsOnRb) }
         ensures noted { OnOk result (IsTrue file.new.caches.is_changed) }
-        ensures sound { (p : Pending) → AllocatorInvariant S.view self.old p file.old → Allocates S.view p file.old self.new file.new (pending_then p file.old.free_list file.new.free_list) ClusterKind.Data count result }
+        ensures sound { (p : Pending) → AllocatorInvariant S.view self.old p file.old
+            → Allocates S.view p file.old self.new file.new
+            (pending_then p file.old.free_list file.new.free_list) ClusterKind.Data count result }
         ensures header { KeepsHeader file.old.header file.new.header }
         ensures list { ListsTables file.old.free_list file.new.free_list }
         ensures nameable { IfOk result (λ p. IsHostCluster file.old.header.fields.cluster_bits p.first_cluster) }
         ensures elsewhere { IfOk result (λ p. 0 < p.first_cluster) }
         ensures cause { IfErr result IsOfTables }
         ensures former { ListsReftables self.old.reftable self.new.reftable file.old.free_list file.new.free_list }
-        ensures made { (p : Pending) → AllocatorInvariant S.view self.old p file.old → TakesAlone S.view run_of (IsMadeInTurn file.old.header.fields self.old.reftable self.new.reftable file.old.free_list file.new.free_list) file.old file.new result }
+        ensures made { (p : Pending) → AllocatorInvariant S.view self.old p file.old
+            → TakesAlone S.view run_of (IsMadeInTurn file.old.header.fields self.old.reftable self.new.reftable
+            file.old.free_list file.new.free_list) file.old file.new result }
         ensures storage_faults { CountsFaults S.view file.old.storage file.new.storage result }
         ensures leaks { (p : Pending) → AllocatorInvariant S.view self.old p file.old → SameLeaks self.old self.new }
-        ensures limit { (p : Pending) → SoundAllocator S.view self.old p file.old → 0 < count → IfErr result (IsFaultOr (HasNoPlace (IsUsed S.view file.new) file.new.header.fields self.new count)) }
-        ensures lowest { (p : Pending) → SoundAllocator S.view self.old p file.old → IfOk result (λ run. IsLowestRun (IsUsed S.view file.new) run.first_cluster count) }
+        ensures limit { (p : Pending) → SoundAllocator S.view self.old p file.old → 0 < count
+            → IfErr result (IsFaultOr (HasNoPlace (IsUsed S.view file.new) file.new.header.fields self.new count)) }
+        ensures lowest { (p : Pending) → SoundAllocator S.view self.old p file.old
+            → IfOk result (λ run. IsLowestRun (IsUsed S.view file.new) run.first_cluster count) }
         ensures uses { (p : Pending) → AllocatorInvariant S.view self.old p file.old → OnOk result (StaysUsed S.view file.old file.new) }
         ensures hint { (p : Pending) → SoundAllocator S.view self.old p file.old → KeepsNoFreeBelowHint S.view self.new file.new result }
         ensures header_cluster { SparesHeaderButPointer S.view self.old.reftable file.old self.new.reftable file.new }
@@ -161,7 +178,9 @@ impl Allocator {
         ensures notes { KeepsNotes S.view file.old.storage file.new.storage }
         ensures order { OnOk result (order_of file.new.caches ≡ L2DependsOnRb) }
         ensures noted { IfOk result (λ run. IsSome run → IsTrue file.new.caches.is_changed) }
-        ensures sound { (p : Pending) → AllocatorInvariant S.view self.old p file.old → AllocatesAt S.view p file.old self.new file.new (pending_then p file.old.free_list file.new.free_list) cluster result }
+        ensures sound { (p : Pending) → AllocatorInvariant S.view self.old p file.old
+            → AllocatesAt S.view p file.old self.new file.new
+            (pending_then p file.old.free_list file.new.free_list) cluster result }
         ensures header { KeepsHeader file.old.header file.new.header }
         ensures list { ListsTables file.old.free_list file.new.free_list }
         ensures nameable { IfOk result (λ run. IsSome run → IsHostCluster file.old.header.fields.cluster_bits cluster) }
@@ -169,13 +188,21 @@ impl Allocator {
         ensures cause { IfErr result IsOfTables }
         ensures former { ListsReftables self.old.reftable self.new.reftable file.old.free_list file.new.free_list }
         ensures listed { (p : Pending) → AllocatorInvariant S.view self.old p file.old → ListsUsed S.view file.old file.new }
-        ensures made { (p : Pending) → AllocatorInvariant S.view self.old p file.old → TakesAlone S.view run_in (IsMadeOnTheWay file.old.header.fields self.old.reftable self.new.reftable) file.old file.new result }
+        ensures made { (p : Pending) → AllocatorInvariant S.view self.old p file.old
+            → TakesAlone S.view run_in (IsMadeOnTheWay file.old.header.fields self.old.reftable self.new.reftable)
+            file.old file.new result }
         ensures storage_faults { CountsFaults S.view file.old.storage file.new.storage result }
         ensures leaks { (p : Pending) → AllocatorInvariant S.view self.old p file.old → SameLeaks self.old self.new }
-        ensures limit { (p : Pending) → SoundAllocator S.view self.old p file.old → IfErr result (IsFaultOr (CantCount (IsUsed S.view file.new) file.new.header.fields (λ k. 0) self.new cluster)) }
-        ensures kept { (p : Pending) → AllocatorInvariant S.view self.old p file.old → IfErr result (λ e. IsFault e ⊎ StaysUsed S.view file.old file.new) }
-        ensures none { (p : Pending) → AllocatorInvariant S.view self.old p file.old → IfOk result (λ run. IsNone run → (IsHostCluster file.old.header.fields.cluster_bits cluster → ⊥)
-            ⊎ (IsUsed S.view file.new cluster × (IsUsed S.view file.old cluster ⊎ IsMadeOnTheWay file.old.header.fields self.old.reftable self.new.reftable cluster))) }
+        ensures limit { (p : Pending) → SoundAllocator S.view self.old p file.old
+            → IfErr result (IsFaultOr (CantCount (IsUsed S.view file.new) file.new.header.fields
+            (λ k. 0) self.new cluster)) }
+        ensures kept { (p : Pending) → AllocatorInvariant S.view self.old p file.old
+            → IfErr result (λ e. IsFault e ⊎ StaysUsed S.view file.old file.new) }
+        ensures none { (p : Pending) → AllocatorInvariant S.view self.old p file.old
+            → IfOk result (λ run. IsNone run → (IsHostCluster file.old.header.fields.cluster_bits cluster → ⊥)
+            ⊎ (IsUsed S.view file.new cluster
+            × (IsUsed S.view file.old cluster
+            ⊎ IsMadeOnTheWay file.old.header.fields self.old.reftable self.new.reftable cluster))) }
         ensures uses { (p : Pending) → AllocatorInvariant S.view self.old p file.old → OnOk result (StaysUsed S.view file.old file.new) }
         ensures hint { (p : Pending) → SoundAllocator S.view self.old p file.old → KeepsNoFreeBelowHint S.view self.new file.new result }
         ensures header_cluster { SparesHeaderButPointer S.view self.old.reftable file.old self.new.reftable file.new }
@@ -214,7 +241,9 @@ impl Allocator {
     ) -> Result<PendingClusters, ImageError>
         ensures marks { KeepsMarks S.view file.old file.new }
         ensures noted { OnOk result (IsTrue file.new.caches.is_changed) }
-        ensures sound { (p : Pending) → AllocatorInvariant S.view self.old p file.old → MayTake (is_data kind) file.old → Allocates S.view p file.old self.new file.new (pending_then p file.old.free_list file.new.free_list) kind count result }
+        ensures sound { (p : Pending) → AllocatorInvariant S.view self.old p file.old → MayTake (is_data kind) file.old
+            → Allocates S.view p file.old self.new file.new
+            (pending_then p file.old.free_list file.new.free_list) kind count result }
         ensures header { KeepsHeader file.old.header file.new.header }
         ensures list { ListsTables file.old.free_list file.new.free_list }
         ensures nameable { IfOk result (λ p. IsHostCluster file.old.header.fields.cluster_bits p.first_cluster) }
@@ -223,10 +252,16 @@ impl Allocator {
         ensures former { ListsReftables self.old.reftable self.new.reftable file.old.free_list file.new.free_list }
         ensures storage_faults { CountsFaults S.view file.old.storage file.new.storage result }
         ensures leaks { (p : Pending) → AllocatorInvariant S.view self.old p file.old → SameLeaks self.old self.new }
-        ensures limit { (p : Pending) → AllocatorInvariant S.view self.old p file.old → MayTake (is_data kind) file.old → NoFreeBelowHint S.view self.old file.old → 0 < count → IfErr result (IsFaultOr (HasNoPlace (IsUsed S.view file.new) file.new.header.fields self.new count)) }
-        ensures lowest { (p : Pending) → AllocatorInvariant S.view self.old p file.old → MayTake (is_data kind) file.old → NoFreeBelowHint S.view self.old file.old → IfOk result (λ run. IsLowestRun (IsUsed S.view file.new) run.first_cluster count) }
-        ensures uses { (p : Pending) → AllocatorInvariant S.view self.old p file.old → MayTake (is_data kind) file.old → OnOk result (StaysUsed S.view file.old file.new) }
-        ensures hint { (p : Pending) → AllocatorInvariant S.view self.old p file.old → MayTake (is_data kind) file.old → NoFreeBelowHint S.view self.old file.old → KeepsNoFreeBelowHint S.view self.new file.new result }
+        ensures limit { (p : Pending) → AllocatorInvariant S.view self.old p file.old → MayTake (is_data kind) file.old
+            → NoFreeBelowHint S.view self.old file.old → 0 < count
+            → IfErr result (IsFaultOr (HasNoPlace (IsUsed S.view file.new) file.new.header.fields self.new count)) }
+        ensures lowest { (p : Pending) → AllocatorInvariant S.view self.old p file.old → MayTake (is_data kind) file.old
+            → NoFreeBelowHint S.view self.old file.old
+            → IfOk result (λ run. IsLowestRun (IsUsed S.view file.new) run.first_cluster count) }
+        ensures uses { (p : Pending) → AllocatorInvariant S.view self.old p file.old → MayTake (is_data kind) file.old
+            → OnOk result (StaysUsed S.view file.old file.new) }
+        ensures hint { (p : Pending) → AllocatorInvariant S.view self.old p file.old → MayTake (is_data kind) file.old
+            → NoFreeBelowHint S.view self.old file.old → KeepsNoFreeBelowHint S.view self.new file.new result }
         ensures header_cluster { SparesHeaderButPointer S.view self.old.reftable file.old self.new.reftable file.new }
     {
         let entry = ClustersToFreeEntry {
@@ -250,7 +285,9 @@ impl Allocator {
     fn lowest_run<S: Storage>(&mut self, file: &mut ImageFile<S>, n: u64) -> Result<u64, ImageError>
         ensures marks { KeepsMarks S.view file.old file.new }
         ensures noted { OnOk result (IsTrue file.new.caches.is_changed) }
-        ensures sound { (p : Pending) (is_data : Bool) → AllocatorInvariant S.view self.old p file.old → MayTake is_data file.old → TakesSomeRun S.view p file.old self.new file.new (pending_then p file.old.free_list file.new.free_list) is_data n result }
+        ensures sound { (p : Pending) (is_data : Bool) → AllocatorInvariant S.view self.old p file.old
+            → MayTake is_data file.old → TakesSomeRun S.view p file.old self.new file.new
+            (pending_then p file.old.free_list file.new.free_list) is_data n result }
         ensures header { KeepsHeader file.old.header file.new.header }
         ensures list { ListsTables file.old.free_list file.new.free_list }
         ensures nameable { IfOk result (λ first. IsHostCluster file.old.header.fields.cluster_bits first) }
@@ -259,10 +296,17 @@ impl Allocator {
         ensures former { ListsReftables self.old.reftable self.new.reftable file.old.free_list file.new.free_list }
         ensures storage_faults { CountsFaults S.view file.old.storage file.new.storage result }
         ensures leaks { (p : Pending) → AllocatorInvariant S.view self.old p file.old → SameLeaks self.old self.new }
-        ensures limit { (p : Pending) (is_data : Bool) → AllocatorInvariant S.view self.old p file.old → MayTake is_data file.old → NoFreeBelowHint S.view self.old file.old → 0 < n → IfErr result (IsFaultOr (HasNoPlace (IsUsed S.view file.new) file.new.header.fields self.new n)) }
-        ensures lowest { (p : Pending) (is_data : Bool) → AllocatorInvariant S.view self.old p file.old → MayTake is_data file.old → NoFreeBelowHint S.view self.old file.old → IfOk result (λ first. IsLowestRun (IsUsed S.view file.new) first n) }
-        ensures uses { (p : Pending) (is_data : Bool) → AllocatorInvariant S.view self.old p file.old → MayTake is_data file.old → OnOk result (StaysUsed S.view file.old file.new) }
-        ensures hint { (p : Pending) (is_data : Bool) → AllocatorInvariant S.view self.old p file.old → MayTake is_data file.old → NoFreeBelowHint S.view self.old file.old → KeepsNoFreeBelowHint S.view self.new file.new result }
+        ensures limit { (p : Pending) (is_data : Bool) → AllocatorInvariant S.view self.old p file.old
+            → MayTake is_data file.old → NoFreeBelowHint S.view self.old file.old → 0 < n
+            → IfErr result (IsFaultOr (HasNoPlace (IsUsed S.view file.new) file.new.header.fields self.new n)) }
+        ensures lowest { (p : Pending) (is_data : Bool) → AllocatorInvariant S.view self.old p file.old
+            → MayTake is_data file.old → NoFreeBelowHint S.view self.old file.old
+            → IfOk result (λ first. IsLowestRun (IsUsed S.view file.new) first n) }
+        ensures uses { (p : Pending) (is_data : Bool) → AllocatorInvariant S.view self.old p file.old
+            → MayTake is_data file.old → OnOk result (StaysUsed S.view file.old file.new) }
+        ensures hint { (p : Pending) (is_data : Bool) → AllocatorInvariant S.view self.old p file.old
+            → MayTake is_data file.old → NoFreeBelowHint S.view self.old file.old
+            → KeepsNoFreeBelowHint S.view self.new file.new result }
         ensures header_cluster { SparesHeaderButPointer S.view self.old.reftable file.old self.new.reftable file.new }
     {
         let limit = (MAX_HOST_OFFSET >> file.header.cluster_bits()) + 1;
@@ -289,7 +333,9 @@ impl Allocator {
         requires above { 0 < first }
         ensures marks { KeepsMarks S.view file.old file.new }
         ensures noted { IfOk result (λ taken. taken ≡ n → 0 < n → IsTrue file.new.caches.is_changed) }
-        ensures sound { (p : Pending) (is_data : Bool) → AllocatorInvariant S.view self.old p file.old → MayTake is_data file.old → TakesRun S.view p file.old self.new file.new (pending_then p file.old.free_list file.new.free_list) is_data first n result }
+        ensures sound { (p : Pending) (is_data : Bool) → AllocatorInvariant S.view self.old p file.old
+            → MayTake is_data file.old → TakesRun S.view p file.old self.new file.new
+            (pending_then p file.old.free_list file.new.free_list) is_data first n result }
         ensures header { KeepsHeader file.old.header file.new.header }
         ensures list { ListsTables file.old.free_list file.new.free_list }
         ensures within { IfOk result (λ taken. taken ≤ n) }
@@ -297,10 +343,17 @@ impl Allocator {
         ensures former { ListsReftables self.old.reftable self.new.reftable file.old.free_list file.new.free_list }
         ensures storage_faults { CountsFaults S.view file.old.storage file.new.storage result }
         ensures leaks { (p : Pending) → AllocatorInvariant S.view self.old p file.old → SameLeaks self.old self.new }
-        ensures limit { (p : Pending) (is_data : Bool) → AllocatorInvariant S.view self.old p file.old → MayTake is_data file.old → NoFreeBelowHint S.view self.old file.old → first + n ≤ nameable_clusters file.old.header.fields → IfErr result (IsFaultOr (CantCountRun (IsUsed S.view file.new) file.new.header.fields self.new first n)) }
-        ensures used { (p : Pending) (is_data : Bool) → AllocatorInvariant S.view self.old p file.old → MayTake is_data file.old → IfOk result (λ taken. taken ≢ n → IsUsed S.view file.new (first + taken)) }
-        ensures hint { (p : Pending) (is_data : Bool) → AllocatorInvariant S.view self.old p file.old → MayTake is_data file.old → NoFreeBelowHint S.view self.old file.old → KeepsNoFreeBelowHint S.view self.new file.new result }
-        ensures uses { (p : Pending) (is_data : Bool) → AllocatorInvariant S.view self.old p file.old → MayTake is_data file.old → KeepsUsed S.view file.old file.new result }
+        ensures limit { (p : Pending) (is_data : Bool) → AllocatorInvariant S.view self.old p file.old
+            → MayTake is_data file.old → NoFreeBelowHint S.view self.old file.old
+            → first + n ≤ nameable_clusters file.old.header.fields
+            → IfErr result (IsFaultOr (CantCountRun (IsUsed S.view file.new) file.new.header.fields self.new first n)) }
+        ensures used { (p : Pending) (is_data : Bool) → AllocatorInvariant S.view self.old p file.old
+            → MayTake is_data file.old → IfOk result (λ taken. taken ≢ n → IsUsed S.view file.new (first + taken)) }
+        ensures hint { (p : Pending) (is_data : Bool) → AllocatorInvariant S.view self.old p file.old
+            → MayTake is_data file.old → NoFreeBelowHint S.view self.old file.old
+            → KeepsNoFreeBelowHint S.view self.new file.new result }
+        ensures uses { (p : Pending) (is_data : Bool) → AllocatorInvariant S.view self.old p file.old
+            → MayTake is_data file.old → KeepsUsed S.view file.old file.new result }
         ensures header_cluster { SparesHeaderButPointer S.view self.old.reftable file.old self.new.reftable file.new }
     {
         'taking: for taken in 0..n {
@@ -331,7 +384,9 @@ impl Allocator {
         requires above { 0 < cluster }
         ensures marks { KeepsMarks S.view file.old file.new }
         ensures noted { IfOk result (λ taken. IsTrue taken → IsTrue file.new.caches.is_changed) }
-        ensures sound { (p : Pending) (is_data : Bool) → AllocatorInvariant S.view self.old p file.old → MayTake is_data file.old → TakesCluster S.view p file.old self.new file.new (pending_then p file.old.free_list file.new.free_list) is_data cluster result }
+        ensures sound { (p : Pending) (is_data : Bool) → AllocatorInvariant S.view self.old p file.old
+            → MayTake is_data file.old → TakesCluster S.view p file.old self.new file.new
+            (pending_then p file.old.free_list file.new.free_list) is_data cluster result }
         ensures header { KeepsHeader file.old.header file.new.header }
         ensures list { ListsTables file.old.free_list file.new.free_list }
         ensures cause { IfErr result IsOfTables }
@@ -339,11 +394,20 @@ impl Allocator {
         ensures listed { (p : Pending) → AllocatorInvariant S.view self.old p file.old → ListsUsed S.view file.old file.new }
         ensures storage_faults { CountsFaults S.view file.old.storage file.new.storage result }
         ensures leaks { (p : Pending) → AllocatorInvariant S.view self.old p file.old → SameLeaks self.old self.new }
-        ensures limit { (p : Pending) (is_data : Bool) → AllocatorInvariant S.view self.old p file.old → MayTake is_data file.old → NoFreeBelowHint S.view self.old file.old → IsHostCluster file.old.header.fields.cluster_bits cluster → IfErr result (IsFaultOr (CantCount (IsUsed S.view file.new) file.new.header.fields (λ k. 0) self.new cluster)) }
-        ensures used { (p : Pending) (is_data : Bool) → AllocatorInvariant S.view self.old p file.old → MayTake is_data file.old → IfOk result (λ taken. taken ≡ false → IsUsed S.view file.new cluster) }
-        ensures hint { (p : Pending) (is_data : Bool) → AllocatorInvariant S.view self.old p file.old → MayTake is_data file.old → NoFreeBelowHint S.view self.old file.old → KeepsNoFreeBelowHint S.view self.new file.new result }
-        ensures uses { (p : Pending) (is_data : Bool) → AllocatorInvariant S.view self.old p file.old → MayTake is_data file.old → KeepsUsed S.view file.old file.new result }
-        ensures free { (p : Pending) → AllocatorInvariant S.view self.old p file.old → IfOk result (λ taken. IsTrue taken → ¬ IsUsed S.view file.old cluster) }
+        ensures limit { (p : Pending) (is_data : Bool) → AllocatorInvariant S.view self.old p file.old
+            → MayTake is_data file.old → NoFreeBelowHint S.view self.old file.old
+            → IsHostCluster file.old.header.fields.cluster_bits cluster
+            → IfErr result (IsFaultOr (CantCount (IsUsed S.view file.new) file.new.header.fields
+            (λ k. 0) self.new cluster)) }
+        ensures used { (p : Pending) (is_data : Bool) → AllocatorInvariant S.view self.old p file.old
+            → MayTake is_data file.old → IfOk result (λ taken. taken ≡ false → IsUsed S.view file.new cluster) }
+        ensures hint { (p : Pending) (is_data : Bool) → AllocatorInvariant S.view self.old p file.old
+            → MayTake is_data file.old → NoFreeBelowHint S.view self.old file.old
+            → KeepsNoFreeBelowHint S.view self.new file.new result }
+        ensures uses { (p : Pending) (is_data : Bool) → AllocatorInvariant S.view self.old p file.old
+            → MayTake is_data file.old → KeepsUsed S.view file.old file.new result }
+        ensures free { (p : Pending) → AllocatorInvariant S.view self.old p file.old
+            → IfOk result (λ taken. IsTrue taken → ¬ IsUsed S.view file.old cluster) }
         ensures header_cluster { SparesHeaderButPointer S.view self.old.reftable file.old self.new.reftable file.new }
     {
         self.reach_block(file, cluster)?;

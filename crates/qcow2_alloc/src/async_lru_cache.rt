@@ -87,15 +87,17 @@ impl<B: AsyncLruCacheBackend> AsyncLruCache<B> {
 
         // What is got is in front. Only the least recently used entry with no pin goes, after its flush succeeded.
         ensures front { result ≡ Ok true → IsInFront (B.Key.eq key) self.new.entries }
-        ensures eviction { OnlyOldestGoes B.Key.eq (λ e. (w : B.Value) × (t : B.Store) × (B.steps self.old.backend).flushed store.old e.0 e.1.value w t)
-            self.old.entries self.new.entries }
+        ensures eviction { OnlyOldestGoes B.Key.eq
+            (λ e. (w : B.Value) × (t : B.Store)
+            × (B.steps self.old.backend).flushed store.old e.0 e.1.value w t) self.old.entries self.new.entries }
         ensures stays { OthersStay B.Key.eq key self.old.entries self.new.entries }
 
         // Pins stay.
         ensures pins { KeepsPins B.Key.eq self.old.entries self.new.entries }
 
         // The bytes of the store, with the modified values laid over, stay.
-        ensures known { KeepsKnown B.Key.eq B.is_modified B.bytes (B.stored self.old.backend) B.is_honest store.old self.old.entries store.new self.new.entries }
+        ensures known { KeepsKnown B.Key.eq B.is_modified B.bytes
+            (B.stored self.old.backend) B.is_honest store.old self.old.entries store.new self.new.entries }
     {
         let _count = self.entries.len();
         if self.entries.promote(&key) {
@@ -124,10 +126,14 @@ impl<B: AsyncLruCacheBackend> AsyncLruCache<B> {
     ) -> Result<bool, CacheError<B::Key, B::Error>>
         ensures distinct { IsDistinct B.Key.eq (keys_of self.old.entries) }
         ensures nothing { IsNone value.old → (result ≡ Ok false) × (self.new ≡ self.old) × (store.new ≡ store.old) × (value.new ≡ None) }
-        ensures there { IfSome (lookup_entry (B.Key.eq key) self.old.entries) (λ e. IfSome value.old (λ v.
-            Replaces (B.steps self.old.backend) key e (remove_entry (B.Key.eq key) self.old.entries) v may_flush store.old self.old.entries result store.new self.new.entries value.new)) }
-        ensures missing { IsNone (lookup (B.Key.eq key) self.old.entries) → IfSome value.old (λ v.
-            InsertsNew (B.steps self.old.backend) B.Key.eq self.old.size may_flush key v store.old self.old.entries result store.new self.new.entries value.new) }
+        ensures there { IfSome (lookup_entry (B.Key.eq key) self.old.entries)
+            (λ e. IfSome value.old (λ v. Replaces (B.steps self.old.backend) key e
+            (remove_entry (B.Key.eq key) self.old.entries) v may_flush store.old self.old.entries result store.new
+            self.new.entries value.new)) }
+        ensures missing { IsNone (lookup (B.Key.eq key) self.old.entries)
+            → IfSome value.old (λ v. InsertsNew
+            (B.steps self.old.backend) B.Key.eq self.old.size may_flush key v store.old self.old.entries result
+            store.new self.new.entries value.new) }
         ensures others { self.new ≡ with_entries self.old self.new.entries }
         ensures keeps { B.keeps store.old store.new }
 
@@ -135,10 +141,12 @@ impl<B: AsyncLruCacheBackend> AsyncLruCache<B> {
         ensures pins { KeepsPins B.Key.eq self.old.entries self.new.entries }
 
         // The value is laid over the known bytes where it is taken, and else they stay.
-        ensures laid { IfSome value.old (λ v. result ≡ Ok true
-            → LaysOver B.Key.eq B.is_modified B.bytes (B.stored self.old.backend) B.is_honest key v store.old self.old.entries store.new self.new.entries) }
+        ensures laid { IfSome value.old
+            (λ v. result ≡ Ok true → LaysOver B.Key.eq B.is_modified B.bytes
+            (B.stored self.old.backend) B.is_honest key v store.old self.old.entries store.new self.new.entries) }
         ensures known { result ≢ Ok true
-            → KeepsKnown B.Key.eq B.is_modified B.bytes (B.stored self.old.backend) B.is_honest store.old self.old.entries store.new self.new.entries }
+            → KeepsKnown B.Key.eq B.is_modified B.bytes
+            (B.stored self.old.backend) B.is_honest store.old self.old.entries store.new self.new.entries }
     {
         let _count = self.entries.len();
         if value.is_none() {
@@ -228,7 +236,8 @@ impl<B: AsyncLruCacheBackend> AsyncLruCache<B> {
         ensures others { self.new ≡ with_entries self.old self.new.entries }
         ensures keeps { B.keeps store.old store.new }
         ensures pins { KeepsPins B.Key.eq self.old.entries self.new.entries }
-        ensures known { KeepsKnown B.Key.eq B.is_modified B.bytes (B.stored self.old.backend) B.is_honest store.old self.old.entries store.new self.new.entries }
+        ensures known { KeepsKnown B.Key.eq B.is_modified B.bytes
+            (B.stored self.old.backend) B.is_honest store.old self.old.entries store.new self.new.entries }
     {
         match flush_all(&self.backend, store, &mut self.entries) {
             None => Ok(()),
@@ -248,7 +257,8 @@ impl<B: AsyncLruCacheBackend> AsyncLruCache<B> {
             FlushesKey (B.steps self.old.backend) (B.Key.eq key) key s store.old self.old.entries result store.new self.new.entries) }
         ensures others { self.new ≡ with_entries self.old self.new.entries }
         ensures keeps { B.keeps store.old store.new }
-        ensures known { KeepsKnown B.Key.eq B.is_modified B.bytes (B.stored self.old.backend) B.is_honest store.old self.old.entries store.new self.new.entries }
+        ensures known { KeepsKnown B.Key.eq B.is_modified B.bytes
+            (B.stored self.old.backend) B.is_honest store.old self.old.entries store.new self.new.entries }
     {
         if !self.entries.contains(&key) {
             return Ok(false);
@@ -318,8 +328,9 @@ impl<B: AsyncLruCacheBackend> AsyncLruCache<B> {
     pub fn peek_mut(&mut self, key: B::Key) -> Option<&mut B::Value>
         // The cache ends with the last value behind the result set under the key.
         ensures* writes_back { sem 𝓛 (LendsIf
-            (the_row B.row B.Key.row B.Value.row B.Error.row B.Store.row B.AsyncLruCacheBackend (record {}) (record { eq = B.Key.eq }) (record { hash_input = B.Key.hash_input }))
-            B.Value.row self.entry result (λ w. with_entries self.entry.now (set_at (B.Key.eq key) self.entry.now.entries w)) self.entry.now) }
+            (the_row B.row B.Key.row B.Value.row B.Error.row B.Store.row B.AsyncLruCacheBackend (record {})
+            (record { eq = B.Key.eq }) (record { hash_input = B.Key.hash_input })) B.Value.row self.entry result
+            (λ w. with_entries self.entry.now (set_at (B.Key.eq key) self.entry.now.entries w)) self.entry.now) }
         ensures distinct { IsDistinct B.Key.eq (keys_of self.old.entries) }
         ensures value { option_copied_mut result ≡ value_at (B.Key.eq key) self.old.entries }
     {

@@ -64,7 +64,9 @@ impl<S: Storage> MetadataCaches<S> {
         l2_entries: usize,
         rb_entries: usize,
     ) -> Result<Self, AllocError>
-        ensures sound { IfOk result (λ caches. (p : Pending) (on_storage : Bytes) → CrashInvariant header.now.fields Neither p on_storage on_storage → CacheInvariant header.now.fields p caches on_storage) }
+        ensures sound { IfOk result (λ caches. (p : Pending) (on_storage : Bytes)
+            → CrashInvariant header.now.fields Neither p on_storage on_storage
+            → CacheInvariant header.now.fields p caches on_storage) }
         ensures known { IfOk result (λ caches. (on_storage : Bytes) → known_of header.now.fields caches on_storage ≡ on_storage) }
         ensures named_blocks { IfOk result (λ caches. (on_storage : Bytes) → AreNamedBlocks header.now.fields (refblocks caches) on_storage) }
         ensures order { IfOk result (λ caches. order_of caches ≡ Neither) }
@@ -240,7 +242,8 @@ impl<S: Storage> MetadataCaches<S> {
         ensures apart { KeepsKnownApart S.view storage.old self.old storage.new self.new }
         ensures ordered { WritesInOrder S.view storage.old self.old storage.new }
         ensures tables { order_of self.old ≢ RbDependsOnL2 → self.new.l2 ≡ self.old.l2 }
-        ensures quiet { AreClean (refblocks self.old) → BlocksMayGo (order_of self.old) (l2_tables self.old) → WritesNothing S.view storage.old storage.new }
+        ensures quiet { AreClean (refblocks self.old) → BlocksMayGo (order_of self.old) (l2_tables self.old)
+            → WritesNothing S.view storage.old storage.new }
         ensures header_cluster { CachesSpareHeader S.view storage.old self.old storage.new self.new }
     {
         match self.direction {
@@ -316,7 +319,8 @@ impl<S: Storage> MetadataCaches<S> {
         ensures order { order_of self.new ≡ order_of self.old }
         ensures cached { OnOk result (IsSome (l2_at self.new cluster)) }
         ensures marks { KeepsPinsAndNotes self.old self.new }
-        ensures refusals { (h : HeaderFields) → HasPlace h.cluster_bits cluster → RefusesBy (IsInUseOrFault self.old) S.view storage.old self.old h result }
+        ensures refusals { (h : HeaderFields) → HasPlace h.cluster_bits cluster
+            → RefusesBy (IsInUseOrFault self.old) S.view storage.old self.old h result }
         ensures keeps { KeepSound S.view storage.old self.old storage.new self.new }
         ensures apart { KeepsKnownApart S.view storage.old self.old storage.new self.new }
         ensures ordered { WritesInOrder S.view storage.old self.old storage.new }
@@ -348,7 +352,8 @@ impl<S: Storage> MetadataCaches<S> {
         ensures order { order_of self.new ≡ order_of self.old }
         ensures cached { OnOk result (IsSome (rb_at self.new cluster)) }
         ensures marks { KeepsPinsAndNotes self.old self.new }
-        ensures faults { CachesHaveRoom self.old → (h : HeaderFields) → HasPlace h.cluster_bits cluster → RefusesBy IsFault S.view storage.old self.old h result }
+        ensures faults { CachesHaveRoom self.old → (h : HeaderFields) → HasPlace h.cluster_bits cluster
+            → RefusesBy IsFault S.view storage.old self.old h result }
         ensures keeps { KeepSound S.view storage.old self.old storage.new self.new }
         ensures apart { KeepsKnownApart S.view storage.old self.old storage.new self.new }
         ensures ordered { WritesInOrder S.view storage.old self.old storage.new }
@@ -382,8 +387,10 @@ impl<S: Storage> MetadataCaches<S> {
         ensures order { order_of self.new ≡ order_of self.old }
         ensures cached { OnOk result (IfSome table.cluster (λ cluster. l2_at self.new cluster ≡ Some table)) }
         ensures marks { KeepsPinsAndNotes self.old self.new }
-        ensures refusals { PutRefusesBy (IsInUseOrFault self.old) S.view storage.old self.old (λ h. IsTableOf h table) table.cluster table.bytes table.is_modified result }
-        ensures keeps { PutSound S.view storage.old self.old storage.new self.new (λ h. IsTableOf h table) table.cluster table.bytes table.is_modified }
+        ensures refusals { PutRefusesBy (IsInUseOrFault self.old) S.view storage.old self.old
+            (λ h. IsTableOf h table) table.cluster table.bytes table.is_modified result }
+        ensures keeps { PutSound S.view storage.old self.old storage.new self.new
+            (λ h. IsTableOf h table) table.cluster table.bytes table.is_modified }
         ensures laid { OnOk result (LaysTable S.view storage.old self.old storage.new self.new table) }
         ensures refused { OnErr result (KeepSound S.view storage.old self.old storage.new self.new) }
         ensures laid_apart { OnOk result (LaysTableApart S.view storage.old self.old storage.new self.new table) }
@@ -394,9 +401,11 @@ impl<S: Storage> MetadataCaches<S> {
         ensures blocks_stay { order_of self.old ≢ L2DependsOnRb → self.new.rb ≡ self.old.rb }
         ensures clean { AreClean (l2_tables self.old) → IsFalse table.is_modified → AreClean (l2_tables self.new) }
         ensures blocks { AreClean (refblocks self.old) → AreClean (refblocks self.new) }
-        ensures first { BlocksMayGo (order_of self.old) (l2_tables self.old) → IsFalse table.is_modified → BlocksMayGo (order_of self.new) (l2_tables self.new) }
+        ensures first { BlocksMayGo (order_of self.old) (l2_tables self.old) → IsFalse table.is_modified
+            → BlocksMayGo (order_of self.new) (l2_tables self.new) }
         ensures may_go { TablesMayGo (order_of self.old) (refblocks self.old) → TablesMayGo (order_of self.new) (refblocks self.new) }
-        ensures header_cluster { IfSome table.cluster (λ cluster. 0 < cluster → CachesSpareHeader S.view storage.old self.old storage.new self.new) }
+        ensures header_cluster { IfSome table.cluster
+            (λ cluster. 0 < cluster → CachesSpareHeader S.view storage.old self.old storage.new self.new) }
     {
         let Some(cluster) = table.get_cluster() else {
             unreachable!();
@@ -425,8 +434,11 @@ impl<S: Storage> MetadataCaches<S> {
         ensures order { order_of self.new ≡ order_of self.old }
         ensures cached { OnOk result (IfSome block.cluster (λ cluster. rb_at self.new cluster ≡ Some block)) }
         ensures marks { KeepsPinsAndNotes self.old self.new }
-        ensures faults { CachesHaveRoom self.old → PutRefusesBy IsFault S.view storage.old self.old (λ h. IsBlockOf h block) block.cluster block.bytes block.is_modified result }
-        ensures keeps { PutSound S.view storage.old self.old storage.new self.new (λ h. IsBlockOf h block) block.cluster block.bytes block.is_modified }
+        ensures faults { CachesHaveRoom self.old
+            → PutRefusesBy IsFault S.view storage.old self.old
+            (λ h. IsBlockOf h block) block.cluster block.bytes block.is_modified result }
+        ensures keeps { PutSound S.view storage.old self.old storage.new self.new
+            (λ h. IsBlockOf h block) block.cluster block.bytes block.is_modified }
         ensures laid { OnOk result (LaysBlock S.view storage.old self.old storage.new self.new block) }
         ensures refused { OnErr result (KeepSound S.view storage.old self.old storage.new self.new) }
         ensures laid_apart { OnOk result (LaysBlockApart S.view storage.old self.old storage.new self.new block) }
@@ -437,7 +449,8 @@ impl<S: Storage> MetadataCaches<S> {
         ensures tables_stay { order_of self.old ≢ RbDependsOnL2 → self.new.l2 ≡ self.old.l2 }
         ensures clean { AreClean (refblocks self.old) → IsFalse block.is_modified → OnOk result (AreClean (refblocks self.new)) }
         ensures first { BlocksMayGo (order_of self.old) (l2_tables self.old) → OnOk result (BlocksMayGo (order_of self.new) (l2_tables self.new)) }
-        ensures header_cluster { IfSome block.cluster (λ cluster. 0 < cluster → CachesSpareHeader S.view storage.old self.old storage.new self.new) }
+        ensures header_cluster { IfSome block.cluster
+            (λ cluster. 0 < cluster → CachesSpareHeader S.view storage.old self.old storage.new self.new) }
     {
         let Some(cluster) = block.get_cluster() else {
             unreachable!();
@@ -502,7 +515,8 @@ impl<S: Storage> MetadataCaches<S> {
         ensures taken { IsTrue result → TakesBlock self.old self.new cluster }
         ensures taken_apart { IsTrue result → TakesBlockApart self.old self.new cluster }
         ensures clean { AreClean (refblocks self.old) → AreClean (refblocks self.new) }
-        ensures gone { (h : HeaderFields) (p : Pending) (on_storage : Bytes) → CacheInvariant h p self.old on_storage → CachesHaveRoom self.old → rb_at self.new cluster ≡ None }
+        ensures gone { (h : HeaderFields) (p : Pending) (on_storage : Bytes) → CacheInvariant h p self.old on_storage
+            → CachesHaveRoom self.old → rb_at self.new cluster ≡ None }
         ensures header_cluster { KeepBehindHeader self.old self.new }
     {
         self.rb.remove(cluster)
@@ -589,9 +603,13 @@ impl<S: Storage> MetadataCaches<S> {
         ensures marks { KeepsPinsAndNotes self.old self.new }
         ensures mapped { MapsCachedEntry self.old self.new cluster index host result }
         ensures noted { NotesEntry self.old self.new cluster index host }
-        ensures entry { IfSome (l2_at self.old cluster) (λ t. index < entries_of t → IsHostCluster t.cluster_bits host → SetsEntry self.old self.new cluster index t (copied_entry (host * 2 ^ t.cluster_bits)) result) }
+        ensures entry { IfSome (l2_at self.old cluster)
+            (λ t. index < entries_of t → IsHostCluster t.cluster_bits host
+            → SetsEntry self.old self.new cluster index t (copied_entry (host * 2 ^ t.cluster_bits)) result) }
         ensures apart { ChangesTableApart self.old self.new cluster }
-        ensures refused { IfSome (l2_at self.old cluster) (λ t. index < entries_of t → IsHostCluster t.cluster_bits host → ⊥) → (result ≡ None) × (self.new ≡ self.old) }
+        ensures refused { IfSome (l2_at self.old cluster)
+            (λ t. index < entries_of t → IsHostCluster t.cluster_bits host → ⊥) → (result ≡ None)
+            × (self.new ≡ self.old) }
         ensures header_cluster { KeepBehindHeader self.old self.new }
     {
         let table = self.l2.peek_mut(cluster)?;
@@ -615,7 +633,9 @@ impl<S: Storage> MetadataCaches<S> {
         ensures marks { KeepsPinsAndNotes self.old self.new }
         ensures zeroed { ZeroesEntry self.old self.new cluster index keep result }
         ensures noted { NotesHeld self.old self.new cluster index }
-        ensures entry { IfSome (l2_at self.old cluster) (λ t. index < entries_of t → SetsEntry self.old self.new cluster index t (zero_entry (if keep then copied_host (cover_at t index) else None)) result) }
+        ensures entry { IfSome (l2_at self.old cluster)
+            (λ t. index < entries_of t → SetsEntry self.old self.new cluster index t
+            (zero_entry (if keep then copied_host (cover_at t index) else None)) result) }
         ensures apart { ChangesTableApart self.old self.new cluster }
         ensures refused { IfSome (l2_at self.old cluster) (λ t. entries_of t ≤ index) → (result ≡ None) × (self.new ≡ self.old) }
         ensures header_cluster { KeepBehindHeader self.old self.new }

@@ -48,19 +48,29 @@ impl Allocator {
         ensures marks { KeepsMarks S.view file.old file.new }
         ensures reftable { self.new.reftable ≡ self.old.reftable }
         ensures first { self.new.first_free_cluster ≡ self.old.first_free_cluster }
-        ensures sound { (p : Pending) → AllocatorInvariant S.view self.old p file.old → TakesRoom S.view p file.old self.new file.new self.old.reftable result }
-        ensures blocks { IfOk result (λ room. room.blocks ≡ opened self.old.reftable (counts_per_block file.old.header.fields) room.first (room_length room)) }
-        ensures noted { IfOk result (λ room. ((k : ℕ) → counted_run file.old.header.fields self.old.reftable room.first (room_length room) k ≡ 0) ⊎ IsTrue file.new.caches.is_changed) }
+        ensures sound { (p : Pending) → AllocatorInvariant S.view self.old p file.old
+            → TakesRoom S.view p file.old self.new file.new self.old.reftable result }
+        ensures blocks { IfOk result (λ room. room.blocks ≡ opened self.old.reftable
+            (counts_per_block file.old.header.fields) room.first (room_length room)) }
+        ensures noted { IfOk result (λ room. ((k : ℕ)
+            → counted_run file.old.header.fields self.old.reftable room.first (room_length room) k ≡ 0)
+            ⊎ IsTrue file.new.caches.is_changed) }
         ensures clusters { IfOk result (λ room. room.clusters ≡ clusters) }
         ensures above { IfOk result (λ room. 0 < room.first) }
         ensures below { IfOk result (λ room. room.first + room_length room ≤ end) }
-        ensures lowest { (p : Pending) → AllocatorInvariant S.view self.old p file.old → NoFreeBelowHint S.view self.old file.old → IfOk result (λ room. IsLowestRoom (IsUsed S.view file.new) file.new.header.fields self.old.reftable clusters end room.first) }
+        ensures lowest { (p : Pending) → AllocatorInvariant S.view self.old p file.old
+            → NoFreeBelowHint S.view self.old file.old
+            → IfOk result (λ room. IsLowestRoom
+            (IsUsed S.view file.new) file.new.header.fields self.old.reftable clusters end room.first) }
         ensures header { file.new.header ≡ file.old.header }
         ensures list { file.new.free_list ≡ file.old.free_list }
         ensures cause { IfErr result IsOfTables }
         ensures storage_faults { CountsFaults S.view file.old.storage file.new.storage result }
         ensures leaks { (p : Pending) → AllocatorInvariant S.view self.old p file.old → SameLeaks self.old self.new }
-        ensures room { (p : Pending) → AllocatorInvariant S.view self.old p file.old → NoFreeBelowHint S.view self.old file.old → IfErr result (IsFaultOr (HasNoRoomBelow (IsUsed S.view file.new) file.new.header.fields (λ k. 0) self.old.reftable clusters end)) }
+        ensures room { (p : Pending) → AllocatorInvariant S.view self.old p file.old
+            → NoFreeBelowHint S.view self.old file.old
+            → IfErr result (IsFaultOr (HasNoRoomBelow (IsUsed S.view file.new) file.new.header.fields
+            (λ k. 0) self.old.reftable clusters end)) }
         ensures header_cluster { SparesHeader S.view self.old.reftable file.old self.new.reftable file.new }
     {
         let mut first = self.first_free_cluster.max(1);
@@ -93,17 +103,24 @@ impl Allocator {
         requires near { end ≤ 2 ^ 60 }
         ensures marks { KeepsMarks S.view file.old file.new }
         ensures same { self.new ≡ self.old }
-        ensures sound { (p : Pending) → AllocatorInvariant S.view self.old p file.old → ReachesRoom S.view p file.old self.new file.new self.old.reftable first result }
-        ensures noted { IfOk result (λ reach. ((k : ℕ) → counted_run file.old.header.fields self.old.reftable first reach.taken k ≡ 0) ⊎ IsTrue file.new.caches.is_changed) }
-        ensures blocks { IfOk result (λ reach. reach.blocks ≡ opened self.old.reftable (counts_per_block file.old.header.fields) first reach.taken) }
+        ensures sound { (p : Pending) → AllocatorInvariant S.view self.old p file.old
+            → ReachesRoom S.view p file.old self.new file.new self.old.reftable first result }
+        ensures noted { IfOk result (λ reach. ((k : ℕ)
+            → counted_run file.old.header.fields self.old.reftable first reach.taken k ≡ 0)
+            ⊎ IsTrue file.new.caches.is_changed) }
+        ensures blocks { IfOk result (λ reach. reach.blocks ≡ opened self.old.reftable
+            (counts_per_block file.old.header.fields) first reach.taken) }
         ensures within { IfOk result (λ reach. first + reach.taken ≤ end) }
         ensures few { IfOk result (λ reach. reach.blocks ≤ reach.taken) }
         ensures header { file.new.header ≡ file.old.header }
         ensures list { file.new.free_list ≡ file.old.free_list }
         ensures cause { IfErr result IsOfTables }
         ensures storage_faults { CountsFaults S.view file.old.storage file.new.storage result }
-        ensures short { IfOk result (λ reach. reach.taken ≢ reach.blocks + clusters → (n : ℕ) → n ≤ reach.taken → n < opened self.old.reftable (counts_per_block file.old.header.fields) first n + clusters) }
-        ensures stopped { (p : Pending) → AllocatorInvariant S.view self.old p file.old → IfOk result (λ reach. reach.taken ≢ reach.blocks + clusters → first + reach.taken < end → IsUsed S.view file.new (first + reach.taken)) }
+        ensures short { IfOk result (λ reach. reach.taken ≢ reach.blocks + clusters → (n : ℕ) → n ≤ reach.taken
+            → n < opened self.old.reftable (counts_per_block file.old.header.fields) first n + clusters) }
+        ensures stopped { (p : Pending) → AllocatorInvariant S.view self.old p file.old
+            → IfOk result (λ reach. reach.taken ≢ reach.blocks + clusters → first + reach.taken < end
+            → IsUsed S.view file.new (first + reach.taken)) }
         ensures header_cluster { SparesHeader S.view self.old.reftable file.old self.new.reftable file.new }
     {
         let bits = file.header.rb_bits();
@@ -132,13 +149,16 @@ impl Allocator {
         requires above { 0 < cluster }
         ensures marks { KeepsMarks S.view file.old file.new }
         ensures same { self.new ≡ self.old }
-        ensures sound { (p : Pending) → AllocatorInvariant S.view self.old p file.old → TakesFree S.view p file.old self.new file.new self.old.reftable cluster result }
-        ensures noted { IfOk result (λ taken. IsTrue taken → lacks self.old.reftable (cluster / 2 ^ bits) ≡ false → IsTrue file.new.caches.is_changed) }
+        ensures sound { (p : Pending) → AllocatorInvariant S.view self.old p file.old
+            → TakesFree S.view p file.old self.new file.new self.old.reftable cluster result }
+        ensures noted { IfOk result (λ taken. IsTrue taken → lacks self.old.reftable (cluster / 2 ^ bits) ≡ false
+            → IsTrue file.new.caches.is_changed) }
         ensures header { file.new.header ≡ file.old.header }
         ensures list { file.new.free_list ≡ file.old.free_list }
         ensures cause { IfErr result IsOfTables }
         ensures storage_faults { CountsFaults S.view file.old.storage file.new.storage result }
-        ensures used { (p : Pending) → AllocatorInvariant S.view self.old p file.old → IfOk result (λ taken. taken ≡ false → IsUsed S.view file.new cluster) }
+        ensures used { (p : Pending) → AllocatorInvariant S.view self.old p file.old
+            → IfOk result (λ taken. taken ≡ false → IsUsed S.view file.new cluster) }
         ensures header_cluster { SparesHeader S.view self.old.reftable file.old self.new.reftable file.new }
     {
         if self.lacks_block(cluster >> bits) {
@@ -167,14 +187,21 @@ impl Allocator {
         ensures marks { KeepsMarks S.view file.old file.new }
         ensures reftable { self.new.reftable ≡ self.old.reftable }
         ensures first { self.new.first_free_cluster ≡ self.old.first_free_cluster }
-        ensures sound { (p : Pending) (start : ImageFile S) → start.header ≡ file.old.header → UnseenAllocatorStep S.view p start self.old file.old (with_run p start.header.fields self.old.reftable first n)
-            → ((k : ℕ) → counted_run start.header.fields self.old.reftable first n k ≡ 0) ⊎ IsTrue file.old.caches.is_changed → GivesBack S.view p start self.new file.new p result }
+        ensures sound { (p : Pending) (start : ImageFile S) → start.header ≡ file.old.header
+            → UnseenAllocatorStep S.view p start self.old file.old
+            (with_run p start.header.fields self.old.reftable first n)
+            → ((k : ℕ) → counted_run start.header.fields self.old.reftable first n k ≡ 0)
+            ⊎ IsTrue file.old.caches.is_changed → GivesBack S.view p start self.new file.new p result }
         ensures header { file.new.header ≡ file.old.header }
         ensures list { file.new.free_list ≡ file.old.free_list }
         ensures cause { IfErr result IsOfTables }
         ensures storage_faults { CountsFaults S.view file.old.storage file.new.storage result }
-        ensures leaks { (p : Pending) (start : ImageFile S) → start.header ≡ file.old.header → UnseenAllocatorStep S.view p start self.old file.old (with_run p start.header.fields self.old.reftable first n) → SameLeaks self.old self.new }
-        ensures kept { (p : Pending) (start : ImageFile S) → start.header ≡ file.old.header → UnseenAllocatorStep S.view p start self.old file.old (with_run p start.header.fields self.old.reftable first n)
+        ensures leaks { (p : Pending) (start : ImageFile S) → start.header ≡ file.old.header
+            → UnseenAllocatorStep S.view p start self.old file.old
+            (with_run p start.header.fields self.old.reftable first n) → SameLeaks self.old self.new }
+        ensures kept { (p : Pending) (start : ImageFile S) → start.header ≡ file.old.header
+            → UnseenAllocatorStep S.view p start self.old file.old
+            (with_run p start.header.fields self.old.reftable first n)
             → OnOk result ((k : ℕ) → run_at first n k ≡ 0 → IsUsed S.view file.old k → IsUsed S.view file.new k) }
         ensures header_cluster { SparesHeader S.view self.old.reftable file.old self.new.reftable file.new }
     {

@@ -38,9 +38,15 @@ impl Allocator {
         ensures list { file.new.free_list ≡ file.old.free_list }
         ensures cause { IfErr result IsOfTables }
         ensures storage_faults { CountsFaults S.view file.old.storage file.new.storage result }
-        ensures leaks { (p : Pending) (is_data : Bool) → AllocatorInvariant S.view self.old (taken_as is_data p (run_at first n)) file.old → SameLeaks self.old self.new }
-        ensures hint { (p : Pending) (is_data : Bool) → AllocatorInvariant S.view self.old (taken_as is_data p (run_at first n)) file.old → NoFreeBelowHint S.view self.old file.old → KeepsNoFreeBelowHint S.view self.new file.new result }
-        ensures kept { (p : Pending) (is_data : Bool) → AllocatorInvariant S.view self.old (taken_as is_data p (run_at first n)) file.old → KeepsUsedBut S.view (run_at first n) file.old file.new result }
+        ensures leaks { (p : Pending) (is_data : Bool)
+            → AllocatorInvariant S.view self.old (taken_as is_data p (run_at first n)) file.old
+            → SameLeaks self.old self.new }
+        ensures hint { (p : Pending) (is_data : Bool)
+            → AllocatorInvariant S.view self.old (taken_as is_data p (run_at first n)) file.old
+            → NoFreeBelowHint S.view self.old file.old → KeepsNoFreeBelowHint S.view self.new file.new result }
+        ensures kept { (p : Pending) (is_data : Bool)
+            → AllocatorInvariant S.view self.old (taken_as is_data p (run_at first n)) file.old
+            → KeepsUsedBut S.view (run_at first n) file.old file.new result }
         ensures header_cluster { SparesHeader S.view self.old.reftable file.old self.new.reftable file.new }
     {
         if n == 0 {
@@ -61,17 +67,24 @@ impl Allocator {
         ensures marks { KeepsMarks S.view file.old file.new }
         ensures reftable { self.new.reftable ≡ self.old.reftable }
         ensures first { self.old.first_free_cluster ≤ cluster → self.new.first_free_cluster ≡ self.old.first_free_cluster }
-        ensures sound { (p : Pending) (owed : Owed) → AllocatorInvariant S.view self.old (owed_as owed p (one_at cluster)) file.old → MayLower owed file.old
+        ensures sound { (p : Pending) (owed : Owed)
+            → AllocatorInvariant S.view self.old (owed_as owed p (one_at cluster)) file.old → MayLower owed file.old
             → GivesBack S.view (owed_as owed p (one_at cluster)) file.old self.new file.new p result }
-        ensures leaks { (p : Pending) (owed : Owed) → AllocatorInvariant S.view self.old (owed_as owed p (one_at cluster)) file.old → MayLower owed file.old → SameLeaks self.old self.new }
+        ensures leaks { (p : Pending) (owed : Owed)
+            → AllocatorInvariant S.view self.old (owed_as owed p (one_at cluster)) file.old → MayLower owed file.old
+            → SameLeaks self.old self.new }
         ensures or_leaks { LowersOrLeaks self.old self.new file.new cluster result }
         ensures grows { self.old.leaked_clusters ≤ self.new.leaked_clusters }
         ensures header { file.new.header ≡ file.old.header }
         ensures list { file.new.free_list ≡ file.old.free_list }
         ensures cause { IfErr result IsOfTables }
         ensures storage_faults { CountsFaults S.view file.old.storage file.new.storage result }
-        ensures hint { (p : Pending) (owed : Owed) → AllocatorInvariant S.view self.old (owed_as owed p (one_at cluster)) file.old → MayLower owed file.old → NoFreeBelowHint S.view self.old file.old → KeepsNoFreeBelowHint S.view self.new file.new result }
-        ensures unaligned { IsUnaligned file.old.header.fields self.old.reftable (cluster / counts_per_block file.old.header.fields) → IsOk result × LeaksOne self.old self.new × (file.new ≡ file.old) }
+        ensures hint { (p : Pending) (owed : Owed)
+            → AllocatorInvariant S.view self.old (owed_as owed p (one_at cluster)) file.old → MayLower owed file.old
+            → NoFreeBelowHint S.view self.old file.old → KeepsNoFreeBelowHint S.view self.new file.new result }
+        ensures unaligned { IsUnaligned file.old.header.fields self.old.reftable
+            (cluster / counts_per_block file.old.header.fields) → IsOk result × LeaksOne self.old self.new
+            × (file.new ≡ file.old) }
         ensures header_cluster { SparesHeader S.view self.old.reftable file.old self.new.reftable file.new }
     {
         match self.try_lower(file, cluster) {
@@ -98,12 +111,14 @@ impl Allocator {
         ensures in_order { GoOffInOrder file.old.free_list file.new.free_list }
         ensures sound { (p : Pending) → AllocatorInvariant S.view self.old (with_listed p file.old.free_list) file.old
             → Frees S.view (with_listed p file.old.free_list) file.old self.new file.new (with_listed p file.new.free_list) result }
-        ensures leaks { (p : Pending) → AllocatorInvariant S.view self.old (with_listed p file.old.free_list) file.old → SameLeaks self.old self.new }
+        ensures leaks { (p : Pending) → AllocatorInvariant S.view self.old (with_listed p file.old.free_list) file.old
+            → SameLeaks self.old self.new }
         ensures grows { self.old.leaked_clusters ≤ self.new.leaked_clusters }
         ensures header { file.new.header ≡ file.old.header }
         ensures cause { IfErr result IsOfTables }
         ensures storage_faults { CountsFaults S.view file.old.storage file.new.storage result }
-        ensures hint { (p : Pending) → SoundAllocator S.view self.old (with_listed p file.old.free_list) file.old → KeepsNoFreeBelowHint S.view self.new file.new result }
+        ensures hint { (p : Pending) → SoundAllocator S.view self.old (with_listed p file.old.free_list) file.old
+            → KeepsNoFreeBelowHint S.view self.new file.new result }
         ensures unaligned { LeaksUnaligned file.old.header.fields self.old.reftable self.old self.new file.old.free_list file.new.free_list }
         ensures header_cluster { SparesHeader S.view self.old.reftable file.old self.new.reftable file.new }
     {
@@ -127,12 +142,15 @@ impl Allocator {
         ensures others { but kind file.new.free_list ≡ but kind file.old.free_list }
         ensures sound { (p : Pending) → AllocatorInvariant S.view self.old (with_listed p file.old.free_list) file.old → MayFree kind file.old
             → Frees S.view (with_listed p file.old.free_list) file.old self.new file.new (with_listed p file.new.free_list) result }
-        ensures leaks { (p : Pending) → AllocatorInvariant S.view self.old (with_listed p file.old.free_list) file.old → MayFree kind file.old → SameLeaks self.old self.new }
+        ensures leaks { (p : Pending) → AllocatorInvariant S.view self.old (with_listed p file.old.free_list) file.old
+            → MayFree kind file.old → SameLeaks self.old self.new }
         ensures grows { self.old.leaked_clusters ≤ self.new.leaked_clusters }
         ensures header { file.new.header ≡ file.old.header }
         ensures cause { IfErr result IsOfTables }
         ensures storage_faults { CountsFaults S.view file.old.storage file.new.storage result }
-        ensures hint { (p : Pending) → AllocatorInvariant S.view self.old (with_listed p file.old.free_list) file.old → MayFree kind file.old → NoFreeBelowHint S.view self.old file.old → KeepsNoFreeBelowHint S.view self.new file.new result }
+        ensures hint { (p : Pending) → AllocatorInvariant S.view self.old (with_listed p file.old.free_list) file.old
+            → MayFree kind file.old → NoFreeBelowHint S.view self.old file.old
+            → KeepsNoFreeBelowHint S.view self.new file.new result }
         ensures unaligned { LeaksUnaligned file.old.header.fields self.old.reftable self.old self.new file.old.free_list file.new.free_list }
         ensures header_cluster { SparesHeader S.view self.old.reftable file.old self.new.reftable file.new }
     {
@@ -154,15 +172,22 @@ impl Allocator {
         ensures all { OnOk result (taken.new ≡ []) }
         ensures left { OnOk result (file.new.free_list ≡ file.old.free_list ++ but kind taken.old) }
         ensures others { but kind (file.new.free_list ++ taken.new) ≡ but kind (file.old.free_list ++ taken.old) }
-        ensures sound { (p : Pending) → AllocatorInvariant S.view self.old (with_listed p (file.old.free_list ++ taken.old)) file.old → MayFree kind file.old
-            → Frees S.view (with_listed p (file.old.free_list ++ taken.old)) file.old self.new file.new (with_listed p (file.new.free_list ++ taken.new)) result }
-        ensures leaks { (p : Pending) → AllocatorInvariant S.view self.old (with_listed p (file.old.free_list ++ taken.old)) file.old → MayFree kind file.old → SameLeaks self.old self.new }
+        ensures sound { (p : Pending) → AllocatorInvariant S.view self.old
+            (with_listed p (file.old.free_list ++ taken.old)) file.old → MayFree kind file.old
+            → Frees S.view (with_listed p (file.old.free_list ++ taken.old)) file.old self.new file.new
+            (with_listed p (file.new.free_list ++ taken.new)) result }
+        ensures leaks { (p : Pending) → AllocatorInvariant S.view self.old
+            (with_listed p (file.old.free_list ++ taken.old)) file.old → MayFree kind file.old
+            → SameLeaks self.old self.new }
         ensures grows { self.old.leaked_clusters ≤ self.new.leaked_clusters }
         ensures header { file.new.header ≡ file.old.header }
         ensures cause { IfErr result IsOfTables }
         ensures storage_faults { CountsFaults S.view file.old.storage file.new.storage result }
-        ensures hint { (p : Pending) → AllocatorInvariant S.view self.old (with_listed p (file.old.free_list ++ taken.old)) file.old → MayFree kind file.old → NoFreeBelowHint S.view self.old file.old → KeepsNoFreeBelowHint S.view self.new file.new result }
-        ensures unaligned { LeaksUnaligned file.old.header.fields self.old.reftable self.old self.new (file.old.free_list ++ taken.old) (file.new.free_list ++ taken.new) }
+        ensures hint { (p : Pending) → AllocatorInvariant S.view self.old
+            (with_listed p (file.old.free_list ++ taken.old)) file.old → MayFree kind file.old
+            → NoFreeBelowHint S.view self.old file.old → KeepsNoFreeBelowHint S.view self.new file.new result }
+        ensures unaligned { LeaksUnaligned file.old.header.fields self.old.reftable self.old self.new
+            (file.old.free_list ++ taken.old) (file.new.free_list ++ taken.new) }
         ensures header_cluster { SparesHeader S.view self.old.reftable file.old self.new.reftable file.new }
     {
         'freeing: while let Some(pending) = taken.next_pending() {
@@ -182,15 +207,22 @@ impl Allocator {
         ensures reftable { self.new.reftable ≡ self.old.reftable }
         ensures left { OnOk result (file.new.free_list ≡ file.old.free_list ++ but kind (pending ∷ [])) }
         ensures others { but kind file.new.free_list ≡ but kind (file.old.free_list ++ pending ∷ []) }
-        ensures sound { (p : Pending) → AllocatorInvariant S.view self.old (with_listed p (file.old.free_list ++ pending ∷ [])) file.old → MayFree kind file.old
-            → Frees S.view (with_listed p (file.old.free_list ++ pending ∷ [])) file.old self.new file.new (with_listed p file.new.free_list) result }
-        ensures leaks { (p : Pending) → AllocatorInvariant S.view self.old (with_listed p (file.old.free_list ++ pending ∷ [])) file.old → MayFree kind file.old → SameLeaks self.old self.new }
+        ensures sound { (p : Pending) → AllocatorInvariant S.view self.old
+            (with_listed p (file.old.free_list ++ pending ∷ [])) file.old → MayFree kind file.old
+            → Frees S.view (with_listed p (file.old.free_list ++ pending ∷ [])) file.old self.new file.new
+            (with_listed p file.new.free_list) result }
+        ensures leaks { (p : Pending) → AllocatorInvariant S.view self.old
+            (with_listed p (file.old.free_list ++ pending ∷ [])) file.old → MayFree kind file.old
+            → SameLeaks self.old self.new }
         ensures grows { self.old.leaked_clusters ≤ self.new.leaked_clusters }
         ensures header { file.new.header ≡ file.old.header }
         ensures cause { IfErr result IsOfTables }
         ensures storage_faults { CountsFaults S.view file.old.storage file.new.storage result }
-        ensures hint { (p : Pending) → AllocatorInvariant S.view self.old (with_listed p (file.old.free_list ++ pending ∷ [])) file.old → MayFree kind file.old → NoFreeBelowHint S.view self.old file.old → KeepsNoFreeBelowHint S.view self.new file.new result }
-        ensures unaligned { LeaksUnaligned file.old.header.fields self.old.reftable self.old self.new (file.old.free_list ++ pending ∷ []) file.new.free_list }
+        ensures hint { (p : Pending) → AllocatorInvariant S.view self.old
+            (with_listed p (file.old.free_list ++ pending ∷ [])) file.old → MayFree kind file.old
+            → NoFreeBelowHint S.view self.old file.old → KeepsNoFreeBelowHint S.view self.new file.new result }
+        ensures unaligned { LeaksUnaligned file.old.header.fields self.old.reftable self.old self.new
+            (file.old.free_list ++ pending ∷ []) file.new.free_list }
         ensures header_cluster { SparesHeader S.view self.old.reftable file.old self.new.reftable file.new }
     {
         if pending.kind() == kind {
@@ -210,15 +242,22 @@ impl Allocator {
         ensures reftable { self.new.reftable ≡ self.old.reftable }
         ensures left { OnOk result (file.new.free_list ≡ file.old.free_list) }
         ensures others { but pending.kind file.new.free_list ≡ but pending.kind file.old.free_list }
-        ensures sound { (p : Pending) → AllocatorInvariant S.view self.old (with_listed p (file.old.free_list ++ pending ∷ [])) file.old → MayFree pending.kind file.old
-            → Frees S.view (with_listed p (file.old.free_list ++ pending ∷ [])) file.old self.new file.new (with_listed p file.new.free_list) result }
-        ensures leaks { (p : Pending) → AllocatorInvariant S.view self.old (with_listed p (file.old.free_list ++ pending ∷ [])) file.old → MayFree pending.kind file.old → SameLeaks self.old self.new }
+        ensures sound { (p : Pending) → AllocatorInvariant S.view self.old
+            (with_listed p (file.old.free_list ++ pending ∷ [])) file.old → MayFree pending.kind file.old
+            → Frees S.view (with_listed p (file.old.free_list ++ pending ∷ [])) file.old self.new file.new
+            (with_listed p file.new.free_list) result }
+        ensures leaks { (p : Pending) → AllocatorInvariant S.view self.old
+            (with_listed p (file.old.free_list ++ pending ∷ [])) file.old → MayFree pending.kind file.old
+            → SameLeaks self.old self.new }
         ensures grows { self.old.leaked_clusters ≤ self.new.leaked_clusters }
         ensures header { file.new.header ≡ file.old.header }
         ensures cause { IfErr result IsOfTables }
         ensures storage_faults { CountsFaults S.view file.old.storage file.new.storage result }
-        ensures hint { (p : Pending) → AllocatorInvariant S.view self.old (with_listed p (file.old.free_list ++ pending ∷ [])) file.old → MayFree pending.kind file.old → NoFreeBelowHint S.view self.old file.old → KeepsNoFreeBelowHint S.view self.new file.new result }
-        ensures unaligned { LeaksUnaligned file.old.header.fields self.old.reftable self.old self.new (file.old.free_list ++ pending ∷ []) file.new.free_list }
+        ensures hint { (p : Pending) → AllocatorInvariant S.view self.old
+            (with_listed p (file.old.free_list ++ pending ∷ [])) file.old → MayFree pending.kind file.old
+            → NoFreeBelowHint S.view self.old file.old → KeepsNoFreeBelowHint S.view self.new file.new result }
+        ensures unaligned { LeaksUnaligned file.old.header.fields self.old.reftable self.old self.new
+            (file.old.free_list ++ pending ∷ []) file.new.free_list }
         ensures header_cluster { SparesHeader S.view self.old.reftable file.old self.new.reftable file.new }
     {
         let mut run = pending;
@@ -244,15 +283,21 @@ impl Allocator {
         ensures reftable { self.new.reftable ≡ self.old.reftable }
         ensures kind { run.new.kind ≡ run.old.kind }
         ensures all { OnOk result (run.new.count ≡ 0) }
-        ensures sound { (p : Pending) → AllocatorInvariant S.view self.old (listed_as run.old.kind p (run_of run.old)) file.old → MayFree run.old.kind file.old
-            → Frees S.view (listed_as run.old.kind p (run_of run.old)) file.old self.new file.new (listed_as run.old.kind p (run_of run.new)) result }
-        ensures leaks { (p : Pending) → AllocatorInvariant S.view self.old (listed_as run.old.kind p (run_of run.old)) file.old → MayFree run.old.kind file.old → SameLeaks self.old self.new }
+        ensures sound { (p : Pending) → AllocatorInvariant S.view self.old
+            (listed_as run.old.kind p (run_of run.old)) file.old → MayFree run.old.kind file.old
+            → Frees S.view (listed_as run.old.kind p (run_of run.old)) file.old self.new file.new
+            (listed_as run.old.kind p (run_of run.new)) result }
+        ensures leaks { (p : Pending) → AllocatorInvariant S.view self.old
+            (listed_as run.old.kind p (run_of run.old)) file.old → MayFree run.old.kind file.old
+            → SameLeaks self.old self.new }
         ensures grows { self.old.leaked_clusters ≤ self.new.leaked_clusters }
         ensures header { file.new.header ≡ file.old.header }
         ensures list { file.new.free_list ≡ file.old.free_list }
         ensures cause { IfErr result IsOfTables }
         ensures storage_faults { CountsFaults S.view file.old.storage file.new.storage result }
-        ensures hint { (p : Pending) → AllocatorInvariant S.view self.old (listed_as run.old.kind p (run_of run.old)) file.old → MayFree run.old.kind file.old → NoFreeBelowHint S.view self.old file.old → KeepsNoFreeBelowHint S.view self.new file.new result }
+        ensures hint { (p : Pending) → AllocatorInvariant S.view self.old
+            (listed_as run.old.kind p (run_of run.old)) file.old → MayFree run.old.kind file.old
+            → NoFreeBelowHint S.view self.old file.old → KeepsNoFreeBelowHint S.view self.new file.new result }
         ensures unaligned { LeaksUnaligned file.old.header.fields self.old.reftable self.old self.new (run.old ∷ []) (run.new ∷ []) }
         ensures header_cluster { SparesHeader S.view self.old.reftable file.old self.new.reftable file.new }
     {
@@ -274,14 +319,19 @@ impl Allocator {
         ensures leaked { self.new.leaked_clusters ≡ self.old.leaked_clusters }
         ensures tries { TriesToLower file.new cluster result }
         ensures first { self.old.first_free_cluster ≤ cluster → self.new.first_free_cluster ≡ self.old.first_free_cluster }
-        ensures sound { (p : Pending) (owed : Owed) → AllocatorInvariant S.view self.old (owed_as owed p (one_at cluster)) file.old → MayLower owed file.old
+        ensures sound { (p : Pending) (owed : Owed)
+            → AllocatorInvariant S.view self.old (owed_as owed p (one_at cluster)) file.old → MayLower owed file.old
             → LowersOne S.view (owed_as owed p (one_at cluster)) file.old self.new file.new p result }
         ensures header { file.new.header ≡ file.old.header }
         ensures list { file.new.free_list ≡ file.old.free_list }
         ensures cause { IfErr result IsOfTables }
         ensures storage_faults { CountsFaults S.view file.old.storage file.new.storage result }
-        ensures hint { (p : Pending) (owed : Owed) → AllocatorInvariant S.view self.old (owed_as owed p (one_at cluster)) file.old → MayLower owed file.old → NoFreeBelowHint S.view self.old file.old → KeepsNoFreeBelowHint S.view self.new file.new result }
-        ensures unaligned { IsUnaligned file.old.header.fields self.old.reftable (cluster / counts_per_block file.old.header.fields) → IsErrOf result ImageError.UnalignedTable × (file.new ≡ file.old) }
+        ensures hint { (p : Pending) (owed : Owed)
+            → AllocatorInvariant S.view self.old (owed_as owed p (one_at cluster)) file.old → MayLower owed file.old
+            → NoFreeBelowHint S.view self.old file.old → KeepsNoFreeBelowHint S.view self.new file.new result }
+        ensures unaligned { IsUnaligned file.old.header.fields self.old.reftable
+            (cluster / counts_per_block file.old.header.fields) → IsErrOf result ImageError.UnalignedTable
+            × (file.new ≡ file.old) }
         ensures header_cluster { SparesHeader S.view self.old.reftable file.old self.new.reftable file.new }
     {
         let bits = file.header.rb_bits();

@@ -185,7 +185,8 @@ impl<S: Storage> Storage for ImageStorage<S> {
     }
 
     fn read(&mut self, at: u64, buf: &mut [u8]) -> Result<(), StorageError>
-        ensures read { (S.view (storage_of self.old)).is_honest → OnOk result (buf.new ≡ bytes_at (S.view (storage_of self.old)).contents at (length buf.old)) }
+        ensures read { (S.view (storage_of self.old)).is_honest
+            → OnOk result (buf.new ≡ bytes_at (S.view (storage_of self.old)).contents at (length buf.old)) }
         ensures same { ContentsStay (S.view (storage_of self.old)) (S.view (storage_of self.new)) }
         ensures calls { QuietCalls (S.view (storage_of self.old)) (S.view (storage_of self.new)) result }
         ensures unnoted { SameNotes self.old self.new }

@@ -72,9 +72,12 @@ fn write_new_block<S: Storage>(
     ensures tables { l2_tables file.new.caches ≡ l2_tables file.old.caches }
     ensures clean { AreClean (refblocks file.old.caches) → AreClean (refblocks file.new.caches) }
     ensures others { (c : ℕ) → (c ≡ cluster → ⊥) → rb_at file.new.caches c ≡ rb_at file.old.caches c }
-    ensures sound { (p : Pending) (first n : ℕ) (allocator : AllocatorView) → AllocatorInvariant S.view allocator (with_run p file.old.header.fields allocator.reftable first n) file.old
-        → BlocksMayGo (order_of file.old.caches) (l2_tables file.old.caches) → 0 < run_at first n cluster → IsBlockOf file.old.header.fields block.now
-        → WritesTo S.view (with_run p file.old.header.fields allocator.reftable first n) file.old allocator file.new cluster block.now.bytes result }
+    ensures sound { (p : Pending) (first n : ℕ) (allocator : AllocatorView)
+        → AllocatorInvariant S.view allocator (with_run p file.old.header.fields allocator.reftable first n) file.old
+        → BlocksMayGo (order_of file.old.caches) (l2_tables file.old.caches) → 0 < run_at first n cluster
+        → IsBlockOf file.old.header.fields block.now
+        → WritesTo S.view (with_run p file.old.header.fields allocator.reftable first n) file.old allocator file.new
+        cluster block.now.bytes result }
     ensures header_cluster { KeepsHeaderCluster block.now.cluster_bits (view_in S.view file.old) (view_in S.view file.new) }
     ensures header { file.new.header ≡ file.old.header }
     ensures list { file.new.free_list ≡ file.old.free_list }
@@ -101,10 +104,13 @@ pub(crate) fn place_table<S: Storage>(
     ensures notes { KeepsNotes S.view file.old.storage file.new.storage }
     ensures noted { OnOk result (IsTrue (is_changed_of file.new.storage)) }
     ensures table { table.new ≡ placed_at table.old cluster }
-    ensures sound { (p : Pending) (first n clusters : ℕ) (allocator : AllocatorView) → AllocatorInvariant S.view allocator (with_run p file.old.header.fields allocator.reftable first n) file.old
-        → BlocksMayGo (order_of file.old.caches) (l2_tables file.old.caches) → first ≤ cluster → cluster + clusters ≤ first + n → table.old.cluster_bits ≡ file.old.header.fields.cluster_bits
+    ensures sound { (p : Pending) (first n clusters : ℕ) (allocator : AllocatorView)
+        → AllocatorInvariant S.view allocator (with_run p file.old.header.fields allocator.reftable first n) file.old
+        → BlocksMayGo (order_of file.old.caches) (l2_tables file.old.caches) → first ≤ cluster
+        → cluster + clusters ≤ first + n → table.old.cluster_bits ≡ file.old.header.fields.cluster_bits
         → length table.old.bytes ≡ clusters * cluster_size file.old.header.fields
-        → WritesTable S.view (with_run p file.old.header.fields allocator.reftable first n) file.old allocator file.new cluster clusters table.old.bytes result }
+        → WritesTable S.view (with_run p file.old.header.fields allocator.reftable first n) file.old allocator file.new
+        cluster clusters table.old.bytes result }
     ensures header_cluster { KeepsHeaderCluster table.old.cluster_bits (view_in S.view file.old) (view_in S.view file.new) }
     ensures header { file.new.header ≡ file.old.header }
     ensures list { file.new.free_list ≡ file.old.free_list }
@@ -137,9 +143,12 @@ impl Allocator {
         ensures rest { table.new ≡ record table.old { bytes = table.new.bytes } }
         ensures as_long { length table.new.bytes ≡ length table.old.bytes }
         ensures lacking { NamesLacking self.now.reftable table.old table.new }
-        ensures sound { (p : Pending) → AllocatorInvariant S.view self.now (with_run p file.old.header.fields self.now.reftable room.first (room_length room)) file.old
-            → BlocksMayGo (order_of file.old.caches) (l2_tables file.old.caches) → IsLonger file.old.header.fields self.now.reftable table.old room.clusters
-            → PlacesBlocks S.view (with_run p file.old.header.fields self.now.reftable room.first (room_length room)) file.old self.now file.new self.now.reftable table.new room result }
+        ensures sound { (p : Pending) → AllocatorInvariant S.view self.now
+            (with_run p file.old.header.fields self.now.reftable room.first (room_length room)) file.old
+            → BlocksMayGo (order_of file.old.caches) (l2_tables file.old.caches)
+            → IsLonger file.old.header.fields self.now.reftable table.old room.clusters
+            → PlacesBlocks S.view (with_run p file.old.header.fields self.now.reftable room.first
+            (room_length room)) file.old self.now file.new self.now.reftable table.new room result }
         ensures header_cluster { KeepsHeaderCluster file.old.header.fields.cluster_bits (view_in S.view file.old) (view_in S.view file.new) }
         ensures header { file.new.header ≡ file.old.header }
         ensures list { file.new.free_list ≡ file.old.free_list }
@@ -189,11 +198,15 @@ impl Allocator {
         ensures place { OnOk result (self.new.reftable.cluster ≡ Some (room.first + room.blocks)) }
         ensures lacking { OnOk result (NamesLacking self.old.reftable table self.new.reftable) }
         ensures first { self.new.first_free_cluster ≡ self.old.first_free_cluster }
-        ensures sound { (p : Pending) → AllocatorInvariant S.view self.old (with_run p file.old.header.fields self.old.reftable room.first (room_length room)) file.old
+        ensures sound { (p : Pending) → AllocatorInvariant S.view self.old
+            (with_run p file.old.header.fields self.old.reftable room.first (room_length room)) file.old
             → IsLonger file.old.header.fields self.old.reftable table room.clusters
-            → NamesReftable S.view (with_run p file.old.header.fields self.old.reftable room.first (room_length room)) p file.old self.new file.new result }
-        ensures uses { (p : Pending) → AllocatorInvariant S.view self.old (with_run p file.old.header.fields self.old.reftable room.first (room_length room)) file.old
-            → IsLonger file.old.header.fields self.old.reftable table room.clusters → KeepsUsed S.view file.old file.new result }
+            → NamesReftable S.view (with_run p file.old.header.fields self.old.reftable room.first
+            (room_length room)) p file.old self.new file.new result }
+        ensures uses { (p : Pending) → AllocatorInvariant S.view self.old
+            (with_run p file.old.header.fields self.old.reftable room.first (room_length room)) file.old
+            → IsLonger file.old.header.fields self.old.reftable table room.clusters
+            → KeepsUsed S.view file.old file.new result }
         ensures header { KeepsHeader file.old.header file.new.header }
         ensures list { file.new.free_list ≡ file.old.free_list }
         ensures cause { IfErr result IsOfTables }

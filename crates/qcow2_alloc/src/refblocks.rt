@@ -57,8 +57,10 @@ fn write_block<S: Storage>(file: &mut ImageFile<S>, mut block: RefBlock) -> Resu
     requires placed { IsSome block.cluster }
     requires elsewhere { IfSome block.cluster (λ at. 0 < at) }
     ensures marks { KeepsMarks S.view file.old file.new }
-    ensures sound { (p : Pending) (counts_itself : Bool) (allocator : Allocator) (range at : ℕ) → AllocatorInvariant S.view allocator (placing counts_itself p at) file.old
-        → HasPlaceFor counts_itself file.old.header.fields allocator.reftable range at → IsBlockOf file.old.header.fields block → block.cluster ≡ Some at
+    ensures sound { (p : Pending) (counts_itself : Bool) (allocator : Allocator) (range at : ℕ)
+        → AllocatorInvariant S.view allocator (placing counts_itself p at) file.old
+        → HasPlaceFor counts_itself file.old.header.fields allocator.reftable range at
+        → IsBlockOf file.old.header.fields block → block.cluster ≡ Some at
         → WritesBlock S.view (placing counts_itself p at) file.old allocator file.new block at result }
     ensures counted { OnOk result (AreClean (refblocks file.new.caches)) }
     ensures noted { OnOk result (IsTrue (is_changed_of file.new.storage)) }
@@ -67,7 +69,8 @@ fn write_block<S: Storage>(file: &mut ImageFile<S>, mut block: RefBlock) -> Resu
     ensures list { file.new.free_list ≡ file.old.free_list }
     ensures cause { IfErr result IsOfTables }
     ensures storage_faults { CountsFaults S.view file.old.storage file.new.storage result }
-    ensures header_cluster { (reftable : EntryTableView) → block.cluster_bits ≡ file.old.header.fields.cluster_bits → SparesHeader S.view reftable file.old reftable file.new }
+    ensures header_cluster { (reftable : EntryTableView) → block.cluster_bits ≡ file.old.header.fields.cluster_bits
+        → SparesHeader S.view reftable file.old reftable file.new }
 {
     file.caches.flush_rb(&mut file.storage)?;
     file.storage.will_write(WriteKind::Other);
@@ -104,11 +107,13 @@ impl Allocator {
         range: u64,
     ) -> Result<Option<HostCluster>, ImageError>
         ensures marks { KeepsMarks S.view file.old file.new }
-        ensures sound { (p : Pending) → AllocatorInvariant S.view self.now p file.old → LoadsBlock S.view p file.old self.now file.new range result }
+        ensures sound { (p : Pending) → AllocatorInvariant S.view self.now p file.old
+            → LoadsBlock S.view p file.old self.now file.new range result }
         ensures header { file.new.header ≡ file.old.header }
         ensures list { file.new.free_list ≡ file.old.free_list }
         ensures cause { IfErr result IsOfTables }
-        ensures unaligned { IsUnaligned file.old.header.fields self.now.reftable range → IsErrOf result ImageError.UnalignedTable × (file.new ≡ file.old) }
+        ensures unaligned { IsUnaligned file.old.header.fields self.now.reftable range
+            → IsErrOf result ImageError.UnalignedTable × (file.new ≡ file.old) }
         ensures names { IfOk result (NamesBlock file.old.header.fields self.now.reftable range) }
         ensures has { IfOk result (λ block. IsSome block → HasNone self.now.reftable range → ⊥) }
         ensures held { IfOk result (λ block. IfSome block (λ block. IsSome (rb_at file.new.caches block))) }
@@ -136,14 +141,18 @@ impl Allocator {
         ensures marks { KeepsMarks S.view file.old file.new }
         ensures noted { IfOk result (λ taken. IsTrue taken → IsTrue file.new.caches.is_changed) }
         ensures same { self.new ≡ self.old }
-        ensures sound { (p : Pending) (is_data : Bool) → AllocatorInvariant S.view self.old p file.old → MayTake is_data file.old → TakesOne S.view p file.old self.new file.new is_data cluster result }
+        ensures sound { (p : Pending) (is_data : Bool) → AllocatorInvariant S.view self.old p file.old
+            → MayTake is_data file.old → TakesOne S.view p file.old self.new file.new is_data cluster result }
         ensures header { file.new.header ≡ file.old.header }
         ensures list { file.new.free_list ≡ file.old.free_list }
         ensures cause { IfErr result IsOfTables }
         ensures storage_faults { CountsFaults S.view file.old.storage file.new.storage result }
         ensures fault { (p : Pending) → AllocatorInvariant S.view self.old p file.old → IfErr result IsFault }
-        ensures used { (p : Pending) → AllocatorInvariant S.view self.old p file.old → (HasNone self.old.reftable (cluster / counts_per_block file.old.header.fields) → ⊥) → IfOk result (λ taken. taken ≡ false → IsUsed S.view file.new cluster) }
-        ensures free { (p : Pending) → AllocatorInvariant S.view self.old p file.old → IfOk result (λ taken. IsTrue taken → ¬ IsUsed S.view file.old cluster) }
+        ensures used { (p : Pending) → AllocatorInvariant S.view self.old p file.old
+            → (HasNone self.old.reftable (cluster / counts_per_block file.old.header.fields) → ⊥)
+            → IfOk result (λ taken. taken ≡ false → IsUsed S.view file.new cluster) }
+        ensures free { (p : Pending) → AllocatorInvariant S.view self.old p file.old
+            → IfOk result (λ taken. IsTrue taken → ¬ IsUsed S.view file.old cluster) }
         ensures header_cluster { SparesHeader S.view self.old.reftable file.old self.new.reftable file.new }
     {
         let bits = file.header.rb_bits();
@@ -162,7 +171,9 @@ impl Allocator {
     ) -> Result<(), ImageError>
         requires { cluster < 2 ^ 63 }
         ensures marks { KeepsMarks S.view file.old file.new }
-        ensures sound { (p : Pending) → AllocatorInvariant S.view self.old p file.old → GrowsTable S.view p file.old self.new file.new (pending_then p file.old.free_list file.new.free_list) result }
+        ensures sound { (p : Pending) → AllocatorInvariant S.view self.old p file.old
+            → GrowsTable S.view p file.old self.new file.new
+            (pending_then p file.old.free_list file.new.free_list) result }
         ensures header { KeepsHeader file.old.header file.new.header }
         ensures list { ListsTables file.old.free_list file.new.free_list }
         ensures cause { IfErr result IsOfTables }
@@ -170,10 +181,15 @@ impl Allocator {
         ensures listed { (p : Pending) → AllocatorInvariant S.view self.old p file.old → ListsUsed S.view file.old file.new }
         ensures storage_faults { CountsFaults S.view file.old.storage file.new.storage result }
         ensures leaks { (p : Pending) → AllocatorInvariant S.view self.old p file.old → SameLeaks self.old self.new }
-        ensures limit { (p : Pending) → AllocatorInvariant S.view self.old p file.old → NoFreeBelowHint S.view self.old file.old → IsHostCluster file.old.header.fields.cluster_bits cluster → IfErr result (IsFaultOr (CantCount (IsUsed S.view file.new) file.new.header.fields (λ k. 0) self.new cluster)) }
+        ensures limit { (p : Pending) → AllocatorInvariant S.view self.old p file.old
+            → NoFreeBelowHint S.view self.old file.old → IsHostCluster file.old.header.fields.cluster_bits cluster
+            → IfErr result (IsFaultOr (CantCount (IsUsed S.view file.new) file.new.header.fields
+            (λ k. 0) self.new cluster)) }
         ensures has { OnOk result (HasNone self.new.reftable (cluster / counts_per_block file.old.header.fields) → ⊥) }
-        ensures named { cluster / counts_per_block file.old.header.fields < entry_count self.old.reftable → KeepsNamed self.old.reftable self.new.reftable }
-        ensures hint { (p : Pending) → AllocatorInvariant S.view self.old p file.old → NoFreeBelowHint S.view self.old file.old → KeepsNoFreeBelowHint S.view self.new file.new result }
+        ensures named { cluster / counts_per_block file.old.header.fields < entry_count self.old.reftable
+            → KeepsNamed self.old.reftable self.new.reftable }
+        ensures hint { (p : Pending) → AllocatorInvariant S.view self.old p file.old
+            → NoFreeBelowHint S.view self.old file.old → KeepsNoFreeBelowHint S.view self.new file.new result }
         ensures uses { (p : Pending) → AllocatorInvariant S.view self.old p file.old → KeepsUsed S.view file.old file.new result }
         ensures header_cluster { SparesHeaderButPointer S.view self.old.reftable file.old self.new.reftable file.new }
     {
@@ -200,9 +216,12 @@ impl Allocator {
         ensures named { KeepsNamed self.old.reftable self.new.reftable }
         ensures storage_faults { CountsFaults S.view file.old.storage file.new.storage result }
         ensures leaks { SameLeaks self.old self.new }
-        ensures fault { (p : Pending) → AllocatorInvariant S.view self.old p file.old → cluster / counts_per_block file.old.header.fields < entry_count self.old.reftable → IsHostCluster file.old.header.fields.cluster_bits cluster → IfErr result IsFault }
+        ensures fault { (p : Pending) → AllocatorInvariant S.view self.old p file.old
+            → cluster / counts_per_block file.old.header.fields < entry_count self.old.reftable
+            → IsHostCluster file.old.header.fields.cluster_bits cluster → IfErr result IsFault }
         ensures has { OnOk result (HasNone self.new.reftable (cluster / counts_per_block file.old.header.fields) → ⊥) }
-        ensures hint { (p : Pending) → AllocatorInvariant S.view self.old p file.old → NoFreeBelowHint S.view self.old file.old → KeepsNoFreeBelowHint S.view self.new file.new result }
+        ensures hint { (p : Pending) → AllocatorInvariant S.view self.old p file.old
+            → NoFreeBelowHint S.view self.old file.old → KeepsNoFreeBelowHint S.view self.new file.new result }
         ensures header_cluster { SparesHeader S.view self.old.reftable file.old self.new.reftable file.new }
     {
         let bits = file.header.rb_bits();
@@ -244,7 +263,8 @@ impl Allocator {
         ensures cause { IfErr result IsOfTables }
         ensures storage_faults { CountsFaults S.view file.old.storage file.new.storage result }
         ensures leaks { SameLeaks self.old self.new }
-        ensures hint { (p : Pending) → AllocatorInvariant S.view self.old p file.old → NoFreeBelowHint S.view self.old file.old → KeepsNoFreeBelowHint S.view self.new file.new result }
+        ensures hint { (p : Pending) → AllocatorInvariant S.view self.old p file.old
+            → NoFreeBelowHint S.view self.old file.old → KeepsNoFreeBelowHint S.view self.new file.new result }
         ensures header_cluster { SparesHeader S.view self.old.reftable file.old self.new.reftable file.new }
     {
         let bits = file.header.rb_bits();
@@ -277,7 +297,10 @@ impl Allocator {
         ensures cause { IfErr result IsOfTables }
         ensures storage_faults { CountsFaults S.view file.old.storage file.new.storage result }
         ensures leaks { SameLeaks self.old self.new }
-        ensures fault { (p : Pending) → AllocatorInvariant S.view self.old p file.old → range < entry_count self.old.reftable → IsHostCluster file.old.header.fields.cluster_bits (range * counts_per_block file.old.header.fields) → IfErr result IsFault }
+        ensures fault { (p : Pending) → AllocatorInvariant S.view self.old p file.old
+            → range < entry_count self.old.reftable
+            → IsHostCluster file.old.header.fields.cluster_bits (range * counts_per_block file.old.header.fields)
+            → IfErr result IsFault }
         ensures first { self.new.first_free_cluster ≡ self.old.first_free_cluster }
         ensures has { OnOk result (HasNone self.new.reftable range → ⊥) }
         ensures named { KeepsNamed self.old.reftable self.new.reftable }
@@ -312,7 +335,8 @@ impl Allocator {
         ensures noted { OnOk result (IsTrue (has_noted file.new)) }
         ensures entries { KeepsEntries (λ k. k ≢ range) self.old.reftable self.new.reftable }
         ensures has { OnOk result (HasNone self.new.reftable range → ⊥) }
-        ensures sound { (p : Pending) → AllocatorInvariant S.view self.old (placing counts_itself p at) file.old → HasPlaceFor counts_itself file.old.header.fields self.old.reftable range at
+        ensures sound { (p : Pending) → AllocatorInvariant S.view self.old (placing counts_itself p at) file.old
+            → HasPlaceFor counts_itself file.old.header.fields self.old.reftable range at
             → PlacesBlock S.view (placing counts_itself p at) file.old self.new file.new p range at result }
         ensures header { file.new.header ≡ file.old.header }
         ensures list { file.new.free_list ≡ file.old.free_list }
@@ -340,7 +364,9 @@ impl Allocator {
         ensures elsewhere { IsTrue result → 0 < cluster }
         ensures nameable { IsTrue result → IsHostCluster self.now.reftable.cluster_bits cluster }
         ensures nameable_here { IsTrue result → IsHostCluster cluster_bits cluster }
-        ensures able { index < entry_count self.now.reftable → 0 < cluster → IsSome self.now.reftable.cluster → IsHostCluster self.now.reftable.cluster_bits cluster → IsHostCluster cluster_bits cluster → IsTrue result }
+        ensures able { index < entry_count self.now.reftable → 0 < cluster → IsSome self.now.reftable.cluster
+            → IsHostCluster self.now.reftable.cluster_bits cluster → IsHostCluster cluster_bits cluster
+            → IsTrue result }
     {
         self.reftable.in_bounds(index)
             && cluster.value() > 0

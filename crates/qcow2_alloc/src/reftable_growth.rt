@@ -40,18 +40,28 @@ impl Allocator {
     ) -> Result<(), ImageError>
         ensures marks { KeepsMarks S.view file.old file.new }
         ensures noted { OnOk result (IsTrue (has_noted file.new)) }
-        ensures sound { (p : Pending) → AllocatorInvariant S.view self.old p file.old → GrowsTable S.view p file.old self.new file.new (pending_then p file.old.free_list file.new.free_list) result }
+        ensures sound { (p : Pending) → AllocatorInvariant S.view self.old p file.old
+            → GrowsTable S.view p file.old self.new file.new
+            (pending_then p file.old.free_list file.new.free_list) result }
         ensures header { KeepsHeader file.old.header file.new.header }
         ensures list { ListsTables file.old.free_list file.new.free_list }
-        ensures length { OnOk result (IsLeastLength (entry_count self.old.reftable) index (entries_per_cluster file.old.header.fields) (counts_per_block file.old.header.fields) (entry_count self.new.reftable)) }
-        ensures lowest { (p : Pending) → SoundAllocator S.view self.old p file.old → OnOk result (LiesLowest (IsUsed S.view file.new) file.new.header.fields self.old.reftable self.new.reftable) }
+        ensures length { OnOk result (IsLeastLength (entry_count self.old.reftable) index
+            (entries_per_cluster file.old.header.fields) (counts_per_block file.old.header.fields)
+            (entry_count self.new.reftable)) }
+        ensures lowest { (p : Pending) → SoundAllocator S.view self.old p file.old
+            → OnOk result (LiesLowest (IsUsed S.view file.new) file.new.header.fields self.old.reftable
+            self.new.reftable) }
         ensures elsewhere { OnOk result (IfSome self.new.reftable.cluster (λ c. 0 < c)) }
         ensures cause { IfErr result IsOfTables }
         ensures former { GivesWay self.old.reftable self.new.reftable file.old.free_list file.new.free_list result }
-        ensures made { (p : Pending) → AllocatorInvariant S.view self.old p file.old → TakesAlone S.view (λ done k. 0) (IsMadeOnTheWay file.old.header.fields self.old.reftable self.new.reftable) file.old file.new result }
+        ensures made { (p : Pending) → AllocatorInvariant S.view self.old p file.old
+            → TakesAlone S.view (λ done k. 0)
+            (IsMadeOnTheWay file.old.header.fields self.old.reftable self.new.reftable) file.old file.new result }
         ensures storage_faults { CountsFaults S.view file.old.storage file.new.storage result }
         ensures leaks { (p : Pending) → AllocatorInvariant S.view self.old p file.old → SameLeaks self.old self.new }
-        ensures limit { (p : Pending) → SoundAllocator S.view self.old p file.old → IfErr result (IsFaultOr ((self.new.reftable ≡ self.old.reftable) × CantGrow (IsUsed S.view file.new) file.new.header.fields (λ k. 0) self.old.reftable index)) }
+        ensures limit { (p : Pending) → SoundAllocator S.view self.old p file.old
+            → IfErr result (IsFaultOr ((self.new.reftable ≡ self.old.reftable)
+            × CantGrow (IsUsed S.view file.new) file.new.header.fields (λ k. 0) self.old.reftable index)) }
         ensures first { self.new.first_free_cluster ≡ self.old.first_free_cluster }
         ensures uses { (p : Pending) → AllocatorInvariant S.view self.old p file.old → KeepsUsed S.view file.old file.new result }
         ensures header_cluster { SparesHeaderButPointer S.view self.old.reftable file.old self.new.reftable file.new }
@@ -77,11 +87,15 @@ impl Allocator {
         header: &Header,
         index: usize,
     ) -> Result<RefTable, ImageError>
-        ensures length { IfOk result (λ t. IsLeastLength (entry_count self.now.reftable) index (entries_per_cluster header.now.fields) (counts_per_block header.now.fields) (entry_count t)) }
+        ensures length { IfOk result (λ t. IsLeastLength (entry_count self.now.reftable) index
+            (entries_per_cluster header.now.fields) (counts_per_block header.now.fields) (entry_count t)) }
         ensures entries { IfOk result (IsCloneOf self.now.reftable) }
         ensures cause { IfErr result IsOfTables }
         ensures no_fault { IsErrOf result ImageError.Storage → ⊥ }
-        ensures limit { IfErr result (IsFaultOr ((entries : ℕ) → entries ≤ 2 ^ 20 → IsLongEnough (entry_count self.now.reftable) index (entries_per_cluster header.now.fields) (counts_per_block header.now.fields) entries → ⊥)) }
+        ensures limit { IfErr result (IsFaultOr
+            ((entries : ℕ) → entries ≤ 2 ^ 20
+            → IsLongEnough (entry_count self.now.reftable) index (entries_per_cluster header.now.fields)
+            (counts_per_block header.now.fields) entries → ⊥)) }
     {
         let index = index as u64;
         if index > MAX_REFTABLE_ENTRIES as u64 {
@@ -99,7 +113,10 @@ impl Allocator {
 
     // Room on the list of clusters to be freed for those of the reftable.
     fn former_reftable(&self, alloc: Global) -> Result<PendingClusters, ImageError>
-        ensures run { IfOk result (λ former. IfSome self.now.reftable.cluster (λ c. former ≡ metadata_entry c ((length self.now.reftable.bytes + 2 ^ self.now.reftable.cluster_bits - 1) / 2 ^ self.now.reftable.cluster_bits))) }
+        ensures run { IfOk result (λ former. IfSome self.now.reftable.cluster
+            (λ c. former ≡ metadata_entry c
+            ((length self.now.reftable.bytes + 2 ^ self.now.reftable.cluster_bits - 1) / 2 ^
+            self.now.reftable.cluster_bits))) }
         ensures kind { IfOk result (λ former. former.kind ≡ Metadata) }
         ensures is_table { IsRefTable self.now.reftable }
         ensures cause { IfErr result IsOfTables }
@@ -126,9 +143,17 @@ impl Allocator {
         requires some { 0 < entry_count table }
         ensures marks { KeepsMarks S.view file.old file.new }
         ensures noted { OnOk result (IsTrue (has_noted file.new)) }
-        ensures enters { (p : Pending) → AllocatorInvariant S.view self.old p file.old → IsCloneOf self.old.reftable table → entry_count table % entries_per_cluster file.old.header.fields ≡ 0 → EntersReftable S.view p file.old self.new file.new result }
-        ensures uses { (p : Pending) → AllocatorInvariant S.view self.old p file.old → IsCloneOf self.old.reftable table → entry_count table % entries_per_cluster file.old.header.fields ≡ 0 → KeepsUsed S.view file.old file.new result }
-        ensures lowest { (p : Pending) → AllocatorInvariant S.view self.old p file.old → NoFreeBelowHint S.view self.old file.old → IsCloneOf self.old.reftable table → entry_count table % entries_per_cluster file.old.header.fields ≡ 0 → OnOk result (LiesLowest (IsUsed S.view file.new) file.new.header.fields self.old.reftable self.new.reftable) }
+        ensures enters { (p : Pending) → AllocatorInvariant S.view self.old p file.old
+            → IsCloneOf self.old.reftable table → entry_count table % entries_per_cluster file.old.header.fields ≡ 0
+            → EntersReftable S.view p file.old self.new file.new result }
+        ensures uses { (p : Pending) → AllocatorInvariant S.view self.old p file.old → IsCloneOf self.old.reftable table
+            → entry_count table % entries_per_cluster file.old.header.fields ≡ 0
+            → KeepsUsed S.view file.old file.new result }
+        ensures lowest { (p : Pending) → AllocatorInvariant S.view self.old p file.old
+            → NoFreeBelowHint S.view self.old file.old → IsCloneOf self.old.reftable table
+            → entry_count table % entries_per_cluster file.old.header.fields ≡ 0
+            → OnOk result (LiesLowest (IsUsed S.view file.new) file.new.header.fields self.old.reftable
+            self.new.reftable) }
         ensures header { KeepsHeader file.old.header file.new.header }
         ensures list { file.new.free_list ≡ file.old.free_list }
         ensures table { OnOk result (entry_count self.new.reftable ≡ entry_count table) }
@@ -139,8 +164,12 @@ impl Allocator {
         ensures kept { OnErr result (self.new.reftable ≡ self.old.reftable) }
         ensures storage_faults { CountsFaults S.view file.old.storage file.new.storage result }
         ensures leaks { (p : Pending) → AllocatorInvariant S.view self.old p file.old → SameLeaks self.old self.new }
-        ensures limit { (p : Pending) → AllocatorInvariant S.view self.old p file.old → NoFreeBelowHint S.view self.old file.old → IsCloneOf self.old.reftable table → entry_count table % entries_per_cluster file.old.header.fields ≡ 0
-            → IfErr result (IsFaultOr ((self.new.reftable ≡ self.old.reftable) × HasNoRoomFor (IsUsed S.view file.new) file.new.header.fields (λ k. 0) self.old.reftable (entry_count table))) }
+        ensures limit { (p : Pending) → AllocatorInvariant S.view self.old p file.old
+            → NoFreeBelowHint S.view self.old file.old → IsCloneOf self.old.reftable table
+            → entry_count table % entries_per_cluster file.old.header.fields ≡ 0
+            → IfErr result (IsFaultOr ((self.new.reftable ≡ self.old.reftable)
+            × HasNoRoomFor (IsUsed S.view file.new) file.new.header.fields (λ k. 0) self.old.reftable
+            (entry_count table))) }
         ensures header_cluster { SparesHeaderButPointer S.view self.old.reftable file.old self.new.reftable file.new }
     {
         let bits = file.header.cluster_bits();

@@ -24,11 +24,17 @@ impl Allocator {
     ) -> Result<(), ImageError>
         requires noted { IsTrue (is_changed_of file.old.storage) }
         ensures marks { KeepsMarks S.view file.old file.new }
-        ensures names { (p : Pending) (first blocks clusters : ℕ) → AllocatorInvariant S.view self.old (with_run p file.old.header.fields self.old.reftable first (blocks + clusters)) file.old
+        ensures names { (p : Pending) (first blocks clusters : ℕ)
+            → AllocatorInvariant S.view self.old
+            (with_run p file.old.header.fields self.old.reftable first (blocks + clusters)) file.old
             → StandsGrown S.view file.old self.old.reftable table first blocks clusters
-            → NamesReftable S.view (with_run p file.old.header.fields self.old.reftable first (blocks + clusters)) p file.old self.new file.new result }
-        ensures uses { (p : Pending) (first blocks clusters : ℕ) → AllocatorInvariant S.view self.old (with_run p file.old.header.fields self.old.reftable first (blocks + clusters)) file.old
-            → StandsGrown S.view file.old self.old.reftable table first blocks clusters → KeepsUsed S.view file.old file.new result }
+            → NamesReftable S.view (with_run p file.old.header.fields self.old.reftable first
+            (blocks + clusters)) p file.old self.new file.new result }
+        ensures uses { (p : Pending) (first blocks clusters : ℕ)
+            → AllocatorInvariant S.view self.old
+            (with_run p file.old.header.fields self.old.reftable first (blocks + clusters)) file.old
+            → StandsGrown S.view file.old self.old.reftable table first blocks clusters
+            → KeepsUsed S.view file.old file.new result }
         ensures header { KeepsHeader file.old.header file.new.header }
         ensures list { file.new.free_list ≡ file.old.free_list }
         ensures table { OnOk result (self.new.reftable ≡ table) }
@@ -37,7 +43,9 @@ impl Allocator {
         ensures kept { OnErr result (self.new.reftable ≡ self.old.reftable) }
         ensures storage_faults { CountsFaults S.view file.old.storage file.new.storage result }
         ensures leaks { SameLeaks self.old self.new }
-        ensures header_cluster { IfSome table.cluster (λ cluster. 0 < cluster) → table.cluster_bits ≡ file.old.header.fields.cluster_bits → SparesHeaderButPointer S.view self.old.reftable file.old self.new.reftable file.new }
+        ensures header_cluster { IfSome table.cluster (λ cluster. 0 < cluster)
+            → table.cluster_bits ≡ file.old.header.fields.cluster_bits
+            → SparesHeaderButPointer S.view self.old.reftable file.old self.new.reftable file.new }
     {
         let Some(cluster) = table.get_cluster() else {
             return Err(ImageError::Limit);

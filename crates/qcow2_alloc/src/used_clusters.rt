@@ -25,14 +25,16 @@ impl Allocator {
         requires { cluster < 2 ^ 63 }
         ensures marks { KeepsMarks S.view file.old file.new }
         ensures moves { self.new ≡ record self.old { first_free_cluster = passed_hint self.old.first_free_cluster cluster result } }
-        ensures sound { (p : Pending) → AllocatorInvariant S.view self.old p file.old → PassesUsed S.view p file.old self.new file.new cluster result }
+        ensures sound { (p : Pending) → AllocatorInvariant S.view self.old p file.old
+            → PassesUsed S.view p file.old self.new file.new cluster result }
         ensures header { file.new.header ≡ file.old.header }
         ensures list { file.new.free_list ≡ file.old.free_list }
         ensures cause { IfErr result IsOfTables }
         ensures storage_faults { CountsFaults S.view file.old.storage file.new.storage result }
         ensures behind { IfOk result (λ next. cluster ≤ next) }
         ensures far { IfOk result (GoesFar file.old.header.fields self.old.reftable file.new.caches cluster) }
-        ensures hint { (p : Pending) → AllocatorInvariant S.view self.old p file.old → NoFreeBelowHint S.view self.old file.old → KeepsNoFreeBelowHint S.view self.new file.new result }
+        ensures hint { (p : Pending) → AllocatorInvariant S.view self.old p file.old
+            → NoFreeBelowHint S.view self.old file.old → KeepsNoFreeBelowHint S.view self.new file.new result }
         ensures none { HasNone self.old.reftable (cluster / counts_per_block file.old.header.fields) → file.new ≡ file.old }
         ensures header_cluster { SparesHeader S.view self.old.reftable file.old self.new.reftable file.new }
     {
@@ -51,7 +53,8 @@ impl Allocator {
     ) -> Result<u64, ImageError>
         requires { cluster < 2 ^ 63 }
         ensures marks { KeepsMarks S.view file.old file.new }
-        ensures sound { (p : Pending) → AllocatorInvariant S.view self.now p file.old → PassesUsed S.view p file.old self.now file.new cluster result }
+        ensures sound { (p : Pending) → AllocatorInvariant S.view self.now p file.old
+            → PassesUsed S.view p file.old self.now file.new cluster result }
         ensures header { file.new.header ≡ file.old.header }
         ensures list { file.new.free_list ≡ file.old.free_list }
         ensures cause { IfErr result IsOfTables }

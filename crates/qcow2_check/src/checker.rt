@@ -43,8 +43,10 @@ fn tallies<S: Storage>(
 ) -> Result<Findings, MetadataError>
     requires in_range { IsInRange header.now }
     requires within_limits { IsWithinLimits header.now }
-    ensures tallies { (S.view storage.old).is_honest → IfOk result (λ f. ArePassed header.now (byte_at (S.view storage.old).contents) (tally_in f.names.clusters)
-        (tally_in f.offsets.l2_tables.clusters) (tally_in f.offsets.refblocks.clusters) (tally_in f.offsets.data.clusters)) }
+    ensures tallies { (S.view storage.old).is_honest
+        → IfOk result (λ f. ArePassed header.now (byte_at (S.view storage.old).contents) (tally_in f.names.clusters)
+        (tally_in f.offsets.l2_tables.clusters) (tally_in f.offsets.refblocks.clusters)
+        (tally_in f.offsets.data.clusters)) }
     ensures tables { (S.view storage.old).is_honest → OnOk result (TablesRead header.now (byte_at (S.view storage.old).contents)) }
     ensures refused { (S.view storage.old).is_honest → IfErr result (IsReasonNotToCount header.now (byte_at (S.view storage.old).contents)) }
     ensures reading { OnlyReads (S.view storage.old) (S.view storage.new) result }
@@ -86,7 +88,8 @@ fn tallies<S: Storage>(
 pub fn check<S: Storage>(alloc: Global, storage: &mut S) -> Result<Report, MetadataError>
     ensures breaches { (S.view storage.old).is_honest → IfOk result (λ r. r.breaches.items
         ≡ breach_lines (header (byte_at (S.view storage.old).contents)) (byte_at (S.view storage.old).contents)) }
-    ensures consistent { (S.view storage.old).is_honest → IfOk result (λ r. (r.breaches.items ≡ []) ↔ IsConsistent (byte_at (S.view storage.old).contents)) }
+    ensures consistent { (S.view storage.old).is_honest
+        → IfOk result (λ r. (r.breaches.items ≡ []) ↔ IsConsistent (byte_at (S.view storage.old).contents)) }
     ensures leaks { (S.view storage.old).is_honest → IfOk result (λ r. r.leaks.items
         ≡ leak_lines (header (byte_at (S.view storage.old).contents)) (byte_at (S.view storage.old).contents)) }
     ensures refused { (S.view storage.old).is_honest

@@ -26,9 +26,11 @@ fn set_counts(
     requires low { (i : ℕ) → entry_number_at entries.now i < 2 ^ 20 }
     requires few { per_block ≤ 2 ^ 24 }
     requires inside { j < per_block }
-    ensures corrects { (truth : ℕ → ℕ) → ((i : ℕ) → i < length entries.now → truth (entry_number_at entries.now i * per_block + j) ≡ count)
+    ensures corrects { (truth : ℕ → ℕ)
+        → ((i : ℕ) → i < length entries.now → truth (entry_number_at entries.now i * per_block + j) ≡ count)
         → OnOk result (Corrects names.old.clusters names.new.clusters truth) }
-    ensures counts { OnOk result ((i : ℕ) → i < length entries.now → (tally_in names.new.clusters (entry_number_at entries.now i * per_block + j)).count ≡ count) }
+    ensures counts { OnOk result ((i : ℕ) → i < length entries.now
+        → (tally_in names.new.clusters (entry_number_at entries.now i * per_block + j)).count ≡ count) }
     ensures total { names.new.total ≡ names.old.total }
 {
     for (_, entry) in entries {
@@ -62,9 +64,11 @@ fn counts_of_block(
     requires order { header.now.refcount_order ≤ 6 }
     requires whole { length block.now ≡ cluster_size header.now }
     requires numbers { (i : ℕ) → entry_number_at entries.now i < 2 ^ 20 }
-    ensures corrects { (truth : ℕ → ℕ) → HasCounts entries.now (counts_per_block header.now) truth (block_count (byte_at block.now) (count_width header.now) 0)
-        → IsRightOrNone names.old.clusters truth
-        → OnOk result (CorrectsUnder names.old.clusters names.new.clusters truth entries.now (counts_per_block header.now) (counts_per_block header.now)) }
+    ensures corrects { (truth : ℕ → ℕ)
+        → HasCounts entries.now (counts_per_block header.now) truth
+        (block_count (byte_at block.now) (count_width header.now) 0) → IsRightOrNone names.old.clusters truth
+        → OnOk result (CorrectsUnder names.old.clusters names.new.clusters truth entries.now
+        (counts_per_block header.now) (counts_per_block header.now)) }
     ensures total { names.new.total ≡ names.old.total }
 {
     let per_block = counts_per_block_of(header);
@@ -93,9 +97,11 @@ fn counts_of_block_at<S: Storage>(
     requires whole { length buf.old ≡ cluster_size header.now }
     requires numbers { (i : ℕ) → entry_number_at entries.now i < 2 ^ 20 }
     ensures corrects { (S.view storage.old).is_honest → (truth : ℕ → ℕ)
-        → HasCounts entries.now (counts_per_block header.now) truth (block_count_or_zero header.now (byte_at (S.view storage.old).contents) place)
+        → HasCounts entries.now (counts_per_block header.now) truth
+        (block_count_or_zero header.now (byte_at (S.view storage.old).contents) place)
         → IsRightOrNone names.old.clusters truth
-        → OnOk result (CorrectsUnder names.old.clusters names.new.clusters truth entries.now (counts_per_block header.now) (counts_per_block header.now)) }
+        → OnOk result (CorrectsUnder names.old.clusters names.new.clusters truth entries.now
+        (counts_per_block header.now) (counts_per_block header.now)) }
     ensures causes { IfErr result IsOfStorageOrMemory }
     ensures reading { OnlyReads (S.view storage.old) (S.view storage.new) result }
 {
@@ -109,7 +115,9 @@ fn counts_of_block_at<S: Storage>(
 
 /// The places of the refblocks, rising, each with the number of its entry in the reftable, and 0 for each entry without one.
 fn block_places(alloc: Global, reftable: &[u8]) -> Result<Vec<(u64, u64)>, AllocError>
-    ensures sums { IfOk result (λ places. (f : ℕ × ℕ → ℕ) → sum_by f places.items ≡ sum_below (length reftable.now / 8) (λ k. f (place_of (entry_of reftable.now k), k))) }
+    ensures sums { IfOk result (λ places. (f : ℕ × ℕ → ℕ)
+        → sum_by f places.items ≡ sum_below (length reftable.now / 8)
+        (λ k. f (place_of (entry_of reftable.now k), k))) }
 {
     let mut places = Vec::new(alloc);
     for k in 0..reftable.len() / 8 {
@@ -136,8 +144,10 @@ pub(crate) fn counts_of_reftable<S: Storage>(
     requires few { length reftable.now ≤ 2 ^ 23 }
     requires long { length reftable.now ≡ 8 * reftable_entries header.now }
     requires fresh { (q : ℕ) → (tally_in names.old.clusters q).count ≡ 0 }
-    ensures counts { (S.view storage.old).is_honest → ((k : ℕ) → entry_of reftable.now k ≡ reftable_entry header.now (byte_at (S.view storage.old).contents) k)
-        → OnOk result (CountsAll names.old.clusters names.new.clusters (count_of header.now (byte_at (S.view storage.old).contents))) }
+    ensures counts { (S.view storage.old).is_honest
+        → ((k : ℕ) → entry_of reftable.now k ≡ reftable_entry header.now (byte_at (S.view storage.old).contents) k)
+        → OnOk result (CountsAll names.old.clusters names.new.clusters
+        (count_of header.now (byte_at (S.view storage.old).contents))) }
     ensures causes { IfErr result IsOfStorageOrMemory }
     ensures reading { OnlyReads (S.view storage.old) (S.view storage.new) result }
 {

@@ -24,7 +24,8 @@ fn names_of_compressed(
     requires near { IsInReach cover.now }
     requires few { times ≤ 2 ^ 22 }
     requires room { names.old.total < 2 ^ 61 }
-    ensures grows { OnOk result (TalliesGrow names.old.clusters names.new.clusters (λ q. times * named_by_compressed header.now q cover.now) (λ _. 0) (λ _. 0)) }
+    ensures grows { OnOk result (TalliesGrow names.old.clusters names.new.clusters
+        (λ q. times * named_by_compressed header.now q cover.now) (λ _. 0) (λ _. 0)) }
     ensures total { OnOk result (names.new.total ≤ names.old.total + times * 2 ^ 15) }
 {
     let size: u64 = 1 << header.cluster_bits;

@@ -17,7 +17,8 @@ pub(crate) fn names_of_header(names: &mut Names, header: &HeaderFields) -> Resul
     requires few_entries { header.now.l1_entries ≤ 2 ^ 22 }
     requires few_clusters { header.now.reftable_clusters ≤ 2 ^ 20 }
     requires room { names.old.total < 2 ^ 57 }
-    ensures grows { OnOk result (TalliesGrow names.old.clusters names.new.clusters (named_by_header header.now) (named_by_header header.now) (λ _. 0)) }
+    ensures grows { OnOk result (TalliesGrow names.old.clusters names.new.clusters (named_by_header header.now)
+        (named_by_header header.now) (λ _. 0)) }
     ensures total { OnOk result (names.new.total ≤ names.old.total + 2 ^ 34) }
 {
     let size: u64 = 1 << header.cluster_bits;
@@ -37,7 +38,8 @@ pub(crate) fn names_of_header(names: &mut Names, header: &HeaderFields) -> Resul
 fn names_of_table(names: &mut Names, header: &HeaderFields, place: u64) -> Result<(), AllocError>
     requires bits { header.now.cluster_bits ≤ 21 }
     requires room { names.old.total < 2 ^ 58 }
-    ensures grows { OnOk result (TalliesGrow names.old.clusters names.new.clusters (λ q. table_in header.now q place) (λ q. table_in header.now q place) (λ _. 0)) }
+    ensures grows { OnOk result (TalliesGrow names.old.clusters names.new.clusters (λ q. table_in header.now q place)
+        (λ q. table_in header.now q place) (λ _. 0)) }
     ensures total { OnOk result (names.new.total ≤ names.old.total + 1) }
 {
     if place == 0 {

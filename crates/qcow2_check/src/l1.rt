@@ -57,7 +57,8 @@ fn names_of_l1_entries(
 fn table_places(alloc: Global, l1: &[u8]) -> Result<Vec<u64>, AllocError>
     ensures long { IfOk result (λ places. length places.items ≡ length l1.now / 8) }
     ensures rising { IfOk result (λ places. IsSorted nat_cmp places.items) }
-    ensures sums { IfOk result (λ places. (f : ℕ → ℕ) → sum_by f places.items ≡ sum_below (length l1.now / 8) (λ i. f (place_of (entry_of l1.now i)))) }
+    ensures sums { IfOk result (λ places. (f : ℕ → ℕ)
+        → sum_by f places.items ≡ sum_below (length l1.now / 8) (λ i. f (place_of (entry_of l1.now i)))) }
 {
     let mut places = Vec::new(alloc);
     for i in 0..l1.len() / 8 {
@@ -82,13 +83,16 @@ pub(crate) fn names_of_l1_table<S: Storage>(
     requires whole { length buf.old ≡ cluster_size header.now }
     requires few { length l1.now ≤ 2 ^ 25 }
     requires room { (names.old.total < 2 ^ 58) × (offsets.old.total < 2 ^ 58) }
-    ensures grows { (S.view storage.old).is_honest → ((i : ℕ) → entry_of l1.now i ≡ l1_entry header.now (byte_at (S.view storage.old).contents) i)
+    ensures grows { (S.view storage.old).is_honest
+        → ((i : ℕ) → entry_of l1.now i ≡ l1_entry header.now (byte_at (S.view storage.old).contents) i)
         → OnOk result (TalliesGrow names.old.clusters names.new.clusters
         (named_below header.now (byte_at (S.view storage.old).contents) (length l1.now / 8))
         (tables_below header.now (byte_at (S.view storage.old).contents) (length l1.now / 8))
         (marked_below header.now (byte_at (S.view storage.old).contents) (length l1.now / 8))) }
-    ensures offsets { (S.view storage.old).is_honest → ((i : ℕ) → entry_of l1.now i ≡ l1_entry header.now (byte_at (S.view storage.old).contents) i)
-        → OnOk result (TalliesGrow offsets.old.clusters offsets.new.clusters (data_off_below header.now (byte_at (S.view storage.old).contents) (length l1.now / 8)) (λ _. 0) (λ _. 0)) }
+    ensures offsets { (S.view storage.old).is_honest
+        → ((i : ℕ) → entry_of l1.now i ≡ l1_entry header.now (byte_at (S.view storage.old).contents) i)
+        → OnOk result (TalliesGrow offsets.old.clusters offsets.new.clusters
+        (data_off_below header.now (byte_at (S.view storage.old).contents) (length l1.now / 8)) (λ _. 0) (λ _. 0)) }
     ensures counts { OnOk result ((q : ℕ) → (tally_in names.new.clusters q).count ≡ (tally_in names.old.clusters q).count) }
     ensures causes { IfErr result IsOfStorageOrMemory }
     ensures reading { OnlyReads (S.view storage.old) (S.view storage.new) result }

@@ -36,7 +36,8 @@ fn names_of_table_at<S: Storage>(
         (λ q. times * marked_by_l2_table header.now (byte_at (S.view storage.old).contents) q place)) }
     ensures offsets { (S.view storage.old).is_honest → OnOk result (TalliesGrow offsets.old.clusters offsets.new.clusters
         (λ o. times * data_off_at header.now (byte_at (S.view storage.old).contents) o place) (λ _. 0) (λ _. 0)) }
-    ensures totals { OnOk result ((names.new.total ≤ names.old.total + times * 2 ^ 33) × (offsets.new.total ≤ offsets.old.total + times * 2 ^ 33)) }
+    ensures totals { OnOk result ((names.new.total ≤ names.old.total + times * 2 ^ 33)
+        × (offsets.new.total ≤ offsets.old.total + times * 2 ^ 33)) }
     ensures counts { OnOk result ((q : ℕ) → (tally_in names.new.clusters q).count ≡ (tally_in names.old.clusters q).count) }
     ensures causes { IfErr result IsOfStorageOrMemory }
     ensures reading { OnlyReads (S.view storage.old) (S.view storage.new) result }

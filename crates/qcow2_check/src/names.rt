@@ -80,7 +80,8 @@ impl Names {
         requires end { last < 2 ^ 63 }
         requires few { times ≤ 2 ^ 22 }
         requires room { self.old.total < 2 ^ 61 }
-        ensures grows { OnOk result (TalliesGrow self.old.clusters self.new.clusters (λ q. times * one_if (nat_le first q && nat_le q last)) (λ _. 0) (λ _. 0)) }
+        ensures grows { OnOk result (TalliesGrow self.old.clusters self.new.clusters
+            (λ q. times * one_if (nat_le first q && nat_le q last)) (λ _. 0) (λ _. 0)) }
         ensures total { OnOk result (self.new.total ≤ self.old.total + times * 2 ^ 15) }
     {
         for cluster in first..last + 1 {

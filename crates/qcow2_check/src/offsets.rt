@@ -30,7 +30,8 @@ fn add_offset(
     requires bits { header.now.cluster_bits ≤ 21 }
     requires few { times ≤ 2 ^ 22 }
     requires room { offsets.old.total < 2 ^ 61 }
-    ensures grows { OnOk result (TalliesGrow offsets.old.clusters offsets.new.clusters (λ o. times * off_cluster header.now o place) (λ _. 0) (λ _. 0)) }
+    ensures grows { OnOk result (TalliesGrow offsets.old.clusters offsets.new.clusters
+        (λ o. times * off_cluster header.now o place) (λ _. 0) (λ _. 0)) }
     ensures total { OnOk result (offsets.new.total ≤ offsets.old.total + times) }
 {
     if place % (1 << header.cluster_bits) == 0 {
@@ -48,7 +49,8 @@ pub(crate) fn offsets_of_reftable(
     requires bits { header.now.cluster_bits ≤ 21 }
     requires few { length reftable.now ≤ 2 ^ 23 }
     requires room { offsets.old.total < 2 ^ 57 }
-    ensures grows { OnOk result (TalliesGrow offsets.old.clusters offsets.new.clusters (blocks_off header.now reftable.now (length reftable.now / 8)) (λ _. 0) (λ _. 0)) }
+    ensures grows { OnOk result (TalliesGrow offsets.old.clusters offsets.new.clusters
+        (blocks_off header.now reftable.now (length reftable.now / 8)) (λ _. 0) (λ _. 0)) }
 {
     for k in 0..reftable.len() / 8 {
         let entry = entry_at(reftable, k);
@@ -66,7 +68,8 @@ pub(crate) fn offsets_of_l1_table(
     requires bits { header.now.cluster_bits ≤ 21 }
     requires few { length l1.now ≤ 2 ^ 25 }
     requires room { offsets.old.total < 2 ^ 57 }
-    ensures grows { OnOk result (TalliesGrow offsets.old.clusters offsets.new.clusters (tables_off header.now l1.now (length l1.now / 8)) (λ _. 0) (λ _. 0)) }
+    ensures grows { OnOk result (TalliesGrow offsets.old.clusters offsets.new.clusters
+        (tables_off header.now l1.now (length l1.now / 8)) (λ _. 0) (λ _. 0)) }
 {
     for i in 0..l1.len() / 8 {
         let entry = entry_at(l1, i);
@@ -85,7 +88,8 @@ fn offset_of_cover(
     requires bits { header.now.cluster_bits ≤ 21 }
     requires few { times ≤ 2 ^ 22 }
     requires room { offsets.old.total < 2 ^ 61 }
-    ensures grows { OnOk result (TalliesGrow offsets.old.clusters offsets.new.clusters (λ o. times * off_cluster_if header.now o (host_of cover.now)) (λ _. 0) (λ _. 0)) }
+    ensures grows { OnOk result (TalliesGrow offsets.old.clusters offsets.new.clusters
+        (λ o. times * off_cluster_if header.now o (host_of cover.now)) (λ _. 0) (λ _. 0)) }
     ensures total { OnOk result (offsets.new.total ≤ offsets.old.total + times) }
 {
     match cover.host() {

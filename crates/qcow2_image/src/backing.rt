@@ -15,12 +15,16 @@ impl<S: Storage, F: WrappedFormat<S>> Qcow2<S, F> {
     /// 17 (mapping prepared) while a mapping is prepared that isn't existing. Then the disk is handed back.
     pub fn set_backing(&mut self, backing: Option<F>) -> Result<(), (Option<F>, ImageError)>
         ensures failed { IsTrue (is_failed self.old) → (result ≡ Err (backing, Failed)) × (self.new ≡ self.old) }
-        ensures refused { is_failed self.old ≡ false → IfErr result (λ refused. (refused ≡ (backing, MappingPrepared)) × (self.new ≡ self.old)) }
-        ensures prepared { is_failed self.old ≡ false → (out : List (Option Prepared)) → (abstract_of S.view F.backing self.old out).is_sound → IsErr result ↔ HasPrepared out }
+        ensures refused { is_failed self.old ≡ false
+            → IfErr result (λ refused. (refused ≡ (backing, MappingPrepared)) × (self.new ≡ self.old)) }
+        ensures prepared { is_failed self.old ≡ false → (out : List (Option Prepared))
+            → (abstract_of S.view F.backing self.old out).is_sound → IsErr result ↔ HasPrepared out }
         ensures pinned { is_failed self.old ≡ false → IsErr result ↔ HasPinnedTable self.old }
         ensures image { IsSameImage self.old self.new }
         ensures done { OnOk result (self.new ≡ record self.old { backing = backing }) }
-        ensures sees { (out : List (Option Prepared)) → (abstract_of S.view F.backing self.old out).is_sound → IsHonestBacking S.view F.backing backing → OnOk result (IsOver S.view F.backing backing self.old self.new out) }
+        ensures sees { (out : List (Option Prepared)) → (abstract_of S.view F.backing self.old out).is_sound
+            → IsHonestBacking S.view F.backing backing
+            → OnOk result (IsOver S.view F.backing backing self.old self.new out) }
     {
         if self.is_failed {
             return Err((backing, ImageError::Failed));

@@ -204,17 +204,23 @@ impl<S: Storage> Qcow2CreateBuilder<S> {
         alloc: Global,
         number: u64,
     ) -> Result<Qcow2<S, F>, (S, ImageError)>
-        ensures stops { (S.view self.image).is_honest → StopsCreating self.preallocate self.size (S.view self.image) (S.view (storage_after result)) }
+        ensures stops { (S.view self.image).is_honest
+            → StopsCreating self.preallocate self.size (S.view self.image) (S.view (storage_after result)) }
         ensures created { (S.view self.image).is_honest → IfOk result (λ image. IsCreated self (S.view (storage_of_image image))) }
         ensures refused { ¬ IsAllowed self → result ≡ Err (self.image, InvalidOption) }
         ensures limit { IsAllowed self → longest_disk self.cluster_size < self.size → result ≡ Err (self.image, Limit) }
         ensures opens { (S.view self.image).is_honest → IfOk result (λ image. IsOpened (abstract_of S.view F.backing image [])) }
         ensures clusters { (S.view self.image).is_honest → IfOk result (λ image. HasLostNone (abstract_of S.view F.backing image [])) }
-        ensures new_disk { (S.view self.image).is_honest → IfOk result (λ image. IsNewDisk self.preallocate self.size (abstract_of S.view F.backing image []).known) }
-        ensures ok { IfOk result (λ image. (number_of image ≡ number) × (is_failed image ≡ false) × (is_writable image ≡ true) × (is_some image.backing ≡ false)) }
+        ensures new_disk { (S.view self.image).is_honest
+            → IfOk result (λ image. IsNewDisk self.preallocate self.size
+            (abstract_of S.view F.backing image []).known) }
+        ensures ok { IfOk result (λ image. (number_of image ≡ number) × (is_failed image ≡ false)
+            × (is_writable image ≡ true) × (is_some image.backing ≡ false)) }
         ensures cause { (S.view self.image).is_honest → IfErr result (IsReasonNotToCreateOpen S.view self) }
         ensures faults { OpeningCounts S.view (S.view self.image).faults result }
-        ensures header_cluster { IfOk result (λ image. (S.view self.image).is_honest ⊎ NamesTablesBehind image.file.header.fields → LiesBehindHeader image) }
+        ensures header_cluster { IfOk result
+            (λ image. (S.view self.image).is_honest ⊎ NamesTablesBehind image.file.header.fields
+            → LiesBehindHeader image) }
     {
         let (storage, done) = self.create(alloc);
         if let Err(refusal) = done {
@@ -227,7 +233,8 @@ impl<S: Storage> Qcow2CreateBuilder<S> {
 // Nothing stands on the storage any more.
 fn clear<S: Storage>(storage: &mut ImageStorage<S>) -> Result<(), ImageError>
     ensures honest { (S.view (storage_of storage.old)).is_honest → (S.view (storage_of storage.new)).is_honest }
-    ensures time { (S.view (storage_of storage.old)).is_honest → EachMomentSince (S.view (storage_of storage.old)) (S.view (storage_of storage.new)) (λ c. c ≡ []) }
+    ensures time { (S.view (storage_of storage.old)).is_honest
+        → EachMomentSince (S.view (storage_of storage.old)) (S.view (storage_of storage.new)) (λ c. c ≡ []) }
     ensures cleared { (S.view (storage_of storage.old)).is_honest → OnOk result ((S.view (storage_of storage.new)).contents ≡ []) }
     ensures fault { IfErr result IsFault }
     ensures faults { CountsFaults S.view storage.old storage.new result }
@@ -278,9 +285,11 @@ fn write_three<S: Storage>(
 ) -> Result<(), ImageError>
     requires block { IsSome block.now.cluster }
     requires reftable { IsSome reftable.now.cluster }
-    ensures writes { (S.view (storage_of storage.old)).is_honest → (S.view (storage_of storage.old)).contents ≡ [] → IsNewHeader header.now → CountsThree header.now.fields block.now → NamesOne header.now.fields reftable.now
+    ensures writes { (S.view (storage_of storage.old)).is_honest → (S.view (storage_of storage.old)).contents ≡ []
+        → IsNewHeader header.now → CountsThree header.now.fields block.now → NamesOne header.now.fields reftable.now
         → WritesThree header.now.fields (S.view (storage_of storage.old)) (S.view (storage_of storage.new)) result }
-    ensures stands { (S.view (storage_of storage.old)).is_honest → HasNewNames header.now → OnOk result (IsHeaderIn header.now (S.view (storage_of storage.new)).contents) }
+    ensures stands { (S.view (storage_of storage.old)).is_honest → HasNewNames header.now
+        → OnOk result (IsHeaderIn header.now (S.view (storage_of storage.new)).contents) }
     ensures fault { IfErr result IsFault }
     ensures faults { CountsFaults S.view storage.old storage.new result }
 {
@@ -298,8 +307,10 @@ fn write_new_image<S: Storage>(
     storage: &mut ImageStorage<S>,
     header: &Header,
 ) -> Result<(), ImageError>
-    ensures writes { (S.view (storage_of storage.old)).is_honest → IsNewHeader header.now → WritesThree header.now.fields (S.view (storage_of storage.old)) (S.view (storage_of storage.new)) result }
-    ensures stands { (S.view (storage_of storage.old)).is_honest → HasNewNames header.now → OnOk result (IsHeaderIn header.now (S.view (storage_of storage.new)).contents) }
+    ensures writes { (S.view (storage_of storage.old)).is_honest → IsNewHeader header.now
+        → WritesThree header.now.fields (S.view (storage_of storage.old)) (S.view (storage_of storage.new)) result }
+    ensures stands { (S.view (storage_of storage.old)).is_honest → HasNewNames header.now
+        → OnOk result (IsHeaderIn header.now (S.view (storage_of storage.new)).contents) }
     ensures fault { IfErr result IsFault }
     ensures faults { CountsFaults S.view storage.old storage.new result }
 {
@@ -315,13 +326,25 @@ fn grow_new_image<S: Storage, F: WrappedFormat<S>>(
     size: u64,
     mode: PreallocateMode,
 ) -> (S, Result<(), ImageError>)
-    ensures enlarges { (S.view (storage_of storage)).is_honest → IsUnwritten 0 (byte_at (S.view (storage_of storage)).contents) → Enlarges mode size (S.view (storage_of storage)) (S.view result.0) result.1 }
-    ensures leaks { (S.view (storage_of storage)).is_honest → IsUnwritten 0 (byte_at (S.view (storage_of storage)).contents) → HasNoLeaks (byte_at (S.view (storage_of storage)).contents) → OnOk result.1 (HasNoLeaks (byte_at (S.view result.0).contents)) }
-    ensures fault { (S.view (storage_of storage)).is_honest → IsUnwritten 0 (byte_at (S.view (storage_of storage)).contents) → (header_at (byte_at (S.view (storage_of storage)).contents)).version ≡ 3 → IfErr result.1 IsFaultOrLimit }
-    ensures limit { (S.view (storage_of storage)).is_honest → IsUnwritten 0 (byte_at (S.view (storage_of storage)).contents)
-        → IsNewImage (header_at (byte_at (S.view (storage_of storage)).contents)) (byte_at (S.view (storage_of storage)).contents) → (header_at (byte_at (S.view (storage_of storage)).contents)).autoclear ≡ 0
-        → IfErr result.1 (λ e. e ≡ Limit → CantEnlarge S.view F.backing mode size (S.view (storage_of storage)).contents result.0) }
-    ensures faults { ((below : F) → (F.backing below).faults ≡ 0) → FaultsTold (S.view (storage_of storage)).faults (S.view result.0).faults result.1 }
+    ensures enlarges { (S.view (storage_of storage)).is_honest
+        → IsUnwritten 0 (byte_at (S.view (storage_of storage)).contents)
+        → Enlarges mode size (S.view (storage_of storage)) (S.view result.0) result.1 }
+    ensures leaks { (S.view (storage_of storage)).is_honest
+        → IsUnwritten 0 (byte_at (S.view (storage_of storage)).contents)
+        → HasNoLeaks (byte_at (S.view (storage_of storage)).contents)
+        → OnOk result.1 (HasNoLeaks (byte_at (S.view result.0).contents)) }
+    ensures fault { (S.view (storage_of storage)).is_honest
+        → IsUnwritten 0 (byte_at (S.view (storage_of storage)).contents)
+        → (header_at (byte_at (S.view (storage_of storage)).contents)).version ≡ 3 → IfErr result.1 IsFaultOrLimit }
+    ensures limit { (S.view (storage_of storage)).is_honest
+        → IsUnwritten 0 (byte_at (S.view (storage_of storage)).contents)
+        → IsNewImage (header_at (byte_at (S.view (storage_of storage)).contents))
+        (byte_at (S.view (storage_of storage)).contents)
+        → (header_at (byte_at (S.view (storage_of storage)).contents)).autoclear ≡ 0
+        → IfErr result.1 (λ e. e ≡ Limit
+        → CantEnlarge S.view F.backing mode size (S.view (storage_of storage)).contents result.0) }
+    ensures faults { ((below : F) → (F.backing below).faults ≡ 0)
+        → FaultsTold (S.view (storage_of storage)).faults (S.view result.0).faults result.1 }
 {
     match Qcow2::<S, F>::open(alloc, storage, true, 0, Missing::Nothing) {
         Err((storage, refusal)) => (storage, Err(refusal)),
@@ -337,12 +360,17 @@ fn grow_and_flush<S: Storage, F: WrappedFormat<S>>(
     size: u64,
     mode: PreallocateMode,
 ) -> Result<(), ImageError>
-    ensures enlarges { IsOpened (abstract_of S.view F.backing image.old []) → IsTrue (is_writable image.old) → is_some image.old.backing ≡ false → IsUnwritten 0 (byte_at (view_in S.view image.old.file).contents)
+    ensures enlarges { IsOpened (abstract_of S.view F.backing image.old []) → IsTrue (is_writable image.old)
+        → is_some image.old.backing ≡ false → IsUnwritten 0 (byte_at (view_in S.view image.old.file).contents)
         → Enlarges mode size (view_in S.view image.old.file) (view_in S.view image.new.file) result }
-    ensures leaks { IsOpened (abstract_of S.view F.backing image.old []) → IsTrue (is_writable image.old) → ((c : ℕ) → (abstract_of S.view F.backing image.old []).surplus c ≡ 0)
+    ensures leaks { IsOpened (abstract_of S.view F.backing image.old []) → IsTrue (is_writable image.old)
+        → ((c : ℕ) → (abstract_of S.view F.backing image.old []).surplus c ≡ 0)
         → OnOk result (HasNoLeaks (byte_at (view_in S.view image.new.file).contents)) }
-    ensures fault { refuses_to_resize image.old ≡ None → IsTrue (is_writable image.old) → is_some image.old.backing ≡ false → (abstract_of S.view F.backing image.old []).is_sound → IsUnmapped S.view image.old → IfErr result IsFaultOrLimit }
-    ensures limit { refuses_to_resize image.old ≡ None → (abstract_of S.view F.backing image.old []).is_sound → IfErr result (λ e. e ≡ Limit → CantGrowBy S.view F.backing mode size image.old image.new) }
+    ensures fault { refuses_to_resize image.old ≡ None → IsTrue (is_writable image.old)
+        → is_some image.old.backing ≡ false → (abstract_of S.view F.backing image.old []).is_sound
+        → IsUnmapped S.view image.old → IfErr result IsFaultOrLimit }
+    ensures limit { refuses_to_resize image.old ≡ None → (abstract_of S.view F.backing image.old []).is_sound
+        → IfErr result (λ e. e ≡ Limit → CantGrowBy S.view F.backing mode size image.old image.new) }
     ensures faults { CountsImageFaults S.view F.backing image.old image.new result }
 {
     grow_by(image, size, mode)?;
@@ -356,9 +384,13 @@ fn grow_by<S: Storage, F: WrappedFormat<S>>(
     mode: PreallocateMode,
 ) -> Result<(), ImageError>
     ensures grows { GrowsBy S.view F.backing mode image.old image.new size result }
-    ensures surplus { refuses_to_resize image.old ≡ None → (abstract_of S.view F.backing image.old []).is_sound → OnOk result (KeepsSurplus S.view F.backing image.old image.new) }
-    ensures fault { refuses_to_resize image.old ≡ None → IsTrue (is_writable image.old) → is_some image.old.backing ≡ false → (abstract_of S.view F.backing image.old []).is_sound → IsUnmapped S.view image.old → IfErr result IsFaultOrLimit }
-    ensures limit { refuses_to_resize image.old ≡ None → (abstract_of S.view F.backing image.old []).is_sound → IfErr result (λ e. e ≡ Limit → CantGrowBy S.view F.backing mode size image.old image.new) }
+    ensures surplus { refuses_to_resize image.old ≡ None → (abstract_of S.view F.backing image.old []).is_sound
+        → OnOk result (KeepsSurplus S.view F.backing image.old image.new) }
+    ensures fault { refuses_to_resize image.old ≡ None → IsTrue (is_writable image.old)
+        → is_some image.old.backing ≡ false → (abstract_of S.view F.backing image.old []).is_sound
+        → IsUnmapped S.view image.old → IfErr result IsFaultOrLimit }
+    ensures limit { refuses_to_resize image.old ≡ None → (abstract_of S.view F.backing image.old []).is_sound
+        → IfErr result (λ e. e ≡ Limit → CantGrowBy S.view F.backing mode size image.old image.new) }
     ensures marks { MarksFailed image.old image.new result }
     ensures faults { CountsImageFaults S.view F.backing image.old image.new result }
 {

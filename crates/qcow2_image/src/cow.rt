@@ -43,14 +43,21 @@ impl<S: Storage, F: WrappedFormat<S>> Qcow2<S, F> {
         ensures notes { KeepsFileNotes S.view self.old.file self.new.file }
         ensures header_cluster { StaysBehindHeader S.view self.old self.new }
         ensures cause { IfErr result IsMet }
-        ensures met { 0 < cluster → IfErr result (λ e. IsFault e ⊎ ((e ≡ ImageError.Compressed) × IsCopiedCompressed self.old.file.header.fields old.now offset length overwrite)) }
+        ensures met { 0 < cluster → IfErr result
+            (λ e. IsFault e ⊎ ((e ≡ ImageError.Compressed)
+            × IsCopiedCompressed self.old.file.header.fields old.now offset length overwrite)) }
         ensures limited { IfErr result IsUnlimited }
-        ensures image_step { (p : Pending) (out : List (Option Prepared)) → ImageInvariant S.view F.backing p self.old out → HoldsAll S.view F.backing p out → 0 < p.new_data cluster → over_all new_data_by out cluster ≡ 0 → UnseenFillingStep S.view F.backing p p self.old self.new out }
+        ensures image_step { (p : Pending) (out : List (Option Prepared))
+            → ImageInvariant S.view F.backing p self.old out → HoldsAll S.view F.backing p out → 0 < p.new_data cluster
+            → over_all new_data_by out cluster ≡ 0 → UnseenFillingStep S.view F.backing p p self.old self.new out }
         ensures allocator { self.new.allocator ≡ self.old.allocator }
         ensures table { self.new.l1_table ≡ self.old.l1_table }
         ensures list { self.new.file.free_list ≡ self.old.file.free_list }
-        ensures fills { (p : Pending) (out : List (Option Prepared)) → ImageInvariant S.view F.backing p self.old out → HoldsAll S.view F.backing p out → 0 < p.new_data cluster → over_all new_data_by out cluster ≡ 0
-            → cover self.old.file.header.fields (known_in S.view self.old.file) (offset / cluster_size self.old.file.header.fields) ≡ old.now → IfOk result (λ done. IsFilled S.view F.backing self.old self.new cluster offset length overwrite) }
+        ensures fills { (p : Pending) (out : List (Option Prepared)) → ImageInvariant S.view F.backing p self.old out
+            → HoldsAll S.view F.backing p out → 0 < p.new_data cluster → over_all new_data_by out cluster ≡ 0
+            → cover self.old.file.header.fields (known_in S.view self.old.file)
+            (offset / cluster_size self.old.file.header.fields) ≡ old.now
+            → IfOk result (λ done. IsFilled S.view F.backing self.old self.new cluster offset length overwrite) }
         ensures faults { CountsImageFaults S.view F.backing self.old self.new result }
     {
         let Some(range) = self.part_to_fill(offset, length, overwrite) else {
@@ -82,10 +89,15 @@ impl<S: Storage, F: WrappedFormat<S>> Qcow2<S, F> {
         ensures fault { cluster_size self.old.file.header.fields ≤ host → IfErr result IsFault }
         ensures limited { IfErr result IsUnlimited }
         ensures rest { self.new ≡ record self.old { file = record self.old.file { storage = self.new.file.storage } } }
-        ensures image_step { (p : Pending) (out : List (Option Prepared)) → ImageInvariant S.view F.backing p self.old out → HoldsAll S.view F.backing p out → IsKeptAlone S.view F.backing self.old out offset host → UnseenFillingStep S.view F.backing p p self.old self.new out }
+        ensures image_step { (p : Pending) (out : List (Option Prepared))
+            → ImageInvariant S.view F.backing p self.old out → HoldsAll S.view F.backing p out
+            → IsKeptAlone S.view F.backing self.old out offset host
+            → UnseenFillingStep S.view F.backing p p self.old self.new out }
         ensures fills { (p : Pending) (out : List (Option Prepared)) → ImageInvariant S.view F.backing p self.old out
-            → cover self.old.file.header.fields (known_in S.view self.old.file) (offset / cluster_size self.old.file.header.fields) ≡ L2Mapping.Zero (Some (host, true))
-            → IfOk result (λ done. IsFilled S.view F.backing self.old self.new (host / cluster_size self.old.file.header.fields) offset length overwrite) }
+            → cover self.old.file.header.fields (known_in S.view self.old.file)
+            (offset / cluster_size self.old.file.header.fields) ≡ L2Mapping.Zero (Some (host, true))
+            → IfOk result (λ done. IsFilled S.view F.backing self.old self.new
+            (host / cluster_size self.old.file.header.fields) offset length overwrite) }
         ensures faults { CountsImageFaults S.view F.backing self.old self.new result }
     {
         match self.part_to_fill(offset, length, overwrite) {
@@ -98,7 +110,9 @@ impl<S: Storage, F: WrappedFormat<S>> Qcow2<S, F> {
     fn part_to_fill(&self, offset: u64, length: u64, overwrite: bool) -> Option<CopyRange>
         ensures within { IfSome result (λ r. (r.start < r.end) × (r.end ≤ cluster_size self.now.file.header.fields)) }
         ensures few { IfSome result (λ r. r.end ≤ 2 ^ 21) }
-        ensures all { (i : ℕ) → i < cluster_size self.now.file.header.fields → is_announced (cluster_size self.now.file.header.fields) offset length overwrite i ≡ false → HasByte result i }
+        ensures all { (i : ℕ) → i < cluster_size self.now.file.header.fields
+            → is_announced (cluster_size self.now.file.header.fields) offset length overwrite i ≡ false
+            → HasByte result i }
         ensures left { IfSome result (λ r. HasUnannounced (cluster_size self.now.file.header.fields) offset length overwrite) }
     {
         let size = self.file.header.cluster_size();
@@ -123,11 +137,16 @@ impl<S: Storage, F: WrappedFormat<S>> Qcow2<S, F> {
         ensures cause { IfErr result IsMet }
         ensures met { cluster_size self.old.file.header.fields ≤ at → IfErr result (IsMetReading kind.now) }
         ensures limited { IfErr result IsUnlimited }
-        ensures image_step { (p : Pending) (out : List (Option Prepared)) (cluster : ℕ) → ImageInvariant S.view F.backing p self.old out → HoldsAll S.view F.backing p out → IsInHeldCluster S.view F.backing p self.old out cluster at length → UnseenFillingStep S.view F.backing p p self.old self.new out }
+        ensures image_step { (p : Pending) (out : List (Option Prepared)) (cluster : ℕ)
+            → ImageInvariant S.view F.backing p self.old out → HoldsAll S.view F.backing p out
+            → IsInHeldCluster S.view F.backing p self.old out cluster at length
+            → UnseenFillingStep S.view F.backing p p self.old self.new out }
         ensures allocator { self.new.allocator ≡ self.old.allocator }
         ensures table { self.new.l1_table ≡ self.old.l1_table }
         ensures list { self.new.file.free_list ≡ self.old.file.free_list }
-        ensures copies { (p : Pending) (out : List (Option Prepared)) → ImageInvariant S.view F.backing p self.old out → IsMappedAs S.view self.old guest kind.now length → IfOk result (λ done. IsCopied S.view F.backing self.old self.new at guest length) }
+        ensures copies { (p : Pending) (out : List (Option Prepared)) → ImageInvariant S.view F.backing p self.old out
+            → IsMappedAs S.view self.old guest kind.now length
+            → IfOk result (λ done. IsCopied S.view F.backing self.old self.new at guest length) }
         ensures faults { CountsImageFaults S.view F.backing self.old self.new result }
     {
         if let MappingKind::Zero { explicit: _ } = kind {

@@ -213,7 +213,8 @@ impl<S: Storage, F: WrappedFormat<S>> Qcow2<S, F> {
         length: u64,
         how: Clearance,
     ) -> Result<(u64, u64), ImageError>
-        ensures refusal { MatchOption (refuses_to_clear self.now offset length how) (result ≡ Ok (from_in self.now offset length, to_in self.now offset length)) (λ e. result ≡ Err e) }
+        ensures refusal { MatchOption (refuses_to_clear self.now offset length how)
+            (result ≡ Ok (from_in self.now offset length, to_in self.now offset length)) (λ e. result ≡ Err e) }
         ensures writable { IfOk result (λ range. IsTrue (is_writable self.now)) }
         ensures end { IfOk result (λ range. offset + length < 2 ^ 64) }
         ensures version { IfOk result (λ range. IsTrue (needs_zero_entries how) → 3 ≤ self.now.file.header.fields.version) }
@@ -238,7 +239,9 @@ impl<S: Storage, F: WrappedFormat<S>> Qcow2<S, F> {
     // Where the whole clusters of a range within one L2 table begin and end, where that doesn't pass 64 bits.
     fn touched(&self, offset: u64, length: u64) -> Option<(u64, u64)>
         requires { passes_size (size_of self.now) offset length ≡ false }
-        ensures { result ≡ (if rounds_past (cluster_size self.now.file.header.fields) (size_of self.now) offset length then None else Some (from_in self.now offset length, to_in self.now offset length)) }
+        ensures { result ≡ (if rounds_past (cluster_size self.now.file.header.fields)
+            (size_of self.now) offset length then None else Some
+            (from_in self.now offset length, to_in self.now offset length)) }
     {
         let size = self.file.header.cluster_size();
         let from = rounded_up(offset, size)?;
@@ -263,13 +266,19 @@ impl<S: Storage, F: WrappedFormat<S>> Qcow2<S, F> {
         ensures step { PartStep S.view F.backing self.old self.new result }
         ensures cause { IfErr result IsMetPreparing }
         ensures met { MeetsBetween S.view F.backing how from to self.old self.new result }
-        ensures l1_place { l1_index_of self.old.file.header.fields from < entry_count self.old.l1_table → OnOk result (KeepsL1Place self.old.file.header.fields self.new.file.header.fields) }
-        ensures limit { (out : List (Option Prepared)) → ImageInvariant S.view F.backing (pending_in S.view F.backing self.old out) self.old out → IsClearable self.old.file.header.fields how from to → IfErr result (IsLimitedByTable S.view from self.old self.new) }
+        ensures l1_place { l1_index_of self.old.file.header.fields from < entry_count self.old.l1_table
+            → OnOk result (KeepsL1Place self.old.file.header.fields self.new.file.header.fields) }
+        ensures limit { (out : List (Option Prepared))
+            → ImageInvariant S.view F.backing (pending_in S.view F.backing self.old out) self.old out
+            → IsClearable self.old.file.header.fields how from to
+            → IfErr result (IsLimitedByTable S.view from self.old self.new) }
         ensures lacks { LacksBetween S.view F.backing how from to self.old self.new result }
         ensures clears { ClearsBetween S.view F.backing how from to self.old self.new result }
         ensures taken { RefusedUnder S.view F.backing from self.old result }
         ensures free { AnsweredBeside S.view F.backing from self.old result }
-        ensures gave { (out : List (Option Prepared)) → ImageInvariant S.view F.backing (pending_in S.view F.backing self.old out) self.old out → OnOk result (SomeGaveWay self.old self.new) }
+        ensures gave { (out : List (Option Prepared))
+            → ImageInvariant S.view F.backing (pending_in S.view F.backing self.old out) self.old out
+            → OnOk result (SomeGaveWay self.old self.new) }
         ensures freed { FreesBetween S.view F.backing how from to self.old self.new result }
         ensures pinned { HasOwnTable self.old from → HeedsPins self.old from result }
     {
@@ -286,13 +295,19 @@ impl<S: Storage, F: WrappedFormat<S>> Qcow2<S, F> {
         ensures step { PartStep S.view F.backing self.old self.new result }
         ensures cause { IfErr result IsMetPreparing }
         ensures met { MeetsBetween S.view F.backing how from to self.old self.new result }
-        ensures l1_place { l1_index_of self.old.file.header.fields from < entry_count self.old.l1_table → OnOk result (KeepsL1Place self.old.file.header.fields self.new.file.header.fields) }
-        ensures limit { (out : List (Option Prepared)) → ImageInvariant S.view F.backing (pending_in S.view F.backing self.old out) self.old out → IsClearable self.old.file.header.fields how from to → IfErr result (IsLimitedByTable S.view from self.old self.new) }
+        ensures l1_place { l1_index_of self.old.file.header.fields from < entry_count self.old.l1_table
+            → OnOk result (KeepsL1Place self.old.file.header.fields self.new.file.header.fields) }
+        ensures limit { (out : List (Option Prepared))
+            → ImageInvariant S.view F.backing (pending_in S.view F.backing self.old out) self.old out
+            → IsClearable self.old.file.header.fields how from to
+            → IfErr result (IsLimitedByTable S.view from self.old self.new) }
         ensures lacks { LacksBetween S.view F.backing how from to self.old self.new result }
         ensures clears { ClearsBetween S.view F.backing how from to self.old self.new result }
         ensures taken { RefusedUnder S.view F.backing from self.old result }
         ensures free { AnsweredBeside S.view F.backing from self.old result }
-        ensures gave { (out : List (Option Prepared)) → ImageInvariant S.view F.backing (pending_in S.view F.backing self.old out) self.old out → OnOk result (SomeGaveWay self.old self.new) }
+        ensures gave { (out : List (Option Prepared))
+            → ImageInvariant S.view F.backing (pending_in S.view F.backing self.old out) self.old out
+            → OnOk result (SomeGaveWay self.old self.new) }
         ensures pinned { HasOwnTable self.old from → HeedsPins self.old from result }
     {
         let table = self.table_for(from)?;
@@ -318,8 +333,12 @@ impl<S: Storage, F: WrappedFormat<S>> Qcow2<S, F> {
     ) -> Result<ClustersToFreeList, ImageError>
         requires near { first + count < 2 ^ 64 }
         ensures cause { IfErr result IsMet }
-        ensures only_faults { (p : Pending) (i : ℕ) → FileInvariant S.view p self.now.file → IsEntryAt self.now.file.header.fields (known_in S.view self.now.file) i table (first % entries_per_cluster self.now.file.header.fields)
-            → first / entries_per_cluster self.now.file.header.fields ≡ i → first % entries_per_cluster self.now.file.header.fields + count ≤ entries_per_cluster self.now.file.header.fields → IsSome (l2_at self.now.file.caches table) → IfErr result IsFault }
+        ensures only_faults { (p : Pending) (i : ℕ) → FileInvariant S.view p self.now.file
+            → IsEntryAt self.now.file.header.fields (known_in S.view self.now.file) i table
+            (first % entries_per_cluster self.now.file.header.fields)
+            → first / entries_per_cluster self.now.file.header.fields ≡ i
+            → first % entries_per_cluster self.now.file.header.fields + count ≤ entries_per_cluster
+            self.now.file.header.fields → IsSome (l2_at self.now.file.caches table) → IfErr result IsFault }
         ensures reads { IfOk result (ReadsAll S.view F.backing how table first count self.now) }
         ensures faults { IfErr result IsNotOfStorage }
     {
@@ -340,8 +359,11 @@ impl<S: Storage, F: WrappedFormat<S>> Qcow2<S, F> {
         how: Clearance,
     ) -> Result<(), ImageError>
         ensures cause { IfErr result IsMet }
-        ensures only_faults { (p : Pending) (i : ℕ) → FileInvariant S.view p self.now.file → IsEntryAt self.now.file.header.fields (known_in S.view self.now.file) i table (cluster % entries_per_cluster self.now.file.header.fields)
-            → cluster / entries_per_cluster self.now.file.header.fields ≡ i → IsSome (l2_at self.now.file.caches table) → IfErr result IsFault }
+        ensures only_faults { (p : Pending) (i : ℕ) → FileInvariant S.view p self.now.file
+            → IsEntryAt self.now.file.header.fields (known_in S.view self.now.file) i table
+            (cluster % entries_per_cluster self.now.file.header.fields)
+            → cluster / entries_per_cluster self.now.file.header.fields ≡ i → IsSome (l2_at self.now.file.caches table)
+            → IfErr result IsFault }
         ensures reads { OnOk result (ReadsDropped S.view F.backing how table cluster self.now list.old list.new) }
         ensures faults { IfErr result IsNotOfStorage }
     {

@@ -65,8 +65,17 @@ impl<S: Storage, F: WrappedFormat<S>> Qcow2<S, F> {
         ensures notes { KeepsFileNotes S.view self.old.file self.new.file }
         ensures header_cluster { 0 < table → StaysBehindHeader S.view self.old self.new }
         ensures cause { IfErr result IsMetPreparing }
-        ensures met { (out : List (Option Prepared)) → ImageInvariant S.view F.backing (pending_in S.view F.backing self.old out) self.old out → HoldsTable S.view F.backing self.old offset table → IfErr result (IsMetTaking (HasPrepared out) (0 < l2_pins self.old.file.caches table) (IsCopiedCompressed self.old.file.header.fields (cover self.old.file.header.fields (known_in S.view self.old.file) (offset / cluster_size self.old.file.header.fields)) offset length overwrite) ⊥) }
-        ensures limit { (out : List (Option Prepared)) → ImageInvariant S.view F.backing (pending_in S.view F.backing self.old out) self.old out → HoldsTable S.view F.backing self.old offset table → IfErr result (IsLimitedByFirst S.view (first_of_range S.view offset self.old) self.old self.new) }
+        ensures met { (out : List (Option Prepared))
+            → ImageInvariant S.view F.backing (pending_in S.view F.backing self.old out) self.old out
+            → HoldsTable S.view F.backing self.old offset table
+            → IfErr result (IsMetTaking (HasPrepared out) (0 < l2_pins self.old.file.caches table)
+            (IsCopiedCompressed self.old.file.header.fields
+            (cover self.old.file.header.fields (known_in S.view self.old.file)
+            (offset / cluster_size self.old.file.header.fields)) offset length overwrite) ⊥) }
+        ensures limit { (out : List (Option Prepared))
+            → ImageInvariant S.view F.backing (pending_in S.view F.backing self.old out) self.old out
+            → HoldsTable S.view F.backing self.old offset table
+            → IfErr result (IsLimitedByFirst S.view (first_of_range S.view offset self.old) self.old self.new) }
         ensures taken { IfErr result (λ e. e ≡ TablePrepared → 0 < l2_pins self.old.file.caches table) }
         ensures unpinned { OnOk result (l2_pins self.old.file.caches table ≡ 0) }
         ensures own { IfOk result (λ p. image_of p ≡ number_of self.old) }
@@ -75,11 +84,20 @@ impl<S: Storage, F: WrappedFormat<S>> Qcow2<S, F> {
         ensures first { IfOk result (IsFirst self.old.file.header.fields offset table) }
         ensures behind { IfOk result (λ p. cluster_size self.old.file.header.fields ≤ offset_of p) }
         ensures room { IfOk result (HasRoomForRange self.old.file.header.fields length) }
-        ensures kept { (out : List (Option Prepared)) → ImageInvariant S.view F.backing (pending_in S.view F.backing self.old out) self.old out
-            → HoldsTable S.view F.backing self.old offset table → IfOk result (BeginsInKept self.old.file.header.fields offset (cover self.old.file.header.fields (known_in S.view self.old.file) (offset / cluster_size self.old.file.header.fields))) }
+        ensures kept { (out : List (Option Prepared))
+            → ImageInvariant S.view F.backing (pending_in S.view F.backing self.old out) self.old out
+            → HoldsTable S.view F.backing self.old offset table
+            → IfOk result (BeginsInKept self.old.file.header.fields offset
+            (cover self.old.file.header.fields (known_in S.view self.old.file)
+            (offset / cluster_size self.old.file.header.fields))) }
         ensures former { OnOk result (ListsFormer self.old self.new) }
-        ensures lowest { (out : List (Option Prepared)) → ImageInvariant S.view F.backing (pending_in S.view F.backing self.old out) self.old out → IfOk result (BeginsLowest S.view self.new) }
-        ensures uses { (out : List (Option Prepared)) → ImageInvariant S.view F.backing (pending_in S.view F.backing self.old out) self.old out → HoldsTable S.view F.backing self.old offset table → OnOk result (StaysUsed S.view self.old.file self.new.file) }
+        ensures lowest { (out : List (Option Prepared))
+            → ImageInvariant S.view F.backing (pending_in S.view F.backing self.old out) self.old out
+            → IfOk result (BeginsLowest S.view self.new) }
+        ensures uses { (out : List (Option Prepared))
+            → ImageInvariant S.view F.backing (pending_in S.view F.backing self.old out) self.old out
+            → HoldsTable S.view F.backing self.old offset table
+            → OnOk result (StaysUsed S.view self.old.file self.new.file) }
         ensures faults { CountsImageFaults S.view F.backing self.old self.new result }
     {
         if self.file.caches.l2_is_pinned(table) {
@@ -114,20 +132,39 @@ impl<S: Storage, F: WrappedFormat<S>> Qcow2<S, F> {
         ensures notes { KeepsFileNotes S.view self.old.file self.new.file }
         ensures header_cluster { 0 < table → StaysBehindHeader S.view self.old self.new }
         ensures cause { IfErr result IsMet }
-        ensures met { (out : List (Option Prepared)) → ImageInvariant S.view F.backing (pending_in S.view F.backing self.old out) self.old out → HoldsTable S.view F.backing self.old offset table → cover self.old.file.header.fields (known_in S.view self.old.file) (offset / cluster_size self.old.file.header.fields) ≡ old.now → IfErr result (IsMetTaking (HasPrepared out) ⊥ (IsCopiedCompressed self.old.file.header.fields old.now offset length overwrite) ⊥) }
-        ensures limit { (out : List (Option Prepared)) → ImageInvariant S.view F.backing (pending_in S.view F.backing self.old out) self.old out → HoldsTable S.view F.backing self.old offset table → IfErr result (IsLimitedByFirst S.view old.now self.old self.new) }
+        ensures met { (out : List (Option Prepared))
+            → ImageInvariant S.view F.backing (pending_in S.view F.backing self.old out) self.old out
+            → HoldsTable S.view F.backing self.old offset table
+            → cover self.old.file.header.fields (known_in S.view self.old.file)
+            (offset / cluster_size self.old.file.header.fields) ≡ old.now
+            → IfErr result (IsMetTaking (HasPrepared out) ⊥
+            (IsCopiedCompressed self.old.file.header.fields old.now offset length overwrite) ⊥) }
+        ensures limit { (out : List (Option Prepared))
+            → ImageInvariant S.view F.backing (pending_in S.view F.backing self.old out) self.old out
+            → HoldsTable S.view F.backing self.old offset table
+            → IfErr result (IsLimitedByFirst S.view old.now self.old self.new) }
         ensures own { IfOk result (λ p. image_of p ≡ number_of self.old) }
         ensures first { IfOk result (IsFirst self.old.file.header.fields offset table) }
         ensures behind { IfOk result (λ p. cluster_size self.old.file.header.fields ≤ offset_of p) }
         ensures room { IfOk result (λ p. vec_capacity p.shares ≡ vec_capacity room) }
         ensures kept { IfOk result (BeginsInKept self.old.file.header.fields offset old.now) }
-        ensures readies { (out : List (Option Prepared)) → ImageInvariant S.view F.backing (pending_in S.view F.backing self.old out) self.old out
-            → HoldsTable S.view F.backing self.old offset table → l2_pins self.old.file.caches table ≡ 0 → cover self.old.file.header.fields (known_in S.view self.old.file) (offset / cluster_size self.old.file.header.fields) ≡ old.now
+        ensures readies { (out : List (Option Prepared))
+            → ImageInvariant S.view F.backing (pending_in S.view F.backing self.old out) self.old out
+            → HoldsTable S.view F.backing self.old offset table → l2_pins self.old.file.caches table ≡ 0
+            → cover self.old.file.header.fields (known_in S.view self.old.file)
+            (offset / cluster_size self.old.file.header.fields) ≡ old.now
             → Readies S.view F.backing self.old self.new out offset length overwrite result }
         ensures header { KeepsHeader self.old.file.header self.new.file.header }
         ensures former { OnOk result (ListsFormer self.old self.new) }
-        ensures lowest { (out : List (Option Prepared)) → ImageInvariant S.view F.backing (pending_in S.view F.backing self.old out) self.old out → IfOk result (BeginsLowest S.view self.new) }
-        ensures uses { (out : List (Option Prepared)) → ImageInvariant S.view F.backing (pending_in S.view F.backing self.old out) self.old out → HoldsTable S.view F.backing self.old offset table → l2_pins self.old.file.caches table ≡ 0 → cover self.old.file.header.fields (known_in S.view self.old.file) (offset / cluster_size self.old.file.header.fields) ≡ old.now → OnOk result (StaysUsed S.view self.old.file self.new.file) }
+        ensures lowest { (out : List (Option Prepared))
+            → ImageInvariant S.view F.backing (pending_in S.view F.backing self.old out) self.old out
+            → IfOk result (BeginsLowest S.view self.new) }
+        ensures uses { (out : List (Option Prepared))
+            → ImageInvariant S.view F.backing (pending_in S.view F.backing self.old out) self.old out
+            → HoldsTable S.view F.backing self.old offset table → l2_pins self.old.file.caches table ≡ 0
+            → cover self.old.file.header.fields (known_in S.view self.old.file)
+            (offset / cluster_size self.old.file.header.fields) ≡ old.now
+            → OnOk result (StaysUsed S.view self.old.file self.new.file) }
         ensures faults { CountsImageFaults S.view F.backing self.old self.new result }
     {
         match kept_place(old) {
@@ -154,21 +191,32 @@ impl<S: Storage, F: WrappedFormat<S>> Qcow2<S, F> {
         ensures notes { KeepsFileNotes S.view self.old.file self.new.file }
         ensures header_cluster { StaysBehindHeader S.view self.old self.new }
         ensures cause { IfErr result IsMet }
-        ensures fault { (out : List (Option Prepared)) → ImageInvariant S.view F.backing (pending_in S.view F.backing self.old out) self.old out → cover self.old.file.header.fields (known_in S.view self.old.file) (offset / cluster_size self.old.file.header.fields) ≡ L2Mapping.Zero (Some (host, true)) → IfErr result IsFault }
+        ensures fault { (out : List (Option Prepared))
+            → ImageInvariant S.view F.backing (pending_in S.view F.backing self.old out) self.old out
+            → cover self.old.file.header.fields (known_in S.view self.old.file)
+            (offset / cluster_size self.old.file.header.fields) ≡ L2Mapping.Zero (Some (host, true))
+            → IfErr result IsFault }
         ensures limited { IfErr result IsUnlimited }
         ensures own { IfOk result (λ p. image_of p ≡ number_of self.old) }
         ensures first { IfOk result (IsFirst self.old.file.header.fields offset table) }
         ensures behind { IfOk result (λ p. cluster_size self.old.file.header.fields ≤ offset_of p) }
         ensures room { IfOk result (λ p. vec_capacity p.shares ≡ vec_capacity room) }
         ensures place { IfOk result (λ p. offset_of p ≡ host + offset % cluster_size self.old.file.header.fields) }
-        ensures readies { (out : List (Option Prepared)) → ImageInvariant S.view F.backing (pending_in S.view F.backing self.old out) self.old out
+        ensures readies { (out : List (Option Prepared))
+            → ImageInvariant S.view F.backing (pending_in S.view F.backing self.old out) self.old out
             → HoldsTable S.view F.backing self.old offset table → l2_pins self.old.file.caches table ≡ 0
-            → cover self.old.file.header.fields (known_in S.view self.old.file) (offset / cluster_size self.old.file.header.fields) ≡ L2Mapping.Zero (Some (host, true))
+            → cover self.old.file.header.fields (known_in S.view self.old.file)
+            (offset / cluster_size self.old.file.header.fields) ≡ L2Mapping.Zero (Some (host, true))
             → Readies S.view F.backing self.old self.new out offset length overwrite result }
         ensures header { self.new.file.header ≡ self.old.file.header }
         ensures list { KeepsList self.old self.new }
         ensures lowest { IfOk result (BeginsLowest S.view self.new) }
-        ensures uses { IsTrue (is_writable self.old) → (out : List (Option Prepared)) → ImageInvariant S.view F.backing (pending_in S.view F.backing self.old out) self.old out → HoldsTable S.view F.backing self.old offset table → l2_pins self.old.file.caches table ≡ 0 → cover self.old.file.header.fields (known_in S.view self.old.file) (offset / cluster_size self.old.file.header.fields) ≡ L2Mapping.Zero (Some (host, true)) → OnOk result (StaysUsed S.view self.old.file self.new.file) }
+        ensures uses { IsTrue (is_writable self.old) → (out : List (Option Prepared))
+            → ImageInvariant S.view F.backing (pending_in S.view F.backing self.old out) self.old out
+            → HoldsTable S.view F.backing self.old offset table → l2_pins self.old.file.caches table ≡ 0
+            → cover self.old.file.header.fields (known_in S.view self.old.file)
+            (offset / cluster_size self.old.file.header.fields) ≡ L2Mapping.Zero (Some (host, true))
+            → OnOk result (StaysUsed S.view self.old.file self.new.file) }
         ensures faults { CountsImageFaults S.view F.backing self.old self.new result }
     {
         self.fill_kept(host, offset, length, overwrite)?;
@@ -194,19 +242,33 @@ impl<S: Storage, F: WrappedFormat<S>> Qcow2<S, F> {
         ensures notes { KeepsFileNotes S.view self.old.file self.new.file }
         ensures header_cluster { 0 < table → StaysBehindHeader S.view self.old self.new }
         ensures cause { IfErr result IsMet }
-        ensures met { (out : List (Option Prepared)) → ImageInvariant S.view F.backing (pending_in S.view F.backing self.old out) self.old out → HoldsTable S.view F.backing self.old offset table → IfErr result (IsMetTaking (HasPrepared out) ⊥ (IsCopiedCompressed self.old.file.header.fields old.now offset length overwrite) ⊥) }
-        ensures limit { (out : List (Option Prepared)) → ImageInvariant S.view F.backing (pending_in S.view F.backing self.old out) self.old out → HoldsTable S.view F.backing self.old offset table → IfErr result (IsLimitedByCluster S.view self.old self.new) }
+        ensures met { (out : List (Option Prepared))
+            → ImageInvariant S.view F.backing (pending_in S.view F.backing self.old out) self.old out
+            → HoldsTable S.view F.backing self.old offset table
+            → IfErr result (IsMetTaking (HasPrepared out) ⊥
+            (IsCopiedCompressed self.old.file.header.fields old.now offset length overwrite) ⊥) }
+        ensures limit { (out : List (Option Prepared))
+            → ImageInvariant S.view F.backing (pending_in S.view F.backing self.old out) self.old out
+            → HoldsTable S.view F.backing self.old offset table
+            → IfErr result (IsLimitedByCluster S.view self.old self.new) }
         ensures own { IfOk result (λ p. image_of p ≡ number_of self.old) }
         ensures first { IfOk result (IsFirst self.old.file.header.fields offset table) }
         ensures behind { IfOk result (λ p. cluster_size self.old.file.header.fields ≤ offset_of p) }
         ensures room { IfOk result (λ p. vec_capacity p.shares ≡ vec_capacity room) }
-        ensures readies { (out : List (Option Prepared)) → ImageInvariant S.view F.backing (pending_in S.view F.backing self.old out) self.old out
-            → HoldsTable S.view F.backing self.old offset table → l2_pins self.old.file.caches table ≡ 0 → cover self.old.file.header.fields (known_in S.view self.old.file) (offset / cluster_size self.old.file.header.fields) ≡ old.now
+        ensures readies { (out : List (Option Prepared))
+            → ImageInvariant S.view F.backing (pending_in S.view F.backing self.old out) self.old out
+            → HoldsTable S.view F.backing self.old offset table → l2_pins self.old.file.caches table ≡ 0
+            → cover self.old.file.header.fields (known_in S.view self.old.file)
+            (offset / cluster_size self.old.file.header.fields) ≡ old.now
             → Readies S.view F.backing self.old self.new out offset length overwrite result }
         ensures header { KeepsHeader self.old.file.header self.new.file.header }
         ensures former { OnOk result (ListsFormer self.old self.new) }
-        ensures lowest { (out : List (Option Prepared)) → ImageInvariant S.view F.backing (pending_in S.view F.backing self.old out) self.old out → IfOk result (BeginsLowest S.view self.new) }
-        ensures uses { (out : List (Option Prepared)) → ImageInvariant S.view F.backing (pending_in S.view F.backing self.old out) self.old out → OnOk result (StaysUsed S.view self.old.file self.new.file) }
+        ensures lowest { (out : List (Option Prepared))
+            → ImageInvariant S.view F.backing (pending_in S.view F.backing self.old out) self.old out
+            → IfOk result (BeginsLowest S.view self.new) }
+        ensures uses { (out : List (Option Prepared))
+            → ImageInvariant S.view F.backing (pending_in S.view F.backing self.old out) self.old out
+            → OnOk result (StaysUsed S.view self.old.file self.new.file) }
         ensures faults { CountsImageFaults S.view F.backing self.old self.new result }
     {
         let old_data = self.named_by(old)?;
@@ -234,13 +296,17 @@ impl<S: Storage, F: WrappedFormat<S>> Qcow2<S, F> {
         ensures notes { KeepsFileNotes S.view self.old.file self.new.file }
         ensures header_cluster { 0 < table → StaysBehindHeader S.view self.old self.new }
         ensures cause { IfErr result IsMet }
-        ensures met { (p : Pending) (out : List (Option Prepared)) → ImageInvariant S.view F.backing p self.old out → HasPlace self.old.file.header.fields.cluster_bits table → IfErr result (IsMetLooking (HasPrepared out)) }
-        ensures limited { (p : Pending) (out : List (Option Prepared)) → ImageInvariant S.view F.backing p self.old out → HasPlace self.old.file.header.fields.cluster_bits table → IfErr result IsUnlimited }
+        ensures met { (p : Pending) (out : List (Option Prepared)) → ImageInvariant S.view F.backing p self.old out
+            → HasPlace self.old.file.header.fields.cluster_bits table → IfErr result (IsMetLooking (HasPrepared out)) }
+        ensures limited { (p : Pending) (out : List (Option Prepared)) → ImageInvariant S.view F.backing p self.old out
+            → HasPlace self.old.file.header.fields.cluster_bits table → IfErr result IsUnlimited }
         ensures allocator { self.new.allocator ≡ self.old.allocator }
         ensures table { self.new.l1_table ≡ self.old.l1_table }
         ensures list { self.new.file.free_list ≡ self.old.file.free_list }
-        ensures keeps { (p : Pending) (out : List (Option Prepared)) → ImageInvariant S.view F.backing p self.old out → UnseenStep S.view F.backing p p self.old self.new out }
-        ensures contents { (p : Pending) (out : List (Option Prepared)) → ImageInvariant S.view F.backing p self.old out → SameHeld S.view F.backing p self.old self.new }
+        ensures keeps { (p : Pending) (out : List (Option Prepared)) → ImageInvariant S.view F.backing p self.old out
+            → UnseenStep S.view F.backing p p self.old self.new out }
+        ensures contents { (p : Pending) (out : List (Option Prepared)) → ImageInvariant S.view F.backing p self.old out
+            → SameHeld S.view F.backing p self.old self.new }
         ensures cached { OnOk result (IsSome (l2_at self.new.file.caches table)) }
         ensures faults { CountsImageFaults S.view F.backing self.old self.new result }
     {
@@ -307,12 +373,20 @@ impl<S: Storage, F: WrappedFormat<S>> Qcow2<S, F> {
         ensures notes { KeepsFileNotes S.view self.old.file self.new.file }
         ensures header_cluster { StaysBehindHeader S.view self.old self.new }
         ensures cause { IfErr result IsMet }
-        ensures met { (p : Pending) (out : List (Option Prepared)) → ImageInvariant S.view F.backing p self.old out → HoldsAll S.view F.backing p out → IfErr result (IsMetAlone (IsCopiedCompressed self.old.file.header.fields old.now offset length overwrite) ⊥) }
-        ensures limit { (p : Pending) (out : List (Option Prepared)) → ImageInvariant S.view F.backing p self.old out → IfErr result (IsLimitedByCluster S.view self.old self.new) }
-        ensures gains { (p : Pending) (out : List (Option Prepared)) → ImageInvariant S.view F.backing p self.old out → HoldsAll S.view F.backing p out → Gains S.view F.backing p self.old self.new out offset length overwrite old.now result }
+        ensures met { (p : Pending) (out : List (Option Prepared)) → ImageInvariant S.view F.backing p self.old out
+            → HoldsAll S.view F.backing p out
+            → IfErr result (IsMetAlone (IsCopiedCompressed self.old.file.header.fields old.now offset length overwrite)
+            ⊥) }
+        ensures limit { (p : Pending) (out : List (Option Prepared)) → ImageInvariant S.view F.backing p self.old out
+            → IfErr result (IsLimitedByCluster S.view self.old self.new) }
+        ensures gains { (p : Pending) (out : List (Option Prepared)) → ImageInvariant S.view F.backing p self.old out
+            → HoldsAll S.view F.backing p out
+            → Gains S.view F.backing p self.old self.new out offset length overwrite old.now result }
         ensures former { OnOk result (ListsFormer self.old self.new) }
-        ensures lowest { (p : Pending) (out : List (Option Prepared)) → ImageInvariant S.view F.backing p self.old out → HoldsAll S.view F.backing p out → IfOk result (λ run. IsUsedBelow S.view self.new run.first_cluster) }
-        ensures uses { (p : Pending) (out : List (Option Prepared)) → ImageInvariant S.view F.backing p self.old out → HoldsAll S.view F.backing p out → OnOk result (StaysUsed S.view self.old.file self.new.file) }
+        ensures lowest { (p : Pending) (out : List (Option Prepared)) → ImageInvariant S.view F.backing p self.old out
+            → HoldsAll S.view F.backing p out → IfOk result (λ run. IsUsedBelow S.view self.new run.first_cluster) }
+        ensures uses { (p : Pending) (out : List (Option Prepared)) → ImageInvariant S.view F.backing p self.old out
+            → HoldsAll S.view F.backing p out → OnOk result (StaysUsed S.view self.old.file self.new.file) }
         ensures faults { CountsImageFaults S.view F.backing self.old self.new result }
     {
         let pending = self.take_data()?;
@@ -336,12 +410,17 @@ impl<S: Storage, F: WrappedFormat<S>> Qcow2<S, F> {
         ensures notes { KeepsFileNotes S.view self.old.file self.new.file }
         ensures header_cluster { StaysBehindHeader S.view self.old self.new }
         ensures cause { IfErr result IsMet }
-        ensures fault { (p : Pending) (out : List (Option Prepared)) → ImageInvariant S.view F.backing p self.old out → IfErr result IsFaultOrLimit }
-        ensures limit { (p : Pending) (out : List (Option Prepared)) → ImageInvariant S.view F.backing p self.old out → IfErr result (IsLimitedByCluster S.view self.old self.new) }
-        ensures takes { (p : Pending) (out : List (Option Prepared)) → ImageInvariant S.view F.backing p self.old out → HoldsAll S.view F.backing p out → TakesData S.view F.backing p self.old self.new out result }
+        ensures fault { (p : Pending) (out : List (Option Prepared)) → ImageInvariant S.view F.backing p self.old out
+            → IfErr result IsFaultOrLimit }
+        ensures limit { (p : Pending) (out : List (Option Prepared)) → ImageInvariant S.view F.backing p self.old out
+            → IfErr result (IsLimitedByCluster S.view self.old self.new) }
+        ensures takes { (p : Pending) (out : List (Option Prepared)) → ImageInvariant S.view F.backing p self.old out
+            → HoldsAll S.view F.backing p out → TakesData S.view F.backing p self.old self.new out result }
         ensures former { ListsFormer self.old self.new }
-        ensures lowest { (p : Pending) (out : List (Option Prepared)) → ImageInvariant S.view F.backing p self.old out → IfOk result (λ run. IsUsedBelow S.view self.new run.first_cluster) }
-        ensures uses { (p : Pending) (out : List (Option Prepared)) → ImageInvariant S.view F.backing p self.old out → OnOk result (StaysUsed S.view self.old.file self.new.file) }
+        ensures lowest { (p : Pending) (out : List (Option Prepared)) → ImageInvariant S.view F.backing p self.old out
+            → IfOk result (λ run. IsUsedBelow S.view self.new run.first_cluster) }
+        ensures uses { (p : Pending) (out : List (Option Prepared)) → ImageInvariant S.view F.backing p self.old out
+            → OnOk result (StaysUsed S.view self.old.file self.new.file) }
         ensures faults { CountsImageFaults S.view F.backing self.old self.new result }
     {
         let Some(allocator) = &mut self.allocator else {

@@ -134,8 +134,10 @@ impl<S: Storage, F: WrappedFormat<S>> Qcow2<S, F> {
         number: u64,
     ) -> Result<Qcow2<S, F>, (S, ImageError)>
         ensures opens { IfOk result (Opens S.view F.backing (S.view metadata)) }
-        ensures since { (S.view metadata).is_honest → IsConsistent (byte_at (S.view metadata).contents) → IsKeptSince (S.view metadata) (S.view (storage_after result)) }
-        ensures format { (S.view metadata).is_honest → IfOk result (λ image. SameFormat (header (byte_at (S.view metadata).contents)) image.file.header.fields) }
+        ensures since { (S.view metadata).is_honest → IsConsistent (byte_at (S.view metadata).contents)
+            → IsKeptSince (S.view metadata) (S.view (storage_after result)) }
+        ensures format { (S.view metadata).is_honest
+            → IfOk result (λ image. SameFormat (header (byte_at (S.view metadata).contents)) image.file.header.fields) }
         ensures ok { IfOk result (λ image. (number_of image ≡ number) × (is_failed image ≡ false) × (is_writable image ≡ writable)) }
         ensures faults { OpeningCounts S.view (S.view metadata).faults result }
         ensures unpinned { IfOk result (λ image. ¬ HasPinnedTable image) }
@@ -166,15 +168,18 @@ impl<S: Storage, F: WrappedFormat<S>> Qcow2<S, F> {
         number: u64,
     ) -> Result<Qcow2<S, F>, (S, ImageError)>
         ensures opens { IfOk result (Opens S.view F.backing (S.view metadata)) }
-        ensures since { (S.view metadata).is_honest → IsConsistent (byte_at (S.view metadata).contents) → IsKeptSince (S.view metadata) (S.view (storage_after result)) }
-        ensures format { (S.view metadata).is_honest → IfOk result (λ image. SameFormat (header (byte_at (S.view metadata).contents)) image.file.header.fields) }
+        ensures since { (S.view metadata).is_honest → IsConsistent (byte_at (S.view metadata).contents)
+            → IsKeptSince (S.view metadata) (S.view (storage_after result)) }
+        ensures format { (S.view metadata).is_honest
+            → IfOk result (λ image. SameFormat (header (byte_at (S.view metadata).contents)) image.file.header.fields) }
         ensures ok { IfOk result (λ image. (number_of image ≡ number) × (is_failed image ≡ false) × (is_writable image ≡ writable)) }
         ensures faults { OpeningCounts S.view (S.view metadata).faults result }
         ensures unpinned { IfOk result (λ image. ¬ HasPinnedTable image) }
         ensures below { IfOk result (λ image. is_some image.backing ≡ false) }
         ensures names { (S.view metadata).is_honest → IfOk result (λ image. HasNamesIn image.file.header (S.view metadata).contents) }
         ensures storage { LeavesStorage S.view writable (S.view metadata) result }
-        ensures another { (S.view metadata).is_honest → NeedsAnother (S.view metadata).contents → IsRefusedAlone result × ContentsStayThroughout (S.view metadata) (S.view (storage_after result)) }
+        ensures another { (S.view metadata).is_honest → NeedsAnother (S.view metadata).contents → IsRefusedAlone result
+            × ContentsStayThroughout (S.view metadata) (S.view (storage_after result)) }
         ensures cause { OpensRightly (S.view metadata) writable Missing.OtherFiles result }
         ensures unmodified { IfOk result HoldsNothingModified }
         ensures header_cluster { IfOk result (λ image. NamesTablesBehind image.file.header.fields → LiesBehindHeader image) }
@@ -199,15 +204,18 @@ impl<S: Storage, F: WrappedFormat<S>> Qcow2<S, F> {
         number: u64,
     ) -> Result<Qcow2<S, F>, (S, ImageError)>
         ensures opens { IfOk result (Opens S.view F.backing (S.view metadata)) }
-        ensures since { (S.view metadata).is_honest → IsConsistent (byte_at (S.view metadata).contents) → IsKeptSince (S.view metadata) (S.view (storage_after result)) }
-        ensures format { (S.view metadata).is_honest → IfOk result (λ image. SameFormat (header (byte_at (S.view metadata).contents)) image.file.header.fields) }
+        ensures since { (S.view metadata).is_honest → IsConsistent (byte_at (S.view metadata).contents)
+            → IsKeptSince (S.view metadata) (S.view (storage_after result)) }
+        ensures format { (S.view metadata).is_honest
+            → IfOk result (λ image. SameFormat (header (byte_at (S.view metadata).contents)) image.file.header.fields) }
         ensures ok { IfOk result (λ image. (number_of image ≡ number) × (is_failed image ≡ false) × (is_writable image ≡ writable)) }
         ensures faults { OpeningCounts S.view (S.view metadata).faults result }
         ensures unpinned { IfOk result (λ image. ¬ HasPinnedTable image) }
         ensures below { IfOk result (λ image. is_some image.backing ≡ false) }
         ensures names { (S.view metadata).is_honest → IfOk result (λ image. HasNamesIn image.file.header (S.view metadata).contents) }
         ensures storage { LeavesStorage S.view writable (S.view metadata) result }
-        ensures another { (S.view metadata).is_honest → NeedsDataFile (S.view metadata).contents → IsRefusedAlone result × ContentsStayThroughout (S.view metadata) (S.view (storage_after result)) }
+        ensures another { (S.view metadata).is_honest → NeedsDataFile (S.view metadata).contents → IsRefusedAlone result
+            × ContentsStayThroughout (S.view metadata) (S.view (storage_after result)) }
         ensures cause { OpensRightly (S.view metadata) writable Missing.DataFile result }
         ensures unmodified { IfOk result HoldsNothingModified }
         ensures header_cluster { IfOk result (λ image. NamesTablesBehind image.file.header.fields → LiesBehindHeader image) }
@@ -230,16 +238,24 @@ impl<S: Storage, F: WrappedFormat<S>> Qcow2<S, F> {
         missing: Missing,
     ) -> Result<Qcow2<S, F>, (S, ImageError)>
         ensures opens { IfOk result (Opens S.view F.backing (S.view (storage_of storage))) }
-        ensures since { (S.view (storage_of storage)).is_honest → IsConsistent (byte_at (S.view (storage_of storage)).contents) → IsKeptSince (S.view (storage_of storage)) (S.view (storage_after result)) }
-        ensures format { (S.view (storage_of storage)).is_honest → IfOk result (λ image. SameFormat (header (byte_at (S.view (storage_of storage)).contents)) image.file.header.fields) }
-        ensures list { (S.view (storage_of storage)).is_honest → IsConsistent (byte_at (S.view (storage_of storage)).contents) → IfOk result HasNothingToFree }
+        ensures since { (S.view (storage_of storage)).is_honest
+            → IsConsistent (byte_at (S.view (storage_of storage)).contents)
+            → IsKeptSince (S.view (storage_of storage)) (S.view (storage_after result)) }
+        ensures format { (S.view (storage_of storage)).is_honest
+            → IfOk result (λ image. SameFormat
+            (header (byte_at (S.view (storage_of storage)).contents)) image.file.header.fields) }
+        ensures list { (S.view (storage_of storage)).is_honest
+            → IsConsistent (byte_at (S.view (storage_of storage)).contents) → IfOk result HasNothingToFree }
         ensures ok { IfOk result (λ image. (number_of image ≡ number) × (is_failed image ≡ false) × (is_writable image ≡ writable)) }
         ensures faults { OpeningCounts S.view (S.view (storage_of storage)).faults result }
         ensures unpinned { IfOk result (λ image. ¬ HasPinnedTable image) }
         ensures below { IfOk result (λ image. is_some image.backing ≡ false) }
-        ensures names { (S.view (storage_of storage)).is_honest → IfOk result (λ image. HasNamesIn image.file.header (S.view (storage_of storage)).contents) }
+        ensures names { (S.view (storage_of storage)).is_honest
+            → IfOk result (λ image. HasNamesIn image.file.header (S.view (storage_of storage)).contents) }
         ensures storage { LeavesStorage S.view writable (S.view (storage_of storage)) result }
-        ensures another { (S.view (storage_of storage)).is_honest → NeedsMissing missing (S.view (storage_of storage)).contents → IsRefusedAlone result × ContentsStayThroughout (S.view (storage_of storage)) (S.view (storage_after result)) }
+        ensures another { (S.view (storage_of storage)).is_honest
+            → NeedsMissing missing (S.view (storage_of storage)).contents → IsRefusedAlone result
+            × ContentsStayThroughout (S.view (storage_of storage)) (S.view (storage_after result)) }
         ensures cause { OpensRightly (S.view (storage_of storage)) writable missing result }
         ensures unmodified { IfOk result HoldsNothingModified }
         ensures header_cluster { IfOk result (λ image. NamesTablesBehind image.file.header.fields → LiesBehindHeader image) }
@@ -289,7 +305,9 @@ impl<S: Storage, F: WrappedFormat<S>> Qcow2<S, F> {
         ensures time { EachMomentSince (view_in S.view file.old) (view_in S.view file.new) (IsLeftBy (view_in S.view file.new)) }
         ensures table { (view_in S.view file.old).is_honest → IfOk result (HasL1Table S.view F.backing file.new) }
         ensures cause { IfErr result IsMet }
-        ensures why { (view_in S.view file.old).is_honest → MatchResult result (λ table. L1TableReads file.old.header.fields (contents_in S.view file.old)) (IsReasonAgainstL1Table file.old.header.fields (contents_in S.view file.old)) }
+        ensures why { (view_in S.view file.old).is_honest
+            → MatchResult result (λ table. L1TableReads file.old.header.fields (contents_in S.view file.old))
+            (IsReasonAgainstL1Table file.old.header.fields (contents_in S.view file.old)) }
         ensures caches { file.new.caches ≡ file.old.caches }
         ensures header_cluster { NamesTablesBehind file.old.header.fields → IfOk result (IsL1TableBehind file.old.header.fields.cluster_bits) }
     {
@@ -319,10 +337,17 @@ impl<S: Storage, F: WrappedFormat<S>> Qcow2<S, F> {
         ensures faults { FaultsTold (view_in S.view file.old).faults (view_in S.view file.new).faults result }
         ensures caches { file.new.caches ≡ file.old.caches }
         ensures since { (p : Pending) → IsFresh S.view F.backing p file.old → IsKeptSince (view_in S.view file.old) (view_in S.view file.new) }
-        ensures loaded { (p : Pending) → IsFresh S.view F.backing p file.old → IfOk result (λ allocator. StaysFresh S.view F.backing p file.old file.new × IsAllocatorOf S.view file.new allocator) }
+        ensures loaded { (p : Pending) → IsFresh S.view F.backing p file.old
+            → IfOk result (λ allocator. StaysFresh S.view F.backing p file.old file.new
+            × IsAllocatorOf S.view file.new allocator) }
         ensures cause { IfErr result IsMet }
-        ensures why { (view_in S.view file.old).is_honest → MatchResult result (λ allocator. ReftableReads file.old.header.fields (contents_in S.view file.old)) (IsReasonAgainstReftable file.old.header.fields (contents_in S.view file.old)) }
-        ensures header_cluster { AreBehindHeader file.old.header.fields.cluster_bits file.old.caches → NamesTablesBehind file.new.header.fields → IfOk result (λ allocator. NamesTablesBehind file.old.header.fields × StandsBehindHeader file.new.header.fields.cluster_bits allocator.reftable file.new) }
+        ensures why { (view_in S.view file.old).is_honest
+            → MatchResult result (λ allocator. ReftableReads file.old.header.fields (contents_in S.view file.old))
+            (IsReasonAgainstReftable file.old.header.fields (contents_in S.view file.old)) }
+        ensures header_cluster { AreBehindHeader file.old.header.fields.cluster_bits file.old.caches
+            → NamesTablesBehind file.new.header.fields
+            → IfOk result (λ allocator. NamesTablesBehind file.old.header.fields
+            × StandsBehindHeader file.new.header.fields.cluster_bits allocator.reftable file.new) }
         ensures leaks { IfOk result (λ allocator. leaked_by (Some allocator) ≡ 0) }
     {
         let allocator = Allocator::new(file)?;
@@ -340,10 +365,17 @@ impl<S: Storage, F: WrappedFormat<S>> Qcow2<S, F> {
         ensures faults { FaultsTold (view_in S.view file.old).faults (view_in S.view file.new).faults result }
         ensures caches { file.new.caches ≡ file.old.caches }
         ensures since { (p : Pending) → IsFresh S.view F.backing p file.old → IsKeptSince (view_in S.view file.old) (view_in S.view file.new) }
-        ensures loaded { (p : Pending) → IsFresh S.view F.backing p file.old → IfOk result (λ tables. IsLoaded S.view F.backing p file.new tables.l1_table tables.allocator) }
+        ensures loaded { (p : Pending) → IsFresh S.view F.backing p file.old
+            → IfOk result (λ tables. IsLoaded S.view F.backing p file.new tables.l1_table tables.allocator) }
         ensures cause { IfErr result IsMet }
-        ensures why { (view_in S.view file.old).is_honest → MatchResult result (λ tables. NeededTablesRead file.old.header.fields (contents_in S.view file.old) writable) (IsReasonAgainstTables file.old.header.fields (contents_in S.view file.old) writable) }
-        ensures header_cluster { AreBehindHeader file.old.header.fields.cluster_bits file.old.caches → NamesTablesBehind file.new.header.fields → IfOk result (λ tables. TablesBehindHeader file.new.header.fields.cluster_bits file.new.header.fields.cluster_bits tables.l1_table file.new.caches tables.allocator) }
+        ensures why { (view_in S.view file.old).is_honest
+            → MatchResult result (λ tables. NeededTablesRead file.old.header.fields
+            (contents_in S.view file.old) writable)
+            (IsReasonAgainstTables file.old.header.fields (contents_in S.view file.old) writable) }
+        ensures header_cluster { AreBehindHeader file.old.header.fields.cluster_bits file.old.caches
+            → NamesTablesBehind file.new.header.fields
+            → IfOk result (λ tables. TablesBehindHeader file.new.header.fields.cluster_bits
+            file.new.header.fields.cluster_bits tables.l1_table file.new.caches tables.allocator) }
         ensures leaks { IfOk result (λ tables. leaked_by tables.allocator ≡ 0) }
     {
         let l1_table = Self::load_l1_table(file)?;
@@ -392,7 +424,8 @@ impl<S: Storage, F: WrappedFormat<S>> Qcow2<S, F> {
     /// The size of the guest's disk, in bytes.
     pub fn size(&self) -> u64
         ensures value { result ≡ size_of self.now }
-        ensures sees { (out : List (Option Prepared)) → (abstract_of S.view F.backing self.now out).is_sound → result ≡ (guest_of (abstract_of S.view F.backing self.now out)).disk.size }
+        ensures sees { (out : List (Option Prepared)) → (abstract_of S.view F.backing self.now out).is_sound
+            → result ≡ (guest_of (abstract_of S.view F.backing self.now out)).disk.size }
     {
         self.file.header.size()
     }
@@ -473,7 +506,9 @@ impl<S: Storage, F: WrappedFormat<S>> Qcow2<S, F> {
         ensures header { KeepsWholeHeader self.old self.new }
         ensures sees { FlushesImage S.view F.backing self.old self.new result }
         ensures emptied { IsTrue (is_writable self.old) → OnOk result (HasNothingToFree self.new) }
-        ensures writes { (p : Pending) → ImageInvariant S.view F.backing (with_listed p self.old.file.free_list) self.old [] → WritesBack S.view F.backing p self.old self.new result }
+        ensures writes { (p : Pending)
+            → ImageInvariant S.view F.backing (with_listed p self.old.file.free_list) self.old []
+            → WritesBack S.view F.backing p self.old self.new result }
         ensures once_written { FailsOnceWritten S.view self.old self.new result }
         ensures quiet { is_writable self.old ≡ false → ReadsQuietly S.view self.old self.new }
         ensures header_cluster { StaysBehindHeader S.view self.old self.new }
@@ -492,9 +527,13 @@ impl<S: Storage, F: WrappedFormat<S>> Qcow2<S, F> {
         ensures stays { ImageStays self.old self.new }
         ensures header { self.new.file.header ≡ self.old.file.header }
         ensures cause { IfErr result IsOfTables }
-        ensures fault { (p : Pending) (out : List (Option Prepared)) → ImageInvariant S.view F.backing (with_listed p self.old.file.free_list) self.old out → IfErr result IsFault }
+        ensures fault { (p : Pending) (out : List (Option Prepared))
+            → ImageInvariant S.view F.backing (with_listed p self.old.file.free_list) self.old out
+            → IfErr result IsFault }
         ensures emptied { IsTrue (is_writable self.old) → OnOk result (HasNothingToFree self.new) }
-        ensures frees { (p : Pending) (out : List (Option Prepared)) → ImageInvariant S.view F.backing (with_listed p self.old.file.free_list) self.old out → FreesListed S.view F.backing p self.old self.new out result }
+        ensures frees { (p : Pending) (out : List (Option Prepared))
+            → ImageInvariant S.view F.backing (with_listed p self.old.file.free_list) self.old out
+            → FreesListed S.view F.backing p self.old self.new out result }
         ensures notes { KeepsFileNotes S.view self.old.file self.new.file }
         ensures quiet { is_writable self.old ≡ false → ReadsQuietly S.view self.old self.new }
         ensures header_cluster { StaysBehindHeader S.view self.old self.new }
@@ -514,10 +553,16 @@ impl<S: Storage, F: WrappedFormat<S>> Qcow2<S, F> {
         ensures table { self.new.l1_table ≡ self.old.l1_table }
         ensures former { KeepsReftable self.old self.new }
         ensures cause { IfErr result IsOfTables }
-        ensures uses { (p : Pending) (out : List (Option Prepared)) → ImageInvariant S.view F.backing (with_listed p self.old.file.free_list) self.old out → OnOk result (FreesJustListed S.view self.old self.new) }
+        ensures uses { (p : Pending) (out : List (Option Prepared))
+            → ImageInvariant S.view F.backing (with_listed p self.old.file.free_list) self.old out
+            → OnOk result (FreesJustListed S.view self.old self.new) }
         ensures emptied { IsTrue (is_writable self.old) → OnOk result (HasNothingToFree self.new) }
-        ensures frees { (p : Pending) (out : List (Option Prepared)) → ImageInvariant S.view F.backing (with_listed p self.old.file.free_list) self.old out → FreesListed S.view F.backing p self.old self.new out result }
-        ensures faults { (p : Pending) (out : List (Option Prepared)) → ImageInvariant S.view F.backing (with_listed p self.old.file.free_list) self.old out → IfErr result IsFault }
+        ensures frees { (p : Pending) (out : List (Option Prepared))
+            → ImageInvariant S.view F.backing (with_listed p self.old.file.free_list) self.old out
+            → FreesListed S.view F.backing p self.old self.new out result }
+        ensures faults { (p : Pending) (out : List (Option Prepared))
+            → ImageInvariant S.view F.backing (with_listed p self.old.file.free_list) self.old out
+            → IfErr result IsFault }
         ensures noted { IsTrue self.old.file.caches.is_changed → IsTrue self.new.file.caches.is_changed }
         ensures idle { HasNothingToFree self.old → (result ≡ Ok tt) × (self.new ≡ self.old) }
         ensures notes { KeepsFileNotes S.view self.old.file self.new.file }
@@ -560,9 +605,16 @@ impl<S: Storage, F: WrappedFormat<S>> Qcow2<S, F> {
         ensures list { self.new.file.free_list ≡ self.old.file.free_list }
         ensures faults { SameFaults S.view F.backing self.old self.new }
         ensures storage { storage_of self.new.file.storage ≡ storage_of self.old.file.storage }
-        ensures keeps { (p : Pending) (out : List (Option Prepared)) → ImageInvariant S.view F.backing p self.old out → UnseenStep S.view F.backing p p self.old self.new out }
-        ensures known { (p : Pending) (out : List (Option Prepared)) → ImageInvariant S.view F.backing p self.old out → known_in S.view self.new.file ≡ known_in S.view self.old.file }
-        ensures rest { self.new ≡ record self.old { file = record self.old.file { storage = self.new.file.storage; caches = self.new.file.caches } } }
+        ensures keeps { (p : Pending) (out : List (Option Prepared)) → ImageInvariant S.view F.backing p self.old out
+            → UnseenStep S.view F.backing p p self.old self.new out }
+        ensures known { (p : Pending) (out : List (Option Prepared)) → ImageInvariant S.view F.backing p self.old out
+            → known_in S.view self.new.file ≡ known_in S.view self.old.file }
+        ensures rest { self.new ≡ record self.old {
+          file = record self.old.file {
+            storage = self.new.file.storage;
+            caches = self.new.file.caches;
+          };
+        } }
         ensures begun { IsBegun self.old self.new }
     {
         self.file.storage.begin();

@@ -62,8 +62,13 @@ impl<S: Storage, F: WrappedFormat<S>> Qcow2<S, F> {
         requires { at + length bytes.old ≤ mapping.now.length }
         ensures early { IfSome (refuses_mapping self.old mapping.now.image) (λ e. (result ≡ Err e) × (self.new ≡ self.old)) }
         ensures late { refuses_mapping self.old mapping.now.image ≡ None → IfErr result IsMet }
-        ensures met { refuses_mapping self.old mapping.now.image ≡ None → (out : List (Option Prepared)) → (abstract_of S.view F.backing self.old out).is_sound → IfErr result (IsMetMapped (IsCacheHeld self.old out) (further_by at mapping.now.kind) (IsFoundWhole S.view self.old (mapping.now.offset + at) (further_by at mapping.now.kind) (length bytes.old))) }
-        ensures nothing { refuses_mapping self.old mapping.now.image ≡ None → length bytes.old ≡ 0 → (result ≡ Ok tt) × (self.new ≡ self.old) }
+        ensures met { refuses_mapping self.old mapping.now.image ≡ None → (out : List (Option Prepared))
+            → (abstract_of S.view F.backing self.old out).is_sound
+            → IfErr result (IsMetMapped (IsCacheHeld self.old out) (further_by at mapping.now.kind)
+            (IsFoundWhole S.view self.old (mapping.now.offset + at) (further_by at mapping.now.kind)
+            (length bytes.old))) }
+        ensures nothing { refuses_mapping self.old mapping.now.image ≡ None → length bytes.old ≡ 0 → (result ≡ Ok tt)
+            × (self.new ≡ self.old) }
         ensures marks { MarksFailed self.old self.new result }
         ensures image { IsSameImage self.old self.new }
         ensures header { KeepsWholeHeader self.old self.new }
@@ -71,11 +76,13 @@ impl<S: Storage, F: WrappedFormat<S>> Qcow2<S, F> {
             → ¬ IsFoundWhole S.view self.old (mapping.now.offset + at) (further_by at mapping.now.kind) (length bytes.old) }
         ensures mapped { 0 < length bytes.old → (out : List (Option Prepared)) → (abstract_of S.view F.backing self.old out).is_sound
             → OnOk result (IsFoundWhole S.view self.old (mapping.now.offset + at) (further_by at mapping.now.kind) (length bytes.old)) }
-        ensures sees { AnswersCall S.view F.backing self.old self.new [] (λ done old new. (new ≡ old) × Shows old.disk (mapping.now.offset + at) bytes.new) result }
+        ensures sees { AnswersCall S.view F.backing self.old self.new []
+            (λ done old new. (new ≡ old) × Shows old.disk (mapping.now.offset + at) bytes.new) result }
         ensures faults { CountsImageFaults S.view F.backing self.old self.new result }
         ensures once_written { FailsOnceWritten S.view self.old self.new result }
         ensures quiet { ReadsQuietly S.view self.old self.new }
-        ensures held { refuses_mapping self.old mapping.now.image ≡ None → 0 < length bytes.old → HeedsHeld self.new (mapping.now.offset + at) (further_by at mapping.now.kind) (length bytes.old) result }
+        ensures held { refuses_mapping self.old mapping.now.image ≡ None → 0 < length bytes.old
+            → HeedsHeld self.new (mapping.now.offset + at) (further_by at mapping.now.kind) (length bytes.old) result }
         ensures header_cluster { StaysBehindHeader S.view self.old self.new }
     {
         self.check_usable()?;
@@ -99,17 +106,28 @@ impl<S: Storage, F: WrappedFormat<S>> Qcow2<S, F> {
         ensures stays { ImageStays self.old self.new }
         ensures header { self.new.file.header ≡ self.old.file.header }
         ensures cause { IfErr result IsMet }
-        ensures met { (p : Pending) (out : List (Option Prepared)) → ImageInvariant S.view F.backing p self.old out → IfErr result (IsMetMapped (IsCacheHeld self.old out) (further_by at mapping.now.kind) (IsFoundWhole S.view self.old (mapping.now.offset + at) (further_by at mapping.now.kind) (length bytes.old))) }
+        ensures met { (p : Pending) (out : List (Option Prepared)) → ImageInvariant S.view F.backing p self.old out
+            → IfErr result (IsMetMapped (IsCacheHeld self.old out) (further_by at mapping.now.kind)
+            (IsFoundWhole S.view self.old (mapping.now.offset + at) (further_by at mapping.now.kind)
+            (length bytes.old))) }
         ensures list { self.new.file.free_list ≡ self.old.file.free_list }
-        ensures keeps { (p : Pending) (out : List (Option Prepared)) → ImageInvariant S.view F.backing p self.old out → UnseenStep S.view F.backing p p self.old self.new out }
-        ensures outdated { 0 < length bytes.old → (p : Pending) (out : List (Option Prepared)) → ImageInvariant S.view F.backing p self.old out → result ≡ Err OutdatedMapping
-            → ¬ IsFoundWhole S.view self.old (mapping.now.offset + at) (further_by at mapping.now.kind) (length bytes.old) }
-        ensures mapped { (p : Pending) (out : List (Option Prepared)) → ImageInvariant S.view F.backing p self.old out → OnOk result (IsFoundWhole S.view self.old (mapping.now.offset + at) (further_by at mapping.now.kind) (length bytes.old)) }
-        ensures shows { 0 < length bytes.old → (p : Pending) (out : List (Option Prepared)) → ImageInvariant S.view F.backing p self.old out → IfOk result (λ done. Shows (disk_of S.view F.backing self.new) (mapping.now.offset + at) bytes.new) }
+        ensures keeps { (p : Pending) (out : List (Option Prepared)) → ImageInvariant S.view F.backing p self.old out
+            → UnseenStep S.view F.backing p p self.old self.new out }
+        ensures outdated { 0 < length bytes.old → (p : Pending) (out : List (Option Prepared))
+            → ImageInvariant S.view F.backing p self.old out → result ≡ Err OutdatedMapping
+            → ¬ IsFoundWhole S.view self.old (mapping.now.offset + at) (further_by at mapping.now.kind)
+            (length bytes.old) }
+        ensures mapped { (p : Pending) (out : List (Option Prepared)) → ImageInvariant S.view F.backing p self.old out
+            → OnOk result (IsFoundWhole S.view self.old (mapping.now.offset + at) (further_by at mapping.now.kind)
+            (length bytes.old)) }
+        ensures shows { 0 < length bytes.old → (p : Pending) (out : List (Option Prepared))
+            → ImageInvariant S.view F.backing p self.old out
+            → IfOk result (λ done. Shows (disk_of S.view F.backing self.new) (mapping.now.offset + at) bytes.new) }
         ensures faults { CountsImageFaults S.view F.backing self.old self.new result }
         ensures notes { KeepsFileNotes S.view self.old.file self.new.file }
         ensures quiet { ReadsQuietly S.view self.old self.new }
-        ensures held { 0 < length bytes.old → HeedsHeld self.new (mapping.now.offset + at) (further_by at mapping.now.kind) (length bytes.old) result }
+        ensures held { 0 < length bytes.old
+            → HeedsHeld self.new (mapping.now.offset + at) (further_by at mapping.now.kind) (length bytes.old) result }
         ensures header_cluster { StaysBehindHeader S.view self.old self.new }
     {
         let offset = self.place_within(mapping.offset, at)?;
@@ -142,12 +160,18 @@ impl<S: Storage, F: WrappedFormat<S>> Qcow2<S, F> {
         ensures stays { ImageStays self.old self.new }
         ensures header { self.new.file.header ≡ self.old.file.header }
         ensures cause { IfErr result IsMet }
-        ensures met { (p : Pending) (out : List (Option Prepared)) → ImageInvariant S.view F.backing p self.old out → IfErr result (IsMetLookingAgain (IsCacheHeld self.old out)) }
+        ensures met { (p : Pending) (out : List (Option Prepared)) → ImageInvariant S.view F.backing p self.old out
+            → IfErr result (IsMetLookingAgain (IsCacheHeld self.old out)) }
         ensures list { self.new.file.free_list ≡ self.old.file.free_list }
-        ensures keeps { (p : Pending) (out : List (Option Prepared)) → ImageInvariant S.view F.backing p self.old out → UnseenStep S.view F.backing p p self.old self.new out }
-        ensures outdated { (p : Pending) (out : List (Option Prepared)) → ImageInvariant S.view F.backing p self.old out → result ≡ Err OutdatedMapping → ¬ IsFoundWhole S.view self.old offset wanted.now length }
-        ensures mapped { 0 < length → (p : Pending) (out : List (Option Prepared)) → ImageInvariant S.view F.backing p self.old out → IfOk result (λ done. IsMappedAs S.view self.new offset wanted.now length) }
-        ensures found { (p : Pending) (out : List (Option Prepared)) → ImageInvariant S.view F.backing p self.old out → OnOk result (IsFoundWhole S.view self.old offset wanted.now length) }
+        ensures keeps { (p : Pending) (out : List (Option Prepared)) → ImageInvariant S.view F.backing p self.old out
+            → UnseenStep S.view F.backing p p self.old self.new out }
+        ensures outdated { (p : Pending) (out : List (Option Prepared)) → ImageInvariant S.view F.backing p self.old out
+            → result ≡ Err OutdatedMapping → ¬ IsFoundWhole S.view self.old offset wanted.now length }
+        ensures mapped { 0 < length → (p : Pending) (out : List (Option Prepared))
+            → ImageInvariant S.view F.backing p self.old out
+            → IfOk result (λ done. IsMappedAs S.view self.new offset wanted.now length) }
+        ensures found { (p : Pending) (out : List (Option Prepared)) → ImageInvariant S.view F.backing p self.old out
+            → OnOk result (IsFoundWhole S.view self.old offset wanted.now length) }
         ensures faults { CountsImageFaults S.view F.backing self.old self.new result }
         ensures notes { KeepsFileNotes S.view self.old.file self.new.file }
         ensures quiet { ReadsQuietly S.view self.old self.new }
@@ -177,9 +201,11 @@ impl<S: Storage, F: WrappedFormat<S>> Qcow2<S, F> {
         ensures allocator { self.new.allocator ≡ self.old.allocator }
         ensures table { self.new.l1_table ≡ self.old.l1_table }
         ensures list { self.new.file.free_list ≡ self.old.file.free_list }
-        ensures keeps { (p : Pending) (out : List (Option Prepared)) → ImageInvariant S.view F.backing p self.old out → UnseenStep S.view F.backing p p self.old self.new out }
+        ensures keeps { (p : Pending) (out : List (Option Prepared)) → ImageInvariant S.view F.backing p self.old out
+            → UnseenStep S.view F.backing p p self.old self.new out }
         ensures outdated { result ≡ Err OutdatedMapping → (kind.now ≡ Eof) × (self.new ≡ self.old) }
-        ensures shows { (p : Pending) (out : List (Option Prepared)) → ImageInvariant S.view F.backing p self.old out → IsMappedAs S.view self.old offset kind.now (length bytes.old)
+        ensures shows { (p : Pending) (out : List (Option Prepared)) → ImageInvariant S.view F.backing p self.old out
+            → IsMappedAs S.view self.old offset kind.now (length bytes.old)
             → IfOk result (λ done. Shows (disk_of S.view F.backing self.new) offset bytes.new) }
         ensures faults { CountsImageFaults S.view F.backing self.old self.new result }
         ensures notes { KeepsFileNotes S.view self.old.file self.new.file }
@@ -216,8 +242,11 @@ impl<S: Storage, F: WrappedFormat<S>> Qcow2<S, F> {
         ensures file { self.new.file ≡ self.old.file }
         ensures allocator { self.new.allocator ≡ self.old.allocator }
         ensures table { self.new.l1_table ≡ self.old.l1_table }
-        ensures keeps { (p : Pending) (out : List (Option Prepared)) → ImageInvariant S.view F.backing p self.old out → UnseenStep S.view F.backing p p self.old self.new out }
-        ensures reads { IsHonestBacking S.view F.backing self.old.backing → IfOk result (λ done. (length bytes.new ≡ length bytes.old) × AreBytesOf (backing_bytes S.view F.backing self.old.backing) offset bytes.new) }
+        ensures keeps { (p : Pending) (out : List (Option Prepared)) → ImageInvariant S.view F.backing p self.old out
+            → UnseenStep S.view F.backing p p self.old self.new out }
+        ensures reads { IsHonestBacking S.view F.backing self.old.backing
+            → IfOk result (λ done. (length bytes.new ≡ length bytes.old)
+            × AreBytesOf (backing_bytes S.view F.backing self.old.backing) offset bytes.new) }
         ensures faults { CountsImageFaults S.view F.backing self.old self.new result }
         ensures notes { KeepsFileNotes S.view self.old.file self.new.file }
         ensures below { is_some self.new.backing ≡ is_some self.old.backing }
@@ -238,14 +267,17 @@ impl<S: Storage, F: WrappedFormat<S>> Qcow2<S, F> {
     pub fn readv_special(&mut self, bytes: &mut [u8], offset: u64) -> Result<(), ImageError>
         ensures early { IfSome (unusable self.old) (λ e. (result ≡ Err e) × (self.new ≡ self.old)) }
         ensures late { unusable self.old ≡ None → IfErr result (λ e. IsMet e ⊎ (e ≡ NotCompressed offset)) }
-        ensures met { (out : List (Option Prepared)) → (abstract_of S.view F.backing self.old out).is_sound → IfErr result (IsMetSpecial (IsCacheHeld self.old out) offset) }
+        ensures met { (out : List (Option Prepared)) → (abstract_of S.view F.backing self.old out).is_sound
+            → IfErr result (IsMetSpecial (IsCacheHeld self.old out) offset) }
         ensures nothing { unusable self.old ≡ None → length bytes.old ≡ 0 → (result ≡ Ok tt) × (self.new ≡ self.old) }
         ensures some { 0 < length bytes.old → IsErr result }
         ensures marks { MarksFailed self.old self.new result }
         ensures image { IsSameImage self.old self.new }
         ensures header { KeepsWholeHeader self.old self.new }
         ensures slice { bytes.new ≡ bytes.old }
-        ensures tells { 0 < length bytes.old → (out : List (Option Prepared)) → (abstract_of S.view F.backing self.old out).is_sound → IfErr result (TellsCompressed (known_in S.view self.old.file) offset) }
+        ensures tells { 0 < length bytes.old → (out : List (Option Prepared))
+            → (abstract_of S.view F.backing self.old out).is_sound
+            → IfErr result (TellsCompressed (known_in S.view self.old.file) offset) }
         ensures sees { AnswersCall S.view F.backing self.old self.new [] (λ done was is. is ≡ was) result }
         ensures faults { CountsImageFaults S.view F.backing self.old self.new result }
         ensures once_written { FailsOnceWritten S.view self.old self.new result }
@@ -268,14 +300,17 @@ impl<S: Storage, F: WrappedFormat<S>> Qcow2<S, F> {
     ) -> Result<Option<u64>, ImageError>
         ensures early { IfSome (unusable self.old) (λ e. (result ≡ Err e) × (self.new ≡ self.old)) }
         ensures late { unusable self.old ≡ None → IfErr result IsMet }
-        ensures met { (out : List (Option Prepared)) → (abstract_of S.view F.backing self.old out).is_sound → IfErr result (λ e. IsMetLooking (IsCacheHeld self.old out) e ⊎ (e ≡ Compressed)) }
+        ensures met { (out : List (Option Prepared)) → (abstract_of S.view F.backing self.old out).is_sound
+            → IfErr result (λ e. IsMetLooking (IsCacheHeld self.old out) e ⊎ (e ≡ Compressed)) }
         ensures nothing { unusable self.old ≡ None → length bytes.old ≡ 0 → (result ≡ Ok None) × (self.new ≡ self.old) }
         ensures some { 0 < length bytes.old → IfOk result (λ at. at ≡ Some offset) }
         ensures marks { MarksFailed self.old self.new result }
         ensures image { IsSameImage self.old self.new }
         ensures header { KeepsWholeHeader self.old self.new }
         ensures slice { bytes.new ≡ bytes.old }
-        ensures tells { 0 < length bytes.old → (out : List (Option Prepared)) → (abstract_of S.view F.backing self.old out).is_sound → TellsWhether (known_in S.view self.old.file) offset result }
+        ensures tells { 0 < length bytes.old → (out : List (Option Prepared))
+            → (abstract_of S.view F.backing self.old out).is_sound
+            → TellsWhether (known_in S.view self.old.file) offset result }
         ensures sees { AnswersCall S.view F.backing self.old self.new [] (λ at was is. is ≡ was) result }
         ensures faults { CountsImageFaults S.view F.backing self.old self.new result }
         ensures once_written { FailsOnceWritten S.view self.old self.new result }
@@ -296,11 +331,14 @@ impl<S: Storage, F: WrappedFormat<S>> Qcow2<S, F> {
         ensures stays { ImageStays self.old self.new }
         ensures header { self.new.file.header ≡ self.old.file.header }
         ensures cause { IfErr result IsMet }
-        ensures met { (p : Pending) (out : List (Option Prepared)) → ImageInvariant S.view F.backing p self.old out → IfErr result (λ e. IsMetLooking (IsCacheHeld self.old out) e ⊎ (e ≡ Compressed)) }
+        ensures met { (p : Pending) (out : List (Option Prepared)) → ImageInvariant S.view F.backing p self.old out
+            → IfErr result (λ e. IsMetLooking (IsCacheHeld self.old out) e ⊎ (e ≡ Compressed)) }
         ensures list { self.new.file.free_list ≡ self.old.file.free_list }
         ensures answer { IfOk result (λ at. at ≡ Some offset) }
-        ensures keeps { (p : Pending) (out : List (Option Prepared)) → ImageInvariant S.view F.backing p self.old out → UnseenStep S.view F.backing p p self.old self.new out }
-        ensures tells { (p : Pending) (out : List (Option Prepared)) → ImageInvariant S.view F.backing p self.old out → TellsWhether (known_in S.view self.old.file) offset result }
+        ensures keeps { (p : Pending) (out : List (Option Prepared)) → ImageInvariant S.view F.backing p self.old out
+            → UnseenStep S.view F.backing p p self.old self.new out }
+        ensures tells { (p : Pending) (out : List (Option Prepared)) → ImageInvariant S.view F.backing p self.old out
+            → TellsWhether (known_in S.view self.old.file) offset result }
         ensures faults { CountsImageFaults S.view F.backing self.old self.new result }
         ensures notes { KeepsFileNotes S.view self.old.file self.new.file }
         ensures quiet { ReadsQuietly S.view self.old self.new }
@@ -327,22 +365,32 @@ impl<S: Storage, F: WrappedFormat<S>> Qcow2<S, F> {
     ) -> Result<(), ImageError>
         requires { at + length bytes.now ≤ prepared.now.length }
         ensures early { IfSome (refuses_mapping self.old (image_of prepared.now)) (λ e. (result ≡ Err e) × (self.new ≡ self.old)) }
-        ensures read_only { 0 < length bytes.now → refuses_mapping self.old (image_of prepared.now) ≡ None → is_writable self.old ≡ false → (result ≡ Err ReadOnly) × (self.new ≡ self.old) }
+        ensures read_only { 0 < length bytes.now → refuses_mapping self.old (image_of prepared.now) ≡ None
+            → is_writable self.old ≡ false → (result ≡ Err ReadOnly) × (self.new ≡ self.old) }
         ensures late { refuses_mapping self.old (image_of prepared.now) ≡ None → IsTrue (is_writable self.old) → IfErr result IsMet }
-        ensures met { (out : List (Option Prepared)) (k : ℕ) → slice_get out k ≡ Some (Some prepared.now) → (abstract_of S.view F.backing self.old out).is_sound → IsTrue (is_writable self.old) → IfErr result (IsMetPutting (IsCacheHeld self.old out) prepared.now at) }
-        ensures nothing { refuses_mapping self.old (image_of prepared.now) ≡ None → length bytes.now ≡ 0 → (result ≡ Ok tt) × (self.new ≡ self.old) }
+        ensures met { (out : List (Option Prepared)) (k : ℕ) → slice_get out k ≡ Some (Some prepared.now)
+            → (abstract_of S.view F.backing self.old out).is_sound → IsTrue (is_writable self.old)
+            → IfErr result (IsMetPutting (IsCacheHeld self.old out) prepared.now at) }
+        ensures nothing { refuses_mapping self.old (image_of prepared.now) ≡ None → length bytes.now ≡ 0
+            → (result ≡ Ok tt) × (self.new ≡ self.old) }
         ensures marks { MarksFailed self.old self.new result }
         ensures image { IsSameImage self.old self.new }
         ensures header { KeepsWholeHeader self.old self.new }
-        ensures outdated { table_of prepared.now ≡ None → (out : List (Option Prepared)) → (abstract_of S.view F.backing self.old out).is_sound → result ≡ Err OutdatedMapping
-            → ¬ IsFoundWhole S.view self.old (prepared.now.guest + at) (Raw Image (prepared.now.offset + at) true) (length bytes.now) }
-        ensures mapped { table_of prepared.now ≡ None → 0 < length bytes.now → (out : List (Option Prepared)) → (abstract_of S.view F.backing self.old out).is_sound
-            → OnOk result (IsFoundWhole S.view self.old (prepared.now.guest + at) (Raw Image (prepared.now.offset + at) true) (length bytes.now)) }
+        ensures outdated { table_of prepared.now ≡ None → (out : List (Option Prepared))
+            → (abstract_of S.view F.backing self.old out).is_sound → result ≡ Err OutdatedMapping
+            → ¬ IsFoundWhole S.view self.old (prepared.now.guest + at) (Raw Image (prepared.now.offset + at) true)
+            (length bytes.now) }
+        ensures mapped { table_of prepared.now ≡ None → 0 < length bytes.now → (out : List (Option Prepared))
+            → (abstract_of S.view F.backing self.old out).is_sound
+            → OnOk result (IsFoundWhole S.view self.old (prepared.now.guest + at)
+            (Raw Image (prepared.now.offset + at) true) (length bytes.now)) }
         ensures private { IsSome (table_of prepared.now) → result ≢ Err OutdatedMapping }
         ensures sees { Puts S.view F.backing self.old self.new prepared.now at bytes.now result }
         ensures faults { CountsImageFaults S.view F.backing self.old self.new result }
         ensures once_written { FailsOnceWritten S.view self.old self.new result }
-        ensures held { refuses_mapping self.old (image_of prepared.now) ≡ None → table_of prepared.now ≡ None → 0 < length bytes.now → HeedsHeld self.new (prepared.now.guest + at) (Raw Image (prepared.now.offset + at) true) (length bytes.now) result }
+        ensures held { refuses_mapping self.old (image_of prepared.now) ≡ None → table_of prepared.now ≡ None
+            → 0 < length bytes.now → HeedsHeld self.new (prepared.now.guest + at)
+            (Raw Image (prepared.now.offset + at) true) (length bytes.now) result }
         ensures freeing { ListStays self.old self.new }
         ensures header_cluster { StaysBehindHeader S.view self.old self.new }
         ensures once { PutsOnce S.view F.backing prepared.now at bytes.now self.old self.new result }
@@ -371,18 +419,30 @@ impl<S: Storage, F: WrappedFormat<S>> Qcow2<S, F> {
         ensures stays { ImageStays self.old self.new }
         ensures header { self.new.file.header ≡ self.old.file.header }
         ensures cause { IfErr result IsMet }
-        ensures met { at + length bytes.now ≤ prepared.now.length → 0 < length bytes.now → (out : List (Option Prepared)) (k : ℕ) → slice_get out k ≡ Some (Some prepared.now) → ImageInvariant S.view F.backing (pending_in S.view F.backing self.old out) self.old out → IfErr result (IsMetPutting (IsCacheHeld self.old out) prepared.now at) }
-        ensures outdated { 0 < length bytes.now → table_of prepared.now ≡ None → (p : Pending) (out : List (Option Prepared)) → ImageInvariant S.view F.backing p self.old out → result ≡ Err OutdatedMapping
-            → ¬ IsFoundWhole S.view self.old (prepared.now.guest + at) (Raw Image (prepared.now.offset + at) true) (length bytes.now) }
-        ensures mapped { table_of prepared.now ≡ None → (p : Pending) (out : List (Option Prepared)) → ImageInvariant S.view F.backing p self.old out
-            → OnOk result (IsFoundWhole S.view self.old (prepared.now.guest + at) (Raw Image (prepared.now.offset + at) true) (length bytes.now)) }
+        ensures met { at + length bytes.now ≤ prepared.now.length → 0 < length bytes.now
+            → (out : List (Option Prepared)) (k : ℕ) → slice_get out k ≡ Some (Some prepared.now)
+            → ImageInvariant S.view F.backing (pending_in S.view F.backing self.old out) self.old out
+            → IfErr result (IsMetPutting (IsCacheHeld self.old out) prepared.now at) }
+        ensures outdated { 0 < length bytes.now → table_of prepared.now ≡ None
+            → (p : Pending) (out : List (Option Prepared)) → ImageInvariant S.view F.backing p self.old out
+            → result ≡ Err OutdatedMapping
+            → ¬ IsFoundWhole S.view self.old (prepared.now.guest + at) (Raw Image (prepared.now.offset + at) true)
+            (length bytes.now) }
+        ensures mapped { table_of prepared.now ≡ None → (p : Pending) (out : List (Option Prepared))
+            → ImageInvariant S.view F.backing p self.old out
+            → OnOk result (IsFoundWhole S.view self.old (prepared.now.guest + at)
+            (Raw Image (prepared.now.offset + at) true) (length bytes.now)) }
         ensures private { IsSome (table_of prepared.now) → result ≢ Err OutdatedMapping }
-        ensures puts { 0 < length bytes.now → at + length bytes.now ≤ prepared.now.length → (out : List (Option Prepared)) (k : ℕ) → slice_get out k ≡ Some (Some prepared.now)
-            → ImageInvariant S.view F.backing (pending_in S.view F.backing self.old out) self.old out → PutsPart S.view F.backing self.old self.new out k prepared.now at bytes.now result }
+        ensures puts { 0 < length bytes.now → at + length bytes.now ≤ prepared.now.length
+            → (out : List (Option Prepared)) (k : ℕ) → slice_get out k ≡ Some (Some prepared.now)
+            → ImageInvariant S.view F.backing (pending_in S.view F.backing self.old out) self.old out
+            → PutsPart S.view F.backing self.old self.new out k prepared.now at bytes.now result }
         ensures faults { CountsImageFaults S.view F.backing self.old self.new result }
         ensures notes { KeepsFileNotes S.view self.old.file self.new.file }
         ensures list { ListStays self.old self.new }
-        ensures held { table_of prepared.now ≡ None → 0 < length bytes.now → HeedsHeld self.new (prepared.now.guest + at) (Raw Image (prepared.now.offset + at) true) (length bytes.now) result }
+        ensures held { table_of prepared.now ≡ None → 0 < length bytes.now
+            → HeedsHeld self.new (prepared.now.guest + at) (Raw Image (prepared.now.offset + at) true)
+            (length bytes.now) result }
         ensures header_cluster { StaysBehindHeader S.view self.old self.new }
         ensures once { PutsOnce S.view F.backing prepared.now at bytes.now self.old self.new result }
     {
@@ -404,17 +464,25 @@ impl<S: Storage, F: WrappedFormat<S>> Qcow2<S, F> {
         ensures stays { ImageStays self.old self.new }
         ensures header { self.new.file.header ≡ self.old.file.header }
         ensures cause { IfErr result IsMet }
-        ensures met { (p : Pending) (out : List (Option Prepared)) → ImageInvariant S.view F.backing p self.old out → IfErr result (λ e. (table_of prepared.now ≡ None) × IsMetLookingAgain (IsCacheHeld self.old out) e) }
+        ensures met { (p : Pending) (out : List (Option Prepared)) → ImageInvariant S.view F.backing p self.old out
+            → IfErr result (λ e. (table_of prepared.now ≡ None) × IsMetLookingAgain (IsCacheHeld self.old out) e) }
         ensures list { self.new.file.free_list ≡ self.old.file.free_list }
-        ensures keeps { (p : Pending) (out : List (Option Prepared)) → ImageInvariant S.view F.backing p self.old out → UnseenStep S.view F.backing p p self.old self.new out }
-        ensures outdated { 0 < length → (p : Pending) (out : List (Option Prepared)) → ImageInvariant S.view F.backing p self.old out → result ≡ Err OutdatedMapping → ¬ IsFoundWhole S.view self.old (prepared.now.guest + at) (Raw Image host true) length }
-        ensures mapped { table_of prepared.now ≡ None → 0 < length → (p : Pending) (out : List (Option Prepared)) → ImageInvariant S.view F.backing p self.old out
+        ensures keeps { (p : Pending) (out : List (Option Prepared)) → ImageInvariant S.view F.backing p self.old out
+            → UnseenStep S.view F.backing p p self.old self.new out }
+        ensures outdated { 0 < length → (p : Pending) (out : List (Option Prepared))
+            → ImageInvariant S.view F.backing p self.old out → result ≡ Err OutdatedMapping
+            → ¬ IsFoundWhole S.view self.old (prepared.now.guest + at) (Raw Image host true) length }
+        ensures mapped { table_of prepared.now ≡ None → 0 < length → (p : Pending) (out : List (Option Prepared))
+            → ImageInvariant S.view F.backing p self.old out
             → IfOk result (λ done. IsMappedAs S.view self.new (prepared.now.guest + at) (Raw Image host true) length) }
-        ensures found { table_of prepared.now ≡ None → (p : Pending) (out : List (Option Prepared)) → ImageInvariant S.view F.backing p self.old out → OnOk result (IsFoundWhole S.view self.old (prepared.now.guest + at) (Raw Image host true) length) }
+        ensures found { table_of prepared.now ≡ None → (p : Pending) (out : List (Option Prepared))
+            → ImageInvariant S.view F.backing p self.old out
+            → OnOk result (IsFoundWhole S.view self.old (prepared.now.guest + at) (Raw Image host true) length) }
         ensures private { IsSome (table_of prepared.now) → result ≡ Ok tt }
         ensures faults { CountsImageFaults S.view F.backing self.old self.new result }
         ensures notes { KeepsFileNotes S.view self.old.file self.new.file }
-        ensures held { table_of prepared.now ≡ None → 0 < length → HeedsHeld self.new (prepared.now.guest + at) (Raw Image host true) length result }
+        ensures held { table_of prepared.now ≡ None → 0 < length
+            → HeedsHeld self.new (prepared.now.guest + at) (Raw Image host true) length result }
         ensures header_cluster { StaysBehindHeader S.view self.old self.new }
         ensures idle { IsSome (table_of prepared.now) → self.new ≡ self.old }
     {

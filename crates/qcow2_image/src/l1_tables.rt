@@ -36,15 +36,29 @@ impl<S: Storage, F: WrappedFormat<S>> Qcow2<S, F> {
         ensures notes { KeepsFileNotes S.view self.old.file self.new.file }
         ensures header_cluster { StaysBehindHeader S.view self.old self.new }
         ensures cause { IfErr result IsMet }
-        ensures fault { (out : List (Option Prepared)) → ImageInvariant S.view F.backing (pending_in S.view F.backing self.old out) self.old out → IfErr result IsFaultOrLimit }
-        ensures limit { (out : List (Option Prepared)) → ImageInvariant S.view F.backing (pending_in S.view F.backing self.old out) self.old out → IfErr result (λ e. e ≡ Limit → EndsBefore offset self.old × LacksLongerTable S.view (l1_index_of self.old.file.header.fields offset) (l1_index_of self.old.file.header.fields offset + 1) self.old.file.free_list self.old self.new) }
+        ensures fault { (out : List (Option Prepared))
+            → ImageInvariant S.view F.backing (pending_in S.view F.backing self.old out) self.old out
+            → IfErr result IsFaultOrLimit }
+        ensures limit { (out : List (Option Prepared))
+            → ImageInvariant S.view F.backing (pending_in S.view F.backing self.old out) self.old out
+            → IfErr result (λ e. e ≡ Limit → EndsBefore offset self.old
+            × LacksLongerTable S.view (l1_index_of self.old.file.header.fields offset)
+            (l1_index_of self.old.file.header.fields offset + 1) self.old.file.free_list self.old self.new) }
         ensures former { OnOk result (SomeGaveWay self.old self.new) }
-        ensures lacks { (out : List (Option Prepared)) → ImageInvariant S.view F.backing (pending_in S.view F.backing self.old out) self.old out → IfErr result (IsFaultOrLacksTable S.view self.new offset) }
-        ensures length { OnOk result (entry_count self.new.l1_table ≡ max (entry_count self.old.l1_table) (l1_index_of self.old.file.header.fields offset + 1)) }
-        ensures placed { EndsBefore offset self.old → self.old.l1_table.cluster_bits ≡ self.old.file.header.fields.cluster_bits → OnOk result (IsPlacedNear self.new.l1_table) }
+        ensures lacks { (out : List (Option Prepared))
+            → ImageInvariant S.view F.backing (pending_in S.view F.backing self.old out) self.old out
+            → IfErr result (IsFaultOrLacksTable S.view self.new offset) }
+        ensures length { OnOk result (entry_count self.new.l1_table ≡ max (entry_count self.old.l1_table)
+            (l1_index_of self.old.file.header.fields offset + 1)) }
+        ensures placed { EndsBefore offset self.old
+            → self.old.l1_table.cluster_bits ≡ self.old.file.header.fields.cluster_bits
+            → OnOk result (IsPlacedNear self.new.l1_table) }
         ensures none { l1_index_of self.old.file.header.fields offset < entry_count self.old.l1_table → self.new ≡ self.old }
-        ensures emptied { entry_count self.old.l1_table ≤ l1_index_of self.old.file.header.fields offset → OnOk result (HasNothingToFree self.new) }
-        ensures makes { (out : List (Option Prepared)) → ImageInvariant S.view F.backing (pending_in S.view F.backing self.old out) self.old out → MakesEntry S.view F.backing self.old self.new out result }
+        ensures emptied { entry_count self.old.l1_table ≤ l1_index_of self.old.file.header.fields offset
+            → OnOk result (HasNothingToFree self.new) }
+        ensures makes { (out : List (Option Prepared))
+            → ImageInvariant S.view F.backing (pending_in S.view F.backing self.old out) self.old out
+            → MakesEntry S.view F.backing self.old self.new out result }
         ensures kept { OnOk result ((i : ℕ) → entry_at self.new.l1_table.bytes i ≡ entry_at self.old.l1_table.bytes i) }
         ensures faults { CountsImageFaults S.view F.backing self.old self.new result }
     {
@@ -63,12 +77,19 @@ impl<S: Storage, F: WrappedFormat<S>> Qcow2<S, F> {
         ensures noted { OnOk result (IsTrue self.new.file.caches.is_changed) }
         ensures header_cluster { StaysBehindHeader S.view self.old self.new }
         ensures cause { IsTrue (is_writable self.old) → IfErr result IsMet }
-        ensures limit { (p : Pending) (out : List (Option Prepared)) → ImageInvariant S.view F.backing p self.old out → IfErr result (λ e. e ≡ Limit → LacksLongerTable S.view index (max (entry_count self.old.l1_table) (index + 1)) self.old.file.free_list self.old self.new) }
-        ensures fault { IsTrue (is_writable self.old) → (p : Pending) (out : List (Option Prepared)) → ImageInvariant S.view F.backing p self.old out → IfErr result IsFaultOrLimit }
+        ensures limit { (p : Pending) (out : List (Option Prepared)) → ImageInvariant S.view F.backing p self.old out
+            → IfErr result (λ e. e ≡ Limit
+            → LacksLongerTable S.view index
+            (max (entry_count self.old.l1_table) (index + 1)) self.old.file.free_list self.old self.new) }
+        ensures fault { IsTrue (is_writable self.old) → (p : Pending) (out : List (Option Prepared))
+            → ImageInvariant S.view F.backing p self.old out → IfErr result IsFaultOrLimit }
         ensures former { OnOk result (SomeGaveWay self.old self.new) }
-        ensures lengthens { (p : Pending) (out : List (Option Prepared)) → ImageInvariant S.view F.backing p self.old out → Lengthens S.view F.backing p self.old self.new out result }
+        ensures lengthens { (p : Pending) (out : List (Option Prepared))
+            → ImageInvariant S.view F.backing p self.old out
+            → Lengthens S.view F.backing p self.old self.new out result }
         ensures length { OnOk result (entry_count self.new.l1_table ≡ max (entry_count self.old.l1_table) (index + 1)) }
-        ensures placed { self.old.l1_table.cluster_bits ≡ self.old.file.header.fields.cluster_bits → OnOk result (IsPlacedNear self.new.l1_table) }
+        ensures placed { self.old.l1_table.cluster_bits ≡ self.old.file.header.fields.cluster_bits
+            → OnOk result (IsPlacedNear self.new.l1_table) }
         ensures list { OnOk result (ListGrows self.old self.new) }
         ensures kept { OnOk result ((i : ℕ) → entry_at self.new.l1_table.bytes i ≡ entry_at self.old.l1_table.bytes i) }
         ensures faults { CountsImageFaults S.view F.backing self.old self.new result }
@@ -113,12 +134,19 @@ impl<S: Storage, F: WrappedFormat<S>> Qcow2<S, F> {
         ensures noted { OnOk result (IsTrue self.new.file.caches.is_changed) }
         ensures header_cluster { table.cluster_bits ≡ self.old.l1_table.cluster_bits → StaysBehindHeader S.view self.old self.new }
         ensures cause { IsTrue (is_writable self.old) → IfErr result IsMet }
-        ensures limit { (p : Pending) (out : List (Option Prepared)) → ImageInvariant S.view F.backing p self.old out → IsLongerL1 self.old table → 0 < entry_count table → IfErr result (λ e. e ≡ Limit → StandsInWay S.view (HasNoTablePlace (entry_count table)) self.old.file.free_list self.old self.new) }
-        ensures fault { IsTrue (is_writable self.old) → (p : Pending) (out : List (Option Prepared)) → ImageInvariant S.view F.backing p self.old out → IsLongerL1 self.old table → 0 < entry_count table → IfErr result IsFaultOrLimit }
+        ensures limit { (p : Pending) (out : List (Option Prepared)) → ImageInvariant S.view F.backing p self.old out
+            → IsLongerL1 self.old table → 0 < entry_count table
+            → IfErr result (λ e. e ≡ Limit
+            → StandsInWay S.view (HasNoTablePlace (entry_count table)) self.old.file.free_list self.old self.new) }
+        ensures fault { IsTrue (is_writable self.old) → (p : Pending) (out : List (Option Prepared))
+            → ImageInvariant S.view F.backing p self.old out → IsLongerL1 self.old table → 0 < entry_count table
+            → IfErr result IsFaultOrLimit }
         ensures former { OnOk result (SomeGaveWay self.old self.new) }
-        ensures takes { (p : Pending) (out : List (Option Prepared)) → ImageInvariant S.view F.backing p self.old out → IsLongerL1 self.old table → TakesTable S.view F.backing p self.old self.new out result }
+        ensures takes { (p : Pending) (out : List (Option Prepared)) → ImageInvariant S.view F.backing p self.old out
+            → IsLongerL1 self.old table → TakesTable S.view F.backing p self.old self.new out result }
         ensures entries { OnOk result (entry_count self.new.l1_table ≡ entry_count table) }
-        ensures placed { entry_count table ≤ 4194304 → table.cluster_bits ≡ self.old.file.header.fields.cluster_bits → OnOk result (IsPlacedNear self.new.l1_table) }
+        ensures placed { entry_count table ≤ 4194304 → table.cluster_bits ≡ self.old.file.header.fields.cluster_bits
+            → OnOk result (IsPlacedNear self.new.l1_table) }
         ensures list { OnOk result (ListGrows self.old self.new) }
         ensures bytes { OnOk result (self.new.l1_table.bytes ≡ table.bytes) }
         ensures faults { CountsImageFaults S.view F.backing self.old self.new result }
@@ -135,11 +163,16 @@ impl<S: Storage, F: WrappedFormat<S>> Qcow2<S, F> {
         requires { IsHostCluster self.old.file.header.fields.cluster_bits taken.first_cluster }
         ensures stays { ImageStays self.old self.new }
         ensures notes { KeepsFileNotes S.view self.old.file self.new.file }
-        ensures header_cluster { table.cluster_bits ≡ self.old.l1_table.cluster_bits → 0 < taken.first_cluster → StaysBehindHeader S.view self.old self.new }
+        ensures header_cluster { table.cluster_bits ≡ self.old.l1_table.cluster_bits → 0 < taken.first_cluster
+            → StaysBehindHeader S.view self.old self.new }
         ensures cause { IfErr result IsMet }
-        ensures fault { (p : Pending) (out : List (Option Prepared)) → ImageInvariant S.view F.backing (with_table p table taken.first_cluster) self.old out → IsLongerL1 self.old table → IfErr result IsFault }
+        ensures fault { (p : Pending) (out : List (Option Prepared))
+            → ImageInvariant S.view F.backing (with_table p table taken.first_cluster) self.old out
+            → IsLongerL1 self.old table → IfErr result IsFault }
         ensures allocator { self.new.allocator ≡ self.old.allocator }
-        ensures names { (p : Pending) (out : List (Option Prepared)) → ImageInvariant S.view F.backing (with_table p table taken.first_cluster) self.old out → IsTrue self.old.file.caches.is_changed → IsLongerL1 self.old table
+        ensures names { (p : Pending) (out : List (Option Prepared))
+            → ImageInvariant S.view F.backing (with_table p table taken.first_cluster) self.old out
+            → IsTrue self.old.file.caches.is_changed → IsLongerL1 self.old table
             → NamesTaken S.view F.backing p self.old self.new out table taken result }
         ensures entries { OnOk result (entry_count self.new.l1_table ≡ entry_count table) }
         ensures placed { OnOk result (self.new.l1_table ≡ record table { cluster = Some taken.first_cluster }) }
@@ -156,11 +189,16 @@ impl<S: Storage, F: WrappedFormat<S>> Qcow2<S, F> {
         requires { IsHostCluster self.old.file.header.fields.cluster_bits cluster }
         ensures stays { ImageStays self.old self.new }
         ensures notes { KeepsFileNotes S.view self.old.file self.new.file }
-        ensures header_cluster { table.cluster_bits ≡ self.old.l1_table.cluster_bits → 0 < cluster → StaysBehindHeader S.view self.old self.new }
+        ensures header_cluster { table.cluster_bits ≡ self.old.l1_table.cluster_bits → 0 < cluster
+            → StaysBehindHeader S.view self.old self.new }
         ensures cause { IfErr result IsMet }
-        ensures fault { (p : Pending) (out : List (Option Prepared)) → ImageInvariant S.view F.backing (with_table p table cluster) self.old out → IsLongerL1 self.old table → IfErr result IsFault }
+        ensures fault { (p : Pending) (out : List (Option Prepared))
+            → ImageInvariant S.view F.backing (with_table p table cluster) self.old out → IsLongerL1 self.old table
+            → IfErr result IsFault }
         ensures allocator { self.new.allocator ≡ self.old.allocator }
-        ensures names { (p : Pending) (out : List (Option Prepared)) → ImageInvariant S.view F.backing (with_table p table cluster) self.old out → IsTrue self.old.file.caches.is_changed → IsLongerL1 self.old table
+        ensures names { (p : Pending) (out : List (Option Prepared))
+            → ImageInvariant S.view F.backing (with_table p table cluster) self.old out
+            → IsTrue self.old.file.caches.is_changed → IsLongerL1 self.old table
             → NamesTable S.view F.backing p self.old self.new out table cluster result }
         ensures entries { OnOk result (entry_count self.new.l1_table ≡ entry_count table) }
         ensures placed { OnOk result (self.new.l1_table ≡ record table { cluster = Some cluster }) }
@@ -178,13 +216,24 @@ impl<S: Storage, F: WrappedFormat<S>> Qcow2<S, F> {
         cluster: HostCluster,
     ) -> Result<(), ImageError>
         ensures notes { KeepsFileNotes S.view self.old.file self.new.file }
-        ensures header_cluster { table.old.cluster_bits ≡ self.old.l1_table.cluster_bits → 0 < cluster → StaysBehindHeader S.view self.old self.new }
+        ensures header_cluster { table.old.cluster_bits ≡ self.old.l1_table.cluster_bits → 0 < cluster
+            → StaysBehindHeader S.view self.old self.new }
         ensures cause { IfErr result IsMet }
-        ensures fault { (p : Pending) (out : List (Option Prepared)) → ImageInvariant S.view F.backing (with_table p table.old cluster) self.old out → IsHostCluster table.old.cluster_bits cluster → IfErr result IsFault }
-        ensures rest { self.new ≡ record self.old { file = record self.old.file { storage = self.new.file.storage; caches = self.new.file.caches } } }
+        ensures fault { (p : Pending) (out : List (Option Prepared))
+            → ImageInvariant S.view F.backing (with_table p table.old cluster) self.old out
+            → IsHostCluster table.old.cluster_bits cluster → IfErr result IsFault }
+        ensures rest { self.new ≡ record self.old {
+          file = record self.old.file {
+            storage = self.new.file.storage;
+            caches = self.new.file.caches;
+          };
+        } }
         ensures noted { IsTrue self.old.file.caches.is_changed → IsTrue self.new.file.caches.is_changed }
-        ensures places { (p : Pending) (out : List (Option Prepared)) → ImageInvariant S.view F.backing (with_table p table.old cluster) self.old out → IsLongerL1 self.old table.old
-            → PlacesTable S.view F.backing (with_table p table.old cluster) self.old self.new out table.new cluster result }
+        ensures places { (p : Pending) (out : List (Option Prepared))
+            → ImageInvariant S.view F.backing (with_table p table.old cluster) self.old out
+            → IsLongerL1 self.old table.old
+            → PlacesTable S.view F.backing
+            (with_table p table.old cluster) self.old self.new out table.new cluster result }
         ensures table { OnOk result (table.new ≡ record table.old { cluster = Some cluster }) }
         ensures faults { CountsImageFaults S.view F.backing self.old self.new result }
     {
@@ -207,7 +256,9 @@ impl<S: Storage, F: WrappedFormat<S>> Qcow2<S, F> {
         ensures cause { IfErr result IsMet }
         ensures fault { IfErr result IsFault }
         ensures allocator { self.new.allocator ≡ self.old.allocator }
-        ensures names { (p : Pending) (out : List (Option Prepared)) → ImageInvariant S.view F.backing (with_table p table cluster) self.old out → IsTrue self.old.file.caches.is_changed → StandsWhole S.view self.old table cluster
+        ensures names { (p : Pending) (out : List (Option Prepared))
+            → ImageInvariant S.view F.backing (with_table p table cluster) self.old out
+            → IsTrue self.old.file.caches.is_changed → StandsWhole S.view self.old table cluster
             → NamesTable S.view F.backing p self.old self.new out table cluster result }
         ensures entries { OnOk result (entry_count self.new.l1_table ≡ entry_count table) }
         ensures table { OnOk result (self.new.l1_table ≡ table) }

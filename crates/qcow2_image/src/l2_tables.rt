@@ -44,14 +44,27 @@ impl<S: Storage, F: WrappedFormat<S>> Qcow2<S, F> {
         ensures elsewhere { IfOk result (λ table. 0 < table) }
         ensures header_cluster { StaysBehindHeader S.view self.old self.new }
         ensures cause { IfErr result IsMet }
-        ensures met { (out : List (Option Prepared)) → ImageInvariant S.view F.backing (pending_in S.view F.backing self.old out) self.old out → IfErr result (IsMetTaking (HasPrepared out) ⊥ ⊥ (NeedsFarEntry self.old offset)) }
-        ensures l1_place { l1_index_of self.old.file.header.fields offset < entry_count self.old.l1_table → OnOk result (KeepsL1Place self.old.file.header.fields self.new.file.header.fields) }
-        ensures limit { (out : List (Option Prepared)) → ImageInvariant S.view F.backing (pending_in S.view F.backing self.old out) self.old out → IfErr result (IsLimitedByTable S.view offset self.old self.new) }
-        ensures lacks { (out : List (Option Prepared)) → ImageInvariant S.view F.backing (pending_in S.view F.backing self.old out) self.old out → (HasPrepared out → ⊥) → IfErr result (IsFaultOrLacksTable S.view self.new offset) }
+        ensures met { (out : List (Option Prepared))
+            → ImageInvariant S.view F.backing (pending_in S.view F.backing self.old out) self.old out
+            → IfErr result (IsMetTaking (HasPrepared out) ⊥ ⊥ (NeedsFarEntry self.old offset)) }
+        ensures l1_place { l1_index_of self.old.file.header.fields offset < entry_count self.old.l1_table
+            → OnOk result (KeepsL1Place self.old.file.header.fields self.new.file.header.fields) }
+        ensures limit { (out : List (Option Prepared))
+            → ImageInvariant S.view F.backing (pending_in S.view F.backing self.old out) self.old out
+            → IfErr result (IsLimitedByTable S.view offset self.old self.new) }
+        ensures lacks { (out : List (Option Prepared))
+            → ImageInvariant S.view F.backing (pending_in S.view F.backing self.old out) self.old out
+            → (HasPrepared out → ⊥) → IfErr result (IsFaultOrLacksTable S.view self.new offset) }
         ensures cached { IfOk result (λ table. IsSome (l2_at self.new.file.caches table)) }
-        ensures finds { (out : List (Option Prepared)) → ImageInvariant S.view F.backing (pending_in S.view F.backing self.old out) self.old out → FindsTable S.view F.backing self.old self.new out offset result }
-        ensures freed { (out : List (Option Prepared)) → ImageInvariant S.view F.backing (pending_in S.view F.backing self.old out) self.old out → OnOk result (ListsSinceTable offset self.old self.new) }
-        ensures freeing { (out : List (Option Prepared)) → ImageInvariant S.view F.backing (pending_in S.view F.backing self.old out) self.old out → OnOk result (ListsNoMore self.old self.new) }
+        ensures finds { (out : List (Option Prepared))
+            → ImageInvariant S.view F.backing (pending_in S.view F.backing self.old out) self.old out
+            → FindsTable S.view F.backing self.old self.new out offset result }
+        ensures freed { (out : List (Option Prepared))
+            → ImageInvariant S.view F.backing (pending_in S.view F.backing self.old out) self.old out
+            → OnOk result (ListsSinceTable offset self.old self.new) }
+        ensures freeing { (out : List (Option Prepared))
+            → ImageInvariant S.view F.backing (pending_in S.view F.backing self.old out) self.old out
+            → OnOk result (ListsNoMore self.old self.new) }
         ensures own { HasOwnTable self.old offset → FindsOwn self.old self.new offset result }
         ensures faults { CountsImageFaults S.view F.backing self.old self.new result }
     {
@@ -95,13 +108,25 @@ impl<S: Storage, F: WrappedFormat<S>> Qcow2<S, F> {
         ensures elsewhere { IfOk result (λ table. 0 < table) }
         ensures header_cluster { StaysBehindHeader S.view self.old self.new }
         ensures cause { IfErr result IsMet }
-        ensures met { (p : Pending) (out : List (Option Prepared)) → ImageInvariant S.view F.backing p self.old out → (HasOwnTable self.old offset ⊎ HasNearEntry self.old (l1_index_of self.old.file.header.fields offset)) → IfErr result (IsMetTaking (HasPrepared out) ⊥ ⊥ ⊥) }
-        ensures limited { (p : Pending) (out : List (Option Prepared)) → ImageInvariant S.view F.backing p self.old out → HasOwnTable self.old offset → IfErr result IsUnlimited }
-        ensures lacks { (p : Pending) (out : List (Option Prepared)) → ImageInvariant S.view F.backing p self.old out → (HasPrepared out → ⊥) → IfErr result (IsFaultOrLacksTable S.view self.new offset) }
+        ensures met { (p : Pending) (out : List (Option Prepared)) → ImageInvariant S.view F.backing p self.old out
+            → (HasOwnTable self.old offset ⊎ HasNearEntry self.old (l1_index_of self.old.file.header.fields offset))
+            → IfErr result (IsMetTaking (HasPrepared out) ⊥ ⊥ ⊥) }
+        ensures limited { (p : Pending) (out : List (Option Prepared)) → ImageInvariant S.view F.backing p self.old out
+            → HasOwnTable self.old offset → IfErr result IsUnlimited }
+        ensures lacks { (p : Pending) (out : List (Option Prepared)) → ImageInvariant S.view F.backing p self.old out
+            → (HasPrepared out → ⊥) → IfErr result (IsFaultOrLacksTable S.view self.new offset) }
         ensures cached { IfOk result (λ table. IsSome (l2_at self.new.file.caches table)) }
-        ensures ready { (p : Pending) (out : List (Option Prepared)) → ImageInvariant S.view F.backing p self.old out → Ensures S.view F.backing p self.old self.new out offset result }
+        ensures ready { (p : Pending) (out : List (Option Prepared)) → ImageInvariant S.view F.backing p self.old out
+            → Ensures S.view F.backing p self.old self.new out offset result }
         ensures quiet { HasOwnTable self.old offset → KeepsList self.old self.new }
-        ensures rest { HasOwnTable self.old offset → self.new ≡ record self.old { file = record self.old.file { storage = self.new.file.storage; caches = self.new.file.caches } } }
+        ensures rest { HasOwnTable self.old offset
+            → self.new ≡ record self.old {
+              file = record self.old.file {
+                storage = self.new.file.storage;
+                caches =
+                    self.new.file.caches;
+              };
+            } }
         ensures own { HasOwnTable self.old offset → FindsOwn self.old self.new offset result }
         ensures faults { CountsImageFaults S.view F.backing self.old self.new result }
     {
@@ -121,12 +146,20 @@ impl<S: Storage, F: WrappedFormat<S>> Qcow2<S, F> {
         ensures elsewhere { IfOk result (λ table. 0 < table) }
         ensures header_cluster { StaysBehindHeader S.view self.old self.new }
         ensures cause { IfErr result IsMet }
-        ensures met { (p : Pending) (out : List (Option Prepared)) → ImageInvariant S.view F.backing p self.old out → (HasOwnTable self.old offset ⊎ HasNearEntry self.old (l1_index_of self.old.file.header.fields offset)) → IfErr result (IsMetTaking (HasPrepared out) ⊥ ⊥ ⊥) }
-        ensures limited { (p : Pending) (out : List (Option Prepared)) → ImageInvariant S.view F.backing p self.old out → HasOwnTable self.old offset → IfErr result IsUnlimited }
-        ensures limit { (p : Pending) (out : List (Option Prepared)) → ImageInvariant S.view F.backing p self.old out → HasNearEntry self.old (l1_index_of self.old.file.header.fields offset) → IfErr result (IsLimitedByCluster S.view self.old self.new) }
+        ensures met { (p : Pending) (out : List (Option Prepared)) → ImageInvariant S.view F.backing p self.old out
+            → (HasOwnTable self.old offset ⊎ HasNearEntry self.old (l1_index_of self.old.file.header.fields offset))
+            → IfErr result (IsMetTaking (HasPrepared out) ⊥ ⊥ ⊥) }
+        ensures limited { (p : Pending) (out : List (Option Prepared)) → ImageInvariant S.view F.backing p self.old out
+            → HasOwnTable self.old offset → IfErr result IsUnlimited }
+        ensures limit { (p : Pending) (out : List (Option Prepared)) → ImageInvariant S.view F.backing p self.old out
+            → HasNearEntry self.old (l1_index_of self.old.file.header.fields offset)
+            → IfErr result (IsLimitedByCluster S.view self.old self.new) }
         ensures former { OnOk result (SomeGaveWay self.old self.new) }
-        ensures lacks { (p : Pending) (out : List (Option Prepared)) → ImageInvariant S.view F.backing p self.old out → IfErr result (IsFaultOrLacksTable S.view self.new offset) }
-        ensures owns { (p : Pending) (out : List (Option Prepared)) → ImageInvariant S.view F.backing p self.old out → OwnsTable S.view F.backing p self.old self.new out (l1_index_of self.old.file.header.fields offset) result }
+        ensures lacks { (p : Pending) (out : List (Option Prepared)) → ImageInvariant S.view F.backing p self.old out
+            → IfErr result (IsFaultOrLacksTable S.view self.new offset) }
+        ensures owns { (p : Pending) (out : List (Option Prepared)) → ImageInvariant S.view F.backing p self.old out
+            → OwnsTable S.view F.backing p self.old self.new out
+            (l1_index_of self.old.file.header.fields offset) result }
         ensures quiet { HasOwnTable self.old offset → self.new ≡ self.old }
         ensures own { HasOwnTable self.old offset → IfOk result (λ table. table ≡ own_table self.old offset) }
         ensures faults { CountsImageFaults S.view F.backing self.old self.new result }
@@ -158,11 +191,16 @@ impl<S: Storage, F: WrappedFormat<S>> Qcow2<S, F> {
         ensures elsewhere { IfOk result (λ table. 0 < table) }
         ensures header_cluster { 0 < old → StaysBehindHeader S.view self.old self.new }
         ensures cause { IfErr result IsMet }
-        ensures met { (p : Pending) (out : List (Option Prepared)) → ImageInvariant S.view F.backing p self.old out → NamesShared S.view self.old index old → HasNearEntry self.old index → IfErr result (IsMetTaking (HasPrepared out) ⊥ ⊥ ⊥) }
-        ensures limit { (p : Pending) (out : List (Option Prepared)) → ImageInvariant S.view F.backing p self.old out → NamesShared S.view self.old index old → HasNearEntry self.old index → IfErr result (IsLimitedByCluster S.view self.old self.new) }
+        ensures met { (p : Pending) (out : List (Option Prepared)) → ImageInvariant S.view F.backing p self.old out
+            → NamesShared S.view self.old index old → HasNearEntry self.old index
+            → IfErr result (IsMetTaking (HasPrepared out) ⊥ ⊥ ⊥) }
+        ensures limit { (p : Pending) (out : List (Option Prepared)) → ImageInvariant S.view F.backing p self.old out
+            → NamesShared S.view self.old index old → HasNearEntry self.old index
+            → IfErr result (IsLimitedByCluster S.view self.old self.new) }
         ensures former { OnOk result (SomeGaveWay self.old self.new) }
         ensures l1_table { IfErr result (IsFaultOrKeepsL1Table self.old self.new) }
-        ensures owns { (p : Pending) (out : List (Option Prepared)) → ImageInvariant S.view F.backing p self.old out → NamesShared S.view self.old index old → OwnsTable S.view F.backing p self.old self.new out index result }
+        ensures owns { (p : Pending) (out : List (Option Prepared)) → ImageInvariant S.view F.backing p self.old out
+            → NamesShared S.view self.old index old → OwnsTable S.view F.backing p self.old self.new out index result }
         ensures faults { CountsImageFaults S.view F.backing self.old self.new result }
     {
         self.file
@@ -189,11 +227,20 @@ impl<S: Storage, F: WrappedFormat<S>> Qcow2<S, F> {
         ensures elsewhere { IfOk result (λ table. 0 < table) }
         ensures header_cluster { StaysBehindHeader S.view self.old self.new }
         ensures cause { IfErr result IsMet }
-        ensures met { (p : Pending) (out : List (Option Prepared)) → ImageInvariant S.view F.backing p self.old out → NamesShared S.view self.old index old → SaysKnown self.old.file.header.fields (known_in S.view self.old.file) index table → HasNearEntry self.old index → IfErr result (IsMetTaking (HasPrepared out) ⊥ ⊥ ⊥) }
-        ensures limit { (p : Pending) (out : List (Option Prepared)) → ImageInvariant S.view F.backing p self.old out → NamesShared S.view self.old index old → SaysKnown self.old.file.header.fields (known_in S.view self.old.file) index table → HasNearEntry self.old index → IfErr result (IsLimitedByCluster S.view self.old self.new) }
+        ensures met { (p : Pending) (out : List (Option Prepared)) → ImageInvariant S.view F.backing p self.old out
+            → NamesShared S.view self.old index old
+            → SaysKnown self.old.file.header.fields (known_in S.view self.old.file) index table
+            → HasNearEntry self.old index → IfErr result (IsMetTaking (HasPrepared out) ⊥ ⊥ ⊥) }
+        ensures limit { (p : Pending) (out : List (Option Prepared)) → ImageInvariant S.view F.backing p self.old out
+            → NamesShared S.view self.old index old
+            → SaysKnown self.old.file.header.fields (known_in S.view self.old.file) index table
+            → HasNearEntry self.old index → IfErr result (IsLimitedByCluster S.view self.old self.new) }
         ensures former { OnOk result (SomeGaveWay self.old self.new) }
         ensures l1_table { IfErr result (IsFaultOrKeepsL1Table self.old self.new) }
-        ensures owns { (p : Pending) (out : List (Option Prepared)) → ImageInvariant S.view F.backing p self.old out → NamesShared S.view self.old index old → SaysKnown self.old.file.header.fields (known_in S.view self.old.file) index table → OwnsTable S.view F.backing p self.old self.new out index result }
+        ensures owns { (p : Pending) (out : List (Option Prepared)) → ImageInvariant S.view F.backing p self.old out
+            → NamesShared S.view self.old index old
+            → SaysKnown self.old.file.header.fields (known_in S.view self.old.file) index table
+            → OwnsTable S.view F.backing p self.old self.new out index result }
         ensures faults { CountsImageFaults S.view F.backing self.old self.new result }
     {
         let entry = ClustersToFreeEntry::metadata(old, ClusterCount::new(1));
@@ -219,11 +266,20 @@ impl<S: Storage, F: WrappedFormat<S>> Qcow2<S, F> {
         ensures elsewhere { IfOk result (λ table. 0 < table) }
         ensures header_cluster { StaysBehindHeader S.view self.old self.new }
         ensures cause { IfErr result IsMet }
-        ensures met { (p : Pending) (out : List (Option Prepared)) → ImageInvariant S.view F.backing p self.old out → MayName S.view self.old index → SaysKnown self.old.file.header.fields (known_in S.view self.old.file) index table → HasNearEntry self.old index → IfErr result (IsMetTaking (HasPrepared out) ⊥ ⊥ ⊥) }
-        ensures limit { (p : Pending) (out : List (Option Prepared)) → ImageInvariant S.view F.backing p self.old out → MayName S.view self.old index → SaysKnown self.old.file.header.fields (known_in S.view self.old.file) index table → HasNearEntry self.old index → IfErr result (IsLimitedByCluster S.view self.old self.new) }
+        ensures met { (p : Pending) (out : List (Option Prepared)) → ImageInvariant S.view F.backing p self.old out
+            → MayName S.view self.old index
+            → SaysKnown self.old.file.header.fields (known_in S.view self.old.file) index table
+            → HasNearEntry self.old index → IfErr result (IsMetTaking (HasPrepared out) ⊥ ⊥ ⊥) }
+        ensures limit { (p : Pending) (out : List (Option Prepared)) → ImageInvariant S.view F.backing p self.old out
+            → MayName S.view self.old index
+            → SaysKnown self.old.file.header.fields (known_in S.view self.old.file) index table
+            → HasNearEntry self.old index → IfErr result (IsLimitedByCluster S.view self.old self.new) }
         ensures former { OnOk result (SomeGaveWay self.old self.new) }
         ensures l1_table { IfErr result (IsFaultOrKeepsL1Table self.old self.new) }
-        ensures enters { (p : Pending) (out : List (Option Prepared)) → ImageInvariant S.view F.backing p self.old out → MayName S.view self.old index → SaysKnown self.old.file.header.fields (known_in S.view self.old.file) index table → EntersTable S.view F.backing p self.old self.new out index result }
+        ensures enters { (p : Pending) (out : List (Option Prepared)) → ImageInvariant S.view F.backing p self.old out
+            → MayName S.view self.old index
+            → SaysKnown self.old.file.header.fields (known_in S.view self.old.file) index table
+            → EntersTable S.view F.backing p self.old self.new out index result }
         ensures faults { CountsImageFaults S.view F.backing self.old self.new result }
     {
         let Some(allocator) = &mut self.allocator else {
@@ -255,14 +311,24 @@ impl<S: Storage, F: WrappedFormat<S>> Qcow2<S, F> {
         ensures notes { KeepsFileNotes S.view self.old.file self.new.file }
         ensures header_cluster { 0 < cluster → StaysBehindHeader S.view self.old self.new }
         ensures cause { IfErr result IsMet }
-        ensures met { (p : Pending) (out : List (Option Prepared)) → ImageInvariant S.view F.backing (with_new_tables p (one_at cluster)) self.old out → SaysKnown self.old.file.header.fields (known_in S.view self.old.file) index table → HasNearEntry self.old index → IsHostCluster self.old.file.header.fields.cluster_bits cluster → IfErr result (IsMetLooking (HasPrepared out)) }
-        ensures limited { (p : Pending) (out : List (Option Prepared)) → ImageInvariant S.view F.backing (with_new_tables p (one_at cluster)) self.old out → SaysKnown self.old.file.header.fields (known_in S.view self.old.file) index table
-            → HasNearEntry self.old index → IsHostCluster self.old.file.header.fields.cluster_bits cluster → IfErr result IsUnlimited }
+        ensures met { (p : Pending) (out : List (Option Prepared))
+            → ImageInvariant S.view F.backing (with_new_tables p (one_at cluster)) self.old out
+            → SaysKnown self.old.file.header.fields (known_in S.view self.old.file) index table
+            → HasNearEntry self.old index → IsHostCluster self.old.file.header.fields.cluster_bits cluster
+            → IfErr result (IsMetLooking (HasPrepared out)) }
+        ensures limited { (p : Pending) (out : List (Option Prepared))
+            → ImageInvariant S.view F.backing (with_new_tables p (one_at cluster)) self.old out
+            → SaysKnown self.old.file.header.fields (known_in S.view self.old.file) index table
+            → HasNearEntry self.old index → IsHostCluster self.old.file.header.fields.cluster_bits cluster
+            → IfErr result IsUnlimited }
         ensures allocator { self.new.allocator ≡ self.old.allocator }
         ensures l1_table { IfErr result (IsFaultOrKeepsL1Table self.old self.new) }
         ensures list { self.new.file.free_list ≡ self.old.file.free_list }
-        ensures writes { (p : Pending) (out : List (Option Prepared)) → ImageInvariant S.view F.backing (with_new_tables p (one_at cluster)) self.old out → MayName S.view self.old index → IsTrue self.old.file.caches.is_changed
-            → SaysKnown self.old.file.header.fields (known_in S.view self.old.file) index table → WritesNew S.view F.backing p self.old self.new out index cluster result }
+        ensures writes { (p : Pending) (out : List (Option Prepared))
+            → ImageInvariant S.view F.backing (with_new_tables p (one_at cluster)) self.old out
+            → MayName S.view self.old index → IsTrue self.old.file.caches.is_changed
+            → SaysKnown self.old.file.header.fields (known_in S.view self.old.file) index table
+            → WritesNew S.view F.backing p self.old self.new out index cluster result }
         ensures faults { CountsImageFaults S.view F.backing self.old self.new result }
     {
         if !self.can_enter(index, cluster) {
@@ -281,10 +347,17 @@ impl<S: Storage, F: WrappedFormat<S>> Qcow2<S, F> {
         ensures header_cluster { StaysBehindHeader S.view self.old self.new }
         ensures cause { IfErr result IsMet }
         ensures fault { (p : Pending) (out : List (Option Prepared)) → ImageInvariant S.view F.backing p self.old out → IfErr result IsFault }
-        ensures limited { (p : Pending) (out : List (Option Prepared)) → ImageInvariant S.view F.backing p self.old out → IfErr result IsUnlimited }
-        ensures rest { self.new ≡ record self.old { file = record self.old.file { storage = self.new.file.storage; caches = self.new.file.caches } } }
+        ensures limited { (p : Pending) (out : List (Option Prepared)) → ImageInvariant S.view F.backing p self.old out
+            → IfErr result IsUnlimited }
+        ensures rest { self.new ≡ record self.old {
+          file = record self.old.file {
+            storage = self.new.file.storage;
+            caches = self.new.file.caches;
+          };
+        } }
         ensures noted { IsTrue self.old.file.caches.is_changed → IsTrue self.new.file.caches.is_changed }
-        ensures stores { (p : Pending) (out : List (Option Prepared)) → ImageInvariant S.view F.backing p self.old out → Stores S.view F.backing p self.old self.new out result }
+        ensures stores { (p : Pending) (out : List (Option Prepared)) → ImageInvariant S.view F.backing p self.old out
+            → Stores S.view F.backing p self.old self.new out result }
         ensures tables { order_of self.old.file.caches ≢ RbDependsOnL2 → self.new.file.caches.l2 ≡ self.old.file.caches.l2 }
         ensures faults { CountsImageFaults S.view F.backing self.old self.new result }
     {
@@ -298,13 +371,23 @@ impl<S: Storage, F: WrappedFormat<S>> Qcow2<S, F> {
         ensures notes { KeepsFileNotes S.view self.old.file self.new.file }
         ensures header_cluster { 0 < cluster → StaysBehindHeader S.view self.old self.new }
         ensures cause { IfErr result IsMet }
-        ensures met { (p : Pending) (out : List (Option Prepared)) → ImageInvariant S.view F.backing p self.old out → 0 < p.new_tables cluster → IsTableOf self.old.file.header.fields table → IsStored S.view self.old → IsHostCluster table.cluster_bits cluster → IfErr result (IsMetLooking (HasPrepared out)) }
-        ensures limited { (p : Pending) (out : List (Option Prepared)) → ImageInvariant S.view F.backing p self.old out → 0 < p.new_tables cluster → IsTableOf self.old.file.header.fields table → IsStored S.view self.old → IsHostCluster table.cluster_bits cluster → IfErr result IsUnlimited }
-        ensures rest { self.new ≡ record self.old { file = record self.old.file { storage = self.new.file.storage; caches = self.new.file.caches } } }
+        ensures met { (p : Pending) (out : List (Option Prepared)) → ImageInvariant S.view F.backing p self.old out
+            → 0 < p.new_tables cluster → IsTableOf self.old.file.header.fields table → IsStored S.view self.old
+            → IsHostCluster table.cluster_bits cluster → IfErr result (IsMetLooking (HasPrepared out)) }
+        ensures limited { (p : Pending) (out : List (Option Prepared)) → ImageInvariant S.view F.backing p self.old out
+            → 0 < p.new_tables cluster → IsTableOf self.old.file.header.fields table → IsStored S.view self.old
+            → IsHostCluster table.cluster_bits cluster → IfErr result IsUnlimited }
+        ensures rest { self.new ≡ record self.old {
+          file = record self.old.file {
+            storage = self.new.file.storage;
+            caches = self.new.file.caches;
+          };
+        } }
         ensures noted { IsTrue self.old.file.caches.is_changed → IsTrue self.new.file.caches.is_changed }
         ensures long { length table.bytes ≡ 2 ^ table.cluster_bits }
-        ensures places { (p : Pending) (out : List (Option Prepared)) → ImageInvariant S.view F.backing p self.old out → 0 < p.new_tables cluster → IsTableOf self.old.file.header.fields table
-            → IsStored S.view self.old → PlacesNewTable S.view F.backing p self.old self.new out cluster table.bytes result }
+        ensures places { (p : Pending) (out : List (Option Prepared)) → ImageInvariant S.view F.backing p self.old out
+            → 0 < p.new_tables cluster → IsTableOf self.old.file.header.fields table → IsStored S.view self.old
+            → PlacesNewTable S.view F.backing p self.old self.new out cluster table.bytes result }
         ensures faults { CountsImageFaults S.view F.backing self.old self.new result }
     {
         if !cluster.is_nameable(table.cluster_bits()) {
@@ -334,8 +417,12 @@ impl<S: Storage, F: WrappedFormat<S>> Qcow2<S, F> {
         ensures allocator { self.new.allocator ≡ self.old.allocator }
         ensures fault { IfErr result IsFault }
         ensures list { self.new.file.free_list ≡ self.old.file.free_list }
-        ensures names { (p : Pending) (out : List (Option Prepared)) (table : L2TableView) → ImageInvariant S.view F.backing (with_new_tables p (one_at cluster)) self.old out → MayName S.view self.old index → IsTrue self.old.file.caches.is_changed
-            → SaysKnown self.old.file.header.fields (known_in S.view self.old.file) index table → length table.bytes ≡ 2 ^ table.cluster_bits → StandsReady S.view self.old cluster table.bytes → NamesNew S.view F.backing p self.old self.new out index cluster result }
+        ensures names { (p : Pending) (out : List (Option Prepared)) (table : L2TableView)
+            → ImageInvariant S.view F.backing (with_new_tables p (one_at cluster)) self.old out
+            → MayName S.view self.old index → IsTrue self.old.file.caches.is_changed
+            → SaysKnown self.old.file.header.fields (known_in S.view self.old.file) index table
+            → length table.bytes ≡ 2 ^ table.cluster_bits → StandsReady S.view self.old cluster table.bytes
+            → NamesNew S.view F.backing p self.old self.new out index cluster result }
         ensures faults { CountsImageFaults S.view F.backing self.old self.new result }
     {
         self.file.storage.will_write(WriteKind::Other);
@@ -350,7 +437,8 @@ impl<S: Storage, F: WrappedFormat<S>> Qcow2<S, F> {
         ensures placed { IsTrue result → IsSome self.now.l1_table.cluster }
         ensures room { IsTrue result → HasRoomIfPlaced self.now.l1_table.cluster_bits (8 * index) self.now.l1_table.cluster }
         ensures nameable { IsTrue result → IsHostCluster self.now.l1_table.cluster_bits cluster }
-        ensures near { HasNearEntry self.now index → IsSome self.now.l1_table.cluster → IsHostCluster self.now.l1_table.cluster_bits cluster → IsTrue result }
+        ensures near { HasNearEntry self.now index → IsSome self.now.l1_table.cluster
+            → IsHostCluster self.now.l1_table.cluster_bits cluster → IsTrue result }
     {
         self.l1_table.in_bounds(index)
             && self.l1_table.get_cluster().is_some()

@@ -68,17 +68,22 @@ impl<S: Storage, F: WrappedFormat<S>> Qcow2<S, F> {
     pub fn get_mapping(&mut self, offset: u64, max: u64) -> Result<(Mapping, u64), ImageError>
         ensures early { IfSome (unusable self.old) (λ e. (result ≡ Err e) × (self.new ≡ self.old)) }
         ensures late { unusable self.old ≡ None → IfErr result IsOfTables }
-        ensures met { (out : List (Option Prepared)) → (abstract_of S.view F.backing self.old out).is_sound → IfErr result (IsMetLooking (IsCacheHeld self.old out)) }
+        ensures met { (out : List (Option Prepared)) → (abstract_of S.view F.backing self.old out).is_sound
+            → IfErr result (IsMetLooking (IsCacheHeld self.old out)) }
         ensures marks { MarksFailed self.old self.new result }
         ensures image { IsSameImage self.old self.new }
         ensures header { KeepsWholeHeader self.old self.new }
         ensures own { IfOk result (λ (mapping, n). (mapping.image ≡ number_of self.old) × (mapping.offset ≡ offset) × (mapping.length ≡ n)) }
         ensures within { IfOk result (λ (mapping, n). n ≤ max) }
         ensures some { IfOk result (λ (mapping, n). offset < size_of self.old → 0 < max → 0 < n) }
-        ensures past { unusable self.old ≡ None → size_of self.old ≤ offset → IsOk result × IfOk result (λ (mapping, n). (mapping.kind ≡ Eof) × (n ≡ 0)) }
+        ensures past { unusable self.old ≡ None → size_of self.old ≤ offset → IsOk result
+            × IfOk result (λ (mapping, n). (mapping.kind ≡ Eof) × (n ≡ 0)) }
         ensures sees { AnswersCall S.view F.backing self.old self.new [] (λ found old new. new ≡ old) result }
-        ensures known { (out : List (Option Prepared)) → (abstract_of S.view F.backing self.old out).is_sound → known_in S.view self.new.file ≡ known_in S.view self.old.file }
-        ensures run { (out : List (Option Prepared)) → (abstract_of S.view F.backing self.old out).is_sound → IfOk result (λ (mapping, n). IsFoundIn (known_in S.view self.new.file) (is_some self.new.backing) offset max (found_kind mapping.kind) n) }
+        ensures known { (out : List (Option Prepared)) → (abstract_of S.view F.backing self.old out).is_sound
+            → known_in S.view self.new.file ≡ known_in S.view self.old.file }
+        ensures run { (out : List (Option Prepared)) → (abstract_of S.view F.backing self.old out).is_sound
+            → IfOk result (λ (mapping, n). IsFoundIn (known_in S.view self.new.file)
+            (is_some self.new.backing) offset max (found_kind mapping.kind) n) }
         ensures faults { CountsImageFaults S.view F.backing self.old self.new result }
         ensures once_written { FailsOnceWritten S.view self.old self.new result }
         ensures quiet { ReadsQuietly S.view self.old self.new }
@@ -106,14 +111,18 @@ impl<S: Storage, F: WrappedFormat<S>> Qcow2<S, F> {
         ensures stays { ImageStays self.old self.new }
         ensures header { self.new.file.header ≡ self.old.file.header }
         ensures cause { IfErr result IsOfTables }
-        ensures met { (p : Pending) (out : List (Option Prepared)) → ImageInvariant S.view F.backing p self.old out → IfErr result (IsMetLooking (IsCacheHeld self.old out)) }
-        ensures keeps { (p : Pending) (out : List (Option Prepared)) → ImageInvariant S.view F.backing p self.old out → UnseenStep S.view F.backing p p self.old self.new out }
-        ensures known { (p : Pending) (out : List (Option Prepared)) → ImageInvariant S.view F.backing p self.old out → known_in S.view self.new.file ≡ known_in S.view self.old.file }
+        ensures met { (p : Pending) (out : List (Option Prepared)) → ImageInvariant S.view F.backing p self.old out
+            → IfErr result (IsMetLooking (IsCacheHeld self.old out)) }
+        ensures keeps { (p : Pending) (out : List (Option Prepared)) → ImageInvariant S.view F.backing p self.old out
+            → UnseenStep S.view F.backing p p self.old self.new out }
+        ensures known { (p : Pending) (out : List (Option Prepared)) → ImageInvariant S.view F.backing p self.old out
+            → known_in S.view self.new.file ≡ known_in S.view self.old.file }
         ensures list { self.new.file.free_list ≡ self.old.file.free_list }
         ensures within { IfOk result (λ (kind, n). n ≤ max) }
         ensures some { IfOk result (λ (kind, n). offset < size_of self.old → 0 < max → 0 < n) }
         ensures past { size_of self.old ≤ offset → result ≡ Ok (Eof, 0) }
-        ensures found { (p : Pending) (out : List (Option Prepared)) → ImageInvariant S.view F.backing p self.old out → IfOk result (λ (kind, n). IsFoundInImage S.view self.new offset max kind n) }
+        ensures found { (p : Pending) (out : List (Option Prepared)) → ImageInvariant S.view F.backing p self.old out
+            → IfOk result (λ (kind, n). IsFoundInImage S.view self.new offset max kind n) }
         ensures faults { CountsImageFaults S.view F.backing self.old self.new result }
         ensures notes { KeepsFileNotes S.view self.old.file self.new.file }
         ensures quiet { ReadsQuietly S.view self.old self.new }
@@ -153,7 +162,10 @@ impl<S: Storage, F: WrappedFormat<S>> Qcow2<S, F> {
         ensures names { HasL1Table S.view F.backing self.now.file self.now.l1_table → IfOk result (NamesL2Table S.view self.now offset) }
         ensures elsewhere { IfOk result (λ table. IfSome table (λ cluster. 0 < cluster)) }
         ensures faults { IfErr result IsNotOfStorage }
-        ensures own { IfOk result (λ table. MatchOption table (named_place self.now.file.header.fields self.now.l1_table offset ≡ 0) (λ cluster. (cluster ≡ own_table self.now offset) × ¬ (named_place self.now.file.header.fields self.now.l1_table offset ≡ 0))) }
+        ensures own { IfOk result (λ table. MatchOption table
+            (named_place self.now.file.header.fields self.now.l1_table offset ≡ 0)
+            (λ cluster. (cluster ≡ own_table self.now offset)
+            × ¬ (named_place self.now.file.header.fields self.now.l1_table offset ≡ 0))) }
     {
         let bits = self.file.header.cluster_bits();
         let Some(entry) = self.l1_table.get(GuestOffset::new(offset).l1_index(bits)) else {
@@ -185,16 +197,24 @@ impl<S: Storage, F: WrappedFormat<S>> Qcow2<S, F> {
         requires near { max ≤ 2 ^ 40 }
         requires cached { IsSome (l2_at self.now.file.caches table) }
         ensures cause { IfErr result IsOfTables }
-        ensures reads { (p : Pending) → FileInvariant S.view p self.now.file → IsEntryAt self.now.file.header.fields (known_in S.view self.now.file) (l1_index_of self.now.file.header.fields offset) table (l2_index_of self.now.file.header.fields offset) → max ≤ rest_of_table self.now.file.header.fields offset → IsOk result }
+        ensures reads { (p : Pending) → FileInvariant S.view p self.now.file
+            → IsEntryAt self.now.file.header.fields (known_in S.view self.now.file)
+            (l1_index_of self.now.file.header.fields offset) table (l2_index_of self.now.file.header.fields offset)
+            → max ≤ rest_of_table self.now.file.header.fields offset → IsOk result }
         ensures limited { IfErr result IsUnlimited }
         ensures within { IfOk result (λ (kind, n). n ≤ max) }
         ensures some { IfOk result (λ (kind, n). 0 < max → 0 < n) }
         ensures run { (p : Pending) → FileInvariant S.view p self.now.file
-            → IsEntryAt self.now.file.header.fields (known_in S.view self.now.file) (l1_index_of self.now.file.header.fields offset) table (l2_index_of self.now.file.header.fields offset)
-            → max ≤ rest_of_table self.now.file.header.fields offset → IfOk result (λ (kind, n). IsRunFrom S.view self.now offset max kind n) }
+            → IsEntryAt self.now.file.header.fields (known_in S.view self.now.file)
+            (l1_index_of self.now.file.header.fields offset) table (l2_index_of self.now.file.header.fields offset)
+            → max ≤ rest_of_table self.now.file.header.fields offset
+            → IfOk result (λ (kind, n). IsRunFrom S.view self.now offset max kind n) }
         ensures faults { IfErr result IsNotOfStorage }
-        ensures held { (limit : ℕ) → max ≡ min (min limit (size_of self.now - offset)) (rest_of_table self.now.file.header.fields offset) → offset < size_of self.now → table ≡ own_table self.now offset
-            → ¬ (named_place self.now.file.header.fields self.now.l1_table offset ≡ 0) → IfOk result (λ (kind, n). IsHeldRun self.now offset limit kind n) }
+        ensures held { (limit : ℕ) → max ≡ min (min limit (size_of self.now - offset))
+            (rest_of_table self.now.file.header.fields offset) → offset < size_of self.now
+            → table ≡ own_table self.now offset
+            → ¬ (named_place self.now.file.header.fields self.now.l1_table offset ≡ 0)
+            → IfOk result (λ (kind, n). IsHeldRun self.now offset limit kind n) }
     {
         let bits = self.file.header.cluster_bits();
         let Some(table) = self.file.caches.l2_peek(table) else {

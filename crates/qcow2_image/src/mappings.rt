@@ -159,21 +159,39 @@ impl<S: Storage, F: WrappedFormat<S>> Qcow2<S, F> {
     ) -> Result<Prepared, ImageError>
         ensures early { IfSome (refuses_to_prepare self.old offset length) (λ e. (result ≡ Err e) × (self.new ≡ self.old)) }
         ensures late { refuses_to_prepare self.old offset length ≡ None → IfErr result IsMetPreparing }
-        ensures met { refuses_to_prepare self.old offset length ≡ None → 0 < length → (out : List (Option Prepared)) → (abstract_of S.view F.backing self.old out).is_sound → IfErr result (IsMetTaking (HasPrepared out) (IsTaken self.old.file.header.fields (known_in S.view self.old.file) offset length out) (CopiesCompressed offset length overwrite self.old.file.header.fields (known_in S.view self.old.file)) (NeedsFarEntry self.old offset)) }
-        ensures limit { refuses_to_prepare self.old offset length ≡ None → 0 < length → (out : List (Option Prepared)) → (abstract_of S.view F.backing self.old out).is_sound → IfErr result (λ e. e ≡ Limit → LacksPlaceFor S.view offset length self.old self.new) }
-        ensures nothing { refuses_to_prepare self.old offset 0 ≡ None → length ≡ 0 → IsOk result × IfOk result IsOfNothing × (self.new ≡ self.old) }
+        ensures met { refuses_to_prepare self.old offset length ≡ None → 0 < length → (out : List (Option Prepared))
+            → (abstract_of S.view F.backing self.old out).is_sound
+            → IfErr result (IsMetTaking (HasPrepared out)
+            (IsTaken self.old.file.header.fields (known_in S.view self.old.file) offset length out)
+            (CopiesCompressed offset length overwrite self.old.file.header.fields (known_in S.view self.old.file))
+            (NeedsFarEntry self.old offset)) }
+        ensures limit { refuses_to_prepare self.old offset length ≡ None → 0 < length → (out : List (Option Prepared))
+            → (abstract_of S.view F.backing self.old out).is_sound
+            → IfErr result (λ e. e ≡ Limit → LacksPlaceFor S.view offset length self.old self.new) }
+        ensures nothing { refuses_to_prepare self.old offset 0 ≡ None → length ≡ 0 → IsOk result
+            × IfOk result IsOfNothing × (self.new ≡ self.old) }
         ensures marks { MarksFailed self.old self.new result }
         ensures image { IsSameImage self.old self.new }
-        ensures taken { refuses_to_prepare self.old offset length ≡ None → (out : List (Option Prepared)) → (abstract_of S.view F.backing self.old out).is_sound → IfErr result (λ e. e ≡ TablePrepared → IsTaken self.old.file.header.fields (known_in S.view self.old.file) offset length out) }
+        ensures taken { refuses_to_prepare self.old offset length ≡ None → (out : List (Option Prepared))
+            → (abstract_of S.view F.backing self.old out).is_sound
+            → IfErr result (λ e. e ≡ TablePrepared
+            → IsTaken self.old.file.header.fields (known_in S.view self.old.file) offset length out) }
         ensures own { IfOk result (λ p. image_of p ≡ number_of self.old) }
         ensures some { IfOk result (λ p. 0 < length → 0 < length_of p) }
         ensures behind { IfOk result (λ p. 0 < length → cluster_size self.new.file.header.fields ≤ offset_of p) }
         ensures end { IfOk result (λ p. offset + length < 2 ^ 64) }
         ensures sees { Prepares S.view F.backing self.old self.new offset length overwrite result }
-        ensures listed { refuses_to_prepare self.old offset length ≡ None → 0 < length → (out : List (Option Prepared)) → (abstract_of S.view F.backing self.old out).is_sound → PreparesList offset self.old self.new result }
-        ensures freeing { (out : List (Option Prepared)) → (abstract_of S.view F.backing self.old out).is_sound → IfOk result (λ p. IsNone (table_of p) → ListsNoMore self.old self.new) }
-        ensures maps { 0 < length → (out : List (Option Prepared)) → (abstract_of S.view F.backing self.old out).is_sound → IfOk result (λ p. IsAnswered self.old.file.header.fields (known_in S.view self.old.file) offset length self.new.file.header.fields (known_in S.view self.new.file) p (meaning S.view F.backing self.new p)) }
-        ensures pinned { 0 < length → refuses_to_prepare self.old offset length ≡ None → HasOwnTable self.old offset → PreparesUnpinned self.old offset result }
+        ensures listed { refuses_to_prepare self.old offset length ≡ None → 0 < length → (out : List (Option Prepared))
+            → (abstract_of S.view F.backing self.old out).is_sound → PreparesList offset self.old self.new result }
+        ensures freeing { (out : List (Option Prepared)) → (abstract_of S.view F.backing self.old out).is_sound
+            → IfOk result (λ p. IsNone (table_of p) → ListsNoMore self.old self.new) }
+        ensures maps { 0 < length → (out : List (Option Prepared))
+            → (abstract_of S.view F.backing self.old out).is_sound
+            → IfOk result (λ p. IsAnswered self.old.file.header.fields
+            (known_in S.view self.old.file) offset length self.new.file.header.fields (known_in S.view self.new.file) p
+            (meaning S.view F.backing self.new p)) }
+        ensures pinned { 0 < length → refuses_to_prepare self.old offset length ≡ None → HasOwnTable self.old offset
+            → PreparesUnpinned self.old offset result }
         ensures once_written { FailsOnceWritten S.view self.old self.new result }
         ensures header_cluster { StaysBehindHeader S.view self.old self.new }
         ensures faults { CountsImageFaults S.view F.backing self.old self.new result }
@@ -233,16 +251,37 @@ impl<S: Storage, F: WrappedFormat<S>> Qcow2<S, F> {
         ensures notes { KeepsFileNotes S.view self.old.file self.new.file }
         ensures header_cluster { StaysBehindHeader S.view self.old self.new }
         ensures cause { IfErr result IsMetPreparing }
-        ensures met { 0 < length → (out : List (Option Prepared)) → ImageInvariant S.view F.backing (pending_in S.view F.backing self.old out) self.old out → IfErr result (IsMetTaking (HasPrepared out) (IsTaken self.old.file.header.fields (known_in S.view self.old.file) offset length out) (CopiesCompressed offset length overwrite self.old.file.header.fields (known_in S.view self.old.file)) (NeedsFarEntry self.old offset)) }
-        ensures l1_place { l1_index_of self.old.file.header.fields offset < entry_count self.old.l1_table → OnOk result (KeepsL1Place self.old.file.header.fields self.new.file.header.fields) }
-        ensures limit { 0 < length → (out : List (Option Prepared)) → ImageInvariant S.view F.backing (pending_in S.view F.backing self.old out) self.old out → IfErr result (λ e. e ≡ Limit → LacksPlaceFor S.view offset length self.old self.new) }
-        ensures taken { 0 < length → (out : List (Option Prepared)) → ImageInvariant S.view F.backing (pending_in S.view F.backing self.old out) self.old out → IfErr result (λ e. e ≡ TablePrepared → IsTaken self.old.file.header.fields (known_in S.view self.old.file) offset length out) }
+        ensures met { 0 < length → (out : List (Option Prepared))
+            → ImageInvariant S.view F.backing (pending_in S.view F.backing self.old out) self.old out
+            → IfErr result (IsMetTaking (HasPrepared out)
+            (IsTaken self.old.file.header.fields (known_in S.view self.old.file) offset length out)
+            (CopiesCompressed offset length overwrite self.old.file.header.fields (known_in S.view self.old.file))
+            (NeedsFarEntry self.old offset)) }
+        ensures l1_place { l1_index_of self.old.file.header.fields offset < entry_count self.old.l1_table
+            → OnOk result (KeepsL1Place self.old.file.header.fields self.new.file.header.fields) }
+        ensures limit { 0 < length → (out : List (Option Prepared))
+            → ImageInvariant S.view F.backing (pending_in S.view F.backing self.old out) self.old out
+            → IfErr result (λ e. e ≡ Limit → LacksPlaceFor S.view offset length self.old self.new) }
+        ensures taken { 0 < length → (out : List (Option Prepared))
+            → ImageInvariant S.view F.backing (pending_in S.view F.backing self.old out) self.old out
+            → IfErr result (λ e. e ≡ TablePrepared
+            → IsTaken self.old.file.header.fields (known_in S.view self.old.file) offset length out) }
         ensures own { IfOk result (λ p. image_of p ≡ number_of self.old) }
         ensures some { IfOk result (λ p. 0 < length → HasBytesBehind self.new.file.header.fields p) }
-        ensures readies { 0 < length → (out : List (Option Prepared)) → ImageInvariant S.view F.backing (pending_in S.view F.backing self.old out) self.old out → PreparesRange S.view F.backing self.old self.new out offset length overwrite result }
-        ensures answers { 0 < length → (out : List (Option Prepared)) → ImageInvariant S.view F.backing (pending_in S.view F.backing self.old out) self.old out → IfOk result (λ q. IsAnswered self.old.file.header.fields (known_in S.view self.old.file) offset length self.new.file.header.fields (known_in S.view self.new.file) q (meaning S.view F.backing self.new q)) }
-        ensures listed { 0 < length → (out : List (Option Prepared)) → ImageInvariant S.view F.backing (pending_in S.view F.backing self.old out) self.old out → PreparesList offset self.old self.new result }
-        ensures freeing { 0 < length → (out : List (Option Prepared)) → ImageInvariant S.view F.backing (pending_in S.view F.backing self.old out) self.old out → IfOk result (λ p. IsNone (table_of p) → ListsNoMore self.old self.new) }
+        ensures readies { 0 < length → (out : List (Option Prepared))
+            → ImageInvariant S.view F.backing (pending_in S.view F.backing self.old out) self.old out
+            → PreparesRange S.view F.backing self.old self.new out offset length overwrite result }
+        ensures answers { 0 < length → (out : List (Option Prepared))
+            → ImageInvariant S.view F.backing (pending_in S.view F.backing self.old out) self.old out
+            → IfOk result (λ q. IsAnswered self.old.file.header.fields
+            (known_in S.view self.old.file) offset length self.new.file.header.fields (known_in S.view self.new.file) q
+            (meaning S.view F.backing self.new q)) }
+        ensures listed { 0 < length → (out : List (Option Prepared))
+            → ImageInvariant S.view F.backing (pending_in S.view F.backing self.old out) self.old out
+            → PreparesList offset self.old self.new result }
+        ensures freeing { 0 < length → (out : List (Option Prepared))
+            → ImageInvariant S.view F.backing (pending_in S.view F.backing self.old out) self.old out
+            → IfOk result (λ p. IsNone (table_of p) → ListsNoMore self.old self.new) }
         ensures pinned { HasOwnTable self.old offset → PreparesUnpinned self.old offset result }
         ensures faults { CountsImageFaults S.view F.backing self.old self.new result }
     {
@@ -264,16 +303,37 @@ impl<S: Storage, F: WrappedFormat<S>> Qcow2<S, F> {
         ensures notes { KeepsFileNotes S.view self.old.file self.new.file }
         ensures header_cluster { StaysBehindHeader S.view self.old self.new }
         ensures cause { IfErr result IsMetPreparing }
-        ensures met { 0 < length → (out : List (Option Prepared)) → ImageInvariant S.view F.backing (pending_in S.view F.backing self.old out) self.old out → IfErr result (IsMetTaking (HasPrepared out) (IsTaken self.old.file.header.fields (known_in S.view self.old.file) offset length out) (CopiesCompressed offset length overwrite self.old.file.header.fields (known_in S.view self.old.file)) (NeedsFarEntry self.old offset)) }
-        ensures l1_place { l1_index_of self.old.file.header.fields offset < entry_count self.old.l1_table → OnOk result (KeepsL1Place self.old.file.header.fields self.new.file.header.fields) }
-        ensures limit { 0 < length → (out : List (Option Prepared)) → ImageInvariant S.view F.backing (pending_in S.view F.backing self.old out) self.old out → IfErr result (λ e. e ≡ Limit → LacksRange S.view offset length self.old self.new) }
-        ensures taken { 0 < length → (out : List (Option Prepared)) → ImageInvariant S.view F.backing (pending_in S.view F.backing self.old out) self.old out → IfErr result (λ e. e ≡ TablePrepared → IsTaken self.old.file.header.fields (known_in S.view self.old.file) offset length out) }
+        ensures met { 0 < length → (out : List (Option Prepared))
+            → ImageInvariant S.view F.backing (pending_in S.view F.backing self.old out) self.old out
+            → IfErr result (IsMetTaking (HasPrepared out)
+            (IsTaken self.old.file.header.fields (known_in S.view self.old.file) offset length out)
+            (CopiesCompressed offset length overwrite self.old.file.header.fields (known_in S.view self.old.file))
+            (NeedsFarEntry self.old offset)) }
+        ensures l1_place { l1_index_of self.old.file.header.fields offset < entry_count self.old.l1_table
+            → OnOk result (KeepsL1Place self.old.file.header.fields self.new.file.header.fields) }
+        ensures limit { 0 < length → (out : List (Option Prepared))
+            → ImageInvariant S.view F.backing (pending_in S.view F.backing self.old out) self.old out
+            → IfErr result (λ e. e ≡ Limit → LacksRange S.view offset length self.old self.new) }
+        ensures taken { 0 < length → (out : List (Option Prepared))
+            → ImageInvariant S.view F.backing (pending_in S.view F.backing self.old out) self.old out
+            → IfErr result (λ e. e ≡ TablePrepared
+            → IsTaken self.old.file.header.fields (known_in S.view self.old.file) offset length out) }
         ensures own { IfOk result (λ p. image_of p ≡ number_of self.old) }
         ensures some { IfOk result (λ p. 0 < length → HasBytesBehind self.new.file.header.fields p) }
-        ensures readies { 0 < length → (out : List (Option Prepared)) → ImageInvariant S.view F.backing (pending_in S.view F.backing self.old out) self.old out → PreparesRange S.view F.backing self.old self.new out offset length overwrite result }
-        ensures answers { 0 < length → (out : List (Option Prepared)) → ImageInvariant S.view F.backing (pending_in S.view F.backing self.old out) self.old out → IfOk result (λ q. IsAnswered self.old.file.header.fields (known_in S.view self.old.file) offset length self.new.file.header.fields (known_in S.view self.new.file) q (meaning S.view F.backing self.new q)) }
-        ensures tables { (out : List (Option Prepared)) → ImageInvariant S.view F.backing (pending_in S.view F.backing self.old out) self.old out → OnOk result (PreparesTable offset self.old self.new) }
-        ensures freeing { 0 < length → (out : List (Option Prepared)) → ImageInvariant S.view F.backing (pending_in S.view F.backing self.old out) self.old out → IfOk result (λ p. IsNone (table_of p) → ListsNoMore self.old self.new) }
+        ensures readies { 0 < length → (out : List (Option Prepared))
+            → ImageInvariant S.view F.backing (pending_in S.view F.backing self.old out) self.old out
+            → PreparesRange S.view F.backing self.old self.new out offset length overwrite result }
+        ensures answers { 0 < length → (out : List (Option Prepared))
+            → ImageInvariant S.view F.backing (pending_in S.view F.backing self.old out) self.old out
+            → IfOk result (λ q. IsAnswered self.old.file.header.fields
+            (known_in S.view self.old.file) offset length self.new.file.header.fields (known_in S.view self.new.file) q
+            (meaning S.view F.backing self.new q)) }
+        ensures tables { (out : List (Option Prepared))
+            → ImageInvariant S.view F.backing (pending_in S.view F.backing self.old out) self.old out
+            → OnOk result (PreparesTable offset self.old self.new) }
+        ensures freeing { 0 < length → (out : List (Option Prepared))
+            → ImageInvariant S.view F.backing (pending_in S.view F.backing self.old out) self.old out
+            → IfOk result (λ p. IsNone (table_of p) → ListsNoMore self.old self.new) }
         ensures pinned { HasOwnTable self.old offset → PreparesUnpinned self.old offset result }
         ensures faults { CountsImageFaults S.view F.backing self.old self.new result }
     {
@@ -292,15 +352,25 @@ impl<S: Storage, F: WrappedFormat<S>> Qcow2<S, F> {
         ensures notes { KeepsFileNotes S.view self.old.file self.new.file }
         ensures header_cluster { StaysBehindHeader S.view self.old self.new }
         ensures cause { IsMetPreparing refusal → IsMetPreparing result }
-        ensures limit { (out : List (Option Prepared)) → ImageInvariant S.view F.backing (pending_in S.view F.backing self.old out) self.old out → result ≡ ImageError.Limit → (refusal ≡ ImageError.Limit) × FreesJustListed S.view self.old self.new }
+        ensures limit { (out : List (Option Prepared))
+            → ImageInvariant S.view F.backing (pending_in S.view F.backing self.old out) self.old out
+            → result ≡ ImageError.Limit → (refusal ≡ ImageError.Limit) × FreesJustListed S.view self.old self.new }
         ensures taken { IsMetPreparing refusal → result ≡ TablePrepared → refusal ≡ TablePrepared }
         ensures fault { IsFault refusal → (result ≡ refusal) × (self.new ≡ self.old) }
         ensures idle { HasNothingToFree self.old → (result ≡ refusal) × (self.new ≡ self.old) }
-        ensures told { (out : List (Option Prepared)) → ImageInvariant S.view F.backing (pending_in S.view F.backing self.old out) self.old out → (result ≡ refusal) ⊎ IsFault result }
+        ensures told { (out : List (Option Prepared))
+            → ImageInvariant S.view F.backing (pending_in S.view F.backing self.old out) self.old out
+            → (result ≡ refusal) ⊎ IsFault result }
         ensures handed { (result ≡ refusal) ⊎ IsOfTables result }
-        ensures emptied { IsTrue (is_writable self.old) → (out : List (Option Prepared)) → ImageInvariant S.view F.backing (pending_in S.view F.backing self.old out) self.old out → FreesRefused self.new result }
-        ensures frees { (out : List (Option Prepared)) → ImageInvariant S.view F.backing (pending_in S.view F.backing self.old out) self.old out → RefusedCall S.view F.backing self.old self.new out result }
-        ensures faults { (start : Qcow2 S F) → CountsImageFaults S.view F.backing {T = Unit {0}} start self.old (Err refusal) → CountsImageFaults S.view F.backing {T = Unit {0}} start self.new (Err result) }
+        ensures emptied { IsTrue (is_writable self.old) → (out : List (Option Prepared))
+            → ImageInvariant S.view F.backing (pending_in S.view F.backing self.old out) self.old out
+            → FreesRefused self.new result }
+        ensures frees { (out : List (Option Prepared))
+            → ImageInvariant S.view F.backing (pending_in S.view F.backing self.old out) self.old out
+            → RefusedCall S.view F.backing self.old self.new out result }
+        ensures faults { (start : Qcow2 S F)
+            → CountsImageFaults S.view F.backing {T = Unit {0}} start self.old (Err refusal)
+            → CountsImageFaults S.view F.backing {T = Unit {0}} start self.new (Err result) }
     {
         if is_last(&refusal) {
             return refusal;
@@ -320,11 +390,16 @@ impl<S: Storage, F: WrappedFormat<S>> Qcow2<S, F> {
     ) -> Result<Option<u64>, ImageError>
         requires cached { IsSome (l2_at self.now.file.caches table) }
         ensures cause { IfErr result IsMet }
-        ensures reads { (p : Pending) → FileInvariant S.view p self.now.file → IsEntryAt self.now.file.header.fields (known_in S.view self.now.file) (l1_index_of self.now.file.header.fields offset) table (l2_index_of self.now.file.header.fields offset) → IsOk result }
+        ensures reads { (p : Pending) → FileInvariant S.view p self.now.file
+            → IsEntryAt self.now.file.header.fields (known_in S.view self.now.file)
+            (l1_index_of self.now.file.header.fields offset) table (l2_index_of self.now.file.header.fields offset)
+            → IsOk result }
         ensures limited { IfErr result IsUnlimited }
         ensures place { (p : Pending) → FileInvariant S.view p self.now.file
-            → IsEntryAt self.now.file.header.fields (known_in S.view self.now.file) (l1_index_of self.now.file.header.fields offset) table (l2_index_of self.now.file.header.fields offset)
-            → 0 < length → IfOk result (IsPlaceOf self.now.file.header.fields (known_in S.view self.now.file) offset length) }
+            → IsEntryAt self.now.file.header.fields (known_in S.view self.now.file)
+            (l1_index_of self.now.file.header.fields offset) table (l2_index_of self.now.file.header.fields offset)
+            → 0 < length → IfOk result (IsPlaceOf self.now.file.header.fields
+            (known_in S.view self.now.file) offset length) }
         ensures behind { IfOk result (λ place. IfSome place (λ host. cluster_size self.now.file.header.fields ≤ host)) }
         ensures faults { IfErr result IsNotOfStorage }
     {
@@ -349,18 +424,31 @@ impl<S: Storage, F: WrappedFormat<S>> Qcow2<S, F> {
         ensures notes { KeepsFileNotes S.view self.old.file self.new.file }
         ensures header_cluster { 0 < table → StaysBehindHeader S.view self.old self.new }
         ensures cause { IfErr result IsMetPreparing }
-        ensures met { (out : List (Option Prepared)) → ImageInvariant S.view F.backing (pending_in S.view F.backing self.old out) self.old out → HoldsTable S.view F.backing self.old offset table → 0 < length → IfErr result (IsMetTaking (HasPrepared out) (0 < l2_pins self.old.file.caches table) (CopiesCompressed offset length overwrite self.old.file.header.fields (known_in S.view self.old.file)) ⊥) }
-        ensures limit { (out : List (Option Prepared)) → ImageInvariant S.view F.backing (pending_in S.view F.backing self.old out) self.old out → HoldsTable S.view F.backing self.old offset table → 0 < length → IfErr result (λ e. e ≡ Limit → LacksData S.view offset length self.old.file.free_list self.old self.new) }
+        ensures met { (out : List (Option Prepared))
+            → ImageInvariant S.view F.backing (pending_in S.view F.backing self.old out) self.old out
+            → HoldsTable S.view F.backing self.old offset table → 0 < length
+            → IfErr result (IsMetTaking (HasPrepared out) (0 < l2_pins self.old.file.caches table)
+            (CopiesCompressed offset length overwrite self.old.file.header.fields (known_in S.view self.old.file)) ⊥) }
+        ensures limit { (out : List (Option Prepared))
+            → ImageInvariant S.view F.backing (pending_in S.view F.backing self.old out) self.old out
+            → HoldsTable S.view F.backing self.old offset table → 0 < length
+            → IfErr result (λ e. e ≡ Limit → LacksData S.view offset length self.old.file.free_list self.old self.new) }
         ensures taken { IfErr result (λ e. e ≡ TablePrepared → 0 < l2_pins self.old.file.caches table) }
         ensures unpinned { OnOk result (l2_pins self.old.file.caches table ≡ 0) }
         ensures own { IfOk result (λ p. image_of p ≡ number_of self.old) }
         ensures some { IfOk result (HasBytesBehind self.new.file.header.fields) }
-        ensures readies { (out : List (Option Prepared)) → ImageInvariant S.view F.backing (pending_in S.view F.backing self.old out) self.old out → HoldsTable S.view F.backing self.old offset table → PreparesRange S.view F.backing self.old self.new out offset length overwrite result }
-        ensures reaches { (out : List (Option Prepared)) (k : ℕ) → slice_get out k ≡ Some None → ImageInvariant S.view F.backing (pending_in S.view F.backing self.old out) self.old out
+        ensures readies { (out : List (Option Prepared))
+            → ImageInvariant S.view F.backing (pending_in S.view F.backing self.old out) self.old out
+            → HoldsTable S.view F.backing self.old offset table
+            → PreparesRange S.view F.backing self.old self.new out offset length overwrite result }
+        ensures reaches { (out : List (Option Prepared)) (k : ℕ) → slice_get out k ≡ Some None
+            → ImageInvariant S.view F.backing (pending_in S.view F.backing self.old out) self.old out
             → HoldsTable S.view F.backing self.old offset table → IfOk result (Reaches S.view self.new offset length) }
         ensures header { KeepsHeader self.old.file.header self.new.file.header }
         ensures former { OnOk result (ListsFormer self.old self.new) }
-        ensures under { (out : List (Option Prepared)) (k : ℕ) → slice_get out k ≡ Some None → ImageInvariant S.view F.backing (pending_in S.view F.backing self.old out) self.old out → HoldsTable S.view F.backing self.old offset table → OnOk result (own_table self.new offset ≡ table) }
+        ensures under { (out : List (Option Prepared)) (k : ℕ) → slice_get out k ≡ Some None
+            → ImageInvariant S.view F.backing (pending_in S.view F.backing self.old out) self.old out
+            → HoldsTable S.view F.backing self.old offset table → OnOk result (own_table self.new offset ≡ table) }
         ensures faults { CountsImageFaults S.view F.backing self.old self.new result }
     {
         let mut prepared = self.prepare_first(table, offset, length, overwrite)?;
@@ -384,10 +472,17 @@ impl<S: Storage, F: WrappedFormat<S>> Qcow2<S, F> {
         ensures behind { IfOk result (MarkedIsBehind (cluster_size self.now.file.header.fields)) }
         ensures cause { IfErr result IsMet }
         ensures limited { IfErr result IsUnlimited }
-        ensures reads { (p : Pending) (i : ℕ) → FileInvariant S.view p self.now.file → IsEntryAt self.now.file.header.fields (known_in S.view self.now.file) i table (cluster % entries_per_cluster self.now.file.header.fields)
-            → cluster / entries_per_cluster self.now.file.header.fields ≡ i → IsSome (l2_at self.now.file.caches table) → IsOk result }
-        ensures says { (p : Pending) (i : ℕ) → FileInvariant S.view p self.now.file → IsEntryAt self.now.file.header.fields (known_in S.view self.now.file) i table (cluster % entries_per_cluster self.now.file.header.fields)
-            → cluster / entries_per_cluster self.now.file.header.fields ≡ i → IfOk result (λ mapping. cover self.now.file.header.fields (known_in S.view self.now.file) cluster ≡ mapping) }
+        ensures reads { (p : Pending) (i : ℕ) → FileInvariant S.view p self.now.file
+            → IsEntryAt self.now.file.header.fields (known_in S.view self.now.file) i table
+            (cluster % entries_per_cluster self.now.file.header.fields)
+            → cluster / entries_per_cluster self.now.file.header.fields ≡ i → IsSome (l2_at self.now.file.caches table)
+            → IsOk result }
+        ensures says { (p : Pending) (i : ℕ) → FileInvariant S.view p self.now.file
+            → IsEntryAt self.now.file.header.fields (known_in S.view self.now.file) i table
+            (cluster % entries_per_cluster self.now.file.header.fields)
+            → cluster / entries_per_cluster self.now.file.header.fields ≡ i
+            → IfOk result (λ mapping. cover self.now.file.header.fields
+            (known_in S.view self.now.file) cluster ≡ mapping) }
         ensures faults { IfErr result IsNotOfStorage }
     {
         let Some(held) = self.file.caches.l2_peek(table) else {
@@ -430,22 +525,32 @@ impl<S: Storage, F: WrappedFormat<S>> Qcow2<S, F> {
     /// 15 (storage).
     pub fn commit_data_mapping(&mut self, mut prepared: Prepared) -> Result<(), CommitRefused>
         ensures foreign { image_of prepared ≢ number_of self.old → (result ≡ Err (Kept ForeignState prepared)) × (self.new ≡ self.old) }
-        ensures failed { image_of prepared ≡ number_of self.old → IsTrue (is_failed self.old) → (result ≡ Err (Kept Failed prepared)) × (self.new ≡ self.old) }
+        ensures failed { image_of prepared ≡ number_of self.old → IsTrue (is_failed self.old)
+            → (result ≡ Err (Kept Failed prepared)) × (self.new ≡ self.old) }
         ensures kept { IfErr result (IsHandedBackBy prepared) }
         ensures late { image_of prepared ≡ number_of self.old → is_failed self.old ≡ false → IfErr result (λ r. IsOfTables (reason_of r)) }
         ensures marks { MatchResult result (λ done. is_failed self.new ≡ is_failed self.old) (λ r. MarksRefused self.old self.new (reason_of r)) }
-        ensures existing { image_of prepared ≡ number_of self.old → is_failed self.old ≡ false → IsNone (table_of prepared) → (result ≡ Ok tt) × ReleasesOneMapping S.view self.old self.new }
+        ensures existing { image_of prepared ≡ number_of self.old → is_failed self.old ≡ false
+            → IsNone (table_of prepared) → (result ≡ Ok tt) × ReleasesOneMapping S.view self.old self.new }
         ensures image { IsSameImage self.old self.new }
         ensures header { KeepsWholeHeader self.old self.new }
         ensures sees { Commits S.view F.backing self.old self.new prepared result }
-        ensures copied { (out : List (Option Prepared)) (k : ℕ) → slice_get out k ≡ Some (Some prepared) → (abstract_of S.view F.backing self.old out).is_sound → IsSome (table_of prepared)
-            → OnOk result (AreDataAt self.new.file.header.fields (known_in S.view self.new.file) true (guest_offset_of prepared) (offset_of prepared) (length_of prepared)) }
-        ensures emptied { image_of prepared ≡ number_of self.old → IsSome (table_of prepared) → IsTrue (is_writable self.old) → OnOk result (HasNothingToFree self.new) }
-        ensures freeing { (out : List (Option Prepared)) (k : ℕ) → slice_get out k ≡ Some (Some prepared) → (abstract_of S.view F.backing self.old out).is_sound → IsNone (table_of prepared) → OnOk result (ListStays self.old self.new) }
-        ensures quiet { HasNothingToFree self.old → DropsNothing prepared → storage_of self.new.file.storage ≡ storage_of self.old.file.storage }
+        ensures copied { (out : List (Option Prepared)) (k : ℕ) → slice_get out k ≡ Some (Some prepared)
+            → (abstract_of S.view F.backing self.old out).is_sound → IsSome (table_of prepared)
+            → OnOk result (AreDataAt self.new.file.header.fields (known_in S.view self.new.file) true
+            (guest_offset_of prepared) (offset_of prepared) (length_of prepared)) }
+        ensures emptied { image_of prepared ≡ number_of self.old → IsSome (table_of prepared)
+            → IsTrue (is_writable self.old) → OnOk result (HasNothingToFree self.new) }
+        ensures freeing { (out : List (Option Prepared)) (k : ℕ) → slice_get out k ≡ Some (Some prepared)
+            → (abstract_of S.view F.backing self.old out).is_sound → IsNone (table_of prepared)
+            → OnOk result (ListStays self.old self.new) }
+        ensures quiet { HasNothingToFree self.old → DropsNothing prepared
+            → storage_of self.new.file.storage ≡ storage_of self.old.file.storage }
         ensures once_written { CommitFailsOnceWritten S.view self.old self.new result }
         ensures header_cluster { StaysBehindHeader S.view self.old self.new }
-        ensures faults { NoFewerFaults S.view F.backing self.old self.new × IfErr result (λ r. TellsFault S.view F.backing self.old self.new (reason_of r)) × TellsEachBy S.view F.backing reason_of self.old self.new result }
+        ensures faults { NoFewerFaults S.view F.backing self.old self.new
+            × IfErr result (λ r. TellsFault S.view F.backing self.old self.new (reason_of r))
+            × TellsEachBy S.view F.backing reason_of self.old self.new result }
     {
         if prepared.image != self.number {
             return Err(CommitRefused::Kept(ImageError::ForeignState, prepared));
@@ -476,7 +581,12 @@ impl<S: Storage, F: WrappedFormat<S>> Qcow2<S, F> {
         ensures in_place { IsEntered prepared.old prepared.new }
         ensures left { freed_by prepared.new.shares.items ≡ [] }
         ensures header { self.new.file.header ≡ self.old.file.header }
-        ensures rest { self.new ≡ record self.old { file = record self.old.file { caches = self.new.file.caches; free_list = self.new.file.free_list } } }
+        ensures rest { self.new ≡ record self.old {
+          file = record self.old.file {
+            caches = self.new.file.caches;
+            free_list = self.new.file.free_list;
+          };
+        } }
         ensures notes { KeepsFileNotes S.view self.old.file self.new.file }
         ensures quiet { DropsNothing prepared.old → self.new.file.free_list ≡ self.old.file.free_list }
         ensures header_cluster { StaysBehindHeader S.view self.old self.new }
@@ -495,7 +605,8 @@ impl<S: Storage, F: WrappedFormat<S>> Qcow2<S, F> {
     fn enter_share(&mut self, prepared: &mut Prepared, i: usize) -> bool
         requires { i < length prepared.old.shares.items }
         ensures stays { ImageStays self.old self.new }
-        ensures none { IsFalse result → (self.new ≡ self.old) × (prepared.new ≡ prepared.old) × (slice_get prepared.old.shares.items i ≡ Some InPlace) }
+        ensures none { IsFalse result → (self.new ≡ self.old) × (prepared.new ≡ prepared.old)
+            × (slice_get prepared.old.shares.items i ≡ Some InPlace) }
         ensures enters { IsTrue result → EntersShare i prepared.old prepared.new self.old self.new }
     {
         if !prepared.shares[i].is_entered() {

@@ -102,13 +102,21 @@ impl<S: Storage, F: WrappedFormat<S>> Qcow2<S, F> {
         requires larger { old < size }
         ensures stays { ImageStays self.old self.new }
         ensures cause { IfErr result IsMetPreparing }
-        ensures met { (out : List (Option Prepared)) → ImageInvariant S.view F.backing (pending_in S.view F.backing self.old out) self.old out → HasNearEntries (rounded_up_to (cluster_size self.old.file.header.fields) size) self.old.file.header.fields → IfErr result (IsMetGrowing out mode old (rounded_up_to (cluster_size self.old.file.header.fields) size) self.old.file.header.fields (known_in S.view self.old.file)) }
+        ensures met { (out : List (Option Prepared))
+            → ImageInvariant S.view F.backing (pending_in S.view F.backing self.old out) self.old out
+            → HasNearEntries (rounded_up_to (cluster_size self.old.file.header.fields) size) self.old.file.header.fields
+            → IfErr result (IsMetGrowing out mode old
+            (rounded_up_to (cluster_size self.old.file.header.fields) size) self.old.file.header.fields
+            (known_in S.view self.old.file)) }
         ensures emptied { HasNothingToFree self.old → OnOk result (HasNothingToFree self.new) }
         ensures unfilled { mode ≡ PreallocateNone → (result ≡ Ok tt) × (self.new ≡ self.old) }
-        ensures version { HasNothingToFree self.old → mode ≡ Zero → self.old.file.header.fields.version < 3 → (result ≡ Err Version) × (self.new ≡ self.old) }
+        ensures version { HasNothingToFree self.old → mode ≡ Zero → self.old.file.header.fields.version < 3
+            → (result ≡ Err Version) × (self.new ≡ self.old) }
         ensures fills { (out : List (Option Prepared)) → ImageInvariant S.view F.backing (pending_in S.view F.backing self.old out) self.old out
             → FillsGrownOrRefuses S.view F.backing size mode self.old self.new out result }
-        ensures freed { (out : List (Option Prepared)) → ImageInvariant S.view F.backing (pending_in S.view F.backing self.old out) self.old out → IfErr result (FreesRefused self.new) }
+        ensures freed { (out : List (Option Prepared))
+            → ImageInvariant S.view F.backing (pending_in S.view F.backing self.old out) self.old out
+            → IfErr result (FreesRefused self.new) }
         ensures notes { KeepsFileNotes S.view self.old.file self.new.file }
         ensures header_cluster { StaysBehindHeader S.view self.old self.new }
         ensures faults { CountsImageFaults S.view F.backing self.old self.new result }
@@ -126,7 +134,12 @@ impl<S: Storage, F: WrappedFormat<S>> Qcow2<S, F> {
         requires larger { old < size }
         ensures stays { ImageStays self.old self.new }
         ensures cause { IfErr result IsMetPreparing }
-        ensures met { (out : List (Option Prepared)) → ImageInvariant S.view F.backing (pending_in S.view F.backing self.old out) self.old out → HasNearEntries (rounded_up_to (cluster_size self.old.file.header.fields) size) self.old.file.header.fields → IfErr result (IsMetGrowing out mode old (rounded_up_to (cluster_size self.old.file.header.fields) size) self.old.file.header.fields (known_in S.view self.old.file)) }
+        ensures met { (out : List (Option Prepared))
+            → ImageInvariant S.view F.backing (pending_in S.view F.backing self.old out) self.old out
+            → HasNearEntries (rounded_up_to (cluster_size self.old.file.header.fields) size) self.old.file.header.fields
+            → IfErr result (IsMetGrowing out mode old
+            (rounded_up_to (cluster_size self.old.file.header.fields) size) self.old.file.header.fields
+            (known_in S.view self.old.file)) }
         ensures emptied { HasNothingToFree self.old → OnOk result (HasNothingToFree self.new) }
         ensures unfilled { mode ≡ PreallocateNone → (result ≡ Ok tt) × (self.new ≡ self.old) }
         ensures version { mode ≡ Zero → self.old.file.header.fields.version < 3 → (result ≡ Err Version) × (self.new ≡ self.old) }
@@ -155,10 +168,18 @@ impl<S: Storage, F: WrappedFormat<S>> Qcow2<S, F> {
         requires zeros { AreZeros writes.now }
         ensures stays { ImageStays self.old self.new }
         ensures cause { IfErr result IsMetPreparing }
-        ensures met { (out : List (Option Prepared)) → ImageInvariant S.view F.backing (pending_in S.view F.backing self.old out) self.old out → old ≤ size → HasNearEntries (rounded_up_to (cluster_size self.old.file.header.fields) size) self.old.file.header.fields → IfErr result (IsMetTaking (HasPrepared out) (HasPrepared out) (HasCompressedIn old (rounded_up_to (cluster_size self.old.file.header.fields) size) self.old.file.header.fields (known_in S.view self.old.file)) ⊥) }
+        ensures met { (out : List (Option Prepared))
+            → ImageInvariant S.view F.backing (pending_in S.view F.backing self.old out) self.old out → old ≤ size
+            → HasNearEntries (rounded_up_to (cluster_size self.old.file.header.fields) size) self.old.file.header.fields
+            → IfErr result (IsMetTaking (HasPrepared out) (HasPrepared out)
+            (HasCompressedIn old (rounded_up_to
+            (cluster_size self.old.file.header.fields) size) self.old.file.header.fields
+            (known_in S.view self.old.file)) ⊥) }
         ensures emptied { HasNothingToFree self.old → OnOk result (HasNothingToFree self.new) }
-        ensures fills { (out : List (Option Prepared)) → ImageInvariant S.view F.backing (pending_in S.view F.backing self.old out) self.old out
-            → old ≤ size → FillsOrRefuses S.view F.backing (rounded_up_to (cluster_size self.old.file.header.fields) size) old (rounded_up_to (cluster_size self.old.file.header.fields) size) self.old self.new out result }
+        ensures fills { (out : List (Option Prepared))
+            → ImageInvariant S.view F.backing (pending_in S.view F.backing self.old out) self.old out → old ≤ size
+            → FillsOrRefuses S.view F.backing (rounded_up_to (cluster_size self.old.file.header.fields) size) old
+            (rounded_up_to (cluster_size self.old.file.header.fields) size) self.old self.new out result }
         ensures notes { KeepsFileNotes S.view self.old.file self.new.file }
         ensures header_cluster { StaysBehindHeader S.view self.old self.new }
         ensures faults { CountsImageFaults S.view F.backing self.old self.new result }
@@ -174,11 +195,20 @@ impl<S: Storage, F: WrappedFormat<S>> Qcow2<S, F> {
         requires writable { IsTrue (is_writable self.old) }
         ensures stays { ImageStays self.old self.new }
         ensures cause { IfErr result IsMetPreparing }
-        ensures met { (out : List (Option Prepared)) → ImageInvariant S.view F.backing (pending_in S.view F.backing self.old out) self.old out → old ≤ size → 3 ≤ self.old.file.header.fields.version → HasNearEntries (rounded_up_to (cluster_size self.old.file.header.fields) size) self.old.file.header.fields → IfErr result (IsMetTaking (HasPrepared out) (HasPrepared out) (HasCompressedIn old (rounded_up_to (cluster_size self.old.file.header.fields) old) self.old.file.header.fields (known_in S.view self.old.file)) ⊥) }
+        ensures met { (out : List (Option Prepared))
+            → ImageInvariant S.view F.backing (pending_in S.view F.backing self.old out) self.old out → old ≤ size
+            → 3 ≤ self.old.file.header.fields.version
+            → HasNearEntries (rounded_up_to (cluster_size self.old.file.header.fields) size) self.old.file.header.fields
+            → IfErr result (IsMetTaking (HasPrepared out) (HasPrepared out)
+            (HasCompressedIn old (rounded_up_to
+            (cluster_size self.old.file.header.fields) old) self.old.file.header.fields
+            (known_in S.view self.old.file)) ⊥) }
         ensures emptied { HasNothingToFree self.old → OnOk result (HasNothingToFree self.new) }
         ensures version { self.old.file.header.fields.version < 3 → (result ≡ Err Version) × (self.new ≡ self.old) }
-        ensures fills { (out : List (Option Prepared)) → ImageInvariant S.view F.backing (pending_in S.view F.backing self.old out) self.old out
-            → old ≤ size → FillsOrRefuses S.view F.backing (rounded_up_to (cluster_size self.old.file.header.fields) old) old (rounded_up_to (cluster_size self.old.file.header.fields) size) self.old self.new out result }
+        ensures fills { (out : List (Option Prepared))
+            → ImageInvariant S.view F.backing (pending_in S.view F.backing self.old out) self.old out → old ≤ size
+            → FillsOrRefuses S.view F.backing (rounded_up_to (cluster_size self.old.file.header.fields) old) old
+            (rounded_up_to (cluster_size self.old.file.header.fields) size) self.old self.new out result }
         ensures notes { KeepsFileNotes S.view self.old.file self.new.file }
         ensures header_cluster { StaysBehindHeader S.view self.old self.new }
         ensures faults { CountsImageFaults S.view F.backing self.old self.new result }
@@ -201,10 +231,17 @@ impl<S: Storage, F: WrappedFormat<S>> Qcow2<S, F> {
         requires writable { IsTrue (is_writable self.old) }
         ensures stays { ImageStays self.old self.new }
         ensures cause { IfErr result IsMetPreparing }
-        ensures met { (out : List (Option Prepared)) → ImageInvariant S.view F.backing (pending_in S.view F.backing self.old out) self.old out → old ≤ from → from ≤ end → IsWholeRange self.old.file.header.fields from end → 3 ≤ self.old.file.header.fields.version → HasNearEntries end self.old.file.header.fields → IfErr result (IsMetTaking (HasPrepared out) (HasPrepared out) (HasCompressedIn old from self.old.file.header.fields (known_in S.view self.old.file)) ⊥) }
+        ensures met { (out : List (Option Prepared))
+            → ImageInvariant S.view F.backing (pending_in S.view F.backing self.old out) self.old out → old ≤ from
+            → from ≤ end → IsWholeRange self.old.file.header.fields from end → 3 ≤ self.old.file.header.fields.version
+            → HasNearEntries end self.old.file.header.fields
+            → IfErr result (IsMetTaking (HasPrepared out) (HasPrepared out)
+            (HasCompressedIn old from self.old.file.header.fields (known_in S.view self.old.file)) ⊥) }
         ensures emptied { HasNothingToFree self.old → OnOk result (HasNothingToFree self.new) }
-        ensures fills { (out : List (Option Prepared)) → ImageInvariant S.view F.backing (pending_in S.view F.backing self.old out) self.old out → old ≤ from → from ≤ end → IsWholeRange self.old.file.header.fields from end
-            → 3 ≤ self.old.file.header.fields.version → FillsOrRefuses S.view F.backing from old end self.old self.new out result }
+        ensures fills { (out : List (Option Prepared))
+            → ImageInvariant S.view F.backing (pending_in S.view F.backing self.old out) self.old out → old ≤ from
+            → from ≤ end → IsWholeRange self.old.file.header.fields from end → 3 ≤ self.old.file.header.fields.version
+            → FillsOrRefuses S.view F.backing from old end self.old self.new out result }
         ensures notes { KeepsFileNotes S.view self.old.file self.new.file }
         ensures header_cluster { StaysBehindHeader S.view self.old self.new }
         ensures faults { CountsImageFaults S.view F.backing self.old self.new result }
@@ -219,10 +256,16 @@ impl<S: Storage, F: WrappedFormat<S>> Qcow2<S, F> {
         requires writable { IsTrue (is_writable self.old) }
         ensures stays { ImageStays self.old self.new }
         ensures cause { IfErr result IsMetPreparing }
-        ensures met { (out : List (Option Prepared)) → ImageInvariant S.view F.backing (pending_in S.view F.backing self.old out) self.old out → from ≤ to → IsWholeRange self.old.file.header.fields from to → 3 ≤ self.old.file.header.fields.version → HasNearEntries to self.old.file.header.fields → IfErr result (IsMetTaking (HasPrepared out) (HasPrepared out) ⊥ ⊥) }
+        ensures met { (out : List (Option Prepared))
+            → ImageInvariant S.view F.backing (pending_in S.view F.backing self.old out) self.old out → from ≤ to
+            → IsWholeRange self.old.file.header.fields from to → 3 ≤ self.old.file.header.fields.version
+            → HasNearEntries to self.old.file.header.fields
+            → IfErr result (IsMetTaking (HasPrepared out) (HasPrepared out) ⊥ ⊥) }
         ensures emptied { HasNothingToFree self.old → OnOk result (HasNothingToFree self.new) }
-        ensures fills { (out : List (Option Prepared)) → ImageInvariant S.view F.backing (pending_in S.view F.backing self.old out) self.old out → from ≤ to → IsWholeRange self.old.file.header.fields from to
-            → 3 ≤ self.old.file.header.fields.version → FillsOrRefuses S.view F.backing 0 from to self.old self.new out result }
+        ensures fills { (out : List (Option Prepared))
+            → ImageInvariant S.view F.backing (pending_in S.view F.backing self.old out) self.old out → from ≤ to
+            → IsWholeRange self.old.file.header.fields from to → 3 ≤ self.old.file.header.fields.version
+            → FillsOrRefuses S.view F.backing 0 from to self.old self.new out result }
         ensures notes { KeepsFileNotes S.view self.old.file self.new.file }
         ensures header_cluster { StaysBehindHeader S.view self.old self.new }
         ensures faults { CountsImageFaults S.view F.backing self.old self.new result }
@@ -239,12 +282,21 @@ impl<S: Storage, F: WrappedFormat<S>> Qcow2<S, F> {
         requires writable { IsTrue (is_writable self.old) }
         ensures stays { ImageStays self.old self.new }
         ensures cause { IfErr result IsMetPreparing }
-        ensures met { (out : List (Option Prepared)) → ImageInvariant S.view F.backing (pending_in S.view F.backing self.old out) self.old out → from ≤ to → IsWholeRange self.old.file.header.fields from to → 3 ≤ self.old.file.header.fields.version → HasNearEntries to self.old.file.header.fields → IfErr result (IsMetTaking (HasPrepared out) (HasPrepared out) ⊥ ⊥) }
+        ensures met { (out : List (Option Prepared))
+            → ImageInvariant S.view F.backing (pending_in S.view F.backing self.old out) self.old out → from ≤ to
+            → IsWholeRange self.old.file.header.fields from to → 3 ≤ self.old.file.header.fields.version
+            → HasNearEntries to self.old.file.header.fields
+            → IfErr result (IsMetTaking (HasPrepared out) (HasPrepared out) ⊥ ⊥) }
         ensures emptied { HasNothingToFree self.old → OnOk result (HasNothingToFree self.new) }
         ensures next { IfOk result (λ next. (from ≤ next) × (from < to → from < next) × (next ≤ max from to)) }
-        ensures whole { (out : List (Option Prepared)) → ImageInvariant S.view F.backing (pending_in S.view F.backing self.old out) self.old out → IsWholeRange self.old.file.header.fields from to → IfOk result (λ next. next % cluster_size self.old.file.header.fields ≡ 0) }
-        ensures fills { (out : List (Option Prepared)) → ImageInvariant S.view F.backing (pending_in S.view F.backing self.old out) self.old out → from ≤ to → IsWholeRange self.old.file.header.fields from to
-            → 3 ≤ self.old.file.header.fields.version → FillsFirst S.view F.backing 0 from to self.old self.new out result }
+        ensures whole { (out : List (Option Prepared))
+            → ImageInvariant S.view F.backing (pending_in S.view F.backing self.old out) self.old out
+            → IsWholeRange self.old.file.header.fields from to
+            → IfOk result (λ next. next % cluster_size self.old.file.header.fields ≡ 0) }
+        ensures fills { (out : List (Option Prepared))
+            → ImageInvariant S.view F.backing (pending_in S.view F.backing self.old out) self.old out → from ≤ to
+            → IsWholeRange self.old.file.header.fields from to → 3 ≤ self.old.file.header.fields.version
+            → FillsFirst S.view F.backing 0 from to self.old self.new out result }
         ensures notes { KeepsFileNotes S.view self.old.file self.new.file }
         ensures header_cluster { StaysBehindHeader S.view self.old self.new }
         ensures faults { CountsImageFaults S.view F.backing self.old self.new result }
@@ -265,10 +317,16 @@ impl<S: Storage, F: WrappedFormat<S>> Qcow2<S, F> {
         requires zeros { AreZeros writes.now }
         ensures stays { ImageStays self.old self.new }
         ensures cause { IfErr result IsMetPreparing }
-        ensures met { (out : List (Option Prepared)) → ImageInvariant S.view F.backing (pending_in S.view F.backing self.old out) self.old out → from ≤ to → to % cluster_size self.old.file.header.fields ≡ 0 → HasNearEntries to self.old.file.header.fields → IfErr result (IsMetTaking (HasPrepared out) (HasPrepared out) (HasCompressedIn from to self.old.file.header.fields (known_in S.view self.old.file)) ⊥) }
+        ensures met { (out : List (Option Prepared))
+            → ImageInvariant S.view F.backing (pending_in S.view F.backing self.old out) self.old out → from ≤ to
+            → to % cluster_size self.old.file.header.fields ≡ 0 → HasNearEntries to self.old.file.header.fields
+            → IfErr result (IsMetTaking (HasPrepared out) (HasPrepared out)
+            (HasCompressedIn from to self.old.file.header.fields (known_in S.view self.old.file)) ⊥) }
         ensures emptied { HasNothingToFree self.old → OnOk result (HasNothingToFree self.new) }
-        ensures fills { (out : List (Option Prepared)) → ImageInvariant S.view F.backing (pending_in S.view F.backing self.old out) self.old out
-            → from ≤ to → to % cluster_size self.old.file.header.fields ≡ 0 → FillsOrRefuses S.view F.backing to from to self.old self.new out result }
+        ensures fills { (out : List (Option Prepared))
+            → ImageInvariant S.view F.backing (pending_in S.view F.backing self.old out) self.old out → from ≤ to
+            → to % cluster_size self.old.file.header.fields ≡ 0
+            → FillsOrRefuses S.view F.backing to from to self.old self.new out result }
         ensures notes { KeepsFileNotes S.view self.old.file self.new.file }
         ensures header_cluster { StaysBehindHeader S.view self.old self.new }
         ensures faults { CountsImageFaults S.view F.backing self.old self.new result }
@@ -288,7 +346,11 @@ impl<S: Storage, F: WrappedFormat<S>> Qcow2<S, F> {
         requires some { from < to }
         ensures stays { ImageStays self.old self.new }
         ensures cause { IfErr result IsMetPreparing }
-        ensures met { (out : List (Option Prepared)) → ImageInvariant S.view F.backing (pending_in S.view F.backing self.old out) self.old out → to % cluster_size self.old.file.header.fields ≡ 0 → HasNearEntries to self.old.file.header.fields → IfErr result (IsMetTaking (HasPrepared out) (HasPrepared out) (HasCompressedIn from to self.old.file.header.fields (known_in S.view self.old.file)) ⊥) }
+        ensures met { (out : List (Option Prepared))
+            → ImageInvariant S.view F.backing (pending_in S.view F.backing self.old out) self.old out
+            → to % cluster_size self.old.file.header.fields ≡ 0 → HasNearEntries to self.old.file.header.fields
+            → IfErr result (IsMetTaking (HasPrepared out) (HasPrepared out)
+            (HasCompressedIn from to self.old.file.header.fields (known_in S.view self.old.file)) ⊥) }
         ensures emptied { HasNothingToFree self.old → OnOk result (HasNothingToFree self.new) }
         ensures next { IfOk result (λ next. (from < next) × (next ≤ to)) }
         ensures fills { (out : List (Option Prepared)) → ImageInvariant S.view F.backing (pending_in S.view F.backing self.old out) self.old out
@@ -335,7 +397,8 @@ impl<S: Storage, F: WrappedFormat<S>> Qcow2<S, F> {
         ensures stays { ImageStays self.old self.new }
         ensures header { self.new.file.header ≡ self.old.file.header }
         ensures table { self.new.l1_table ≡ self.old.l1_table }
-        ensures commits { (out : List (Option Prepared)) (k : ℕ) → slice_get out k ≡ Some (Some prepared) → ImageInvariant S.view F.backing (pending_in S.view F.backing self.old out) self.old out
+        ensures commits { (out : List (Option Prepared)) (k : ℕ) → slice_get out k ≡ Some (Some prepared)
+            → ImageInvariant S.view F.backing (pending_in S.view F.backing self.old out) self.old out
             → CommitsWhole S.view F.backing self.old self.new out k prepared (slice_set out k None) }
         ensures notes { KeepsFileNotes S.view self.old.file self.new.file }
         ensures header_cluster { StaysBehindHeader S.view self.old self.new }

@@ -35,7 +35,8 @@ impl<S: Storage, F: WrappedFormat<S>> Qcow2<S, F> {
     // For how many shares room is made: one for each cluster of a range within its first L2 table at least.
     pub(crate) fn clusters_in(&self, offset: u64, length: u64) -> usize
         ensures some { 0 < result }
-        ensures enough { offset % cluster_size self.now.file.header.fields + min length (rest_of_table self.now.file.header.fields offset) < result * cluster_size self.now.file.header.fields }
+        ensures enough { offset % cluster_size self.now.file.header.fields + min length
+            (rest_of_table self.now.file.header.fields offset) < result * cluster_size self.now.file.header.fields }
     {
         let bits = self.file.header.cluster_bits();
         let size = self.file.header.cluster_size();
@@ -60,15 +61,27 @@ impl<S: Storage, F: WrappedFormat<S>> Qcow2<S, F> {
         ensures notes { KeepsFileNotes S.view self.old.file self.new.file }
         ensures header_cluster { StaysBehindHeader S.view self.old self.new }
         ensures cause { IfErr result IsMet }
-        ensures met { (start : Qcow2 S F) (out : List (Option Prepared)) (k : ℕ) → slice_get out k ≡ Some None → prepared.old.table ≡ Some table → IsReadied S.view F.backing start self.old out k prepared.old.guest length overwrite prepared.old → IfErr result (IsMetAlone (CopiesCompressed prepared.old.guest length overwrite self.old.file.header.fields (known_in S.view self.old.file)) ⊥) }
-        ensures limit { (start : Qcow2 S F) (out : List (Option Prepared)) (k : ℕ) → slice_get out k ≡ Some None → prepared.old.table ≡ Some table
-            → IsReadied S.view F.backing start self.old out k prepared.old.guest length overwrite prepared.old → IfErr result (λ e. e ≡ Limit → (prepared.new.length < min length (rest_of_table self.old.file.header.fields prepared.old.guest)) × CantGoBehind S.view prepared.new self.old self.new) }
+        ensures met { (start : Qcow2 S F) (out : List (Option Prepared)) (k : ℕ) → slice_get out k ≡ Some None
+            → prepared.old.table ≡ Some table
+            → IsReadied S.view F.backing start self.old out k prepared.old.guest length overwrite prepared.old
+            → IfErr result (IsMetAlone (CopiesCompressed prepared.old.guest length overwrite self.old.file.header.fields
+            (known_in S.view self.old.file)) ⊥) }
+        ensures limit { (start : Qcow2 S F) (out : List (Option Prepared)) (k : ℕ) → slice_get out k ≡ Some None
+            → prepared.old.table ≡ Some table
+            → IsReadied S.view F.backing start self.old out k prepared.old.guest length overwrite prepared.old
+            → IfErr result (λ e. e ≡ Limit
+            → (prepared.new.length < min length (rest_of_table self.old.file.header.fields prepared.old.guest))
+            × CantGoBehind S.view prepared.new self.old self.new) }
         ensures longer { IsLongerMapping self.old.file.header.fields length prepared.old prepared.new }
-        ensures image_step { (start : Qcow2 S F) (out : List (Option Prepared)) (k : ℕ) → slice_get out k ≡ Some None → prepared.old.table ≡ Some table
-            → IsReadied S.view F.backing start self.old out k prepared.old.guest length overwrite prepared.old → GoesOn S.view F.backing start self.new out k length overwrite prepared.new result }
+        ensures image_step { (start : Qcow2 S F) (out : List (Option Prepared)) (k : ℕ) → slice_get out k ≡ Some None
+            → prepared.old.table ≡ Some table
+            → IsReadied S.view F.backing start self.old out k prepared.old.guest length overwrite prepared.old
+            → GoesOn S.view F.backing start self.new out k length overwrite prepared.new result }
         ensures former { OnOk result (ListsFormer self.old self.new) }
-        ensures uses { (start : Qcow2 S F) (out : List (Option Prepared)) (k : ℕ) → slice_get out k ≡ Some None → prepared.old.table ≡ Some table
-            → IsReadied S.view F.backing start self.old out k prepared.old.guest length overwrite prepared.old → OnOk result (StaysUsed S.view self.old.file self.new.file) }
+        ensures uses { (start : Qcow2 S F) (out : List (Option Prepared)) (k : ℕ) → slice_get out k ≡ Some None
+            → prepared.old.table ≡ Some table
+            → IsReadied S.view F.backing start self.old out k prepared.old.guest length overwrite prepared.old
+            → OnOk result (StaysUsed S.view self.old.file self.new.file) }
         ensures faults { CountsImageFaults S.view F.backing self.old self.new result }
     {
         let end = length.min(self.rest_of_table(prepared.guest));
@@ -95,16 +108,29 @@ impl<S: Storage, F: WrappedFormat<S>> Qcow2<S, F> {
         ensures notes { KeepsFileNotes S.view self.old.file self.new.file }
         ensures header_cluster { StaysBehindHeader S.view self.old self.new }
         ensures cause { IfErr result IsMet }
-        ensures met { (out : List (Option Prepared)) (k : ℕ) → slice_get out k ≡ Some (Some prepared.old) → MayGoOn self.old.file.header.fields length table prepared.old → ImageInvariant S.view F.backing (pending_in S.view F.backing self.old out) self.old out → IfErr result (IsMetAlone (IsCopiedCompressed self.old.file.header.fields (cover self.old.file.header.fields (known_in S.view self.old.file) ((prepared.old.guest + prepared.old.length) / cluster_size self.old.file.header.fields)) (prepared.old.guest + prepared.old.length) (length - prepared.old.length) overwrite) ⊥) }
-        ensures limit { (out : List (Option Prepared)) (k : ℕ) → slice_get out k ≡ Some (Some prepared.old) → MayGoOn self.old.file.header.fields length table prepared.old → ImageInvariant S.view F.backing (pending_in S.view F.backing self.old out) self.old out → IfErr result (λ e. e ≡ Limit → CantGoBehind S.view prepared.old self.old self.new) }
+        ensures met { (out : List (Option Prepared)) (k : ℕ) → slice_get out k ≡ Some (Some prepared.old)
+            → MayGoOn self.old.file.header.fields length table prepared.old
+            → ImageInvariant S.view F.backing (pending_in S.view F.backing self.old out) self.old out
+            → IfErr result (IsMetAlone (IsCopiedCompressed self.old.file.header.fields
+            (cover self.old.file.header.fields (known_in S.view self.old.file)
+            ((prepared.old.guest + prepared.old.length) / cluster_size self.old.file.header.fields))
+            (prepared.old.guest + prepared.old.length) (length - prepared.old.length) overwrite) ⊥) }
+        ensures limit { (out : List (Option Prepared)) (k : ℕ) → slice_get out k ≡ Some (Some prepared.old)
+            → MayGoOn self.old.file.header.fields length table prepared.old
+            → ImageInvariant S.view F.backing (pending_in S.view F.backing self.old out) self.old out
+            → IfErr result (λ e. e ≡ Limit → CantGoBehind S.view prepared.old self.old self.new) }
         ensures same { result ≢ Ok true → prepared.new ≡ prepared.old }
         ensures room { vec_capacity prepared.new.shares ≡ vec_capacity prepared.old.shares }
         ensures next { result ≡ Ok true → IsNext self.old.file.header.fields length prepared.old prepared.new }
-        ensures image_step { (out : List (Option Prepared)) (k : ℕ) → slice_get out k ≡ Some (Some prepared.old) → MayGoOn self.old.file.header.fields length table prepared.old
-            → ImageInvariant S.view F.backing (pending_in S.view F.backing self.old out) self.old out → GoesNext S.view F.backing self.old self.new out k length overwrite prepared.old prepared.new result }
+        ensures image_step { (out : List (Option Prepared)) (k : ℕ) → slice_get out k ≡ Some (Some prepared.old)
+            → MayGoOn self.old.file.header.fields length table prepared.old
+            → ImageInvariant S.view F.backing (pending_in S.view F.backing self.old out) self.old out
+            → GoesNext S.view F.backing self.old self.new out k length overwrite prepared.old prepared.new result }
         ensures former { OnOk result (ListsFormer self.old self.new) }
-        ensures uses { (out : List (Option Prepared)) (k : ℕ) → slice_get out k ≡ Some (Some prepared.old) → MayGoOn self.old.file.header.fields length table prepared.old
-            → ImageInvariant S.view F.backing (pending_in S.view F.backing self.old out) self.old out → OnOk result (StaysUsed S.view self.old.file self.new.file) }
+        ensures uses { (out : List (Option Prepared)) (k : ℕ) → slice_get out k ≡ Some (Some prepared.old)
+            → MayGoOn self.old.file.header.fields length table prepared.old
+            → ImageInvariant S.view F.backing (pending_in S.view F.backing self.old out) self.old out
+            → OnOk result (StaysUsed S.view self.old.file self.new.file) }
         ensures faults { CountsImageFaults S.view F.backing self.old self.new result }
     {
         let Some(share) = self.share_behind(prepared, table, length, overwrite)? else {
@@ -130,13 +156,26 @@ impl<S: Storage, F: WrappedFormat<S>> Qcow2<S, F> {
         ensures notes { KeepsFileNotes S.view self.old.file self.new.file }
         ensures header_cluster { StaysBehindHeader S.view self.old self.new }
         ensures cause { IfErr result IsMet }
-        ensures met { (out : List (Option Prepared)) (k : ℕ) → slice_get out k ≡ Some (Some prepared.now) → MayGoOn self.old.file.header.fields length table prepared.now → ImageInvariant S.view F.backing (pending_in S.view F.backing self.old out) self.old out → IfErr result (IsMetAlone (IsCopiedCompressed self.old.file.header.fields (cover self.old.file.header.fields (known_in S.view self.old.file) ((prepared.now.guest + prepared.now.length) / cluster_size self.old.file.header.fields)) (prepared.now.guest + prepared.now.length) (length - prepared.now.length) overwrite) ⊥) }
-        ensures limit { (out : List (Option Prepared)) (k : ℕ) → slice_get out k ≡ Some (Some prepared.now) → MayGoOn self.old.file.header.fields length table prepared.now → ImageInvariant S.view F.backing (pending_in S.view F.backing self.old out) self.old out → IfErr result (λ e. e ≡ Limit → CantGoBehind S.view prepared.now self.old self.new) }
-        ensures finds { (out : List (Option Prepared)) (k : ℕ) → slice_get out k ≡ Some (Some prepared.now) → MayGoOn self.old.file.header.fields length table prepared.now
-            → ImageInvariant S.view F.backing (pending_in S.view F.backing self.old out) self.old out → FindsBehind S.view F.backing self.old self.new out length overwrite prepared.now result }
+        ensures met { (out : List (Option Prepared)) (k : ℕ) → slice_get out k ≡ Some (Some prepared.now)
+            → MayGoOn self.old.file.header.fields length table prepared.now
+            → ImageInvariant S.view F.backing (pending_in S.view F.backing self.old out) self.old out
+            → IfErr result (IsMetAlone (IsCopiedCompressed self.old.file.header.fields
+            (cover self.old.file.header.fields (known_in S.view self.old.file)
+            ((prepared.now.guest + prepared.now.length) / cluster_size self.old.file.header.fields))
+            (prepared.now.guest + prepared.now.length) (length - prepared.now.length) overwrite) ⊥) }
+        ensures limit { (out : List (Option Prepared)) (k : ℕ) → slice_get out k ≡ Some (Some prepared.now)
+            → MayGoOn self.old.file.header.fields length table prepared.now
+            → ImageInvariant S.view F.backing (pending_in S.view F.backing self.old out) self.old out
+            → IfErr result (λ e. e ≡ Limit → CantGoBehind S.view prepared.now self.old self.new) }
+        ensures finds { (out : List (Option Prepared)) (k : ℕ) → slice_get out k ≡ Some (Some prepared.now)
+            → MayGoOn self.old.file.header.fields length table prepared.now
+            → ImageInvariant S.view F.backing (pending_in S.view F.backing self.old out) self.old out
+            → FindsBehind S.view F.backing self.old self.new out length overwrite prepared.now result }
         ensures former { OnOk result (ListsFormer self.old self.new) }
-        ensures uses { (out : List (Option Prepared)) (k : ℕ) → slice_get out k ≡ Some (Some prepared.now) → MayGoOn self.old.file.header.fields length table prepared.now
-            → ImageInvariant S.view F.backing (pending_in S.view F.backing self.old out) self.old out → OnOk result (StaysUsed S.view self.old.file self.new.file) }
+        ensures uses { (out : List (Option Prepared)) (k : ℕ) → slice_get out k ≡ Some (Some prepared.now)
+            → MayGoOn self.old.file.header.fields length table prepared.now
+            → ImageInvariant S.view F.backing (pending_in S.view F.backing self.old out) self.old out
+            → OnOk result (StaysUsed S.view self.old.file self.new.file) }
         ensures faults { CountsImageFaults S.view F.backing self.old self.new result }
     {
         let Some(next) = prepared.guest.checked_add(prepared.length) else {
@@ -175,12 +214,19 @@ impl<S: Storage, F: WrappedFormat<S>> Qcow2<S, F> {
         ensures notes { KeepsFileNotes S.view self.old.file self.new.file }
         ensures header_cluster { StaysBehindHeader S.view self.old self.new }
         ensures cause { IfErr result IsMet }
-        ensures met { (p : Pending) (out : List (Option Prepared)) → ImageInvariant S.view F.backing p self.old out → HoldsAll S.view F.backing p out → host % cluster_size self.old.file.header.fields ≡ 0 → IfErr result (IsMetAlone (IsCopiedCompressed self.old.file.header.fields old.now offset length overwrite) ⊥) }
-        ensures limit { (p : Pending) (out : List (Option Prepared)) → ImageInvariant S.view F.backing p self.old out → HoldsAll S.view F.backing p out → IfErr result (λ e. e ≡ Limit → CantTakeAt S.view host self.old self.new) }
-        ensures shares { (p : Pending) (out : List (Option Prepared)) → ImageInvariant S.view F.backing p self.old out → HoldsAll S.view F.backing p out
+        ensures met { (p : Pending) (out : List (Option Prepared)) → ImageInvariant S.view F.backing p self.old out
+            → HoldsAll S.view F.backing p out → host % cluster_size self.old.file.header.fields ≡ 0
+            → IfErr result (IsMetAlone (IsCopiedCompressed self.old.file.header.fields old.now offset length overwrite)
+            ⊥) }
+        ensures limit { (p : Pending) (out : List (Option Prepared)) → ImageInvariant S.view F.backing p self.old out
+            → HoldsAll S.view F.backing p out
+            → IfErr result (λ e. e ≡ Limit → CantTakeAt S.view host self.old self.new) }
+        ensures shares { (p : Pending) (out : List (Option Prepared)) → ImageInvariant S.view F.backing p self.old out
+            → HoldsAll S.view F.backing p out
             → SharesAt S.view F.backing p self.old self.new out offset length overwrite old.now host result }
         ensures former { OnOk result (ListsFormer self.old self.new) }
-        ensures uses { (p : Pending) (out : List (Option Prepared)) → ImageInvariant S.view F.backing p self.old out → HoldsAll S.view F.backing p out → OnOk result (StaysUsed S.view self.old.file self.new.file) }
+        ensures uses { (p : Pending) (out : List (Option Prepared)) → ImageInvariant S.view F.backing p self.old out
+            → HoldsAll S.view F.backing p out → OnOk result (StaysUsed S.view self.old.file self.new.file) }
         ensures faults { CountsImageFaults S.view F.backing self.old self.new result }
     {
         let bits = self.file.header.cluster_bits();
@@ -212,13 +258,20 @@ impl<S: Storage, F: WrappedFormat<S>> Qcow2<S, F> {
         ensures notes { KeepsFileNotes S.view self.old.file self.new.file }
         ensures header_cluster { StaysBehindHeader S.view self.old self.new }
         ensures cause { IfErr result IsMet }
-        ensures met { (p : Pending) (out : List (Option Prepared)) → ImageInvariant S.view F.backing p self.old out → HoldsAll S.view F.backing p out → IfErr result (IsMetAlone (IsCopiedCompressed self.old.file.header.fields old.now offset length overwrite) ⊥) }
-        ensures limit { (p : Pending) (out : List (Option Prepared)) → ImageInvariant S.view F.backing p self.old out → HoldsAll S.view F.backing p out → IfErr result (λ e. e ≡ Limit → CantTake S.view cluster self.old self.new) }
+        ensures met { (p : Pending) (out : List (Option Prepared)) → ImageInvariant S.view F.backing p self.old out
+            → HoldsAll S.view F.backing p out
+            → IfErr result (IsMetAlone (IsCopiedCompressed self.old.file.header.fields old.now offset length overwrite)
+            ⊥) }
+        ensures limit { (p : Pending) (out : List (Option Prepared)) → ImageInvariant S.view F.backing p self.old out
+            → HoldsAll S.view F.backing p out
+            → IfErr result (λ e. e ≡ Limit → CantTake S.view cluster self.old self.new) }
         ensures nameable { IfOk result (λ run. IsSome run → IsHostCluster self.old.file.header.fields.cluster_bits cluster) }
-        ensures gains { (p : Pending) (out : List (Option Prepared)) → ImageInvariant S.view F.backing p self.old out → HoldsAll S.view F.backing p out
+        ensures gains { (p : Pending) (out : List (Option Prepared)) → ImageInvariant S.view F.backing p self.old out
+            → HoldsAll S.view F.backing p out
             → GainsAt S.view F.backing p self.old self.new out offset length overwrite old.now cluster result }
         ensures former { OnOk result (ListsFormer self.old self.new) }
-        ensures uses { (p : Pending) (out : List (Option Prepared)) → ImageInvariant S.view F.backing p self.old out → HoldsAll S.view F.backing p out → OnOk result (StaysUsed S.view self.old.file self.new.file) }
+        ensures uses { (p : Pending) (out : List (Option Prepared)) → ImageInvariant S.view F.backing p self.old out
+            → HoldsAll S.view F.backing p out → OnOk result (StaysUsed S.view self.old.file self.new.file) }
         ensures faults { CountsImageFaults S.view F.backing self.old self.new result }
     {
         let Some(pending) = self.take_data_at(cluster)? else {
@@ -241,14 +294,17 @@ impl<S: Storage, F: WrappedFormat<S>> Qcow2<S, F> {
         ensures notes { KeepsFileNotes S.view self.old.file self.new.file }
         ensures header_cluster { StaysBehindHeader S.view self.old self.new }
         ensures cause { IfErr result IsMet }
-        ensures fault { (p : Pending) (out : List (Option Prepared)) → ImageInvariant S.view F.backing p self.old out → IfErr result IsFaultOrLimit }
-        ensures limit { (p : Pending) (out : List (Option Prepared)) → ImageInvariant S.view F.backing p self.old out → IfErr result (λ e. e ≡ Limit → CantTake S.view cluster self.old self.new) }
+        ensures fault { (p : Pending) (out : List (Option Prepared)) → ImageInvariant S.view F.backing p self.old out
+            → IfErr result IsFaultOrLimit }
+        ensures limit { (p : Pending) (out : List (Option Prepared)) → ImageInvariant S.view F.backing p self.old out
+            → IfErr result (λ e. e ≡ Limit → CantTake S.view cluster self.old self.new) }
         ensures nameable { IfOk result (λ run. IsSome run → IsHostCluster self.old.file.header.fields.cluster_bits cluster) }
         ensures list { ListGrows self.old self.new }
-        ensures takes { (p : Pending) (out : List (Option Prepared)) → ImageInvariant S.view F.backing p self.old out → HoldsAll S.view F.backing p out
-            → TakesDataAt S.view F.backing p self.old self.new out cluster result }
+        ensures takes { (p : Pending) (out : List (Option Prepared)) → ImageInvariant S.view F.backing p self.old out
+            → HoldsAll S.view F.backing p out → TakesDataAt S.view F.backing p self.old self.new out cluster result }
         ensures former { ListsFormer self.old self.new }
-        ensures uses { (p : Pending) (out : List (Option Prepared)) → ImageInvariant S.view F.backing p self.old out → HoldsAll S.view F.backing p out → OnOk result (StaysUsed S.view self.old.file self.new.file) }
+        ensures uses { (p : Pending) (out : List (Option Prepared)) → ImageInvariant S.view F.backing p self.old out
+            → HoldsAll S.view F.backing p out → OnOk result (StaysUsed S.view self.old.file self.new.file) }
         ensures faults { CountsImageFaults S.view F.backing self.old self.new result }
     {
         let Some(allocator) = &mut self.allocator else {

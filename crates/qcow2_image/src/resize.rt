@@ -23,8 +23,11 @@ impl<S: Storage, F: WrappedFormat<S>> Qcow2<S, F> {
         ensures grows { (abstract_of S.view F.backing self.old []).is_sound → GrowsDisk S.view F.backing self.old self.new size result }
         ensures surplus { (abstract_of S.view F.backing self.old []).is_sound → OnOk result (KeepsSurplus S.view F.backing self.old self.new) }
         ensures cause { is_failed self.old ≡ false → IsTrue (is_writable self.old) → IfErr result IsMet }
-        ensures fault { is_failed self.old ≡ false → IsTrue (is_writable self.old) → (abstract_of S.view F.backing self.old []).is_sound → IfErr result IsFaultOrLimit }
-        ensures limit { (abstract_of S.view F.backing self.old []).is_sound → IfErr result (λ e. e ≡ Limit → LacksTableReaching S.view (size - 1) self.old self.new × LosesNone S.view F.backing self.old self.new) }
+        ensures fault { is_failed self.old ≡ false → IsTrue (is_writable self.old)
+            → (abstract_of S.view F.backing self.old []).is_sound → IfErr result IsFaultOrLimit }
+        ensures limit { (abstract_of S.view F.backing self.old []).is_sound
+            → IfErr result (λ e. e ≡ Limit → LacksTableReaching S.view (size - 1) self.old self.new
+            × LosesNone S.view F.backing self.old self.new) }
         ensures marks { MarksFailed self.old self.new result }
         ensures faults { CountsImageFaults S.view F.backing self.old self.new result }
     {
@@ -41,14 +44,18 @@ impl<S: Storage, F: WrappedFormat<S>> Qcow2<S, F> {
 
     fn grow_to(&mut self, size: u64) -> Result<(), ImageError>
         requires { 0 < size }
-        ensures resizes { (p : Pending) → ImageInvariant S.view F.backing p self.old [] → Resizes S.view F.backing p self.old self.new size result }
+        ensures resizes { (p : Pending) → ImageInvariant S.view F.backing p self.old []
+            → Resizes S.view F.backing p self.old self.new size result }
         ensures list { OnOk result (ListGrows self.old self.new) }
         ensures reaches { (p : Pending) → ImageInvariant S.view F.backing p self.old [] → OnOk result (ReachesSize self.new.file.header.fields) }
-        ensures length { (p : Pending) → ImageInvariant S.view F.backing p self.old [] → OnOk result (ReachesOffset (size - 1) self.old.file.header.fields self.new.file.header.fields) }
+        ensures length { (p : Pending) → ImageInvariant S.view F.backing p self.old []
+            → OnOk result (ReachesOffset (size - 1) self.old.file.header.fields self.new.file.header.fields) }
         ensures cause { IsTrue (is_writable self.old) → IfErr result IsMet }
-        ensures fault { IsTrue (is_writable self.old) → (p : Pending) → ImageInvariant S.view F.backing p self.old [] → IfErr result IsFaultOrLimit }
+        ensures fault { IsTrue (is_writable self.old) → (p : Pending) → ImageInvariant S.view F.backing p self.old []
+            → IfErr result IsFaultOrLimit }
         ensures limit { (p : Pending) → ImageInvariant S.view F.backing p self.old []
-            → IfErr result (λ e. e ≡ Limit → LacksTableReaching S.view (size - 1) self.old self.new × UnseenStep S.view F.backing p (pending_with_listed p self.old self.new) self.old self.new []) }
+            → IfErr result (λ e. e ≡ Limit → LacksTableReaching S.view (size - 1) self.old self.new
+            × UnseenStep S.view F.backing p (pending_with_listed p self.old self.new) self.old self.new []) }
         ensures failed { is_failed self.new ≡ is_failed self.old }
         ensures writable { is_writable self.new ≡ is_writable self.old }
         ensures faults { CountsImageFaults S.view F.backing self.old self.new result }

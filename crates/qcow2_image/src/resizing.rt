@@ -42,16 +42,23 @@ impl<S: Storage, F: WrappedFormat<S>> Qcow2<S, F> {
     /// is prepared that isn't existing. Where the work meets them: 14 (memory), 15 (storage).
     pub fn resize_shrink(&mut self, size: u64) -> Result<u64, ImageError>
         ensures early { IfSome (refuses_to_resize self.old) (λ e. (result ≡ Err e) × (self.new ≡ self.old)) }
-        ensures no_smaller { refuses_to_resize self.old ≡ None → size_of self.old ≤ size → (result ≡ Ok (size_of self.old)) × (self.new ≡ self.old) }
-        ensures prepared { refuses_to_resize self.old ≡ None → size < size_of self.old → (out : List (Option Prepared)) → (abstract_of S.view F.backing self.old out).is_sound → HasPrepared out → (result ≡ Err MappingPrepared) × (self.new ≡ self.old) }
-        ensures pinned { refuses_to_resize self.old ≡ None → size < size_of self.old → (result ≡ Err MappingPrepared) ↔ HasPinnedTable self.old }
+        ensures no_smaller { refuses_to_resize self.old ≡ None → size_of self.old ≤ size
+            → (result ≡ Ok (size_of self.old)) × (self.new ≡ self.old) }
+        ensures prepared { refuses_to_resize self.old ≡ None → size < size_of self.old → (out : List (Option Prepared))
+            → (abstract_of S.view F.backing self.old out).is_sound → HasPrepared out → (result ≡ Err MappingPrepared)
+            × (self.new ≡ self.old) }
+        ensures pinned { refuses_to_resize self.old ≡ None → size < size_of self.old
+            → (result ≡ Err MappingPrepared) ↔ HasPinnedTable self.old }
         ensures late { refuses_to_resize self.old ≡ None → IfErr result (IsMetShrinking S.view F.backing self.old self.new) }
         ensures marks { MarksFailed self.old self.new result }
         ensures image { size < size_of self.old → IsResized (size_after result (size_of self.old) size) self.old self.new }
         ensures sees { Shrinks S.view F.backing self.old self.new size result }
-        ensures covers { (out : List (Option Prepared)) → (abstract_of S.view F.backing self.old out).is_sound → IfOk result (λ answer. UncoversClusters S.view size answer self.old self.new) }
-        ensures stops { (out : List (Option Prepared)) → (abstract_of S.view F.backing self.old out).is_sound → IfOk result (EndsTail S.view F.backing out self.old self.new size) }
-        ensures last { (out : List (Option Prepared)) → (abstract_of S.view F.backing self.old out).is_sound → WritesSizeLast S.view F.backing self.old self.new }
+        ensures covers { (out : List (Option Prepared)) → (abstract_of S.view F.backing self.old out).is_sound
+            → IfOk result (λ answer. UncoversClusters S.view size answer self.old self.new) }
+        ensures stops { (out : List (Option Prepared)) → (abstract_of S.view F.backing self.old out).is_sound
+            → IfOk result (EndsTail S.view F.backing out self.old self.new size) }
+        ensures last { (out : List (Option Prepared)) → (abstract_of S.view F.backing self.old out).is_sound
+            → WritesSizeLast S.view F.backing self.old self.new }
         ensures once_written { FailsOnceWritten S.view self.old self.new result }
         ensures header_cluster { StaysBehindHeader S.view self.old self.new }
         ensures faults { CountsImageFaults S.view F.backing self.old self.new result }
@@ -85,10 +92,13 @@ impl<S: Storage, F: WrappedFormat<S>> Qcow2<S, F> {
         ensures marks { MarksFailed self.old self.new result }
         ensures image { IsResized (size_after result (size_of self.old) size) self.old self.new }
         ensures sees { Shrinks S.view F.backing self.old self.new size result }
-        ensures covers { (out : List (Option Prepared)) → (abstract_of S.view F.backing self.old out).is_sound → IfOk result (λ answer. UncoversClusters S.view size answer self.old self.new) }
-        ensures stops { refuses_to_resize self.old ≡ None → (out : List (Option Prepared)) → (abstract_of S.view F.backing self.old out).is_sound → (HasPrepared out → ⊥)
+        ensures covers { (out : List (Option Prepared)) → (abstract_of S.view F.backing self.old out).is_sound
+            → IfOk result (λ answer. UncoversClusters S.view size answer self.old self.new) }
+        ensures stops { refuses_to_resize self.old ≡ None → (out : List (Option Prepared))
+            → (abstract_of S.view F.backing self.old out).is_sound → (HasPrepared out → ⊥)
             → IfOk result (EndsTail S.view F.backing out self.old self.new size) }
-        ensures last { (out : List (Option Prepared)) → (abstract_of S.view F.backing self.old out).is_sound → WritesSizeLast S.view F.backing self.old self.new }
+        ensures last { (out : List (Option Prepared)) → (abstract_of S.view F.backing self.old out).is_sound
+            → WritesSizeLast S.view F.backing self.old self.new }
         ensures once_written { FailsOnceWritten S.view self.old self.new result }
         ensures header_cluster { StaysBehindHeader S.view self.old self.new }
         ensures faults { CountsImageFaults S.view F.backing self.old self.new result }
@@ -113,14 +123,23 @@ impl<S: Storage, F: WrappedFormat<S>> Qcow2<S, F> {
         ensures image { IsSameImage self.old self.new }
         ensures cause { IfSome result.1 IsFault }
         ensures marks { MatchOption result.1 (is_failed self.new ≡ is_failed self.old) (MarksRefused self.old self.new) }
-        ensures uncovers { (out : List (Option Prepared)) → ImageInvariant S.view F.backing (pending_in S.view F.backing self.old out) self.old out → UncoversTail S.view F.backing self.old self.new size result.0 result.1 out }
-        ensures stops { refuses_to_resize self.old ≡ None → (out : List (Option Prepared)) → (abstract_of S.view F.backing self.old out).is_sound → (HasPrepared out → ⊥)
-            → result.1 ≡ None → result.0 < size_of self.old → CantUncover S.view (size_of self.old) self.new result.0 }
-        ensures emptied { IsTrue (is_writable self.old) → (out : List (Option Prepared)) → ImageInvariant S.view F.backing (pending_in S.view F.backing self.old out) self.old out → result.1 ≡ None → boundary_in self.old size < size_of self.old → HasNothingToFree self.new }
+        ensures uncovers { (out : List (Option Prepared))
+            → ImageInvariant S.view F.backing (pending_in S.view F.backing self.old out) self.old out
+            → UncoversTail S.view F.backing self.old self.new size result.0 result.1 out }
+        ensures stops { refuses_to_resize self.old ≡ None → (out : List (Option Prepared))
+            → (abstract_of S.view F.backing self.old out).is_sound → (HasPrepared out → ⊥) → result.1 ≡ None
+            → result.0 < size_of self.old → CantUncover S.view (size_of self.old) self.new result.0 }
+        ensures emptied { IsTrue (is_writable self.old) → (out : List (Option Prepared))
+            → ImageInvariant S.view F.backing (pending_in S.view F.backing self.old out) self.old out → result.1 ≡ None
+            → boundary_in self.old size < size_of self.old → HasNothingToFree self.new }
         ensures since { NotesChanges S.view self.old self.new }
-        ensures changed { (out : List (Option Prepared)) → ImageInvariant S.view F.backing (pending_in S.view F.backing self.old out) self.old out → boundary_in self.old size < result.0 → ChangesRose self.old self.new }
+        ensures changed { (out : List (Option Prepared))
+            → ImageInvariant S.view F.backing (pending_in S.view F.backing self.old out) self.old out
+            → boundary_in self.old size < result.0 → ChangesRose self.old self.new }
         ensures header_cluster { StaysBehindHeader S.view self.old self.new }
-        ensures faults { NoFewerFaults S.view F.backing self.old self.new × IfSome result.1 (TellsFault S.view F.backing self.old self.new) × TellsEachIn S.view F.backing self.old self.new result.1 }
+        ensures faults { NoFewerFaults S.view F.backing self.old self.new
+            × IfSome result.1 (TellsFault S.view F.backing self.old self.new)
+            × TellsEachIn S.view F.backing self.old self.new result.1 }
     {
         self.begin();
         let end = self.file.header.size();
@@ -147,11 +166,16 @@ impl<S: Storage, F: WrappedFormat<S>> Qcow2<S, F> {
         ensures image { IsSameImage self.old self.new }
         ensures marks { MarksFailed self.old self.new result }
         ensures uncovers { UncoversNext S.view F.backing self.old self.new at result }
-        ensures stops { refuses_to_resize self.old ≡ None → (out : List (Option Prepared)) → (abstract_of S.view F.backing self.old out).is_sound → (HasPrepared out → ⊥)
+        ensures stops { refuses_to_resize self.old ≡ None → (out : List (Option Prepared))
+            → (abstract_of S.view F.backing self.old out).is_sound → (HasPrepared out → ⊥)
             → IfErr result (IsFaultOrCantUncover S.view (size_of self.old) self.new at) }
-        ensures emptied { IsTrue (is_writable self.old) → (out : List (Option Prepared)) → ImageInvariant S.view F.backing (pending_in S.view F.backing self.old out) self.old out → FreesTurn self.old self.new at result }
+        ensures emptied { IsTrue (is_writable self.old) → (out : List (Option Prepared))
+            → ImageInvariant S.view F.backing (pending_in S.view F.backing self.old out) self.old out
+            → FreesTurn self.old self.new at result }
         ensures since { NotesPart S.view self.old self.new }
-        ensures changed { (out : List (Option Prepared)) → ImageInvariant S.view F.backing (pending_in S.view F.backing self.old out) self.old out → IfOk result (λ next. boundary_in self.old at < next → ChangesRose self.old self.new) }
+        ensures changed { (out : List (Option Prepared))
+            → ImageInvariant S.view F.backing (pending_in S.view F.backing self.old out) self.old out
+            → IfOk result (λ next. boundary_in self.old at < next → ChangesRose self.old self.new) }
         ensures header_cluster { StaysBehindHeader S.view self.old self.new }
         ensures faults { CountsImageFaults S.view F.backing self.old self.new result }
     {
@@ -174,11 +198,17 @@ impl<S: Storage, F: WrappedFormat<S>> Qcow2<S, F> {
         ensures image { IsSameImage self.old self.new }
         ensures marks { MarksFailed self.old self.new result }
         ensures uncovers { UncoversNext S.view F.backing self.old self.new at result }
-        ensures stops { refuses_to_resize self.old ≡ None → (out : List (Option Prepared)) → (abstract_of S.view F.backing self.old out).is_sound → (HasPrepared out → ⊥)
+        ensures stops { refuses_to_resize self.old ≡ None → (out : List (Option Prepared))
+            → (abstract_of S.view F.backing self.old out).is_sound → (HasPrepared out → ⊥)
             → IfErr result (IsFaultOrCantUncover S.view (size_of self.old) self.new at) }
-        ensures emptied { (out : List (Option Prepared)) → ImageInvariant S.view F.backing (pending_in S.view F.backing self.old out) self.old out → OnOk result ((boundary_in self.old at < size_of self.old) ⊎ HasNothingToFree self.old → HasNothingToFree self.new) }
+        ensures emptied { (out : List (Option Prepared))
+            → ImageInvariant S.view F.backing (pending_in S.view F.backing self.old out) self.old out
+            → OnOk result ((boundary_in self.old at < size_of self.old) ⊎ HasNothingToFree self.old
+            → HasNothingToFree self.new) }
         ensures since { NotesPart S.view self.old self.new }
-        ensures changed { (out : List (Option Prepared)) → ImageInvariant S.view F.backing (pending_in S.view F.backing self.old out) self.old out → IfOk result (λ next. boundary_in self.old at < next → ChangesRose self.old self.new) }
+        ensures changed { (out : List (Option Prepared))
+            → ImageInvariant S.view F.backing (pending_in S.view F.backing self.old out) self.old out
+            → IfOk result (λ next. boundary_in self.old at < next → ChangesRose self.old self.new) }
         ensures header_cluster { StaysBehindHeader S.view self.old self.new }
         ensures faults { CountsImageFaults S.view F.backing self.old self.new result }
     {
@@ -202,17 +232,29 @@ impl<S: Storage, F: WrappedFormat<S>> Qcow2<S, F> {
     pub fn resize_grow(&mut self, size: u64, mode: PreallocateMode) -> Result<(), ImageError>
         ensures early { IfSome (refuses_to_resize self.old) (λ e. (result ≡ Err e) × (self.new ≡ self.old)) }
         ensures no_larger { refuses_to_resize self.old ≡ None → size ≤ size_of self.old → (result ≡ Ok tt) × (self.new ≡ self.old) }
-        ensures preallocation { refuses_to_resize self.old ≡ None → size_of self.old < size → IsTrue (takes_over self.old mode) → (result ≡ Err Preallocation) × (self.new ≡ self.old) }
-        ensures late { refuses_to_resize self.old ≡ None → IfErr result (λ e. IsMetPreparing e ⊎ ((e ≡ Preallocation) × IsTrue (takes_over self.old mode))) }
-        ensures met { refuses_to_resize self.old ≡ None → size_of self.old < size → (out : List (Option Prepared)) → (abstract_of S.view F.backing self.old out).is_sound → IfErr result (λ e. IsMetGrowing out mode (size_of self.old) (rounded_up (cluster_size self.old.file.header.fields) size) self.old.file.header.fields (known_in S.view self.old.file) e ⊎ ((e ≡ Preallocation) × IsTrue (takes_over self.old mode))) }
-        ensures limit { refuses_to_resize self.old ≡ None → size_of self.old < size → (out : List (Option Prepared)) → (abstract_of S.view F.backing self.old out).is_sound
+        ensures preallocation { refuses_to_resize self.old ≡ None → size_of self.old < size
+            → IsTrue (takes_over self.old mode) → (result ≡ Err Preallocation) × (self.new ≡ self.old) }
+        ensures late { refuses_to_resize self.old ≡ None
+            → IfErr result (λ e. IsMetPreparing e ⊎ ((e ≡ Preallocation) × IsTrue (takes_over self.old mode))) }
+        ensures met { refuses_to_resize self.old ≡ None → size_of self.old < size → (out : List (Option Prepared))
+            → (abstract_of S.view F.backing self.old out).is_sound
+            → IfErr result (λ e. IsMetGrowing out mode (size_of self.old)
+            (rounded_up (cluster_size self.old.file.header.fields) size) self.old.file.header.fields
+            (known_in S.view self.old.file) e ⊎ ((e ≡ Preallocation) × IsTrue (takes_over self.old mode))) }
+        ensures limit { refuses_to_resize self.old ≡ None → size_of self.old < size → (out : List (Option Prepared))
+            → (abstract_of S.view F.backing self.old out).is_sound
             → IfErr result (λ e. e ≡ Limit → CantGrowDisk S.view F.backing mode size self.old self.new out) }
         ensures marks { MarksFailed self.old self.new result }
         ensures image { size_of self.old < size → IsResized (size_after result (size_of self.old) size) self.old self.new }
         ensures sees { GrowsTo S.view F.backing self.old self.new size mode result }
-        ensures last { (out : List (Option Prepared)) → (abstract_of S.view F.backing self.old out).is_sound → WritesSizeLast S.view F.backing self.old self.new }
-        ensures tables { refuses_to_resize self.old ≡ None → size_of self.old < size → (out : List (Option Prepared)) → (abstract_of S.view F.backing self.old out).is_sound → GrowsTables S.view F.backing self.old self.new size mode out result }
-        ensures freed { refuses_to_resize self.old ≡ None → size_of self.old < size → ¬ IsTrue (takes_over self.old mode) → (out : List (Option Prepared)) → (abstract_of S.view F.backing self.old out).is_sound → IfErr result (FreesRefused self.new) }
+        ensures last { (out : List (Option Prepared)) → (abstract_of S.view F.backing self.old out).is_sound
+            → WritesSizeLast S.view F.backing self.old self.new }
+        ensures tables { refuses_to_resize self.old ≡ None → size_of self.old < size → (out : List (Option Prepared))
+            → (abstract_of S.view F.backing self.old out).is_sound
+            → GrowsTables S.view F.backing self.old self.new size mode out result }
+        ensures freed { refuses_to_resize self.old ≡ None → size_of self.old < size
+            → ¬ IsTrue (takes_over self.old mode) → (out : List (Option Prepared))
+            → (abstract_of S.view F.backing self.old out).is_sound → IfErr result (FreesRefused self.new) }
         ensures once_written { FailsOnceWritten S.view self.old self.new result }
         ensures header_cluster { StaysBehindHeader S.view self.old self.new }
         ensures faults { CountsImageFaults S.view F.backing self.old self.new result }
@@ -245,14 +287,21 @@ impl<S: Storage, F: WrappedFormat<S>> Qcow2<S, F> {
         requires writable { IsTrue (is_writable self.old) }
         requires larger { size_of self.old < size }
         ensures cause { IfErr result IsMetPreparing }
-        ensures met { (out : List (Option Prepared)) → (abstract_of S.view F.backing self.old out).is_sound → IfErr result (IsMetGrowing out mode (size_of self.old) (rounded_up (cluster_size self.old.file.header.fields) size) self.old.file.header.fields (known_in S.view self.old.file)) }
-        ensures limit { (out : List (Option Prepared)) → (abstract_of S.view F.backing self.old out).is_sound → IfErr result (λ e. e ≡ Limit → CantGrowDisk S.view F.backing mode size self.old self.new out) }
+        ensures met { (out : List (Option Prepared)) → (abstract_of S.view F.backing self.old out).is_sound
+            → IfErr result (IsMetGrowing out mode (size_of self.old)
+            (rounded_up (cluster_size self.old.file.header.fields) size) self.old.file.header.fields
+            (known_in S.view self.old.file)) }
+        ensures limit { (out : List (Option Prepared)) → (abstract_of S.view F.backing self.old out).is_sound
+            → IfErr result (λ e. e ≡ Limit → CantGrowDisk S.view F.backing mode size self.old self.new out) }
         ensures marks { MarksFailed self.old self.new result }
         ensures image { IsResized (size_after result (size_of self.old) size) self.old self.new }
         ensures sees { GrowsTo S.view F.backing self.old self.new size mode result }
-        ensures last { (out : List (Option Prepared)) → (abstract_of S.view F.backing self.old out).is_sound → WritesSizeLast S.view F.backing self.old self.new }
-        ensures tables { (out : List (Option Prepared)) → (abstract_of S.view F.backing self.old out).is_sound → GrowsTables S.view F.backing self.old self.new size mode out result }
-        ensures freed { (out : List (Option Prepared)) → (abstract_of S.view F.backing self.old out).is_sound → IfErr result (FreesRefused self.new) }
+        ensures last { (out : List (Option Prepared)) → (abstract_of S.view F.backing self.old out).is_sound
+            → WritesSizeLast S.view F.backing self.old self.new }
+        ensures tables { (out : List (Option Prepared)) → (abstract_of S.view F.backing self.old out).is_sound
+            → GrowsTables S.view F.backing self.old self.new size mode out result }
+        ensures freed { (out : List (Option Prepared)) → (abstract_of S.view F.backing self.old out).is_sound
+            → IfErr result (FreesRefused self.new) }
         ensures once_written { FailsOnceWritten S.view self.old self.new result }
         ensures header_cluster { StaysBehindHeader S.view self.old self.new }
         ensures faults { CountsImageFaults S.view F.backing self.old self.new result }
@@ -290,14 +339,24 @@ impl<S: Storage, F: WrappedFormat<S>> Qcow2<S, F> {
         ensures noted { OnOk result (IsTrue self.new.file.caches.is_changed) }
         ensures header_cluster { StaysBehindHeader S.view self.old self.new }
         ensures cause { IfErr result IsMet }
-        ensures placed { self.old.l1_table.cluster_bits ≡ self.old.file.header.fields.cluster_bits → OnOk result (IsPlacedNear self.new.l1_table) }
-        ensures limit { (out : List (Option Prepared)) → ImageInvariant S.view F.backing (pending_in S.view F.backing self.old out) self.old out → IfErr result (λ e. e ≡ Limit → LacksTableReaching S.view offset self.old self.new) }
-        ensures fault { (out : List (Option Prepared)) → ImageInvariant S.view F.backing (pending_in S.view F.backing self.old out) self.old out → IfErr result IsFaultOrLimit }
-        ensures length { OnOk result (entry_count self.new.l1_table ≡ max (entry_count self.old.l1_table) (l1_index_of self.old.file.header.fields offset + 1)) }
+        ensures placed { self.old.l1_table.cluster_bits ≡ self.old.file.header.fields.cluster_bits
+            → OnOk result (IsPlacedNear self.new.l1_table) }
+        ensures limit { (out : List (Option Prepared))
+            → ImageInvariant S.view F.backing (pending_in S.view F.backing self.old out) self.old out
+            → IfErr result (λ e. e ≡ Limit → LacksTableReaching S.view offset self.old self.new) }
+        ensures fault { (out : List (Option Prepared))
+            → ImageInvariant S.view F.backing (pending_in S.view F.backing self.old out) self.old out
+            → IfErr result IsFaultOrLimit }
+        ensures length { OnOk result (entry_count self.new.l1_table ≡ max (entry_count self.old.l1_table)
+            (l1_index_of self.old.file.header.fields offset + 1)) }
         ensures kept { OnOk result ((i : ℕ) → entry_at self.new.l1_table.bytes i ≡ entry_at self.old.l1_table.bytes i) }
         ensures emptied { OnOk result (HasNothingToFree self.new) }
-        ensures makes { (out : List (Option Prepared)) → ImageInvariant S.view F.backing (pending_in S.view F.backing self.old out) self.old out → MakesEntry S.view F.backing self.old self.new out result }
-        ensures freed { (out : List (Option Prepared)) → ImageInvariant S.view F.backing (pending_in S.view F.backing self.old out) self.old out → IfErr result (FreesRefused self.new) }
+        ensures makes { (out : List (Option Prepared))
+            → ImageInvariant S.view F.backing (pending_in S.view F.backing self.old out) self.old out
+            → MakesEntry S.view F.backing self.old self.new out result }
+        ensures freed { (out : List (Option Prepared))
+            → ImageInvariant S.view F.backing (pending_in S.view F.backing self.old out) self.old out
+            → IfErr result (FreesRefused self.new) }
         ensures faults { CountsImageFaults S.view F.backing self.old self.new result }
     {
         match self.lengthen_l1_table(offset) {
@@ -315,13 +374,21 @@ impl<S: Storage, F: WrappedFormat<S>> Qcow2<S, F> {
         ensures noted { OnOk result (IsTrue self.new.file.caches.is_changed) }
         ensures header_cluster { StaysBehindHeader S.view self.old self.new }
         ensures cause { IfErr result IsMet }
-        ensures placed { self.old.l1_table.cluster_bits ≡ self.old.file.header.fields.cluster_bits → OnOk result (IsPlacedNear self.new.l1_table) }
-        ensures limit { (out : List (Option Prepared)) → ImageInvariant S.view F.backing (pending_in S.view F.backing self.old out) self.old out → IfErr result (λ e. e ≡ Limit → LacksTableReaching S.view offset self.old self.new) }
-        ensures fault { (out : List (Option Prepared)) → ImageInvariant S.view F.backing (pending_in S.view F.backing self.old out) self.old out → IfErr result IsFaultOrLimit }
-        ensures length { OnOk result (entry_count self.new.l1_table ≡ max (entry_count self.old.l1_table) (l1_index_of self.old.file.header.fields offset + 1)) }
+        ensures placed { self.old.l1_table.cluster_bits ≡ self.old.file.header.fields.cluster_bits
+            → OnOk result (IsPlacedNear self.new.l1_table) }
+        ensures limit { (out : List (Option Prepared))
+            → ImageInvariant S.view F.backing (pending_in S.view F.backing self.old out) self.old out
+            → IfErr result (λ e. e ≡ Limit → LacksTableReaching S.view offset self.old self.new) }
+        ensures fault { (out : List (Option Prepared))
+            → ImageInvariant S.view F.backing (pending_in S.view F.backing self.old out) self.old out
+            → IfErr result IsFaultOrLimit }
+        ensures length { OnOk result (entry_count self.new.l1_table ≡ max (entry_count self.old.l1_table)
+            (l1_index_of self.old.file.header.fields offset + 1)) }
         ensures kept { OnOk result ((i : ℕ) → entry_at self.new.l1_table.bytes i ≡ entry_at self.old.l1_table.bytes i) }
         ensures emptied { OnOk result (HasNothingToFree self.new) }
-        ensures makes { (out : List (Option Prepared)) → ImageInvariant S.view F.backing (pending_in S.view F.backing self.old out) self.old out → MakesEntry S.view F.backing self.old self.new out result }
+        ensures makes { (out : List (Option Prepared))
+            → ImageInvariant S.view F.backing (pending_in S.view F.backing self.old out) self.old out
+            → MakesEntry S.view F.backing self.old self.new out result }
         ensures faults { CountsImageFaults S.view F.backing self.old self.new result }
     {
         let index = GuestOffset::new(offset).l1_index(self.file.header.cluster_bits());
@@ -346,12 +413,22 @@ impl<S: Storage, F: WrappedFormat<S>> Qcow2<S, F> {
     // Writes the size, as the last write of a call. Refused, the size in memory is the old one again.
     pub(crate) fn write_size(&mut self, size: u64) -> Result<(), ImageError>
         ensures cause { IfErr result IsFault }
-        ensures rest { self.new ≡ record self.old { file = record self.old.file { storage = self.new.file.storage; header = self.new.file.header } } }
+        ensures rest { self.new ≡ record self.old {
+          file = record self.old.file {
+            storage = self.new.file.storage;
+            header = self.new.file.header;
+          };
+        } }
         ensures header { OnOk result (self.new.file.header ≡ with_fields self.old.file.header (with_size self.old.file.header.fields size)) }
         ensures restored { OnErr result (self.new.file.header ≡ self.old.file.header) }
-        ensures time { (view_in S.view self.old.file).is_honest → EachMomentSince (view_in S.view self.old.file) (view_in S.view self.new.file) (IsLeftBy (view_in S.view self.new.file)) }
-        ensures writes { (out : List (Option Prepared)) → ImageInvariant S.view F.backing (pending_in S.view F.backing self.old out) self.old out → WritesSize S.view F.backing self.old self.new out size result }
-        ensures resizes { (p : Pending) → ImageInvariant S.view F.backing p self.old [] → Resizes S.view F.backing p self.old self.new size result }
+        ensures time { (view_in S.view self.old.file).is_honest
+            → EachMomentSince (view_in S.view self.old.file) (view_in S.view self.new.file)
+            (IsLeftBy (view_in S.view self.new.file)) }
+        ensures writes { (out : List (Option Prepared))
+            → ImageInvariant S.view F.backing (pending_in S.view F.backing self.old out) self.old out
+            → WritesSize S.view F.backing self.old self.new out size result }
+        ensures resizes { (p : Pending) → ImageInvariant S.view F.backing p self.old []
+            → Resizes S.view F.backing p self.old self.new size result }
         ensures notes { KeepsFileNotes S.view self.old.file self.new.file }
         ensures header_cluster { StaysBehindHeader S.view self.old self.new }
         ensures faults { CountsImageFaults S.view F.backing self.old self.new result }

@@ -139,12 +139,16 @@ impl EntryTable {
         requires limit { greatest ≤ 4194304 }
         ensures table { IfOk result (λ t. t ≡ record { cluster = Some cluster; bytes = t.bytes; cluster_bits = cluster_bits }) }
         ensures length { IfOk result (λ t. length t.bytes ≡ 8 * entries) }
-        ensures bytes { (S.view storage.old).is_honest → IfOk result (λ t. t.bytes ≡ bytes_at (S.view storage.old).contents (cluster * 2 ^ cluster_bits) (8 * entries)) }
+        ensures bytes { (S.view storage.old).is_honest
+            → IfOk result (λ t. t.bytes ≡ bytes_at (S.view storage.old).contents (cluster * 2 ^ cluster_bits)
+            (8 * entries)) }
         ensures few { IfOk result (IsEntryTable greatest) }
         ensures reads { IfOk result (λ t. EachReads (IsClear reserved) t.bytes) }
         ensures limit { PassesLimit greatest cluster_bits 0 cluster entries → result ≡ Err MetadataError.Limit }
         ensures err { IfErr result (IsReasonNotToLoad (PassesLimit greatest cluster_bits 0 cluster entries)
-            ((S.view storage.old).is_honest → SomeUnread (IsClear reserved) (bytes_at (S.view storage.old).contents (cluster * 2 ^ cluster_bits) (8 * entries)))) }
+            ((S.view storage.old).is_honest
+            → SomeUnread (IsClear reserved)
+            (bytes_at (S.view storage.old).contents (cluster * 2 ^ cluster_bits) (8 * entries)))) }
         ensures same { ContentsStay (S.view storage.old) (S.view storage.new) }
         ensures calls { QuietCalls (S.view storage.old) (S.view storage.new) (storage_result result) }
         ensures none { entries ≡ 0 → storage.new ≡ storage.old }
@@ -252,7 +256,11 @@ impl EntryTable {
     ) -> Result<EntryTable, MetadataError>
         requires longer { entry_count self.now ≤ entries }
         requires limit { greatest ≤ 4194304 }
-        ensures table { IfOk result (λ t. t ≡ record self.now { cluster = None; bytes = self.now.bytes ++ replicate (8 * entries - length self.now.bytes) 0 }) }
+        ensures table { IfOk result (λ t. t ≡ record self.now {
+          cluster = None;
+          bytes = self.now.bytes ++ replicate
+              (8 * entries - length self.now.bytes) 0;
+        }) }
         ensures limit { greatest < entries → result ≡ Err MetadataError.Limit }
         ensures few { IfOk result (IsEntryTable greatest) }
         ensures err { IfErr result (IsOfLengthOrMemory (greatest < entries)) }

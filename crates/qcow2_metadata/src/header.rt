@@ -355,7 +355,8 @@ impl Header {
     /// `set_reftable` and `set_l1_table` are.
     pub fn update(&mut self, other: &Header) -> Result<(), MetadataError>
         ensures ok { OnOk result (self.new ≡ with_fields self.old (with_tables_of self.old.fields other.now.fields)) }
-        ensures err { IfErr result (λ e. (e ≡ MetadataError.Limit) × (1048576 < other.now.fields.reftable_clusters * entries_per_cluster self.old.fields)) }
+        ensures err { IfErr result (λ e. (e ≡ MetadataError.Limit)
+            × (1048576 < other.now.fields.reftable_clusters * entries_per_cluster self.old.fields)) }
         ensures same { OnErr result (self.new ≡ self.old) }
     {
         self.set_reftable(other.reftable_offset(), other.reftable_clusters())?;

@@ -95,8 +95,11 @@ impl L1Table {
         ensures of_image { (S.view storage.old).is_honest → NamesL1Table header.now.fields (cluster * cluster_size header.now.fields) entries
             → IfOk result (IsL1TableOf header.now.fields (byte_at (S.view storage.old).contents)) }
         ensures limit { PassesLimit 4194304 header.now.fields.cluster_bits 0 cluster entries → result ≡ Err MetadataError.Limit }
-        ensures err { IfErr result (IsReasonNotToLoad (PassesLimit 4194304 header.now.fields.cluster_bits 0 cluster entries)
-            ((S.view storage.old).is_honest → SomeUnread L1EntryReads (bytes_at (S.view storage.old).contents (cluster * cluster_size header.now.fields) (8 * entries)))) }
+        ensures err { IfErr result (IsReasonNotToLoad
+            (PassesLimit 4194304 header.now.fields.cluster_bits 0 cluster entries)
+            ((S.view storage.old).is_honest
+            → SomeUnread L1EntryReads (bytes_at (S.view storage.old).contents (cluster * cluster_size header.now.fields)
+            (8 * entries)))) }
         ensures same { ContentsStay (S.view storage.old) (S.view storage.new) }
         ensures calls { QuietCalls (S.view storage.old) (S.view storage.new) (storage_result result) }
         ensures none { entries ≡ 0 → storage.new ≡ storage.old }
@@ -177,8 +180,9 @@ impl L1Table {
         requires { IsSome self.now.cluster }
         ensures written { IfSome self.now.cluster (λ cluster. Changes (S.view storage.old) (S.view storage.new) result
             (λ b. overwritten b (cluster * 2 ^ self.now.cluster_bits) self.now.bytes)) }
-        ensures of_image { (S.view storage.old).is_honest → (h : HeaderFields) → IfSome self.now.cluster (λ cluster.
-            NamesL1Table h (cluster * 2 ^ self.now.cluster_bits) (entry_count self.now) → OnOk result (IsL1TableOf h (byte_at (S.view storage.new).contents) self.now)) }
+        ensures of_image { (S.view storage.old).is_honest → (h : HeaderFields)
+            → IfSome self.now.cluster (λ cluster. NamesL1Table h (cluster * 2 ^ self.now.cluster_bits)
+            (entry_count self.now) → OnOk result (IsL1TableOf h (byte_at (S.view storage.new).contents) self.now)) }
         ensures calls { Calls (S.view storage.old) (S.view storage.new) result }
     {
         self.table.write(storage)
@@ -200,8 +204,9 @@ impl L1Table {
         ensures written { IfSome self.now.cluster (λ cluster. Changes (S.view storage.old) (S.view storage.new) result
             (λ b. overwritten b (cluster * 2 ^ self.now.cluster_bits + 8 * index) (to_be_bytes w64 (entry_at self.now.bytes index)))) }
         ensures fits { entry_at self.now.bytes index < 2 ^ 64 }
-        ensures of_image { (S.view storage.old).is_honest → (h : HeaderFields) → IfSome self.now.cluster (λ cluster.
-            NamesL1Table h (cluster * 2 ^ self.now.cluster_bits) (entry_count self.now) × IsL1TableBut index h (byte_at (S.view storage.old).contents) self.now
+        ensures of_image { (S.view storage.old).is_honest → (h : HeaderFields)
+            → IfSome self.now.cluster (λ cluster. NamesL1Table h (cluster * 2 ^ self.now.cluster_bits)
+            (entry_count self.now) × IsL1TableBut index h (byte_at (S.view storage.old).contents) self.now
             → OnOk result (IsL1TableOf h (byte_at (S.view storage.new).contents) self.now)) }
         ensures calls { Calls (S.view storage.old) (S.view storage.new) result }
     {
@@ -212,7 +217,11 @@ impl L1Table {
     /// yet. Refused `Limit` for more than 4,194,304 entries, and `Memory`.
     pub fn clone_and_grow(&self, alloc: Global, entries: usize) -> Result<L1Table, MetadataError>
         requires { entry_count self.now ≤ entries }
-        ensures table { IfOk result (λ t. t ≡ record self.now { cluster = None; bytes = self.now.bytes ++ replicate (8 * entries - length self.now.bytes) 0 }) }
+        ensures table { IfOk result (λ t. t ≡ record self.now {
+          cluster = None;
+          bytes = self.now.bytes ++ replicate
+              (8 * entries - length self.now.bytes) 0;
+        }) }
         ensures entries { IfOk result (λ t. (i : ℕ) → entry_at t.bytes i ≡ entry_at self.now.bytes i) }
         ensures length { IfOk result (λ t. length t.bytes ≡ 8 * entries) }
         ensures limit { 4194304 < entries → result ≡ Err MetadataError.Limit }

@@ -147,7 +147,8 @@ impl L2Mapping {
         requires bits { cluster_bits < 64 }
         requires reach { IsInReach self }
         ensures value { result ≡ named_run cluster_bits self }
-        ensures named { (h : HeaderFields) (cluster : ℕ) → h.cluster_bits ≡ cluster_bits → named_by_cover h cluster self ≡ run_has result cluster }
+        ensures named { (h : HeaderFields) (cluster : ℕ) → h.cluster_bits ≡ cluster_bits
+            → named_by_cover h cluster self ≡ run_has result cluster }
     {
         match self {
             L2Mapping::Data { host, .. } => Some((

@@ -255,7 +255,8 @@ impl L2Table {
         requires inside { index < entries_of self.old }
         requires host { IsHostCluster self.old.cluster_bits host }
         ensures changed { ChangesEntry self.old.bytes self.new.bytes index (copied_entry_of (host * 2 ^ self.old.cluster_bits)) }
-        ensures mapped { (host ≡ 0 → IsTrue self.old.data_is_external) → cover_at self.new index ≡ L2Mapping.Data (host * 2 ^ self.old.cluster_bits) true }
+        ensures mapped { (host ≡ 0 → IsTrue self.old.data_is_external)
+            → cover_at self.new index ≡ L2Mapping.Data (host * 2 ^ self.old.cluster_bits) true }
         ensures old_data { result ≡ old_data_run self.old.cluster_bits (cover_at self.old index) (cover_at self.new index) }
         ensures same { self.new ≡ record self.old { bytes = self.new.bytes; is_modified = true } }
     {
@@ -266,8 +267,10 @@ impl L2Table {
     /// Makes entry `index` read as zeros; `keep` keeps a host cluster of data or zeros that is marked copied. Answers the host clusters that it names no longer: the first, and how many.
     pub fn zero_cluster(&mut self, index: usize, keep: bool) -> Option<(HostCluster, ClusterCount)>
         requires { index < entries_of self.old }
-        ensures changed { ChangesEntry self.old.bytes self.new.bytes index (zero_entry_of (if keep then copied_host_of (cover_at self.old index) else None)) }
-        ensures zeroed { IsTrue self.old.has_zero_bit → cover_at self.new index ≡ zero_cover (if keep then copied_host_of (cover_at self.old index) else None) }
+        ensures changed { ChangesEntry self.old.bytes self.new.bytes index
+            (zero_entry_of (if keep then copied_host_of (cover_at self.old index) else None)) }
+        ensures zeroed { IsTrue self.old.has_zero_bit
+            → cover_at self.new index ≡ zero_cover (if keep then copied_host_of (cover_at self.old index) else None) }
         ensures old_data { result ≡ old_data_run self.old.cluster_bits (cover_at self.old index) (cover_at self.new index) }
         ensures same { self.new ≡ record self.old { bytes = self.new.bytes; is_modified = true } }
     {

@@ -85,8 +85,11 @@ impl RefTable {
         ensures of_image { (S.view storage.old).is_honest → NamesRefTable header.now.fields (cluster * cluster_size header.now.fields) entries
             → IfOk result (IsRefTableOf header.now.fields (byte_at (S.view storage.old).contents)) }
         ensures limit { PassesLimit 1048576 header.now.fields.cluster_bits (8 * entries) cluster entries → result ≡ Err MetadataError.Limit }
-        ensures err { IfErr result (IsReasonNotToLoad (PassesLimit 1048576 header.now.fields.cluster_bits (8 * entries) cluster entries)
-            ((S.view storage.old).is_honest → SomeUnread ReftableEntryReads (bytes_at (S.view storage.old).contents (cluster * cluster_size header.now.fields) (8 * entries)))) }
+        ensures err { IfErr result (IsReasonNotToLoad
+            (PassesLimit 1048576 header.now.fields.cluster_bits (8 * entries) cluster entries)
+            ((S.view storage.old).is_honest
+            → SomeUnread ReftableEntryReads
+            (bytes_at (S.view storage.old).contents (cluster * cluster_size header.now.fields) (8 * entries)))) }
         ensures same { ContentsStay (S.view storage.old) (S.view storage.new) }
         ensures calls { QuietCalls (S.view storage.old) (S.view storage.new) (storage_result result) }
         ensures none { entries ≡ 0 → storage.new ≡ storage.old }
@@ -164,8 +167,9 @@ impl RefTable {
         requires { IsSome self.now.cluster }
         ensures written { IfSome self.now.cluster (λ cluster. Changes (S.view storage.old) (S.view storage.new) result
             (λ b. overwritten b (cluster * 2 ^ self.now.cluster_bits) self.now.bytes)) }
-        ensures of_image { (S.view storage.old).is_honest → (h : HeaderFields) → IfSome self.now.cluster (λ cluster.
-            NamesRefTable h (cluster * 2 ^ self.now.cluster_bits) (entry_count self.now) → OnOk result (IsRefTableOf h (byte_at (S.view storage.new).contents) self.now)) }
+        ensures of_image { (S.view storage.old).is_honest → (h : HeaderFields)
+            → IfSome self.now.cluster (λ cluster. NamesRefTable h (cluster * 2 ^ self.now.cluster_bits)
+            (entry_count self.now) → OnOk result (IsRefTableOf h (byte_at (S.view storage.new).contents) self.now)) }
         ensures calls { Calls (S.view storage.old) (S.view storage.new) result }
     {
         self.table.write(storage)
@@ -178,8 +182,9 @@ impl RefTable {
         ensures written { IfSome self.now.cluster (λ cluster. Changes (S.view storage.old) (S.view storage.new) result
             (λ b. overwritten b (cluster * 2 ^ self.now.cluster_bits + 8 * index) (to_be_bytes w64 (entry_at self.now.bytes index)))) }
         ensures fits { entry_at self.now.bytes index < 2 ^ 64 }
-        ensures of_image { (S.view storage.old).is_honest → (h : HeaderFields) → IfSome self.now.cluster (λ cluster.
-            NamesRefTable h (cluster * 2 ^ self.now.cluster_bits) (entry_count self.now) × IsRefTableBut index h (byte_at (S.view storage.old).contents) self.now
+        ensures of_image { (S.view storage.old).is_honest → (h : HeaderFields)
+            → IfSome self.now.cluster (λ cluster. NamesRefTable h (cluster * 2 ^ self.now.cluster_bits)
+            (entry_count self.now) × IsRefTableBut index h (byte_at (S.view storage.old).contents) self.now
             → OnOk result (IsRefTableOf h (byte_at (S.view storage.new).contents) self.now)) }
         ensures calls { Calls (S.view storage.old) (S.view storage.new) result }
     {
@@ -190,7 +195,11 @@ impl RefTable {
     /// yet. Refused `Limit` for more than 1,048,576 entries, and `Memory`.
     pub fn clone_and_grow(&self, alloc: Global, entries: usize) -> Result<RefTable, MetadataError>
         requires { entry_count self.now ≤ entries }
-        ensures table { IfOk result (λ t. t ≡ record self.now { cluster = None; bytes = self.now.bytes ++ replicate (8 * entries - length self.now.bytes) 0 }) }
+        ensures table { IfOk result (λ t. t ≡ record self.now {
+          cluster = None;
+          bytes = self.now.bytes ++ replicate
+              (8 * entries - length self.now.bytes) 0;
+        }) }
         ensures entries { IfOk result (λ t. (i : ℕ) → entry_at t.bytes i ≡ entry_at self.now.bytes i) }
         ensures length { IfOk result (λ t. length t.bytes ≡ 8 * entries) }
         ensures limit { 1048576 < entries → result ≡ Err MetadataError.Limit }

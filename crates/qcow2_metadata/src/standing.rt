@@ -26,7 +26,8 @@ fn load_entries<S: Storage>(
 ) -> Result<Vec<u8>, MetadataError>
     requires few { entries ≤ 4194304 }
     ensures length { IfOk result (λ bytes. length bytes.items ≡ 8 * entries) }
-    ensures bytes { (S.view storage.old).is_honest → IfOk result (λ bytes. bytes.items ≡ bytes_at (S.view storage.old).contents at (8 * entries)) }
+    ensures bytes { (S.view storage.old).is_honest
+        → IfOk result (λ bytes. bytes.items ≡ bytes_at (S.view storage.old).contents at (8 * entries)) }
     ensures reads { IfOk result (λ bytes. EachReads (IsClear reserved) bytes.items) }
     ensures err { IfErr result (IsReasonNotToLoad (2 ^ 64 ≤ at + 8 * entries)
         ((S.view storage.old).is_honest → SomeUnread (IsClear reserved) (bytes_at (S.view storage.old).contents at (8 * entries)))) }
@@ -73,7 +74,9 @@ impl HeaderFields {
             → entry_at bytes.items i ≡ l1_entry self.now (byte_at (S.view storage.old).contents) i) }
         ensures reads { IfOk result (λ bytes. EachReads L1EntryReads bytes.items) }
         ensures err { IfErr result (IsReasonNotToLoad (2 ^ 64 ≤ self.now.l1_offset + 8 * self.now.l1_entries)
-            ((S.view storage.old).is_honest → SomeUnread L1EntryReads (bytes_at (S.view storage.old).contents self.now.l1_offset (8 * self.now.l1_entries)))) }
+            ((S.view storage.old).is_honest
+            → SomeUnread L1EntryReads (bytes_at (S.view storage.old).contents self.now.l1_offset
+            (8 * self.now.l1_entries)))) }
         ensures reading { OnlyReads (S.view storage.old) (S.view storage.new) result }
     {
         let bytes = load_entries(
@@ -108,8 +111,11 @@ impl HeaderFields {
         ensures entries { (S.view storage.old).is_honest → IfOk result (λ bytes. (i : ℕ)
             → entry_at bytes.items i ≡ reftable_entry self.now (byte_at (S.view storage.old).contents) i) }
         ensures reads { IfOk result (λ bytes. EachReads ReftableEntryReads bytes.items) }
-        ensures err { IfErr result (IsReasonNotToLoad (2 ^ 64 ≤ self.now.reftable_offset + 8 * reftable_entries_of self.now)
-            ((S.view storage.old).is_honest → SomeUnread ReftableEntryReads (bytes_at (S.view storage.old).contents self.now.reftable_offset (8 * reftable_entries_of self.now)))) }
+        ensures err { IfErr result (IsReasonNotToLoad
+            (2 ^ 64 ≤ self.now.reftable_offset + 8 * reftable_entries_of self.now)
+            ((S.view storage.old).is_honest
+            → SomeUnread ReftableEntryReads
+            (bytes_at (S.view storage.old).contents self.now.reftable_offset (8 * reftable_entries_of self.now)))) }
         ensures reading { OnlyReads (S.view storage.old) (S.view storage.new) result }
     {
         let bytes = load_entries(

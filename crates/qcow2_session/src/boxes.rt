@@ -19,11 +19,19 @@ pub fn run_in_boxes(
     number: u64,
     commands: &[Command],
 ) -> (Box<dyn DynStorage>, Result<Vec<Reply>, ImageError>)
-    ensures headline { IsOnceClosed result (Headline (λ b. (DynStorage-box b).Storage.view b.value) (λ d. (BackingDisk-box d).backing d.value) ((DynStorage-box storage).Storage.view storage.value) below commands.now) }
-    ensures tells { IsOnceClosed result (TellsOfOpened (λ b. (DynStorage-box b).Storage.view b.value) (λ d. (BackingDisk-box d).backing d.value) ((DynStorage-box storage).Storage.view storage.value) below number commands.now) }
-    ensures faults { IsOnceClosed result (CountsSinceBefore (λ b. (DynStorage-box b).Storage.view b.value) (λ d. (BackingDisk-box d).backing d.value) ((DynStorage-box storage).Storage.view storage.value) below) }
-    ensures another { ((DynStorage-box storage).Storage.view storage.value).is_honest → NeedsMissing (missing_beside below) ((DynStorage-box storage).Storage.view storage.value).contents
-        → IsClosedAsRefused ((DynStorage-box storage).Storage.view storage.value) (λ b. (DynStorage-box b).Storage.view b.value) result }
+    ensures headline { IsOnceClosed result
+        (Headline (λ b. (DynStorage-box b).Storage.view b.value) (λ d. (BackingDisk-box d).backing d.value)
+        ((DynStorage-box storage).Storage.view storage.value) below commands.now) }
+    ensures tells { IsOnceClosed result
+        (TellsOfOpened (λ b. (DynStorage-box b).Storage.view b.value) (λ d. (BackingDisk-box d).backing d.value)
+        ((DynStorage-box storage).Storage.view storage.value) below number commands.now) }
+    ensures faults { IsOnceClosed result
+        (CountsSinceBefore (λ b. (DynStorage-box b).Storage.view b.value) (λ d. (BackingDisk-box d).backing d.value)
+        ((DynStorage-box storage).Storage.view storage.value) below) }
+    ensures another { ((DynStorage-box storage).Storage.view storage.value).is_honest
+        → NeedsMissing (missing_beside below) ((DynStorage-box storage).Storage.view storage.value).contents
+        → IsClosedAsRefused ((DynStorage-box storage).Storage.view storage.value)
+        (λ b. (DynStorage-box b).Storage.view b.value) result }
 {
     run_and_close(alloc, storage, below, number, commands)
 }
@@ -39,7 +47,8 @@ fn run_and_close<S: Storage, F: WrappedFormat<S>>(
     ensures headline { IsOnceClosed result (Headline S.view F.backing (S.view storage) below commands.now) }
     ensures tells { IsOnceClosed result (TellsOfOpened S.view F.backing (S.view storage) below number commands.now) }
     ensures faults { IsOnceClosed result (CountsSinceBefore S.view F.backing (S.view storage) below) }
-    ensures another { (S.view storage).is_honest → NeedsMissing (missing_beside below) (S.view storage).contents → IsClosedAsRefused (S.view storage) S.view result }
+    ensures another { (S.view storage).is_honest → NeedsMissing (missing_beside below) (S.view storage).contents
+        → IsClosedAsRefused (S.view storage) S.view result }
 {
     match open_and_run(alloc, storage, below, number, commands) {
         Ok((image, replies)) => (image.into_storage(), Ok(replies)),

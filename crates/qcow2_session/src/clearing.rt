@@ -28,9 +28,12 @@ pub(crate) fn ensure_zero<S: Storage, F: WrappedFormat<S>>(
     ensures faults { CommandCounts S.view F.backing image.old image.new result }
     ensures header_cluster { StaysBehindHeader S.view image.old image.new }
     ensures marks { MarksAtOnce S.view (refusal_in result) image.old image.new }
-    ensures tells { (before : List (Option Prepared)) → TellsOfImage S.view F.backing image.old image.new before before (EnsureZeroMapping offset length) result }
-    ensures causes { (before : List (Option Prepared)) (found : ℕ → Option Mapping) → IsRightlyRefused S.view F.backing image.old image.new before found (EnsureZeroMapping offset length) result }
-    ensures command_step { (slots : Slots) → CommandSteps S.view F.backing image.old image.new slots slots (EnsureZeroMapping offset length) result }
+    ensures tells { (before : List (Option Prepared))
+        → TellsOfImage S.view F.backing image.old image.new before before (EnsureZeroMapping offset length) result }
+    ensures causes { (before : List (Option Prepared)) (found : ℕ → Option Mapping)
+        → IsRightlyRefused S.view F.backing image.old image.new before found (EnsureZeroMapping offset length) result }
+    ensures command_step { (slots : Slots)
+        → CommandSteps S.view F.backing image.old image.new slots slots (EnsureZeroMapping offset length) result }
     ensures finds { (slots : Slots) → Finds slots slots (EnsureZeroMapping offset length) result }
 {
     range_reply(image.ensure_zero_mapping(offset, length))
@@ -47,8 +50,10 @@ pub(crate) fn discard_to_zero<S: Storage, F: WrappedFormat<S>>(
     ensures faults { CommandCounts S.view F.backing image.old image.new result }
     ensures header_cluster { StaysBehindHeader S.view image.old image.new }
     ensures marks { MarksAtOnce S.view (refusal_in result) image.old image.new }
-    ensures tells { (before : List (Option Prepared)) → TellsOfImage S.view F.backing image.old image.new before before (DiscardToZero offset length) result }
-    ensures causes { (before : List (Option Prepared)) (found : ℕ → Option Mapping) → IsRightlyRefused S.view F.backing image.old image.new before found (DiscardToZero offset length) result }
+    ensures tells { (before : List (Option Prepared))
+        → TellsOfImage S.view F.backing image.old image.new before before (DiscardToZero offset length) result }
+    ensures causes { (before : List (Option Prepared)) (found : ℕ → Option Mapping)
+        → IsRightlyRefused S.view F.backing image.old image.new before found (DiscardToZero offset length) result }
     ensures command_step { (slots : Slots) → CommandSteps S.view F.backing image.old image.new slots slots (DiscardToZero offset length) result }
     ensures finds { (slots : Slots) → Finds slots slots (DiscardToZero offset length) result }
 {
@@ -66,8 +71,10 @@ pub(crate) fn discard_to_any<S: Storage, F: WrappedFormat<S>>(
     ensures faults { CommandCounts S.view F.backing image.old image.new result }
     ensures header_cluster { StaysBehindHeader S.view image.old image.new }
     ensures marks { MarksAtOnce S.view (refusal_in result) image.old image.new }
-    ensures tells { (before : List (Option Prepared)) → TellsOfImage S.view F.backing image.old image.new before before (DiscardToAny offset length) result }
-    ensures causes { (before : List (Option Prepared)) (found : ℕ → Option Mapping) → IsRightlyRefused S.view F.backing image.old image.new before found (DiscardToAny offset length) result }
+    ensures tells { (before : List (Option Prepared))
+        → TellsOfImage S.view F.backing image.old image.new before before (DiscardToAny offset length) result }
+    ensures causes { (before : List (Option Prepared)) (found : ℕ → Option Mapping)
+        → IsRightlyRefused S.view F.backing image.old image.new before found (DiscardToAny offset length) result }
     ensures command_step { (slots : Slots) → CommandSteps S.view F.backing image.old image.new slots slots (DiscardToAny offset length) result }
     ensures finds { (slots : Slots) → Finds slots slots (DiscardToAny offset length) result }
 {
@@ -85,8 +92,10 @@ pub(crate) fn discard_to_backing<S: Storage, F: WrappedFormat<S>>(
     ensures faults { CommandCounts S.view F.backing image.old image.new result }
     ensures header_cluster { StaysBehindHeader S.view image.old image.new }
     ensures marks { MarksAtOnce S.view (refusal_in result) image.old image.new }
-    ensures tells { (before : List (Option Prepared)) → TellsOfImage S.view F.backing image.old image.new before before (DiscardToBacking offset length) result }
-    ensures causes { (before : List (Option Prepared)) (found : ℕ → Option Mapping) → IsRightlyRefused S.view F.backing image.old image.new before found (DiscardToBacking offset length) result }
+    ensures tells { (before : List (Option Prepared))
+        → TellsOfImage S.view F.backing image.old image.new before before (DiscardToBacking offset length) result }
+    ensures causes { (before : List (Option Prepared)) (found : ℕ → Option Mapping)
+        → IsRightlyRefused S.view F.backing image.old image.new before found (DiscardToBacking offset length) result }
     ensures command_step { (slots : Slots) → CommandSteps S.view F.backing image.old image.new slots slots (DiscardToBacking offset length) result }
     ensures finds { (slots : Slots) → Finds slots slots (DiscardToBacking offset length) result }
 {

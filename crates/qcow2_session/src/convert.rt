@@ -33,8 +33,11 @@ pub fn to_qcow2<R: Storage, S: Storage, F: WrappedFormat<S>>(
 ) -> Result<u64, ImageError>
     ensures image { IsSameImage image.old image.new }
     ensures early { IfSome (refuses_to_read image.old 0 0) (λ e. (result ≡ Err e) × (image.new ≡ image.old) × (raw.new ≡ raw.old)) }
-    ensures unequal { (R.view raw.old).is_honest → length (R.view raw.old).contents ≢ size_of image.old → IsRefusedUnequal (refuses_to_read image.old 0 0) (R.view raw.old).faults (R.view raw.new).faults result × (image.new ≡ image.old) }
-    ensures option { (R.view raw.old).is_honest → IfErr result (λ e. e ≡ InvalidOption → length (R.view raw.old).contents ≢ size_of image.old) }
+    ensures unequal { (R.view raw.old).is_honest → length (R.view raw.old).contents ≢ size_of image.old
+        → IsRefusedUnequal (refuses_to_read image.old 0 0) (R.view raw.old).faults (R.view raw.new).faults result
+        × (image.new ≡ image.old) }
+    ensures option { (R.view raw.old).is_honest
+        → IfErr result (λ e. e ≡ InvalidOption → length (R.view raw.old).contents ≢ size_of image.old) }
     ensures raw { IsLeft (R.view raw.old) (R.view raw.new) }
     ensures sees { (R.view raw.old).is_honest → Imports S.view F.backing image.old image.new (R.view raw.old).contents result }
     ensures any { ImportsAny S.view F.backing image.old image.new result }
@@ -76,14 +79,20 @@ fn import_all<R: Storage, S: Storage, F: WrappedFormat<S>>(
     ensures image { IsSameImage image.old image.new }
     ensures raw { IsLeft (R.view raw.old) (R.view raw.new) }
     ensures cause { IfErr result IsOfWriting }
-    ensures sees { (R.view raw.old).is_honest → size ≡ length (R.view raw.old).contents → ImportsAll S.view F.backing image.old image.new (R.view raw.old).contents result }
+    ensures sees { (R.view raw.old).is_honest → size ≡ length (R.view raw.old).contents
+        → ImportsAll S.view F.backing image.old image.new (R.view raw.old).contents result }
     ensures any { ImportsAnyOf S.view F.backing image.old image.new size result }
-    ensures late { refuses_to_read image.old 0 0 ≡ None → size ≡ size_of image.old → (out : List (Option Prepared)) → (abstract_of S.view F.backing image.old out).is_sound → IfErr result (IsReasonNotToWrite S.view F.backing image.old image.new 0 size out) }
-    ensures met { refuses_to_read image.old 0 0 ≡ None → size ≡ size_of image.old → (out : List (Option Prepared)) → (abstract_of S.view F.backing image.old out).is_sound → IfErr result (IsMetImporting S.view 0 size image.new out) }
+    ensures late { refuses_to_read image.old 0 0 ≡ None → size ≡ size_of image.old → (out : List (Option Prepared))
+        → (abstract_of S.view F.backing image.old out).is_sound
+        → IfErr result (IsReasonNotToWrite S.view F.backing image.old image.new 0 size out) }
+    ensures met { refuses_to_read image.old 0 0 ≡ None → size ≡ size_of image.old → (out : List (Option Prepared))
+        → (abstract_of S.view F.backing image.old out).is_sound
+        → IfErr result (IsMetImporting S.view 0 size image.new out) }
     ensures faults { ConversionCounts S.view F.backing image.old image.new (R.view raw.old).faults (R.view raw.new).faults result }
     ensures quiet { StaysQuiet S.view image.old image.new }
     ensures header_cluster { StaysBehindHeader S.view image.old image.new }
-    ensures differs { (R.view raw.old).is_honest → size ≡ length (R.view raw.old).contents → IfErr result (DiffersWhereKept S.view F.backing image.old 0 (R.view raw.old).contents) }
+    ensures differs { (R.view raw.old).is_honest → size ≡ length (R.view raw.old).contents
+        → IfErr result (DiffersWhereKept S.view F.backing image.old 0 (R.view raw.old).contents) }
 {
     let mut at = 0;
     while at < size {
@@ -106,14 +115,23 @@ fn import_at<R: Storage, S: Storage, F: WrappedFormat<S>>(
     ensures image { IsSameImage image.old image.new }
     ensures raw { IsLeft (R.view raw.old) (R.view raw.new) }
     ensures cause { IfErr result IsOfWriting }
-    ensures sees { (R.view raw.old).is_honest → ImportsAt S.view F.backing image.old image.new at (bytes_at (R.view raw.old).contents at (length wanted.old)) result }
+    ensures sees { (R.view raw.old).is_honest
+        → ImportsAt S.view F.backing image.old image.new at
+        (bytes_at (R.view raw.old).contents at (length wanted.old)) result }
     ensures any { ImportsAnyAt S.view F.backing image.old image.new at (length wanted.old) result }
-    ensures late { refuses_to_read image.old at (length wanted.old) ≡ None → length wanted.old ≤ cluster_size_of image.old → (out : List (Option Prepared)) → (abstract_of S.view F.backing image.old out).is_sound → IfErr result (IsReasonNotToWrite S.view F.backing image.old image.new at (at + length wanted.old) out) }
-    ensures met { refuses_to_read image.old at (length wanted.old) ≡ None → (out : List (Option Prepared)) → (abstract_of S.view F.backing image.old out).is_sound → IfErr result (IsMetImporting S.view at (at + length wanted.old) image.new out) }
+    ensures late { refuses_to_read image.old at (length wanted.old) ≡ None
+        → length wanted.old ≤ cluster_size_of image.old → (out : List (Option Prepared))
+        → (abstract_of S.view F.backing image.old out).is_sound
+        → IfErr result (IsReasonNotToWrite S.view F.backing image.old image.new at (at + length wanted.old) out) }
+    ensures met { refuses_to_read image.old at (length wanted.old) ≡ None → (out : List (Option Prepared))
+        → (abstract_of S.view F.backing image.old out).is_sound
+        → IfErr result (IsMetImporting S.view at (at + length wanted.old) image.new out) }
     ensures faults { ConversionCounts S.view F.backing image.old image.new (R.view raw.old).faults (R.view raw.new).faults result }
     ensures quiet { StaysQuiet S.view image.old image.new }
     ensures header_cluster { StaysBehindHeader S.view image.old image.new }
-    ensures differs { (R.view raw.old).is_honest → IfErr result (DiffersWhereKept S.view F.backing image.old at (bytes_at (R.view raw.old).contents at (length wanted.old))) }
+    ensures differs { (R.view raw.old).is_honest
+        → IfErr result (DiffersWhereKept S.view F.backing image.old at
+        (bytes_at (R.view raw.old).contents at (length wanted.old))) }
 {
     raw.read(at, wanted)?;
     read_into(image, at, present)?;
@@ -142,7 +160,10 @@ pub fn to_raw<S: Storage, F: WrappedFormat<S>, R: Storage>(
     ensures honest { (R.view raw.old).is_honest → (R.view raw.new).is_honest }
     ensures sees { (R.view raw.old).is_honest → IfOk result (λ n. Exports S.view F.backing image.old (R.view raw.new).contents n) }
     ensures cause { IfErr result IsOfReading }
-    ensures met { refuses_to_read image.old 0 0 ≡ None → (out : List (Option Prepared)) → (abstract_of S.view F.backing image.old out).is_sound → IfErr result (IsMetReadingRange out 0 (size_of image.old) image.old.file.header.fields (known_in S.view image.old.file)) }
+    ensures met { refuses_to_read image.old 0 0 ≡ None → (out : List (Option Prepared))
+        → (abstract_of S.view F.backing image.old out).is_sound
+        → IfErr result (IsMetReadingRange out 0 (size_of image.old) image.old.file.header.fields
+        (known_in S.view image.old.file)) }
     ensures faults { ConversionCounts S.view F.backing image.old image.new (R.view raw.old).faults (R.view raw.new).faults result }
     ensures header_cluster { StaysBehindHeader S.view image.old image.new }
     ensures quiet { ReadsQuietly S.view image.old image.new }
@@ -171,9 +192,12 @@ fn export_all<S: Storage, F: WrappedFormat<S>, R: Storage>(
     ensures image { IsSameImage image.old image.new }
     ensures same { IsUnchanged S.view F.backing image.old image.new result }
     ensures honest { (R.view raw.old).is_honest → (R.view raw.new).is_honest }
-    ensures sees { (R.view raw.old).is_honest → OnOk result (Fills S.view F.backing image.old 0 size (R.view raw.old).contents (R.view raw.new).contents) }
+    ensures sees { (R.view raw.old).is_honest
+        → OnOk result (Fills S.view F.backing image.old 0 size (R.view raw.old).contents (R.view raw.new).contents) }
     ensures cause { IfErr result IsOfReading }
-    ensures met { refuses_to_read image.old 0 0 ≡ None → size ≡ size_of image.old → (out : List (Option Prepared)) → (abstract_of S.view F.backing image.old out).is_sound → IfErr result (IsMetReadingRange out 0 size image.old.file.header.fields (known_in S.view image.old.file)) }
+    ensures met { refuses_to_read image.old 0 0 ≡ None → size ≡ size_of image.old → (out : List (Option Prepared))
+        → (abstract_of S.view F.backing image.old out).is_sound
+        → IfErr result (IsMetReadingRange out 0 size image.old.file.header.fields (known_in S.view image.old.file)) }
     ensures faults { ConversionCounts S.view F.backing image.old image.new (R.view raw.old).faults (R.view raw.new).faults result }
     ensures header_cluster { StaysBehindHeader S.view image.old image.new }
     ensures quiet { ReadsQuietly S.view image.old image.new }
@@ -199,9 +223,14 @@ fn export_at<S: Storage, F: WrappedFormat<S>, R: Storage>(
     ensures image { IsSameImage image.old image.new }
     ensures same { IsUnchanged S.view F.backing image.old image.new result }
     ensures honest { (R.view raw.old).is_honest → (R.view raw.new).is_honest }
-    ensures sees { (R.view raw.old).is_honest → OnOk result (Fills S.view F.backing image.old at (at + length bytes.old) (R.view raw.old).contents (R.view raw.new).contents) }
+    ensures sees { (R.view raw.old).is_honest
+        → OnOk result (Fills S.view F.backing image.old at (at + length bytes.old) (R.view raw.old).contents
+        (R.view raw.new).contents) }
     ensures cause { IfErr result IsOfReading }
-    ensures met { refuses_to_read image.old at (length bytes.old) ≡ None → (out : List (Option Prepared)) → (abstract_of S.view F.backing image.old out).is_sound → IfErr result (IsMetReadingRange out at (at + length bytes.old) image.old.file.header.fields (known_in S.view image.old.file)) }
+    ensures met { refuses_to_read image.old at (length bytes.old) ≡ None → (out : List (Option Prepared))
+        → (abstract_of S.view F.backing image.old out).is_sound
+        → IfErr result (IsMetReadingRange out at (at + length bytes.old) image.old.file.header.fields
+        (known_in S.view image.old.file)) }
     ensures faults { ConversionCounts S.view F.backing image.old image.new (R.view raw.old).faults (R.view raw.new).faults result }
     ensures header_cluster { StaysBehindHeader S.view image.old image.new }
     ensures quiet { ReadsQuietly S.view image.old image.new }

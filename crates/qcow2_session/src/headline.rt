@@ -32,7 +32,8 @@ pub fn open_and_run<S: Storage, F: WrappedFormat<S>>(
     commands: &[Command],
 ) -> Result<(Qcow2<S, F>, Vec<Reply>), (S, ImageError)>
     ensures number { IfOk result (λ (image, replies). number_of image ≡ number) }
-    ensures another { (S.view storage).is_honest → NeedsMissing (missing_beside below) (S.view storage).contents → IsLeftAlone (S.view storage) S.view result }
+    ensures another { (S.view storage).is_honest → NeedsMissing (missing_beside below) (S.view storage).contents
+        → IsLeftAlone (S.view storage) S.view result }
     ensures faults { CountsSinceBefore S.view F.backing (S.view storage) below result }
     ensures tells { TellsOfOpened S.view F.backing (S.view storage) below number commands.now result }
     ensures headline { Headline S.view F.backing (S.view storage) below commands.now result }
@@ -53,14 +54,17 @@ fn open_over<S: Storage, F: WrappedFormat<S>>(
     number: u64,
 ) -> Result<Qcow2<S, F>, (S, ImageError)>
     ensures opens { IfOk result (λ image. IsHonestBacking S.view F.backing below → Opens S.view F.backing (S.view storage) image) }
-    ensures since { (S.view storage).is_honest → IsConsistent (byte_at (S.view storage).contents) → IsKeptSince (S.view storage) (S.view (storage_after result)) }
-    ensures format { (S.view storage).is_honest → IfOk result (λ image. SameFormat (header (byte_at (S.view storage).contents)) image.file.header.fields) }
+    ensures since { (S.view storage).is_honest → IsConsistent (byte_at (S.view storage).contents)
+        → IsKeptSince (S.view storage) (S.view (storage_after result)) }
+    ensures format { (S.view storage).is_honest
+        → IfOk result (λ image. SameFormat (header (byte_at (S.view storage).contents)) image.file.header.fields) }
     ensures ok { IfOk result (λ image. (number_of image ≡ number) × (is_failed image ≡ false) × (is_writable image ≡ true)) }
     ensures faults { OpeningCounts S.view (S.view storage).faults result }
     ensures header_cluster { IfOk result (λ image. NamesTablesBehind image.file.header.fields → LiesBehindHeader image) }
     ensures over { IfOk result (λ image. image.backing ≡ below) }
     ensures storage { LeavesStorage S.view true (S.view storage) result }
-    ensures another { (S.view storage).is_honest → NeedsMissing (missing_beside below) (S.view storage).contents → IsRefusedAlone result × ContentsStayThroughout (S.view storage) (S.view (storage_after result)) }
+    ensures another { (S.view storage).is_honest → NeedsMissing (missing_beside below) (S.view storage).contents
+        → IsRefusedAlone result × ContentsStayThroughout (S.view storage) (S.view (storage_after result)) }
     ensures cause { OpensRightly (S.view storage) true (missing_beside below) result }
 {
     let Some(disk) = below else {

@@ -178,7 +178,10 @@ pub fn read<S: Storage, F: WrappedFormat<S>>(
     ensures marks { MarksInParts S.view (reason_in result) image.old image.new }
     ensures early { IfSome (refuses_to_read image.old offset length) (λ e. (result ≡ Err e) × (image.new ≡ image.old)) }
     ensures late { refuses_to_read image.old offset length ≡ None → IfErr result (λ e. IsMet e × (0 < length)) }
-    ensures met { refuses_to_read image.old offset length ≡ None → (out : List (Option Prepared)) → (abstract_of S.view F.backing image.old out).is_sound → IfErr result (IsMetReadingRange out offset (offset + length) image.old.file.header.fields (known_in S.view image.old.file)) }
+    ensures met { refuses_to_read image.old offset length ≡ None → (out : List (Option Prepared))
+        → (abstract_of S.view F.backing image.old out).is_sound
+        → IfErr result (IsMetReadingRange out offset (offset + length) image.old.file.header.fields
+        (known_in S.view image.old.file)) }
     ensures beyond { IfErr result (IsRightlyBeyond image.old offset length) }
     ensures cause { IfErr result IsOfReading }
     ensures sees { Reads S.view F.backing image.old image.new offset length result }
@@ -220,7 +223,10 @@ pub fn read_into<S: Storage, F: WrappedFormat<S>>(
     ensures marks { MarksInParts S.view (reason_in result) image.old image.new }
     ensures early { IfSome (refuses_to_read image.old offset (length bytes.old)) (λ e. (result ≡ Err e) × (image.new ≡ image.old)) }
     ensures late { refuses_to_read image.old offset (length bytes.old) ≡ None → IfErr result (λ e. IsMet e × (0 < length bytes.old)) }
-    ensures met { refuses_to_read image.old offset (length bytes.old) ≡ None → (out : List (Option Prepared)) → (abstract_of S.view F.backing image.old out).is_sound → IfErr result (IsMetReadingRange out offset (offset + length bytes.old) image.old.file.header.fields (known_in S.view image.old.file)) }
+    ensures met { refuses_to_read image.old offset (length bytes.old) ≡ None → (out : List (Option Prepared))
+        → (abstract_of S.view F.backing image.old out).is_sound
+        → IfErr result (IsMetReadingRange out offset (offset + length bytes.old) image.old.file.header.fields
+        (known_in S.view image.old.file)) }
     ensures beyond { IfErr result (IsRightlyBeyond image.old offset (length bytes.old)) }
     ensures cause { IfErr result IsOfReading }
     ensures sees { ReadsInto S.view F.backing image.old image.new offset bytes.new result }
@@ -251,7 +257,10 @@ fn read_some<S: Storage, F: WrappedFormat<S>>(
     ensures some { IfOk result (λ n. 0 < n) }
     ensures within { IfOk result (λ n. n ≤ length bytes.old) }
     ensures late { refuses_to_read image.old offset (length bytes.old) ≡ None → 0 < length bytes.old → IfErr result IsMet }
-    ensures met { refuses_to_read image.old offset (length bytes.old) ≡ None → 0 < length bytes.old → (out : List (Option Prepared)) → (abstract_of S.view F.backing image.old out).is_sound → IfErr result (IsMetReadingRange out offset (offset + length bytes.old) image.old.file.header.fields (known_in S.view image.old.file)) }
+    ensures met { refuses_to_read image.old offset (length bytes.old) ≡ None → 0 < length bytes.old
+        → (out : List (Option Prepared)) → (abstract_of S.view F.backing image.old out).is_sound
+        → IfErr result (IsMetReadingRange out offset (offset + length bytes.old) image.old.file.header.fields
+        (known_in S.view image.old.file)) }
     ensures beyond { 0 < length bytes.old → IfErr result (IsRightlyBeyond image.old offset (length bytes.old)) }
     ensures cause { IfErr result IsOfReading }
     ensures sees { ReadsFirst S.view F.backing image.old image.new offset bytes.new result }
@@ -278,26 +287,43 @@ pub fn write<S: Storage, F: WrappedFormat<S>>(
     bytes: &[u8],
 ) -> Result<(), (ImageError, u64)>
     ensures image { IsSameImage image.old image.new }
-    ensures faults { NoFewerFaults S.view F.backing image.old image.new × IfErr result (λ (e, n). TellsFault S.view F.backing image.old image.new e) × TellsEachBy S.view F.backing (λ refused. refused.0) image.old image.new result }
+    ensures faults { NoFewerFaults S.view F.backing image.old image.new
+        × IfErr result (λ (e, n). TellsFault S.view F.backing image.old image.new e)
+        × TellsEachBy S.view F.backing (λ refused. refused.0) image.old image.new result }
     ensures header_cluster { StaysBehindHeader S.view image.old image.new }
-    ensures marks { MatchResult result (λ done. MarksInParts S.view None image.old image.new) (λ (e, n). MarksInParts S.view (Some e) image.old image.new) }
+    ensures marks { MatchResult result (λ done. MarksInParts S.view None image.old image.new)
+        (λ (e, n). MarksInParts S.view (Some e) image.old image.new) }
     ensures early { IfSome (refuses_to_prepare image.old offset (length bytes.now)) (λ e. (result ≡ Err (e, 0)) × (image.new ≡ image.old)) }
-    ensures late { refuses_to_prepare image.old offset (length bytes.now) ≡ None → IfErr result (λ (e, n). IsMetPreparing e × (0 < length bytes.now)) }
-    ensures met { refuses_to_prepare image.old offset (length bytes.now) ≡ None → (out : List (Option Prepared)) → (abstract_of S.view F.backing image.old out).is_sound
-        → IfErr result (λ (e, n). IsMetTaking (HasPrepared out) (IsUnderMappingIn image.old.file.header.fields offset (offset + length bytes.now) out) (CopiesCompressed offset (length bytes.now) true image.new.file.header.fields (known_in S.view image.new.file)) (NeedsFarToWrite S.view F.backing image.old offset bytes.now n) e) }
-    ensures taken { refuses_to_prepare image.old offset (length bytes.now) ≡ None → (out : List (Option Prepared)) → (abstract_of S.view F.backing image.old out).is_sound
-        → IfErr result (λ (e, n). e ≡ TablePrepared → IsUnderMappingIn image.old.file.header.fields offset (offset + length bytes.now) out) }
-    ensures taken_part { refuses_to_prepare image.old offset (length bytes.now) ≡ None → (out : List (Option Prepared)) → (abstract_of S.view F.backing image.old out).is_sound
+    ensures late { refuses_to_prepare image.old offset (length bytes.now) ≡ None
+        → IfErr result (λ (e, n). IsMetPreparing e × (0 < length bytes.now)) }
+    ensures met { refuses_to_prepare image.old offset (length bytes.now) ≡ None → (out : List (Option Prepared))
+        → (abstract_of S.view F.backing image.old out).is_sound
+        → IfErr result (λ (e, n). IsMetTaking (HasPrepared out)
+        (IsUnderMappingIn image.old.file.header.fields offset (offset + length bytes.now) out)
+        (CopiesCompressed offset (length bytes.now) true image.new.file.header.fields (known_in S.view image.new.file))
+        (NeedsFarToWrite S.view F.backing image.old offset bytes.now n) e) }
+    ensures taken { refuses_to_prepare image.old offset (length bytes.now) ≡ None → (out : List (Option Prepared))
+        → (abstract_of S.view F.backing image.old out).is_sound
+        → IfErr result (λ (e, n). e ≡ TablePrepared
+        → IsUnderMappingIn image.old.file.header.fields offset (offset + length bytes.now) out) }
+    ensures taken_part { refuses_to_prepare image.old offset (length bytes.now) ≡ None → (out : List (Option Prepared))
+        → (abstract_of S.view F.backing image.old out).is_sound
         → HeedsMappings S.view F.backing image.old out offset bytes.now result }
-    ensures limit { refuses_to_prepare image.old offset (length bytes.now) ≡ None → (out : List (Option Prepared)) → (abstract_of S.view F.backing image.old out).is_sound
-        → IfErr result (λ (e, n). e ≡ Limit → LacksPlaceToWrite S.view F.backing image.old image.new offset bytes.now n) }
-    ensures freeing { (out : List (Option Prepared)) → (abstract_of S.view F.backing image.old out).is_sound → OnOk result (ListsNoMore image.old image.new) }
+    ensures limit { refuses_to_prepare image.old offset (length bytes.now) ≡ None → (out : List (Option Prepared))
+        → (abstract_of S.view F.backing image.old out).is_sound
+        → IfErr result (λ (e, n). e ≡ Limit
+        → LacksPlaceToWrite S.view F.backing image.old image.new offset bytes.now n) }
+    ensures freeing { (out : List (Option Prepared)) → (abstract_of S.view F.backing image.old out).is_sound
+        → OnOk result (ListsNoMore image.old image.new) }
     ensures within { IfErr result (λ (e, n). n ≤ length bytes.now) }
     ensures beyond { IfErr result (λ (e, n). IsRightlyBeyond image.old offset (length bytes.now) e) }
     ensures cause { IfErr result (λ (e, n). IsOfWriting e) }
-    ensures ends { (out : List (Option Prepared)) → (abstract_of S.view F.backing image.old out).is_sound → IfErr result (λ (e, n). 0 < n → (n < length bytes.now) × EndsCluster image.old (offset + n)) }
+    ensures ends { (out : List (Option Prepared)) → (abstract_of S.view F.backing image.old out).is_sound
+        → IfErr result (λ (e, n). 0 < n → (n < length bytes.now) × EndsCluster image.old (offset + n)) }
     ensures sees { Writes S.view F.backing image.old image.new offset bytes.now result }
-    ensures copied { 0 < length bytes.now → (out : List (Option Prepared)) → (abstract_of S.view F.backing image.old out).is_sound → OnOk result (LeavesCopied S.view F.backing image.old image.new offset bytes.now (length bytes.now)) }
+    ensures copied { 0 < length bytes.now → (out : List (Option Prepared))
+        → (abstract_of S.view F.backing image.old out).is_sound
+        → OnOk result (LeavesCopied S.view F.backing image.old image.new offset bytes.now (length bytes.now)) }
     ensures quiet { StaysQuiet S.view image.old image.new }
 {
     let mut done = match write_some(image, offset, bytes) {
@@ -327,22 +353,32 @@ fn write_some<S: Storage, F: WrappedFormat<S>>(
     ensures header_cluster { StaysBehindHeader S.view image.old image.new }
     ensures marks { MarksInParts S.view (reason_in result) image.old image.new }
     ensures early { IfSome (refuses_to_prepare image.old offset (length bytes.now)) (λ e. (result ≡ Err e) × (image.new ≡ image.old)) }
-    ensures late { refuses_to_prepare image.old offset (length bytes.now) ≡ None → IfErr result (λ e. IsMetPreparing e × (0 < length bytes.now)) }
-    ensures met { refuses_to_prepare image.old offset (length bytes.now) ≡ None → (out : List (Option Prepared)) → (abstract_of S.view F.backing image.old out).is_sound
-        → IfErr result (IsMetTaking (HasPrepared out) (IsUnderMapping image.old.file.header.fields offset out) (CopiesCompressed offset (length bytes.now) true image.new.file.header.fields (known_in S.view image.new.file)) (NeedsFarEntry image.old offset)) }
-    ensures taken { refuses_to_prepare image.old offset (length bytes.now) ≡ None → (out : List (Option Prepared)) → (abstract_of S.view F.backing image.old out).is_sound
+    ensures late { refuses_to_prepare image.old offset (length bytes.now) ≡ None
+        → IfErr result (λ e. IsMetPreparing e × (0 < length bytes.now)) }
+    ensures met { refuses_to_prepare image.old offset (length bytes.now) ≡ None → (out : List (Option Prepared))
+        → (abstract_of S.view F.backing image.old out).is_sound
+        → IfErr result (IsMetTaking (HasPrepared out) (IsUnderMapping image.old.file.header.fields offset out)
+        (CopiesCompressed offset (length bytes.now) true image.new.file.header.fields (known_in S.view image.new.file))
+        (NeedsFarEntry image.old offset)) }
+    ensures taken { refuses_to_prepare image.old offset (length bytes.now) ≡ None → (out : List (Option Prepared))
+        → (abstract_of S.view F.backing image.old out).is_sound
         → HeedsFirst S.view F.backing image.old out offset (length bytes.now) result }
-    ensures limit { refuses_to_prepare image.old offset (length bytes.now) ≡ None → (out : List (Option Prepared)) → (abstract_of S.view F.backing image.old out).is_sound
+    ensures limit { refuses_to_prepare image.old offset (length bytes.now) ≡ None → (out : List (Option Prepared))
+        → (abstract_of S.view F.backing image.old out).is_sound
         → IfErr result (λ e. e ≡ Limit → LacksPlaceFor S.view offset (length bytes.now) image.old image.new) }
-    ensures freeing { (out : List (Option Prepared)) → (abstract_of S.view F.backing image.old out).is_sound → OnOk result (ListsNoMore image.old image.new) }
+    ensures freeing { (out : List (Option Prepared)) → (abstract_of S.view F.backing image.old out).is_sound
+        → OnOk result (ListsNoMore image.old image.new) }
     ensures some { IfOk result (λ n. 0 < length bytes.now → 0 < n) }
     ensures within { IfOk result (λ n. n ≤ length bytes.now) }
     ensures beyond { IfErr result (IsRightlyBeyond image.old offset (length bytes.now)) }
     ensures cause { IfErr result IsOfWriting }
     ensures end { IfOk result (λ n. (is_failed image.new ≡ is_failed image.old) × (offset + length bytes.now < 2 ^ 64)) }
-    ensures ends { (out : List (Option Prepared)) → (abstract_of S.view F.backing image.old out).is_sound → IfOk result (λ n. n < length bytes.now → EndsCluster image.old (offset + n)) }
+    ensures ends { (out : List (Option Prepared)) → (abstract_of S.view F.backing image.old out).is_sound
+        → IfOk result (λ n. n < length bytes.now → EndsCluster image.old (offset + n)) }
     ensures sees { WritesFirst S.view F.backing image.old image.new offset bytes.now result }
-    ensures copied { 0 < length bytes.now → (out : List (Option Prepared)) → (abstract_of S.view F.backing image.old out).is_sound → IfOk result (LeavesCopied S.view F.backing image.old image.new offset bytes.now) }
+    ensures copied { 0 < length bytes.now → (out : List (Option Prepared))
+        → (abstract_of S.view F.backing image.old out).is_sound
+        → IfOk result (LeavesCopied S.view F.backing image.old image.new offset bytes.now) }
     ensures quiet { StaysQuiet S.view image.old image.new }
 {
     let prepared = image.prepare_data_mapping(offset, bytes.len() as u64, true)?;
@@ -427,7 +463,8 @@ fn step<S: Storage, F: WrappedFormat<S>>(
     ensures tells { TellsOfImage S.view F.backing image.old image.new slots.old.prepared.items slots.new.prepared.items command.now result }
     ensures after { SlotsAfter slots.old.prepared.items command.now result slots.new.prepared.items }
     ensures size { IsTrue (is_failed image.old) → size_of image.new ≡ size_of image.old }
-    ensures causes { IsRightlyRefused S.view F.backing image.old image.new slots.old.prepared.items (mappings_in slots.old.mappings.items) command.now result }
+    ensures causes { IsRightlyRefused S.view F.backing image.old image.new slots.old.prepared.items
+        (mappings_in slots.old.mappings.items) command.now result }
     ensures quiet { LeavesQuietly S.view image.old slots.old.prepared.items image.new slots.new.prepared.items }
 {
     match command {
@@ -481,12 +518,14 @@ fn get_mapping<S: Storage, F: WrappedFormat<S>>(
     ensures faults { CommandCounts S.view F.backing image.old image.new result }
     ensures header_cluster { StaysBehindHeader S.view image.old image.new }
     ensures marks { MarksAtOnce S.view (refusal_in result) image.old image.new }
-    ensures causes { IsRightlyRefused S.view F.backing image.old image.new slots.old.prepared.items (mappings_in slots.old.mappings.items) (Command.GetMapping slot offset max) result }
+    ensures causes { IsRightlyRefused S.view F.backing image.old image.new slots.old.prepared.items
+        (mappings_in slots.old.mappings.items) (Command.GetMapping slot offset max) result }
     ensures slots { slots.new.image ≡ slots.old.image }
     ensures command_step { CommandSteps S.view F.backing image.old image.new slots.old slots.new (Command.GetMapping slot offset max) result }
     ensures finds { Finds slots.old slots.new (Command.GetMapping slot offset max) result }
     ensures after { SlotsAfter slots.old.prepared.items (Command.GetMapping slot offset max) result slots.new.prepared.items }
-    ensures tells { TellsOfImage S.view F.backing image.old image.new slots.old.prepared.items slots.new.prepared.items (Command.GetMapping slot offset max) result }
+    ensures tells { TellsOfImage S.view F.backing image.old image.new slots.old.prepared.items slots.new.prepared.items
+        (Command.GetMapping slot offset max) result }
     ensures quiet { LeavesQuietly S.view image.old slots.old.prepared.items image.new slots.new.prepared.items }
 {
     match image.get_mapping(offset, max) {
@@ -511,7 +550,8 @@ fn read_mapped<S: Storage, F: WrappedFormat<S>>(
     ensures faults { CommandCounts S.view F.backing image.old image.new result }
     ensures header_cluster { StaysBehindHeader S.view image.old image.new }
     ensures marks { MarksAtOnce S.view (refusal_in result) image.old image.new }
-    ensures causes { IsRightlyRefused S.view F.backing image.old image.new slots.now.prepared.items (mappings_in slots.now.mappings.items) (Command.ReadMapped slot at length) result }
+    ensures causes { IsRightlyRefused S.view F.backing image.old image.new slots.now.prepared.items
+        (mappings_in slots.now.mappings.items) (Command.ReadMapped slot at length) result }
     ensures command_step { CommandSteps S.view F.backing image.old image.new slots.now slots.now (Command.ReadMapped slot at length) result }
     ensures finds { Finds slots.now slots.now (Command.ReadMapped slot at length) result }
     ensures quiet { ReadsQuietly S.view image.old image.new }
@@ -543,10 +583,15 @@ fn read_range<S: Storage, F: WrappedFormat<S>>(
     ensures marks { MarksAtOnce S.view (reason_in result) image.old image.new }
     ensures early { IfSome (unusable image.old) (λ e. (result ≡ Err e) × (image.new ≡ image.old)) }
     ensures late { refuses_mapping image.old mapping.now.image ≡ None → IfErr result (λ e. IsMet e × (0 < length)) }
-    ensures met { refuses_mapping image.old mapping.now.image ≡ None → (out : List (Option Prepared)) → (abstract_of S.view F.backing image.old out).is_sound → IfErr result (IsMetMapped (IsCacheHeld image.old out) (further_by at mapping.now.kind) (IsFoundWhole S.view image.old (mapping.now.offset + at) (further_by at mapping.now.kind) length)) }
+    ensures met { refuses_mapping image.old mapping.now.image ≡ None → (out : List (Option Prepared))
+        → (abstract_of S.view F.backing image.old out).is_sound
+        → IfErr result (IsMetMapped (IsCacheHeld image.old out) (further_by at mapping.now.kind)
+        (IsFoundWhole S.view image.old (mapping.now.offset + at) (further_by at mapping.now.kind) length)) }
     ensures outdated { (out : List (Option Prepared)) → (abstract_of S.view F.backing image.old out).is_sound → result ≡ Err OutdatedMapping
         → ¬ IsFoundWhole S.view image.old (mapping.now.offset + at) (further_by at mapping.now.kind) length }
-    ensures mapped { 0 < length → (out : List (Option Prepared)) → (abstract_of S.view F.backing image.old out).is_sound → OnOk result (IsFoundWhole S.view image.old (mapping.now.offset + at) (further_by at mapping.now.kind) length) }
+    ensures mapped { 0 < length → (out : List (Option Prepared)) → (abstract_of S.view F.backing image.old out).is_sound
+        → OnOk result (IsFoundWhole S.view image.old (mapping.now.offset + at)
+        (further_by at mapping.now.kind) length) }
     ensures sees { Reads S.view F.backing image.old image.new (mapping.now.offset + at) length result }
     ensures quiet { ReadsQuietly S.view image.old image.new }
 {
@@ -569,12 +614,15 @@ fn prepare<S: Storage, F: WrappedFormat<S>>(
     ensures faults { CommandCounts S.view F.backing image.old image.new result }
     ensures header_cluster { StaysBehindHeader S.view image.old image.new }
     ensures marks { MarksAtOnce S.view (refusal_in result) image.old image.new }
-    ensures causes { IsRightlyRefused S.view F.backing image.old image.new slots.old.prepared.items (mappings_in slots.old.mappings.items) (Command.PrepareDataMapping slot offset length overwrite) result }
+    ensures causes { IsRightlyRefused S.view F.backing image.old image.new slots.old.prepared.items
+        (mappings_in slots.old.mappings.items) (Command.PrepareDataMapping slot offset length overwrite) result }
     ensures slots { slots.new.image ≡ slots.old.image }
-    ensures command_step { CommandSteps S.view F.backing image.old image.new slots.old slots.new (Command.PrepareDataMapping slot offset length overwrite) result }
+    ensures command_step { CommandSteps S.view F.backing image.old image.new slots.old slots.new
+        (Command.PrepareDataMapping slot offset length overwrite) result }
     ensures finds { Finds slots.old slots.new (Command.PrepareDataMapping slot offset length overwrite) result }
     ensures after { SlotsAfter slots.old.prepared.items (Command.PrepareDataMapping slot offset length overwrite) result slots.new.prepared.items }
-    ensures tells { TellsOfImage S.view F.backing image.old image.new slots.old.prepared.items slots.new.prepared.items (Command.PrepareDataMapping slot offset length overwrite) result }
+    ensures tells { TellsOfImage S.view F.backing image.old image.new slots.old.prepared.items slots.new.prepared.items
+        (Command.PrepareDataMapping slot offset length overwrite) result }
     ensures quiet { LeavesQuietly S.view image.old slots.old.prepared.items image.new slots.new.prepared.items }
 {
     if slots.get(slot).is_some() {
@@ -607,7 +655,8 @@ fn write_mapped<S: Storage, F: WrappedFormat<S>>(
     ensures faults { CommandCounts S.view F.backing image.old image.new result }
     ensures header_cluster { StaysBehindHeader S.view image.old image.new }
     ensures marks { MarksAtOnce S.view (refusal_in result) image.old image.new }
-    ensures causes { IsRightlyRefused S.view F.backing image.old image.new slots.now.prepared.items (mappings_in slots.now.mappings.items) (Command.WriteMapped slot at bytes.now) result }
+    ensures causes { IsRightlyRefused S.view F.backing image.old image.new slots.now.prepared.items
+        (mappings_in slots.now.mappings.items) (Command.WriteMapped slot at bytes.now) result }
     ensures command_step { CommandSteps S.view F.backing image.old image.new slots.now slots.now (Command.WriteMapped slot at bytes.now) result }
     ensures finds { Finds slots.now slots.now (Command.WriteMapped slot at bytes.now) result }
 {
@@ -634,7 +683,8 @@ fn commit<S: Storage, F: WrappedFormat<S>>(
     ensures faults { CommandCounts S.view F.backing image.old image.new result }
     ensures header_cluster { StaysBehindHeader S.view image.old image.new }
     ensures marks { MarksAtOnce S.view (refusal_in result) image.old image.new }
-    ensures causes { IsRightlyRefused S.view F.backing image.old image.new slots.old.prepared.items (mappings_in slots.old.mappings.items) (Command.CommitDataMapping slot) result }
+    ensures causes { IsRightlyRefused S.view F.backing image.old image.new slots.old.prepared.items
+        (mappings_in slots.old.mappings.items) (Command.CommitDataMapping slot) result }
     ensures slots { slots.new.image ≡ slots.old.image }
     ensures command_step { CommandSteps S.view F.backing image.old image.new slots.old slots.new (Command.CommitDataMapping slot) result }
     ensures finds { Finds slots.old slots.new (Command.CommitDataMapping slot) result }
@@ -664,7 +714,8 @@ fn discard<S: Storage, F: WrappedFormat<S>>(
     ensures faults { CommandCounts S.view F.backing image.old image.new result }
     ensures header_cluster { StaysBehindHeader S.view image.old image.new }
     ensures marks { MarksAtOnce S.view (refusal_in result) image.old image.new }
-    ensures causes { IsRightlyRefused S.view F.backing image.old image.new slots.old.prepared.items (mappings_in slots.old.mappings.items) (Command.DiscardDataMapping slot) result }
+    ensures causes { IsRightlyRefused S.view F.backing image.old image.new slots.old.prepared.items
+        (mappings_in slots.old.mappings.items) (Command.DiscardDataMapping slot) result }
     ensures slots { slots.new.image ≡ slots.old.image }
     ensures command_step { CommandSteps S.view F.backing image.old image.new slots.old slots.new (Command.DiscardDataMapping slot) result }
     ensures finds { Finds slots.old slots.new (Command.DiscardDataMapping slot) result }
@@ -685,7 +736,8 @@ fn flush<S: Storage, F: WrappedFormat<S>>(image: &mut Qcow2<S, F>) -> Reply
     ensures faults { CommandCounts S.view F.backing image.old image.new result }
     ensures header_cluster { StaysBehindHeader S.view image.old image.new }
     ensures marks { MarksAtOnce S.view (refusal_in result) image.old image.new }
-    ensures causes { (before : List (Option Prepared)) (found : ℕ → Option Mapping) → IsRightlyRefused S.view F.backing image.old image.new before found Command.Flush result }
+    ensures causes { (before : List (Option Prepared)) (found : ℕ → Option Mapping)
+        → IsRightlyRefused S.view F.backing image.old image.new before found Command.Flush result }
     ensures command_step { (slots : Slots) → CommandSteps S.view F.backing image.old image.new slots slots Command.Flush result }
     ensures finds { (slots : Slots) → Finds slots slots Command.Flush result }
     ensures quiet { StaysQuiet S.view image.old image.new }

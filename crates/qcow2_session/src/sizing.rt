@@ -28,7 +28,8 @@ pub(crate) fn grow<S: Storage, F: WrappedFormat<S>>(
     ensures faults { CommandCounts S.view F.backing image.old image.new result }
     ensures header_cluster { StaysBehindHeader S.view image.old image.new }
     ensures marks { MarksAtOnce S.view (refusal_in result) image.old image.new }
-    ensures causes { (before : List (Option Prepared)) (found : ℕ → Option Mapping) → IsRightlyRefused S.view F.backing image.old image.new before found (ResizeGrow size mode) result }
+    ensures causes { (before : List (Option Prepared)) (found : ℕ → Option Mapping)
+        → IsRightlyRefused S.view F.backing image.old image.new before found (ResizeGrow size mode) result }
     ensures command_step { (slots : Slots) → CommandSteps S.view F.backing image.old image.new slots slots (ResizeGrow size mode) result }
     ensures finds { (slots : Slots) → Finds slots slots (ResizeGrow size mode) result }
 {
@@ -47,7 +48,8 @@ pub(crate) fn shrink<S: Storage, F: WrappedFormat<S>>(image: &mut Qcow2<S, F>, s
     ensures header_cluster { StaysBehindHeader S.view image.old image.new }
     ensures marks { MarksAtOnce S.view (refusal_in result) image.old image.new }
     ensures tells { (before : List (Option Prepared)) → TellsOfImage S.view F.backing image.old image.new before before (ResizeShrink size) result }
-    ensures causes { (before : List (Option Prepared)) (found : ℕ → Option Mapping) → IsRightlyRefused S.view F.backing image.old image.new before found (ResizeShrink size) result }
+    ensures causes { (before : List (Option Prepared)) (found : ℕ → Option Mapping)
+        → IsRightlyRefused S.view F.backing image.old image.new before found (ResizeShrink size) result }
     ensures command_step { (slots : Slots) → CommandSteps S.view F.backing image.old image.new slots slots (ResizeShrink size) result }
     ensures finds { (slots : Slots) → Finds slots slots (ResizeShrink size) result }
 {

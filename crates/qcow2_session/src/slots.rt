@@ -69,7 +69,8 @@ impl Slots {
     }
 
     pub(crate) fn get(&self, slot: u8) -> Option<&Prepared>
-        ensures { MatchOption result (slice_get self.now.prepared.items slot ≡ Some None) (λ p. slice_get self.now.prepared.items slot ≡ Some (Some p.now)) }
+        ensures { MatchOption result (slice_get self.now.prepared.items slot ≡ Some None)
+            (λ p. slice_get self.now.prepared.items slot ≡ Some (Some p.now)) }
     {
         self.prepared[usize::from(slot)].as_ref()
     }

@@ -37,7 +37,8 @@ pub(crate) fn readv_special<S: Storage, F: WrappedFormat<S>>(
     ensures faults { CommandCounts S.view F.backing image.old image.new result }
     ensures header_cluster { StaysBehindHeader S.view image.old image.new }
     ensures marks { MarksAtOnce S.view (refusal_in result) image.old image.new }
-    ensures causes { (before : List (Option Prepared)) (found : ℕ → Option Mapping) → IsRightlyRefused S.view F.backing image.old image.new before found (ReadvSpecial offset length) result }
+    ensures causes { (before : List (Option Prepared)) (found : ℕ → Option Mapping)
+        → IsRightlyRefused S.view F.backing image.old image.new before found (ReadvSpecial offset length) result }
     ensures command_step { (slots : Slots) → CommandSteps S.view F.backing image.old image.new slots slots (ReadvSpecial offset length) result }
     ensures finds { (slots : Slots) → Finds slots slots (ReadvSpecial offset length) result }
     ensures quiet { ReadsQuietly S.view image.old image.new }
@@ -59,8 +60,10 @@ pub(crate) fn try_readv_special<S: Storage, F: WrappedFormat<S>>(
     ensures faults { CommandCounts S.view F.backing image.old image.new result }
     ensures header_cluster { StaysBehindHeader S.view image.old image.new }
     ensures marks { MarksAtOnce S.view (refusal_in result) image.old image.new }
-    ensures tells { (before : List (Option Prepared)) → TellsOfImage S.view F.backing image.old image.new before before (TryReadvSpecial offset length) result }
-    ensures causes { (before : List (Option Prepared)) (found : ℕ → Option Mapping) → IsRightlyRefused S.view F.backing image.old image.new before found (TryReadvSpecial offset length) result }
+    ensures tells { (before : List (Option Prepared))
+        → TellsOfImage S.view F.backing image.old image.new before before (TryReadvSpecial offset length) result }
+    ensures causes { (before : List (Option Prepared)) (found : ℕ → Option Mapping)
+        → IsRightlyRefused S.view F.backing image.old image.new before found (TryReadvSpecial offset length) result }
     ensures command_step { (slots : Slots) → CommandSteps S.view F.backing image.old image.new slots slots (TryReadvSpecial offset length) result }
     ensures finds { (slots : Slots) → Finds slots slots (TryReadvSpecial offset length) result }
     ensures quiet { ReadsQuietly S.view image.old image.new }
@@ -83,10 +86,12 @@ fn read_range<S: Storage, F: WrappedFormat<S>>(
     ensures marks { MarksAtOnce S.view (reason_in result) image.old image.new }
     ensures early { IfSome (unusable image.old) (λ e. (result ≡ Err e) × (image.new ≡ image.old)) }
     ensures late { unusable image.old ≡ None → IfErr result (λ e. (IsMet e ⊎ (e ≡ NotCompressed offset)) × (0 < length)) }
-    ensures met { (out : List (Option Prepared)) → (abstract_of S.view F.backing image.old out).is_sound → IfErr result (IsMetSpecial (IsCacheHeld image.old out) offset) }
+    ensures met { (out : List (Option Prepared)) → (abstract_of S.view F.backing image.old out).is_sound
+        → IfErr result (IsMetSpecial (IsCacheHeld image.old out) offset) }
     ensures empty { IfOk result (λ done. length ≡ 0) }
     ensures own { IfErr result (IsOwnOffset offset) }
-    ensures tells { (out : List (Option Prepared)) → (abstract_of S.view F.backing image.old out).is_sound → TellsSpecial (known_in S.view image.old.file) offset length result }
+    ensures tells { (out : List (Option Prepared)) → (abstract_of S.view F.backing image.old out).is_sound
+        → TellsSpecial (known_in S.view image.old.file) offset length result }
     ensures sees { AnswersCall S.view F.backing image.old image.new [] (λ done was is. is ≡ was) result }
     ensures quiet { ReadsQuietly S.view image.old image.new }
 {
@@ -107,9 +112,11 @@ fn try_range<S: Storage, F: WrappedFormat<S>>(
     ensures marks { MarksAtOnce S.view (reason_in result) image.old image.new }
     ensures early { IfSome (unusable image.old) (λ e. (result ≡ Err e) × (image.new ≡ image.old)) }
     ensures late { unusable image.old ≡ None → IfErr result (λ e. IsMet e × (0 < length)) }
-    ensures met { (out : List (Option Prepared)) → (abstract_of S.view F.backing image.old out).is_sound → IfErr result (λ e. IsMetLooking (IsCacheHeld image.old out) e ⊎ (e ≡ Compressed)) }
+    ensures met { (out : List (Option Prepared)) → (abstract_of S.view F.backing image.old out).is_sound
+        → IfErr result (λ e. IsMetLooking (IsCacheHeld image.old out) e ⊎ (e ≡ Compressed)) }
     ensures answer { IfOk result (λ plain. MatchOption plain (length ≡ 0) (λ at. at ≡ offset)) }
-    ensures tells { (out : List (Option Prepared)) → (abstract_of S.view F.backing image.old out).is_sound → TellsPlain (known_in S.view image.old.file) offset length result }
+    ensures tells { (out : List (Option Prepared)) → (abstract_of S.view F.backing image.old out).is_sound
+        → TellsPlain (known_in S.view image.old.file) offset length result }
     ensures sees { AnswersCall S.view F.backing image.old image.new [] (λ plain was is. is ≡ was) result }
     ensures quiet { ReadsQuietly S.view image.old image.new }
 {

@@ -16,7 +16,8 @@ use std::io::Write;
 /// Prints the report of the image in the storage, which is only read, and answers the exit status: 0 where it is consistent.
 pub fn report<S: Storage, W: Write>(alloc: Global, storage: &mut S, output: &mut W) -> u8
     ensures bound { result ≤ 1 }
-    ensures consistent { (S.view storage.old).is_honest → result ≡ 0 → IsFoundConsistent (byte_at (S.view storage.old).contents) (W.contents output.old) (W.contents output.new) }
+    ensures consistent { (S.view storage.old).is_honest → result ≡ 0
+        → IsFoundConsistent (byte_at (S.view storage.old).contents) (W.contents output.old) (W.contents output.new) }
     ensures reading { ContentsStay (S.view storage.old) (S.view storage.new) }
 {
     let report = match check(alloc, storage) {
@@ -29,7 +30,9 @@ pub fn report<S: Storage, W: Write>(alloc: Global, storage: &mut S, output: &mut
 // Prints a report to the end, and answers the exit status.
 fn tell<W: Write>(output: &mut W, report: &Report) -> u8
     ensures bound { result ≤ 1 }
-    ensures consistent { result ≡ 0 → (report.now.breaches.items ≡ []) × Appends (W.contents output.old) (W.contents output.new) (text_of_report report.now.breaches.items report.now.leaks.items) }
+    ensures consistent { result ≡ 0 → (report.now.breaches.items ≡ [])
+        × Appends (W.contents output.old) (W.contents output.new)
+        (text_of_report report.now.breaches.items report.now.leaks.items) }
 {
     let printed = print_report(output, report);
     let status = end(printed, output);

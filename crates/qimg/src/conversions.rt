@@ -25,9 +25,15 @@ pub fn import_raw<R: Storage, S: Storage, W: Write>(
     output: &mut W,
 ) -> (u8, S)
     ensures bound { result.0 ≤ 2 }
-    ensures imported { result.0 ≡ 0 → IsTold imported_line (W.contents output.old) (W.contents output.new) (λ n. (R.view raw.old).is_honest → n ≡ length (R.view raw.old).contents) }
-    ensures image { (R.view raw.old).is_honest → (S.view storage).is_honest → result.0 ≡ 0 → IsImageOf (S.view result.1) (R.view raw.old).contents (clusters_asked invocation.now) (width_asked invocation.now) }
-    ensures stops { (R.view raw.old).is_honest → (S.view storage).is_honest → EachMomentSince (S.view storage) (S.view result.1) (λ c. IsStopOfMaking (length (R.view raw.old).contents) (byte_at c)) }
+    ensures imported { result.0 ≡ 0
+        → IsTold imported_line (W.contents output.old) (W.contents output.new)
+        (λ n. (R.view raw.old).is_honest → n ≡ length (R.view raw.old).contents) }
+    ensures image { (R.view raw.old).is_honest → (S.view storage).is_honest → result.0 ≡ 0
+        → IsImageOf (S.view result.1) (R.view raw.old).contents (clusters_asked invocation.now)
+        (width_asked invocation.now) }
+    ensures stops { (R.view raw.old).is_honest → (S.view storage).is_honest
+        → EachMomentSince (S.view storage) (S.view result.1)
+        (λ c. IsStopOfMaking (length (R.view raw.old).contents) (byte_at c)) }
     ensures raw { IsLeft (R.view raw.old) (R.view raw.new) }
 {
     let Invocation::Import {
@@ -56,10 +62,13 @@ pub fn export_raw<S: Storage, R: Storage, W: Write>(
     output: &mut W,
 ) -> (u8, S)
     ensures bound { result.0 ≤ 1 }
-    ensures exported { result.0 ≡ 0 → IsTold exported_line (W.contents output.old) (W.contents output.new)
-        (λ n. (R.view raw.old).is_honest → (S.view storage).is_honest → IsConsistent (byte_at (S.view storage).contents) → IsExport (S.view storage).contents n (R.view raw.new).contents) }
+    ensures exported { result.0 ≡ 0
+        → IsTold exported_line (W.contents output.old) (W.contents output.new)
+        (λ n. (R.view raw.old).is_honest → (S.view storage).is_honest → IsConsistent (byte_at (S.view storage).contents)
+        → IsExport (S.view storage).contents n (R.view raw.new).contents) }
     ensures image { (S.view storage).is_honest → IsConsistent (byte_at (S.view storage).contents) → KeepsDisk (S.view storage) (S.view result.1) }
-    ensures another { (S.view storage).is_honest → NeedsAnother (S.view storage).contents → ContentsStay (S.view storage) (S.view result.1) × (raw.new ≡ raw.old) }
+    ensures another { (S.view storage).is_honest → NeedsAnother (S.view storage).contents
+        → ContentsStay (S.view storage) (S.view result.1) × (raw.new ≡ raw.old) }
 {
     let (storage, exported) = make_raw_disk(alloc, storage, raw);
     let status = match exported {

@@ -212,7 +212,8 @@ fn zero_command(operands: &[&str]) -> Result<Command, LineError>
 }
 
 fn discard_to_zero_command(operands: &[&str]) -> Result<Command, LineError>
-    ensures ok { IfOk result (λ command. clear_of discards_to_zero (range_alone (map (λ word. word.now) operands.now)) ≡ Some (order_of_command command)) }
+    ensures ok { IfOk result (λ command. clear_of discards_to_zero
+        (range_alone (map (λ word. word.now) operands.now)) ≡ Some (order_of_command command)) }
     ensures unreadable { IsErrOf result Unreadable → clear_of discards_to_zero (range_alone (map (λ word. word.now) operands.now)) ≡ None }
 {
     let (offset, length) = range_of_operands(operands)?;
@@ -220,7 +221,8 @@ fn discard_to_zero_command(operands: &[&str]) -> Result<Command, LineError>
 }
 
 fn discard_to_any_command(operands: &[&str]) -> Result<Command, LineError>
-    ensures ok { IfOk result (λ command. clear_of discards_to_any (range_alone (map (λ word. word.now) operands.now)) ≡ Some (order_of_command command)) }
+    ensures ok { IfOk result (λ command. clear_of discards_to_any
+        (range_alone (map (λ word. word.now) operands.now)) ≡ Some (order_of_command command)) }
     ensures unreadable { IsErrOf result Unreadable → clear_of discards_to_any (range_alone (map (λ word. word.now) operands.now)) ≡ None }
 {
     let (offset, length) = range_of_operands(operands)?;
@@ -228,7 +230,8 @@ fn discard_to_any_command(operands: &[&str]) -> Result<Command, LineError>
 }
 
 fn discard_to_backing_command(operands: &[&str]) -> Result<Command, LineError>
-    ensures ok { IfOk result (λ command. clear_of discards_to_backing (range_alone (map (λ word. word.now) operands.now)) ≡ Some (order_of_command command)) }
+    ensures ok { IfOk result (λ command. clear_of discards_to_backing
+        (range_alone (map (λ word. word.now) operands.now)) ≡ Some (order_of_command command)) }
     ensures unreadable { IsErrOf result Unreadable → clear_of discards_to_backing (range_alone (map (λ word. word.now) operands.now)) ≡ None }
 {
     let (offset, length) = range_of_operands(operands)?;

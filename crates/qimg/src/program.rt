@@ -75,8 +75,10 @@ pub fn script<S: Storage, F: WrappedFormat<S>, R: BufRead, W: Write, M: Write>(
     messages: &mut M,
 ) -> (u8, io::Result<()>, S)
     ensures bound { result.0 ≤ 2 }
-    ensures done { result.0 ≡ 0 → HasRunText S.view F.backing storage result.2 (R.remaining input.old) (W.contents output.old) (W.contents output.new) }
-    ensures ends { EndsOrLeaves S.view F.backing storage result.2 (R.remaining input.old) result.0 result.1 (W.contents output.old) (W.contents output.new) }
+    ensures done { result.0 ≡ 0 → HasRunText S.view F.backing storage result.2 (R.remaining input.old)
+        (W.contents output.old) (W.contents output.new) }
+    ensures ends { EndsOrLeaves S.view F.backing storage result.2 (R.remaining input.old) result.0 result.1
+        (W.contents output.old) (W.contents output.new) }
     ensures another { (S.view storage).is_honest → NeedsAnother (S.view storage).contents → ContentsStay (S.view storage) (S.view result.2) }
 {
     let Ok(script) = read_script(alloc, input) else {
@@ -221,7 +223,8 @@ fn print_end<W: Write, M: Write>(
     printed: io::Result<bool>,
 ) -> io::Result<bool>
     ensures printed { IfOk result (λ accepted. printed ≡ Ok accepted) }
-    ensures text { OnOk result (Appends (W.contents output.old) (W.contents output.new) (end_text (is_cut script.now.end) (length script.now.commands.items))) }
+    ensures text { OnOk result (Appends (W.contents output.old) (W.contents output.new)
+        (end_text (is_cut script.now.end) (length script.now.commands.items))) }
 {
     if !script.is_cut() {
         return printed;

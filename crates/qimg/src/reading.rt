@@ -44,7 +44,8 @@ impl Script {
 /// or a read fails in it. Refused where memory is missing.
 #[tactic(auto, using(crate::proofs::Scripts::script_failed))]
 pub fn read_script<R: BufRead>(alloc: Global, input: &mut R) -> Result<Script, AllocError>
-    ensures { IfSome (R.remaining input.old) (λ text. IfOk result (λ script. IsScriptOf text (map order_of_command script.commands.items) script.end)) }
+    ensures { IfSome (R.remaining input.old)
+        (λ text. IfOk result (λ script. IsScriptOf text (map order_of_command script.commands.items) script.end)) }
 {
     let mut commands = Vec::new(alloc);
     for _ in 0..u64::MAX {
@@ -77,7 +78,10 @@ pub fn read_script<R: BufRead>(alloc: Global, input: &mut R) -> Result<Script, A
 // The command of the next line; None at the end of the input.
 #[tactic(auto, using(crate::proofs::Scripts::asks_nothing))]
 fn next_command<R: BufRead>(alloc: Global, input: &mut R) -> Result<Option<Command>, LineError>
-    ensures asked { IfSome (R.remaining input.old) (λ text. IfOk result (λ next. MatchOption next (text ≡ []) (λ command. (rest : List ℕ) × (R.remaining input.new ≡ Some rest) × BeginsWith text (order_of_command command) rest))) }
+    ensures asked { IfSome (R.remaining input.old)
+        (λ text. IfOk result (λ next. MatchOption next (text ≡ [])
+        (λ command. (rest : List ℕ) × (R.remaining input.new ≡ Some rest)
+        × BeginsWith text (order_of_command command) rest))) }
     ensures unreadable { IsErrOf result Unreadable → IfSome (R.remaining input.old) AsksNothing }
 {
     let mut line = Vec::new(alloc);

@@ -36,7 +36,9 @@ pub fn check<S: Storage, W: Write>(
     ensures status { (S.view storage.old).is_honest → IfOk result (IsStatusOf (byte_at (S.view storage.old).contents)) }
     ensures lines { (S.view storage.old).is_honest → IfOk result (IsStatusOfLines (byte_at (S.view storage.old).contents)) }
     ensures cause { (S.view storage.old).is_honest → IfErr result (IsReasonForNoStatus (byte_at (S.view storage.old).contents)) }
-    ensures printed { (S.view storage.old).is_honest → form ≡ Text → OnOk result (IsReported (byte_at (S.view storage.old).contents) (W.contents output.old) (W.contents output.new)) }
+    ensures printed { (S.view storage.old).is_honest → form ≡ Text
+        → OnOk result (IsReported (byte_at (S.view storage.old).contents) (W.contents output.old)
+        (W.contents output.new)) }
     ensures reading { ContentsStay (S.view storage.old) (S.view storage.new) }
 {
     let report = match report_of(alloc, storage) {

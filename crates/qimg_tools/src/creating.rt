@@ -22,7 +22,8 @@ pub fn create<S: Storage>(
 ) -> (S, Result<(), ImageError>)
     ensures created { (S.view storage).is_honest → IfOk result.1 (λ done. IsCreated (builder_of storage size layout) (S.view result.0)) }
     ensures refused { ¬ IsAllowed (builder_of storage size layout) → (result.1 ≡ Err InvalidOption) × (result.0 ≡ storage) }
-    ensures limit { IsAllowed (builder_of storage size layout) → longest_disk layout.cluster_size < size → (result.1 ≡ Err Limit) × (result.0 ≡ storage) }
+    ensures limit { IsAllowed (builder_of storage size layout) → longest_disk layout.cluster_size < size
+        → (result.1 ≡ Err Limit) × (result.0 ≡ storage) }
     ensures stops { (S.view storage).is_honest → StopsCreating None size (S.view storage) (S.view result.0) }
     ensures cause { (S.view storage).is_honest → IfErr result.1 (IsReasonNotToCreate S.view (builder_of storage size layout) result.0) }
     ensures faults { FaultsTold (S.view storage).faults (S.view result.0).faults result.1 }

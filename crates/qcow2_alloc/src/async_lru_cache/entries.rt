@@ -165,8 +165,10 @@ pub(crate) fn replace_entry<B: AsyncLruCacheBackend>(
 ) -> Result<bool, CacheError<B::Key, B::Error>>
     requires found { IsSome (lookup (B.Key.eq key) entries.old.entries) }
     requires there { IsSome value.old }
-    ensures replaces { IfSome (lookup_entry (B.Key.eq key) entries.old.entries) (λ e. IfSome value.old (λ v.
-        Replaces (B.steps backend.now) key e (remove_entry (B.Key.eq key) entries.old.entries) v may_flush store.old entries.old.entries result store.new entries.new.entries value.new)) }
+    ensures replaces { IfSome (lookup_entry (B.Key.eq key) entries.old.entries)
+        (λ e. IfSome value.old (λ v. Replaces (B.steps backend.now) key e
+        (remove_entry (B.Key.eq key) entries.old.entries) v may_flush store.old entries.old.entries result store.new
+        entries.new.entries value.new)) }
     ensures fits { length entries.new.entries ≡ length entries.old.entries }
     ensures cap { entries.new.cap ≡ entries.old.cap }
     ensures keeps { B.keeps store.old store.new }

@@ -277,7 +277,8 @@ impl<S: Storage> ImageStorage<S> {
     /// They stay in the header then.
     pub fn clear_autoclear(&mut self, header: &mut Header) -> Result<(), StorageError>
         requires { IsToldOther self.old }
-        ensures written { header.old.fields.autoclear ≢ 0 → Changes (S.view (storage_of self.old)) (S.view (storage_of self.new)) result autoclear_cleared }
+        ensures written { header.old.fields.autoclear ≢ 0
+            → Changes (S.view (storage_of self.old)) (S.view (storage_of self.new)) result autoclear_cleared }
         ensures idle { header.old.fields.autoclear ≡ 0 → IsOk result × (self.new ≡ self.old) }
         ensures ok { OnOk result (header.new ≡ with_fields header.old (without_autoclear header.old.fields)) }
         ensures err { OnErr result (header.new ≡ header.old) }

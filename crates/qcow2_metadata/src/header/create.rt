@@ -48,7 +48,8 @@ fn new_fields(
     data_file_name: Option<&str>,
 ) -> HeaderFields
     requires { CanBeNew cluster_bits refcount_order (option_copied backing_name) (option_copied backing_format) (option_copied data_file_name) }
-    ensures { result ≡ new_fields_of cluster_bits refcount_order (option_copied backing_name.entry) (option_copied backing_format.entry) (option_copied data_file_name.entry) }
+    ensures { result ≡ new_fields_of cluster_bits refcount_order (option_copied backing_name.entry)
+        (option_copied backing_format.entry) (option_copied data_file_name.entry) }
 {
     let place = name_place(backing_format, data_file_name);
     HeaderFields {
@@ -92,7 +93,8 @@ impl Header {
         backing_format: Option<&str>,
         data_file_name: Option<&str>,
     ) -> bool
-        ensures { IsTrue result ↔ CanBeNew cluster_bits refcount_order (option_copied backing_name.entry) (option_copied backing_format.entry) (option_copied data_file_name.entry) }
+        ensures { IsTrue result ↔ CanBeNew cluster_bits refcount_order (option_copied backing_name.entry)
+            (option_copied backing_format.entry) (option_copied data_file_name.entry) }
     {
         if !(9..=21).contains(&cluster_bits) || refcount_order > 6 {
             return false;
@@ -114,8 +116,10 @@ impl Header {
         backing_format: Option<String>,
         data_file_name: Option<String>,
     ) -> Header
-        requires { CanBeNew cluster_bits refcount_order (option_map string_bytes backing_name) (option_map string_bytes backing_format) (option_map string_bytes data_file_name) }
-        ensures value { result ≡ new_header cluster_bits refcount_order (option_map string_bytes backing_name) (option_map string_bytes backing_format) (option_map string_bytes data_file_name) }
+        requires { CanBeNew cluster_bits refcount_order (option_map string_bytes backing_name)
+            (option_map string_bytes backing_format) (option_map string_bytes data_file_name) }
+        ensures value { result ≡ new_header cluster_bits refcount_order (option_map string_bytes backing_name)
+            (option_map string_bytes backing_format) (option_map string_bytes data_file_name) }
         ensures names { HasNewNames result }
     {
         let fields = new_fields(

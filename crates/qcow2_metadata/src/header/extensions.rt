@@ -28,7 +28,8 @@ fn extension_at(cluster: &[u8], place: usize) -> Result<Option<Extension<'_>>, M
     ensures end { IfOk result (λ o. IfNone o (AreExtensions (byte_at cluster.now) (length cluster.now) place [])) }
     ensures one { IfOk result (λ o. IfSome o (λ e. IsExtension (byte_at cluster.now) (length cluster.now) place (e.kind, e.bytes.now))) }
     ensures next { IfOk result (λ o. IfSome o (λ e. e.next ≡ behind_extension place (length e.bytes.now))) }
-    ensures err { IfErr result (λ e. (e ≡ MetadataError.Format) × ((list : List (ℕ × List ℕ)) → ¬ AreExtensions (byte_at cluster.now) (length cluster.now) place list)) }
+    ensures err { IfErr result (λ e. (e ≡ MetadataError.Format)
+        × ((list : List (ℕ × List ℕ)) → ¬ AreExtensions (byte_at cluster.now) (length cluster.now) place list)) }
 {
     if place + 8 > cluster.len() {
         return Err(MetadataError::Format);
@@ -64,7 +65,8 @@ fn name_so_far<'a>(
     so_far: Option<&'a str>,
     extension: &Extension<'a>,
 ) -> Result<Option<&'a str>, MetadataError>
-    ensures name { IfOk result (λ name. option_copied name ≡ first_so_far kind (option_copied so_far.entry) ((extension.now.kind, extension.now.bytes.now) ∷ [])) }
+    ensures name { IfOk result (λ name. option_copied name ≡ first_so_far kind (option_copied so_far.entry)
+        ((extension.now.kind, extension.now.bytes.now) ∷ [])) }
     ensures text { OnOk result (extension.now.kind ≡ kind → IsUtf8 extension.now.bytes.now) }
     ensures err { IfErr result (λ e. (e ≡ MetadataError.Format) × (extension.now.kind ≡ kind) × ¬ IsUtf8 extension.now.bytes.now) }
 {
@@ -91,7 +93,8 @@ pub(crate) fn read_extensions(
 ) -> Result<ExtensionNames<'_>, MetadataError>
     requires few { length cluster.now ≤ 2097152 }
     requires near { start ≤ length cluster.now }
-    ensures ok { IfOk result (λ names. AreNamed (byte_at cluster.now) (length cluster.now) start (option_copied names.backing_format) (option_copied names.data_file_name)) }
+    ensures ok { IfOk result (λ names. AreNamed (byte_at cluster.now) (length cluster.now) start
+        (option_copied names.backing_format) (option_copied names.data_file_name)) }
     ensures err { IfErr result (λ e. (e ≡ MetadataError.Format) × ¬ ExtensionsRead (byte_at cluster.now) (length cluster.now) start) }
 {
     let mut backing_format = None;

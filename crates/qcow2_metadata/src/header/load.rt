@@ -78,7 +78,8 @@ fn is_known(fields: &HeaderFields) -> bool
 
 fn has_header_length(fields: &HeaderFields) -> bool
     requires { fields.now.cluster_bits ≤ 21 }
-    ensures { IsTrue result ↔ ((fields.now.version ≡ 3 → 104 ≤ fields.now.header_length) × (fields.now.header_length ≤ cluster_size fields.now)) }
+    ensures { IsTrue result ↔ ((fields.now.version ≡ 3 → 104 ≤ fields.now.header_length)
+        × (fields.now.header_length ≤ cluster_size fields.now)) }
 {
     (fields.version != 3 || HEADER_LENGTH <= fields.header_length)
         && u64::from(fields.header_length) <= cluster_bytes(fields.cluster_bits)

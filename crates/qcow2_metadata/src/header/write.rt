@@ -197,8 +197,10 @@ impl Header {
         ensures written { Changes (S.view storage.old) (S.view storage.new) result (l1_table_pointer_written self.now.fields) }
         ensures fields { header (byte_at (l1_table_pointer_written self.now.fields (S.view storage.old).contents))
             ≡ with_l1_table (header (byte_at (S.view storage.old).contents)) self.now.fields.l1_offset self.now.fields.l1_entries }
-        ensures reads { (offset entries : ℕ) → IsHeaderIn (with_fields self.now (with_l1_table self.now.fields offset entries)) (S.view storage.old).contents
-            → IsHeaderIn self.now (l1_table_pointer_written self.now.fields (S.view storage.old).contents) }
+        ensures reads { (offset entries : ℕ)
+            → IsHeaderIn (with_fields self.now (with_l1_table self.now.fields offset entries))
+            (S.view storage.old).contents → IsHeaderIn self.now
+            (l1_table_pointer_written self.now.fields (S.view storage.old).contents) }
         ensures calls { Calls (S.view storage.old) (S.view storage.new) result }
     {
         let pointer = four_and_eight(self.fields.l1_entries, self.fields.l1_offset);
@@ -211,8 +213,10 @@ impl Header {
         ensures written { Changes (S.view storage.old) (S.view storage.new) result (reftable_pointer_written self.now.fields) }
         ensures fields { header (byte_at (reftable_pointer_written self.now.fields (S.view storage.old).contents))
             ≡ with_reftable (header (byte_at (S.view storage.old).contents)) self.now.fields.reftable_offset self.now.fields.reftable_clusters }
-        ensures reads { (offset clusters : ℕ) → IsHeaderIn (with_fields self.now (with_reftable self.now.fields offset clusters)) (S.view storage.old).contents
-            → IsHeaderIn self.now (reftable_pointer_written self.now.fields (S.view storage.old).contents) }
+        ensures reads { (offset clusters : ℕ)
+            → IsHeaderIn (with_fields self.now (with_reftable self.now.fields offset clusters))
+            (S.view storage.old).contents → IsHeaderIn self.now
+            (reftable_pointer_written self.now.fields (S.view storage.old).contents) }
         ensures calls { Calls (S.view storage.old) (S.view storage.new) result }
     {
         let pointer = eight_and_four(self.fields.reftable_offset, self.fields.reftable_clusters);
@@ -226,7 +230,8 @@ impl Header {
         ensures untouched { self.old.fields.autoclear ≡ 0 → IsOk result × (storage.new ≡ storage.old) }
         ensures ok { OnOk result (self.new ≡ with_fields self.old (without_autoclear self.old.fields)) }
         ensures err { OnErr result (self.new ≡ self.old) }
-        ensures fields { header (byte_at (autoclear_cleared (S.view storage.old).contents)) ≡ without_autoclear (header (byte_at (S.view storage.old).contents)) }
+        ensures fields { header (byte_at (autoclear_cleared (S.view storage.old).contents)) ≡ without_autoclear
+            (header (byte_at (S.view storage.old).contents)) }
         ensures reads { self.old.fields.autoclear ≢ 0 → IsHeaderIn self.old (S.view storage.old).contents
             → IsHeaderIn (with_fields self.old (without_autoclear self.old.fields)) (autoclear_cleared (S.view storage.old).contents) }
         ensures calls { Calls (S.view storage.old) (S.view storage.new) result }
