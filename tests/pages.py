@@ -1,6 +1,6 @@
 #!/usr/bin/env python3
 """Checks the repository's pages (README.md, docs/*.md, crates/*/README.md). Links lead to files and headings, and files, names and commands that stand as code are there. The wrong bodies of
-docs/WRONG_BODIES.md are those of their functions. Examples are code as it stands, and the default numbers are the code's. It needs no program. The last line counts the checks that found nothing, and what the others found."""
+docs/WRONG_BODIES.md are those of their functions. Examples are code as it stands, and the default numbers are the code's. Of the proofs it checks that they build no moment outside of the files whose words are for that. It needs no program. The last line counts the checks that found nothing, and what the others found."""
 
 import os
 import re
@@ -19,6 +19,11 @@ PATH = re.compile(r"[\w./-]*\w[\w./-]*(\.(rt|rs|antt|md|py|txt|sh)|/)|[\w.-]+/[\
 NO_FILE = re.compile(r"\b(CRATE|NAME|PATH)\b|^(/|build/|out/|docs/interop/)")
 # the pages whose names are all names of this repository; the others name imago's, QEMU's and the format's too
 OF_THE_CODE = re.compile(r"README\.md|crates/.*|docs/(ARCHITECTURE|PROOFS|WRONG_BODIES|GUIDE|DRIVER)\.md")
+# the files whose words build moments: those of storages, runs and calls, of steps, of an image's file and its caches, of creating, and of images that are only read
+WORDS_OF_MOMENTS = re.compile(r"""crates/(image_access/proofs/EachMomentSince|qcow2_disk/proofs/(Compose|RunSteps)|qcow2_laws/proofs/SafeSteps|qcow2_alloc/proofs/(FileSteps|HeaderClusters|KeptTables/\w+)
+    |qcow2_image/proofs/(Create/\w+|Map/Unmodified|Sizing/Noted))\.antt$""", re.VERBOSE)
+# a record with its moments, one of `EachMomentSince`, and a record that is taken over with other contents
+MOMENT = re.compile(r"\b(moments|later) = |\brecord [^{}]*[\w)] \{[^{}]*\b(contents) = ")
 # what holds for every page: a number in the words of a page, the file that has it, and how it is written there
 DEFAULTS = [
     (r"([\d,]+) L2 tables and [\d,]+ refblocks are cached", "crates/qcow2_image/src/image.rt", r"L2_TABLES: usize = (\w+);"),
@@ -107,9 +112,16 @@ def other_numbers(code):
                 yield page, f"{path} says {number and number[1]}, not {it or 'nothing'}: {words}"
 
 
+def moments_by_hand(code):
+    for path, text in code.texts.items():
+        if re.match(r"crates/\w+/proofs/.*\.antt$", path) and not WORDS_OF_MOMENTS.match(path):
+            for found in MOMENT.finditer(re.sub(r"--.*", lambda it: " " * len(it[0]), text)):
+                yield f"{path}:{text.count(chr(10), 0, found.end()) + 1}", f"a moment is built here: {found[found.lastindex]}"
+
+
 def main():
     code, passed, failed = Code(), 0, 0
-    for check in (dead_links, missing_names, missing_bodies, other_code, other_numbers):
+    for check in (dead_links, missing_names, missing_bodies, other_code, other_numbers, moments_by_hand):
         found = list(check(code))
         for place, what in found:
             print(f"{place}: FAILED: {what}")
