@@ -109,13 +109,14 @@ def scripts(parts):
 
 
 def gate(file, told, words):
-    """Runs the merge gate, and writes the name of each crate that it has proved to a file."""
+    """Runs the merge gate, and writes the name of each crate that it has proved to a file. An rt that keeps nothing of earlier runs has no `--anew`."""
+    has_anew = "--anew" in subprocess.run(["rt", "help"], stdout=subprocess.PIPE, stderr=subprocess.STDOUT, text=True).stdout
 
     def note(line):
         for name in PROVED.findall(line):
             append(file, name)
 
-    return counts(["rt", "ci", *words], told, note)
+    return counts(["rt", "ci", *(words if has_anew else [])], told, note)
 
 
 def append(file, line):
