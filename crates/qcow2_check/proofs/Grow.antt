@@ -1,6 +1,6 @@
 -- Steps of a map of tallies.
 use Rattle.std.proofs.Common.{◌≡◌, ℕ, ◌+◌, ◌*◌, arith, refl, sym, ap, ◌∙◌}
-use Rattle.std.specs.BTreeMap.{BTreeMap}
+use Rattle.qcow2_check.specs.declared.tally_map.TallyMap.{TallyMap}
 use Rattle.qcow2_metadata.specs.Bytes.{Bytes, sum_below}
 use Rattle.qcow2_metadata.specs.Entries.{l2_entry}
 use Rattle.qcow2_metadata.specs.Cover.{entry_cover}
@@ -8,11 +8,10 @@ use Rattle.qcow2_metadata.specs.Named.{named_by_cover}
 use Rattle.qcow2_metadata.specs.declared.l2_mapping.L2Mapping.{L2Mapping}
 use Rattle.qcow2_metadata.specs.declared.header.HeaderFields.{HeaderFields}
 use Rattle.qcow2_check.proofs.Sums.{sum_below_none, sum_below_more}
-use Rattle.qcow2_check.specs.declared.tally.Tally.{Tally}
 use Rattle.qcow2_check.specs.Tallies.{TalliesGrow}
 use Rattle.qcow2_check.specs.Marks.{marks_of_cover, named_by_entries, marked_by_entries}
 
-pub grows_none : (m : BTreeMap ℕ Tally) (f g k : ℕ → ℕ) → ((q : ℕ) → f q ≡ 0) → ((q : ℕ) → g q ≡ 0) → ((q : ℕ) → k q ≡ 0) → TalliesGrow m m f g k
+pub grows_none : (m : TallyMap) (f g k : ℕ → ℕ) → ((q : ℕ) → f q ≡ 0) → ((q : ℕ) → g q ≡ 0) → ((q : ℕ) → k q ≡ 0) → TalliesGrow m m f g k
 grows_none m f g k f0 g0 k0 = record {
   more_named = λ q. omega (arith, f0 q);
   more_for_tables = λ q. omega (arith, g0 q);
@@ -20,7 +19,7 @@ grows_none m f g k f0 g0 k0 = record {
   same_count = λ q. refl;
 }
 
-pub grows_more : (old mid new : BTreeMap ℕ Tally) (f1 g1 k1 f2 g2 k2 f g k : ℕ → ℕ) → TalliesGrow old mid f1 g1 k1 → TalliesGrow mid new f2 g2 k2
+pub grows_more : (old mid new : TallyMap) (f1 g1 k1 f2 g2 k2 f g k : ℕ → ℕ) → TalliesGrow old mid f1 g1 k1 → TalliesGrow mid new f2 g2 k2
     → ((q : ℕ) → f q ≡ f1 q + f2 q) → ((q : ℕ) → g q ≡ g1 q + g2 q) → ((q : ℕ) → k q ≡ k1 q + k2 q) → TalliesGrow old new f g k
 grows_more old mid new f1 g1 k1 f2 g2 k2 f g k one two fs gs ks = record {
   more_named = λ q. omega (arith, one.more_named q, two.more_named q, fs q);
@@ -36,11 +35,11 @@ times_none times f = ap (λ v. times * v) (sum_below_none f) ∙ omega arith
 pub times_more : (times n : ℕ) (f : ℕ → ℕ) (term : ℕ) → term ≡ f n → times * sum_below (n + 1) f ≡ times * sum_below n f + times * term
 times_more times n f term is = ap (λ v. times * v) (sum_below_more n f ∙ ap (λ v. sum_below n f + v) (sym is)) ∙ omega arith
 
-pub l2_table_none : (h : HeaderFields) (b : Bytes) (times : ℕ) (m : BTreeMap ℕ Tally)
+pub l2_table_none : (h : HeaderFields) (b : Bytes) (times : ℕ) (m : TallyMap)
     → TalliesGrow m m (λ q. times * named_by_entries h b 0 0 q) (λ _. 0) (λ q. times * marked_by_entries h b 0 0 q)
 l2_table_none h b times m = grows_none m _ _ _ (λ q. times_none times _) (λ q. omega arith) (λ q. times_none times _)
 
-pub l2_table_more : (h : HeaderFields) (b : Bytes) (times j : ℕ) (cover : L2Mapping) (old mid new : BTreeMap ℕ Tally) → cover ≡ entry_cover h (l2_entry b 0 j)
+pub l2_table_more : (h : HeaderFields) (b : Bytes) (times j : ℕ) (cover : L2Mapping) (old mid new : TallyMap) → cover ≡ entry_cover h (l2_entry b 0 j)
     → TalliesGrow old mid (λ q. times * named_by_entries h b 0 j q) (λ _. 0) (λ q. times * marked_by_entries h b 0 j q)
     → TalliesGrow mid new (λ q. times * named_by_cover h q cover) (λ _. 0) (λ q. times * marks_of_cover h q cover)
     → TalliesGrow old new (λ q. times * named_by_entries h b 0 (j + 1) q) (λ _. 0) (λ q. times * marked_by_entries h b 0 (j + 1) q)

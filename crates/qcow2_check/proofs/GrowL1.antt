@@ -1,19 +1,17 @@
 -- Steps over the L1 table.
-use Rattle.std.proofs.Common.{◌≡◌, ◌≢◌, ℕ, ◌+◌, ◌*◌, List, length, Bool, true, false, ◌&&◌, eqb, refl, sym, ap, ◌∙◌, arith}
+use Rattle.std.proofs.Common.{◌≡◌, ◌≢◌, ℕ, ◌+◌, ◌*◌, List, length, Bool, true, false, ◌&&◌, refl, sym, ap, ◌∙◌, arith}
 use Rattle.std.proofs.lemmas.Bool.{cond-true, cond-false, eq-eqb, ne_eqb}
-use Rattle.std.specs.BTreeMap.{BTreeMap}
-use Rattle.qcow2_metadata.specs.Bytes.{Bytes, one_if}
+use Rattle.qcow2_check.specs.declared.tally_map.TallyMap.{TallyMap}
+use Rattle.qcow2_metadata.specs.Bytes.{Bytes, one_if, byte_at}
 use Rattle.qcow2_metadata.specs.declared.header.HeaderFields.{HeaderFields}
 use Rattle.qcow2_metadata.specs.Header.{cluster_size, entries_per_cluster}
 use Rattle.qcow2_metadata.specs.Entries.{host_offset}
 use Rattle.qcow2_metadata.specs.Named.{named_by_l2_table, table_in}
 use Rattle.qcow2_check.proofs.Sums.{sum_below_none, sum_below_more}
-use Rattle.qcow2_check.specs.declared.tally.Tally.{Tally}
 use Rattle.qcow2_check.specs.Tallies.{TalliesGrow, tally_in}
 use Rattle.qcow2_metadata.specs.TableBytes.{entry_at}
 use Rattle.qcow2_check.specs.Marks.{named_by_entries, marked_by_entries, marked_by_l2_table, mark_of_entry, tables_among, marks_among}
 use Rattle.qcow2_check.proofs.Grow.{grows_none, grows_more}
-use Rattle.qcow2_metadata.specs.Bytes.{byte_at}
 use Rattle.qcow2_metadata.proofs.TablesAt.{StandAt}
 use Rattle.qcow2_check.proofs.Shifts.{named_by_part, marked_by_part}
 
@@ -23,10 +21,10 @@ one_if-and_true false = refl
 
 -- ---- the entries of the L1 table
 
-pub entries_none : (h : HeaderFields) (l1 : List ℕ) (m : BTreeMap ℕ Tally) → TalliesGrow m m (tables_among h l1 0) (tables_among h l1 0) (marks_among h l1 0)
+pub entries_none : (h : HeaderFields) (l1 : List ℕ) (m : TallyMap) → TalliesGrow m m (tables_among h l1 0) (tables_among h l1 0) (marks_among h l1 0)
 entries_none h l1 m = grows_none m _ _ _ (λ q. sum_below_none _) (λ q. sum_below_none _) (λ q. sum_below_none _)
 
-pub entries_more : (h : HeaderFields) (l1 : List ℕ) (i entry : ℕ) (old mid new : BTreeMap ℕ Tally) → entry ≡ entry_at l1 i
+pub entries_more : (h : HeaderFields) (l1 : List ℕ) (i entry : ℕ) (old mid new : TallyMap) → entry ≡ entry_at l1 i
     → TalliesGrow old mid (tables_among h l1 i) (tables_among h l1 i) (marks_among h l1 i)
     → TalliesGrow mid new (λ q. table_in h q (host_offset entry)) (λ q. table_in h q (host_offset entry)) (mark_of_entry h entry)
     → TalliesGrow old new (tables_among h l1 (i + 1)) (tables_among h l1 (i + 1)) (marks_among h l1 (i + 1))
@@ -41,7 +39,7 @@ entries_more h l1 i entry old mid new is so_far next =
 times_zero : (times : ℕ) → times * 0 ≡ 0
 times_zero times = omega arith
 
-pub no_table : (h : HeaderFields) (b : Bytes) (place times : ℕ) (m : BTreeMap ℕ Tally) → place ≡ 0
+pub no_table : (h : HeaderFields) (b : Bytes) (place times : ℕ) (m : TallyMap) → place ≡ 0
     → TalliesGrow m m (λ q. times * named_by_l2_table h b q place) (λ _. 0) (λ q. times * marked_by_l2_table h b q place)
 unfolding named_by_l2_table
 no_table h b place times m none =
@@ -49,7 +47,7 @@ no_table h b place times m none =
     grows_none m _ _ _ (λ q. ap (λ n. times * n) (cond-true _ _ _ is) ∙ times_zero times) (λ q. omega arith) (λ q. ap (λ n. times * n) (cond-true _ _ _ is) ∙ times_zero times)
 
 -- it was read into these bytes
-pub one_table : (h : HeaderFields) (b : Bytes) (bytes : List ℕ) (place times : ℕ) (old new : BTreeMap ℕ Tally)
+pub one_table : (h : HeaderFields) (b : Bytes) (bytes : List ℕ) (place times : ℕ) (old new : TallyMap)
     → place ≢ 0 → StandAt b place bytes → length bytes ≡ cluster_size h
     → TalliesGrow old new (λ q. times * named_by_entries h (byte_at bytes) 0 (entries_per_cluster h) q) (λ _. 0) (λ q. times * marked_by_entries h (byte_at bytes) 0 (entries_per_cluster h) q)
     → TalliesGrow old new (λ q. times * named_by_l2_table h b q place) (λ _. 0) (λ q. times * marked_by_l2_table h b q place)

@@ -19,6 +19,7 @@ pub mod Reported
 pub mod Rising
 pub mod Shifts
 pub mod Sums
+pub mod TallyMaps
 pub mod TallyTests
 pub mod Terms
 pub mod Totals

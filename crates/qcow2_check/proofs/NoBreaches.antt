@@ -12,11 +12,10 @@ use Rattle.qcow2_metadata.specs.Named.{named, named_for_tables}
 use Rattle.qcow2_metadata.specs.Consistent.{Consistent, CoverIsAligned, CopiedIsOwn}
 use Rattle.qcow2_check.specs.declared.report.Breach.{Breach}
 use Rattle.qcow2_check.specs.declared.report.Kind.TheVariants.{L1, Reftable, L2, Refblock, Data}
-use Rattle.qcow2_check.specs.declared.tally.Tally.{Tally}
 use Rattle.qcow2_check.specs.Marks.{marked_at, marks_of_cover, marked_by_entries, marked_by_l2_table, mark_of_entry, marked_under, marked_below}
 use Rattle.qcow2_check.specs.Offsets.{times, off_cluster_if, off_l2_tables, off_refblocks, data_off_at, data_off_below}
 use Rattle.qcow2_check.specs.Lines.{lines, snapshot_lines, external_lines, header_lines, table_offset_lines, offset_lines, is_named, unaligned_line, is_under, under_line, is_shared, shared_line, is_miscopied, copied_line}
-use Rattle.std.specs.BTreeMap.{BTreeMap}
+use Rattle.qcow2_check.specs.declared.tally_map.TallyMap.{TallyMap}
 use Rattle.qcow2_check.specs.Tallies.{tally_in, TalliesWithin64Bits}
 use Rattle.qcow2_check.specs.Report.{tally, breach_lines, TablesRead, ArePassed}
 use Rattle.qcow2_check.proofs.NoLines.{append-empty, front_empty, back_empty, EndsBelow, lines-empty, fails_each, zero-line, zero_from_line}
@@ -209,7 +208,7 @@ module _ (h : HeaderFields) (b : Bytes) where
 
   -- ---- the maps that a walk over an image leaves
 
-  pub all_end : (names l2_tables refblocks data' : BTreeMap ℕ Tally) → ArePassed h b (tally_in names) (tally_in l2_tables) (tally_in refblocks) (tally_in data')
+  pub all_end : (names l2_tables refblocks data' : TallyMap) → ArePassed h b (tally_in names) (tally_in l2_tables) (tally_in refblocks) (tally_in data')
       → TalliesWithin64Bits names → TalliesWithin64Bits l2_tables → TalliesWithin64Bits refblocks → TalliesWithin64Bits data' → AllEnd h b
   all_end names l2_tables refblocks data' are one two three four = record {
     clusters = subst (EndsBelow (2 ^ 64)) are.clusters_are one;

@@ -1,8 +1,8 @@
 -- Steps over offsets.
-use Rattle.std.proofs.Common.{◌≡◌, ◌≢◌, ℕ, ◌+◌, ◌*◌, ◌/◌, ◌<◌, ◌≤◌, true, false, eqb, List, length, sym, ap, ◌∙◌, arith}
+use Rattle.std.proofs.Common.{◌≡◌, ◌≢◌, ℕ, ◌+◌, ◌*◌, ◌/◌, ◌<◌, ◌≤◌, List, length, sym, ap, ◌∙◌, arith}
 use Rattle.std.proofs.Math.Nat.{div-mul-le_self}
 use Rattle.std.proofs.lemmas.Bool.{cond-true, cond-false, eq-eqb, ne_eqb}
-use Rattle.std.specs.BTreeMap.{BTreeMap}
+use Rattle.qcow2_check.specs.declared.tally_map.TallyMap.{TallyMap}
 use mathlib.Core.Path.{fun_ext}
 use Rattle.qcow2_metadata.specs.Bytes.{Bytes, byte_at, sum_below}
 use Rattle.qcow2_metadata.specs.declared.header.HeaderFields.{HeaderFields}
@@ -26,33 +26,33 @@ times_zero : (times : ℕ) → times * 0 ≡ 0
 times_zero times = omega arith
 
 -- a sum of terms for each offset
-pub terms_none : (f : ℕ → ℕ → ℕ) (m : BTreeMap ℕ Tally) → TalliesGrow m m (λ o. sum_below 0 (λ i. f o i)) (λ _. 0) (λ _. 0)
+pub terms_none : (f : ℕ → ℕ → ℕ) (m : TallyMap) → TalliesGrow m m (λ o. sum_below 0 (λ i. f o i)) (λ _. 0) (λ _. 0)
 terms_none f m = grows_none m _ _ _ (λ o. sum_below_none _) (λ o. omega arith) (λ o. omega arith)
 
-pub terms_more : (f : ℕ → ℕ → ℕ) (i : ℕ) (term : ℕ → ℕ) (old mid new : BTreeMap ℕ Tally) → ((o : ℕ) → term o ≡ f o i)
+pub terms_more : (f : ℕ → ℕ → ℕ) (i : ℕ) (term : ℕ → ℕ) (old mid new : TallyMap) → ((o : ℕ) → term o ≡ f o i)
     → TalliesGrow old mid (λ o. sum_below i (λ i. f o i)) (λ _. 0) (λ _. 0) → TalliesGrow mid new term (λ _. 0) (λ _. 0)
     → TalliesGrow old new (λ o. sum_below (i + 1) (λ i. f o i)) (λ _. 0) (λ _. 0)
 terms_more f i term old mid new is so_far next =
     grows_more old mid new _ _ _ _ _ _ _ _ _ so_far next
     (λ o. sum_below_more i (λ i. f o i) ∙ ap (λ v. sum_below i (λ i. f o i) + v) (sym (is o))) (λ o. omega arith) (λ o. omega arith)
 
-pub times_terms_none : (times : ℕ) (f : ℕ → ℕ → ℕ) (m : BTreeMap ℕ Tally) → TalliesGrow m m (λ o. times * sum_below 0 (λ i. f o i)) (λ _. 0) (λ _. 0)
+pub times_terms_none : (times : ℕ) (f : ℕ → ℕ → ℕ) (m : TallyMap) → TalliesGrow m m (λ o. times * sum_below 0 (λ i. f o i)) (λ _. 0) (λ _. 0)
 times_terms_none times f m = grows_none m _ _ _ (λ o. times_none times (λ i. f o i)) (λ o. omega arith) (λ o. omega arith)
 
-pub times_terms_more : (times : ℕ) (f : ℕ → ℕ → ℕ) (i : ℕ) (term : ℕ → ℕ) (old mid new : BTreeMap ℕ Tally) → ((o : ℕ) → term o ≡ f o i)
+pub times_terms_more : (times : ℕ) (f : ℕ → ℕ → ℕ) (i : ℕ) (term : ℕ → ℕ) (old mid new : TallyMap) → ((o : ℕ) → term o ≡ f o i)
     → TalliesGrow old mid (λ o. times * sum_below i (λ i. f o i)) (λ _. 0) (λ _. 0) → TalliesGrow mid new (λ o. times * term o) (λ _. 0) (λ _. 0)
     → TalliesGrow old new (λ o. times * sum_below (i + 1) (λ i. f o i)) (λ _. 0) (λ _. 0)
 times_terms_more times f i term old mid new is so_far next =
     grows_more old mid new _ _ _ _ _ _ _ _ _ so_far next (λ o. times_more times i (λ i. f o i) (term o) (is o)) (λ o. omega arith) (λ o. omega arith)
 
-pub no_data : (h : HeaderFields) (b : Bytes) (place times : ℕ) (m : BTreeMap ℕ Tally) → place ≡ 0 → TalliesGrow m m (λ o. times * data_off_at h b o place) (λ _. 0) (λ _. 0)
+pub no_data : (h : HeaderFields) (b : Bytes) (place times : ℕ) (m : TallyMap) → place ≡ 0 → TalliesGrow m m (λ o. times * data_off_at h b o place) (λ _. 0) (λ _. 0)
 no_data h b place times m none =
     grows_none m _ _ _ (λ o. ap (λ n. times * n) (cond-true _ _ _ (eq-eqb place 0 none)) ∙ times_zero times) (λ o. omega arith) (λ o. omega arith)
 
 inside : (size j : ℕ) → j < size / 8 → 8 * j + 8 ≤ size
 inside size j lt = let down = div-mul-le_self size 8 in omega arith
 
-pub grows_as : (old new : BTreeMap ℕ Tally) (f g : ℕ → ℕ) → ((q : ℕ) → f q ≡ g q) → TalliesGrow old new f (λ _. 0) (λ _. 0) → TalliesGrow old new g (λ _. 0) (λ _. 0)
+pub grows_as : (old new : TallyMap) (f g : ℕ → ℕ) → ((q : ℕ) → f q ≡ g q) → TalliesGrow old new f (λ _. 0) (λ _. 0) → TalliesGrow old new g (λ _. 0) (λ _. 0)
 grows_as old new f g same grows = record {
   more_named = λ q. grows.more_named q ∙ ap (λ n. (tally_in old q).named + n) (same q);
   more_for_tables = grows.more_for_tables;
@@ -60,7 +60,7 @@ grows_as old new f g same grows = record {
   same_count = grows.same_count;
 }
 
-pub data_part : (h : HeaderFields) (b : Bytes) (bytes : List ℕ) (place times : ℕ) (old new : BTreeMap ℕ Tally) → place ≢ 0
+pub data_part : (h : HeaderFields) (b : Bytes) (bytes : List ℕ) (place times : ℕ) (old new : TallyMap) → place ≢ 0
     → StandAt b place bytes → length bytes ≡ cluster_size h
     → TalliesGrow old new (λ o. times * data_off h (byte_at bytes) 0 (entries_per_cluster h) o) (λ _. 0) (λ _. 0)
     → TalliesGrow old new (λ o. times * data_off_at h b o place) (λ _. 0) (λ _. 0)
@@ -73,7 +73,7 @@ data_part h b bytes place times old new some stands whole grows =
     ∙ sym (cond-false _ _ _ (ne_eqb place 0 some)))) grows
 
 -- the tallies of offsets that were counted from none
-pub counted_off : (f g : ℕ → ℕ) (m0 m1 : BTreeMap ℕ Tally) → ((q : ℕ) → tally_in m0 q ≡ no_tally) → ((q : ℕ) → f q ≡ g q) → TalliesGrow m0 m1 f (λ _. 0) (λ _. 0) → tally_in m1 ≡ times g
+pub counted_off : (f g : ℕ → ℕ) (m0 m1 : TallyMap) → ((q : ℕ) → tally_in m0 q ≡ no_tally) → ((q : ℕ) → f q ≡ g q) → TalliesGrow m0 m1 f (λ _. 0) (λ _. 0) → tally_in m1 ≡ times g
 counted_off f g m0 m1 none same grows = fun_ext (λ q.
     let start = none q in
     let named0 : (tally_in m0 q).named ≡ 0 = ap (λ (t : Tally). t.named) start in

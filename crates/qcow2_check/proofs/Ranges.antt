@@ -3,9 +3,8 @@ use Rattle.std.proofs.Common.{◌≡◌, ℕ, ◌+◌, ◌-◌, ◌*◌, ◌≤�
 use Rattle.std.specs.Prelude.{nat_le, nat_lt}
 use Rattle.std.proofs.lemmas.Bool.Decides.{nat_tests}
 use Rattle.std.proofs.Math.Nat.{mul-le-mul_left}
-use Rattle.std.specs.BTreeMap.{BTreeMap}
+use Rattle.qcow2_check.specs.declared.tally_map.TallyMap.{TallyMap}
 use Rattle.qcow2_metadata.specs.Bytes.{one_if}
-use Rattle.qcow2_check.specs.declared.tally.Tally.{Tally}
 use Rattle.qcow2_check.specs.Tallies.{TalliesGrow, AddsTimes}
 use Rattle.qcow2_check.proofs.Covers.{never_times}
 use Rattle.qcow2_check.proofs.Grow.{grows_more}
@@ -13,7 +12,7 @@ use Rattle.qcow2_check.proofs.Grow.{grows_more}
 one_more : (first next q : ℕ) → first ≤ next → one_if (nat_le first q && nat_lt q (next + 1)) ≡ one_if (nat_le first q && nat_lt q next) + one_if (eqb next q)
 one_more first next q le = grind (arith, nat_tests)
 
-pub range_more : (first next times : ℕ) (old mid new : BTreeMap ℕ Tally) → first ≤ next
+pub range_more : (first next times : ℕ) (old mid new : TallyMap) → first ≤ next
     → TalliesGrow old mid (λ q. times * one_if (nat_le first q && nat_lt q next)) (λ _. 0) (λ _. 0) → AddsTimes mid new next times false false
     → TalliesGrow old new (λ q. times * one_if (nat_le first q && nat_lt q (next + 1))) (λ _. 0) (λ _. 0)
 range_more first next times old mid new le so_far adds =

@@ -1,11 +1,10 @@
 -- A table that is read once for all its places, which stand one after the other.
 use Rattle.std.proofs.Common.{◌≡◌, ℕ, ◌+◌}
-use Rattle.std.specs.BTreeMap.{BTreeMap}
-use Rattle.qcow2_check.specs.declared.tally.Tally.{Tally}
+use Rattle.qcow2_check.specs.declared.tally_map.TallyMap.{TallyMap}
 use Rattle.qcow2_check.specs.Tallies.{tally_in}
 
 -- so many names and marks are to be there, and so many of them aren't yet
-pub record IsBehind (old new : BTreeMap ℕ Tally) (named marked late_named late_marked : ℕ → ℕ) : Type 0 where
+pub record IsBehind (old new : TallyMap) (named marked late_named late_marked : ℕ → ℕ) : Type 0 where
   pub more_named : (q : ℕ) → (tally_in new q).named + late_named q ≡ (tally_in old q).named + named q
   pub more_marked : (q : ℕ) → (tally_in new q).marked + late_marked q ≡ (tally_in old q).marked + marked q
   pub same_for_tables : (q : ℕ) → (tally_in new q).for_tables ≡ (tally_in old q).for_tables

@@ -1,16 +1,16 @@
 -- The lines of a map's entries are the lines of all numbers.
-use Rattle.std.proofs.Common.{◌≡◌, ◌≢◌, ℕ, zero, suc, ◌+◌, ◌<◌, ◌≤◌, Bool, true, false, cond, eqb, ltb, List, [], ◌∷◌, ◌++◌, map, filter, unwrap_or, refl, sym, ap, ◌∙◌, arith, inl, inr, add-one, append_assoc, append-nil, subst}
+use Rattle.std.proofs.Common.{◌≡◌, ◌≢◌, ℕ, zero, suc, ◌+◌, ◌<◌, ◌≤◌, Bool, true, false, cond, eqb, ltb, List, [], ◌∷◌, ◌++◌, map, filter, unwrap_or, refl, sym, ap, ◌∙◌, arith, inl, inr, add-one, append_assoc, append-nil, subst, ◌-◌, Less, Equal, Greater}
 use Rattle.std.specs.List.{range_with_len, AllByRecursion}
 use Rattle.std.specs.List.Sorted.{IsStrictlySortedBy}
 use Rattle.std.specs.Map.{lookup, keys_of}
 use Rattle.std.specs.BTreeMap.{is_at}
-use Rattle.std.proofs.Common.{Less, Equal, Greater}
 use Rattle.std.specs.Ordering.{is_eq, nat_cmp}
-use Rattle.std.proofs.lemmas.Bool.{cond-true, cond-false, eq-eqb, ne_eqb, le-ltb, cases_eq, cases_lt}
+use Rattle.std.proofs.lemmas.Bool.{cond-true, cond-false, eq-eqb, ne_eqb, le-ltb, lt-ltb, cases_eq, cases_lt}
+use Rattle.std.proofs.lemmas.List.{map-append}
 use Rattle.std.proofs.lemmas.Map.Keys.{sorted_head, sorted_tail}
 use Rattle.qcow2_check.specs.declared.tally.Tally.{Tally}
 use Rattle.qcow2_check.specs.Tallies.{no_tally}
-use Rattle.qcow2_check.specs.Lines.{rising, lines, lines_of}
+use Rattle.qcow2_check.specs.Lines.{rising, lines, lines_of, numbered, entries_past}
 
 -- ---- keys
 
@@ -145,14 +145,101 @@ pub rising_all : (n : ℕ) (p : ℕ → Bool) → rising n p ≡ filter p (range
 unfolding rising
 rising_all n p = let front : n ≡ 0 + n = omega arith in ap (λ m. rising m p) front ∙ rising-add n 0 p
 
--- the lines of the entries of a map in order
-pub lines_of_entries : {L : Type 0} (limit : ℕ) (test : Tally → Bool) (line : ℕ → Tally → L) (es : List (ℕ × Tally)) → test no_tally ≡ false
-    → IsStrictlySortedBy nat_cmp (keys_of es) → ((q : ℕ) → limit ≤ q → tally_of es q ≡ no_tally)
-    → lines_of test line es ≡ lines limit test line (tally_of es)
-lines_of_entries limit test line es blank sorted near =
-    entries_from test line (tally_of es) blank 0 limit es (above_from_sorted 0 es (all_above_zero (keys_of es)) sorted) (λ q ge. refl)
-    (λ q ge. ap test (near q (omega arith)) ∙ blank)
-    ∙ ap (map (λ c. line c (tally_of es c))) (sym (rising_all limit (λ c. test (tally_of es c))))
+-- ---- the lines of numbers below a limit, and of a map's entries from it on
+
+module _ {L : Type 0} (test : Tally → Bool) (line : ℕ → Tally → L) (tally : ℕ → Tally) where
+  pub lines-none : lines 0 test line tally ≡ []
+  unfolding rising
+  lines-none = refl
+
+  line_if : (b : Bool) (n : ℕ) → map (λ c. line c (tally c)) (cond b (n ∷ []) []) ≡ cond b (line n (tally n) ∷ []) []
+  line_if true n = refl
+  line_if false n = refl
+
+  lines_more : (n : ℕ) → lines (n + 1) test line tally ≡ lines n test line tally ++ cond (test (tally n)) (line n (tally n) ∷ []) []
+  lines_more n =
+      ap (map (λ c. line c (tally c))) (rising_more n (λ c. test (tally c)))
+      ∙ map-append (λ c. line c (tally c)) (rising n (λ c. test (tally c))) (cond (test (tally n)) (n ∷ []) [])
+      ∙ ap (λ r. lines n test line tally ++ r) (line_if (test (tally n)) n)
+
+  pub lines-passed : (n : ℕ) → test (tally n) ≡ true → lines (n + 1) test line tally ≡ lines n test line tally ++ (line n (tally n) ∷ [])
+  lines-passed n is = lines_more n ∙ ap (λ r. lines n test line tally ++ r) (cond-true _ _ _ is)
+
+  pub lines-failed : (n : ℕ) → test (tally n) ≡ false → lines (n + 1) test line tally ≡ lines n test line tally
+  lines-failed n is = lines_more n ∙ ap (λ r. lines n test line tally ++ r) (cond-false _ _ _ is) ∙ append-nil (lines n test line tally)
+
+  pub lines-add : (n a : ℕ) → lines (a + n) test line tally ≡ lines a test line tally ++ from test line tally a n
+  lines-add n a =
+      ap (map (λ c. line c (tally c))) (rising-add n a (λ c. test (tally c)))
+      ∙ map-append (λ c. line c (tally c)) (rising a (λ c. test (tally c))) (filter (λ c. test (tally c)) (range_with_len a n))
+
+module _ (test : Tally → Bool) (tally : ℕ → Tally) (first : ℕ) where
+  all_past : (a : ℕ) (es : List (ℕ × Tally)) → first ≤ a → Above a es → entries_past first test es ≡ lines_of test numbered es
+  all_past a [] le above = refl
+  all_past a (e ∷ es) le above =
+      cond-false _ _ _ (le-ltb e.0 first (omega (arith, above.0)))
+      ∙ ap (λ r. cond (test e.1) (e ∷ r) r) (all_past (e.0 + 1) es (omega (arith, above.0)) above.1)
+
+  past_from : test no_tally ≡ false → (a n : ℕ) (es : List (ℕ × Tally)) → Above a es → ((q : ℕ) → first ≤ q → tally q ≡ tally_of es q)
+      → ((q : ℕ) → first + n ≤ q → test (tally q) ≡ false) → entries_past first test es ≡ from test numbered tally first n
+  past_from none a n [] above shows end = entries_from test numbered tally none first n [] tt shows end
+  past_from none a n (e ∷ es) above shows end = elim (cases_lt e.0 first) [
+    | inl below ↦
+        cond-true _ _ _ (lt-ltb e.0 first below)
+        ∙ past_from none (e.0 + 1) n es above.1 (λ q ge. shows q ge ∙ tally_of-tail e es q (λ same. absurd (omega (arith, below, same)))) end
+    | inr past ↦
+        all_past first (e ∷ es) (omega arith) (past, above.1)
+        ∙ entries_from test numbered tally none first n (e ∷ es) (past, above.1) shows end
+  ]
+
+  -- the tallies below a number, and those of a map from it on
+  pub lines_joined : (limit : ℕ) (es : List (ℕ × Tally)) → test no_tally ≡ false → first ≤ limit → IsStrictlySortedBy nat_cmp (keys_of es)
+      → ((q : ℕ) → first ≤ q → tally q ≡ tally_of es q) → ((q : ℕ) → limit ≤ q → tally q ≡ no_tally)
+      → lines first test numbered tally ++ entries_past first test es ≡ lines limit test numbered tally
+  lines_joined limit es none le sorted shows end =
+      let split : limit ≡ first + (limit - first) = omega arith in
+      ap (λ r. lines first test numbered tally ++ r)
+      (past_from none 0 (limit - first) es (above_from_sorted 0 es (all_above_zero (keys_of es)) sorted) shows
+      (λ q ge. ap test (end q (omega (arith, ge, split))) ∙ none))
+      ∙ sym (lines-add test numbered tally (limit - first) first)
+      ∙ ap (λ n. lines n test numbered tally) (sym split)
+
+-- ---- the lines of a list of tallies
+
+module _ {L : Type 0} (test : Tally → Bool) (line : ℕ → Tally → L) where
+  abbrev wide : (Tally → Bool) → (ℕ → Tally) → List ℕ → List L
+  wide wider t ns = lines_of test line (map (λ c. numbered c (t c)) (filter (λ c. wider (t c)) ns))
+
+  abbrev narrow : (ℕ → Tally) → List ℕ → List L
+  narrow t ns = map (λ c. line c (t c)) (filter (λ c. test (t c)) ns)
+
+  one_wide : (wider : Tally → Bool) (t : ℕ → Tally) (n : ℕ) (ns : List ℕ) → wide wider t ns ≡ narrow t ns → (b : Bool) → wider (t n) ≡ true → test (t n) ≡ b
+      → wide wider t (n ∷ ns) ≡ narrow t (n ∷ ns)
+  one_wide wider t n ns rest true wanted is =
+      ap (λ l. lines_of test line (map (λ c. numbered c (t c)) l)) (cond-true _ _ _ wanted)
+      ∙ cond-true _ _ _ is ∙ ap (λ r. line n (t n) ∷ r) rest ∙ sym (ap (map (λ c. line c (t c))) (cond-true _ _ _ is))
+  one_wide wider t n ns rest false wanted is =
+      ap (λ l. lines_of test line (map (λ c. numbered c (t c)) l)) (cond-true _ _ _ wanted)
+      ∙ cond-false _ _ _ is ∙ rest ∙ sym (ap (map (λ c. line c (t c))) (cond-false _ _ _ is))
+
+  one_more : (wider : Tally → Bool) (t : ℕ → Tally) (n : ℕ) (ns : List ℕ) → ((t : Tally) → wider t ≡ false → test t ≡ false) → wide wider t ns ≡ narrow t ns
+      → (b : Bool) → wider (t n) ≡ b → wide wider t (n ∷ ns) ≡ narrow t (n ∷ ns)
+  one_more wider t n ns quiet rest true is = one_wide wider t n ns rest (test (t n)) is refl
+  one_more wider t n ns quiet rest false is =
+      ap (λ l. lines_of test line (map (λ c. numbered c (t c)) l)) (cond-false _ _ _ is)
+      ∙ rest ∙ sym (ap (map (λ c. line c (t c))) (cond-false _ _ _ (quiet (t n) is)))
+
+  of_wide : (wider : Tally → Bool) (t : ℕ → Tally) → ((t : Tally) → wider t ≡ false → test t ≡ false) → (ns : List ℕ) → wide wider t ns ≡ narrow t ns
+  of_wide wider t quiet [] = refl
+  of_wide wider t quiet (n ∷ ns) = one_more wider t n ns quiet (of_wide wider t quiet ns) (wider (t n)) refl
+
+  -- the lines of a list of all tallies that pass another test, which those pass that pass this one
+  pub lines_of_list : (limit : ℕ) (wider : Tally → Bool) (t : ℕ → Tally) (list : List (ℕ × Tally)) → ((t : Tally) → wider t ≡ false → test t ≡ false)
+      → list ≡ lines limit wider numbered t → lines_of test line list ≡ lines limit test line t
+  lines_of_list limit wider t list quiet is =
+      ap (lines_of test line) (is ∙ ap (map (λ c. numbered c (t c))) (rising_all limit (λ c. wider (t c))))
+      ∙ of_wide wider t quiet (range_with_len 0 limit)
+      ∙ ap (map (λ c. line c (t c))) (sym (rising_all limit (λ c. test (t c))))
 
 -- three groups of lines
 pub glue : {L : Type 0} (o u s k u' s' k' a b c : List L) → a ≡ o ++ u → b ≡ a ++ s → c ≡ b ++ k → u ≡ u' → s ≡ s' → k ≡ k' → c ≡ o ++ (u' ++ (s' ++ k'))

@@ -1,10 +1,10 @@
 -- What the tests of a tally tell.
-use Rattle.std.proofs.Common.{◌≡◌, ◌≢◌, ℕ, ◌≤◌, Bool, true, false, ◌&&◌, eqb, ltb, refl, ap, ◌∙◌, arith, inl, inr}
+use Rattle.std.proofs.Common.{◌≡◌, ◌≢◌, ℕ, ◌≤◌, Bool, true, false, ◌&&◌, ◌||◌, eqb, ltb, refl, ap, ◌∙◌, arith, inl, inr}
 use Rattle.std.specs.Prelude.{not}
 use Rattle.std.proofs.lemmas.Bool.{cases_lt, eq-eqb, ne_eqb, le-ltb, lt-ltb}
 use Rattle.std.proofs.lemmas.Bool.Decides.{eqb_tells}
 use Rattle.qcow2_check.specs.declared.tally.Tally.{Tally}
-use Rattle.qcow2_check.specs.Lines.{is_named, is_under, is_shared, is_miscopied}
+use Rattle.qcow2_check.specs.Lines.{is_named, is_under, is_shared, is_miscopied, is_leaked, is_told}
 
 pub both_true : (a b : Bool) → a ≡ true → b ≡ true → (a && b) ≡ true
 both_true true b one two = two
@@ -17,6 +17,14 @@ left_true false b is = cc
 pub right_true : (a b : Bool) → (a && b) ≡ true → b ≡ true
 right_true true b is = is
 right_true false b is = cc
+
+left_false : (a b : Bool) → (a || b) ≡ false → a ≡ false
+left_false true b is = cc
+left_false false b is = refl
+
+right_false : (a b : Bool) → (a || b) ≡ false → b ≡ false
+right_false true b is = cc
+right_false false b is = is
 
 pub same_from_eqb : (m n : ℕ) → eqb m n ≡ true → m ≡ n
 same_from_eqb m n is = elim (eqb_tells m n) [ inl same ↦ same.1 | inr other ↦ cc ]
@@ -80,3 +88,20 @@ is_miscopied-own t own = elim (eqb_tells t.marked 0) [
       ap (λ e. not e && not (eqb t.named 1 && eqb t.count 1)) some.0
       ∙ ap not (both_true _ _ (eq-eqb t.named 1 is.0) (eq-eqb t.count 1 is.1))
 ]
+
+-- ---- a tally that no line tells of
+
+front_quiet : (t : Tally) → is_told t ≡ false → (is_under t || is_shared t) ≡ false
+front_quiet t quiet = left_false _ (is_miscopied t) (left_false _ (is_leaked t) quiet)
+
+pub told_under : (t : Tally) → is_told t ≡ false → is_under t ≡ false
+told_under t quiet = left_false _ (is_shared t) (front_quiet t quiet)
+
+pub told_shared : (t : Tally) → is_told t ≡ false → is_shared t ≡ false
+told_shared t quiet = right_false (is_under t) _ (front_quiet t quiet)
+
+pub told_miscopied : (t : Tally) → is_told t ≡ false → is_miscopied t ≡ false
+told_miscopied t quiet = right_false (is_under t || is_shared t) _ (left_false _ (is_leaked t) quiet)
+
+pub told_leaked : (t : Tally) → is_told t ≡ false → is_leaked t ≡ false
+told_leaked t quiet = right_false (is_under t || is_shared t || is_miscopied t) _ quiet

@@ -1,7 +1,7 @@
 -- The sums over the whole image.
 use Rattle.std.proofs.Common.{◌≡◌, ℕ, zero, suc, ◌+◌, ◌-◌, ◌*◌, ◌/◌, ◌%◌, ◌^◌, ◌<◌, ◌≤◌, ◌&&◌, Bool, true, false, eqb, List, length, refl, sym, ap, ◌∙◌, arith, subst}
 use Rattle.std.specs.Prelude.{nat_le, nat_lt}
-use Rattle.std.specs.BTreeMap.{BTreeMap}
+use Rattle.qcow2_check.specs.declared.tally_map.TallyMap.{TallyMap}
 use Rattle.std.proofs.lemmas.Nat.{one_shl, div_below, pow_pos, le-div}
 use Rattle.std.proofs.Math.Pow.{pow_mono}
 use Rattle.qcow2_metadata.specs.Bytes.{Bytes, sum_below, one_if}
@@ -32,7 +32,7 @@ unfolding sum_below
 sum_below-add zero f g = refl
 sum_below-add (suc n) f g = let front = sum_below-add n f g in omega arith
 
-pub blocks_more : (h : HeaderFields) (entries : List ℕ) (k place : ℕ) (old mid new : BTreeMap ℕ Tally) → place ≡ block_offset (entry_at entries k)
+pub blocks_more : (h : HeaderFields) (entries : List ℕ) (k place : ℕ) (old mid new : TallyMap) → place ≡ block_offset (entry_at entries k)
     → TalliesGrow old mid (blocks_among h entries k) (blocks_among h entries k) (λ _. 0)
     → TalliesGrow mid new (λ q. table_in h q place) (λ q. table_in h q place) (λ _. 0)
     → TalliesGrow old new (blocks_among h entries (k + 1)) (blocks_among h entries (k + 1)) (λ _. 0)
@@ -49,7 +49,7 @@ one_if-and_false : (b : Bool) → one_if (b && false) ≡ 0
 one_if-and_false true = refl
 one_if-and_false false = refl
 
-header_names_at : (h : HeaderFields) (old a m new : BTreeMap ℕ Tally) → AddsToTally old a 0 true false
+header_names_at : (h : HeaderFields) (old a m new : TallyMap) → AddsToTally old a 0 true false
     → TalliesGrow a m (run_in h.l1_offset (8 * h.l1_entries) (cluster_size h)) (run_in h.l1_offset (8 * h.l1_entries) (cluster_size h)) (λ _. 0)
     → TalliesGrow m new (run_in h.reftable_offset (h.reftable_clusters * cluster_size h) (cluster_size h)) (run_in h.reftable_offset (h.reftable_clusters * cluster_size h) (cluster_size h)) (λ _. 0)
     → TalliesGrow old new (named_by_header h) (named_by_header h) (λ _. 0)
@@ -66,7 +66,7 @@ header_names_at h old a m new one two three =
     (λ q. omega (arith, one_if-and_false (eqb 0 q))) in
     grows_more old m new _ _ _ _ _ _ _ _ _ mid three (λ q. refl) (λ q. refl) (λ q. omega arith)
 
-pub header_names : (h : HeaderFields) (size : ℕ) → size ≡ cluster_size h → (old a m new : BTreeMap ℕ Tally)
+pub header_names : (h : HeaderFields) (size : ℕ) → size ≡ cluster_size h → (old a m new : TallyMap)
     → AddsToTally old a 0 true false
     → TalliesGrow a m (λ q. one_if (nat_le (h.l1_offset / size) q && nat_lt q (h.l1_offset / size + (8 * h.l1_entries + size - 1) / size)))
     (λ q. one_if (nat_le (h.l1_offset / size) q && nat_lt q (h.l1_offset / size + (8 * h.l1_entries + size - 1) / size))) (λ _. 0)
@@ -116,26 +116,27 @@ pub triple : (a a' b b' c c' : ℕ) → a ≡ a' → b ≡ b' → c ≡ c' → t
 triple a a' b b' c c' p q r = ap (λ x. trio x b c) p ∙ ap (λ x. trio a' x c) q ∙ ap (λ x. trio a' b' x) r
 
 -- what the passes over an image leave
-pub all_tallies : (h : HeaderFields) (b : Bytes) (l1 reftable : List ℕ) (m0 m1 m2 m3 m4 : BTreeMap ℕ Tally)
+pub all_tallies : (h : HeaderFields) (b : Bytes) (l1 reftable : List ℕ) (m0 m1 m2 m3 m4 : TallyMap)
     → length l1 / 8 ≡ h.l1_entries → length reftable / 8 ≡ reftable_entries h
     → ((k : ℕ) → entry_at reftable k ≡ reftable_entry h b k)
     → ((q : ℕ) → tally_in m0 q ≡ no_tally)
-    → TalliesGrow m0 m1 (named_by_header h) (named_by_header h) (λ _. 0)
-    → TalliesGrow m1 m2 (blocks_among h reftable (length reftable / 8)) (blocks_among h reftable (length reftable / 8)) (λ _. 0)
-    → TalliesGrow m2 m3 (named_below h b (length l1 / 8)) (tables_below h b (length l1 / 8)) (marked_below h b (length l1 / 8))
-    → CountsAll m3 m4 (count h b)
+    → CountsAll m0 m1 (count h b)
+    → TalliesGrow m1 m2 (named_by_header h) (named_by_header h) (λ _. 0)
+    → TalliesGrow m2 m3 (blocks_among h reftable (length reftable / 8)) (blocks_among h reftable (length reftable / 8)) (λ _. 0)
+    → TalliesGrow m3 m4 (named_below h b (length l1 / 8)) (tables_below h b (length l1 / 8)) (marked_below h b (length l1 / 8))
     → tally_in m4 ≡ tally h b
 unfolding named named_for_tables
-all_tallies h b l1 reftable m0 m1 m2 m3 m4 l1_long long are none head blocks l1s counted = fun_ext (λ q.
-    let start = none q in
-    let start_named : (tally_in m0 q).named ≡ 0 = ap (λ (t : Tally). t.named) start in
-    let start_tables : (tally_in m0 q).for_tables ≡ 0 = ap (λ (t : Tally). t.for_tables) start in
-    let start_marked : (tally_in m0 q).marked ≡ 0 = ap (λ (t : Tally). t.marked) start in
+all_tallies h b l1 reftable m0 m1 m2 m3 m4 l1_long long are none counted head blocks l1s = fun_ext (λ q.
+    let start : names_of (tally_in m1 q) ≡ (0, (0, 0)) = counted.same_names q ∙ ap names_of (none q) in
+    let start_named : (tally_in m1 q).named ≡ 0 = ap (λ (n : ℕ × (ℕ × ℕ)). n.0) start in
+    let start_tables : (tally_in m1 q).for_tables ≡ 0 = ap (λ (n : ℕ × (ℕ × ℕ)). n.1.0) start in
+    let start_marked : (tally_in m1 q).marked ≡ 0 = ap (λ (n : ℕ × (ℕ × ℕ)). n.1.1) start in
     let all = blocks_all h b reftable q long are in
     let n_l1 : named_below h b (length l1 / 8) q ≡ named_by_l1_table h b q + named_by_l2_tables h b q = ap (λ n. named_below h b n q) l1_long ∙ named_l1 h b q in
     let t_l1 : tables_below h b (length l1 / 8) q ≡ named_by_l1_table h b q = ap (λ n. tables_below h b n q) l1_long ∙ tables_l1 h b q in
     let m_l1 : marked_below h b (length l1 / 8) q ≡ marked_below h b h.l1_entries q = ap (λ n. marked_below h b n q) l1_long in
-    let are_named : (tally_in m3 q).named ≡ named h b q = omega (arith, head.more_named q, blocks.more_named q, l1s.more_named q) in
-    let are_tables : (tally_in m3 q).for_tables ≡ named_for_tables h b q = omega (arith, head.more_for_tables q, blocks.more_for_tables q, l1s.more_for_tables q) in
-    let are_marked : (tally_in m3 q).marked ≡ marked_below h b h.l1_entries q = omega (arith, head.more_marked q, blocks.more_marked q, l1s.more_marked q) in
-    tally_same (tally_in m4 q) (tally h b q) (counted.same_names q ∙ triple _ _ _ _ _ _ are_named are_tables are_marked) (counted.counts q))
+    let are_named : (tally_in m4 q).named ≡ named h b q = omega (arith, head.more_named q, blocks.more_named q, l1s.more_named q) in
+    let are_tables : (tally_in m4 q).for_tables ≡ named_for_tables h b q = omega (arith, head.more_for_tables q, blocks.more_for_tables q, l1s.more_for_tables q) in
+    let are_marked : (tally_in m4 q).marked ≡ marked_below h b h.l1_entries q = omega (arith, head.more_marked q, blocks.more_marked q, l1s.more_marked q) in
+    let counts : (tally_in m4 q).count ≡ count h b q = l1s.same_count q ∙ blocks.same_count q ∙ head.same_count q ∙ counted.counts q in
+    tally_same (tally_in m4 q) (tally h b q) (triple _ _ _ _ _ _ are_named are_tables are_marked) counts)

@@ -5,12 +5,11 @@ use Rattle.std.proofs.lemmas.Bool.{cases_lt}
 use Rattle.std.proofs.lemmas.List.{get_or-take, get_or-drop, get_or_past, length-take, length-take-le, length-drop}
 use Rattle.std.proofs.lemmas.Nat.{div-add-mod'}
 use Rattle.std.proofs.Math.Nat.{div-lt_iff_lt-mul}
-use Rattle.std.specs.BTreeMap.{BTreeMap}
+use Rattle.qcow2_check.specs.declared.tally_map.TallyMap.{TallyMap}
 use Rattle.qcow2_metadata.specs.Bytes.{Bytes, sum_below}
 use Rattle.qcow2_metadata.specs.declared.header.HeaderFields.{HeaderFields}
 use Rattle.qcow2_metadata.specs.Header.{counts_per_block, reftable_entries}
 use Rattle.qcow2_metadata.specs.Entries.{block_offset, reftable_entry, count}
-use Rattle.qcow2_check.specs.declared.tally.Tally.{Tally}
 use Rattle.qcow2_check.specs.Tallies.{tally_in, CountsAll}
 use Rattle.qcow2_check.specs.Counted.{block_count_or_zero, place_at, entry_number_at, HasCounts, AreRight, Corrects, CorrectsUnder}
 use Rattle.qcow2_check.proofs.CountSteps.{count_is, count_past}
@@ -38,7 +37,7 @@ module _ (h : HeaderFields) (b : Bytes) (places : List (ℕ × ℕ)) (n : ℕ) (
         let stands : block_offset (reftable_entry h b m) ≡ at = sym (are m) ∙ sym (placed places n place sums (start + k) (omega arith)) ∙ alike (start + k) (omega arith) (omega arith) in
         ap (λ m. count h b (m * counts_per_block h + j)) number ∙ sym (count_is h b m j (m * counts_per_block h + j) some refl inside) ∙ ap (λ o. block_count_or_zero h b o j) stands
 
-    pub more_right : (mid new : BTreeMap ℕ Tally) → CorrectsUnder mid new (count h b) run (counts_per_block h) (counts_per_block h)
+    pub more_right : (mid new : TallyMap) → CorrectsUnder mid new (count h b) run (counts_per_block h) (counts_per_block h)
         → ((m : ℕ) → m < start → AreRight mid (count h b) (entry_number_at places m * counts_per_block h) (counts_per_block h))
         → (m : ℕ) → m < end → AreRight new (count h b) (entry_number_at places m * counts_per_block h) (counts_per_block h)
     more_right mid new next so_far m lt j inside = elim (cases_lt m start) [
@@ -53,7 +52,7 @@ module _ (h : HeaderFields) (b : Bytes) (places : List (ℕ × ℕ)) (n : ℕ) (
 
   -- ---- all of them
 
-  pub all_counts : (old new : BTreeMap ℕ Tally) → n ≡ reftable_entries h → Corrects old new (count h b) → ((q : ℕ) → (tally_in old q).count ≡ 0)
+  pub all_counts : (old new : TallyMap) → n ≡ reftable_entries h → Corrects old new (count h b) → ((q : ℕ) → (tally_in old q).count ≡ 0)
       → ((m : ℕ) → m < length places → AreRight new (count h b) (entry_number_at places m * counts_per_block h) (counts_per_block h)) → CountsAll old new (count h b)
   all_counts old new whole corrects fresh right = record {
     same_names = corrects.same_names;

@@ -1,13 +1,12 @@
 -- The L1 table, and then its L2 tables, put together.
 use Rattle.std.proofs.Common.{◌≡◌, ℕ, ◌+◌, List, ap, ◌∙◌, arith}
 use Rattle.std.specs.List.{sum_by}
-use Rattle.std.specs.BTreeMap.{BTreeMap}
+use Rattle.qcow2_check.specs.declared.tally_map.TallyMap.{TallyMap}
 use Rattle.qcow2_metadata.specs.Bytes.{Bytes, sum_below}
 use Rattle.qcow2_metadata.specs.declared.header.HeaderFields.{HeaderFields}
 use Rattle.qcow2_metadata.specs.Entries.{l1_entry, host_offset}
 use Rattle.qcow2_metadata.specs.Named.{table_in, named_by_l2_table}
 use Rattle.qcow2_metadata.specs.TableBytes.{entry_at}
-use Rattle.qcow2_check.specs.declared.tally.Tally.{Tally}
 use Rattle.qcow2_check.specs.Tallies.{TalliesGrow}
 use Rattle.qcow2_check.specs.Offsets.{data_off_at, data_off_below, data_off_by_tables}
 use Rattle.qcow2_check.specs.Marks.{mark_of_entry, marked_by_l2_table, tables_among, marks_among, tables_below, named_below, marked_below, named_by_tables, marked_by_tables}
@@ -25,7 +24,7 @@ module _ (h : HeaderFields) (b : Bytes) (l1 places : List ℕ) (n : ℕ) (are : 
   by_entries : (f : ℕ → ℕ) → sum_below n (λ i. f (entry_at l1 i)) ≡ sum_below n (λ i. f (l1_entry h b i))
   by_entries f = sum_below-same n (λ i. f (entry_at l1 i)) (λ i. f (l1_entry h b i)) (λ i lt. ap f (are i))
 
-  pub whole_l1 : (old mid new : BTreeMap ℕ Tally)
+  pub whole_l1 : (old mid new : TallyMap)
       → TalliesGrow old mid (tables_among h l1 n) (tables_among h l1 n) (marks_among h l1 n)
       → TalliesGrow mid new (named_by_tables h b places) (λ _. 0) (marked_by_tables h b places)
       → TalliesGrow old new (named_below h b n) (tables_below h b n) (marked_below h b n)
@@ -43,5 +42,5 @@ module _ (h : HeaderFields) (b : Bytes) (l1 places : List ℕ) (n : ℕ) (are : 
       sum_below-add n (λ i. mark_of_entry h (l1_entry h b i) q) (λ i. marked_by_l2_table h b q (host_offset (l1_entry h b i))) in
       omega (arith, split, marks_are q, by_places (λ place. marked_by_l2_table h b q place)))
 
-  pub whole_data : (old new : BTreeMap ℕ Tally) → TalliesGrow old new (data_off_by_tables h b places) (λ _. 0) (λ _. 0) → TalliesGrow old new (data_off_below h b n) (λ _. 0) (λ _. 0)
+  pub whole_data : (old new : TallyMap) → TalliesGrow old new (data_off_by_tables h b places) (λ _. 0) (λ _. 0) → TalliesGrow old new (data_off_below h b n) (λ _. 0) (λ _. 0)
   whole_data old new tables = grows_as old new _ _ (λ o. by_places (λ place. data_off_at h b o place)) tables

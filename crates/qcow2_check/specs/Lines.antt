@@ -1,8 +1,10 @@
 -- The lines of a report, by the tallies of clusters.
-use Rattle.std.specs.Prelude.{ℕ, zero, suc, Bool, ◌==◌, ◌&&◌, not, nat_lt, List, [], ◌∷◌, ◌++◌, map, if◌then◌else◌, ◌%◌, ◌^◌}
+use Rattle.std.specs.Prelude.{ℕ, zero, suc, Bool, ◌==◌, ◌&&◌, ◌||◌, not, nat_lt, List, [], ◌∷◌, ◌++◌, map, if◌then◌else◌, ◌%◌, ◌^◌}
 use Rattle.qcow2_metadata.specs.declared.header.HeaderFields.{HeaderFields}
 use Rattle.qcow2_metadata.specs.Header.{cluster_size}
 use Rattle.qcow2_check.specs.declared.tally.Tally.{Tally}
+use Rattle.qcow2_check.specs.declared.told.Choice.{Choice}
+use Rattle.qcow2_check.specs.declared.told.Choice.TheVariants.{Told, Named}
 use Rattle.qcow2_check.specs.declared.report.Leak.{Leak}
 use Rattle.qcow2_check.specs.declared.report.Kind.{Kind}
 use Rattle.qcow2_check.specs.declared.report.Kind.TheVariants.{L1, Reftable, L2, Refblock, Data}
@@ -64,6 +66,24 @@ is_miscopied t = not (t.marked == 0) && not (t.named == 1 && t.count == 1)
 
 abbrev pub is_leaked : Tally → Bool
 is_leaked t = nat_lt t.named t.count
+
+-- a line tells of a cluster with such a tally
+abbrev pub is_told : Tally → Bool
+is_told t = is_under t || is_shared t || is_miscopied t || is_leaked t
+
+-- whether a list has such tallies
+abbrev pub takes : Choice → Tally → Bool
+takes Told t = is_told t
+takes Named t = is_named t
+
+-- a tally in a list
+abbrev pub numbered : ℕ → Tally → ℕ × Tally
+numbered cluster t = (cluster, t)
+
+-- the entries from a number on that pass a test
+abbrev pub entries_past : ℕ → (Tally → Bool) → List (ℕ × Tally) → List (ℕ × Tally)
+entries_past first test [] = []
+entries_past first test (e ∷ es) = if nat_lt e.0 first then entries_past first test es else (if test e.1 then e ∷ entries_past first test es else entries_past first test es)
 
 abbrev pub under_line : ℕ → Tally → Breach
 under_line cluster t = Under cluster t.count t.named

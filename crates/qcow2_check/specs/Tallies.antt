@@ -1,39 +1,62 @@
--- How often each cluster was named so far, as a map says it.
-use Rattle.std.specs.Prelude.{ℕ, ◌+◌, ◌*◌, ◌^◌, ◌≡◌, ◌≢◌, ◌≤◌, ◌==◌, ◌&&◌, Bool, unwrap_or}
-use Rattle.std.specs.BTreeMap.{BTreeMap, get}
+-- How often each cluster was named so far.
+use Rattle.std.specs.Prelude.{ℕ, ◌+◌, ◌*◌, ◌^◌, ◌≡◌, ◌≢◌, ◌≤◌, ◌==◌, ◌&&◌, Bool, slice_index_or, unwrap_or, if◌then◌else◌}
+use Rattle.std.specs.BTreeMap.{get}
 use Rattle.std.specs.Ordering.{nat_cmp}
 use Rattle.qcow2_metadata.specs.Bytes.{one_if}
 use Rattle.qcow2_check.specs.declared.tally.Tally.{Tally}
+use Rattle.qcow2_check.specs.declared.tally_map.SmallTally.{SmallTally}
+use Rattle.qcow2_check.specs.declared.tally_map.TallyMap.{TallyMap}
 
 abbrev pub no_tally : Tally
 no_tally = record { named = 0; for_tables = 0; marked = 0; count = 0 }
 
-abbrev pub tally_in : BTreeMap ℕ Tally → ℕ → Tally
-tally_in m q = unwrap_or (get nat_cmp m q) no_tally
+abbrev pub blank : SmallTally
+blank = record { named = 0; for_tables = 0; marked = 0; count = 0 }
+
+-- a small tally of a cluster that is neither named nor counted stands for none
+abbrev pub is_blank : SmallTally → Bool
+is_blank s = s.named == 0 && s.count == 0
+
+abbrev pub widened : SmallTally → Tally
+widened s = record { named = s.named; for_tables = s.for_tables; marked = s.marked; count = s.count }
+
+-- a small tally, or another one in the place of none
+abbrev pub small_or : SmallTally → Tally → Tally
+small_or s other = if is_blank s then other else widened s
+
+abbrev pub large_in : TallyMap → ℕ → Tally
+large_in m q = unwrap_or (get nat_cmp m.large q) no_tally
+
+abbrev pub small_in : TallyMap → ℕ → SmallTally
+small_in m q = slice_index_or m.small.items q blank
+
+-- the tally of a cluster
+unfoldable pub tally_in : TallyMap → ℕ → Tally
+tally_in m q = small_or (small_in m q) (large_in m q)
 
 -- each cluster is named at most so often
-abbrev pub IsSmall : BTreeMap ℕ Tally → ℕ → Type 0
+abbrev pub IsSmall : TallyMap → ℕ → Type 0
 IsSmall m total =
     (q : ℕ) → ((tally_in m q).named ≤ total) × (((tally_in m q).for_tables ≤ total) × ((tally_in m q).marked ≤ total))
 
 -- no cluster past the numbers of 64 bits is named or counted
-abbrev pub TalliesWithin64Bits : BTreeMap ℕ Tally → Type 0
+abbrev pub TalliesWithin64Bits : TallyMap → Type 0
 TalliesWithin64Bits m = (q : ℕ) → 2 ^ 64 ≤ q → tally_in m q ≡ no_tally
 
 -- each cluster is named so much more often
-pub record TalliesGrow (old new : BTreeMap ℕ Tally) (named for_tables marked : ℕ → ℕ) : Type 0 where
+pub record TalliesGrow (old new : TallyMap) (named for_tables marked : ℕ → ℕ) : Type 0 where
   pub more_named : (q : ℕ) → (tally_in new q).named ≡ (tally_in old q).named + named q
   pub more_for_tables : (q : ℕ) → (tally_in new q).for_tables ≡ (tally_in old q).for_tables + for_tables q
   pub more_marked : (q : ℕ) → (tally_in new q).marked ≡ (tally_in old q).marked + marked q
   pub same_count : (q : ℕ) → (tally_in new q).count ≡ (tally_in old q).count
 
 -- one cluster is named once more
-abbrev pub AddsToTally : BTreeMap ℕ Tally → BTreeMap ℕ Tally → ℕ → Bool → Bool → Type 0
+abbrev pub AddsToTally : TallyMap → TallyMap → ℕ → Bool → Bool → Type 0
 AddsToTally old new cluster for_table marked =
     TalliesGrow old new (λ q. one_if (cluster == q)) (λ q. one_if (cluster == q && for_table)) (λ q. one_if (cluster == q && marked))
 
 -- one cluster is named so many times more
-abbrev pub AddsTimes : BTreeMap ℕ Tally → BTreeMap ℕ Tally → ℕ → ℕ → Bool → Bool → Type 0
+abbrev pub AddsTimes : TallyMap → TallyMap → ℕ → ℕ → Bool → Bool → Type 0
 AddsTimes old new cluster times for_table marked =
     TalliesGrow old new (λ q. times * one_if (cluster == q)) (λ q. times * one_if (cluster == q && for_table)) (λ q. times * one_if (cluster == q && marked))
 
@@ -41,12 +64,12 @@ abbrev pub names_of : Tally → ℕ × (ℕ × ℕ)
 names_of t = (t.named, (t.for_tables, t.marked))
 
 -- one cluster has this count, and nothing else changes
-pub record Counts (old new : BTreeMap ℕ Tally) (cluster count : ℕ) : Type 0 where
+pub record Counts (old new : TallyMap) (cluster count : ℕ) : Type 0 where
   pub same_names : (q : ℕ) → names_of (tally_in new q) ≡ names_of (tally_in old q)
   pub new_count : (tally_in new cluster).count ≡ count
   pub other_counts : (q : ℕ) → q ≢ cluster → (tally_in new q).count ≡ (tally_in old q).count
 
 -- each cluster has its count, and nothing else changes
-pub record CountsAll (old new : BTreeMap ℕ Tally) (count : ℕ → ℕ) : Type 0 where
+pub record CountsAll (old new : TallyMap) (count : ℕ → ℕ) : Type 0 where
   pub same_names : (q : ℕ) → names_of (tally_in new q) ≡ names_of (tally_in old q)
   pub counts : (q : ℕ) → (tally_in new q).count ≡ count q

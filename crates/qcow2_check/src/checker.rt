@@ -1,11 +1,12 @@
 //! The report of an image.
 
-ghost use Rattle.std.specs.Prelude.{◌≡◌, ◌↔◌, [], IfOk, IfErr, OnOk};
+ghost use Rattle.std.specs.Prelude.{◌≡◌, ◌^◌, ◌↔◌, [], IfOk, IfErr, OnOk};
 ghost use Rattle.qcow2_metadata.specs.Bytes.{byte_at};
 ghost use Rattle.qcow2_metadata.specs.Header.{header, IsInRange, IsWithinLimits};
 ghost use Rattle.qcow2_metadata.specs.Consistent.{IsConsistent};
 ghost use Rattle.qcow2_metadata.specs.MetadataError.{OnlyReads};
 ghost use Rattle.qcow2_check.specs.Tallies.{tally_in};
+ghost use Rattle.qcow2_check.specs.Lines.{lines, is_told, numbered};
 ghost use Rattle.qcow2_check.specs.Report.{ArePassed, TablesRead, breach_lines, leak_lines, IsReasonNotToCheck, IsReasonNotToCount};
 
 use crate::counts::counts_of_reftable;
@@ -15,9 +16,11 @@ use crate::lines::{add_breaches, add_header_lines, add_leaks, add_unaligned};
 use crate::names::Names;
 use crate::offsets::{Offsets, offsets_of_l1_table, offsets_of_reftable};
 use crate::report::{Breach, Leak};
+use crate::tally::Tally;
+use crate::told::Choice;
 use image_access::Storage;
 use qcow2_metadata::{HeaderFields, MetadataError};
-use std::alloc::Global;
+use std::alloc::{AllocError, Global};
 
 /// What is wrong with an image, and what it keeps for nothing.
 #[derive(Debug, Drop)]
@@ -35,7 +38,8 @@ struct Findings {
     offsets: Offsets,
 }
 
-/// How often each cluster of an image is named, marked copied and counted.
+/// How often each cluster of an image is named, marked copied and counted. It is counted first: counts come by rising number, and so
+/// make room for what the names find in any order.
 fn tallies<S: Storage>(
     alloc: Global,
     storage: &mut S,
@@ -57,10 +61,18 @@ fn tallies<S: Storage>(
     let mut offsets = Offsets::new(alloc);
     offsets_of_l1_table(&mut offsets.l2_tables, header, &l1)?;
     offsets_of_reftable(&mut offsets.refblocks, header, &reftable)?;
-    names_of_header(&mut names, header)?;
-    names_of_reftable(&mut names, header, &reftable)?;
     let size: usize = 1 << header.cluster_bits;
     let mut buf = vec![in alloc; 0; size]?;
+    counts_of_reftable(
+        alloc,
+        &mut names,
+        header,
+        storage,
+        &reftable,
+        buf.as_mut_slice(),
+    )?;
+    names_of_header(&mut names, header)?;
+    names_of_reftable(&mut names, header, &reftable)?;
     names_of_l1_table(
         alloc,
         &mut names,
@@ -70,15 +82,14 @@ fn tallies<S: Storage>(
         &l1,
         buf.as_mut_slice(),
     )?;
-    counts_of_reftable(
-        alloc,
-        &mut names,
-        header,
-        storage,
-        &reftable,
-        buf.as_mut_slice(),
-    )?;
     Ok(Findings { names, offsets })
+}
+
+/// The clusters that a line tells of. What all names took is given back.
+fn told_of_names(alloc: Global, names: Names) -> Result<Vec<(u64, Tally)>, AllocError>
+    ensures { IfOk result (λ told. told.items ≡ lines (2 ^ 64) is_told numbered (tally_in names.clusters)) }
+{
+    names.clusters.chosen(alloc, Choice::Told)
 }
 
 /// What is wrong with the image on a storage, by its bytes alone. That is each breach, in the order of `Breach` and then by rising
@@ -98,11 +109,12 @@ pub fn check<S: Storage>(alloc: Global, storage: &mut S) -> Result<Report, Metad
 {
     let header = HeaderFields::load(alloc, storage)?;
     let findings = tallies(alloc, storage, &header)?;
+    let told = told_of_names(alloc, findings.names)?;
     let mut breaches = Vec::new(alloc);
     add_header_lines(&mut breaches, &header)?;
-    add_unaligned(&mut breaches, &header, &findings.offsets)?;
-    add_breaches(&mut breaches, &findings.names)?;
+    add_unaligned(alloc, &mut breaches, &header, &findings.offsets)?;
+    add_breaches(&mut breaches, &told)?;
     let mut leaks = Vec::new(alloc);
-    add_leaks(&mut leaks, &findings.names)?;
+    add_leaks(&mut leaks, &told)?;
     Ok(Report { breaches, leaks })
 }

@@ -5,7 +5,7 @@ ghost use Rattle.qcow2_metadata.specs.Bytes.{byte_at, sum_below};
 ghost use Rattle.qcow2_metadata.specs.Header.{cluster_size, count_width, counts_per_block, reftable_entries};
 ghost use Rattle.qcow2_metadata.specs.Entries.{block_count, block_offset as place_of, count as count_of, reftable_entry};
 ghost use Rattle.qcow2_metadata.specs.MetadataError.{OnlyReads};
-ghost use Rattle.qcow2_metadata.specs.TableBytes.{entry_at as entry_of, IsOfStorageOrMemory};
+ghost use Rattle.qcow2_metadata.specs.TableBytes.{entry_at as entry_of, IsClusterBits, IsOfStorageOrMemory};
 ghost use Rattle.qcow2_check.specs.Tallies.{tally_in, CountsAll};
 ghost use Rattle.qcow2_check.specs.Counted.{block_count_or_zero, entry_number_at, HasCounts, Corrects, CorrectsUnder, IsRightOrNone};
 
@@ -102,6 +102,7 @@ fn counts_of_block_at<S: Storage>(
         → IsRightOrNone names.old.clusters truth
         → OnOk result (CorrectsUnder names.old.clusters names.new.clusters truth entries.now
         (counts_per_block header.now) (counts_per_block header.now)) }
+    ensures total { names.new.total ≡ names.old.total }
     ensures causes { IfErr result IsOfStorageOrMemory }
     ensures reading { OnlyReads (S.view storage.old) (S.view storage.new) result }
 {
@@ -137,8 +138,7 @@ pub(crate) fn counts_of_reftable<S: Storage>(
     reftable: &[u8],
     buf: &mut [u8],
 ) -> Result<(), MetadataError>
-    requires low { 9 ≤ header.now.cluster_bits }
-    requires bits { header.now.cluster_bits ≤ 21 }
+    requires bits { IsClusterBits header.now.cluster_bits }
     requires order { header.now.refcount_order ≤ 6 }
     requires whole { length buf.old ≡ cluster_size header.now }
     requires few { length reftable.now ≤ 2 ^ 23 }
@@ -148,6 +148,7 @@ pub(crate) fn counts_of_reftable<S: Storage>(
         → ((k : ℕ) → entry_of reftable.now k ≡ reftable_entry header.now (byte_at (S.view storage.old).contents) k)
         → OnOk result (CountsAll names.old.clusters names.new.clusters
         (count_of header.now (byte_at (S.view storage.old).contents))) }
+    ensures total { names.new.total ≡ names.old.total }
     ensures causes { IfErr result IsOfStorageOrMemory }
     ensures reading { OnlyReads (S.view storage.old) (S.view storage.new) result }
 {

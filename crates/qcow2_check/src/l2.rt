@@ -6,7 +6,7 @@ ghost use Rattle.qcow2_metadata.specs.Header.{cluster_size};
 ghost use Rattle.qcow2_metadata.specs.Named.{named_by_l2_table};
 ghost use Rattle.qcow2_metadata.specs.MetadataError.{OnlyReads};
 ghost use Rattle.qcow2_metadata.specs.TableBytes.{IsClusterBits, IsOfStorageOrMemory};
-ghost use Rattle.qcow2_check.specs.Tallies.{tally_in, TalliesGrow};
+ghost use Rattle.qcow2_check.specs.Tallies.{TalliesGrow};
 ghost use Rattle.qcow2_check.specs.Offsets.{data_off_at, data_off_by_tables};
 ghost use Rattle.qcow2_check.specs.Marks.{marked_by_l2_table, named_by_tables, marked_by_tables};
 
@@ -38,7 +38,6 @@ fn names_of_table_at<S: Storage>(
         (λ o. times * data_off_at header.now (byte_at (S.view storage.old).contents) o place) (λ _. 0) (λ _. 0)) }
     ensures totals { OnOk result ((names.new.total ≤ names.old.total + times * 2 ^ 33)
         × (offsets.new.total ≤ offsets.old.total + times * 2 ^ 33)) }
-    ensures counts { OnOk result ((q : ℕ) → (tally_in names.new.clusters q).count ≡ (tally_in names.old.clusters q).count) }
     ensures causes { IfErr result IsOfStorageOrMemory }
     ensures reading { OnlyReads (S.view storage.old) (S.view storage.new) result }
 {
@@ -69,7 +68,6 @@ pub(crate) fn names_of_l2_tables<S: Storage>(
         (marked_by_tables header.now (byte_at (S.view storage.old).contents) places.now)) }
     ensures offsets { (S.view storage.old).is_honest → OnOk result (TalliesGrow offsets.old.clusters offsets.new.clusters
         (data_off_by_tables header.now (byte_at (S.view storage.old).contents) places.now) (λ _. 0) (λ _. 0)) }
-    ensures counts { OnOk result ((q : ℕ) → (tally_in names.new.clusters q).count ≡ (tally_in names.old.clusters q).count) }
     ensures causes { IfErr result IsOfStorageOrMemory }
     ensures reading { OnlyReads (S.view storage.old) (S.view storage.new) result }
 {

@@ -13,6 +13,8 @@ mod offsets;
 mod report;
 mod source;
 mod tally;
+mod tally_map;
+mod told;
 
 pub use checker::{Report, check};
 pub use report::{Breach, Kind, Leak};

@@ -1,23 +1,25 @@
 //! The lines of a report.
 
-ghost use Rattle.std.specs.Prelude.{◌≡◌, ◌++◌, ◌^◌, ◌≤◌, OnOk};
-ghost use Rattle.std.specs.BTreeMap.{IsOrdered};
-ghost use Rattle.std.specs.Ordering.{nat_cmp};
+ghost use Rattle.std.specs.Prelude.{ℕ, ◌≡◌, ◌++◌, ◌^◌, ◌≤◌, OnOk};
 ghost use Rattle.qcow2_check.specs.Tallies.{tally_in};
-ghost use Rattle.qcow2_check.specs.Lines.{lines, lines_of, is_under, is_shared, is_miscopied, is_leaked, under_line, shared_line, copied_line, leak_of_cluster, header_lines, is_named, unaligned_line, offset_lines, table_offset_lines, unaligned_lines};
+ghost use Rattle.qcow2_check.specs.Lines.{lines, lines_of, is_under, is_shared, is_miscopied, is_leaked, is_told, numbered};
+ghost use Rattle.qcow2_check.specs.Lines.{under_line, shared_line, copied_line, leak_of_cluster, header_lines};
+ghost use Rattle.qcow2_check.specs.Lines.{is_named, unaligned_line, offset_lines, table_offset_lines, unaligned_lines};
+ghost use Rattle.qcow2_check.specs.Report.{cluster_lines, leak_lines_of};
 
 use crate::names::Names;
 use crate::offsets::Offsets;
 use crate::report::{Breach, Kind, Leak};
+use crate::tally::Tally;
+use crate::told::Choice;
 use qcow2_metadata::HeaderFields;
-use std::alloc::AllocError;
+use std::alloc::{AllocError, Global};
 
 /// A line for each cluster that is named more often than counted.
-fn push_under(breaches: &mut Vec<Breach>, names: &Names) -> Result<(), AllocError>
-    ensures sorted { IsOrdered nat_cmp names.now.clusters }
-    ensures lines { OnOk result (breaches.new.items ≡ breaches.old.items ++ lines_of is_under under_line names.now.clusters.entries) }
+fn push_under(breaches: &mut Vec<Breach>, told: &[(u64, Tally)]) -> Result<(), AllocError>
+    ensures lines { OnOk result (breaches.new.items ≡ breaches.old.items ++ lines_of is_under under_line told.now) }
 {
-    for (cluster, tally) in &names.clusters {
+    for (cluster, tally) in told {
         if tally.named > tally.count {
             breaches.push(Breach::Under {
                 cluster: *cluster,
@@ -30,11 +32,10 @@ fn push_under(breaches: &mut Vec<Breach>, names: &Names) -> Result<(), AllocErro
 }
 
 /// A line for each cluster of a table that is named more than once.
-fn push_shared(breaches: &mut Vec<Breach>, names: &Names) -> Result<(), AllocError>
-    ensures sorted { IsOrdered nat_cmp names.now.clusters }
-    ensures lines { OnOk result (breaches.new.items ≡ breaches.old.items ++ lines_of is_shared shared_line names.now.clusters.entries) }
+fn push_shared(breaches: &mut Vec<Breach>, told: &[(u64, Tally)]) -> Result<(), AllocError>
+    ensures lines { OnOk result (breaches.new.items ≡ breaches.old.items ++ lines_of is_shared shared_line told.now) }
 {
-    for (cluster, tally) in &names.clusters {
+    for (cluster, tally) in told {
         if tally.for_tables != 0 && tally.named > 1 {
             breaches.push(Breach::Shared {
                 cluster: *cluster,
@@ -46,11 +47,11 @@ fn push_shared(breaches: &mut Vec<Breach>, names: &Names) -> Result<(), AllocErr
 }
 
 /// A line for each cluster marked copied that is not named once and counted once.
-fn push_copied(breaches: &mut Vec<Breach>, names: &Names) -> Result<(), AllocError>
-    ensures sorted { IsOrdered nat_cmp names.now.clusters }
-    ensures lines { OnOk result (breaches.new.items ≡ breaches.old.items ++ lines_of is_miscopied copied_line names.now.clusters.entries) }
+fn push_copied(breaches: &mut Vec<Breach>, told: &[(u64, Tally)]) -> Result<(), AllocError>
+    ensures lines { OnOk result (breaches.new.items
+        ≡ breaches.old.items ++ lines_of is_miscopied copied_line told.now) }
 {
-    for (cluster, tally) in &names.clusters {
+    for (cluster, tally) in told {
         if tally.marked != 0 && !(tally.named == 1 && tally.count == 1) {
             breaches.push(Breach::Copied {
                 cluster: *cluster,
@@ -63,11 +64,10 @@ fn push_copied(breaches: &mut Vec<Breach>, names: &Names) -> Result<(), AllocErr
 }
 
 /// A line for each cluster that is counted more often than named.
-fn push_leaks(leaks: &mut Vec<Leak>, names: &Names) -> Result<(), AllocError>
-    ensures sorted { IsOrdered nat_cmp names.now.clusters }
-    ensures lines { OnOk result (leaks.new.items ≡ leaks.old.items ++ lines_of is_leaked leak_of_cluster names.now.clusters.entries) }
+fn push_leaks(leaks: &mut Vec<Leak>, told: &[(u64, Tally)]) -> Result<(), AllocError>
+    ensures lines { OnOk result (leaks.new.items ≡ leaks.old.items ++ lines_of is_leaked leak_of_cluster told.now) }
 {
-    for (cluster, tally) in &names.clusters {
+    for (cluster, tally) in told {
         if tally.count > tally.named {
             leaks.push(Leak {
                 cluster: *cluster,
@@ -113,11 +113,15 @@ fn add_table_offset(
 }
 
 /// A line for each of these offsets.
-fn push_offsets(breaches: &mut Vec<Breach>, kind: Kind, offsets: &Names) -> Result<(), AllocError>
-    ensures sorted { IsOrdered nat_cmp offsets.now.clusters }
-    ensures lines { OnOk result (breaches.new.items ≡ breaches.old.items ++ lines_of is_named (unaligned_line kind) offsets.now.clusters.entries) }
+fn push_offsets(
+    breaches: &mut Vec<Breach>,
+    kind: Kind,
+    named: &[(u64, Tally)],
+) -> Result<(), AllocError>
+    ensures lines { OnOk result (breaches.new.items
+        ≡ breaches.old.items ++ lines_of is_named (unaligned_line kind) named.now) }
 {
-    for (offset, tally) in &offsets.clusters {
+    for (offset, tally) in named {
         if tally.named != 0 {
             breaches.push(Breach::Unaligned {
                 kind,
@@ -129,51 +133,58 @@ fn push_offsets(breaches: &mut Vec<Breach>, kind: Kind, offsets: &Names) -> Resu
 }
 
 fn add_offset_lines(
+    alloc: Global,
     breaches: &mut Vec<Breach>,
     kind: Kind,
     offsets: &Names,
 ) -> Result<(), AllocError>
-    ensures { OnOk result (breaches.new.items ≡ breaches.old.items ++ offset_lines kind (tally_in offsets.now.clusters)) }
+    ensures { OnOk result (breaches.new.items
+        ≡ breaches.old.items ++ offset_lines kind (tally_in offsets.now.clusters)) }
 {
-    push_offsets(breaches, kind, offsets)?;
+    let named = offsets.clusters.chosen(alloc, Choice::Named)?;
+    push_offsets(breaches, kind, &named)?;
     Ok(())
 }
 
 /// The lines on offsets that aren't on a cluster.
 pub(crate) fn add_unaligned(
+    alloc: Global,
     breaches: &mut Vec<Breach>,
     header: &HeaderFields,
     offsets: &Offsets,
 ) -> Result<(), AllocError>
     requires bits { header.now.cluster_bits ≤ 21 }
     ensures { OnOk result (breaches.new.items ≡ breaches.old.items ++ unaligned_lines header.now
-        (tally_in offsets.now.l2_tables.clusters) (tally_in offsets.now.refblocks.clusters) (tally_in offsets.now.data.clusters)) }
+        (tally_in offsets.now.l2_tables.clusters) (tally_in offsets.now.refblocks.clusters)
+        (tally_in offsets.now.data.clusters)) }
 {
     add_table_offset(breaches, header, Kind::L1, header.l1_offset)?;
     add_table_offset(breaches, header, Kind::Reftable, header.reftable_offset)?;
-    add_offset_lines(breaches, Kind::L2, &offsets.l2_tables)?;
-    add_offset_lines(breaches, Kind::Refblock, &offsets.refblocks)?;
-    add_offset_lines(breaches, Kind::Data, &offsets.data)?;
+    add_offset_lines(alloc, breaches, Kind::L2, &offsets.l2_tables)?;
+    add_offset_lines(alloc, breaches, Kind::Refblock, &offsets.refblocks)?;
+    add_offset_lines(alloc, breaches, Kind::Data, &offsets.data)?;
     Ok(())
 }
 
 /// The lines on the counts of clusters.
-pub(crate) fn add_breaches(breaches: &mut Vec<Breach>, names: &Names) -> Result<(), AllocError>
-    ensures { OnOk result (breaches.new.items ≡ breaches.old.items
-        ++ (lines (2 ^ 64) is_under under_line (tally_in names.now.clusters)
-        ++ (lines (2 ^ 64) is_shared shared_line (tally_in names.now.clusters)
-        ++ lines (2 ^ 64) is_miscopied copied_line (tally_in names.now.clusters)))) }
+pub(crate) fn add_breaches(
+    breaches: &mut Vec<Breach>,
+    told: &[(u64, Tally)],
+) -> Result<(), AllocError>
+    ensures { (t : ℕ → Tally) → told.now ≡ lines (2 ^ 64) is_told numbered t
+        → OnOk result (breaches.new.items ≡ breaches.old.items ++ cluster_lines t) }
 {
-    push_under(breaches, names)?;
-    push_shared(breaches, names)?;
-    push_copied(breaches, names)?;
+    push_under(breaches, told)?;
+    push_shared(breaches, told)?;
+    push_copied(breaches, told)?;
     Ok(())
 }
 
 /// The leaked clusters.
-pub(crate) fn add_leaks(leaks: &mut Vec<Leak>, names: &Names) -> Result<(), AllocError>
-    ensures { OnOk result (leaks.new.items ≡ leaks.old.items ++ lines (2 ^ 64) is_leaked leak_of_cluster (tally_in names.now.clusters)) }
+pub(crate) fn add_leaks(leaks: &mut Vec<Leak>, told: &[(u64, Tally)]) -> Result<(), AllocError>
+    ensures { (t : ℕ → Tally) → told.now ≡ lines (2 ^ 64) is_told numbered t
+        → OnOk result (leaks.new.items ≡ leaks.old.items ++ leak_lines_of t) }
 {
-    push_leaks(leaks, names)?;
+    push_leaks(leaks, told)?;
     Ok(())
 }

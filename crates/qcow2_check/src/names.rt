@@ -5,13 +5,13 @@ ghost use Rattle.qcow2_metadata.specs.Bytes.{one_if};
 ghost use Rattle.qcow2_check.specs.Tallies.{tally_in, no_tally, AddsToTally, AddsTimes, Counts, TalliesGrow, TalliesWithin64Bits, IsSmall};
 
 use crate::tally::Tally;
+use crate::tally_map::TallyMap;
 use std::alloc::{AllocError, Global};
-use std::collections::BTreeMap;
 
 /// How often each cluster is named.
 #[derive(Drop)]
 pub(crate) struct Names {
-    pub(crate) clusters: BTreeMap<u64, Tally>,
+    pub(crate) clusters: TallyMap,
     pub(crate) total: u64,
     ghost bounded: { IsSmall clusters total },
     ghost near: { TalliesWithin64Bits clusters },
@@ -30,7 +30,7 @@ impl Names {
         ensures total { result.total ≡ 0 }
     {
         Names {
-            clusters: BTreeMap::new(alloc),
+            clusters: TallyMap::new(alloc),
             total: 0,
         }
     }
@@ -62,13 +62,14 @@ impl Names {
         ensures adds { OnOk result (AddsTimes self.old.clusters self.new.clusters cluster times for_table marked) }
         ensures total { OnOk result (self.new.total ≡ self.old.total + times) }
     {
-        let tally = self.clusters.entry(cluster)?.or_insert(Tally::NONE);
-        *tally = Tally {
+        let tally = self.clusters.get(cluster);
+        let more = Tally {
             named: tally.named + times,
             for_tables: tally.for_tables + times_if(times, for_table),
             marked: tally.marked + times_if(times, marked),
             count: tally.count,
         };
+        self.clusters.set(cluster, more)?;
         self.total += times;
         Ok(())
     }
@@ -95,9 +96,9 @@ impl Names {
         ensures counts { OnOk result (Counts self.old.clusters self.new.clusters cluster count) }
         ensures total { self.new.total ≡ self.old.total }
     {
-        let tally = self.clusters.entry(cluster)?.or_insert(Tally::NONE);
+        let mut tally = self.clusters.get(cluster);
         tally.count = count;
-        Ok(())
+        self.clusters.set(cluster, tally)
     }
 
     /// One more name, for a table, of each of n clusters from a first one on.

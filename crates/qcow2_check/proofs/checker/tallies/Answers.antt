@@ -41,9 +41,7 @@ returns-in_err-names_of_l1_table-clause-refused g c honest =
     rw (p.1, p.2) (uncounted _ _ _ c.in_err-names_of_l1_table.ensures.causes)
 
 pub counts_of_reftable-requires-clause-fresh : goal.counts_of_reftable-requires-clause-fresh
-counts_of_reftable-requires-clause-fresh g c q =
-    c.in_ok-names_of_l1_table.ensures.counts q ∙ c.in_ok-names_of_reftable.ensures.grows.same_count q ∙ c.in_ok-names_of_header.ensures.grows.same_count q
-    ∙ ap (λ (t : Tally). t.count) (c.new-names.ensures.none q)
+counts_of_reftable-requires-clause-fresh g c q = ap (λ (t : Tally). t.count) (c.new-names.ensures.none q)
 
 pub returns-in_err-counts_of_reftable-clause-refused :
     goal.returns-in_err-counts_of_reftable-clause-refused
@@ -55,26 +53,24 @@ pub returns-clause-tallies : goal.returns-clause-tallies
 returns-clause-tallies g c honest =
     let h = c.args.header.now in
     let b = (g.S.Storage.view c.args.storage.now).contents in
-    let l1 = c.deref-4.result.now in
-    let blocks = c.deref-3.result.now in
+    let l1 = c.deref-5.result.now in
+    let blocks = c.deref-4.result.now in
     let honest1 = c.in_ok-l1.ensures.reading.honest honest in
     let honest2 = c.in_ok-reftable.ensures.reading.honest honest1 in
-    let honest3 = c.in_ok-names_of_l1_table.ensures.reading.honest honest2 in
+    let honest3 = c.in_ok-counts_of_reftable.ensures.reading.honest honest2 in
     let same1 : (g.S.Storage.view c.load_l1_entries.new.storage).contents ≡ b = c.in_ok-l1.ensures.reading.same honest in
     let same2 : (g.S.Storage.view c.load_reftable_entries.new.storage).contents ≡ b = c.in_ok-reftable.ensures.reading.same honest1 ∙ same1 in
-    let same3 : (g.S.Storage.view c.names_of_l1_table.new.storage).contents ≡ b = c.in_ok-names_of_l1_table.ensures.reading.same honest2 ∙ same2 in
+    let same3 : (g.S.Storage.view c.counts_of_reftable.new.storage).contents ≡ b = c.in_ok-counts_of_reftable.ensures.reading.same honest2 ∙ same2 in
     let L1 : List ℕ → Type 0 = λ b. (i : ℕ) → entry_at l1 i ≡ l1_entry h (byte_at b) i in
-    let l1_is : L1 b = λ i. ap (λ t. entry_at t i) c.deref-4.ensures.value ∙ c.in_ok-l1.ensures.entries honest i in
+    let l1_is : L1 b = λ i. ap (λ t. entry_at t i) c.deref-5.ensures.value ∙ c.in_ok-l1.ensures.entries honest i in
     let R : List ℕ → List ℕ → Type 0 = λ t b. (k : ℕ) → entry_at t k ≡ reftable_entry h (byte_at b) k in
     let reftable_is : R c.in_ok-reftable.reftable.items b = subst (R c.in_ok-reftable.reftable.items) same1 (c.in_ok-reftable.ensures.entries honest1) in
-    let blocks_are : R blocks b = subst (λ t. R t b) (sym c.deref-3.ensures.value) reftable_is in
-    let counts_are : R c.deref-5.result.now b = subst (λ t. R t b) (sym c.deref-5.ensures.value) reftable_is in
-    let m2 = c.names_of_reftable.new.names.clusters in
-    let m3 = c.names_of_l1_table.new.names.clusters in
-    let G : List ℕ → Type 0 = λ b. TalliesGrow m2 m3 (named_below h (byte_at b) (length l1 / 8)) (tables_below h (byte_at b) (length l1 / 8)) (marked_below h (byte_at b) (length l1 / 8)) in
-    let C : List ℕ → Type 0 = λ b. CountsAll m3 c.counts_of_reftable.new.names.clusters (count h (byte_at b)) in
+    let blocks_are : R blocks b = subst (λ t. R t b) (sym c.deref-4.ensures.value) reftable_is in
+    let counts_are : R c.deref-3.result.now b = subst (λ t. R t b) (sym c.deref-3.ensures.value) reftable_is in
+    let G : List ℕ → Type 0 = λ b. TalliesGrow c.names_of_reftable.new.names.clusters c.names_of_l1_table.new.names.clusters (named_below h (byte_at b) (length l1 / 8)) (tables_below h (byte_at b) (length l1 / 8)) (marked_below h (byte_at b) (length l1 / 8)) in
+    let C : List ℕ → Type 0 = λ b. CountsAll c.new-names.result.clusters c.counts_of_reftable.new.names.clusters (count h (byte_at b)) in
     let T : List ℕ → Type 0 = λ b. TalliesGrow c.new-offsets.result.data.clusters c.names_of_l1_table.new.offsets.clusters (data_off_below h (byte_at b) (length l1 / 8)) (λ _. 0) (λ _. 0) in
-    let l1_long : length l1 / 8 ≡ h.l1_entries = omega (arith, c.in_ok-l1.ensures.length, ap length c.deref-4.ensures.value) in
+    let l1_long : length l1 / 8 ≡ h.l1_entries = omega (arith, c.in_ok-l1.ensures.length, ap length c.deref-5.ensures.value) in
     let head_l1 : (i : ℕ) → entry_at c.deref.result.now i ≡ l1_entry h (byte_at b) i = λ i. ap (λ t. entry_at t i) c.deref.ensures.value ∙ c.in_ok-l1.ensures.entries honest i in
     let head_long : length c.deref.result.now / 8 ≡ h.l1_entries = omega (arith, c.in_ok-l1.ensures.length, ap length c.deref.ensures.value) in
     let head_blocks : R c.deref-2.result.now b = subst (λ t. R t b) (sym c.deref-2.ensures.value) reftable_is in
@@ -82,26 +78,26 @@ returns-clause-tallies g c honest =
     record {
       clusters_are =
           all_tallies h (byte_at b) l1 blocks _ _ _ _ _
-          (omega (arith, c.in_ok-l1.ensures.length, ap length c.deref-4.ensures.value))
-          (omega (arith, c.in_ok-reftable.ensures.length, ap length c.deref-3.ensures.value))
+          (omega (arith, c.in_ok-l1.ensures.length, ap length c.deref-5.ensures.value))
+          (omega (arith, c.in_ok-reftable.ensures.length, ap length c.deref-4.ensures.value))
           blocks_are
-          c.new-names.ensures.none c.in_ok-names_of_header.ensures.grows c.in_ok-names_of_reftable.ensures.grows
-          (subst G same2 (c.in_ok-names_of_l1_table.ensures.grows honest2 (subst L1 (sym same2) l1_is)))
-          (subst C same3 (c.in_ok-counts_of_reftable.ensures.counts honest3 (subst (R c.deref-5.result.now) (sym same3) counts_are)));
+          c.new-names.ensures.none
+          (subst C same2 (c.in_ok-counts_of_reftable.ensures.counts honest2 (subst (R c.deref-3.result.now) (sym same2) counts_are)))
+          c.in_ok-names_of_header.ensures.grows c.in_ok-names_of_reftable.ensures.grows
+          (subst G same3 (c.in_ok-names_of_l1_table.ensures.grows honest3 (subst L1 (sym same3) l1_is)));
       l2_tables_are = counted_off (tables_off h c.deref.result.now (length c.deref.result.now / 8)) (off_l2_tables h (byte_at b)) _ _ c.new-offsets.ensures.l2_tables
           (all_tables_off h (byte_at b) c.deref.result.now head_long head_l1) c.in_ok-offsets_of_l1_table.ensures.grows;
       refblocks_are = counted_off (blocks_off h c.deref-2.result.now (length c.deref-2.result.now / 8)) (off_refblocks h (byte_at b)) _ _ c.new-offsets.ensures.refblocks
           (all_blocks_off h (byte_at b) c.deref-2.result.now head_blocks_long head_blocks) c.in_ok-offsets_of_reftable.ensures.grows;
       data_are = counted_off (data_off_below h (byte_at b) (length l1 / 8)) (data_off_below h (byte_at b) h.l1_entries) _ _ c.new-offsets.ensures.of_data
           (λ q. ap (λ n. data_off_below h (byte_at b) n q) l1_long)
-          (subst T same2 (c.in_ok-names_of_l1_table.ensures.offsets honest2 (subst L1 (sym same2) l1_is)));
+          (subst T same3 (c.in_ok-names_of_l1_table.ensures.offsets honest3 (subst L1 (sym same3) l1_is)));
     }
 
 pub returns-clause-tables : goal.returns-clause-tables
 returns-clause-tables g c honest =
-    let h = c.args.header.now in
     let same = c.in_ok-l1.ensures.reading.same honest in
-    let R : List ℕ → Type 0 = λ b. (k : ℕ) → entry_at c.in_ok-reftable.reftable.items k ≡ reftable_entry h (byte_at b) k in
+    let R : List ℕ → Type 0 = λ b. (k : ℕ) → entry_at c.in_ok-reftable.reftable.items k ≡ reftable_entry c.args.header.now (byte_at b) k in
     let blocks = subst R same (c.in_ok-reftable.ensures.entries (c.in_ok-l1.ensures.reading.honest honest)) in
     record {
       l1_entries = λ i lt. subst L1EntryReads (c.in_ok-l1.ensures.entries honest i) (c.in_ok-l1.ensures.reads i);

@@ -43,7 +43,7 @@ loop-i-preserved g c =
     let at = c.loop-i.place in
     let run = take (end - start) (drop start xs) in
     let is : xs ≡ places = c.deref.ensures.value in
-    let some = some_counts h c.requires.low c.requires.order in
+    let some = some_counts h c.requires.bits.0 c.requires.order in
     let last : end ≤ length xs = omega (arith, ap length is) in
     let long : length run ≡ end - start = run_long xs start end c.loop-i.invariant.inside last in
     let same : (k : ℕ) → k < end - start → get_or run k (0, 0) ≡ get_or places (start + k) (0, 0) =
@@ -66,6 +66,7 @@ loop-i-preserved g c =
           ∙ ap (λ (e : ℕ × ℕ). e.0) (get_or_from_slice_get places end c.index.result.now (0, 0)
           (slice_get_read places (length places) end c.index.result.now refl (omega (arith, ap length is)) c.index.ensures));
       inside = omega arith;
+      total = c.counts_of_block_at.ensures.total ∙ c.loop-i.invariant.total;
       reading = reads_more _ _ _ c.loop-i.invariant.reading c.loop-i.invariant.reading.cause.told c.in_ok-counts_of_block_at.ensures.reading;
     }
 
@@ -83,7 +84,7 @@ returns-clause-counts g c honest are =
     let at = c.loop-i.place in
     let run = take (end - start) (drop start xs) in
     let is : xs ≡ places = c.deref-2.ensures.value in
-    let some = some_counts h c.requires.low c.requires.order in
+    let some = some_counts h c.requires.bits.0 c.requires.order in
     let first : start ≤ end = omega (arith, ap length is) in
     let long : length run ≡ end - start = run_long xs start end first (omega arith) in
     let same : (k : ℕ) → k < end - start → get_or run k (0, 0) ≡ get_or places (start + k) (0, 0) =

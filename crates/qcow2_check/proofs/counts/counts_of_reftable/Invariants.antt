@@ -18,5 +18,6 @@ invariant-loop-i g l = record {
       → AreRight l.names.clusters (count l.header (byte_at (g.S.Storage.view l.initial.storage).contents)) (entry_number_at l.places.items n * counts_per_block l.header) (counts_per_block l.header);
   alike : (n : ℕ) → l.start ≤ n → n < l.i → place_at l.places.items n ≡ l.place;
   inside : l.start ≤ l.i;
+  total : l.names.total ≡ l.initial.names.total;
   reading : OnlyReads (g.S.Storage.view l.initial.storage) (g.S.Storage.view l.storage) (Ok (tt {0}));
 }

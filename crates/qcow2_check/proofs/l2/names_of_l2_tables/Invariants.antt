@@ -1,8 +1,7 @@
-use Rattle.std.proofs.Common.{ℕ, ◌≡◌, ◌+◌, ◌*◌, ◌^◌, ◌≤◌, Ok, take}
+use Rattle.std.proofs.Common.{◌+◌, ◌*◌, ◌^◌, ◌≤◌, Ok, take}
 use Rattle.qcow2_metadata.specs.Bytes.{byte_at}
 use Rattle.qcow2_metadata.specs.Named.{named_by_l2_table}
 use Rattle.qcow2_metadata.specs.MetadataError.{OnlyReads}
-use Rattle.qcow2_check.specs.Tallies.{tally_in}
 use Rattle.qcow2_check.specs.Offsets.{data_off_at, data_off_by_tables}
 use Rattle.qcow2_check.specs.Marks.{marked_by_l2_table, named_by_tables, marked_by_tables}
 use Rattle.qcow2_check.proofs.Repeats.{IsBehind}
@@ -23,6 +22,5 @@ invariant-loop-next g l = record {
   few : l.times ≤ l.next-index;
   names_total : l.names.total + l.times * 2 ^ 33 ≤ l.initial.names.total + l.next-index * 2 ^ 33;
   offsets_total : l.offsets.total + l.times * 2 ^ 33 ≤ l.initial.offsets.total + l.next-index * 2 ^ 33;
-  counts : (q : ℕ) → (tally_in l.names.clusters q).count ≡ (tally_in l.initial.names.clusters q).count;
   reading : OnlyReads (g.S.Storage.view l.initial.storage) (g.S.Storage.view l.storage) (Ok (tt {0}));
 }

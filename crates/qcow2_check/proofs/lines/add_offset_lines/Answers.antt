@@ -1,10 +1,12 @@
-use Rattle.std.proofs.Common.{◌++◌, ◌^◌, refl, ap, ◌∙◌}
+use Rattle.std.proofs.Common.{◌++◌, ◌^◌, ap, ◌∙◌}
+use Rattle.qcow2_check.specs.Tallies.{tally_in}
 use Rattle.qcow2_check.specs.Lines.{is_named, unaligned_line}
-use Rattle.qcow2_check.proofs.Rising.{lines_of_entries}
+use Rattle.qcow2_check.proofs.Rising.{lines_of_list}
 use Rattle.qcow2_check.proofs.lines.add_offset_lines.Goals as goal
 
 pub returns : goal.returns
 returns c =
-    let m = c.args.offsets.now in
     c.in_ok-push_offsets.ensures.lines
-    ∙ ap (λ r. c.args.breaches.now.items ++ r) (lines_of_entries (2 ^ 64) is_named (unaligned_line c.args.kind) m.clusters.entries refl c.push_offsets.ensures.sorted m.near)
+    ∙ ap (λ r. c.args.breaches.now.items ++ r)
+    (lines_of_list is_named (unaligned_line c.args.kind) (2 ^ 64) is_named (tally_in c.args.offsets.now.clusters) c.deref.result.now (λ t fails. fails)
+    (c.deref.ensures.value ∙ c.in_ok-named.ensures))

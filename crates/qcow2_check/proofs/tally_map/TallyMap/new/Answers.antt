@@ -1,0 +1,13 @@
+use Rattle.std.proofs.Common.{ℕ, List, get_or, unwrap_or, ap, ◌∙◌}
+use Rattle.std.specs.Map.{lookup}
+use Rattle.std.specs.BTreeMap.{is_at}
+use Rattle.std.specs.Ordering.{nat_cmp}
+use Rattle.qcow2_check.specs.declared.tally.Tally.{Tally}
+use Rattle.qcow2_check.specs.Tallies.{no_tally, blank, is_blank}
+use Rattle.qcow2_check.proofs.TallyMaps.{tally-large}
+use Rattle.qcow2_check.proofs.tally_map.TallyMap.new.Goals as goal
+
+pub returns : goal.returns
+returns c q =
+    tally-large _ q (ap (λ xs. is_blank (get_or xs q blank)) c.new.ensures.items)
+    ∙ ap (λ (es : List (ℕ × Tally)). unwrap_or (lookup (is_at (nat_cmp q)) es) no_tally) c.new-2.ensures.empty
