@@ -66,13 +66,12 @@ module _ {S F : Type 0} (view : S → StorageView) (backing : F → BackingView)
   pub has_image : (bytes : List ℕ) (n width : ℕ) (h : HeaderFields) → count_width (header (contents_in view new.file)) ≡ width → IsOpened (abstract_of view backing old []) → is_some old.backing ≡ false → SameFormat h old.file.header.fields
       → IsTrue (is_writable old) → ((k : ℕ) → (abstract_of view backing old []).surplus k ≡ 0) → IsSameImage old new → HasNothingToFree new → Imports view backing old new bytes (Ok n) → IsImageOf (view (storage_of_image new)) bytes (cluster_size h) width
   has_image bytes n width h counts opened alone format writable none same empty imports =
-      let v = abstract_of view backing old [] in
       let w = abstract_of view backing new [] in
       let does = imports [] in
       let done = does.answer opened.sound in
       let clean = done.1.3 in
       let is_whole = whole view backing new [] done.0 in
-      let setting : w.setting ≡ v.setting = (does.acts.works opened.sound).setting in
+      let setting : w.setting ≡ (abstract_of view backing old []).setting = (does.acts.works opened.sound).setting in
       let below : w.setting.backing ≡ zeros_below = ap (λ (x : Setting). x.backing) setting ∙ none_below view backing old.backing alone in
       let clusters : cluster_size (header w.known) ≡ cluster_size h =
       sym is_whole.cluster_size ∙ ap (λ (x : Setting). x.cluster_size) setting ∙ same_clusters h old.file.header.fields format

@@ -39,10 +39,6 @@ told_since {T} {result} before mid now same told = subst (λ n. FaultsTold n now
 pub stays_unless : {T : Type 0} (before now : ℕ) (e : ImageError) → FaultsTold {T = T} before now (Err e) → e ≢ I.Storage → now ≡ before
 stays_unless before now e told other = told.told other
 
--- a refusal that is no failure, and no want of memory
-pub stays_else : {T : Type 0} (before now : ℕ) (e : ImageError) → FaultsTold {T = T} before now (Err e) → ¬ IsFault e → now ≡ before
-stays_else before now e told other = told.told (λ is. other (inl is))
-
 -- what the storage answered
 pub unless_fault : {A : Type 0} (r : Result A StorageError) (P : Type 0) → UnlessErr r S.Fault P → ¬ IsErrOf r S.Fault → P
 unless_fault (Ok x) P holds other = holds

@@ -1,8 +1,7 @@
 -- Steps of an image's file, one after another: calls of its caches, and counts that change. What a stop may leave on the way is built here, and in the words of `qcow2_laws`.
-use Rattle.std.proofs.lemmas.Bool.{or_right}
+use Rattle.std.proofs.lemmas.Bool.{or_right, cases_eq, eq-eqb, ne_eqb, cond-true, cond-false}
 use Rattle.std.proofs.Common.{◌≡◌, inl, inr, ℕ, ◌+◌, ◌/◌, ◌<◌, ◌≤◌, ◌==◌, Bool, true, false, cond, [], IsTrue, refl, sym, ap, ◌∙◌, subst, arith}
 use mathlib.Core.Path.{fun_ext}
-use Rattle.std.proofs.lemmas.Bool.{cases_eq, eq-eqb, ne_eqb, cond-true, cond-false}
 use Rattle.image_access.specs.Moments.{StorageView}
 use Rattle.image_access.proofs.EachMomentSince.{passes_on}
 use Rattle.qcow2_metadata.specs.Bytes.{Bytes}

@@ -34,8 +34,6 @@ module _ {S : Type 0} (view : S → StorageView) (p : Pending) (file : ImageFile
   is_written : IsWritten file.header.fields (contents_in view file) (known_in view file) (contents_in view written) (known_in view written) []
   is_written =
       let h = file.header.fields in
-      let l2s = l2_tables file.caches in
-      let rbs = refblocks file.caches in
       let kept = sound.caches.kept.kept in
       data_beside h (order_of file.caches) p (l2_tables file.caches) (refblocks file.caches) (contents_in view file) (contents_in view written) kept []
       (λ c. elim (each c) [

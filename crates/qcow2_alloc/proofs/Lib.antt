@@ -43,3 +43,4 @@ pub mod SparedHeaders
 pub mod KeptNotes
 pub mod MetFaults
 pub mod KeptMarks
+pub mod Steps

@@ -157,7 +157,6 @@ module _ {S : Type 0} (view : S → StorageView) (d : Bool) (p : Pending) (range
 
     table_now : IsRefTableOf h on_storage' t'
     table_now =
-        let as_long = enters.as_long in
         let count : entry_count t' ≡ entry_count t = ap (λ n. n / 8) enters.as_long in
         subst (λ (l : List ℕ). IsRefTableOf h (byte_at l) t') (sym is)
         (IsRefTableOf-written_entry h (view_in view file).contents h.reftable_offset t' range (subst (λ n. range < n) (sym count) within) fits

@@ -1,5 +1,5 @@
 -- The header is written to name a longer reftable, which is the allocator's own then.
-use Rattle.std.proofs.Common.{◌≡◌, ◌≢◌, ◌⊎◌, inl, inr, ℕ, ◌+◌, ◌-◌, ◌*◌, ◌/◌, ◌^◌, ◌<◌, ◌≤◌, List, [], length, Option, Some, Result, Ok, true, IsTrue, refl, sym, ap, ◌∙◌, subst, arith}
+use Rattle.std.proofs.Common.{◌≡◌, ◌≢◌, ◌⊎◌, inl, inr, ℕ, ◌+◌, ◌-◌, ◌*◌, ◌/◌, ◌^◌, ◌<◌, ◌≤◌, List, [], length, Option, Some, Result, Ok, IsTrue, refl, sym, ap, ◌∙◌, subst, arith}
 use Rattle.std.proofs.Math.Nat.{mul-le-mul_left}
 use Rattle.std.proofs.lemmas.Bool.{cases_eq, or_left}
 use Rattle.image_access.specs.Moments.{StorageView, Changes, Calls}
@@ -11,7 +11,7 @@ use Rattle.qcow2_metadata.specs.HeaderWrite.{reftable_pointer_written}
 use Rattle.qcow2_metadata.specs.Entries.{l1_entry, reftable_entry, block_offset}
 use Rattle.qcow2_metadata.specs.EntryTable.{EntryTableView, IsRefTable, HasRoomIfPlaced, entry_count}
 use Rattle.qcow2_metadata.specs.TableBytes.{entry_at}
-use Rattle.qcow2_laws.specs.Caches.{AreClean, BlocksMayGo, HasBlock}
+use Rattle.qcow2_laws.specs.Caches.{HasBlock}
 use Rattle.qcow2_laws.specs.CrashInvariant.{Pending}
 use Rattle.qcow2_laws.specs.SafeSteps.{SafeStep}
 use Rattle.qcow2_disk.specs.Stops.{SafeThroughout}
@@ -23,17 +23,16 @@ use Rattle.qcow2_laws.proofs.ReftableMoves.{now_l1, now_reftable, known_counts}
 use Rattle.qcow2_laws.proofs.Steps.{header_is_written}
 use Rattle.qcow2_laws.proofs.Unseen.{table_bytes}
 use Rattle.qcow2_alloc.specs.declared.allocation.Allocator.{Allocator}
-use Rattle.qcow2_alloc.specs.declared.cache.MetadataCaches.{MetadataCaches}
 use Rattle.qcow2_alloc.specs.declared.image_file.ImageFile.{ImageFile}
 use Rattle.qcow2_alloc.specs.declared.image_storage.ImageStorage.{ImageStorage}
 use Rattle.qcow2_alloc.specs.declared.error.ImageError.{ImageError}
-use Rattle.qcow2_alloc.specs.Allocation.{run_at, UnseenAllocatorStep, UnseenAllocatorGrowth}
+use Rattle.qcow2_alloc.specs.Allocation.{run_at, UnseenAllocatorGrowth}
 use Rattle.qcow2_alloc.specs.GrownTables.{reftable_at, with_run, without_reftable, StandsGrown}
 use Rattle.qcow2_alloc.specs.ImageFile.{nothing_given, view_in, contents_in, known_in, state_in, FileInvariant, AllocatorInvariant, HasReftable, IsFault, UnseenFileGrowth, InterruptedFileStep}
 use Rattle.qcow2_alloc.specs.ImageStorage.{storage_of, is_changed_of}
 use Rattle.qcow2_alloc.specs.KeptTables.{AreLoaded}
 use Rattle.qcow2_alloc.specs.LowestRuns.{IsUsed}
-use Rattle.qcow2_alloc.specs.MetadataCaches.{order_of, l2_tables, refblocks, rb_at, known_of}
+use Rattle.qcow2_alloc.specs.MetadataCaches.{order_of, refblocks, known_of}
 use Rattle.qcow2_alloc.proofs.FileSteps.{pending_same}
 use Rattle.qcow2_alloc.proofs.GrownTables.{counted_anew, clusters_of_run, run_counted, whole_clusters, new_entries, few_entries, new_reftable}
 use Rattle.qcow2_alloc.proofs.HeaderKept.{same_block, header_named_blocks, header_sound}

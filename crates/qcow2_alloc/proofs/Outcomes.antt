@@ -1,14 +1,11 @@
 -- What holds of the result of a call, whatever the call does.
-use Rattle.std.proofs.Common.{◌≡◌, ℕ, Bool, false, Result, Ok, Err, IsErr, IsErrAnd, IsTrue, refl, ap, sym, subst, arith}
-use Rattle.std.specs.Prelude.{IsErrOf, IfOk, IfErr, OnOk, OnErr}
+use Rattle.std.proofs.Common.{◌≡◌, ℕ, Bool, false, Result, Ok, Err, IsErr, IsErrAnd, IsTrue, refl, ap}
+use Rattle.std.specs.Prelude.{IsErrOf, IfOk, OnOk, OnErr}
 use Rattle.qcow2_metadata.specs.EntryTable.{EntryTableView}
 use Rattle.qcow2_alloc.specs.Allocation.{KeepsEntries}
-use Rattle.qcow2_alloc.specs.ImageError.{IsOfTables}
 use Rattle.qcow2_alloc.specs.declared.error.ImageError.{ImageError}
 use Rattle.qcow2_alloc.specs.declared.error.ImageError.TheVariants as I
-use Rattle.qcow2_alloc.specs.Faults.{FaultsTold}
 use Rattle.qcow2_alloc.proofs.AllocationSteps.{handed_on, behind_none}
-use Rattle.qcow2_alloc.proofs.Faults.{told_on, told_since}
 
 -- an answer is no refusal
 pub ok_no_err : {A E B : Type 0} (x : A) (e : E) → Ok x ≡ Err e → B
@@ -21,29 +18,9 @@ not_both test holds fails = absurd (cc)
 pub never : {B : Type 0} → IsTrue false → B
 never bad = absurd (cc)
 
--- a refusal by this call's own
-pub told_limit : {T : Type 0} (before now : ℕ) → now ≡ before → FaultsTold {T = T} before now (Err I.Limit)
-told_limit before now same = record { no_fewer = omega arith; rose = λ bad. absurd (cc); told = λ other. same }
-
-pub told_memory : {T : Type 0} (before now : ℕ) → now ≡ before → FaultsTold {T = T} before now (Err I.Memory)
-told_memory before now same = record { no_fewer = omega arith; rose = λ bad. absurd (cc); told = λ other. same }
-
--- a refusal that is answered as it came
-pub told_err : {T A : Type 0} (before now : ℕ) (e : ImageError) → FaultsTold {T = A} before now (Err e) → FaultsTold {T = T} before now (Err e)
-told_err before now e told = record { no_fewer = told.no_fewer; rose = λ is. told.rose (let same : e ≡ I.Storage = cc in ap Err same); told = told.told }
-
 -- one that has a name
 pub err_as : {T A : Type 0} (e f : ImageError) → IsErrOf {T = A} (Err e) f → IsErrOf {T = T} (Err e) f
 err_as e f is = ap Err (let same : e ≡ f = cc in same)
-
--- one that `?` hands on, after others
-pub told_after : {T A : Type 0} (before mid now : ℕ) (answer : Result A ImageError) (e : ImageError) (result : Result T ImageError) → mid ≡ before → FaultsTold mid now answer → answer ≡ Err e
-    → IsErr result × IsErrAnd result (λ x. x ≡ e) → FaultsTold before now result
-told_after before mid now answer e result same told is on = told_since before mid now same (told_on mid now answer e result told is on)
-
--- a call that is followed by one that tells no more
-pub told_still : {T : Type 0} (before mid now : ℕ) (result : Result T ImageError) → FaultsTold before mid result → now ≡ mid → FaultsTold before now result
-told_still before mid now result told same = subst (λ n. FaultsTold before n result) (sym same) told
 
 -- what `?` hands on is no answer
 pub on_no_ok : {A : Type 0} (P : Type 0) (r : Result A ImageError) (e : ImageError) → IsErr r × IsErrAnd r (λ x. x ≡ e) → OnOk r P
@@ -53,10 +30,6 @@ on_no_ok P (Err x) e on = tt
 pub if_no_ok : {A : Type 0} (P : A → Type 0) (r : Result A ImageError) (e : ImageError) → IsErr r × IsErrAnd r (λ x. x ≡ e) → IfOk r P
 if_no_ok P (Ok x) e on = absurd (let bad = on.0 in cc)
 if_no_ok P (Err x) e on = tt
-
--- a cause that `?` hands on
-pub handed_cause : {A : Type 0} (r : Result A ImageError) (e : ImageError) → IsErr r × IsErrAnd r (λ x. x ≡ e) → IsOfTables e → IfErr r IsOfTables
-handed_cause r e on cause = handed_on (λ x. IfErr x IsOfTables) r e on cause
 
 pub handed_unaligned : {A B : Type 0} (r : Result A ImageError) (e : ImageError) → IsErr r × IsErrAnd r (λ x. x ≡ e) → IsErrOf {T = B} (Err e) I.UnalignedTable → IsErrOf r I.UnalignedTable
 handed_unaligned r e on is = handed_on (λ x. IsErrOf x I.UnalignedTable) r e on (err_as e I.UnalignedTable is)

@@ -162,7 +162,6 @@ module _ {S : Type 0} (view : S → StorageView) where
       -- its bytes stand there still
       pub still_stands : BlocksMayGo (order_of caches) (l2_tables caches) → StandAt (contents_in view put) (at * cluster_size file.header.fields) block.bytes
       still_stands may' i lt =
-          let h = file.header.fields in
           let file_step = file_step_cached view (placing d p at) file storage caches sound stays marks in
           let has' = reftable_cached view (placing d p at) file storage caches sound stays t has in
           let place' : HasPlaceFor d put.header.fields t range at = record { none = place.none; first = place.first } in

@@ -214,7 +214,6 @@ module _ (h : HeaderFields) (sizes : Sizes h) (b b' : Bytes) (old t0 t t' : Entr
   -- the one that is written now
   count_here : (c : ℕ) → c / counts_per_block h ≡ range → block_count b' (count_width h) (block_offset (entry_at t'.bytes (c / counts_per_block h))) (c % counts_per_block h) ≡ run_at first n c
   count_here c here =
-      let i = c % counts_per_block h in
       let lt : c % counts_per_block h < counts_per_block h = mod_below c (counts_per_block h) sizes.counts in
       let per_is : counts_per_block h ≡ 2 ^ block.cluster_bits * 8 / 2 ^ block.refcount_order = sym (ap (λ n. 2 ^ n * 8 / 2 ^ block.refcount_order) format.bits ∙ ap (λ n. 2 ^ h.cluster_bits * 8 / 2 ^ n) format.order) in
       let stands_count = ref_block_at b' ((first + placed) * cluster_size h) block whole stands (c % counts_per_block h) (subst (λ n. c % counts_per_block h < n) per_is lt) in

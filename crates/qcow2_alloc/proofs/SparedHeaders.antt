@@ -1,8 +1,8 @@
 -- Calls on an image's file that leave cluster 0 alone, one after another.
-use Rattle.std.proofs.Common.{◌≡◌, ◌⊎◌, inl, inr, ℕ, zero, suc, ◌+◌, ◌*◌, ◌/◌, ◌^◌, ◌<◌, ◌≤◌, true, List, length, Option, Some, None, Result, IsSome, refl, sym, ap, ◌∙◌, subst, arith}
+use Rattle.std.proofs.Common.{◌≡◌, ◌⊎◌, inl, inr, ℕ, zero, suc, ◌+◌, ◌*◌, ◌^◌, ◌<◌, ◌≤◌, List, Option, Some, None, Result, IsSome, refl, sym, ap, ◌∙◌, subst, arith}
 use Rattle.std.specs.Prelude.{IfSome}
 use Rattle.image_access.specs.Contents.{overwritten}
-use Rattle.image_access.specs.Moments.{StorageView, Calls, Changes, ContentsBecome}
+use Rattle.image_access.specs.Moments.{StorageView, Calls, Changes}
 use Rattle.image_access.specs.declared.error.StorageError.{StorageError}
 use Rattle.image_access.proofs.EachMomentSince.{whole_or_nothing}
 use Rattle.qcow2_metadata.specs.Bytes.{byte_at}
@@ -11,7 +11,7 @@ use Rattle.qcow2_metadata.specs.EntryTable.{EntryTableView, entry_count}
 use Rattle.qcow2_metadata.specs.Header.{HeaderView, with_fields, with_reftable}
 use Rattle.qcow2_metadata.specs.HeaderWrite.{bytes_of_numbers, reftable_pointer_written}
 use Rattle.qcow2_alloc.specs.HeaderClusters.{IsInHeaderCluster, IsBesidePointer, BytesStay, KeepsHeaderCluster}
-use Rattle.qcow2_alloc.specs.SparedHeaders.{AreBehindHeader, KeepBehindHeader, StandsBehindHeader, CachesSpareHeader, SparesBytes, SparesHeader, SparesHeaderButPointer}
+use Rattle.qcow2_alloc.specs.SparedHeaders.{KeepBehindHeader, StandsBehindHeader, CachesSpareHeader, SparesBytes, SparesHeader, SparesHeaderButPointer}
 use Rattle.qcow2_alloc.specs.ImageFile.{view_in}
 use Rattle.qcow2_alloc.specs.ImageStorage.{storage_of}
 use Rattle.qcow2_alloc.specs.declared.cache.MetadataCaches.{MetadataCaches}
@@ -19,7 +19,6 @@ use Rattle.qcow2_alloc.specs.declared.clusters_to_free.ClustersToFreeEntry.{Clus
 use Rattle.qcow2_alloc.specs.declared.image_file.ImageFile.{ImageFile}
 use Rattle.qcow2_alloc.specs.declared.image_storage.ImageStorage.{ImageStorage}
 use Rattle.qcow2_alloc.proofs.HeaderClusters.{below_others, bytes_stay, bytes_then, fewer_stay, call_keeps, wrote_above}
-use Rattle.qcow2_alloc.proofs.KeptTables.BehindHeader.{noted_behind}
 use Rattle.qcow2_laws.specs.Tops.{IsSameBut}
 use Rattle.qcow2_laws.proofs.Beside.{overwritten_but}
 
@@ -66,9 +65,6 @@ module _ {S : Type 0} {view : S → StorageView} where
     bytes = λ bits stands honest. fewer_stay (IsInHeaderCluster bits) (IsBesidePointer bits) (view_in view a) (view_in view b) (λ o kept. kept.0) (spares.bytes bits stands honest);
     behind = spares.behind;
   }
-
-  pub spares_as : {K : ℕ → ℕ → Type 0} {r r' r'' : EntryTableView} {a b : ImageFile S} → r'' ≡ r' → SparesBytes view K r a r' b → SparesBytes view K r a r'' b
-  spares_as {K} {r} {r'} {r''} {a} {b} same spares = subst (λ x. SparesBytes view K r a x b) (sym same) spares
 
   -- what is listed to be freed has no part in it
   pub spares_listed : {K : ℕ → ℕ → Type 0} {r r' : EntryTableView} {a b : ImageFile S} (list : List ClustersToFreeEntry) → SparesBytes view K r a r' b → SparesBytes view K r a r' (record b { free_list = list })

@@ -40,3 +40,4 @@ pub mod MetFaults
 pub mod WriteKinds
 pub mod HeaderClusters
 pub mod SparedHeaders
+pub mod Steps

@@ -1,21 +1,14 @@
 //! Taking clusters of the image's file.
-ghost use Rattle.std.specs.Prelude.{◌≡◌, ◌≢◌, max, false, ◌+◌, ◌-◌, ◌^◌, ◌<◌, ◌≤◌, ◌⊎◌, Bool, IsNone, IfOk, IfErr, OnOk, IsSome, IsTrue, MatchResult};
+ghost use Rattle.std.specs.Prelude.{◌≡◌, false, ◌+◌, ◌-◌, ◌^◌, ◌<◌, ◌≤◌, Bool, IfOk, OnOk, IsSome, IsTrue, MatchResult};
 ghost use Rattle.image_access.specs.Moments.{ContentsStay, EachMomentSince, IsLeftBy};
 ghost use Rattle.qcow2_laws.specs.Clusters.{L2DependsOnRb};
 ghost use Rattle.qcow2_laws.specs.CrashInvariant.{Pending};
-ghost use Rattle.qcow2_alloc.specs.Allocation.{MayTake, TakesCluster, TakesRun, TakesSomeRun, is_data, Allocates, AllocatesAt, SameLeaks};
-ghost use Rattle.qcow2_alloc.specs.FreeList.{pending_then, run_of, ListsTables, ListsReftables};
-ghost use Rattle.qcow2_alloc.specs.MadeClusters.{run_in, IsMadeInTurn, IsMadeOnTheWay, ListsUsed, TakesAlone};
-ghost use Rattle.qcow2_alloc.specs.KeptMarks.{KeepsMarks};
-ghost use Rattle.qcow2_alloc.specs.KeptNotes.{KeepsNotes};
-ghost use Rattle.qcow2_alloc.specs.CachePins.{KeepsPinsAndNotes};
-ghost use Rattle.qcow2_alloc.specs.Faults.{CountsFaults};
-ghost use Rattle.qcow2_alloc.specs.SparedHeaders.{AreBehindHeader, NamesReftableBehind, StandsBehindHeader, SparesHeaderButPointer};
-ghost use Rattle.qcow2_alloc.specs.Limits.{IsFaultOr, HasNoPlace, CantCount, CantCountRun, nameable_clusters};
-ghost use Rattle.qcow2_alloc.specs.SoundAllocators.{SoundAllocator};
-ghost use Rattle.qcow2_alloc.specs.LowestRuns.{NoFreeBelowHint, IsLowestRun, IsUsed, KeepsNoFreeBelowHint, KeepsUsed, StaysUsed};
-ghost use Rattle.qcow2_alloc.specs.ImageError.{IsOfTables, IsFault};
-ghost use Rattle.qcow2_alloc.specs.ImageFile.{view_in, contents_in, HasReftable, AllocatorInvariant, KeepsHeader};
+ghost use Rattle.qcow2_alloc.specs.Allocation.{MayTake, TakesSomeRun, is_data, Allocates, SameLeaks};
+ghost use Rattle.qcow2_alloc.specs.FreeList.{pending_then};
+ghost use Rattle.qcow2_alloc.specs.SparedHeaders.{AreBehindHeader, NamesReftableBehind, StandsBehindHeader};
+ghost use Rattle.qcow2_alloc.specs.Steps.{Fails, FileStep, TakesSoundly, TakesRunSoundly, DataStep, AllocatesAtSoundly, AllocatesSoundly, TakesLowestSoundly};
+ghost use Rattle.qcow2_alloc.specs.ImageError.{IsOfTables};
+ghost use Rattle.qcow2_alloc.specs.ImageFile.{view_in, contents_in, HasReftable, AllocatorInvariant};
 ghost use Rattle.qcow2_alloc.specs.LoadedTables.{IsReasonAgainstReftable, ReftableReads};
 ghost use Rattle.qcow2_alloc.specs.MetadataCaches.{order_of};
 ghost use Rattle.qcow2_metadata.specs.L2Mapping.{IsHostCluster};
@@ -39,16 +32,17 @@ impl Allocator {
     /// Loads the reftable. Refused 4 (unaligned table) where it isn't on a cluster, 13 (limit) where it would end past 64 bits,
     /// 19 (metadata) where an entry doesn't read. Where the work meets them: 14 (memory), 15 (storage).
     pub fn new<S: Storage>(file: &mut ImageFile<S>) -> Result<Allocator, ImageError>
-        ensures cause { IfErr result IsOfTables }
-        ensures storage_faults { CountsFaults S.view file.old.storage file.new.storage result }
+        ensures fails { Fails S.view file.old.storage file.new.storage result IsOfTables }
         ensures why { (view_in S.view file.old).is_honest
             → MatchResult result (λ allocator. ReftableReads file.old.header.fields (contents_in S.view file.old))
             (IsReasonAgainstReftable file.old.header.fields (contents_in S.view file.old)) }
         ensures rest { file.new ≡ record file.old { storage = file.new.storage } }
         ensures honest { (view_in S.view file.old).is_honest → (view_in S.view file.new).is_honest }
         ensures same { ContentsStay (view_in S.view file.old) (view_in S.view file.new) }
-        ensures time { EachMomentSince (view_in S.view file.old) (view_in S.view file.new) (IsLeftBy (view_in S.view file.new)) }
-        ensures reftable { (view_in S.view file.old).is_honest → IfOk result (λ allocator. HasReftable S.view file.new allocator.reftable) }
+        ensures time { EachMomentSince (view_in S.view file.old) (view_in S.view file.new)
+            (IsLeftBy (view_in S.view file.new)) }
+        ensures reftable { (view_in S.view file.old).is_honest
+            → IfOk result (λ allocator. HasReftable S.view file.new allocator.reftable) }
         ensures first { IfOk result (λ allocator. allocator.first_free_cluster ≡ 0) }
         ensures leaks { IfOk result (λ allocator. allocator.leaked_clusters ≡ 0) }
         ensures header_cluster { NamesReftableBehind file.old.header.fields
@@ -89,9 +83,7 @@ impl Allocator {
         HostCluster::new(self.first_free_cluster)
     }
 
-    /// Takes the lowest run of so many free clusters for metadata; the count is to be 1 at least. For one
-    /// cluster, passing clusters in use writes nothing where no cached table is modified. Where the refblocks of all ranges that the search
-    /// passes are held, nothing is asked of the storage.
+    /// Takes the lowest run of so many free clusters for metadata; the count is to be 1 at least.
     /// Refused 13 (limit) where there is no such run up to the greatest host offset, for no clusters, or where a refblock or a longer
     /// reftable has no place. Refused 4 (unaligned table) where a refblock that is needed isn't on a cluster. Refused
     /// 8 (everything is in use) by a cache without room for a refblock. Where the work meets them: 14 (memory), 15 (storage).
@@ -100,112 +92,53 @@ impl Allocator {
         file: &mut ImageFile<S>,
         count: ClusterCount,
     ) -> Result<PendingClusters, ImageError>
-        ensures marks { KeepsMarks S.view file.old file.new }
+        ensures step { FileStep S.view self.old.reftable file.old self.new.reftable file.new }
         ensures noted { OnOk result (IsTrue file.new.caches.is_changed) }
         ensures sound { (p : Pending) → AllocatorInvariant S.view self.old p file.old
-            → Allocates S.view p file.old self.new file.new
-            (pending_then p file.old.free_list file.new.free_list) ClusterKind.Metadata count result }
-        ensures header { KeepsHeader file.old.header file.new.header }
-        ensures list { ListsTables file.old.free_list file.new.free_list }
+            → AllocatesSoundly S.view p ClusterKind.Metadata count self.old file.old self.new file.new result }
         ensures nameable { IfOk result (λ p. IsHostCluster file.old.header.fields.cluster_bits p.first_cluster) }
         ensures elsewhere { IfOk result (λ p. 0 < p.first_cluster) }
-        ensures cause { IfErr result IsOfTables }
-        ensures former { ListsReftables self.old.reftable self.new.reftable file.old.free_list file.new.free_list }
-        ensures made { (p : Pending) → AllocatorInvariant S.view self.old p file.old
-            → TakesAlone S.view run_of (IsMadeInTurn file.old.header.fields self.old.reftable self.new.reftable
-            file.old.free_list file.new.free_list) file.old file.new result }
-        ensures storage_faults { CountsFaults S.view file.old.storage file.new.storage result }
-        ensures leaks { (p : Pending) → AllocatorInvariant S.view self.old p file.old → SameLeaks self.old self.new }
-        ensures limit { (p : Pending) → SoundAllocator S.view self.old p file.old → 0 < count
-            → IfErr result (IsFaultOr (HasNoPlace (IsUsed S.view file.new) file.new.header.fields self.new count)) }
-        ensures lowest { (p : Pending) → SoundAllocator S.view self.old p file.old
-            → IfOk result (λ run. IsLowestRun (IsUsed S.view file.new) run.first_cluster count) }
-        ensures uses { (p : Pending) → AllocatorInvariant S.view self.old p file.old → OnOk result (StaysUsed S.view file.old file.new) }
-        ensures hint { (p : Pending) → SoundAllocator S.view self.old p file.old → KeepsNoFreeBelowHint S.view self.new file.new result }
-        ensures header_cluster { SparesHeaderButPointer S.view self.old.reftable file.old self.new.reftable file.new }
+        ensures fails { Fails S.view file.old.storage file.new.storage result IsOfTables }
     {
         self.allocate(file, count, ClusterKind::Metadata)
     }
 
     /// Takes the lowest run of so many free clusters for data; the count is to be 1 at least. From here on refblocks are written before
-    /// L2 tables. Where the refblocks of all ranges that the search passes are held, and L2 tables weren't written before refblocks up to
-    /// then, nothing is asked of the storage. Refused as `allocate_meta` is.
+    /// L2 tables. Refused as `allocate_meta` is.
     pub fn allocate_data<S: Storage>(
         &mut self,
         file: &mut ImageFile<S>,
         count: ClusterCount,
     ) -> Result<PendingClusters, ImageError>
-        ensures marks { KeepsPinsAndNotes file.old.caches file.new.caches }
-        ensures notes { KeepsNotes S.view file.old.storage file.new.storage }
+        ensures step { DataStep S.view self.old.reftable file.old self.new.reftable file.new }
         ensures order { OnOk result (order_of file.new.caches ≡ L2DependsOnRb) }
         ensures noted { OnOk result (IsTrue file.new.caches.is_changed) }
         ensures sound { (p : Pending) → AllocatorInvariant S.view self.old p file.old
-            → Allocates S.view p file.old self.new file.new
-            (pending_then p file.old.free_list file.new.free_list) ClusterKind.Data count result }
-        ensures header { KeepsHeader file.old.header file.new.header }
-        ensures list { ListsTables file.old.free_list file.new.free_list }
+            → AllocatesSoundly S.view p ClusterKind.Data count self.old file.old self.new file.new result }
         ensures nameable { IfOk result (λ p. IsHostCluster file.old.header.fields.cluster_bits p.first_cluster) }
         ensures elsewhere { IfOk result (λ p. 0 < p.first_cluster) }
-        ensures cause { IfErr result IsOfTables }
-        ensures former { ListsReftables self.old.reftable self.new.reftable file.old.free_list file.new.free_list }
-        ensures made { (p : Pending) → AllocatorInvariant S.view self.old p file.old
-            → TakesAlone S.view run_of (IsMadeInTurn file.old.header.fields self.old.reftable self.new.reftable
-            file.old.free_list file.new.free_list) file.old file.new result }
-        ensures storage_faults { CountsFaults S.view file.old.storage file.new.storage result }
-        ensures leaks { (p : Pending) → AllocatorInvariant S.view self.old p file.old → SameLeaks self.old self.new }
-        ensures limit { (p : Pending) → SoundAllocator S.view self.old p file.old → 0 < count
-            → IfErr result (IsFaultOr (HasNoPlace (IsUsed S.view file.new) file.new.header.fields self.new count)) }
-        ensures lowest { (p : Pending) → SoundAllocator S.view self.old p file.old
-            → IfOk result (λ run. IsLowestRun (IsUsed S.view file.new) run.first_cluster count) }
-        ensures uses { (p : Pending) → AllocatorInvariant S.view self.old p file.old → OnOk result (StaysUsed S.view file.old file.new) }
-        ensures hint { (p : Pending) → SoundAllocator S.view self.old p file.old → KeepsNoFreeBelowHint S.view self.new file.new result }
-        ensures header_cluster { SparesHeaderButPointer S.view self.old.reftable file.old self.new.reftable file.new }
+        ensures fails { Fails S.view file.old.storage file.new.storage result IsOfTables }
     {
         file.caches.l2_depends_on_rb(&mut file.storage)?;
         self.allocate(file, count, ClusterKind::Data)
     }
 
     /// Takes just the cluster that is asked for, for data: None where it is cluster 0, is in use, or passes the greatest offset of a host
-    /// cluster. From here on refblocks are written before L2 tables. Where the refblock of its range is held, and L2 tables weren't written
-    /// before refblocks up to then, nothing is asked of the storage. Refused as `allocate_meta` is, 13 (limit) where a refblock or a longer
-    /// reftable has no place.
+    /// cluster. From here on refblocks are written before L2 tables. Refused as `allocate_meta` is, 13 (limit) where a refblock or
+    /// a longer reftable has no place.
     pub fn allocate_data_at<S: Storage>(
         &mut self,
         file: &mut ImageFile<S>,
         cluster: HostCluster,
     ) -> Result<Option<PendingClusters>, ImageError>
-        ensures marks { KeepsPinsAndNotes file.old.caches file.new.caches }
-        ensures notes { KeepsNotes S.view file.old.storage file.new.storage }
+        ensures step { DataStep S.view self.old.reftable file.old self.new.reftable file.new }
         ensures order { OnOk result (order_of file.new.caches ≡ L2DependsOnRb) }
         ensures noted { IfOk result (λ run. IsSome run → IsTrue file.new.caches.is_changed) }
         ensures sound { (p : Pending) → AllocatorInvariant S.view self.old p file.old
-            → AllocatesAt S.view p file.old self.new file.new
-            (pending_then p file.old.free_list file.new.free_list) cluster result }
-        ensures header { KeepsHeader file.old.header file.new.header }
-        ensures list { ListsTables file.old.free_list file.new.free_list }
+            → AllocatesAtSoundly S.view p cluster self.old file.old self.new file.new result }
         ensures nameable { IfOk result (λ run. IsSome run → IsHostCluster file.old.header.fields.cluster_bits cluster) }
         ensures elsewhere { IfOk result (λ run. IsSome run → 0 < cluster) }
-        ensures cause { IfErr result IsOfTables }
-        ensures former { ListsReftables self.old.reftable self.new.reftable file.old.free_list file.new.free_list }
-        ensures listed { (p : Pending) → AllocatorInvariant S.view self.old p file.old → ListsUsed S.view file.old file.new }
-        ensures made { (p : Pending) → AllocatorInvariant S.view self.old p file.old
-            → TakesAlone S.view run_in (IsMadeOnTheWay file.old.header.fields self.old.reftable self.new.reftable)
-            file.old file.new result }
-        ensures storage_faults { CountsFaults S.view file.old.storage file.new.storage result }
-        ensures leaks { (p : Pending) → AllocatorInvariant S.view self.old p file.old → SameLeaks self.old self.new }
-        ensures limit { (p : Pending) → SoundAllocator S.view self.old p file.old
-            → IfErr result (IsFaultOr (CantCount (IsUsed S.view file.new) file.new.header.fields
-            (λ k. 0) self.new cluster)) }
-        ensures kept { (p : Pending) → AllocatorInvariant S.view self.old p file.old
-            → IfErr result (λ e. IsFault e ⊎ StaysUsed S.view file.old file.new) }
-        ensures none { (p : Pending) → AllocatorInvariant S.view self.old p file.old
-            → IfOk result (λ run. IsNone run → (IsHostCluster file.old.header.fields.cluster_bits cluster → ⊥)
-            ⊎ (IsUsed S.view file.new cluster
-            × (IsUsed S.view file.old cluster
-            ⊎ IsMadeOnTheWay file.old.header.fields self.old.reftable self.new.reftable cluster))) }
-        ensures uses { (p : Pending) → AllocatorInvariant S.view self.old p file.old → OnOk result (StaysUsed S.view file.old file.new) }
-        ensures hint { (p : Pending) → SoundAllocator S.view self.old p file.old → KeepsNoFreeBelowHint S.view self.new file.new result }
-        ensures header_cluster { SparesHeaderButPointer S.view self.old.reftable file.old self.new.reftable file.new }
+        ensures fails { Fails S.view file.old.storage file.new.storage result IsOfTables }
     {
         file.caches.l2_depends_on_rb(&mut file.storage)?;
         let at = cluster.value();
@@ -239,30 +172,17 @@ impl Allocator {
         count: ClusterCount,
         kind: ClusterKind,
     ) -> Result<PendingClusters, ImageError>
-        ensures marks { KeepsMarks S.view file.old file.new }
+        ensures step { FileStep S.view self.old.reftable file.old self.new.reftable file.new }
         ensures noted { OnOk result (IsTrue file.new.caches.is_changed) }
         ensures sound { (p : Pending) → AllocatorInvariant S.view self.old p file.old → MayTake (is_data kind) file.old
-            → Allocates S.view p file.old self.new file.new
-            (pending_then p file.old.free_list file.new.free_list) kind count result }
-        ensures header { KeepsHeader file.old.header file.new.header }
-        ensures list { ListsTables file.old.free_list file.new.free_list }
+            → TakesLowestSoundly S.view
+            (Allocates S.view p file.old self.new file.new
+            (pending_then p file.old.free_list file.new.free_list) kind count result)
+            (λ run. run.first_cluster) count self.old file.old self.new file.new result }
         ensures nameable { IfOk result (λ p. IsHostCluster file.old.header.fields.cluster_bits p.first_cluster) }
         ensures elsewhere { IfOk result (λ p. 0 < p.first_cluster) }
-        ensures cause { IfErr result IsOfTables }
-        ensures former { ListsReftables self.old.reftable self.new.reftable file.old.free_list file.new.free_list }
-        ensures storage_faults { CountsFaults S.view file.old.storage file.new.storage result }
+        ensures fails { Fails S.view file.old.storage file.new.storage result IsOfTables }
         ensures leaks { (p : Pending) → AllocatorInvariant S.view self.old p file.old → SameLeaks self.old self.new }
-        ensures limit { (p : Pending) → AllocatorInvariant S.view self.old p file.old → MayTake (is_data kind) file.old
-            → NoFreeBelowHint S.view self.old file.old → 0 < count
-            → IfErr result (IsFaultOr (HasNoPlace (IsUsed S.view file.new) file.new.header.fields self.new count)) }
-        ensures lowest { (p : Pending) → AllocatorInvariant S.view self.old p file.old → MayTake (is_data kind) file.old
-            → NoFreeBelowHint S.view self.old file.old
-            → IfOk result (λ run. IsLowestRun (IsUsed S.view file.new) run.first_cluster count) }
-        ensures uses { (p : Pending) → AllocatorInvariant S.view self.old p file.old → MayTake (is_data kind) file.old
-            → OnOk result (StaysUsed S.view file.old file.new) }
-        ensures hint { (p : Pending) → AllocatorInvariant S.view self.old p file.old → MayTake (is_data kind) file.old
-            → NoFreeBelowHint S.view self.old file.old → KeepsNoFreeBelowHint S.view self.new file.new result }
-        ensures header_cluster { SparesHeaderButPointer S.view self.old.reftable file.old self.new.reftable file.new }
     {
         let entry = ClustersToFreeEntry {
             first_cluster: HostCluster::new(0),
@@ -283,31 +203,17 @@ impl Allocator {
 
     // Takes the lowest run of n clusters that fits below the greatest offset. Cluster 0 is the header's, whatever its count is.
     fn lowest_run<S: Storage>(&mut self, file: &mut ImageFile<S>, n: u64) -> Result<u64, ImageError>
-        ensures marks { KeepsMarks S.view file.old file.new }
+        ensures step { FileStep S.view self.old.reftable file.old self.new.reftable file.new }
         ensures noted { OnOk result (IsTrue file.new.caches.is_changed) }
         ensures sound { (p : Pending) (is_data : Bool) → AllocatorInvariant S.view self.old p file.old
-            → MayTake is_data file.old → TakesSomeRun S.view p file.old self.new file.new
-            (pending_then p file.old.free_list file.new.free_list) is_data n result }
-        ensures header { KeepsHeader file.old.header file.new.header }
-        ensures list { ListsTables file.old.free_list file.new.free_list }
+            → MayTake is_data file.old → TakesLowestSoundly S.view
+            (TakesSomeRun S.view p file.old self.new file.new
+            (pending_then p file.old.free_list file.new.free_list) is_data n result)
+            (λ first. first) n self.old file.old self.new file.new result }
         ensures nameable { IfOk result (λ first. IsHostCluster file.old.header.fields.cluster_bits first) }
         ensures elsewhere { IfOk result (λ first. 0 < first) }
-        ensures cause { IfErr result IsOfTables }
-        ensures former { ListsReftables self.old.reftable self.new.reftable file.old.free_list file.new.free_list }
-        ensures storage_faults { CountsFaults S.view file.old.storage file.new.storage result }
+        ensures fails { Fails S.view file.old.storage file.new.storage result IsOfTables }
         ensures leaks { (p : Pending) → AllocatorInvariant S.view self.old p file.old → SameLeaks self.old self.new }
-        ensures limit { (p : Pending) (is_data : Bool) → AllocatorInvariant S.view self.old p file.old
-            → MayTake is_data file.old → NoFreeBelowHint S.view self.old file.old → 0 < n
-            → IfErr result (IsFaultOr (HasNoPlace (IsUsed S.view file.new) file.new.header.fields self.new n)) }
-        ensures lowest { (p : Pending) (is_data : Bool) → AllocatorInvariant S.view self.old p file.old
-            → MayTake is_data file.old → NoFreeBelowHint S.view self.old file.old
-            → IfOk result (λ first. IsLowestRun (IsUsed S.view file.new) first n) }
-        ensures uses { (p : Pending) (is_data : Bool) → AllocatorInvariant S.view self.old p file.old
-            → MayTake is_data file.old → OnOk result (StaysUsed S.view file.old file.new) }
-        ensures hint { (p : Pending) (is_data : Bool) → AllocatorInvariant S.view self.old p file.old
-            → MayTake is_data file.old → NoFreeBelowHint S.view self.old file.old
-            → KeepsNoFreeBelowHint S.view self.new file.new result }
-        ensures header_cluster { SparesHeaderButPointer S.view self.old.reftable file.old self.new.reftable file.new }
     {
         let limit = (MAX_HOST_OFFSET >> file.header.cluster_bits()) + 1;
         self.first_free_cluster = self.first_free_cluster.max(1);
@@ -331,30 +237,13 @@ impl Allocator {
     ) -> Result<u64, ImageError>
         requires near { first + n < 2 ^ 63 }
         requires above { 0 < first }
-        ensures marks { KeepsMarks S.view file.old file.new }
-        ensures noted { IfOk result (λ taken. taken ≡ n → 0 < n → IsTrue file.new.caches.is_changed) }
+        ensures step { FileStep S.view self.old.reftable file.old self.new.reftable file.new }
+        ensures fails { Fails S.view file.old.storage file.new.storage result IsOfTables }
         ensures sound { (p : Pending) (is_data : Bool) → AllocatorInvariant S.view self.old p file.old
-            → MayTake is_data file.old → TakesRun S.view p file.old self.new file.new
-            (pending_then p file.old.free_list file.new.free_list) is_data first n result }
-        ensures header { KeepsHeader file.old.header file.new.header }
-        ensures list { ListsTables file.old.free_list file.new.free_list }
+            → MayTake is_data file.old
+            → TakesRunSoundly S.view p is_data self.old file.old self.new file.new first n result }
+        ensures noted { IfOk result (λ taken. taken ≡ n → 0 < n → IsTrue file.new.caches.is_changed) }
         ensures within { IfOk result (λ taken. taken ≤ n) }
-        ensures cause { IfErr result IsOfTables }
-        ensures former { ListsReftables self.old.reftable self.new.reftable file.old.free_list file.new.free_list }
-        ensures storage_faults { CountsFaults S.view file.old.storage file.new.storage result }
-        ensures leaks { (p : Pending) → AllocatorInvariant S.view self.old p file.old → SameLeaks self.old self.new }
-        ensures limit { (p : Pending) (is_data : Bool) → AllocatorInvariant S.view self.old p file.old
-            → MayTake is_data file.old → NoFreeBelowHint S.view self.old file.old
-            → first + n ≤ nameable_clusters file.old.header.fields
-            → IfErr result (IsFaultOr (CantCountRun (IsUsed S.view file.new) file.new.header.fields self.new first n)) }
-        ensures used { (p : Pending) (is_data : Bool) → AllocatorInvariant S.view self.old p file.old
-            → MayTake is_data file.old → IfOk result (λ taken. taken ≢ n → IsUsed S.view file.new (first + taken)) }
-        ensures hint { (p : Pending) (is_data : Bool) → AllocatorInvariant S.view self.old p file.old
-            → MayTake is_data file.old → NoFreeBelowHint S.view self.old file.old
-            → KeepsNoFreeBelowHint S.view self.new file.new result }
-        ensures uses { (p : Pending) (is_data : Bool) → AllocatorInvariant S.view self.old p file.old
-            → MayTake is_data file.old → KeepsUsed S.view file.old file.new result }
-        ensures header_cluster { SparesHeaderButPointer S.view self.old.reftable file.old self.new.reftable file.new }
     {
         'taking: for taken in 0..n {
             match self.take(file, first + taken) {
@@ -382,33 +271,12 @@ impl Allocator {
     ) -> Result<bool, ImageError>
         requires near { cluster < 2 ^ 63 }
         requires above { 0 < cluster }
-        ensures marks { KeepsMarks S.view file.old file.new }
-        ensures noted { IfOk result (λ taken. IsTrue taken → IsTrue file.new.caches.is_changed) }
+        ensures step { FileStep S.view self.old.reftable file.old self.new.reftable file.new }
+        ensures fails { Fails S.view file.old.storage file.new.storage result IsOfTables }
         ensures sound { (p : Pending) (is_data : Bool) → AllocatorInvariant S.view self.old p file.old
-            → MayTake is_data file.old → TakesCluster S.view p file.old self.new file.new
-            (pending_then p file.old.free_list file.new.free_list) is_data cluster result }
-        ensures header { KeepsHeader file.old.header file.new.header }
-        ensures list { ListsTables file.old.free_list file.new.free_list }
-        ensures cause { IfErr result IsOfTables }
-        ensures former { ListsReftables self.old.reftable self.new.reftable file.old.free_list file.new.free_list }
-        ensures listed { (p : Pending) → AllocatorInvariant S.view self.old p file.old → ListsUsed S.view file.old file.new }
-        ensures storage_faults { CountsFaults S.view file.old.storage file.new.storage result }
-        ensures leaks { (p : Pending) → AllocatorInvariant S.view self.old p file.old → SameLeaks self.old self.new }
-        ensures limit { (p : Pending) (is_data : Bool) → AllocatorInvariant S.view self.old p file.old
-            → MayTake is_data file.old → NoFreeBelowHint S.view self.old file.old
-            → IsHostCluster file.old.header.fields.cluster_bits cluster
-            → IfErr result (IsFaultOr (CantCount (IsUsed S.view file.new) file.new.header.fields
-            (λ k. 0) self.new cluster)) }
-        ensures used { (p : Pending) (is_data : Bool) → AllocatorInvariant S.view self.old p file.old
-            → MayTake is_data file.old → IfOk result (λ taken. taken ≡ false → IsUsed S.view file.new cluster) }
-        ensures hint { (p : Pending) (is_data : Bool) → AllocatorInvariant S.view self.old p file.old
-            → MayTake is_data file.old → NoFreeBelowHint S.view self.old file.old
-            → KeepsNoFreeBelowHint S.view self.new file.new result }
-        ensures uses { (p : Pending) (is_data : Bool) → AllocatorInvariant S.view self.old p file.old
-            → MayTake is_data file.old → KeepsUsed S.view file.old file.new result }
-        ensures free { (p : Pending) → AllocatorInvariant S.view self.old p file.old
-            → IfOk result (λ taken. IsTrue taken → ¬ IsUsed S.view file.old cluster) }
-        ensures header_cluster { SparesHeaderButPointer S.view self.old.reftable file.old self.new.reftable file.new }
+            → MayTake is_data file.old
+            → TakesSoundly S.view p is_data self.old file.old self.new file.new cluster result }
+        ensures noted { IfOk result (λ taken. IsTrue taken → IsTrue file.new.caches.is_changed) }
     {
         self.reach_block(file, cluster)?;
         let taken = self.raise(file, cluster)?;

@@ -1,17 +1,14 @@
 //! A run of free clusters for a longer reftable and the refblocks that it lacks.
-ghost use Rattle.std.specs.Prelude.{◌≡◌, ◌≢◌, ◌⊎◌, ℕ, ◌+◌, ◌/◌, ◌^◌, ◌<◌, ◌≤◌, false, OnOk, IfOk, IfErr, IsTrue};
+ghost use Rattle.std.specs.Prelude.{◌≡◌, ◌≢◌, ◌⊎◌, ℕ, ◌+◌, ◌/◌, ◌^◌, ◌<◌, ◌≤◌, false, IfOk, IsTrue};
 ghost use Rattle.qcow2_metadata.specs.Header.{counts_per_block};
 ghost use Rattle.qcow2_laws.specs.CrashInvariant.{Pending};
-ghost use Rattle.qcow2_alloc.specs.Allocation.{run_at, UnseenAllocatorStep, GivesBack, SameLeaks};
-ghost use Rattle.qcow2_alloc.specs.KeptMarks.{KeepsMarks};
-ghost use Rattle.qcow2_alloc.specs.Faults.{CountsFaults};
-ghost use Rattle.qcow2_alloc.specs.SparedHeaders.{SparesHeader};
+ghost use Rattle.qcow2_alloc.specs.Allocation.{UnseenAllocatorStep};
 ghost use Rattle.qcow2_alloc.specs.GrownTables.{counted_run, with_run};
 ghost use Rattle.qcow2_alloc.specs.ImageError.{IsOfTables};
 ghost use Rattle.qcow2_alloc.specs.ImageFile.{AllocatorInvariant};
-ghost use Rattle.qcow2_alloc.specs.Limits.{IsFaultOr, HasNoRoomBelow, IsLowestRoom};
-ghost use Rattle.qcow2_alloc.specs.LowestRuns.{NoFreeBelowHint, IsUsed};
-ghost use Rattle.qcow2_alloc.specs.Rooms.{lacks, opens, opened, room_length, TakesFree, ReachesRoom, TakesRoom};
+ghost use Rattle.qcow2_alloc.specs.LowestRuns.{IsUsed};
+ghost use Rattle.qcow2_alloc.specs.Rooms.{lacks, opens, opened, room_length, TakesFree, ReachesRoom};
+ghost use Rattle.qcow2_alloc.specs.Steps.{Fails, TableStep, TakesRoomSoundly, LeavesSoundly};
 
 use crate::{Allocator, ImageError, ImageFile};
 use image_access::Storage;
@@ -45,11 +42,11 @@ impl Allocator {
         requires some { 0 < clusters }
         requires few { clusters ≤ 2 ^ 32 }
         requires near { end ≤ 2 ^ 60 }
-        ensures marks { KeepsMarks S.view file.old file.new }
+        ensures step { TableStep S.view self.old.reftable file.old self.new.reftable file.new }
         ensures reftable { self.new.reftable ≡ self.old.reftable }
         ensures first { self.new.first_free_cluster ≡ self.old.first_free_cluster }
         ensures sound { (p : Pending) → AllocatorInvariant S.view self.old p file.old
-            → TakesRoom S.view p file.old self.new file.new self.old.reftable result }
+            → TakesRoomSoundly S.view p clusters end self.old file.old self.new file.new result }
         ensures blocks { IfOk result (λ room. room.blocks ≡ opened self.old.reftable
             (counts_per_block file.old.header.fields) room.first (room_length room)) }
         ensures noted { IfOk result (λ room. ((k : ℕ)
@@ -58,20 +55,7 @@ impl Allocator {
         ensures clusters { IfOk result (λ room. room.clusters ≡ clusters) }
         ensures above { IfOk result (λ room. 0 < room.first) }
         ensures below { IfOk result (λ room. room.first + room_length room ≤ end) }
-        ensures lowest { (p : Pending) → AllocatorInvariant S.view self.old p file.old
-            → NoFreeBelowHint S.view self.old file.old
-            → IfOk result (λ room. IsLowestRoom
-            (IsUsed S.view file.new) file.new.header.fields self.old.reftable clusters end room.first) }
-        ensures header { file.new.header ≡ file.old.header }
-        ensures list { file.new.free_list ≡ file.old.free_list }
-        ensures cause { IfErr result IsOfTables }
-        ensures storage_faults { CountsFaults S.view file.old.storage file.new.storage result }
-        ensures leaks { (p : Pending) → AllocatorInvariant S.view self.old p file.old → SameLeaks self.old self.new }
-        ensures room { (p : Pending) → AllocatorInvariant S.view self.old p file.old
-            → NoFreeBelowHint S.view self.old file.old
-            → IfErr result (IsFaultOr (HasNoRoomBelow (IsUsed S.view file.new) file.new.header.fields
-            (λ k. 0) self.old.reftable clusters end)) }
-        ensures header_cluster { SparesHeader S.view self.old.reftable file.old self.new.reftable file.new }
+        ensures fails { Fails S.view file.old.storage file.new.storage result IsOfTables }
     {
         let mut first = self.first_free_cluster.max(1);
         'search: while first < end {
@@ -101,7 +85,7 @@ impl Allocator {
         requires below { first < end }
         requires few { clusters ≤ 2 ^ 32 }
         requires near { end ≤ 2 ^ 60 }
-        ensures marks { KeepsMarks S.view file.old file.new }
+        ensures step { TableStep S.view self.old.reftable file.old self.new.reftable file.new }
         ensures same { self.new ≡ self.old }
         ensures sound { (p : Pending) → AllocatorInvariant S.view self.old p file.old
             → ReachesRoom S.view p file.old self.new file.new self.old.reftable first result }
@@ -112,16 +96,12 @@ impl Allocator {
             (counts_per_block file.old.header.fields) first reach.taken) }
         ensures within { IfOk result (λ reach. first + reach.taken ≤ end) }
         ensures few { IfOk result (λ reach. reach.blocks ≤ reach.taken) }
-        ensures header { file.new.header ≡ file.old.header }
-        ensures list { file.new.free_list ≡ file.old.free_list }
-        ensures cause { IfErr result IsOfTables }
-        ensures storage_faults { CountsFaults S.view file.old.storage file.new.storage result }
+        ensures fails { Fails S.view file.old.storage file.new.storage result IsOfTables }
         ensures short { IfOk result (λ reach. reach.taken ≢ reach.blocks + clusters → (n : ℕ) → n ≤ reach.taken
             → n < opened self.old.reftable (counts_per_block file.old.header.fields) first n + clusters) }
         ensures stopped { (p : Pending) → AllocatorInvariant S.view self.old p file.old
             → IfOk result (λ reach. reach.taken ≢ reach.blocks + clusters → first + reach.taken < end
             → IsUsed S.view file.new (first + reach.taken)) }
-        ensures header_cluster { SparesHeader S.view self.old.reftable file.old self.new.reftable file.new }
     {
         let bits = file.header.rb_bits();
         let mut taken = 0;
@@ -147,19 +127,15 @@ impl Allocator {
         requires counts { counts_per_block file.old.header.fields ≡ 2 ^ bits }
         requires few { bits < 64 }
         requires above { 0 < cluster }
-        ensures marks { KeepsMarks S.view file.old file.new }
+        ensures step { TableStep S.view self.old.reftable file.old self.new.reftable file.new }
         ensures same { self.new ≡ self.old }
         ensures sound { (p : Pending) → AllocatorInvariant S.view self.old p file.old
             → TakesFree S.view p file.old self.new file.new self.old.reftable cluster result }
         ensures noted { IfOk result (λ taken. IsTrue taken → lacks self.old.reftable (cluster / 2 ^ bits) ≡ false
             → IsTrue file.new.caches.is_changed) }
-        ensures header { file.new.header ≡ file.old.header }
-        ensures list { file.new.free_list ≡ file.old.free_list }
-        ensures cause { IfErr result IsOfTables }
-        ensures storage_faults { CountsFaults S.view file.old.storage file.new.storage result }
+        ensures fails { Fails S.view file.old.storage file.new.storage result IsOfTables }
         ensures used { (p : Pending) → AllocatorInvariant S.view self.old p file.old
             → IfOk result (λ taken. taken ≡ false → IsUsed S.view file.new cluster) }
-        ensures header_cluster { SparesHeader S.view self.old.reftable file.old self.new.reftable file.new }
     {
         if self.lacks_block(cluster >> bits) {
             return Ok(true);
@@ -184,26 +160,14 @@ impl Allocator {
     ) -> Result<(), ImageError>
         requires near { first + n < 2 ^ 63 }
         requires free { self.old.first_free_cluster ≤ first }
-        ensures marks { KeepsMarks S.view file.old file.new }
+        ensures step { TableStep S.view self.old.reftable file.old self.new.reftable file.new }
         ensures reftable { self.new.reftable ≡ self.old.reftable }
         ensures first { self.new.first_free_cluster ≡ self.old.first_free_cluster }
         ensures sound { (p : Pending) (start : ImageFile S) → start.header ≡ file.old.header
             → UnseenAllocatorStep S.view p start self.old file.old
             (with_run p start.header.fields self.old.reftable first n)
-            → ((k : ℕ) → counted_run start.header.fields self.old.reftable first n k ≡ 0)
-            ⊎ IsTrue file.old.caches.is_changed → GivesBack S.view p start self.new file.new p result }
-        ensures header { file.new.header ≡ file.old.header }
-        ensures list { file.new.free_list ≡ file.old.free_list }
-        ensures cause { IfErr result IsOfTables }
-        ensures storage_faults { CountsFaults S.view file.old.storage file.new.storage result }
-        ensures leaks { (p : Pending) (start : ImageFile S) → start.header ≡ file.old.header
-            → UnseenAllocatorStep S.view p start self.old file.old
-            (with_run p start.header.fields self.old.reftable first n) → SameLeaks self.old self.new }
-        ensures kept { (p : Pending) (start : ImageFile S) → start.header ≡ file.old.header
-            → UnseenAllocatorStep S.view p start self.old file.old
-            (with_run p start.header.fields self.old.reftable first n)
-            → OnOk result ((k : ℕ) → run_at first n k ≡ 0 → IsUsed S.view file.old k → IsUsed S.view file.new k) }
-        ensures header_cluster { SparesHeader S.view self.old.reftable file.old self.new.reftable file.new }
+            → LeavesSoundly S.view p first n start self.old file.old self.new file.new result }
+        ensures fails { Fails S.view file.old.storage file.new.storage result IsOfTables }
     {
         let bits = file.header.rb_bits();
         'leaving: for cluster in first..first + n {

@@ -1,20 +1,15 @@
 //! Freeing clusters: those that are listed to be freed, and those that are given back.
-ghost use Rattle.std.specs.Prelude.{◌≡◌, ◌++◌, ◌∷◌, [], ◌+◌, ◌/◌, ◌^◌, ◌<◌, ◌≤◌, Bool, IfErr, OnOk, IsErrOf, IsOk, IsTrue};
+ghost use Rattle.std.specs.Prelude.{◌≡◌, ◌++◌, ◌∷◌, [], ◌+◌, ◌/◌, ◌^◌, ◌<◌, ◌≤◌, Bool, OnOk, IsErrOf, IsOk, IsTrue};
 ghost use Rattle.qcow2_metadata.specs.Header.{counts_per_block};
 ghost use Rattle.qcow2_laws.specs.Changes.{one_at};
 ghost use Rattle.qcow2_laws.specs.CrashInvariant.{Pending};
 ghost use Rattle.qcow2_alloc.specs.Allocation.{run_at, taken_as, IsUnaligned, MayFree, Owed, listed_as, owed_as, MayLower, SameLeaks, Frees, LowersOne, GivesBack, GivesBackRun};
 ghost use Rattle.qcow2_alloc.specs.FreeList.{run_of, with_listed, but, GoOffInOrder};
-ghost use Rattle.qcow2_alloc.specs.KeptMarks.{KeepsMarks};
-ghost use Rattle.qcow2_alloc.specs.KeptNotes.{KeepsNotes};
-ghost use Rattle.qcow2_alloc.specs.CachePins.{KeepsPinsAndNotes};
-ghost use Rattle.qcow2_alloc.specs.Faults.{CountsFaults};
-ghost use Rattle.qcow2_alloc.specs.SparedHeaders.{SparesHeader};
 ghost use Rattle.qcow2_alloc.specs.Leaks.{LeaksOne, LeaksUnaligned, TriesToLower, LowersOrLeaks};
-ghost use Rattle.qcow2_alloc.specs.SoundAllocators.{SoundAllocator};
 ghost use Rattle.qcow2_alloc.specs.LowestRuns.{NoFreeBelowHint, KeepsNoFreeBelowHint, KeepsUsedBut};
 ghost use Rattle.qcow2_alloc.specs.ImageError.{IsOfTables};
 ghost use Rattle.qcow2_alloc.specs.ImageFile.{AllocatorInvariant};
+ghost use Rattle.qcow2_alloc.specs.Steps.{Fails, FreeStep, FreeStepInTurn, TableStep, GivesSoundly};
 
 use crate::{Allocator, ClusterKind, ImageError, ImageFile, PendingClusters, TakenClusters};
 use image_access::Storage;
@@ -30,14 +25,11 @@ impl Allocator {
         n: u64,
     ) -> Result<(), ImageError>
         requires { first + n < 2 ^ 63 }
-        ensures marks { KeepsMarks S.view file.old file.new }
+        ensures step { TableStep S.view self.old.reftable file.old self.new.reftable file.new }
         ensures reftable { self.new.reftable ≡ self.old.reftable }
         ensures none { n ≡ 0 → IsOk result × (file.new ≡ file.old) }
         ensures sound { GivesBackRun S.view self.old file.old self.new file.new first n result }
-        ensures header { file.new.header ≡ file.old.header }
-        ensures list { file.new.free_list ≡ file.old.free_list }
-        ensures cause { IfErr result IsOfTables }
-        ensures storage_faults { CountsFaults S.view file.old.storage file.new.storage result }
+        ensures fails { Fails S.view file.old.storage file.new.storage result IsOfTables }
         ensures leaks { (p : Pending) (is_data : Bool)
             → AllocatorInvariant S.view self.old (taken_as is_data p (run_at first n)) file.old
             → SameLeaks self.old self.new }
@@ -47,7 +39,6 @@ impl Allocator {
         ensures kept { (p : Pending) (is_data : Bool)
             → AllocatorInvariant S.view self.old (taken_as is_data p (run_at first n)) file.old
             → KeepsUsedBut S.view (run_at first n) file.old file.new result }
-        ensures header_cluster { SparesHeader S.view self.old.reftable file.old self.new.reftable file.new }
     {
         if n == 0 {
             return Ok(());
@@ -64,28 +55,21 @@ impl Allocator {
         file: &mut ImageFile<S>,
         cluster: u64,
     ) -> Result<(), ImageError>
-        ensures marks { KeepsMarks S.view file.old file.new }
+        ensures step { TableStep S.view self.old.reftable file.old self.new.reftable file.new }
         ensures reftable { self.new.reftable ≡ self.old.reftable }
-        ensures first { self.old.first_free_cluster ≤ cluster → self.new.first_free_cluster ≡ self.old.first_free_cluster }
+        ensures first { self.old.first_free_cluster ≤ cluster
+            → self.new.first_free_cluster ≡ self.old.first_free_cluster }
         ensures sound { (p : Pending) (owed : Owed)
             → AllocatorInvariant S.view self.old (owed_as owed p (one_at cluster)) file.old → MayLower owed file.old
-            → GivesBack S.view (owed_as owed p (one_at cluster)) file.old self.new file.new p result }
-        ensures leaks { (p : Pending) (owed : Owed)
-            → AllocatorInvariant S.view self.old (owed_as owed p (one_at cluster)) file.old → MayLower owed file.old
-            → SameLeaks self.old self.new }
+            → GivesSoundly S.view
+            (GivesBack S.view (owed_as owed p (one_at cluster)) file.old self.new file.new p result)
+            self.old file.old self.new file.new result }
         ensures or_leaks { LowersOrLeaks self.old self.new file.new cluster result }
         ensures grows { self.old.leaked_clusters ≤ self.new.leaked_clusters }
-        ensures header { file.new.header ≡ file.old.header }
-        ensures list { file.new.free_list ≡ file.old.free_list }
-        ensures cause { IfErr result IsOfTables }
-        ensures storage_faults { CountsFaults S.view file.old.storage file.new.storage result }
-        ensures hint { (p : Pending) (owed : Owed)
-            → AllocatorInvariant S.view self.old (owed_as owed p (one_at cluster)) file.old → MayLower owed file.old
-            → NoFreeBelowHint S.view self.old file.old → KeepsNoFreeBelowHint S.view self.new file.new result }
+        ensures fails { Fails S.view file.old.storage file.new.storage result IsOfTables }
         ensures unaligned { IsUnaligned file.old.header.fields self.old.reftable
             (cluster / counts_per_block file.old.header.fields) → IsOk result × LeaksOne self.old self.new
             × (file.new ≡ file.old) }
-        ensures header_cluster { SparesHeader S.view self.old.reftable file.old self.new.reftable file.new }
     {
         match self.try_lower(file, cluster) {
             Ok(true) => return Ok(()),
@@ -104,23 +88,18 @@ impl Allocator {
     /// before refblocks from then on. Refused 14 (memory), 15 (storage), the clusters that aren't freed yet stay listed. One whose count
     /// can't be lowered for another reason, as where its refblock isn't on a cluster, is counted by `leaked_clusters`.
     pub fn free<S: Storage>(&mut self, file: &mut ImageFile<S>) -> Result<(), ImageError>
-        ensures marks { KeepsPinsAndNotes file.old.caches file.new.caches }
-        ensures notes { KeepsNotes S.view file.old.storage file.new.storage }
-        ensures reftable { self.new.reftable ≡ self.old.reftable }
+        ensures step { FreeStepInTurn S.view self.old.reftable file.old self.new.reftable file.new }
         ensures emptied { OnOk result (file.new.free_list ≡ []) }
         ensures in_order { GoOffInOrder file.old.free_list file.new.free_list }
         ensures sound { (p : Pending) → AllocatorInvariant S.view self.old (with_listed p file.old.free_list) file.old
-            → Frees S.view (with_listed p file.old.free_list) file.old self.new file.new (with_listed p file.new.free_list) result }
-        ensures leaks { (p : Pending) → AllocatorInvariant S.view self.old (with_listed p file.old.free_list) file.old
-            → SameLeaks self.old self.new }
+            → GivesSoundly S.view
+            (Frees S.view (with_listed p file.old.free_list) file.old self.new file.new
+            (with_listed p file.new.free_list) result)
+            self.old file.old self.new file.new result }
         ensures grows { self.old.leaked_clusters ≤ self.new.leaked_clusters }
-        ensures header { file.new.header ≡ file.old.header }
-        ensures cause { IfErr result IsOfTables }
-        ensures storage_faults { CountsFaults S.view file.old.storage file.new.storage result }
-        ensures hint { (p : Pending) → SoundAllocator S.view self.old (with_listed p file.old.free_list) file.old
-            → KeepsNoFreeBelowHint S.view self.new file.new result }
-        ensures unaligned { LeaksUnaligned file.old.header.fields self.old.reftable self.old self.new file.old.free_list file.new.free_list }
-        ensures header_cluster { SparesHeader S.view self.old.reftable file.old self.new.reftable file.new }
+        ensures fails { Fails S.view file.old.storage file.new.storage result IsOfTables }
+        ensures unaligned { LeaksUnaligned file.old.header.fields self.old.reftable self.old self.new
+            file.old.free_list file.new.free_list }
     {
         self.free_kind(file, ClusterKind::Metadata)?;
         if file.free_list.is_empty() {
@@ -136,23 +115,19 @@ impl Allocator {
         file: &mut ImageFile<S>,
         kind: ClusterKind,
     ) -> Result<(), ImageError>
-        ensures marks { KeepsMarks S.view file.old file.new }
-        ensures reftable { self.new.reftable ≡ self.old.reftable }
+        ensures step { FreeStep S.view self.old.reftable file.old self.new.reftable file.new }
         ensures left { OnOk result (file.new.free_list ≡ but kind file.old.free_list) }
         ensures others { but kind file.new.free_list ≡ but kind file.old.free_list }
-        ensures sound { (p : Pending) → AllocatorInvariant S.view self.old (with_listed p file.old.free_list) file.old → MayFree kind file.old
-            → Frees S.view (with_listed p file.old.free_list) file.old self.new file.new (with_listed p file.new.free_list) result }
-        ensures leaks { (p : Pending) → AllocatorInvariant S.view self.old (with_listed p file.old.free_list) file.old
-            → MayFree kind file.old → SameLeaks self.old self.new }
+        ensures sound { (p : Pending) → AllocatorInvariant S.view self.old (with_listed p file.old.free_list) file.old
+            → MayFree kind file.old
+            → GivesSoundly S.view
+            (Frees S.view (with_listed p file.old.free_list) file.old self.new file.new
+            (with_listed p file.new.free_list) result)
+            self.old file.old self.new file.new result }
         ensures grows { self.old.leaked_clusters ≤ self.new.leaked_clusters }
-        ensures header { file.new.header ≡ file.old.header }
-        ensures cause { IfErr result IsOfTables }
-        ensures storage_faults { CountsFaults S.view file.old.storage file.new.storage result }
-        ensures hint { (p : Pending) → AllocatorInvariant S.view self.old (with_listed p file.old.free_list) file.old
-            → MayFree kind file.old → NoFreeBelowHint S.view self.old file.old
-            → KeepsNoFreeBelowHint S.view self.new file.new result }
-        ensures unaligned { LeaksUnaligned file.old.header.fields self.old.reftable self.old self.new file.old.free_list file.new.free_list }
-        ensures header_cluster { SparesHeader S.view self.old.reftable file.old self.new.reftable file.new }
+        ensures fails { Fails S.view file.old.storage file.new.storage result IsOfTables }
+        ensures unaligned { LeaksUnaligned file.old.header.fields self.old.reftable self.old self.new
+            file.old.free_list file.new.free_list }
     {
         let mut taken = file.free_list.take();
         let done = self.free_taken(file, &mut taken, kind);
@@ -167,28 +142,20 @@ impl Allocator {
         taken: &mut TakenClusters,
         kind: ClusterKind,
     ) -> Result<(), ImageError>
-        ensures marks { KeepsMarks S.view file.old file.new }
-        ensures reftable { self.new.reftable ≡ self.old.reftable }
+        ensures step { FreeStep S.view self.old.reftable file.old self.new.reftable file.new }
         ensures all { OnOk result (taken.new ≡ []) }
         ensures left { OnOk result (file.new.free_list ≡ file.old.free_list ++ but kind taken.old) }
         ensures others { but kind (file.new.free_list ++ taken.new) ≡ but kind (file.old.free_list ++ taken.old) }
         ensures sound { (p : Pending) → AllocatorInvariant S.view self.old
             (with_listed p (file.old.free_list ++ taken.old)) file.old → MayFree kind file.old
-            → Frees S.view (with_listed p (file.old.free_list ++ taken.old)) file.old self.new file.new
-            (with_listed p (file.new.free_list ++ taken.new)) result }
-        ensures leaks { (p : Pending) → AllocatorInvariant S.view self.old
-            (with_listed p (file.old.free_list ++ taken.old)) file.old → MayFree kind file.old
-            → SameLeaks self.old self.new }
+            → GivesSoundly S.view
+            (Frees S.view (with_listed p (file.old.free_list ++ taken.old)) file.old self.new file.new
+            (with_listed p (file.new.free_list ++ taken.new)) result)
+            self.old file.old self.new file.new result }
         ensures grows { self.old.leaked_clusters ≤ self.new.leaked_clusters }
-        ensures header { file.new.header ≡ file.old.header }
-        ensures cause { IfErr result IsOfTables }
-        ensures storage_faults { CountsFaults S.view file.old.storage file.new.storage result }
-        ensures hint { (p : Pending) → AllocatorInvariant S.view self.old
-            (with_listed p (file.old.free_list ++ taken.old)) file.old → MayFree kind file.old
-            → NoFreeBelowHint S.view self.old file.old → KeepsNoFreeBelowHint S.view self.new file.new result }
+        ensures fails { Fails S.view file.old.storage file.new.storage result IsOfTables }
         ensures unaligned { LeaksUnaligned file.old.header.fields self.old.reftable self.old self.new
             (file.old.free_list ++ taken.old) (file.new.free_list ++ taken.new) }
-        ensures header_cluster { SparesHeader S.view self.old.reftable file.old self.new.reftable file.new }
     {
         'freeing: while let Some(pending) = taken.next_pending() {
             self.free_or_list(file, pending, kind)?;
@@ -203,27 +170,19 @@ impl Allocator {
         pending: PendingClusters,
         kind: ClusterKind,
     ) -> Result<(), ImageError>
-        ensures marks { KeepsMarks S.view file.old file.new }
-        ensures reftable { self.new.reftable ≡ self.old.reftable }
+        ensures step { FreeStep S.view self.old.reftable file.old self.new.reftable file.new }
         ensures left { OnOk result (file.new.free_list ≡ file.old.free_list ++ but kind (pending ∷ [])) }
         ensures others { but kind file.new.free_list ≡ but kind (file.old.free_list ++ pending ∷ []) }
         ensures sound { (p : Pending) → AllocatorInvariant S.view self.old
             (with_listed p (file.old.free_list ++ pending ∷ [])) file.old → MayFree kind file.old
-            → Frees S.view (with_listed p (file.old.free_list ++ pending ∷ [])) file.old self.new file.new
-            (with_listed p file.new.free_list) result }
-        ensures leaks { (p : Pending) → AllocatorInvariant S.view self.old
-            (with_listed p (file.old.free_list ++ pending ∷ [])) file.old → MayFree kind file.old
-            → SameLeaks self.old self.new }
+            → GivesSoundly S.view
+            (Frees S.view (with_listed p (file.old.free_list ++ pending ∷ [])) file.old self.new file.new
+            (with_listed p file.new.free_list) result)
+            self.old file.old self.new file.new result }
         ensures grows { self.old.leaked_clusters ≤ self.new.leaked_clusters }
-        ensures header { file.new.header ≡ file.old.header }
-        ensures cause { IfErr result IsOfTables }
-        ensures storage_faults { CountsFaults S.view file.old.storage file.new.storage result }
-        ensures hint { (p : Pending) → AllocatorInvariant S.view self.old
-            (with_listed p (file.old.free_list ++ pending ∷ [])) file.old → MayFree kind file.old
-            → NoFreeBelowHint S.view self.old file.old → KeepsNoFreeBelowHint S.view self.new file.new result }
+        ensures fails { Fails S.view file.old.storage file.new.storage result IsOfTables }
         ensures unaligned { LeaksUnaligned file.old.header.fields self.old.reftable self.old self.new
             (file.old.free_list ++ pending ∷ []) file.new.free_list }
-        ensures header_cluster { SparesHeader S.view self.old.reftable file.old self.new.reftable file.new }
     {
         if pending.kind() == kind {
             return self.free_entry(file, pending);
@@ -238,27 +197,19 @@ impl Allocator {
         file: &mut ImageFile<S>,
         pending: PendingClusters,
     ) -> Result<(), ImageError>
-        ensures marks { KeepsMarks S.view file.old file.new }
-        ensures reftable { self.new.reftable ≡ self.old.reftable }
+        ensures step { FreeStep S.view self.old.reftable file.old self.new.reftable file.new }
         ensures left { OnOk result (file.new.free_list ≡ file.old.free_list) }
         ensures others { but pending.kind file.new.free_list ≡ but pending.kind file.old.free_list }
         ensures sound { (p : Pending) → AllocatorInvariant S.view self.old
             (with_listed p (file.old.free_list ++ pending ∷ [])) file.old → MayFree pending.kind file.old
-            → Frees S.view (with_listed p (file.old.free_list ++ pending ∷ [])) file.old self.new file.new
-            (with_listed p file.new.free_list) result }
-        ensures leaks { (p : Pending) → AllocatorInvariant S.view self.old
-            (with_listed p (file.old.free_list ++ pending ∷ [])) file.old → MayFree pending.kind file.old
-            → SameLeaks self.old self.new }
+            → GivesSoundly S.view
+            (Frees S.view (with_listed p (file.old.free_list ++ pending ∷ [])) file.old self.new file.new
+            (with_listed p file.new.free_list) result)
+            self.old file.old self.new file.new result }
         ensures grows { self.old.leaked_clusters ≤ self.new.leaked_clusters }
-        ensures header { file.new.header ≡ file.old.header }
-        ensures cause { IfErr result IsOfTables }
-        ensures storage_faults { CountsFaults S.view file.old.storage file.new.storage result }
-        ensures hint { (p : Pending) → AllocatorInvariant S.view self.old
-            (with_listed p (file.old.free_list ++ pending ∷ [])) file.old → MayFree pending.kind file.old
-            → NoFreeBelowHint S.view self.old file.old → KeepsNoFreeBelowHint S.view self.new file.new result }
+        ensures fails { Fails S.view file.old.storage file.new.storage result IsOfTables }
         ensures unaligned { LeaksUnaligned file.old.header.fields self.old.reftable self.old self.new
             (file.old.free_list ++ pending ∷ []) file.new.free_list }
-        ensures header_cluster { SparesHeader S.view self.old.reftable file.old self.new.reftable file.new }
     {
         let mut run = pending;
         match self.free_run(file, &mut run) {
@@ -279,27 +230,20 @@ impl Allocator {
         file: &mut ImageFile<S>,
         run: &mut PendingClusters,
     ) -> Result<(), ImageError>
-        ensures marks { KeepsMarks S.view file.old file.new }
+        ensures step { TableStep S.view self.old.reftable file.old self.new.reftable file.new }
         ensures reftable { self.new.reftable ≡ self.old.reftable }
         ensures kind { run.new.kind ≡ run.old.kind }
         ensures all { OnOk result (run.new.count ≡ 0) }
         ensures sound { (p : Pending) → AllocatorInvariant S.view self.old
             (listed_as run.old.kind p (run_of run.old)) file.old → MayFree run.old.kind file.old
-            → Frees S.view (listed_as run.old.kind p (run_of run.old)) file.old self.new file.new
-            (listed_as run.old.kind p (run_of run.new)) result }
-        ensures leaks { (p : Pending) → AllocatorInvariant S.view self.old
-            (listed_as run.old.kind p (run_of run.old)) file.old → MayFree run.old.kind file.old
-            → SameLeaks self.old self.new }
+            → GivesSoundly S.view
+            (Frees S.view (listed_as run.old.kind p (run_of run.old)) file.old self.new file.new
+            (listed_as run.old.kind p (run_of run.new)) result)
+            self.old file.old self.new file.new result }
         ensures grows { self.old.leaked_clusters ≤ self.new.leaked_clusters }
-        ensures header { file.new.header ≡ file.old.header }
-        ensures list { file.new.free_list ≡ file.old.free_list }
-        ensures cause { IfErr result IsOfTables }
-        ensures storage_faults { CountsFaults S.view file.old.storage file.new.storage result }
-        ensures hint { (p : Pending) → AllocatorInvariant S.view self.old
-            (listed_as run.old.kind p (run_of run.old)) file.old → MayFree run.old.kind file.old
-            → NoFreeBelowHint S.view self.old file.old → KeepsNoFreeBelowHint S.view self.new file.new result }
-        ensures unaligned { LeaksUnaligned file.old.header.fields self.old.reftable self.old self.new (run.old ∷ []) (run.new ∷ []) }
-        ensures header_cluster { SparesHeader S.view self.old.reftable file.old self.new.reftable file.new }
+        ensures fails { Fails S.view file.old.storage file.new.storage result IsOfTables }
+        ensures unaligned { LeaksUnaligned file.old.header.fields self.old.reftable self.old self.new (run.old ∷ [])
+            (run.new ∷ []) }
     {
         'freeing: while run.count().value() > 0 {
             self.lower(file, run.cluster().value())?;
@@ -314,25 +258,22 @@ impl Allocator {
         file: &mut ImageFile<S>,
         cluster: u64,
     ) -> Result<bool, ImageError>
-        ensures marks { KeepsMarks S.view file.old file.new }
+        ensures step { TableStep S.view self.old.reftable file.old self.new.reftable file.new }
         ensures reftable { self.new.reftable ≡ self.old.reftable }
         ensures leaked { self.new.leaked_clusters ≡ self.old.leaked_clusters }
         ensures tries { TriesToLower file.new cluster result }
-        ensures first { self.old.first_free_cluster ≤ cluster → self.new.first_free_cluster ≡ self.old.first_free_cluster }
+        ensures first { self.old.first_free_cluster ≤ cluster
+            → self.new.first_free_cluster ≡ self.old.first_free_cluster }
         ensures sound { (p : Pending) (owed : Owed)
             → AllocatorInvariant S.view self.old (owed_as owed p (one_at cluster)) file.old → MayLower owed file.old
             → LowersOne S.view (owed_as owed p (one_at cluster)) file.old self.new file.new p result }
-        ensures header { file.new.header ≡ file.old.header }
-        ensures list { file.new.free_list ≡ file.old.free_list }
-        ensures cause { IfErr result IsOfTables }
-        ensures storage_faults { CountsFaults S.view file.old.storage file.new.storage result }
+        ensures fails { Fails S.view file.old.storage file.new.storage result IsOfTables }
         ensures hint { (p : Pending) (owed : Owed)
             → AllocatorInvariant S.view self.old (owed_as owed p (one_at cluster)) file.old → MayLower owed file.old
             → NoFreeBelowHint S.view self.old file.old → KeepsNoFreeBelowHint S.view self.new file.new result }
         ensures unaligned { IsUnaligned file.old.header.fields self.old.reftable
             (cluster / counts_per_block file.old.header.fields) → IsErrOf result ImageError.UnalignedTable
             × (file.new ≡ file.old) }
-        ensures header_cluster { SparesHeader S.view self.old.reftable file.old self.new.reftable file.new }
     {
         let bits = file.header.rb_bits();
         let Some(block) = self.load_block(file, cluster >> bits)? else {
@@ -350,7 +291,8 @@ impl Allocator {
         ensures leaked { self.new.leaked_clusters ≡ self.old.leaked_clusters }
         ensures first { self.new.first_free_cluster ≤ self.old.first_free_cluster }
         ensures free { IsTrue is_free → self.new.first_free_cluster ≤ cluster }
-        ensures lowest { self.old.first_free_cluster ≤ cluster → self.new.first_free_cluster ≡ self.old.first_free_cluster }
+        ensures lowest { self.old.first_free_cluster ≤ cluster
+            → self.new.first_free_cluster ≡ self.old.first_free_cluster }
     {
         if is_free {
             self.first_free_cluster = self.first_free_cluster.min(cluster);

@@ -8,20 +8,16 @@ ghost use Rattle.qcow2_metadata.specs.TableBytes.{HasPlace};
 ghost use Rattle.qcow2_laws.specs.Caches.{AreClean, BlocksMayGo};
 ghost use Rattle.qcow2_laws.specs.CrashInvariant.{Pending};
 ghost use Rattle.qcow2_alloc.specs.Allocation.{run_at, NamesLacking, SameLeaks};
-ghost use Rattle.qcow2_alloc.specs.KeptMarks.{KeepsMarks};
-ghost use Rattle.qcow2_alloc.specs.KeptNotes.{KeepsNotes};
-ghost use Rattle.qcow2_alloc.specs.Faults.{CountsFaults};
-ghost use Rattle.qcow2_alloc.specs.SparedHeaders.{KeepBehindHeader, SparesHeaderButPointer};
 ghost use Rattle.qcow2_alloc.specs.GrownTables.{with_run, NamesReftable};
 ghost use Rattle.qcow2_alloc.specs.ImageError.{IsOfTables};
-ghost use Rattle.qcow2_alloc.specs.HeaderClusters.{KeepsHeaderCluster};
-ghost use Rattle.qcow2_alloc.specs.ImageFile.{has_noted, view_in, AllocatorInvariant, KeepsHeader};
+ghost use Rattle.qcow2_alloc.specs.ImageFile.{has_noted, AllocatorInvariant};
 ghost use Rattle.qcow2_alloc.specs.ImageStorage.{is_changed_of};
 ghost use Rattle.qcow2_alloc.specs.LowestRuns.{KeepsUsed};
 ghost use Rattle.qcow2_alloc.specs.MetadataCaches.{order_of, l2_tables, refblocks, rb_at};
 ghost use Rattle.qcow2_alloc.specs.Rooms.{opened, room_length, placed_at, CountsRun, IsLonger, WritesTo, WritesTable, PlacesBlocks};
 ghost use Rattle.qcow2_alloc.specs.TableCaches.{IsBlockOf};
 ghost use Rattle.qcow2_alloc.specs.declared.allocation.Allocator.{Allocator as AllocatorView};
+ghost use Rattle.qcow2_alloc.specs.Steps.{Fails, PointerStep, PartStep};
 
 use crate::free_room::Room;
 use crate::{Allocator, ImageError, ImageFile, WriteKind};
@@ -68,7 +64,7 @@ fn write_new_block<S: Storage>(
     requires place { block.now.cluster ≡ Some cluster }
     requires elsewhere { 0 < cluster }
     requires whole { IsRefBlock block.now }
-    ensures marks { KeepsMarks S.view file.old file.new }
+    ensures step { PartStep S.view block.now.cluster_bits file.old file.new }
     ensures tables { l2_tables file.new.caches ≡ l2_tables file.old.caches }
     ensures clean { AreClean (refblocks file.old.caches) → AreClean (refblocks file.new.caches) }
     ensures others { (c : ℕ) → (c ≡ cluster → ⊥) → rb_at file.new.caches c ≡ rb_at file.old.caches c }
@@ -78,12 +74,7 @@ fn write_new_block<S: Storage>(
         → IsBlockOf file.old.header.fields block.now
         → WritesTo S.view (with_run p file.old.header.fields allocator.reftable first n) file.old allocator file.new
         cluster block.now.bytes result }
-    ensures header_cluster { KeepsHeaderCluster block.now.cluster_bits (view_in S.view file.old) (view_in S.view file.new) }
-    ensures header { file.new.header ≡ file.old.header }
-    ensures list { file.new.free_list ≡ file.old.free_list }
-    ensures cause { IfErr result IsOfTables }
-    ensures storage_faults { CountsFaults S.view file.old.storage file.new.storage result }
-    ensures behind_header { KeepBehindHeader file.old.caches file.new.caches }
+    ensures fails { Fails S.view file.old.storage file.new.storage result IsOfTables }
 {
     file.caches.rb_remove(cluster);
     file.storage.will_write(WriteKind::Other);
@@ -101,7 +92,7 @@ pub(crate) fn place_table<S: Storage>(
     requires nameable { IsHostCluster table.old.cluster_bits cluster }
     requires elsewhere { 0 < cluster }
     ensures caches { file.new.caches ≡ file.old.caches }
-    ensures notes { KeepsNotes S.view file.old.storage file.new.storage }
+    ensures step { PartStep S.view table.old.cluster_bits file.old file.new }
     ensures noted { OnOk result (IsTrue (is_changed_of file.new.storage)) }
     ensures table { table.new ≡ placed_at table.old cluster }
     ensures sound { (p : Pending) (first n clusters : ℕ) (allocator : AllocatorView)
@@ -111,11 +102,7 @@ pub(crate) fn place_table<S: Storage>(
         → length table.old.bytes ≡ clusters * cluster_size file.old.header.fields
         → WritesTable S.view (with_run p file.old.header.fields allocator.reftable first n) file.old allocator file.new
         cluster clusters table.old.bytes result }
-    ensures header_cluster { KeepsHeaderCluster table.old.cluster_bits (view_in S.view file.old) (view_in S.view file.new) }
-    ensures header { file.new.header ≡ file.old.header }
-    ensures list { file.new.free_list ≡ file.old.free_list }
-    ensures cause { IfErr result IsOfTables }
-    ensures storage_faults { CountsFaults S.view file.old.storage file.new.storage result }
+    ensures fails { Fails S.view file.old.storage file.new.storage result IsOfTables }
 {
     table.set_cluster(cluster);
     file.storage.will_write(WriteKind::Other);
@@ -133,11 +120,13 @@ impl Allocator {
         room: Room,
     ) -> Result<(), ImageError>
         requires above { 0 < room.first }
-        requires within { room.first + room_length room ≤ entry_count table.old * counts_per_block file.old.header.fields }
+        requires within { room.first + room_length room
+            ≤ entry_count table.old * counts_per_block file.old.header.fields }
         requires near { room.first + room_length room ≤ greatest_offset / 2 ^ file.old.header.fields.cluster_bits + 1 }
         requires bits { table.old.cluster_bits ≡ file.old.header.fields.cluster_bits }
-        requires blocks { room.blocks ≡ opened self.now.reftable (counts_per_block file.old.header.fields) room.first (room_length room) }
-        ensures marks { KeepsMarks S.view file.old file.new }
+        requires blocks { room.blocks
+            ≡ opened self.now.reftable (counts_per_block file.old.header.fields) room.first (room_length room) }
+        ensures step { PartStep S.view file.old.header.fields.cluster_bits file.old file.new }
         ensures tables { l2_tables file.new.caches ≡ l2_tables file.old.caches }
         ensures clean { AreClean (refblocks file.old.caches) → AreClean (refblocks file.new.caches) }
         ensures rest { table.new ≡ record table.old { bytes = table.new.bytes } }
@@ -149,12 +138,7 @@ impl Allocator {
             → IsLonger file.old.header.fields self.now.reftable table.old room.clusters
             → PlacesBlocks S.view (with_run p file.old.header.fields self.now.reftable room.first
             (room_length room)) file.old self.now file.new self.now.reftable table.new room result }
-        ensures header_cluster { KeepsHeaderCluster file.old.header.fields.cluster_bits (view_in S.view file.old) (view_in S.view file.new) }
-        ensures header { file.new.header ≡ file.old.header }
-        ensures list { file.new.free_list ≡ file.old.free_list }
-        ensures cause { IfErr result IsOfTables }
-        ensures storage_faults { CountsFaults S.view file.old.storage file.new.storage result }
-        ensures behind_header { KeepBehindHeader file.old.caches file.new.caches }
+        ensures fails { Fails S.view file.old.storage file.new.storage result IsOfTables }
     {
         let bits = file.header.rb_bits();
         let end = room.first + room.blocks + room.clusters;
@@ -191,8 +175,9 @@ impl Allocator {
         requires near { room.first + room_length room ≤ greatest_offset / 2 ^ file.old.header.fields.cluster_bits + 1 }
         requires some { 0 < room.clusters }
         requires bits { table.cluster_bits ≡ file.old.header.fields.cluster_bits }
-        requires blocks { room.blocks ≡ opened self.old.reftable (counts_per_block file.old.header.fields) room.first (room_length room) }
-        ensures marks { KeepsMarks S.view file.old file.new }
+        requires blocks { room.blocks
+            ≡ opened self.old.reftable (counts_per_block file.old.header.fields) room.first (room_length room) }
+        ensures step { PointerStep S.view self.old.reftable file.old self.new.reftable file.new }
         ensures noted { OnOk result (IsTrue (has_noted file.new)) }
         ensures table { OnOk result (entry_count self.new.reftable ≡ entry_count table) }
         ensures place { OnOk result (self.new.reftable.cluster ≡ Some (room.first + room.blocks)) }
@@ -207,13 +192,10 @@ impl Allocator {
             (with_run p file.old.header.fields self.old.reftable room.first (room_length room)) file.old
             → IsLonger file.old.header.fields self.old.reftable table room.clusters
             → KeepsUsed S.view file.old file.new result }
-        ensures header { KeepsHeader file.old.header file.new.header }
         ensures list { file.new.free_list ≡ file.old.free_list }
-        ensures cause { IfErr result IsOfTables }
+        ensures fails { Fails S.view file.old.storage file.new.storage result IsOfTables }
         ensures kept { OnErr result (self.new.reftable ≡ self.old.reftable) }
-        ensures storage_faults { CountsFaults S.view file.old.storage file.new.storage result }
         ensures leaks { SameLeaks self.old self.new }
-        ensures header_cluster { SparesHeaderButPointer S.view self.old.reftable file.old self.new.reftable file.new }
     {
         let mut table = table;
         file.caches.flush_rb(&mut file.storage)?;

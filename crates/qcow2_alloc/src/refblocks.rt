@@ -1,20 +1,17 @@
 //! Refblocks: loading one, counting a cluster in it, and making one that is missing.
 ghost use Rattle.std.specs.Prelude.{◌≡◌, ◌≢◌, ◌/◌, false, ℕ, ◌*◌, ◌^◌, ◌<◌, ◌≤◌, Bool, None, Some, Ok, IfSome, IfOk, IfErr, OnOk, IsErrOf, IsSome, IsTrue};
 ghost use Rattle.qcow2_laws.specs.CrashInvariant.{Pending};
-ghost use Rattle.qcow2_alloc.specs.Allocation.{placing, first_counts, HasPlaceFor, KeepsEntries, KeepsNamed, KeepsNamed, MayTake, LoadsBlock, WritesBlock, PlacesBlock, NamesBlock, IsUnaligned, TakesOne, HasNone, GetsBlock, TakesLowest, GrowsTable, SameLeaks};
-ghost use Rattle.qcow2_alloc.specs.FreeList.{pending_then, ListsTables, ListsReftables};
-ghost use Rattle.qcow2_alloc.specs.MadeClusters.{ListsUsed};
+ghost use Rattle.qcow2_alloc.specs.Allocation.{placing, first_counts, HasPlaceFor, KeepsEntries, KeepsNamed, KeepsNamed, MayTake, LoadsBlock, WritesBlock, PlacesBlock, IsUnaligned, HasNone, TakesLowest, SameLeaks};
 ghost use Rattle.qcow2_alloc.specs.KeptMarks.{KeepsMarks};
 ghost use Rattle.qcow2_alloc.specs.CachePins.{LeavesPinned};
-ghost use Rattle.qcow2_alloc.specs.Faults.{CountsFaults};
-ghost use Rattle.qcow2_alloc.specs.SparedHeaders.{KeepBehindHeader, SparesHeader, SparesHeaderButPointer};
-ghost use Rattle.qcow2_alloc.specs.Limits.{IsFaultOr, CantCount};
-ghost use Rattle.qcow2_alloc.specs.LowestRuns.{NoFreeBelowHint, IsUsed, KeepsNoFreeBelowHint, KeepsUsed};
-ghost use Rattle.qcow2_alloc.specs.ImageError.{IsOfTables, IsFault};
-ghost use Rattle.qcow2_alloc.specs.ImageFile.{has_noted, AllocatorInvariant, KeepsHeader};
+ghost use Rattle.qcow2_alloc.specs.SparedHeaders.{KeepBehindHeader, SparesHeader};
+ghost use Rattle.qcow2_alloc.specs.Steps.{EnsuresSoundly, Fails, FindsBlock, GetsSoundly, TableStep, TakesOneSoundly, FileStep, ReachesSoundly};
+ghost use Rattle.qcow2_alloc.specs.LowestRuns.{NoFreeBelowHint, KeepsNoFreeBelowHint};
+ghost use Rattle.qcow2_alloc.specs.ImageError.{IsOfTables};
+ghost use Rattle.qcow2_alloc.specs.ImageFile.{has_noted, AllocatorInvariant};
 ghost use Rattle.qcow2_alloc.specs.ImageStorage.{is_changed_of};
 ghost use Rattle.qcow2_laws.specs.Caches.{AreClean, BlocksMayGo};
-ghost use Rattle.qcow2_alloc.specs.MetadataCaches.{order_of, l2_tables, refblocks, rb_at, TakesOff};
+ghost use Rattle.qcow2_alloc.specs.MetadataCaches.{order_of, l2_tables, refblocks, TakesOff};
 ghost use Rattle.qcow2_metadata.specs.L2Mapping.{IsHostCluster};
 ghost use Rattle.qcow2_metadata.specs.Header.{counts_per_block};
 ghost use Rattle.qcow2_metadata.specs.EntryTable.{EntryTableView, entry_count};
@@ -67,8 +64,7 @@ fn write_block<S: Storage>(file: &mut ImageFile<S>, mut block: RefBlock) -> Resu
     ensures first { OnOk result (BlocksMayGo (order_of file.new.caches) (l2_tables file.new.caches)) }
     ensures header { file.new.header ≡ file.old.header }
     ensures list { file.new.free_list ≡ file.old.free_list }
-    ensures cause { IfErr result IsOfTables }
-    ensures storage_faults { CountsFaults S.view file.old.storage file.new.storage result }
+    ensures fails { Fails S.view file.old.storage file.new.storage result IsOfTables }
     ensures header_cluster { (reftable : EntryTableView) → block.cluster_bits ≡ file.old.header.fields.cluster_bits
         → SparesHeader S.view reftable file.old reftable file.new }
 {
@@ -106,20 +102,14 @@ impl Allocator {
         file: &mut ImageFile<S>,
         range: u64,
     ) -> Result<Option<HostCluster>, ImageError>
-        ensures marks { KeepsMarks S.view file.old file.new }
+        ensures step { TableStep S.view self.now.reftable file.old self.now.reftable file.new }
+        ensures fails { Fails S.view file.old.storage file.new.storage result IsOfTables }
+        ensures finds { IfOk result (FindsBlock file.old.header.fields self.now.reftable file.new.caches range) }
         ensures sound { (p : Pending) → AllocatorInvariant S.view self.now p file.old
             → LoadsBlock S.view p file.old self.now file.new range result }
-        ensures header { file.new.header ≡ file.old.header }
-        ensures list { file.new.free_list ≡ file.old.free_list }
-        ensures cause { IfErr result IsOfTables }
         ensures unaligned { IsUnaligned file.old.header.fields self.now.reftable range
             → IsErrOf result ImageError.UnalignedTable × (file.new ≡ file.old) }
-        ensures names { IfOk result (NamesBlock file.old.header.fields self.now.reftable range) }
-        ensures has { IfOk result (λ block. IsSome block → HasNone self.now.reftable range → ⊥) }
-        ensures held { IfOk result (λ block. IfSome block (λ block. IsSome (rb_at file.new.caches block))) }
         ensures none { HasNone self.now.reftable range → (result ≡ Ok None) × (file.new ≡ file.old) }
-        ensures storage_faults { CountsFaults S.view file.old.storage file.new.storage result }
-        ensures header_cluster { SparesHeader S.view self.now.reftable file.old self.now.reftable file.new }
     {
         let Some(offset) = self.reftable.get(range as usize) else {
             return Ok(None);
@@ -138,22 +128,13 @@ impl Allocator {
         cluster: u64,
     ) -> Result<bool, ImageError>
         requires above { 0 < cluster }
-        ensures marks { KeepsMarks S.view file.old file.new }
+        ensures step { TableStep S.view self.old.reftable file.old self.new.reftable file.new }
+        ensures fails { Fails S.view file.old.storage file.new.storage result IsOfTables }
+        ensures sound { (p : Pending) (is_data : Bool) → AllocatorInvariant S.view self.old p file.old
+            → MayTake is_data file.old
+            → TakesOneSoundly S.view p is_data self.old file.old self.new file.new cluster result }
         ensures noted { IfOk result (λ taken. IsTrue taken → IsTrue file.new.caches.is_changed) }
         ensures same { self.new ≡ self.old }
-        ensures sound { (p : Pending) (is_data : Bool) → AllocatorInvariant S.view self.old p file.old
-            → MayTake is_data file.old → TakesOne S.view p file.old self.new file.new is_data cluster result }
-        ensures header { file.new.header ≡ file.old.header }
-        ensures list { file.new.free_list ≡ file.old.free_list }
-        ensures cause { IfErr result IsOfTables }
-        ensures storage_faults { CountsFaults S.view file.old.storage file.new.storage result }
-        ensures fault { (p : Pending) → AllocatorInvariant S.view self.old p file.old → IfErr result IsFault }
-        ensures used { (p : Pending) → AllocatorInvariant S.view self.old p file.old
-            → (HasNone self.old.reftable (cluster / counts_per_block file.old.header.fields) → ⊥)
-            → IfOk result (λ taken. taken ≡ false → IsUsed S.view file.new cluster) }
-        ensures free { (p : Pending) → AllocatorInvariant S.view self.old p file.old
-            → IfOk result (λ taken. IsTrue taken → ¬ IsUsed S.view file.old cluster) }
-        ensures header_cluster { SparesHeader S.view self.old.reftable file.old self.new.reftable file.new }
     {
         let bits = file.header.rb_bits();
         let Some(block) = self.load_block(file, cluster >> bits)? else {
@@ -170,28 +151,13 @@ impl Allocator {
         cluster: u64,
     ) -> Result<(), ImageError>
         requires { cluster < 2 ^ 63 }
-        ensures marks { KeepsMarks S.view file.old file.new }
+        ensures step { FileStep S.view self.old.reftable file.old self.new.reftable file.new }
         ensures sound { (p : Pending) → AllocatorInvariant S.view self.old p file.old
-            → GrowsTable S.view p file.old self.new file.new
-            (pending_then p file.old.free_list file.new.free_list) result }
-        ensures header { KeepsHeader file.old.header file.new.header }
-        ensures list { ListsTables file.old.free_list file.new.free_list }
-        ensures cause { IfErr result IsOfTables }
-        ensures former { ListsReftables self.old.reftable self.new.reftable file.old.free_list file.new.free_list }
-        ensures listed { (p : Pending) → AllocatorInvariant S.view self.old p file.old → ListsUsed S.view file.old file.new }
-        ensures storage_faults { CountsFaults S.view file.old.storage file.new.storage result }
-        ensures leaks { (p : Pending) → AllocatorInvariant S.view self.old p file.old → SameLeaks self.old self.new }
-        ensures limit { (p : Pending) → AllocatorInvariant S.view self.old p file.old
-            → NoFreeBelowHint S.view self.old file.old → IsHostCluster file.old.header.fields.cluster_bits cluster
-            → IfErr result (IsFaultOr (CantCount (IsUsed S.view file.new) file.new.header.fields
-            (λ k. 0) self.new cluster)) }
+            → ReachesSoundly S.view p cluster self.old file.old self.new file.new result }
+        ensures fails { Fails S.view file.old.storage file.new.storage result IsOfTables }
         ensures has { OnOk result (HasNone self.new.reftable (cluster / counts_per_block file.old.header.fields) → ⊥) }
         ensures named { cluster / counts_per_block file.old.header.fields < entry_count self.old.reftable
             → KeepsNamed self.old.reftable self.new.reftable }
-        ensures hint { (p : Pending) → AllocatorInvariant S.view self.old p file.old
-            → NoFreeBelowHint S.view self.old file.old → KeepsNoFreeBelowHint S.view self.new file.new result }
-        ensures uses { (p : Pending) → AllocatorInvariant S.view self.old p file.old → KeepsUsed S.view file.old file.new result }
-        ensures header_cluster { SparesHeaderButPointer S.view self.old.reftable file.old self.new.reftable file.new }
     {
         let range = (cluster >> file.header.rb_bits()) as usize;
         if self.reftable.in_bounds(range) {
@@ -208,21 +174,12 @@ impl Allocator {
         cluster: u64,
     ) -> Result<(), ImageError>
         requires { cluster < 2 ^ 63 }
-        ensures marks { KeepsMarks S.view file.old file.new }
-        ensures sound { (p : Pending) → AllocatorInvariant S.view self.old p file.old → GetsBlock S.view p file.old self.new file.new result }
-        ensures header { file.new.header ≡ file.old.header }
-        ensures list { file.new.free_list ≡ file.old.free_list }
-        ensures cause { IfErr result IsOfTables }
-        ensures named { KeepsNamed self.old.reftable self.new.reftable }
-        ensures storage_faults { CountsFaults S.view file.old.storage file.new.storage result }
+        ensures step { TableStep S.view self.old.reftable file.old self.new.reftable file.new }
+        ensures fails { Fails S.view file.old.storage file.new.storage result IsOfTables }
+        ensures sound { (p : Pending) → AllocatorInvariant S.view self.old p file.old
+            → EnsuresSoundly S.view p self.old file.old self.new file.new cluster result }
         ensures leaks { SameLeaks self.old self.new }
-        ensures fault { (p : Pending) → AllocatorInvariant S.view self.old p file.old
-            → cluster / counts_per_block file.old.header.fields < entry_count self.old.reftable
-            → IsHostCluster file.old.header.fields.cluster_bits cluster → IfErr result IsFault }
         ensures has { OnOk result (HasNone self.new.reftable (cluster / counts_per_block file.old.header.fields) → ⊥) }
-        ensures hint { (p : Pending) → AllocatorInvariant S.view self.old p file.old
-            → NoFreeBelowHint S.view self.old file.old → KeepsNoFreeBelowHint S.view self.new file.new result }
-        ensures header_cluster { SparesHeader S.view self.old.reftable file.old self.new.reftable file.new }
     {
         let bits = file.header.rb_bits();
         let range = cluster >> bits;
@@ -252,20 +209,17 @@ impl Allocator {
         end: u64,
     ) -> Result<Option<u64>, ImageError>
         requires { end < 2 ^ 63 }
-        ensures marks { KeepsMarks S.view file.old file.new }
+        ensures step { TableStep S.view self.old.reftable file.old self.new.reftable file.new }
         ensures noted { IfOk result (λ at. IsSome at → IsTrue file.new.caches.is_changed) }
         ensures below { IfOk result (λ at. IfSome at (λ at. (0 < at) × (at < end))) }
-        ensures entries { KeepsEntries (λ k. end ≤ k * counts_per_block file.old.header.fields) self.old.reftable self.new.reftable }
-        ensures named { KeepsNamed self.old.reftable self.new.reftable }
-        ensures sound { (p : Pending) → AllocatorInvariant S.view self.old p file.old → TakesLowest S.view p file.old self.new file.new result }
-        ensures header { file.new.header ≡ file.old.header }
-        ensures list { file.new.free_list ≡ file.old.free_list }
-        ensures cause { IfErr result IsOfTables }
-        ensures storage_faults { CountsFaults S.view file.old.storage file.new.storage result }
+        ensures entries { KeepsEntries (λ k. end ≤ k * counts_per_block file.old.header.fields)
+            self.old.reftable self.new.reftable }
+        ensures sound { (p : Pending) → AllocatorInvariant S.view self.old p file.old
+            → TakesLowest S.view p file.old self.new file.new result }
+        ensures fails { Fails S.view file.old.storage file.new.storage result IsOfTables }
         ensures leaks { SameLeaks self.old self.new }
         ensures hint { (p : Pending) → AllocatorInvariant S.view self.old p file.old
             → NoFreeBelowHint S.view self.old file.old → KeepsNoFreeBelowHint S.view self.new file.new result }
-        ensures header_cluster { SparesHeader S.view self.old.reftable file.old self.new.reftable file.new }
     {
         let bits = file.header.rb_bits();
         self.first_free_cluster = self.first_free_cluster.max(1);
@@ -289,22 +243,14 @@ impl Allocator {
         range: u64,
     ) -> Result<(), ImageError>
         requires { range * counts_per_block file.old.header.fields < 2 ^ 63 }
-        ensures marks { KeepsMarks S.view file.old file.new }
+        ensures step { TableStep S.view self.old.reftable file.old self.new.reftable file.new }
+        ensures fails { Fails S.view file.old.storage file.new.storage result IsOfTables }
+        ensures sound { (p : Pending) → AllocatorInvariant S.view self.old p file.old
+            → GetsSoundly S.view p self.old file.old self.new file.new range result }
         ensures entries { KeepsEntries (λ k. k ≢ range) self.old.reftable self.new.reftable }
-        ensures sound { (p : Pending) → AllocatorInvariant S.view self.old p file.old → GetsBlock S.view p file.old self.new file.new result }
-        ensures header { file.new.header ≡ file.old.header }
-        ensures list { file.new.free_list ≡ file.old.free_list }
-        ensures cause { IfErr result IsOfTables }
-        ensures storage_faults { CountsFaults S.view file.old.storage file.new.storage result }
         ensures leaks { SameLeaks self.old self.new }
-        ensures fault { (p : Pending) → AllocatorInvariant S.view self.old p file.old
-            → range < entry_count self.old.reftable
-            → IsHostCluster file.old.header.fields.cluster_bits (range * counts_per_block file.old.header.fields)
-            → IfErr result IsFault }
         ensures first { self.new.first_free_cluster ≡ self.old.first_free_cluster }
         ensures has { OnOk result (HasNone self.new.reftable range → ⊥) }
-        ensures named { KeepsNamed self.old.reftable self.new.reftable }
-        ensures header_cluster { SparesHeader S.view self.old.reftable file.old self.new.reftable file.new }
     {
         if self.load_block(file, range)?.is_some() {
             return Ok(());
@@ -340,8 +286,7 @@ impl Allocator {
             → PlacesBlock S.view (placing counts_itself p at) file.old self.new file.new p range at result }
         ensures header { file.new.header ≡ file.old.header }
         ensures list { file.new.free_list ≡ file.old.free_list }
-        ensures cause { IfErr result IsOfTables }
-        ensures storage_faults { CountsFaults S.view file.old.storage file.new.storage result }
+        ensures fails { Fails S.view file.old.storage file.new.storage result IsOfTables }
         ensures leaks { SameLeaks self.old self.new }
         ensures first { self.new.first_free_cluster ≡ self.old.first_free_cluster }
         ensures header_cluster { SparesHeader S.view self.old.reftable file.old self.new.reftable file.new }

@@ -1,24 +1,17 @@
 //! A longer reftable.
-ghost use Rattle.std.specs.Prelude.{◌≡◌, ℕ, ◌+◌, ◌-◌, ◌*◌, ◌/◌, ◌%◌, ◌^◌, ◌<◌, ◌≤◌, length, IfOk, IfErr, IfSome, IsSome, OnOk, OnErr, IsErrOf, IsTrue};
+ghost use Rattle.std.specs.Prelude.{◌≡◌, ℕ, ◌+◌, ◌-◌, ◌/◌, ◌%◌, ◌^◌, ◌<◌, ◌≤◌, length, IfOk, IfErr, IfSome, IsSome, OnOk, OnErr, IsErrOf, IsTrue};
 ghost use Rattle.qcow2_laws.specs.CrashInvariant.{Pending};
 ghost use Rattle.qcow2_metadata.specs.EntryTable.{entry_count, IsRefTable};
 ghost use Rattle.qcow2_metadata.specs.Header.{entries_per_cluster, counts_per_block};
-ghost use Rattle.qcow2_metadata.specs.TableBytes.{entry_at};
-ghost use Rattle.qcow2_alloc.specs.Allocation.{GrowsTable, NamesLacking, SameLeaks};
-ghost use Rattle.qcow2_alloc.specs.KeptMarks.{KeepsMarks};
-ghost use Rattle.qcow2_alloc.specs.Faults.{CountsFaults};
-ghost use Rattle.qcow2_alloc.specs.SparedHeaders.{SparesHeaderButPointer};
+ghost use Rattle.qcow2_alloc.specs.Allocation.{NamesLacking, SameLeaks};
 ghost use Rattle.qcow2_alloc.specs.ClustersToFree.{metadata_entry};
 ghost use Rattle.qcow2_alloc.specs.declared.clusters_to_free.ClusterKind.TheVariants.{Metadata};
-ghost use Rattle.qcow2_alloc.specs.FreeList.{pending_then, ListsTables, IsRunOfTable, FillsClusters, GivesWay};
-ghost use Rattle.qcow2_alloc.specs.GrownTables.{EntersReftable};
+ghost use Rattle.qcow2_alloc.specs.FreeList.{ListsTables, IsRunOfTable, FillsClusters, GivesWay};
 ghost use Rattle.qcow2_alloc.specs.Growing.{IsLongEnough, IsLeastLength, IsCloneOf};
-ghost use Rattle.qcow2_alloc.specs.MadeClusters.{IsMadeOnTheWay, TakesAlone};
 ghost use Rattle.qcow2_alloc.specs.ImageError.{IsOfTables};
-ghost use Rattle.qcow2_alloc.specs.ImageFile.{has_noted, AllocatorInvariant, KeepsHeader};
-ghost use Rattle.qcow2_alloc.specs.Limits.{IsFaultOr, HasNoRoomFor, LiesLowest, CantGrow};
-ghost use Rattle.qcow2_alloc.specs.SoundAllocators.{SoundAllocator};
-ghost use Rattle.qcow2_alloc.specs.LowestRuns.{NoFreeBelowHint, KeepsUsed, IsUsed};
+ghost use Rattle.qcow2_alloc.specs.ImageFile.{has_noted, AllocatorInvariant};
+ghost use Rattle.qcow2_alloc.specs.Limits.{IsFaultOr};
+ghost use Rattle.qcow2_alloc.specs.Steps.{Fails, PointerStep, GrowsSoundly, EntersSoundly};
 
 use crate::reftable_length::grown_length;
 use crate::{
@@ -38,33 +31,18 @@ impl Allocator {
         file: &mut ImageFile<S>,
         index: usize,
     ) -> Result<(), ImageError>
-        ensures marks { KeepsMarks S.view file.old file.new }
+        ensures step { PointerStep S.view self.old.reftable file.old self.new.reftable file.new }
         ensures noted { OnOk result (IsTrue (has_noted file.new)) }
         ensures sound { (p : Pending) → AllocatorInvariant S.view self.old p file.old
-            → GrowsTable S.view p file.old self.new file.new
-            (pending_then p file.old.free_list file.new.free_list) result }
-        ensures header { KeepsHeader file.old.header file.new.header }
+            → GrowsSoundly S.view p index self.old file.old self.new file.new result }
         ensures list { ListsTables file.old.free_list file.new.free_list }
         ensures length { OnOk result (IsLeastLength (entry_count self.old.reftable) index
             (entries_per_cluster file.old.header.fields) (counts_per_block file.old.header.fields)
             (entry_count self.new.reftable)) }
-        ensures lowest { (p : Pending) → SoundAllocator S.view self.old p file.old
-            → OnOk result (LiesLowest (IsUsed S.view file.new) file.new.header.fields self.old.reftable
-            self.new.reftable) }
         ensures elsewhere { OnOk result (IfSome self.new.reftable.cluster (λ c. 0 < c)) }
-        ensures cause { IfErr result IsOfTables }
+        ensures fails { Fails S.view file.old.storage file.new.storage result IsOfTables }
         ensures former { GivesWay self.old.reftable self.new.reftable file.old.free_list file.new.free_list result }
-        ensures made { (p : Pending) → AllocatorInvariant S.view self.old p file.old
-            → TakesAlone S.view (λ done k. 0)
-            (IsMadeOnTheWay file.old.header.fields self.old.reftable self.new.reftable) file.old file.new result }
-        ensures storage_faults { CountsFaults S.view file.old.storage file.new.storage result }
-        ensures leaks { (p : Pending) → AllocatorInvariant S.view self.old p file.old → SameLeaks self.old self.new }
-        ensures limit { (p : Pending) → SoundAllocator S.view self.old p file.old
-            → IfErr result (IsFaultOr ((self.new.reftable ≡ self.old.reftable)
-            × CantGrow (IsUsed S.view file.new) file.new.header.fields (λ k. 0) self.old.reftable index)) }
         ensures first { self.new.first_free_cluster ≡ self.old.first_free_cluster }
-        ensures uses { (p : Pending) → AllocatorInvariant S.view self.old p file.old → KeepsUsed S.view file.old file.new result }
-        ensures header_cluster { SparesHeaderButPointer S.view self.old.reftable file.old self.new.reftable file.new }
     {
         let table = self.longer_reftable(file.alloc, &file.header, index)?;
         let former = self.former_reftable(file.alloc)?;
@@ -141,36 +119,20 @@ impl Allocator {
         table: RefTable,
     ) -> Result<(), ImageError>
         requires some { 0 < entry_count table }
-        ensures marks { KeepsMarks S.view file.old file.new }
+        ensures step { PointerStep S.view self.old.reftable file.old self.new.reftable file.new }
         ensures noted { OnOk result (IsTrue (has_noted file.new)) }
-        ensures enters { (p : Pending) → AllocatorInvariant S.view self.old p file.old
+        ensures sound { (p : Pending) → AllocatorInvariant S.view self.old p file.old
             → IsCloneOf self.old.reftable table → entry_count table % entries_per_cluster file.old.header.fields ≡ 0
-            → EntersReftable S.view p file.old self.new file.new result }
-        ensures uses { (p : Pending) → AllocatorInvariant S.view self.old p file.old → IsCloneOf self.old.reftable table
-            → entry_count table % entries_per_cluster file.old.header.fields ≡ 0
-            → KeepsUsed S.view file.old file.new result }
-        ensures lowest { (p : Pending) → AllocatorInvariant S.view self.old p file.old
-            → NoFreeBelowHint S.view self.old file.old → IsCloneOf self.old.reftable table
-            → entry_count table % entries_per_cluster file.old.header.fields ≡ 0
-            → OnOk result (LiesLowest (IsUsed S.view file.new) file.new.header.fields self.old.reftable
-            self.new.reftable) }
-        ensures header { KeepsHeader file.old.header file.new.header }
+            → EntersSoundly S.view p (entry_count table) self.old file.old self.new file.new result }
         ensures list { file.new.free_list ≡ file.old.free_list }
         ensures table { OnOk result (entry_count self.new.reftable ≡ entry_count table) }
         ensures lacking { OnOk result (NamesLacking self.old.reftable table self.new.reftable) }
         ensures first { self.new.first_free_cluster ≡ self.old.first_free_cluster }
-        ensures fills { entry_count table % entries_per_cluster file.old.header.fields ≡ 0 → OnOk result (FillsClusters self.new.reftable) }
-        ensures cause { IfErr result IsOfTables }
+        ensures fills { entry_count table % entries_per_cluster file.old.header.fields ≡ 0
+            → OnOk result (FillsClusters self.new.reftable) }
+        ensures fails { Fails S.view file.old.storage file.new.storage result IsOfTables }
         ensures kept { OnErr result (self.new.reftable ≡ self.old.reftable) }
-        ensures storage_faults { CountsFaults S.view file.old.storage file.new.storage result }
         ensures leaks { (p : Pending) → AllocatorInvariant S.view self.old p file.old → SameLeaks self.old self.new }
-        ensures limit { (p : Pending) → AllocatorInvariant S.view self.old p file.old
-            → NoFreeBelowHint S.view self.old file.old → IsCloneOf self.old.reftable table
-            → entry_count table % entries_per_cluster file.old.header.fields ≡ 0
-            → IfErr result (IsFaultOr ((self.new.reftable ≡ self.old.reftable)
-            × HasNoRoomFor (IsUsed S.view file.new) file.new.header.fields (λ k. 0) self.old.reftable
-            (entry_count table))) }
-        ensures header_cluster { SparesHeaderButPointer S.view self.old.reftable file.old self.new.reftable file.new }
     {
         let bits = file.header.cluster_bits();
         if table.cluster_bits() != bits {

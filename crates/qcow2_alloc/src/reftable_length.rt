@@ -12,7 +12,8 @@ pub(crate) fn grown_length(old: u64, index: u64, per_cluster: u64, per_block: u6
     requires near { index ≤ 2 ^ 20 }
     ensures least { IfSome result (IsLeastLength old index per_cluster per_block) }
     ensures small { IfSome result (λ length. length ≤ 2 ^ 20) }
-    ensures none { IfNone result ((length : ℕ) → length ≤ 2 ^ 20 → IsLongEnough old index per_cluster per_block length → ⊥) }
+    ensures none { IfNone result ((length : ℕ) → length ≤ 2 ^ 20
+        → IsLongEnough old index per_cluster per_block length → ⊥) }
 {
     let most = MAX_REFTABLE_ENTRIES as u64;
     let counts = per_block - 1;

@@ -1,15 +1,15 @@
 //! The header's pointer to a longer reftable.
-ghost use Rattle.std.specs.Prelude.{◌≡◌, ℕ, ◌+◌, ◌<◌, OnOk, OnErr, IfErr, IfSome, IsTrue};
+ghost use Rattle.std.specs.Prelude.{◌≡◌, ℕ, ◌+◌, ◌<◌, OnOk, OnErr, IfSome, IsTrue};
 ghost use Rattle.qcow2_laws.specs.CrashInvariant.{Pending};
 ghost use Rattle.qcow2_alloc.specs.Allocation.{SameLeaks};
 ghost use Rattle.qcow2_alloc.specs.KeptMarks.{KeepsMarks};
-ghost use Rattle.qcow2_alloc.specs.Faults.{CountsFaults};
 ghost use Rattle.qcow2_alloc.specs.SparedHeaders.{SparesHeaderButPointer};
 ghost use Rattle.qcow2_alloc.specs.GrownTables.{with_run, StandsGrown, NamesReftable};
 ghost use Rattle.qcow2_alloc.specs.ImageError.{IsOfTables};
 ghost use Rattle.qcow2_alloc.specs.ImageFile.{AllocatorInvariant, KeepsHeader};
 ghost use Rattle.qcow2_alloc.specs.ImageStorage.{is_changed_of};
 ghost use Rattle.qcow2_alloc.specs.LowestRuns.{KeepsUsed};
+ghost use Rattle.qcow2_alloc.specs.Steps.{Fails};
 
 use crate::{Allocator, ImageError, ImageFile, WriteKind};
 use image_access::Storage;
@@ -39,9 +39,8 @@ impl Allocator {
         ensures list { file.new.free_list ≡ file.old.free_list }
         ensures table { OnOk result (self.new.reftable ≡ table) }
         ensures first { self.new.first_free_cluster ≡ self.old.first_free_cluster }
-        ensures cause { IfErr result IsOfTables }
+        ensures fails { Fails S.view file.old.storage file.new.storage result IsOfTables }
         ensures kept { OnErr result (self.new.reftable ≡ self.old.reftable) }
-        ensures storage_faults { CountsFaults S.view file.old.storage file.new.storage result }
         ensures leaks { SameLeaks self.old self.new }
         ensures header_cluster { IfSome table.cluster (λ cluster. 0 < cluster)
             → table.cluster_bits ≡ file.old.header.fields.cluster_bits

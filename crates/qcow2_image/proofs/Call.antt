@@ -1,4 +1,5 @@
 pub mod FaultCounts
+pub mod ImageSteps
 pub mod Called
 pub mod Answers
 pub mod Answered

@@ -52,7 +52,7 @@ module _ {S F : Type 0} (view : S → StorageView) (backing : F → BackingView)
 
     -- It is refused at once, with nothing changed, where something forbids it, and else where the work meets it.
     -- The L2 table of the first offset is changed only where no mapping keeps it as it is, and the call is refused 9 only where one does.
-    -- A refusal leaves no cluster to be freed, but for a fault and for 9.
+    -- A refusal leaves no cluster to be freed, but for a fault and for 9. On a sound image 13 comes only for want of a place for the L2 table of the first offset.
     pub record FailsToClear : Type 0 where
       pub early : IfSome (refuses_to_clear old offset n how) (λ e. (result ≡ Err e) × (new ≡ old))
       pub late : may_clear → IfErr result IsMetPreparing
@@ -61,6 +61,7 @@ module _ {S F : Type 0} (view : S → StorageView) (backing : F → BackingView)
       pub under : may_clear → touches_some → (out : List (Option Prepared)) → (abstract_of view backing old out).is_sound
           → IfErr result (λ e. e ≡ TablePrepared → IsUnderMapping old.file.header.fields (from_in old offset n) out) × IfOk result (λ range. IsUnderMapping old.file.header.fields (from_in old offset n) out → ⊥)
       pub freed : may_clear → touches_some → (out : List (Option Prepared)) → (abstract_of view backing old out).is_sound → IfErr result (FreesRefused new)
+      pub limit : may_clear → touches_some → (out : List (Option Prepared)) → (abstract_of view backing old out).is_sound → IfErr result (IsLimitedByTable view (from_in old offset n) old new)
 
     -- It answers how much of the range was cleared, and changes nothing where no cluster is whole. On a sound image the guest sees the whole clusters cleared, which is noted, and nothing is left to be freed.
     pub record ClearsSoundly : Type 0 where
@@ -71,10 +72,6 @@ module _ {S F : Type 0} (view : S → StorageView) (backing : F → BackingView)
           → OnOk result (ClearsImageCovers how (from_in old offset n) (to_in old offset n) old.file.header.fields (known_in view old.file) new.file.header.fields (known_in view new.file))
       pub emptied : touches_some → OnOk result (HasNothingToFree new)
       pub changed : (out : List (Option Prepared)) → (abstract_of view backing old out).is_sound → touches_some → OnOk result (ChangesRose old new)
-
-    -- On a sound image it is refused 13 only for want of a place for the L2 table of the first offset.
-    abbrev pub LimitsClearing : Type 0
-    LimitsClearing = may_clear → touches_some → (out : List (Option Prepared)) → (abstract_of view backing old out).is_sound → IfErr result (IsLimitedByTable view (from_in old offset n) old new)
 
   -- ---- the clusters between two offsets within one L2 table
   module _ (how : Clearance) (from to : ℕ) (old new : Qcow2 S F) (result : Result (Unit {0}) ImageError) where

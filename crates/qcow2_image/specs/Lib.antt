@@ -36,3 +36,5 @@ pub mod LackedTables
 pub mod Noted
 pub mod BehindHeader
 pub mod PreparedPlaces
+pub mod ImageSteps
+pub mod SoundParts

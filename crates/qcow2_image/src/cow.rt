@@ -1,6 +1,5 @@
 //! Filling a new cluster with the bytes that the guest saw there before.
-ghost use Rattle.qcow2_image.specs.BehindHeader.{StaysBehindHeader};
-ghost use Rattle.qcow2_alloc.specs.KeptMarks.{KeepsFileNotes};
+ghost use Rattle.qcow2_image.specs.ImageSteps.{FailsUnlimited, ImageStep};
 ghost use Rattle.std.specs.Prelude.{◌≡◌, ◌/◌, ◌^◌, ◌<◌, ◌≤◌, ℕ, List, Option, Some, true, false, replicate, IfOk, IfErr, IfSome, ◌⊎◌};
 ghost use Rattle.qcow2_alloc.specs.ImageError.{IsFault};
 ghost use Rattle.qcow2_image.specs.MetAlone.{HasUnannounced, IsCopiedCompressed, IsMetReading};
@@ -12,9 +11,7 @@ ghost use Rattle.qcow2_image.specs.CopyRange.{HasByte};
 ghost use Rattle.qcow2_image.specs.ImageInvariant.{ImageInvariant, new_data_by, over_all};
 ghost use Rattle.qcow2_image.specs.Found.{IsMappedAs};
 ghost use Rattle.qcow2_image.specs.declared.prepared.Prepared.{Prepared};
-ghost use Rattle.qcow2_image.specs.Image.{ImageStays};
-ghost use Rattle.qcow2_image.specs.Refusals.{IsMet, IsUnlimited};
-ghost use Rattle.qcow2_image.specs.Faults.{CountsImageFaults};
+ghost use Rattle.qcow2_image.specs.Refusals.{IsMet};
 ghost use Rattle.qcow2_metadata.specs.L2Mapping.{IsHostCluster, IsInReach, greatest_offset};
 ghost use Rattle.qcow2_metadata.specs.Cover.{cover};
 ghost use Rattle.qcow2_metadata.specs.Header.{cluster_size};
@@ -38,15 +35,12 @@ impl<S: Storage, F: WrappedFormat<S>> Qcow2<S, F> {
     ) -> Result<(), ImageError>
         requires nameable { IsHostCluster self.old.file.header.fields.cluster_bits cluster }
         requires reach { IsInReach old.now }
+        ensures step { ImageStep S.view self.old self.new }
+        ensures fails { FailsUnlimited S.view F.backing self.old self.new result IsMet }
         ensures value { self.new.file.header ≡ self.old.file.header }
-        ensures stays { ImageStays self.old self.new }
-        ensures notes { KeepsFileNotes S.view self.old.file self.new.file }
-        ensures header_cluster { StaysBehindHeader S.view self.old self.new }
-        ensures cause { IfErr result IsMet }
         ensures met { 0 < cluster → IfErr result
             (λ e. IsFault e ⊎ ((e ≡ ImageError.Compressed)
             × IsCopiedCompressed self.old.file.header.fields old.now offset length overwrite)) }
-        ensures limited { IfErr result IsUnlimited }
         ensures image_step { (p : Pending) (out : List (Option Prepared))
             → ImageInvariant S.view F.backing p self.old out → HoldsAll S.view F.backing p out → 0 < p.new_data cluster
             → over_all new_data_by out cluster ≡ 0 → UnseenFillingStep S.view F.backing p p self.old self.new out }
@@ -58,7 +52,6 @@ impl<S: Storage, F: WrappedFormat<S>> Qcow2<S, F> {
             → cover self.old.file.header.fields (known_in S.view self.old.file)
             (offset / cluster_size self.old.file.header.fields) ≡ old.now
             → IfOk result (λ done. IsFilled S.view F.backing self.old self.new cluster offset length overwrite) }
-        ensures faults { CountsImageFaults S.view F.backing self.old self.new result }
     {
         let Some(range) = self.part_to_fill(offset, length, overwrite) else {
             return Ok(());
@@ -82,12 +75,9 @@ impl<S: Storage, F: WrappedFormat<S>> Qcow2<S, F> {
         overwrite: bool,
     ) -> Result<(), ImageError>
         requires reach { host ≤ greatest_offset }
-        ensures stays { ImageStays self.old self.new }
-        ensures notes { KeepsFileNotes S.view self.old.file self.new.file }
-        ensures header_cluster { StaysBehindHeader S.view self.old self.new }
-        ensures cause { IfErr result IsMet }
+        ensures step { ImageStep S.view self.old self.new }
+        ensures fails { FailsUnlimited S.view F.backing self.old self.new result IsMet }
         ensures fault { cluster_size self.old.file.header.fields ≤ host → IfErr result IsFault }
-        ensures limited { IfErr result IsUnlimited }
         ensures rest { self.new ≡ record self.old { file = record self.old.file { storage = self.new.file.storage } } }
         ensures image_step { (p : Pending) (out : List (Option Prepared))
             → ImageInvariant S.view F.backing p self.old out → HoldsAll S.view F.backing p out
@@ -98,7 +88,6 @@ impl<S: Storage, F: WrappedFormat<S>> Qcow2<S, F> {
             (offset / cluster_size self.old.file.header.fields) ≡ L2Mapping.Zero (Some (host, true))
             → IfOk result (λ done. IsFilled S.view F.backing self.old self.new
             (host / cluster_size self.old.file.header.fields) offset length overwrite) }
-        ensures faults { CountsImageFaults S.view F.backing self.old self.new result }
     {
         match self.part_to_fill(offset, length, overwrite) {
             None => Ok(()),
@@ -130,13 +119,10 @@ impl<S: Storage, F: WrappedFormat<S>> Qcow2<S, F> {
         kind: &MappingKind,
         length: u64,
     ) -> Result<(), ImageError>
+        ensures step { ImageStep S.view self.old self.new }
+        ensures fails { FailsUnlimited S.view F.backing self.old self.new result IsMet }
         ensures value { self.new.file.header ≡ self.old.file.header }
-        ensures stays { ImageStays self.old self.new }
-        ensures notes { KeepsFileNotes S.view self.old.file self.new.file }
-        ensures header_cluster { StaysBehindHeader S.view self.old self.new }
-        ensures cause { IfErr result IsMet }
         ensures met { cluster_size self.old.file.header.fields ≤ at → IfErr result (IsMetReading kind.now) }
-        ensures limited { IfErr result IsUnlimited }
         ensures image_step { (p : Pending) (out : List (Option Prepared)) (cluster : ℕ)
             → ImageInvariant S.view F.backing p self.old out → HoldsAll S.view F.backing p out
             → IsInHeldCluster S.view F.backing p self.old out cluster at length
@@ -147,7 +133,6 @@ impl<S: Storage, F: WrappedFormat<S>> Qcow2<S, F> {
         ensures copies { (p : Pending) (out : List (Option Prepared)) → ImageInvariant S.view F.backing p self.old out
             → IsMappedAs S.view self.old guest kind.now length
             → IfOk result (λ done. IsCopied S.view F.backing self.old self.new at guest length) }
-        ensures faults { CountsImageFaults S.view F.backing self.old self.new result }
     {
         if let MappingKind::Zero { explicit: _ } = kind {
             return self.write_zeros(at, length);
@@ -160,14 +145,10 @@ impl<S: Storage, F: WrappedFormat<S>> Qcow2<S, F> {
 
     // Writes zeros as data. A place in cluster 0, which no entry names, is refused 19 (metadata).
     fn write_zeros(&mut self, at: u64, length: u64) -> Result<(), ImageError>
-        ensures stays { ImageStays self.old self.new }
-        ensures notes { KeepsFileNotes S.view self.old.file self.new.file }
-        ensures header_cluster { StaysBehindHeader S.view self.old self.new }
-        ensures cause { IfErr result IsMet }
+        ensures step { ImageStep S.view self.old self.new }
+        ensures fails { FailsUnlimited S.view F.backing self.old self.new result IsMet }
         ensures fault { cluster_size self.old.file.header.fields ≤ at → IfErr result IsFault }
-        ensures limited { IfErr result IsUnlimited }
         ensures written { WritesBytes S.view self.old self.new at (replicate length 0) result }
-        ensures faults { CountsImageFaults S.view F.backing self.old self.new result }
     {
         if at < self.file.header.cluster_size() {
             return Err(ImageError::Metadata);

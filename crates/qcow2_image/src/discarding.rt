@@ -16,9 +16,9 @@ ghost use Rattle.qcow2_image.specs.declared.prepared.Prepared.{Prepared};
 ghost use Rattle.qcow2_image.specs.L1Entries.{HasOwnTable};
 ghost use Rattle.qcow2_image.specs.PinnedTables.{HeedsPins};
 ghost use Rattle.qcow2_image.specs.Image.{ImageStays, is_writable, size_of};
-ghost use Rattle.qcow2_image.specs.ImageInvariant.{ImageInvariant, abstract_of, pending_in, listed_run};
+ghost use Rattle.qcow2_image.specs.ImageInvariant.{ImageInvariant, pending_in, listed_run};
 ghost use Rattle.qcow2_image.specs.Refusals.{IsMet, IsMetPreparing, passes as passes_size};
-ghost use Rattle.qcow2_image.specs.ClearingCalls.{AnsweredBeside, ClearsBetween, FreesBetween, LacksBetween, LimitsClearing, MeetsBetween, RefusedUnder, PartStep, ClearsStep, ClearsSoundly, FailsToClear};
+ghost use Rattle.qcow2_image.specs.ClearingCalls.{AnsweredBeside, ClearsBetween, FreesBetween, LacksBetween, MeetsBetween, RefusedUnder, PartStep, ClearsStep, ClearsSoundly, FailsToClear};
 ghost use Rattle.qcow2_image.specs.Clearing.{ClearsEntry, ClearsTable, IsClearable, ReadsAll, ReadsDropped, cover_once_cleared, from_in, to_in, needs_zero_entries, refuses_to_clear, rounds_past};
 ghost use Rattle.qcow2_image.specs.Faults.{IsNotOfStorage};
 
@@ -118,7 +118,6 @@ impl<S: Storage, F: WrappedFormat<S>> Qcow2<S, F> {
         ensures step { ClearsStep S.view F.backing self.old self.new result }
         ensures fails { FailsToClear S.view F.backing Clearance.Uncovered self.old self.new offset length result }
         ensures sound { ClearsSoundly S.view F.backing Clearance.Uncovered self.old self.new offset length result }
-        ensures limit { LimitsClearing S.view F.backing Clearance.Uncovered self.old self.new offset length result }
     {
         self.clear_range(offset, length, Clearance::Uncovered)
     }
@@ -138,7 +137,6 @@ impl<S: Storage, F: WrappedFormat<S>> Qcow2<S, F> {
         ensures step { ClearsStep S.view F.backing self.old self.new result }
         ensures fails { FailsToClear S.view F.backing Clearance.Zeros self.old self.new offset length result }
         ensures sound { ClearsSoundly S.view F.backing Clearance.Zeros self.old self.new offset length result }
-        ensures limit { LimitsClearing S.view F.backing Clearance.Zeros self.old self.new offset length result }
     {
         self.clear_range(offset, length, Clearance::Zeros)
     }
@@ -158,7 +156,6 @@ impl<S: Storage, F: WrappedFormat<S>> Qcow2<S, F> {
         ensures step { ClearsStep S.view F.backing self.old self.new result }
         ensures fails { FailsToClear S.view F.backing Clearance.Zeros self.old self.new offset length result }
         ensures sound { ClearsSoundly S.view F.backing Clearance.Zeros self.old self.new offset length result }
-        ensures limit { LimitsClearing S.view F.backing Clearance.Zeros self.old self.new offset length result }
     {
         self.discard_to_zero_unsafe(offset, length)
     }
@@ -178,7 +175,6 @@ impl<S: Storage, F: WrappedFormat<S>> Qcow2<S, F> {
         ensures step { ClearsStep S.view F.backing self.old self.new result }
         ensures fails { FailsToClear S.view F.backing Clearance.KeptZeros self.old self.new offset length result }
         ensures sound { ClearsSoundly S.view F.backing Clearance.KeptZeros self.old self.new offset length result }
-        ensures limit { LimitsClearing S.view F.backing Clearance.KeptZeros self.old self.new offset length result }
     {
         self.clear_range(offset, length, Clearance::KeptZeros)
     }
@@ -193,7 +189,6 @@ impl<S: Storage, F: WrappedFormat<S>> Qcow2<S, F> {
         ensures step { ClearsStep S.view F.backing self.old self.new result }
         ensures fails { FailsToClear S.view F.backing how self.old self.new offset length result }
         ensures sound { ClearsSoundly S.view F.backing how self.old self.new offset length result }
-        ensures limit { LimitsClearing S.view F.backing how self.old self.new offset length result }
     {
         let (from, to) = self.check_clear(offset, length, how)?;
         if to <= from {

@@ -1,10 +1,10 @@
 //! The first cluster of a prepared range.
+ghost use Rattle.qcow2_image.specs.SoundParts.{BeginsSoundly};
+ghost use Rattle.qcow2_image.specs.ImageSteps.{FailsUnlimited, ImageFails, ImageStep, ImageStepWhere};
 ghost use Rattle.qcow2_alloc.specs.LowestRuns.{StaysUsed};
 ghost use Rattle.qcow2_image.specs.LackedPlaces.{IsLimitedByCluster, IsLimitedByFirst, first_of_range};
 ghost use Rattle.qcow2_metadata.specs.TableBytes.{HasPlace};
-ghost use Rattle.qcow2_image.specs.BehindHeader.{StaysBehindHeader};
 ghost use Rattle.qcow2_image.specs.PreparedPlaces.{MarkedIsBehind};
-ghost use Rattle.qcow2_alloc.specs.KeptMarks.{KeepsFileNotes};
 ghost use Rattle.std.specs.Prelude.{List, Option, ◌≡◌, ◌+◌, ◌-◌, ◌/◌, ◌%◌, ◌^◌, ◌<◌, ◌≤◌, true, false, Some, [], ◌∷◌, vec_capacity, IfOk, IfErr, IsSome, IsTrue, OnOk};
 ghost use Rattle.qcow2_image.specs.Backings.{HasPrepared};
 ghost use Rattle.qcow2_alloc.specs.ImageError.{IsFault};
@@ -18,7 +18,6 @@ ghost use Rattle.qcow2_alloc.specs.CachePins.{l2_pins};
 ghost use Rattle.qcow2_alloc.specs.MetadataCaches.{l2_at};
 ghost use Rattle.qcow2_alloc.specs.ImageFile.{known_in, KeepsHeader};
 ghost use Rattle.qcow2_alloc.specs.declared.error.ImageError.TheVariants.{TablePrepared};
-ghost use Rattle.qcow2_image.specs.Faults.{CountsImageFaults};
 ghost use Rattle.qcow2_image.specs.Image.{ImageStays, is_writable, number_of};
 ghost use Rattle.qcow2_image.specs.ListedClusters.{KeepsList, ListsFormer};
 ghost use Rattle.qcow2_image.specs.LowestPlaces.{BeginsLowest, IsUsedBelow};
@@ -60,11 +59,9 @@ impl<S: Storage, F: WrappedFormat<S>> Qcow2<S, F> {
         overwrite: bool,
     ) -> Result<Prepared, ImageError>
         requires writable { IsTrue (is_writable self.old) }
-        ensures stays { ImageStays self.old self.new }
+        ensures step { ImageStepWhere S.view (0 < table) self.old self.new }
+        ensures fails { ImageFails S.view F.backing self.old self.new result IsMetPreparing }
         ensures header { KeepsHeader self.old.file.header self.new.file.header }
-        ensures notes { KeepsFileNotes S.view self.old.file self.new.file }
-        ensures header_cluster { 0 < table → StaysBehindHeader S.view self.old self.new }
-        ensures cause { IfErr result IsMetPreparing }
         ensures met { (out : List (Option Prepared))
             → ImageInvariant S.view F.backing (pending_in S.view F.backing self.old out) self.old out
             → HoldsTable S.view F.backing self.old offset table
@@ -98,7 +95,6 @@ impl<S: Storage, F: WrappedFormat<S>> Qcow2<S, F> {
             → ImageInvariant S.view F.backing (pending_in S.view F.backing self.old out) self.old out
             → HoldsTable S.view F.backing self.old offset table
             → OnOk result (StaysUsed S.view self.old.file self.new.file) }
-        ensures faults { CountsImageFaults S.view F.backing self.old self.new result }
     {
         if self.file.caches.l2_is_pinned(table) {
             return Err(ImageError::TablePrepared);
@@ -128,10 +124,8 @@ impl<S: Storage, F: WrappedFormat<S>> Qcow2<S, F> {
         requires behind { MarkedIsBehind (cluster_size self.old.file.header.fields) old.now }
         requires empty { room.items ≡ [] }
         requires room { 0 < vec_capacity room }
-        ensures stays { ImageStays self.old self.new }
-        ensures notes { KeepsFileNotes S.view self.old.file self.new.file }
-        ensures header_cluster { 0 < table → StaysBehindHeader S.view self.old self.new }
-        ensures cause { IfErr result IsMet }
+        ensures step { ImageStepWhere S.view (0 < table) self.old self.new }
+        ensures fails { ImageFails S.view F.backing self.old self.new result IsMet }
         ensures met { (out : List (Option Prepared))
             → ImageInvariant S.view F.backing (pending_in S.view F.backing self.old out) self.old out
             → HoldsTable S.view F.backing self.old offset table
@@ -165,7 +159,6 @@ impl<S: Storage, F: WrappedFormat<S>> Qcow2<S, F> {
             → cover self.old.file.header.fields (known_in S.view self.old.file)
             (offset / cluster_size self.old.file.header.fields) ≡ old.now
             → OnOk result (StaysUsed S.view self.old.file self.new.file) }
-        ensures faults { CountsImageFaults S.view F.backing self.old self.new result }
     {
         match kept_place(old) {
             Some(host) => self.prepare_kept(table, offset, length, overwrite, host, room),
@@ -187,16 +180,13 @@ impl<S: Storage, F: WrappedFormat<S>> Qcow2<S, F> {
         requires behind { cluster_size self.old.file.header.fields ≤ host }
         requires empty { room.items ≡ [] }
         requires room { 0 < vec_capacity room }
-        ensures stays { ImageStays self.old self.new }
-        ensures notes { KeepsFileNotes S.view self.old.file self.new.file }
-        ensures header_cluster { StaysBehindHeader S.view self.old self.new }
-        ensures cause { IfErr result IsMet }
+        ensures step { ImageStep S.view self.old self.new }
+        ensures fails { FailsUnlimited S.view F.backing self.old self.new result IsMet }
         ensures fault { (out : List (Option Prepared))
             → ImageInvariant S.view F.backing (pending_in S.view F.backing self.old out) self.old out
             → cover self.old.file.header.fields (known_in S.view self.old.file)
             (offset / cluster_size self.old.file.header.fields) ≡ L2Mapping.Zero (Some (host, true))
             → IfErr result IsFault }
-        ensures limited { IfErr result IsUnlimited }
         ensures own { IfOk result (λ p. image_of p ≡ number_of self.old) }
         ensures first { IfOk result (IsFirst self.old.file.header.fields offset table) }
         ensures behind { IfOk result (λ p. cluster_size self.old.file.header.fields ≤ offset_of p) }
@@ -217,7 +207,6 @@ impl<S: Storage, F: WrappedFormat<S>> Qcow2<S, F> {
             → cover self.old.file.header.fields (known_in S.view self.old.file)
             (offset / cluster_size self.old.file.header.fields) ≡ L2Mapping.Zero (Some (host, true))
             → OnOk result (StaysUsed S.view self.old.file self.new.file) }
-        ensures faults { CountsImageFaults S.view F.backing self.old self.new result }
     {
         self.fill_kept(host, offset, length, overwrite)?;
         Ok(self.prepare_at(table, offset, host, Share::Kept, room))
@@ -238,29 +227,20 @@ impl<S: Storage, F: WrappedFormat<S>> Qcow2<S, F> {
         requires other { is_copied_data old.now ≡ false }
         requires empty { room.items ≡ [] }
         requires room { 0 < vec_capacity room }
-        ensures stays { ImageStays self.old self.new }
-        ensures notes { KeepsFileNotes S.view self.old.file self.new.file }
-        ensures header_cluster { 0 < table → StaysBehindHeader S.view self.old self.new }
-        ensures cause { IfErr result IsMet }
-        ensures met { (out : List (Option Prepared))
+        ensures step { ImageStepWhere S.view (0 < table) self.old self.new }
+        ensures fails { ImageFails S.view F.backing self.old self.new result IsMet }
+        ensures sound { (out : List (Option Prepared))
             → ImageInvariant S.view F.backing (pending_in S.view F.backing self.old out) self.old out
             → HoldsTable S.view F.backing self.old offset table
-            → IfErr result (IsMetTaking (HasPrepared out) ⊥
-            (IsCopiedCompressed self.old.file.header.fields old.now offset length overwrite) ⊥) }
-        ensures limit { (out : List (Option Prepared))
-            → ImageInvariant S.view F.backing (pending_in S.view F.backing self.old out) self.old out
-            → HoldsTable S.view F.backing self.old offset table
-            → IfErr result (IsLimitedByCluster S.view self.old self.new) }
+            → BeginsSoundly S.view F.backing old.now offset length overwrite self.old self.new out result
+            (l2_pins self.old.file.caches table ≡ 0
+            → cover self.old.file.header.fields (known_in S.view self.old.file)
+            (offset / cluster_size self.old.file.header.fields) ≡ old.now
+            → Readies S.view F.backing self.old self.new out offset length overwrite result) }
         ensures own { IfOk result (λ p. image_of p ≡ number_of self.old) }
         ensures first { IfOk result (IsFirst self.old.file.header.fields offset table) }
         ensures behind { IfOk result (λ p. cluster_size self.old.file.header.fields ≤ offset_of p) }
         ensures room { IfOk result (λ p. vec_capacity p.shares ≡ vec_capacity room) }
-        ensures readies { (out : List (Option Prepared))
-            → ImageInvariant S.view F.backing (pending_in S.view F.backing self.old out) self.old out
-            → HoldsTable S.view F.backing self.old offset table → l2_pins self.old.file.caches table ≡ 0
-            → cover self.old.file.header.fields (known_in S.view self.old.file)
-            (offset / cluster_size self.old.file.header.fields) ≡ old.now
-            → Readies S.view F.backing self.old self.new out offset length overwrite result }
         ensures header { KeepsHeader self.old.file.header self.new.file.header }
         ensures former { OnOk result (ListsFormer self.old self.new) }
         ensures lowest { (out : List (Option Prepared))
@@ -269,7 +249,6 @@ impl<S: Storage, F: WrappedFormat<S>> Qcow2<S, F> {
         ensures uses { (out : List (Option Prepared))
             → ImageInvariant S.view F.backing (pending_in S.view F.backing self.old out) self.old out
             → OnOk result (StaysUsed S.view self.old.file self.new.file) }
-        ensures faults { CountsImageFaults S.view F.backing self.old self.new result }
     {
         let old_data = self.named_by(old)?;
         let pending = self.new_cluster(offset, length, overwrite, old)?;
@@ -291,11 +270,9 @@ impl<S: Storage, F: WrappedFormat<S>> Qcow2<S, F> {
 
     // Brings a table into its cache.
     fn load_l2(&mut self, table: HostCluster) -> Result<(), ImageError>
+        ensures step { ImageStepWhere S.view (0 < table) self.old self.new }
+        ensures fails { ImageFails S.view F.backing self.old self.new result IsMet }
         ensures header { self.new.file.header ≡ self.old.file.header }
-        ensures stays { ImageStays self.old self.new }
-        ensures notes { KeepsFileNotes S.view self.old.file self.new.file }
-        ensures header_cluster { 0 < table → StaysBehindHeader S.view self.old self.new }
-        ensures cause { IfErr result IsMet }
         ensures met { (p : Pending) (out : List (Option Prepared)) → ImageInvariant S.view F.backing p self.old out
             → HasPlace self.old.file.header.fields.cluster_bits table → IfErr result (IsMetLooking (HasPrepared out)) }
         ensures limited { (p : Pending) (out : List (Option Prepared)) → ImageInvariant S.view F.backing p self.old out
@@ -308,7 +285,6 @@ impl<S: Storage, F: WrappedFormat<S>> Qcow2<S, F> {
         ensures contents { (p : Pending) (out : List (Option Prepared)) → ImageInvariant S.view F.backing p self.old out
             → SameHeld S.view F.backing p self.old self.new }
         ensures cached { OnOk result (IsSome (l2_at self.new.file.caches table)) }
-        ensures faults { CountsImageFaults S.view F.backing self.old self.new result }
     {
         self.file
             .caches
@@ -366,13 +342,11 @@ impl<S: Storage, F: WrappedFormat<S>> Qcow2<S, F> {
     ) -> Result<PendingClusters, ImageError>
         requires writable { IsTrue (is_writable self.old) }
         requires reach { IsInReach old.now }
+        ensures step { ImageStep S.view self.old self.new }
+        ensures fails { ImageFails S.view F.backing self.old self.new result IsMet }
         ensures nameable { IfOk result (λ p. IsHostCluster self.old.file.header.fields.cluster_bits p.first_cluster) }
         ensures elsewhere { IfOk result (λ p. 0 < p.first_cluster) }
         ensures header { KeepsHeader self.old.file.header self.new.file.header }
-        ensures stays { ImageStays self.old self.new }
-        ensures notes { KeepsFileNotes S.view self.old.file self.new.file }
-        ensures header_cluster { StaysBehindHeader S.view self.old self.new }
-        ensures cause { IfErr result IsMet }
         ensures met { (p : Pending) (out : List (Option Prepared)) → ImageInvariant S.view F.backing p self.old out
             → HoldsAll S.view F.backing p out
             → IfErr result (IsMetAlone (IsCopiedCompressed self.old.file.header.fields old.now offset length overwrite)
@@ -387,7 +361,6 @@ impl<S: Storage, F: WrappedFormat<S>> Qcow2<S, F> {
             → HoldsAll S.view F.backing p out → IfOk result (λ run. IsUsedBelow S.view self.new run.first_cluster) }
         ensures uses { (p : Pending) (out : List (Option Prepared)) → ImageInvariant S.view F.backing p self.old out
             → HoldsAll S.view F.backing p out → OnOk result (StaysUsed S.view self.old.file self.new.file) }
-        ensures faults { CountsImageFaults S.view F.backing self.old self.new result }
     {
         let pending = self.take_data()?;
         match self.fill_cluster(pending.cluster(), offset, length, overwrite, old) {
@@ -402,14 +375,12 @@ impl<S: Storage, F: WrappedFormat<S>> Qcow2<S, F> {
     // Takes a cluster for data.
     fn take_data(&mut self) -> Result<PendingClusters, ImageError>
         requires writable { IsTrue (is_writable self.old) }
+        ensures step { ImageStep S.view self.old self.new }
+        ensures fails { ImageFails S.view F.backing self.old self.new result IsMet }
         ensures nameable { IfOk result (λ p. IsHostCluster self.old.file.header.fields.cluster_bits p.first_cluster) }
         ensures elsewhere { IfOk result (λ p. 0 < p.first_cluster) }
         ensures header { KeepsHeader self.old.file.header self.new.file.header }
         ensures list { ListGrows self.old self.new }
-        ensures stays { ImageStays self.old self.new }
-        ensures notes { KeepsFileNotes S.view self.old.file self.new.file }
-        ensures header_cluster { StaysBehindHeader S.view self.old self.new }
-        ensures cause { IfErr result IsMet }
         ensures fault { (p : Pending) (out : List (Option Prepared)) → ImageInvariant S.view F.backing p self.old out
             → IfErr result IsFaultOrLimit }
         ensures limit { (p : Pending) (out : List (Option Prepared)) → ImageInvariant S.view F.backing p self.old out
@@ -421,7 +392,6 @@ impl<S: Storage, F: WrappedFormat<S>> Qcow2<S, F> {
             → IfOk result (λ run. IsUsedBelow S.view self.new run.first_cluster) }
         ensures uses { (p : Pending) (out : List (Option Prepared)) → ImageInvariant S.view F.backing p self.old out
             → OnOk result (StaysUsed S.view self.old.file self.new.file) }
-        ensures faults { CountsImageFaults S.view F.backing self.old self.new result }
     {
         let Some(allocator) = &mut self.allocator else {
             unreachable!();

@@ -1,3 +1,4 @@
+ghost use Rattle.qcow2_image.specs.ImageSteps.{CallStep, ImageFails, ImageStep};
 ghost use Rattle.qcow2_alloc.specs.BehindHeader.{AreBehindHeader};
 ghost use Rattle.qcow2_image.specs.LackedPlaces.{FreesJustListed};
 ghost use Rattle.qcow2_image.specs.BehindHeader.{IsL1TableBehind, LiesBehindHeader, NamesTablesBehind, StaysBehindHeader, TablesBehindHeader};
@@ -98,7 +99,6 @@ impl<S: Storage, F: WrappedFormat<S>> Qcow2<S, F> {
     ghost use Rattle.qcow2_metadata.specs.Consistent.{IsConsistent};
     ghost use Rattle.qcow2_alloc.specs.KeptAllocators.{IsAllocatorOf};
     ghost use Rattle.qcow2_alloc.specs.KeptMarks.{KeepsFileNotes};
-    ghost use Rattle.qcow2_image.specs.Noted.{FailsOnceWritten};
     ghost use Rattle.qcow2_image.specs.Created.{begins_image};
     ghost use Rattle.qcow2_image.specs.Growing.{SameFormat, WritesBack};
     ghost use Rattle.qcow2_image.specs.Unwritten.{ContentsStayThroughout, HoldsNothingModified, ReadsQuietly};
@@ -498,21 +498,17 @@ impl<S: Storage, F: WrappedFormat<S>> Qcow2<S, F> {
     /// Frees the clusters that are to be freed, writes what is cached, and flushes the storage. Refused 16 (failed), then 14 (memory),
     /// 15 (storage) where the work meets them.
     pub fn flush(&mut self) -> Result<(), ImageError>
+        ensures step { CallStep S.view F.backing self.old self.new result }
         ensures early { IsTrue (is_failed self.old) → (result ≡ Err Failed) × (self.new ≡ self.old) }
         ensures late { is_failed self.old ≡ false → IfErr result IsOfTables }
         ensures fault { (out : List (Option Prepared)) → (abstract_of S.view F.backing self.old out).is_sound → IfErr result IsFault }
-        ensures marks { MarksFailed self.old self.new result }
-        ensures image { IsSameImage self.old self.new }
         ensures header { KeepsWholeHeader self.old self.new }
         ensures sees { FlushesImage S.view F.backing self.old self.new result }
         ensures emptied { IsTrue (is_writable self.old) → OnOk result (HasNothingToFree self.new) }
         ensures writes { (p : Pending)
             → ImageInvariant S.view F.backing (with_listed p self.old.file.free_list) self.old []
             → WritesBack S.view F.backing p self.old self.new result }
-        ensures once_written { FailsOnceWritten S.view self.old self.new result }
         ensures quiet { is_writable self.old ≡ false → ReadsQuietly S.view self.old self.new }
-        ensures header_cluster { StaysBehindHeader S.view self.old self.new }
-        ensures faults { CountsImageFaults S.view F.backing self.old self.new result }
     {
         if self.is_failed {
             return Err(ImageError::Failed);
@@ -524,9 +520,9 @@ impl<S: Storage, F: WrappedFormat<S>> Qcow2<S, F> {
 
     #[tactic(auto, using(crate::proofs::Call::MetErrors::storage_of_tables))]
     fn write_back(&mut self) -> Result<(), ImageError>
-        ensures stays { ImageStays self.old self.new }
+        ensures step { ImageStep S.view self.old self.new }
+        ensures fails { ImageFails S.view F.backing self.old self.new result IsOfTables }
         ensures header { self.new.file.header ≡ self.old.file.header }
-        ensures cause { IfErr result IsOfTables }
         ensures fault { (p : Pending) (out : List (Option Prepared))
             → ImageInvariant S.view F.backing (with_listed p self.old.file.free_list) self.old out
             → IfErr result IsFault }
@@ -534,11 +530,8 @@ impl<S: Storage, F: WrappedFormat<S>> Qcow2<S, F> {
         ensures frees { (p : Pending) (out : List (Option Prepared))
             → ImageInvariant S.view F.backing (with_listed p self.old.file.free_list) self.old out
             → FreesListed S.view F.backing p self.old self.new out result }
-        ensures notes { KeepsFileNotes S.view self.old.file self.new.file }
         ensures quiet { is_writable self.old ≡ false → ReadsQuietly S.view self.old self.new }
-        ensures header_cluster { StaysBehindHeader S.view self.old self.new }
         ensures written { IfOk result (λ done. known_in S.view self.new.file ≡ contents_in S.view self.new.file) }
-        ensures faults { CountsImageFaults S.view F.backing self.old self.new result }
     {
         self.free_listed()?;
         self.file.caches.flush_all(&mut self.file.storage)?;
@@ -548,7 +541,7 @@ impl<S: Storage, F: WrappedFormat<S>> Qcow2<S, F> {
 
     // Frees the clusters that are to be freed. Refused, those not freed yet are to be freed still. Where there are none, nothing is done.
     pub(crate) fn free_listed(&mut self) -> Result<(), ImageError>
-        ensures stays { ImageStays self.old self.new }
+        ensures step { ImageStep S.view self.old self.new }
         ensures keeps_rest { KeepsRest self.old self.new }
         ensures table { self.new.l1_table ≡ self.old.l1_table }
         ensures former { KeepsReftable self.old self.new }
@@ -565,8 +558,6 @@ impl<S: Storage, F: WrappedFormat<S>> Qcow2<S, F> {
             → IfErr result IsFault }
         ensures noted { IsTrue self.old.file.caches.is_changed → IsTrue self.new.file.caches.is_changed }
         ensures idle { HasNothingToFree self.old → (result ≡ Ok tt) × (self.new ≡ self.old) }
-        ensures notes { KeepsFileNotes S.view self.old.file self.new.file }
-        ensures header_cluster { StaysBehindHeader S.view self.old self.new }
         ensures untouched { is_writable self.old ≡ false → self.new ≡ self.old }
         ensures counts { CountsImageFaults S.view F.backing self.old self.new result }
     {
@@ -581,10 +572,10 @@ impl<S: Storage, F: WrappedFormat<S>> Qcow2<S, F> {
 
     // Frees the clusters that are to be freed, at the end of a call that changed an entry. Where there are none, nothing is done.
     pub(crate) fn end_freeing(&mut self) -> Result<(), ImageError>
+        ensures fails { ImageFails S.view F.backing self.old self.new result IsOfTables }
         ensures image { IsSameImage self.old self.new }
         ensures notes { KeepsFileNotes S.view self.old.file self.new.file }
         ensures header_cluster { StaysBehindHeader S.view self.old self.new }
-        ensures cause { IfErr result IsOfTables }
         ensures marks { MarksFailed self.old self.new result }
         ensures emptied { IsTrue (is_writable self.old) → OnOk result (HasNothingToFree self.new) }
         ensures frees { (out : List (Option Prepared)) → ImageInvariant S.view F.backing (pending_in S.view F.backing self.old out) self.old out
@@ -592,7 +583,6 @@ impl<S: Storage, F: WrappedFormat<S>> Qcow2<S, F> {
         ensures idle { self.old.file.free_list ≡ [] → (result ≡ Ok tt) × (self.new ≡ self.old) }
         ensures table { self.new.l1_table ≡ self.old.l1_table }
         ensures header { self.new.file.header ≡ self.old.file.header }
-        ensures faults { CountsImageFaults S.view F.backing self.old self.new result }
     {
         let freed = self.free_listed();
         self.mark_failure(freed)

@@ -1,5 +1,5 @@
 //! Reading and writing what is mapped.
-ghost use Rattle.qcow2_image.specs.BehindHeader.{StaysBehindHeader};
+ghost use Rattle.qcow2_image.specs.ImageSteps.{CallStep, FailsUnlimited, ImageFails, ImageStep, ReadingCall, ReadingStep};
 ghost use Rattle.std.specs.Prelude.{◌≡◌, ◌≢◌, ◌+◌, ◌^◌, ◌<◌, ◌≤◌, ℕ, List, [], Option, length, slice_get, ◌⊎◌, IfOk, IfErr, IfSome, OnOk, IsErr, IsSome, IsTrue, MatchOption, Ok, Err, Some, None, is_some, true, false};
 ghost use Rattle.qcow2_metadata.specs.Header.{cluster_size};
 ghost use Rattle.qcow2_alloc.specs.ImageError.{IsFault};
@@ -7,7 +7,7 @@ ghost use Rattle.qcow2_image.specs.MetAlone.{IsCacheHeld, IsMetLookingAgain, IsM
 ghost use Rattle.qcow2_disk.specs.Calls.{Shows};
 ghost use Rattle.qcow2_laws.specs.CrashInvariant.{Pending};
 ghost use Rattle.qcow2_image.specs.Calls.{AnswersCall, Puts};
-ghost use Rattle.qcow2_image.specs.Faults.{CountsImageFaults, IsNotOfStorage};
+ghost use Rattle.qcow2_image.specs.Faults.{IsNotOfStorage};
 ghost use Rattle.qcow2_image.specs.Found.{AreBytesOf, IsFoundWhole, IsMappedAs, further_by};
 ghost use Rattle.qcow2_image.specs.CallParts.{PutsPart, WritesBytes};
 ghost use Rattle.qcow2_image.specs.HeldMappings.{HeedsHeld, KeepsHeld};
@@ -17,14 +17,12 @@ ghost use Rattle.qcow2_image.specs.ImageInvariant.{IsHonestBacking, ImageInvaria
 ghost use Rattle.qcow2_image.specs.declared.mapping.MappingKind.TheVariants.{Eof, Raw};
 ghost use Rattle.qcow2_image.specs.declared.mapping.Place.TheVariants.{Image};
 ghost use Rattle.qcow2_image.specs.declared.prepared.Prepared.{Prepared};
-ghost use Rattle.qcow2_image.specs.Image.{ImageStays, IsSameImage, is_writable, size_of, KeepsWholeHeader};
+ghost use Rattle.qcow2_image.specs.Image.{is_writable, size_of, KeepsWholeHeader};
 ghost use Rattle.qcow2_image.specs.Prepared.{image_of, table_of};
-ghost use Rattle.qcow2_image.specs.Refusals.{unusable, refuses_mapping, refuses_to_read, IsMet, IsUnlimited, MarksFailed};
+ghost use Rattle.qcow2_image.specs.Refusals.{unusable, refuses_mapping, refuses_to_read, IsMet};
 ghost use Rattle.qcow2_image.specs.SpecialReads.{TellsCompressed, TellsWhether};
-ghost use Rattle.qcow2_image.specs.Unwritten.{ReadsQuietly};
 ghost use Rattle.qcow2_alloc.specs.declared.error.ImageError.TheVariants.{Compressed, NotCompressed, OutdatedMapping, ReadOnly};
-ghost use Rattle.qcow2_alloc.specs.KeptMarks.{KeepsFileNotes};
-ghost use Rattle.qcow2_image.specs.Noted.{FailsOnceWritten, PutsOnce};
+ghost use Rattle.qcow2_image.specs.Noted.{PutsOnce};
 ghost use Rattle.qcow2_alloc.specs.ImageFile.{known_in};
 
 use crate::mappings::passes;
@@ -60,6 +58,7 @@ impl<S: Storage, F: WrappedFormat<S>> Qcow2<S, F> {
         bytes: &mut [u8],
     ) -> Result<(), ImageError>
         requires { at + length bytes.old ≤ mapping.now.length }
+        ensures step { ReadingCall S.view F.backing self.old self.new result }
         ensures early { IfSome (refuses_mapping self.old mapping.now.image) (λ e. (result ≡ Err e) × (self.new ≡ self.old)) }
         ensures late { refuses_mapping self.old mapping.now.image ≡ None → IfErr result IsMet }
         ensures met { refuses_mapping self.old mapping.now.image ≡ None → (out : List (Option Prepared))
@@ -69,21 +68,14 @@ impl<S: Storage, F: WrappedFormat<S>> Qcow2<S, F> {
             (length bytes.old))) }
         ensures nothing { refuses_mapping self.old mapping.now.image ≡ None → length bytes.old ≡ 0 → (result ≡ Ok tt)
             × (self.new ≡ self.old) }
-        ensures marks { MarksFailed self.old self.new result }
-        ensures image { IsSameImage self.old self.new }
-        ensures header { KeepsWholeHeader self.old self.new }
         ensures outdated { (out : List (Option Prepared)) → (abstract_of S.view F.backing self.old out).is_sound → result ≡ Err OutdatedMapping
             → ¬ IsFoundWhole S.view self.old (mapping.now.offset + at) (further_by at mapping.now.kind) (length bytes.old) }
         ensures mapped { 0 < length bytes.old → (out : List (Option Prepared)) → (abstract_of S.view F.backing self.old out).is_sound
             → OnOk result (IsFoundWhole S.view self.old (mapping.now.offset + at) (further_by at mapping.now.kind) (length bytes.old)) }
         ensures sees { AnswersCall S.view F.backing self.old self.new []
             (λ done old new. (new ≡ old) × Shows old.disk (mapping.now.offset + at) bytes.new) result }
-        ensures faults { CountsImageFaults S.view F.backing self.old self.new result }
-        ensures once_written { FailsOnceWritten S.view self.old self.new result }
-        ensures quiet { ReadsQuietly S.view self.old self.new }
         ensures held { refuses_mapping self.old mapping.now.image ≡ None → 0 < length bytes.old
             → HeedsHeld self.new (mapping.now.offset + at) (further_by at mapping.now.kind) (length bytes.old) result }
-        ensures header_cluster { StaysBehindHeader S.view self.old self.new }
     {
         self.check_usable()?;
         if mapping.image != self.number {
@@ -103,14 +95,12 @@ impl<S: Storage, F: WrappedFormat<S>> Qcow2<S, F> {
         at: u64,
         bytes: &mut [u8],
     ) -> Result<(), ImageError>
-        ensures stays { ImageStays self.old self.new }
-        ensures header { self.new.file.header ≡ self.old.file.header }
-        ensures cause { IfErr result IsMet }
+        ensures step { ReadingStep S.view self.old self.new }
+        ensures fails { ImageFails S.view F.backing self.old self.new result IsMet }
         ensures met { (p : Pending) (out : List (Option Prepared)) → ImageInvariant S.view F.backing p self.old out
             → IfErr result (IsMetMapped (IsCacheHeld self.old out) (further_by at mapping.now.kind)
             (IsFoundWhole S.view self.old (mapping.now.offset + at) (further_by at mapping.now.kind)
             (length bytes.old))) }
-        ensures list { self.new.file.free_list ≡ self.old.file.free_list }
         ensures keeps { (p : Pending) (out : List (Option Prepared)) → ImageInvariant S.view F.backing p self.old out
             → UnseenStep S.view F.backing p p self.old self.new out }
         ensures outdated { 0 < length bytes.old → (p : Pending) (out : List (Option Prepared))
@@ -123,12 +113,8 @@ impl<S: Storage, F: WrappedFormat<S>> Qcow2<S, F> {
         ensures shows { 0 < length bytes.old → (p : Pending) (out : List (Option Prepared))
             → ImageInvariant S.view F.backing p self.old out
             → IfOk result (λ done. Shows (disk_of S.view F.backing self.new) (mapping.now.offset + at) bytes.new) }
-        ensures faults { CountsImageFaults S.view F.backing self.old self.new result }
-        ensures notes { KeepsFileNotes S.view self.old.file self.new.file }
-        ensures quiet { ReadsQuietly S.view self.old self.new }
         ensures held { 0 < length bytes.old
             → HeedsHeld self.new (mapping.now.offset + at) (further_by at mapping.now.kind) (length bytes.old) result }
-        ensures header_cluster { StaysBehindHeader S.view self.old self.new }
     {
         let offset = self.place_within(mapping.offset, at)?;
         let kind = mapping.kind.further(at);
@@ -157,12 +143,10 @@ impl<S: Storage, F: WrappedFormat<S>> Qcow2<S, F> {
         length: u64,
         wanted: &MappingKind,
     ) -> Result<(), ImageError>
-        ensures stays { ImageStays self.old self.new }
-        ensures header { self.new.file.header ≡ self.old.file.header }
-        ensures cause { IfErr result IsMet }
+        ensures step { ReadingStep S.view self.old self.new }
+        ensures fails { ImageFails S.view F.backing self.old self.new result IsMet }
         ensures met { (p : Pending) (out : List (Option Prepared)) → ImageInvariant S.view F.backing p self.old out
             → IfErr result (IsMetLookingAgain (IsCacheHeld self.old out)) }
-        ensures list { self.new.file.free_list ≡ self.old.file.free_list }
         ensures keeps { (p : Pending) (out : List (Option Prepared)) → ImageInvariant S.view F.backing p self.old out
             → UnseenStep S.view F.backing p p self.old self.new out }
         ensures outdated { (p : Pending) (out : List (Option Prepared)) → ImageInvariant S.view F.backing p self.old out
@@ -172,11 +156,7 @@ impl<S: Storage, F: WrappedFormat<S>> Qcow2<S, F> {
             → IfOk result (λ done. IsMappedAs S.view self.new offset wanted.now length) }
         ensures found { (p : Pending) (out : List (Option Prepared)) → ImageInvariant S.view F.backing p self.old out
             → OnOk result (IsFoundWhole S.view self.old offset wanted.now length) }
-        ensures faults { CountsImageFaults S.view F.backing self.old self.new result }
-        ensures notes { KeepsFileNotes S.view self.old.file self.new.file }
-        ensures quiet { ReadsQuietly S.view self.old self.new }
         ensures held { 0 < length → HeedsHeld self.new offset wanted.now length result }
-        ensures header_cluster { StaysBehindHeader S.view self.old self.new }
     {
         let (kind, found) = self.look_up(offset, length)?;
         if found >= length && wanted.is(&kind) {
@@ -193,25 +173,18 @@ impl<S: Storage, F: WrappedFormat<S>> Qcow2<S, F> {
         kind: &MappingKind,
         bytes: &mut [u8],
     ) -> Result<(), ImageError>
-        ensures stays { ImageStays self.old self.new }
-        ensures header { self.new.file.header ≡ self.old.file.header }
-        ensures cause { IfErr result IsMet }
+        ensures step { ReadingStep S.view self.old self.new }
+        ensures fails { FailsUnlimited S.view F.backing self.old self.new result IsMet }
         ensures met { IfErr result (IsMetReading kind.now) }
-        ensures limited { IfErr result IsUnlimited }
         ensures allocator { self.new.allocator ≡ self.old.allocator }
         ensures table { self.new.l1_table ≡ self.old.l1_table }
-        ensures list { self.new.file.free_list ≡ self.old.file.free_list }
         ensures keeps { (p : Pending) (out : List (Option Prepared)) → ImageInvariant S.view F.backing p self.old out
             → UnseenStep S.view F.backing p p self.old self.new out }
         ensures outdated { result ≡ Err OutdatedMapping → (kind.now ≡ Eof) × (self.new ≡ self.old) }
         ensures shows { (p : Pending) (out : List (Option Prepared)) → ImageInvariant S.view F.backing p self.old out
             → IsMappedAs S.view self.old offset kind.now (length bytes.old)
             → IfOk result (λ done. Shows (disk_of S.view F.backing self.new) offset bytes.new) }
-        ensures faults { CountsImageFaults S.view F.backing self.old self.new result }
-        ensures notes { KeepsFileNotes S.view self.old.file self.new.file }
-        ensures quiet { ReadsQuietly S.view self.old self.new }
         ensures tables { KeepsHeld self.old self.new }
-        ensures header_cluster { StaysBehindHeader S.view self.old self.new }
     {
         match kind {
             MappingKind::Raw {
@@ -234,10 +207,9 @@ impl<S: Storage, F: WrappedFormat<S>> Qcow2<S, F> {
 
     #[tactic(auto, using(crate::proofs::Call::MetErrors::tables_met, crate::proofs::Call::MetErrors::storage_met, crate::proofs::Call::MetErrors::metadata_met, crate::proofs::Call::Unlimited::storage_unlimited))]
     pub(crate) fn read_backing(&mut self, offset: u64, bytes: &mut [u8]) -> Result<(), ImageError>
-        ensures stays { ImageStays self.old self.new }
-        ensures cause { IfErr result IsMet }
+        ensures step { ImageStep S.view self.old self.new }
+        ensures fails { FailsUnlimited S.view F.backing self.old self.new result IsMet }
         ensures fault { IfErr result IsFault }
-        ensures limited { IfErr result IsUnlimited }
         ensures current { result ≢ Err OutdatedMapping }
         ensures file { self.new.file ≡ self.old.file }
         ensures allocator { self.new.allocator ≡ self.old.allocator }
@@ -247,10 +219,7 @@ impl<S: Storage, F: WrappedFormat<S>> Qcow2<S, F> {
         ensures reads { IsHonestBacking S.view F.backing self.old.backing
             → IfOk result (λ done. (length bytes.new ≡ length bytes.old)
             × AreBytesOf (backing_bytes S.view F.backing self.old.backing) offset bytes.new) }
-        ensures faults { CountsImageFaults S.view F.backing self.old self.new result }
-        ensures notes { KeepsFileNotes S.view self.old.file self.new.file }
         ensures below { is_some self.new.backing ≡ is_some self.old.backing }
-        ensures header_cluster { StaysBehindHeader S.view self.old self.new }
     {
         let Some(backing) = &mut self.backing else {
             bytes.fill(0);
@@ -265,24 +234,18 @@ impl<S: Storage, F: WrappedFormat<S>> Qcow2<S, F> {
     /// and 18 (not compressed) with the offset where none does. Where the work meets them: 4 (unaligned table), 8 (everything is in use),
     /// 14 (memory), 15 (storage).
     pub fn readv_special(&mut self, bytes: &mut [u8], offset: u64) -> Result<(), ImageError>
+        ensures step { ReadingCall S.view F.backing self.old self.new result }
         ensures early { IfSome (unusable self.old) (λ e. (result ≡ Err e) × (self.new ≡ self.old)) }
         ensures late { unusable self.old ≡ None → IfErr result (λ e. IsMet e ⊎ (e ≡ NotCompressed offset)) }
         ensures met { (out : List (Option Prepared)) → (abstract_of S.view F.backing self.old out).is_sound
             → IfErr result (IsMetSpecial (IsCacheHeld self.old out) offset) }
         ensures nothing { unusable self.old ≡ None → length bytes.old ≡ 0 → (result ≡ Ok tt) × (self.new ≡ self.old) }
         ensures some { 0 < length bytes.old → IsErr result }
-        ensures marks { MarksFailed self.old self.new result }
-        ensures image { IsSameImage self.old self.new }
-        ensures header { KeepsWholeHeader self.old self.new }
         ensures slice { bytes.new ≡ bytes.old }
         ensures tells { 0 < length bytes.old → (out : List (Option Prepared))
             → (abstract_of S.view F.backing self.old out).is_sound
             → IfErr result (TellsCompressed (known_in S.view self.old.file) offset) }
         ensures sees { AnswersCall S.view F.backing self.old self.new [] (λ done was is. is ≡ was) result }
-        ensures faults { CountsImageFaults S.view F.backing self.old self.new result }
-        ensures once_written { FailsOnceWritten S.view self.old self.new result }
-        ensures quiet { ReadsQuietly S.view self.old self.new }
-        ensures header_cluster { StaysBehindHeader S.view self.old self.new }
     {
         match self.try_readv_special(bytes, offset)? {
             None => Ok(()),
@@ -298,24 +261,18 @@ impl<S: Storage, F: WrappedFormat<S>> Qcow2<S, F> {
         bytes: &mut [u8],
         offset: u64,
     ) -> Result<Option<u64>, ImageError>
+        ensures step { ReadingCall S.view F.backing self.old self.new result }
         ensures early { IfSome (unusable self.old) (λ e. (result ≡ Err e) × (self.new ≡ self.old)) }
         ensures late { unusable self.old ≡ None → IfErr result IsMet }
         ensures met { (out : List (Option Prepared)) → (abstract_of S.view F.backing self.old out).is_sound
             → IfErr result (λ e. IsMetLooking (IsCacheHeld self.old out) e ⊎ (e ≡ Compressed)) }
         ensures nothing { unusable self.old ≡ None → length bytes.old ≡ 0 → (result ≡ Ok None) × (self.new ≡ self.old) }
         ensures some { 0 < length bytes.old → IfOk result (λ at. at ≡ Some offset) }
-        ensures marks { MarksFailed self.old self.new result }
-        ensures image { IsSameImage self.old self.new }
-        ensures header { KeepsWholeHeader self.old self.new }
         ensures slice { bytes.new ≡ bytes.old }
         ensures tells { 0 < length bytes.old → (out : List (Option Prepared))
             → (abstract_of S.view F.backing self.old out).is_sound
             → TellsWhether (known_in S.view self.old.file) offset result }
         ensures sees { AnswersCall S.view F.backing self.old self.new [] (λ at was is. is ≡ was) result }
-        ensures faults { CountsImageFaults S.view F.backing self.old self.new result }
-        ensures once_written { FailsOnceWritten S.view self.old self.new result }
-        ensures quiet { ReadsQuietly S.view self.old self.new }
-        ensures header_cluster { StaysBehindHeader S.view self.old self.new }
     {
         self.check_usable()?;
         if bytes.is_empty() {
@@ -328,21 +285,15 @@ impl<S: Storage, F: WrappedFormat<S>> Qcow2<S, F> {
 
     // An offset at which no compressed cluster stands.
     fn plain_at(&mut self, offset: u64, length: u64) -> Result<Option<u64>, ImageError>
-        ensures stays { ImageStays self.old self.new }
-        ensures header { self.new.file.header ≡ self.old.file.header }
-        ensures cause { IfErr result IsMet }
+        ensures step { ReadingStep S.view self.old self.new }
+        ensures fails { ImageFails S.view F.backing self.old self.new result IsMet }
         ensures met { (p : Pending) (out : List (Option Prepared)) → ImageInvariant S.view F.backing p self.old out
             → IfErr result (λ e. IsMetLooking (IsCacheHeld self.old out) e ⊎ (e ≡ Compressed)) }
-        ensures list { self.new.file.free_list ≡ self.old.file.free_list }
         ensures answer { IfOk result (λ at. at ≡ Some offset) }
         ensures keeps { (p : Pending) (out : List (Option Prepared)) → ImageInvariant S.view F.backing p self.old out
             → UnseenStep S.view F.backing p p self.old self.new out }
         ensures tells { (p : Pending) (out : List (Option Prepared)) → ImageInvariant S.view F.backing p self.old out
             → TellsWhether (known_in S.view self.old.file) offset result }
-        ensures faults { CountsImageFaults S.view F.backing self.old self.new result }
-        ensures notes { KeepsFileNotes S.view self.old.file self.new.file }
-        ensures quiet { ReadsQuietly S.view self.old self.new }
-        ensures header_cluster { StaysBehindHeader S.view self.old self.new }
     {
         let (kind, _length) = self.look_up(offset, length)?;
         if kind.is_special() {
@@ -364,6 +315,7 @@ impl<S: Storage, F: WrappedFormat<S>> Qcow2<S, F> {
         bytes: &[u8],
     ) -> Result<(), ImageError>
         requires { at + length bytes.now ≤ prepared.now.length }
+        ensures step { CallStep S.view F.backing self.old self.new result }
         ensures early { IfSome (refuses_mapping self.old (image_of prepared.now)) (λ e. (result ≡ Err e) × (self.new ≡ self.old)) }
         ensures read_only { 0 < length bytes.now → refuses_mapping self.old (image_of prepared.now) ≡ None
             → is_writable self.old ≡ false → (result ≡ Err ReadOnly) × (self.new ≡ self.old) }
@@ -373,8 +325,6 @@ impl<S: Storage, F: WrappedFormat<S>> Qcow2<S, F> {
             → IfErr result (IsMetPutting (IsCacheHeld self.old out) prepared.now at) }
         ensures nothing { refuses_mapping self.old (image_of prepared.now) ≡ None → length bytes.now ≡ 0
             → (result ≡ Ok tt) × (self.new ≡ self.old) }
-        ensures marks { MarksFailed self.old self.new result }
-        ensures image { IsSameImage self.old self.new }
         ensures header { KeepsWholeHeader self.old self.new }
         ensures outdated { table_of prepared.now ≡ None → (out : List (Option Prepared))
             → (abstract_of S.view F.backing self.old out).is_sound → result ≡ Err OutdatedMapping
@@ -386,13 +336,10 @@ impl<S: Storage, F: WrappedFormat<S>> Qcow2<S, F> {
             (Raw Image (prepared.now.offset + at) true) (length bytes.now)) }
         ensures private { IsSome (table_of prepared.now) → result ≢ Err OutdatedMapping }
         ensures sees { Puts S.view F.backing self.old self.new prepared.now at bytes.now result }
-        ensures faults { CountsImageFaults S.view F.backing self.old self.new result }
-        ensures once_written { FailsOnceWritten S.view self.old self.new result }
         ensures held { refuses_mapping self.old (image_of prepared.now) ≡ None → table_of prepared.now ≡ None
             → 0 < length bytes.now → HeedsHeld self.new (prepared.now.guest + at)
             (Raw Image (prepared.now.offset + at) true) (length bytes.now) result }
         ensures freeing { ListStays self.old self.new }
-        ensures header_cluster { StaysBehindHeader S.view self.old self.new }
         ensures once { PutsOnce S.view F.backing prepared.now at bytes.now self.old self.new result }
     {
         self.check_usable()?;
@@ -416,9 +363,9 @@ impl<S: Storage, F: WrappedFormat<S>> Qcow2<S, F> {
         at: u64,
         bytes: &[u8],
     ) -> Result<(), ImageError>
-        ensures stays { ImageStays self.old self.new }
+        ensures step { ImageStep S.view self.old self.new }
+        ensures fails { ImageFails S.view F.backing self.old self.new result IsMet }
         ensures header { self.new.file.header ≡ self.old.file.header }
-        ensures cause { IfErr result IsMet }
         ensures met { at + length bytes.now ≤ prepared.now.length → 0 < length bytes.now
             → (out : List (Option Prepared)) (k : ℕ) → slice_get out k ≡ Some (Some prepared.now)
             → ImageInvariant S.view F.backing (pending_in S.view F.backing self.old out) self.old out
@@ -437,13 +384,10 @@ impl<S: Storage, F: WrappedFormat<S>> Qcow2<S, F> {
             → (out : List (Option Prepared)) (k : ℕ) → slice_get out k ≡ Some (Some prepared.now)
             → ImageInvariant S.view F.backing (pending_in S.view F.backing self.old out) self.old out
             → PutsPart S.view F.backing self.old self.new out k prepared.now at bytes.now result }
-        ensures faults { CountsImageFaults S.view F.backing self.old self.new result }
-        ensures notes { KeepsFileNotes S.view self.old.file self.new.file }
         ensures list { ListStays self.old self.new }
         ensures held { table_of prepared.now ≡ None → 0 < length bytes.now
             → HeedsHeld self.new (prepared.now.guest + at) (Raw Image (prepared.now.offset + at) true)
             (length bytes.now) result }
-        ensures header_cluster { StaysBehindHeader S.view self.old self.new }
         ensures once { PutsOnce S.view F.backing prepared.now at bytes.now self.old self.new result }
     {
         let Some(host) = prepared.offset.checked_add(at) else {
@@ -461,9 +405,9 @@ impl<S: Storage, F: WrappedFormat<S>> Qcow2<S, F> {
         host: u64,
         length: u64,
     ) -> Result<(), ImageError>
-        ensures stays { ImageStays self.old self.new }
+        ensures step { ImageStep S.view self.old self.new }
+        ensures fails { ImageFails S.view F.backing self.old self.new result IsMet }
         ensures header { self.new.file.header ≡ self.old.file.header }
-        ensures cause { IfErr result IsMet }
         ensures met { (p : Pending) (out : List (Option Prepared)) → ImageInvariant S.view F.backing p self.old out
             → IfErr result (λ e. (table_of prepared.now ≡ None) × IsMetLookingAgain (IsCacheHeld self.old out) e) }
         ensures list { self.new.file.free_list ≡ self.old.file.free_list }
@@ -479,11 +423,8 @@ impl<S: Storage, F: WrappedFormat<S>> Qcow2<S, F> {
             → ImageInvariant S.view F.backing p self.old out
             → OnOk result (IsFoundWhole S.view self.old (prepared.now.guest + at) (Raw Image host true) length) }
         ensures private { IsSome (table_of prepared.now) → result ≡ Ok tt }
-        ensures faults { CountsImageFaults S.view F.backing self.old self.new result }
-        ensures notes { KeepsFileNotes S.view self.old.file self.new.file }
         ensures held { table_of prepared.now ≡ None → 0 < length
             → HeedsHeld self.new (prepared.now.guest + at) (Raw Image host true) length result }
-        ensures header_cluster { StaysBehindHeader S.view self.old self.new }
         ensures idle { IsSome (table_of prepared.now) → self.new ≡ self.old }
     {
         if prepared.table.is_some() {
@@ -500,16 +441,12 @@ impl<S: Storage, F: WrappedFormat<S>> Qcow2<S, F> {
 
     // Writes bytes as data. Cluster 0 is the header's: a place in it, which no entry and no mapping names, is refused 19 (metadata).
     pub(crate) fn write_data(&mut self, host: u64, bytes: &[u8]) -> Result<(), ImageError>
-        ensures stays { ImageStays self.old self.new }
+        ensures step { ImageStep S.view self.old self.new }
+        ensures fails { FailsUnlimited S.view F.backing self.old self.new result IsMet }
         ensures header { self.new.file.header ≡ self.old.file.header }
-        ensures cause { IfErr result IsMet }
         ensures fault { cluster_size self.old.file.header.fields ≤ host → IfErr result IsFault }
-        ensures limited { IfErr result IsUnlimited }
         ensures current { result ≢ Err OutdatedMapping }
         ensures written { WritesBytes S.view self.old self.new host bytes.now result }
-        ensures faults { CountsImageFaults S.view F.backing self.old self.new result }
-        ensures notes { KeepsFileNotes S.view self.old.file self.new.file }
-        ensures header_cluster { StaysBehindHeader S.view self.old self.new }
     {
         if host < self.file.header.cluster_size() {
             return Err(ImageError::Metadata);

@@ -1,4 +1,6 @@
 //! A longer L1 table, in the place of the former one.
+ghost use Rattle.qcow2_image.specs.SoundParts.{EntrySoundly};
+ghost use Rattle.qcow2_image.specs.ImageSteps.{ImageFails, ImageStep};
 ghost use Rattle.qcow2_metadata.specs.TableBytes.{entry_at};
 ghost use Rattle.qcow2_image.specs.BehindHeader.{KeepsL1TableBehind, StaysBehindHeader};
 ghost use Rattle.qcow2_alloc.specs.ImageError.{IsFault};
@@ -13,7 +15,6 @@ ghost use Rattle.qcow2_image.specs.Image.{HasNothingToFree, ImageStays, is_writa
 ghost use Rattle.qcow2_image.specs.ImageInvariant.{ImageInvariant, pending_in};
 ghost use Rattle.qcow2_image.specs.ListedClusters.{SomeGaveWay};
 ghost use Rattle.qcow2_image.specs.LongerTables.{run_of_table, listed, with_table, IsLongerL1, StandsWhole, PlacesTable, NamesTable, NamesTaken, TakesTable, Lengthens, MakesEntry};
-ghost use Rattle.qcow2_image.specs.NewTables.{IsFaultOrLacksTable};
 ghost use Rattle.qcow2_alloc.specs.declared.error.ImageError.TheVariants.{Limit};
 ghost use Rattle.qcow2_image.specs.LackedPlaces.{EndsBefore, HasNoTablePlace, IsPlacedNear, LacksLongerTable, StandsInWay};
 ghost use Rattle.qcow2_image.specs.Refusals.{IsFaultOrLimit, IsMet};
@@ -32,22 +33,15 @@ impl<S: Storage, F: WrappedFormat<S>> Qcow2<S, F> {
     // Sees to it that there is an L1 entry for an offset. Where the L1 table is too short for it, a longer one takes its place, and the clusters that are to be freed are freed then.
     pub(crate) fn reach_entry(&mut self, offset: u64) -> Result<(), ImageError>
         requires writable { IsTrue (is_writable self.old) }
-        ensures stays { ImageStays self.old self.new }
-        ensures notes { KeepsFileNotes S.view self.old.file self.new.file }
-        ensures header_cluster { StaysBehindHeader S.view self.old self.new }
-        ensures cause { IfErr result IsMet }
-        ensures fault { (out : List (Option Prepared))
+        ensures step { ImageStep S.view self.old self.new }
+        ensures fails { ImageFails S.view F.backing self.old self.new result IsMet }
+        ensures sound { (out : List (Option Prepared))
             → ImageInvariant S.view F.backing (pending_in S.view F.backing self.old out) self.old out
-            → IfErr result IsFaultOrLimit }
-        ensures limit { (out : List (Option Prepared))
-            → ImageInvariant S.view F.backing (pending_in S.view F.backing self.old out) self.old out
-            → IfErr result (λ e. e ≡ Limit → EndsBefore offset self.old
+            → EntrySoundly S.view F.backing offset self.old self.new result
+            (MakesEntry S.view F.backing self.old self.new out result) (EndsBefore offset self.old
             × LacksLongerTable S.view (l1_index_of self.old.file.header.fields offset)
             (l1_index_of self.old.file.header.fields offset + 1) self.old.file.free_list self.old self.new) }
         ensures former { OnOk result (SomeGaveWay self.old self.new) }
-        ensures lacks { (out : List (Option Prepared))
-            → ImageInvariant S.view F.backing (pending_in S.view F.backing self.old out) self.old out
-            → IfErr result (IsFaultOrLacksTable S.view self.new offset) }
         ensures length { OnOk result (entry_count self.new.l1_table ≡ max (entry_count self.old.l1_table)
             (l1_index_of self.old.file.header.fields offset + 1)) }
         ensures placed { EndsBefore offset self.old
@@ -56,11 +50,7 @@ impl<S: Storage, F: WrappedFormat<S>> Qcow2<S, F> {
         ensures none { l1_index_of self.old.file.header.fields offset < entry_count self.old.l1_table → self.new ≡ self.old }
         ensures emptied { entry_count self.old.l1_table ≤ l1_index_of self.old.file.header.fields offset
             → OnOk result (HasNothingToFree self.new) }
-        ensures makes { (out : List (Option Prepared))
-            → ImageInvariant S.view F.backing (pending_in S.view F.backing self.old out) self.old out
-            → MakesEntry S.view F.backing self.old self.new out result }
         ensures kept { OnOk result ((i : ℕ) → entry_at self.new.l1_table.bytes i ≡ entry_at self.old.l1_table.bytes i) }
-        ensures faults { CountsImageFaults S.view F.backing self.old self.new result }
     {
         let index = GuestOffset::new(offset).l1_index(self.file.header.cluster_bits());
         if self.l1_table.in_bounds(index) {
@@ -72,10 +62,8 @@ impl<S: Storage, F: WrappedFormat<S>> Qcow2<S, F> {
 
     // Makes a new L1 table that has an entry of this index, with all old entries. The clusters of the old one are to be freed.
     pub(crate) fn grow_l1_table(&mut self, index: usize) -> Result<(), ImageError>
-        ensures stays { ImageStays self.old self.new }
-        ensures notes { KeepsFileNotes S.view self.old.file self.new.file }
+        ensures step { ImageStep S.view self.old self.new }
         ensures noted { OnOk result (IsTrue self.new.file.caches.is_changed) }
-        ensures header_cluster { StaysBehindHeader S.view self.old self.new }
         ensures cause { IsTrue (is_writable self.old) → IfErr result IsMet }
         ensures limit { (p : Pending) (out : List (Option Prepared)) → ImageInvariant S.view F.backing p self.old out
             → IfErr result (λ e. e ≡ Limit
@@ -161,11 +149,11 @@ impl<S: Storage, F: WrappedFormat<S>> Qcow2<S, F> {
     // Writes an L1 table to clusters that were taken for it, and then the pointer that names it. Where that is refused, they are listed to be freed.
     fn write_taken(&mut self, table: L1Table, taken: PendingClusters) -> Result<(), ImageError>
         requires { IsHostCluster self.old.file.header.fields.cluster_bits taken.first_cluster }
+        ensures fails { ImageFails S.view F.backing self.old self.new result IsMet }
         ensures stays { ImageStays self.old self.new }
         ensures notes { KeepsFileNotes S.view self.old.file self.new.file }
         ensures header_cluster { table.cluster_bits ≡ self.old.l1_table.cluster_bits → 0 < taken.first_cluster
             → StaysBehindHeader S.view self.old self.new }
-        ensures cause { IfErr result IsMet }
         ensures fault { (p : Pending) (out : List (Option Prepared))
             → ImageInvariant S.view F.backing (with_table p table taken.first_cluster) self.old out
             → IsLongerL1 self.old table → IfErr result IsFault }
@@ -178,7 +166,6 @@ impl<S: Storage, F: WrappedFormat<S>> Qcow2<S, F> {
         ensures placed { OnOk result (self.new.l1_table ≡ record table { cluster = Some taken.first_cluster }) }
         ensures kept { OnOk result (self.new.file.free_list ≡ self.old.file.free_list) }
         ensures listed { OnErr result (self.new.file.free_list ≡ self.old.file.free_list ++ taken ∷ []) }
-        ensures faults { CountsImageFaults S.view F.backing self.old self.new result }
     {
         let done = self.write_l1_table(table, taken.cluster());
         keep_or_list(taken, done, &mut self.file.free_list)
@@ -187,11 +174,11 @@ impl<S: Storage, F: WrappedFormat<S>> Qcow2<S, F> {
     // The table is written first, then the pointer that names it.
     fn write_l1_table(&mut self, mut table: L1Table, cluster: HostCluster) -> Result<(), ImageError>
         requires { IsHostCluster self.old.file.header.fields.cluster_bits cluster }
+        ensures fails { ImageFails S.view F.backing self.old self.new result IsMet }
         ensures stays { ImageStays self.old self.new }
         ensures notes { KeepsFileNotes S.view self.old.file self.new.file }
         ensures header_cluster { table.cluster_bits ≡ self.old.l1_table.cluster_bits → 0 < cluster
             → StaysBehindHeader S.view self.old self.new }
-        ensures cause { IfErr result IsMet }
         ensures fault { (p : Pending) (out : List (Option Prepared))
             → ImageInvariant S.view F.backing (with_table p table cluster) self.old out → IsLongerL1 self.old table
             → IfErr result IsFault }
@@ -203,7 +190,6 @@ impl<S: Storage, F: WrappedFormat<S>> Qcow2<S, F> {
         ensures entries { OnOk result (entry_count self.new.l1_table ≡ entry_count table) }
         ensures placed { OnOk result (self.new.l1_table ≡ record table { cluster = Some cluster }) }
         ensures list { self.new.file.free_list ≡ self.old.file.free_list }
-        ensures faults { CountsImageFaults S.view F.backing self.old self.new result }
     {
         self.place_l1_table(&mut table, cluster)?;
         self.name_l1_table(table, cluster)
@@ -215,10 +201,10 @@ impl<S: Storage, F: WrappedFormat<S>> Qcow2<S, F> {
         table: &mut L1Table,
         cluster: HostCluster,
     ) -> Result<(), ImageError>
+        ensures fails { ImageFails S.view F.backing self.old self.new result IsMet }
         ensures notes { KeepsFileNotes S.view self.old.file self.new.file }
         ensures header_cluster { table.old.cluster_bits ≡ self.old.l1_table.cluster_bits → 0 < cluster
             → StaysBehindHeader S.view self.old self.new }
-        ensures cause { IfErr result IsMet }
         ensures fault { (p : Pending) (out : List (Option Prepared))
             → ImageInvariant S.view F.backing (with_table p table.old cluster) self.old out
             → IsHostCluster table.old.cluster_bits cluster → IfErr result IsFault }
@@ -235,7 +221,6 @@ impl<S: Storage, F: WrappedFormat<S>> Qcow2<S, F> {
             → PlacesTable S.view F.backing
             (with_table p table.old cluster) self.old self.new out table.new cluster result }
         ensures table { OnOk result (table.new ≡ record table.old { cluster = Some cluster }) }
-        ensures faults { CountsImageFaults S.view F.backing self.old self.new result }
     {
         if !cluster.is_nameable(table.cluster_bits()) {
             return Err(ImageError::Limit);
@@ -250,10 +235,10 @@ impl<S: Storage, F: WrappedFormat<S>> Qcow2<S, F> {
     // Writes the pointer that names an L1 table, which is the image's own then.
     fn name_l1_table(&mut self, table: L1Table, cluster: HostCluster) -> Result<(), ImageError>
         requires { IsHostCluster self.old.file.header.fields.cluster_bits cluster }
+        ensures fails { ImageFails S.view F.backing self.old self.new result IsMet }
         ensures stays { ImageStays self.old self.new }
         ensures notes { KeepsFileNotes S.view self.old.file self.new.file }
         ensures header_cluster { KeepsL1TableBehind self.old.l1_table table → StaysBehindHeader S.view self.old self.new }
-        ensures cause { IfErr result IsMet }
         ensures fault { IfErr result IsFault }
         ensures allocator { self.new.allocator ≡ self.old.allocator }
         ensures names { (p : Pending) (out : List (Option Prepared))
@@ -263,7 +248,6 @@ impl<S: Storage, F: WrappedFormat<S>> Qcow2<S, F> {
         ensures entries { OnOk result (entry_count self.new.l1_table ≡ entry_count table) }
         ensures table { OnOk result (self.new.l1_table ≡ table) }
         ensures list { self.new.file.free_list ≡ self.old.file.free_list }
-        ensures faults { CountsImageFaults S.view F.backing self.old self.new result }
     {
         let offset = cluster.offset(self.file.header.cluster_bits());
         self.file.header.set_l1_table(offset, table.len() as u32)?;

@@ -1,32 +1,30 @@
 //! The L2 table of a range: found, made, or put in the place of one that others may name too.
-ghost use Rattle.qcow2_image.specs.BehindHeader.{StaysBehindHeader};
-ghost use Rattle.qcow2_alloc.specs.KeptMarks.{KeepsFileNotes};
-ghost use Rattle.std.specs.Prelude.{List, Option, is_some, ◌≡◌, ◌≢◌, ◌-◌, ◌*◌, Some, ◌^◌, ◌<◌, ◌↔◌, IfOk, IfErr, OnOk, IsSome, IsTrue, Ok, Err, length, ◌⊎◌};
+ghost use Rattle.qcow2_image.specs.SoundParts.{EnsuresSoundly, OwnsSoundly, TableSoundly};
+ghost use Rattle.qcow2_image.specs.ImageSteps.{ImageFails, ImageStep, ImageStepWhere};
+ghost use Rattle.std.specs.Prelude.{List, Option, ◌≡◌, ◌≢◌, ◌-◌, ◌*◌, Some, ◌^◌, ◌<◌, ◌↔◌, IfOk, IfErr, OnOk, IsSome, IsTrue, Ok, Err, length, ◌⊎◌};
 ghost use Rattle.qcow2_image.specs.MetAlone.{KeepsL1Place, IsMetLooking, IsMetTaking};
 ghost use Rattle.qcow2_metadata.specs.L2Mapping.{IsHostCluster};
 ghost use Rattle.qcow2_metadata.specs.EntryTable.{entry_count, HasRoomIfPlaced};
 ghost use Rattle.qcow2_alloc.specs.ImageError.{IsFault};
 ghost use Rattle.qcow2_image.specs.Backings.{HasPrepared};
-ghost use Rattle.qcow2_image.specs.Image.{ImageStays, KeepsRest, KeepsRestOn, is_writable};
+ghost use Rattle.qcow2_image.specs.Image.{KeepsRest, KeepsRestOn, is_writable};
 ghost use Rattle.qcow2_laws.specs.CrashInvariant.{Pending};
 ghost use Rattle.qcow2_alloc.specs.ImageFile.{known_in};
 ghost use Rattle.qcow2_alloc.specs.MetadataCaches.{l2_at, order_of};
 ghost use Rattle.qcow2_laws.specs.Clusters.{RbDependsOnL2};
 ghost use Rattle.qcow2_image.specs.declared.prepared.Prepared.{Prepared};
-ghost use Rattle.qcow2_image.specs.CallParts.{FindsTable};
 ghost use Rattle.qcow2_image.specs.Found.{l1_index_of};
 ghost use Rattle.qcow2_image.specs.UnseenSteps.{Ensures};
 ghost use Rattle.qcow2_image.specs.ImageInvariant.{ImageInvariant, pending_in};
-ghost use Rattle.qcow2_image.specs.L1Entries.{HasFarEntry, HasOwnTable, NeedsFarEntry};
-ghost use Rattle.qcow2_image.specs.ListedClusters.{KeepsList, ListsSinceTable, SomeGaveWay, ListsNoMore};
-ghost use Rattle.qcow2_image.specs.NewTables.{IsFaultOrKeepsL1Table, IsFaultOrLacksTable, SaysKnown, IsStored, StandsReady, MayName, NamesShared, PlacesNewTable, Stores, NamesNew, WritesNew, EntersTable, OwnsTable};
+ghost use Rattle.qcow2_image.specs.L1Entries.{HasFarEntry, HasOwnTable};
+ghost use Rattle.qcow2_image.specs.ListedClusters.{KeepsList, SomeGaveWay};
+ghost use Rattle.qcow2_image.specs.NewTables.{IsFaultOrKeepsL1Table, SaysKnown, IsStored, StandsReady, MayName, NamesShared, PlacesNewTable, Stores, NamesNew, WritesNew, EntersTable, OwnsTable};
 ghost use Rattle.qcow2_alloc.specs.TableCaches.{IsTableOf};
 ghost use Rattle.qcow2_laws.specs.Changes.{one_at, with_new_tables};
 ghost use Rattle.qcow2_metadata.specs.L2Table.{L2TableView};
 ghost use Rattle.qcow2_image.specs.PinnedTables.{FindsOwn, own_table};
-ghost use Rattle.qcow2_image.specs.LackedPlaces.{HasNearEntry, IsLimitedByCluster, IsLimitedByTable};
+ghost use Rattle.qcow2_image.specs.LackedPlaces.{HasNearEntry, IsLimitedByCluster};
 ghost use Rattle.qcow2_image.specs.Refusals.{IsMet, IsUnlimited};
-ghost use Rattle.qcow2_image.specs.Faults.{CountsImageFaults};
 
 use crate::Qcow2;
 use image_access::{Storage, WrappedFormat};
@@ -39,34 +37,16 @@ impl<S: Storage, F: WrappedFormat<S>> Qcow2<S, F> {
     // An L1 entry that would lie past 64 bits isn't written.
     pub(crate) fn table_for(&mut self, offset: u64) -> Result<HostCluster, ImageError>
         requires writable { IsTrue (is_writable self.old) }
-        ensures stays { ImageStays self.old self.new }
-        ensures notes { KeepsFileNotes S.view self.old.file self.new.file }
+        ensures step { ImageStep S.view self.old self.new }
+        ensures fails { ImageFails S.view F.backing self.old self.new result IsMet }
         ensures elsewhere { IfOk result (λ table. 0 < table) }
-        ensures header_cluster { StaysBehindHeader S.view self.old self.new }
-        ensures cause { IfErr result IsMet }
-        ensures met { (out : List (Option Prepared))
+        ensures sound { (out : List (Option Prepared))
             → ImageInvariant S.view F.backing (pending_in S.view F.backing self.old out) self.old out
-            → IfErr result (IsMetTaking (HasPrepared out) ⊥ ⊥ (NeedsFarEntry self.old offset)) }
+            → TableSoundly S.view F.backing offset self.old self.new out result }
         ensures l1_place { l1_index_of self.old.file.header.fields offset < entry_count self.old.l1_table
             → OnOk result (KeepsL1Place self.old.file.header.fields self.new.file.header.fields) }
-        ensures limit { (out : List (Option Prepared))
-            → ImageInvariant S.view F.backing (pending_in S.view F.backing self.old out) self.old out
-            → IfErr result (IsLimitedByTable S.view offset self.old self.new) }
-        ensures lacks { (out : List (Option Prepared))
-            → ImageInvariant S.view F.backing (pending_in S.view F.backing self.old out) self.old out
-            → (HasPrepared out → ⊥) → IfErr result (IsFaultOrLacksTable S.view self.new offset) }
         ensures cached { IfOk result (λ table. IsSome (l2_at self.new.file.caches table)) }
-        ensures finds { (out : List (Option Prepared))
-            → ImageInvariant S.view F.backing (pending_in S.view F.backing self.old out) self.old out
-            → FindsTable S.view F.backing self.old self.new out offset result }
-        ensures freed { (out : List (Option Prepared))
-            → ImageInvariant S.view F.backing (pending_in S.view F.backing self.old out) self.old out
-            → OnOk result (ListsSinceTable offset self.old self.new) }
-        ensures freeing { (out : List (Option Prepared))
-            → ImageInvariant S.view F.backing (pending_in S.view F.backing self.old out) self.old out
-            → OnOk result (ListsNoMore self.old self.new) }
         ensures own { HasOwnTable self.old offset → FindsOwn self.old self.new offset result }
-        ensures faults { CountsImageFaults S.view F.backing self.old self.new result }
     {
         if self.has_own_l2(offset) {
             return self.ensure_l2(offset);
@@ -102,22 +82,14 @@ impl<S: Storage, F: WrappedFormat<S>> Qcow2<S, F> {
     // The L2 table that covers an offset, held in its cache and marked copied. Where there is none, or it isn't, one is made.
     pub(crate) fn ensure_l2(&mut self, offset: u64) -> Result<HostCluster, ImageError>
         requires writable { IsTrue (is_writable self.old) }
-        ensures stays { ImageStays self.old self.new }
+        ensures step { ImageStep S.view self.old self.new }
+        ensures fails { ImageFails S.view F.backing self.old self.new result IsMet }
         ensures keeps_rest { KeepsRestOn self.old self.new }
-        ensures notes { KeepsFileNotes S.view self.old.file self.new.file }
         ensures elsewhere { IfOk result (λ table. 0 < table) }
-        ensures header_cluster { StaysBehindHeader S.view self.old self.new }
-        ensures cause { IfErr result IsMet }
-        ensures met { (p : Pending) (out : List (Option Prepared)) → ImageInvariant S.view F.backing p self.old out
-            → (HasOwnTable self.old offset ⊎ HasNearEntry self.old (l1_index_of self.old.file.header.fields offset))
-            → IfErr result (IsMetTaking (HasPrepared out) ⊥ ⊥ ⊥) }
-        ensures limited { (p : Pending) (out : List (Option Prepared)) → ImageInvariant S.view F.backing p self.old out
-            → HasOwnTable self.old offset → IfErr result IsUnlimited }
-        ensures lacks { (p : Pending) (out : List (Option Prepared)) → ImageInvariant S.view F.backing p self.old out
-            → (HasPrepared out → ⊥) → IfErr result (IsFaultOrLacksTable S.view self.new offset) }
+        ensures sound { (p : Pending) (out : List (Option Prepared)) → ImageInvariant S.view F.backing p self.old out
+            → EnsuresSoundly S.view F.backing offset self.old self.new out result
+            (Ensures S.view F.backing p self.old self.new out offset result) }
         ensures cached { IfOk result (λ table. IsSome (l2_at self.new.file.caches table)) }
-        ensures ready { (p : Pending) (out : List (Option Prepared)) → ImageInvariant S.view F.backing p self.old out
-            → Ensures S.view F.backing p self.old self.new out offset result }
         ensures quiet { HasOwnTable self.old offset → KeepsList self.old self.new }
         ensures rest { HasOwnTable self.old offset
             → self.new ≡ record self.old {
@@ -128,7 +100,6 @@ impl<S: Storage, F: WrappedFormat<S>> Qcow2<S, F> {
               };
             } }
         ensures own { HasOwnTable self.old offset → FindsOwn self.old self.new offset result }
-        ensures faults { CountsImageFaults S.view F.backing self.old self.new result }
     {
         let cluster = self.own_l2(offset)?;
         self.file
@@ -140,29 +111,16 @@ impl<S: Storage, F: WrappedFormat<S>> Qcow2<S, F> {
     // Where the L2 table that covers an offset lies, which is marked copied then.
     fn own_l2(&mut self, offset: u64) -> Result<HostCluster, ImageError>
         requires writable { IsTrue (is_writable self.old) }
-        ensures stays { ImageStays self.old self.new }
+        ensures step { ImageStep S.view self.old self.new }
+        ensures fails { ImageFails S.view F.backing self.old self.new result IsMet }
         ensures keeps_rest { KeepsRestOn self.old self.new }
-        ensures notes { KeepsFileNotes S.view self.old.file self.new.file }
         ensures elsewhere { IfOk result (λ table. 0 < table) }
-        ensures header_cluster { StaysBehindHeader S.view self.old self.new }
-        ensures cause { IfErr result IsMet }
-        ensures met { (p : Pending) (out : List (Option Prepared)) → ImageInvariant S.view F.backing p self.old out
-            → (HasOwnTable self.old offset ⊎ HasNearEntry self.old (l1_index_of self.old.file.header.fields offset))
-            → IfErr result (IsMetTaking (HasPrepared out) ⊥ ⊥ ⊥) }
-        ensures limited { (p : Pending) (out : List (Option Prepared)) → ImageInvariant S.view F.backing p self.old out
-            → HasOwnTable self.old offset → IfErr result IsUnlimited }
-        ensures limit { (p : Pending) (out : List (Option Prepared)) → ImageInvariant S.view F.backing p self.old out
-            → HasNearEntry self.old (l1_index_of self.old.file.header.fields offset)
-            → IfErr result (IsLimitedByCluster S.view self.old self.new) }
+        ensures sound { (p : Pending) (out : List (Option Prepared)) → ImageInvariant S.view F.backing p self.old out
+            → OwnsSoundly S.view F.backing offset self.old self.new out result
+            (OwnsTable S.view F.backing p self.old self.new out (l1_index_of self.old.file.header.fields offset) result) }
         ensures former { OnOk result (SomeGaveWay self.old self.new) }
-        ensures lacks { (p : Pending) (out : List (Option Prepared)) → ImageInvariant S.view F.backing p self.old out
-            → IfErr result (IsFaultOrLacksTable S.view self.new offset) }
-        ensures owns { (p : Pending) (out : List (Option Prepared)) → ImageInvariant S.view F.backing p self.old out
-            → OwnsTable S.view F.backing p self.old self.new out
-            (l1_index_of self.old.file.header.fields offset) result }
         ensures quiet { HasOwnTable self.old offset → self.new ≡ self.old }
         ensures own { HasOwnTable self.old offset → IfOk result (λ table. table ≡ own_table self.old offset) }
-        ensures faults { CountsImageFaults S.view F.backing self.old self.new result }
     {
         let bits = self.file.header.cluster_bits();
         let index = GuestOffset::new(offset).l1_index(bits);
@@ -185,12 +143,10 @@ impl<S: Storage, F: WrappedFormat<S>> Qcow2<S, F> {
     // Puts a copy in the place of a table that others may name too.
     fn replace_l2(&mut self, index: usize, old: HostCluster) -> Result<HostCluster, ImageError>
         requires writable { IsTrue (is_writable self.old) }
-        ensures stays { ImageStays self.old self.new }
+        ensures step { ImageStepWhere S.view (0 < old) self.old self.new }
+        ensures fails { ImageFails S.view F.backing self.old self.new result IsMet }
         ensures keeps_rest { KeepsRestOn self.old self.new }
-        ensures notes { KeepsFileNotes S.view self.old.file self.new.file }
         ensures elsewhere { IfOk result (λ table. 0 < table) }
-        ensures header_cluster { 0 < old → StaysBehindHeader S.view self.old self.new }
-        ensures cause { IfErr result IsMet }
         ensures met { (p : Pending) (out : List (Option Prepared)) → ImageInvariant S.view F.backing p self.old out
             → NamesShared S.view self.old index old → HasNearEntry self.old index
             → IfErr result (IsMetTaking (HasPrepared out) ⊥ ⊥ ⊥) }
@@ -201,7 +157,6 @@ impl<S: Storage, F: WrappedFormat<S>> Qcow2<S, F> {
         ensures l1_table { IfErr result (IsFaultOrKeepsL1Table self.old self.new) }
         ensures owns { (p : Pending) (out : List (Option Prepared)) → ImageInvariant S.view F.backing p self.old out
             → NamesShared S.view self.old index old → OwnsTable S.view F.backing p self.old self.new out index result }
-        ensures faults { CountsImageFaults S.view F.backing self.old self.new result }
     {
         self.file
             .caches
@@ -221,12 +176,10 @@ impl<S: Storage, F: WrappedFormat<S>> Qcow2<S, F> {
         table: L2Table,
     ) -> Result<HostCluster, ImageError>
         requires writable { IsTrue (is_writable self.old) }
-        ensures stays { ImageStays self.old self.new }
+        ensures step { ImageStep S.view self.old self.new }
+        ensures fails { ImageFails S.view F.backing self.old self.new result IsMet }
         ensures keeps_rest { KeepsRestOn self.old self.new }
-        ensures notes { KeepsFileNotes S.view self.old.file self.new.file }
         ensures elsewhere { IfOk result (λ table. 0 < table) }
-        ensures header_cluster { StaysBehindHeader S.view self.old self.new }
-        ensures cause { IfErr result IsMet }
         ensures met { (p : Pending) (out : List (Option Prepared)) → ImageInvariant S.view F.backing p self.old out
             → NamesShared S.view self.old index old
             → SaysKnown self.old.file.header.fields (known_in S.view self.old.file) index table
@@ -241,7 +194,6 @@ impl<S: Storage, F: WrappedFormat<S>> Qcow2<S, F> {
             → NamesShared S.view self.old index old
             → SaysKnown self.old.file.header.fields (known_in S.view self.old.file) index table
             → OwnsTable S.view F.backing p self.old self.new out index result }
-        ensures faults { CountsImageFaults S.view F.backing self.old self.new result }
     {
         let entry = ClustersToFreeEntry::metadata(old, ClusterCount::new(1));
         let dropped = ClustersToFreeList::pending_guard(self.file.alloc, entry)?;
@@ -260,12 +212,10 @@ impl<S: Storage, F: WrappedFormat<S>> Qcow2<S, F> {
     // Gives a table a cluster, writes it there, and then the L1 entry that names it.
     fn enter_l2(&mut self, index: usize, table: L2Table) -> Result<HostCluster, ImageError>
         requires writable { IsTrue (is_writable self.old) }
-        ensures stays { ImageStays self.old self.new }
+        ensures step { ImageStep S.view self.old self.new }
+        ensures fails { ImageFails S.view F.backing self.old self.new result IsMet }
         ensures keeps_rest { KeepsRestOn self.old self.new }
-        ensures notes { KeepsFileNotes S.view self.old.file self.new.file }
         ensures elsewhere { IfOk result (λ table. 0 < table) }
-        ensures header_cluster { StaysBehindHeader S.view self.old self.new }
-        ensures cause { IfErr result IsMet }
         ensures met { (p : Pending) (out : List (Option Prepared)) → ImageInvariant S.view F.backing p self.old out
             → MayName S.view self.old index
             → SaysKnown self.old.file.header.fields (known_in S.view self.old.file) index table
@@ -280,7 +230,6 @@ impl<S: Storage, F: WrappedFormat<S>> Qcow2<S, F> {
             → MayName S.view self.old index
             → SaysKnown self.old.file.header.fields (known_in S.view self.old.file) index table
             → EntersTable S.view F.backing p self.old self.new out index result }
-        ensures faults { CountsImageFaults S.view F.backing self.old self.new result }
     {
         let Some(allocator) = &mut self.allocator else {
             unreachable!();
@@ -306,11 +255,9 @@ impl<S: Storage, F: WrappedFormat<S>> Qcow2<S, F> {
         cluster: HostCluster,
         table: L2Table,
     ) -> Result<(), ImageError>
-        ensures stays { ImageStays self.old self.new }
+        ensures step { ImageStepWhere S.view (0 < cluster) self.old self.new }
+        ensures fails { ImageFails S.view F.backing self.old self.new result IsMet }
         ensures keeps_rest { KeepsRest self.old self.new }
-        ensures notes { KeepsFileNotes S.view self.old.file self.new.file }
-        ensures header_cluster { 0 < cluster → StaysBehindHeader S.view self.old self.new }
-        ensures cause { IfErr result IsMet }
         ensures met { (p : Pending) (out : List (Option Prepared))
             → ImageInvariant S.view F.backing (with_new_tables p (one_at cluster)) self.old out
             → SaysKnown self.old.file.header.fields (known_in S.view self.old.file) index table
@@ -329,7 +276,6 @@ impl<S: Storage, F: WrappedFormat<S>> Qcow2<S, F> {
             → MayName S.view self.old index → IsTrue self.old.file.caches.is_changed
             → SaysKnown self.old.file.header.fields (known_in S.view self.old.file) index table
             → WritesNew S.view F.backing p self.old self.new out index cluster result }
-        ensures faults { CountsImageFaults S.view F.backing self.old self.new result }
     {
         if !self.can_enter(index, cluster) {
             return Err(ImageError::Limit);
@@ -341,11 +287,9 @@ impl<S: Storage, F: WrappedFormat<S>> Qcow2<S, F> {
 
     // Writes what has to stand on the storage before an L1 entry names a new table: counts, and the L2 tables before them where the direction asks for it.
     fn store_first(&mut self) -> Result<(), ImageError>
-        ensures stays { ImageStays self.old self.new }
+        ensures step { ImageStep S.view self.old self.new }
+        ensures fails { ImageFails S.view F.backing self.old self.new result IsMet }
         ensures keeps_rest { KeepsRest self.old self.new }
-        ensures notes { KeepsFileNotes S.view self.old.file self.new.file }
-        ensures header_cluster { StaysBehindHeader S.view self.old self.new }
-        ensures cause { IfErr result IsMet }
         ensures fault { (p : Pending) (out : List (Option Prepared)) → ImageInvariant S.view F.backing p self.old out → IfErr result IsFault }
         ensures limited { (p : Pending) (out : List (Option Prepared)) → ImageInvariant S.view F.backing p self.old out
             → IfErr result IsUnlimited }
@@ -359,18 +303,15 @@ impl<S: Storage, F: WrappedFormat<S>> Qcow2<S, F> {
         ensures stores { (p : Pending) (out : List (Option Prepared)) → ImageInvariant S.view F.backing p self.old out
             → Stores S.view F.backing p self.old self.new out result }
         ensures tables { order_of self.old.file.caches ≢ RbDependsOnL2 → self.new.file.caches.l2 ≡ self.old.file.caches.l2 }
-        ensures faults { CountsImageFaults S.view F.backing self.old self.new result }
     {
         self.file.caches.flush_rb(&mut self.file.storage)
     }
 
     // Writes a table's bytes to a cluster, and puts the table into its cache. One of another cluster size than the image's, which no cache holds, is refused 19 (metadata).
     fn place_l2(&mut self, cluster: HostCluster, mut table: L2Table) -> Result<(), ImageError>
-        ensures stays { ImageStays self.old self.new }
+        ensures step { ImageStepWhere S.view (0 < cluster) self.old self.new }
+        ensures fails { ImageFails S.view F.backing self.old self.new result IsMet }
         ensures keeps_rest { KeepsRest self.old self.new }
-        ensures notes { KeepsFileNotes S.view self.old.file self.new.file }
-        ensures header_cluster { 0 < cluster → StaysBehindHeader S.view self.old self.new }
-        ensures cause { IfErr result IsMet }
         ensures met { (p : Pending) (out : List (Option Prepared)) → ImageInvariant S.view F.backing p self.old out
             → 0 < p.new_tables cluster → IsTableOf self.old.file.header.fields table → IsStored S.view self.old
             → IsHostCluster table.cluster_bits cluster → IfErr result (IsMetLooking (HasPrepared out)) }
@@ -388,7 +329,6 @@ impl<S: Storage, F: WrappedFormat<S>> Qcow2<S, F> {
         ensures places { (p : Pending) (out : List (Option Prepared)) → ImageInvariant S.view F.backing p self.old out
             → 0 < p.new_tables cluster → IsTableOf self.old.file.header.fields table → IsStored S.view self.old
             → PlacesNewTable S.view F.backing p self.old self.new out cluster table.bytes result }
-        ensures faults { CountsImageFaults S.view F.backing self.old self.new result }
     {
         if !cluster.is_nameable(table.cluster_bits()) {
             return Err(ImageError::Limit);
@@ -409,11 +349,9 @@ impl<S: Storage, F: WrappedFormat<S>> Qcow2<S, F> {
         requires placed { IsSome self.old.l1_table.cluster }
         requires room { HasRoomIfPlaced self.old.l1_table.cluster_bits (8 * index) self.old.l1_table.cluster }
         requires nameable { IsHostCluster self.old.l1_table.cluster_bits cluster }
-        ensures stays { ImageStays self.old self.new }
+        ensures step { ImageStep S.view self.old self.new }
+        ensures fails { ImageFails S.view F.backing self.old self.new result IsMet }
         ensures keeps_rest { KeepsRest self.old self.new }
-        ensures notes { KeepsFileNotes S.view self.old.file self.new.file }
-        ensures header_cluster { StaysBehindHeader S.view self.old self.new }
-        ensures cause { IfErr result IsMet }
         ensures allocator { self.new.allocator ≡ self.old.allocator }
         ensures fault { IfErr result IsFault }
         ensures list { self.new.file.free_list ≡ self.old.file.free_list }
@@ -423,7 +361,6 @@ impl<S: Storage, F: WrappedFormat<S>> Qcow2<S, F> {
             → SaysKnown self.old.file.header.fields (known_in S.view self.old.file) index table
             → length table.bytes ≡ 2 ^ table.cluster_bits → StandsReady S.view self.old cluster table.bytes
             → NamesNew S.view F.backing p self.old self.new out index cluster result }
-        ensures faults { CountsImageFaults S.view F.backing self.old self.new result }
     {
         self.file.storage.will_write(WriteKind::Other);
         self.l1_table.enter_l2_table(index, cluster);

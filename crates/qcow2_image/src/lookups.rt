@@ -1,20 +1,17 @@
 //! What stands at a guest offset, and for how many bytes all is mapped alike.
+ghost use Rattle.qcow2_image.specs.ImageSteps.{ImageFails, ReadingCall, ReadingStep};
 ghost use Rattle.qcow2_disk.specs.Alike.{IsAlike};
-ghost use Rattle.qcow2_image.specs.BehindHeader.{StaysBehindHeader};
 ghost use Rattle.std.specs.Prelude.{◌↔◌, List, Option, is_some, ◌≡◌, ◌+◌, ◌*◌, ◌-◌, ◌%◌, true, Some, ◌^◌, ◌<◌, ◌≤◌, [], length, IfOk, IfErr, IfSome, IsOk, IsSome, IsTrue, Ok, Err, None, false, MatchOption, min, ℕ};
 ghost use Rattle.qcow2_metadata.specs.L2Mapping.{HasAlignedHost, IsInReach};
-ghost use Rattle.qcow2_image.specs.Image.{ImageStays, IsSameImage, KeepsWholeHeader, number_of, size_of};
-ghost use Rattle.qcow2_image.specs.Unwritten.{ReadsQuietly};
+ghost use Rattle.qcow2_image.specs.Image.{number_of, size_of};
 ghost use Rattle.qcow2_laws.specs.CrashInvariant.{Pending};
 ghost use Rattle.qcow2_alloc.specs.MetadataCaches.{IsEntryAt, l2_at};
-ghost use Rattle.qcow2_alloc.specs.KeptMarks.{KeepsFileNotes};
-ghost use Rattle.qcow2_image.specs.Noted.{FailsOnceWritten};
 ghost use Rattle.qcow2_alloc.specs.ImageFile.{known_in, FileInvariant};
 ghost use Rattle.qcow2_image.specs.declared.prepared.Prepared.{Prepared};
 ghost use Rattle.qcow2_image.specs.Calls.{AnswersCall};
 ghost use Rattle.qcow2_alloc.specs.ImageError.{IsOfTables};
 ghost use Rattle.qcow2_disk.specs.Found.{IsFoundIn, kind_at, rest_of_table};
-ghost use Rattle.qcow2_image.specs.Faults.{CountsImageFaults, IsNotOfStorage};
+ghost use Rattle.qcow2_image.specs.Faults.{IsNotOfStorage};
 ghost use Rattle.qcow2_image.specs.Found.{found_kind, mapping_of, IsRunBehind, NamesL2Table, IsRunFrom, IsFoundInImage, l1_index_of, l2_index_of};
 ghost use Rattle.qcow2_image.specs.HeldMappings.{IsHeldRun, named_place};
 ghost use Rattle.qcow2_image.specs.PinnedTables.{own_table};
@@ -23,7 +20,7 @@ ghost use Rattle.qcow2_image.specs.ImageInvariant.{HasL1Table, ImageInvariant, a
 ghost use Rattle.qcow2_metadata.specs.Header.{cluster_size};
 ghost use Rattle.qcow2_image.specs.declared.mapping.MappingKind.TheVariants.{Eof};
 ghost use Rattle.qcow2_image.specs.MetAlone.{IsCacheHeld, IsMetLooking};
-ghost use Rattle.qcow2_image.specs.Refusals.{unusable, IsUnlimited, MarksFailed};
+ghost use Rattle.qcow2_image.specs.Refusals.{unusable, IsUnlimited};
 
 use crate::{Mapping, MappingKind, Place, Qcow2};
 use image_access::{Storage, WrappedFormat};
@@ -66,13 +63,11 @@ impl<S: Storage, F: WrappedFormat<S>> Qcow2<S, F> {
     /// Refused 16 (failed), 12 (dependency), in this order. Where the work meets them: 4 (unaligned table), 8 (everything is in use),
     /// 14 (memory), 15 (storage).
     pub fn get_mapping(&mut self, offset: u64, max: u64) -> Result<(Mapping, u64), ImageError>
+        ensures step { ReadingCall S.view F.backing self.old self.new result }
         ensures early { IfSome (unusable self.old) (λ e. (result ≡ Err e) × (self.new ≡ self.old)) }
         ensures late { unusable self.old ≡ None → IfErr result IsOfTables }
         ensures met { (out : List (Option Prepared)) → (abstract_of S.view F.backing self.old out).is_sound
             → IfErr result (IsMetLooking (IsCacheHeld self.old out)) }
-        ensures marks { MarksFailed self.old self.new result }
-        ensures image { IsSameImage self.old self.new }
-        ensures header { KeepsWholeHeader self.old self.new }
         ensures own { IfOk result (λ (mapping, n). (mapping.image ≡ number_of self.old) × (mapping.offset ≡ offset) × (mapping.length ≡ n)) }
         ensures within { IfOk result (λ (mapping, n). n ≤ max) }
         ensures some { IfOk result (λ (mapping, n). offset < size_of self.old → 0 < max → 0 < n) }
@@ -84,11 +79,7 @@ impl<S: Storage, F: WrappedFormat<S>> Qcow2<S, F> {
         ensures run { (out : List (Option Prepared)) → (abstract_of S.view F.backing self.old out).is_sound
             → IfOk result (λ (mapping, n). IsFoundIn (known_in S.view self.new.file)
             (is_some self.new.backing) offset max (found_kind mapping.kind) n) }
-        ensures faults { CountsImageFaults S.view F.backing self.old self.new result }
-        ensures once_written { FailsOnceWritten S.view self.old self.new result }
-        ensures quiet { ReadsQuietly S.view self.old self.new }
         ensures held { offset < size_of self.old → IfOk result (λ (mapping, n). IsHeldRun self.new offset max mapping.kind n) }
-        ensures header_cluster { StaysBehindHeader S.view self.old self.new }
     {
         self.check_usable()?;
         self.begin();
@@ -108,26 +99,20 @@ impl<S: Storage, F: WrappedFormat<S>> Qcow2<S, F> {
         offset: u64,
         max: u64,
     ) -> Result<(MappingKind, u64), ImageError>
-        ensures stays { ImageStays self.old self.new }
-        ensures header { self.new.file.header ≡ self.old.file.header }
-        ensures cause { IfErr result IsOfTables }
+        ensures step { ReadingStep S.view self.old self.new }
+        ensures fails { ImageFails S.view F.backing self.old self.new result IsOfTables }
         ensures met { (p : Pending) (out : List (Option Prepared)) → ImageInvariant S.view F.backing p self.old out
             → IfErr result (IsMetLooking (IsCacheHeld self.old out)) }
         ensures keeps { (p : Pending) (out : List (Option Prepared)) → ImageInvariant S.view F.backing p self.old out
             → UnseenStep S.view F.backing p p self.old self.new out }
         ensures known { (p : Pending) (out : List (Option Prepared)) → ImageInvariant S.view F.backing p self.old out
             → known_in S.view self.new.file ≡ known_in S.view self.old.file }
-        ensures list { self.new.file.free_list ≡ self.old.file.free_list }
         ensures within { IfOk result (λ (kind, n). n ≤ max) }
         ensures some { IfOk result (λ (kind, n). offset < size_of self.old → 0 < max → 0 < n) }
         ensures past { size_of self.old ≤ offset → result ≡ Ok (Eof, 0) }
         ensures found { (p : Pending) (out : List (Option Prepared)) → ImageInvariant S.view F.backing p self.old out
             → IfOk result (λ (kind, n). IsFoundInImage S.view self.new offset max kind n) }
-        ensures faults { CountsImageFaults S.view F.backing self.old self.new result }
-        ensures notes { KeepsFileNotes S.view self.old.file self.new.file }
-        ensures quiet { ReadsQuietly S.view self.old self.new }
         ensures held { offset < size_of self.old → IfOk result (λ (kind, n). IsHeldRun self.new offset max kind n) }
-        ensures header_cluster { StaysBehindHeader S.view self.old self.new }
     {
         let size = self.file.header.size();
         if offset >= size {

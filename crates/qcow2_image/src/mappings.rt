@@ -1,6 +1,8 @@
 //! Making a guest range writable, and entering what was prepared.
+ghost use Rattle.qcow2_image.specs.SoundParts.{InTableSoundly, PreparesSoundly};
+ghost use Rattle.qcow2_image.specs.ImageSteps.{CallStep, ImageFails, ImageStep, ImageStepWhere};
 ghost use Rattle.qcow2_disk.specs.Alike.{AreDataAt};
-ghost use Rattle.qcow2_image.specs.LackedPlaces.{FreesJustListed, LacksData, LacksPlaceFor, LacksRange};
+ghost use Rattle.qcow2_image.specs.LackedPlaces.{FreesJustListed, LacksPlaceFor, LacksRange};
 ghost use Rattle.qcow2_image.specs.BehindHeader.{StaysBehindHeader};
 ghost use Rattle.qcow2_image.specs.PreparedPlaces.{HasBytesBehind, MarkedIsBehind};
 ghost use Rattle.std.specs.Prelude.{◌↔◌, ℕ, List, Option, ◌≡◌, ◌⊎◌, ◌≢◌, ◌+◌, ◌*◌, ◌-◌, ◌/◌, ◌%◌, true, Some, ◌^◌, ◌<◌, ◌≤◌, [], ◌∷◌, ◌++◌, length, slice_get, IfOk, IfErr, IfSome, OnOk, IsOk, IsNone, IsSome, IsTrue, IsFalse, MatchOption, MatchResult, Ok, Err, None, false};
@@ -15,8 +17,7 @@ ghost use Rattle.qcow2_image.specs.Preparing.{IsAnswered, IsOfNothing, IsPlaceOf
 ghost use Rattle.qcow2_image.specs.Ranges.{ReleasesOneMapping, Reaches};
 ghost use Rattle.qcow2_laws.specs.CrashInvariant.{Pending};
 ghost use Rattle.qcow2_alloc.specs.MetadataCaches.{IsEntryAt, l2_at};
-ghost use Rattle.qcow2_alloc.specs.KeptMarks.{KeepsFileNotes};
-ghost use Rattle.qcow2_image.specs.Noted.{CommitFailsOnceWritten, FailsOnceWritten};
+ghost use Rattle.qcow2_image.specs.Noted.{CommitFailsOnceWritten};
 ghost use Rattle.qcow2_alloc.specs.ImageFile.{known_in, FileInvariant, KeepsHeader};
 ghost use Rattle.qcow2_image.specs.L1Entries.{HasOwnTable, NeedsFarEntry};
 ghost use Rattle.qcow2_image.specs.ListedClusters.{ListsFormer, PreparesList, PreparesTable, ListStays, ListsNoMore};
@@ -24,7 +25,7 @@ ghost use Rattle.qcow2_image.specs.PinnedTables.{PreparesUnpinned, own_table};
 ghost use Rattle.qcow2_alloc.specs.ImageStorage.{storage_of};
 ghost use Rattle.qcow2_image.specs.declared.prepared.Prepared.{Prepared};
 ghost use Rattle.qcow2_image.specs.Calls.{Commits, Discards, Prepares, reason_of};
-ghost use Rattle.qcow2_image.specs.CallParts.{EntersAll, IsEntered, IsExisting, RefusedCall, PreparesRange};
+ghost use Rattle.qcow2_image.specs.CallParts.{EntersAll, IsEntered, IsExisting, RefusedCall};
 ghost use Rattle.qcow2_alloc.specs.CachePins.{l2_pins};
 ghost use Rattle.qcow2_alloc.specs.ImageError.{IsFault, IsOfTables};
 ghost use Rattle.qcow2_image.specs.Faults.{CountsImageFaults, IsNotOfStorage, NoFewerFaults, SameFaults, TellsEachBy, TellsFault};
@@ -35,7 +36,7 @@ ghost use Rattle.qcow2_image.specs.ImageInvariant.{ImageInvariant, listed_run, m
 ghost use Rattle.qcow2_metadata.specs.Header.{entries_per_cluster, cluster_size};
 ghost use Rattle.qcow2_metadata.specs.Cover.{cover};
 ghost use Rattle.qcow2_image.specs.declared.mapping.Place.TheVariants.{Image};
-ghost use Rattle.qcow2_image.specs.Refusals.{FreesRefused, refuses_to_prepare, passes as passes_size, IsMet, IsUnlimited, IsMetPreparing, MarksFailed, MarksRefused};
+ghost use Rattle.qcow2_image.specs.Refusals.{FreesRefused, refuses_to_prepare, passes as passes_size, IsMet, IsUnlimited, IsMetPreparing, MarksRefused};
 ghost use Rattle.qcow2_image.specs.declared.prepared.CommitRefused.TheVariants.{Kept, Spent};
 ghost use Rattle.qcow2_image.specs.declared.prepared.Share.TheVariants.{InPlace};
 ghost use Rattle.qcow2_alloc.specs.declared.error.ImageError.TheVariants.{Failed, ForeignState, Limit, TablePrepared};
@@ -157,6 +158,7 @@ impl<S: Storage, F: WrappedFormat<S>> Qcow2<S, F> {
         length: u64,
         overwrite: bool,
     ) -> Result<Prepared, ImageError>
+        ensures step { CallStep S.view F.backing self.old self.new result }
         ensures early { IfSome (refuses_to_prepare self.old offset length) (λ e. (result ≡ Err e) × (self.new ≡ self.old)) }
         ensures late { refuses_to_prepare self.old offset length ≡ None → IfErr result IsMetPreparing }
         ensures met { refuses_to_prepare self.old offset length ≡ None → 0 < length → (out : List (Option Prepared))
@@ -170,8 +172,6 @@ impl<S: Storage, F: WrappedFormat<S>> Qcow2<S, F> {
             → IfErr result (λ e. e ≡ Limit → LacksPlaceFor S.view offset length self.old self.new) }
         ensures nothing { refuses_to_prepare self.old offset 0 ≡ None → length ≡ 0 → IsOk result
             × IfOk result IsOfNothing × (self.new ≡ self.old) }
-        ensures marks { MarksFailed self.old self.new result }
-        ensures image { IsSameImage self.old self.new }
         ensures taken { refuses_to_prepare self.old offset length ≡ None → (out : List (Option Prepared))
             → (abstract_of S.view F.backing self.old out).is_sound
             → IfErr result (λ e. e ≡ TablePrepared
@@ -192,9 +192,6 @@ impl<S: Storage, F: WrappedFormat<S>> Qcow2<S, F> {
             (meaning S.view F.backing self.new p)) }
         ensures pinned { 0 < length → refuses_to_prepare self.old offset length ≡ None → HasOwnTable self.old offset
             → PreparesUnpinned self.old offset result }
-        ensures once_written { FailsOnceWritten S.view self.old self.new result }
-        ensures header_cluster { StaysBehindHeader S.view self.old self.new }
-        ensures faults { CountsImageFaults S.view F.backing self.old self.new result }
     {
         self.check_prepare(offset, length)?;
         if length == 0 {
@@ -247,43 +244,20 @@ impl<S: Storage, F: WrappedFormat<S>> Qcow2<S, F> {
         overwrite: bool,
     ) -> Result<Prepared, ImageError>
         requires writable { IsTrue (is_writable self.old) }
-        ensures stays { ImageStays self.old self.new }
-        ensures notes { KeepsFileNotes S.view self.old.file self.new.file }
-        ensures header_cluster { StaysBehindHeader S.view self.old self.new }
-        ensures cause { IfErr result IsMetPreparing }
-        ensures met { 0 < length → (out : List (Option Prepared))
+        ensures step { ImageStep S.view self.old self.new }
+        ensures fails { ImageFails S.view F.backing self.old self.new result IsMetPreparing }
+        ensures sound { 0 < length → (out : List (Option Prepared))
             → ImageInvariant S.view F.backing (pending_in S.view F.backing self.old out) self.old out
-            → IfErr result (IsMetTaking (HasPrepared out)
-            (IsTaken self.old.file.header.fields (known_in S.view self.old.file) offset length out)
-            (CopiesCompressed offset length overwrite self.old.file.header.fields (known_in S.view self.old.file))
-            (NeedsFarEntry self.old offset)) }
+            → PreparesSoundly S.view F.backing offset length overwrite self.old self.new out result
+            (LacksPlaceFor S.view offset length self.old self.new) }
         ensures l1_place { l1_index_of self.old.file.header.fields offset < entry_count self.old.l1_table
             → OnOk result (KeepsL1Place self.old.file.header.fields self.new.file.header.fields) }
-        ensures limit { 0 < length → (out : List (Option Prepared))
-            → ImageInvariant S.view F.backing (pending_in S.view F.backing self.old out) self.old out
-            → IfErr result (λ e. e ≡ Limit → LacksPlaceFor S.view offset length self.old self.new) }
-        ensures taken { 0 < length → (out : List (Option Prepared))
-            → ImageInvariant S.view F.backing (pending_in S.view F.backing self.old out) self.old out
-            → IfErr result (λ e. e ≡ TablePrepared
-            → IsTaken self.old.file.header.fields (known_in S.view self.old.file) offset length out) }
         ensures own { IfOk result (λ p. image_of p ≡ number_of self.old) }
         ensures some { IfOk result (λ p. 0 < length → HasBytesBehind self.new.file.header.fields p) }
-        ensures readies { 0 < length → (out : List (Option Prepared))
-            → ImageInvariant S.view F.backing (pending_in S.view F.backing self.old out) self.old out
-            → PreparesRange S.view F.backing self.old self.new out offset length overwrite result }
-        ensures answers { 0 < length → (out : List (Option Prepared))
-            → ImageInvariant S.view F.backing (pending_in S.view F.backing self.old out) self.old out
-            → IfOk result (λ q. IsAnswered self.old.file.header.fields
-            (known_in S.view self.old.file) offset length self.new.file.header.fields (known_in S.view self.new.file) q
-            (meaning S.view F.backing self.new q)) }
         ensures listed { 0 < length → (out : List (Option Prepared))
             → ImageInvariant S.view F.backing (pending_in S.view F.backing self.old out) self.old out
             → PreparesList offset self.old self.new result }
-        ensures freeing { 0 < length → (out : List (Option Prepared))
-            → ImageInvariant S.view F.backing (pending_in S.view F.backing self.old out) self.old out
-            → IfOk result (λ p. IsNone (table_of p) → ListsNoMore self.old self.new) }
         ensures pinned { HasOwnTable self.old offset → PreparesUnpinned self.old offset result }
-        ensures faults { CountsImageFaults S.view F.backing self.old self.new result }
     {
         match self.prepare_range(offset, length, overwrite) {
             Ok(prepared) => Ok(prepared),
@@ -299,43 +273,20 @@ impl<S: Storage, F: WrappedFormat<S>> Qcow2<S, F> {
         overwrite: bool,
     ) -> Result<Prepared, ImageError>
         requires writable { IsTrue (is_writable self.old) }
-        ensures stays { ImageStays self.old self.new }
-        ensures notes { KeepsFileNotes S.view self.old.file self.new.file }
-        ensures header_cluster { StaysBehindHeader S.view self.old self.new }
-        ensures cause { IfErr result IsMetPreparing }
-        ensures met { 0 < length → (out : List (Option Prepared))
+        ensures step { ImageStep S.view self.old self.new }
+        ensures fails { ImageFails S.view F.backing self.old self.new result IsMetPreparing }
+        ensures sound { 0 < length → (out : List (Option Prepared))
             → ImageInvariant S.view F.backing (pending_in S.view F.backing self.old out) self.old out
-            → IfErr result (IsMetTaking (HasPrepared out)
-            (IsTaken self.old.file.header.fields (known_in S.view self.old.file) offset length out)
-            (CopiesCompressed offset length overwrite self.old.file.header.fields (known_in S.view self.old.file))
-            (NeedsFarEntry self.old offset)) }
+            → PreparesSoundly S.view F.backing offset length overwrite self.old self.new out result
+            (LacksRange S.view offset length self.old self.new) }
         ensures l1_place { l1_index_of self.old.file.header.fields offset < entry_count self.old.l1_table
             → OnOk result (KeepsL1Place self.old.file.header.fields self.new.file.header.fields) }
-        ensures limit { 0 < length → (out : List (Option Prepared))
-            → ImageInvariant S.view F.backing (pending_in S.view F.backing self.old out) self.old out
-            → IfErr result (λ e. e ≡ Limit → LacksRange S.view offset length self.old self.new) }
-        ensures taken { 0 < length → (out : List (Option Prepared))
-            → ImageInvariant S.view F.backing (pending_in S.view F.backing self.old out) self.old out
-            → IfErr result (λ e. e ≡ TablePrepared
-            → IsTaken self.old.file.header.fields (known_in S.view self.old.file) offset length out) }
         ensures own { IfOk result (λ p. image_of p ≡ number_of self.old) }
         ensures some { IfOk result (λ p. 0 < length → HasBytesBehind self.new.file.header.fields p) }
-        ensures readies { 0 < length → (out : List (Option Prepared))
-            → ImageInvariant S.view F.backing (pending_in S.view F.backing self.old out) self.old out
-            → PreparesRange S.view F.backing self.old self.new out offset length overwrite result }
-        ensures answers { 0 < length → (out : List (Option Prepared))
-            → ImageInvariant S.view F.backing (pending_in S.view F.backing self.old out) self.old out
-            → IfOk result (λ q. IsAnswered self.old.file.header.fields
-            (known_in S.view self.old.file) offset length self.new.file.header.fields (known_in S.view self.new.file) q
-            (meaning S.view F.backing self.new q)) }
         ensures tables { (out : List (Option Prepared))
             → ImageInvariant S.view F.backing (pending_in S.view F.backing self.old out) self.old out
             → OnOk result (PreparesTable offset self.old self.new) }
-        ensures freeing { 0 < length → (out : List (Option Prepared))
-            → ImageInvariant S.view F.backing (pending_in S.view F.backing self.old out) self.old out
-            → IfOk result (λ p. IsNone (table_of p) → ListsNoMore self.old self.new) }
         ensures pinned { HasOwnTable self.old offset → PreparesUnpinned self.old offset result }
-        ensures faults { CountsImageFaults S.view F.backing self.old self.new result }
     {
         let table = self.table_for(offset)?;
         match self.existing_host(table, offset, length)? {
@@ -346,11 +297,9 @@ impl<S: Storage, F: WrappedFormat<S>> Qcow2<S, F> {
 
     // Frees the clusters that are to be freed after a refusal; the refusal that is answered. Nothing is freed after a fault, nor where a table is under another mapping.
     pub(crate) fn free_after(&mut self, refusal: ImageError) -> ImageError
-        ensures stays { ImageStays self.old self.new }
+        ensures step { ImageStep S.view self.old self.new }
         ensures keeps_rest { KeepsRest self.old self.new }
         ensures table { self.new.l1_table ≡ self.old.l1_table }
-        ensures notes { KeepsFileNotes S.view self.old.file self.new.file }
-        ensures header_cluster { StaysBehindHeader S.view self.old self.new }
         ensures cause { IsMetPreparing refusal → IsMetPreparing result }
         ensures limit { (out : List (Option Prepared))
             → ImageInvariant S.view F.backing (pending_in S.view F.backing self.old out) self.old out
@@ -420,27 +369,16 @@ impl<S: Storage, F: WrappedFormat<S>> Qcow2<S, F> {
         overwrite: bool,
     ) -> Result<Prepared, ImageError>
         requires writable { IsTrue (is_writable self.old) }
-        ensures stays { ImageStays self.old self.new }
-        ensures notes { KeepsFileNotes S.view self.old.file self.new.file }
-        ensures header_cluster { 0 < table → StaysBehindHeader S.view self.old self.new }
-        ensures cause { IfErr result IsMetPreparing }
-        ensures met { (out : List (Option Prepared))
+        ensures step { ImageStepWhere S.view (0 < table) self.old self.new }
+        ensures fails { ImageFails S.view F.backing self.old self.new result IsMetPreparing }
+        ensures sound { (out : List (Option Prepared))
             → ImageInvariant S.view F.backing (pending_in S.view F.backing self.old out) self.old out
-            → HoldsTable S.view F.backing self.old offset table → 0 < length
-            → IfErr result (IsMetTaking (HasPrepared out) (0 < l2_pins self.old.file.caches table)
-            (CopiesCompressed offset length overwrite self.old.file.header.fields (known_in S.view self.old.file)) ⊥) }
-        ensures limit { (out : List (Option Prepared))
-            → ImageInvariant S.view F.backing (pending_in S.view F.backing self.old out) self.old out
-            → HoldsTable S.view F.backing self.old offset table → 0 < length
-            → IfErr result (λ e. e ≡ Limit → LacksData S.view offset length self.old.file.free_list self.old self.new) }
+            → HoldsTable S.view F.backing self.old offset table
+            → InTableSoundly S.view F.backing table offset length overwrite self.old self.new out result }
         ensures taken { IfErr result (λ e. e ≡ TablePrepared → 0 < l2_pins self.old.file.caches table) }
         ensures unpinned { OnOk result (l2_pins self.old.file.caches table ≡ 0) }
         ensures own { IfOk result (λ p. image_of p ≡ number_of self.old) }
         ensures some { IfOk result (HasBytesBehind self.new.file.header.fields) }
-        ensures readies { (out : List (Option Prepared))
-            → ImageInvariant S.view F.backing (pending_in S.view F.backing self.old out) self.old out
-            → HoldsTable S.view F.backing self.old offset table
-            → PreparesRange S.view F.backing self.old self.new out offset length overwrite result }
         ensures reaches { (out : List (Option Prepared)) (k : ℕ) → slice_get out k ≡ Some None
             → ImageInvariant S.view F.backing (pending_in S.view F.backing self.old out) self.old out
             → HoldsTable S.view F.backing self.old offset table → IfOk result (Reaches S.view self.new offset length) }
@@ -449,7 +387,6 @@ impl<S: Storage, F: WrappedFormat<S>> Qcow2<S, F> {
         ensures under { (out : List (Option Prepared)) (k : ℕ) → slice_get out k ≡ Some None
             → ImageInvariant S.view F.backing (pending_in S.view F.backing self.old out) self.old out
             → HoldsTable S.view F.backing self.old offset table → OnOk result (own_table self.new offset ≡ table) }
-        ensures faults { CountsImageFaults S.view F.backing self.old self.new result }
     {
         let mut prepared = self.prepare_first(table, offset, length, overwrite)?;
         match self.prepare_rest(&mut prepared, table, length, overwrite) {
@@ -575,7 +512,7 @@ impl<S: Storage, F: WrappedFormat<S>> Qcow2<S, F> {
 
     // Enters the shares of a mapping in its table, which is held; whether one wasn't in place.
     pub(crate) fn enter_shares(&mut self, prepared: &mut Prepared) -> bool
-        ensures stays { ImageStays self.old self.new }
+        ensures step { ImageStep S.view self.old self.new }
         ensures none { IsFalse result → (self.new ≡ self.old) × (prepared.new ≡ prepared.old) }
         ensures enters { EntersAll S.view F.backing self.old self.new prepared.old prepared.new result }
         ensures in_place { IsEntered prepared.old prepared.new }
@@ -587,9 +524,7 @@ impl<S: Storage, F: WrappedFormat<S>> Qcow2<S, F> {
             free_list = self.new.file.free_list;
           };
         } }
-        ensures notes { KeepsFileNotes S.view self.old.file self.new.file }
         ensures quiet { DropsNothing prepared.old → self.new.file.free_list ≡ self.old.file.free_list }
-        ensures header_cluster { StaysBehindHeader S.view self.old self.new }
         ensures faults { SameFaults S.view F.backing self.old self.new }
     {
         let mut entered = false;
@@ -664,13 +599,11 @@ impl<S: Storage, F: WrappedFormat<S>> Qcow2<S, F> {
 
     // A mapping is let go: its new clusters are to be freed.
     pub(crate) fn release_prepared(&mut self, prepared: Prepared)
-        ensures stays { ImageStays self.old self.new }
+        ensures step { ImageStep S.view self.old self.new }
         ensures header { self.new.file.header ≡ self.old.file.header }
         ensures list { self.new.file.free_list ≡ self.old.file.free_list ++ freed_by prepared.shares.items }
         ensures rest { ReleasesOneMapping S.view self.old self.new }
-        ensures notes { KeepsFileNotes S.view self.old.file self.new.file }
         ensures sees { Discards S.view F.backing self.old self.new prepared }
-        ensures header_cluster { StaysBehindHeader S.view self.old self.new }
         ensures faults { SameFaults S.view F.backing self.old self.new }
     {
         let Prepared {

@@ -1,5 +1,6 @@
 //! Preallocation: zeros behind the end of a disk, before its size grows.
-ghost use Rattle.qcow2_image.specs.BehindHeader.{StaysBehindHeader};
+ghost use Rattle.qcow2_image.specs.SoundParts.{FillsPart};
+ghost use Rattle.qcow2_image.specs.ImageSteps.{FailsUnlimited, ImageFails, ImageStep};
 ghost use Rattle.std.specs.Prelude.{ℕ, List, Option, ◌≡◌, ◌%◌, ◌^◌, ◌<◌, ◌≤◌, Err, IfOk, IfErr, IsTrue, OnOk, max, replicate, slice_get, slice_set, None, Ok, Some};
 ghost use Rattle.qcow2_alloc.specs.ImageFile.{known_in};
 ghost use Rattle.qcow2_image.specs.Backings.{HasPrepared};
@@ -9,17 +10,16 @@ ghost use Rattle.image_access.specs.declared.storage.PreallocateMode.TheVariants
 ghost use Rattle.qcow2_metadata.specs.Header.{cluster_size, rounded_up as rounded_up_to};
 ghost use Rattle.image_access.specs.Contents.{zeroed};
 ghost use Rattle.image_access.specs.Moments.{Calls, Changes};
-ghost use Rattle.qcow2_alloc.specs.KeptMarks.{KeepsFileNotes};
 ghost use Rattle.qcow2_alloc.specs.ImageStorage.{storage_of, NotesWrite};
 ghost use Rattle.qcow2_alloc.specs.WriteKinds.{IsToldData};
 ghost use Rattle.qcow2_alloc.specs.declared.error.ImageError.TheVariants.{Version};
 ghost use Rattle.qcow2_image.specs.declared.prepared.Prepared.{Prepared};
 ghost use Rattle.qcow2_image.specs.CallParts.{WritesBytes};
-ghost use Rattle.qcow2_image.specs.Image.{HasNothingToFree, ImageStays, is_writable, size_of};
+ghost use Rattle.qcow2_image.specs.Image.{HasNothingToFree, is_writable, size_of};
 ghost use Rattle.qcow2_image.specs.ImageInvariant.{ImageInvariant, pending_in};
 ghost use Rattle.qcow2_image.specs.Preallocation.{AreZeros, CommitsWhole, FillsFirst, FillsGrownOrRefuses, FillsOrRefuses, IsWholeRange, most_of};
 ghost use Rattle.qcow2_image.specs.Refusals.{FreesRefused, IsMet, IsMetPreparing, IsUnlimited};
-ghost use Rattle.qcow2_image.specs.Faults.{CountsImageFaults, IsNotOfStorage, SameFaults};
+ghost use Rattle.qcow2_image.specs.Faults.{IsNotOfStorage, SameFaults};
 
 use crate::discarding::{Clearance, rounded_up};
 use crate::{Prepared, Qcow2};
@@ -100,8 +100,8 @@ impl<S: Storage, F: WrappedFormat<S>> Qcow2<S, F> {
         requires writable { IsTrue (is_writable self.old) }
         requires end { old ≡ size_of self.old }
         requires larger { old < size }
-        ensures stays { ImageStays self.old self.new }
-        ensures cause { IfErr result IsMetPreparing }
+        ensures step { ImageStep S.view self.old self.new }
+        ensures fails { ImageFails S.view F.backing self.old self.new result IsMetPreparing }
         ensures met { (out : List (Option Prepared))
             → ImageInvariant S.view F.backing (pending_in S.view F.backing self.old out) self.old out
             → HasNearEntries (rounded_up_to (cluster_size self.old.file.header.fields) size) self.old.file.header.fields
@@ -117,9 +117,6 @@ impl<S: Storage, F: WrappedFormat<S>> Qcow2<S, F> {
         ensures freed { (out : List (Option Prepared))
             → ImageInvariant S.view F.backing (pending_in S.view F.backing self.old out) self.old out
             → IfErr result (FreesRefused self.new) }
-        ensures notes { KeepsFileNotes S.view self.old.file self.new.file }
-        ensures header_cluster { StaysBehindHeader S.view self.old self.new }
-        ensures faults { CountsImageFaults S.view F.backing self.old self.new result }
     {
         match self.fill_behind(old, size, mode) {
             Ok(()) => Ok(()),
@@ -132,8 +129,8 @@ impl<S: Storage, F: WrappedFormat<S>> Qcow2<S, F> {
         requires writable { IsTrue (is_writable self.old) }
         requires end { old ≡ size_of self.old }
         requires larger { old < size }
-        ensures stays { ImageStays self.old self.new }
-        ensures cause { IfErr result IsMetPreparing }
+        ensures step { ImageStep S.view self.old self.new }
+        ensures fails { ImageFails S.view F.backing self.old self.new result IsMetPreparing }
         ensures met { (out : List (Option Prepared))
             → ImageInvariant S.view F.backing (pending_in S.view F.backing self.old out) self.old out
             → HasNearEntries (rounded_up_to (cluster_size self.old.file.header.fields) size) self.old.file.header.fields
@@ -145,9 +142,6 @@ impl<S: Storage, F: WrappedFormat<S>> Qcow2<S, F> {
         ensures version { mode ≡ Zero → self.old.file.header.fields.version < 3 → (result ≡ Err Version) × (self.new ≡ self.old) }
         ensures fills { (out : List (Option Prepared)) → ImageInvariant S.view F.backing (pending_in S.view F.backing self.old out) self.old out
             → FillsGrownOrRefuses S.view F.backing size mode self.old self.new out result }
-        ensures notes { KeepsFileNotes S.view self.old.file self.new.file }
-        ensures header_cluster { StaysBehindHeader S.view self.old self.new }
-        ensures faults { CountsImageFaults S.view F.backing self.old self.new result }
     {
         match mode {
             PreallocateMode::None => Ok(()),
@@ -166,8 +160,8 @@ impl<S: Storage, F: WrappedFormat<S>> Qcow2<S, F> {
         requires writable { IsTrue (is_writable self.old) }
         requires few { 2 ^ 21 ≤ most_of writes.now }
         requires zeros { AreZeros writes.now }
-        ensures stays { ImageStays self.old self.new }
-        ensures cause { IfErr result IsMetPreparing }
+        ensures step { ImageStep S.view self.old self.new }
+        ensures fails { ImageFails S.view F.backing self.old self.new result IsMetPreparing }
         ensures met { (out : List (Option Prepared))
             → ImageInvariant S.view F.backing (pending_in S.view F.backing self.old out) self.old out → old ≤ size
             → HasNearEntries (rounded_up_to (cluster_size self.old.file.header.fields) size) self.old.file.header.fields
@@ -180,9 +174,6 @@ impl<S: Storage, F: WrappedFormat<S>> Qcow2<S, F> {
             → ImageInvariant S.view F.backing (pending_in S.view F.backing self.old out) self.old out → old ≤ size
             → FillsOrRefuses S.view F.backing (rounded_up_to (cluster_size self.old.file.header.fields) size) old
             (rounded_up_to (cluster_size self.old.file.header.fields) size) self.old self.new out result }
-        ensures notes { KeepsFileNotes S.view self.old.file self.new.file }
-        ensures header_cluster { StaysBehindHeader S.view self.old self.new }
-        ensures faults { CountsImageFaults S.view F.backing self.old self.new result }
     {
         let Some(end) = rounded_up(size, self.file.header.cluster_size()) else {
             return Err(ImageError::Overflow);
@@ -193,8 +184,8 @@ impl<S: Storage, F: WrappedFormat<S>> Qcow2<S, F> {
     // Makes whole clusters there zeros that have none, and puts zeros into the rest of the cluster before them.
     fn zero_grown(&mut self, old: u64, size: u64) -> Result<(), ImageError>
         requires writable { IsTrue (is_writable self.old) }
-        ensures stays { ImageStays self.old self.new }
-        ensures cause { IfErr result IsMetPreparing }
+        ensures step { ImageStep S.view self.old self.new }
+        ensures fails { ImageFails S.view F.backing self.old self.new result IsMetPreparing }
         ensures met { (out : List (Option Prepared))
             → ImageInvariant S.view F.backing (pending_in S.view F.backing self.old out) self.old out → old ≤ size
             → 3 ≤ self.old.file.header.fields.version
@@ -209,9 +200,6 @@ impl<S: Storage, F: WrappedFormat<S>> Qcow2<S, F> {
             → ImageInvariant S.view F.backing (pending_in S.view F.backing self.old out) self.old out → old ≤ size
             → FillsOrRefuses S.view F.backing (rounded_up_to (cluster_size self.old.file.header.fields) old) old
             (rounded_up_to (cluster_size self.old.file.header.fields) size) self.old self.new out result }
-        ensures notes { KeepsFileNotes S.view self.old.file self.new.file }
-        ensures header_cluster { StaysBehindHeader S.view self.old self.new }
-        ensures faults { CountsImageFaults S.view F.backing self.old self.new result }
     {
         if self.file.header.version() < 3 {
             return Err(ImageError::Version);
@@ -229,22 +217,16 @@ impl<S: Storage, F: WrappedFormat<S>> Qcow2<S, F> {
     // Makes the clusters of a range read as zeros, and puts zeros into the cluster before them from an offset on.
     fn zero_between(&mut self, old: u64, from: u64, end: u64) -> Result<(), ImageError>
         requires writable { IsTrue (is_writable self.old) }
-        ensures stays { ImageStays self.old self.new }
-        ensures cause { IfErr result IsMetPreparing }
-        ensures met { (out : List (Option Prepared))
+        ensures step { ImageStep S.view self.old self.new }
+        ensures fails { ImageFails S.view F.backing self.old self.new result IsMetPreparing }
+        ensures sound { (out : List (Option Prepared))
             → ImageInvariant S.view F.backing (pending_in S.view F.backing self.old out) self.old out → old ≤ from
             → from ≤ end → IsWholeRange self.old.file.header.fields from end → 3 ≤ self.old.file.header.fields.version
-            → HasNearEntries end self.old.file.header.fields
+            → FillsPart (FillsOrRefuses S.view F.backing from old end self.old self.new out result)
+            (HasNearEntries end self.old.file.header.fields
             → IfErr result (IsMetTaking (HasPrepared out) (HasPrepared out)
-            (HasCompressedIn old from self.old.file.header.fields (known_in S.view self.old.file)) ⊥) }
+            (HasCompressedIn old from self.old.file.header.fields (known_in S.view self.old.file)) ⊥)) }
         ensures emptied { HasNothingToFree self.old → OnOk result (HasNothingToFree self.new) }
-        ensures fills { (out : List (Option Prepared))
-            → ImageInvariant S.view F.backing (pending_in S.view F.backing self.old out) self.old out → old ≤ from
-            → from ≤ end → IsWholeRange self.old.file.header.fields from end → 3 ≤ self.old.file.header.fields.version
-            → FillsOrRefuses S.view F.backing from old end self.old self.new out result }
-        ensures notes { KeepsFileNotes S.view self.old.file self.new.file }
-        ensures header_cluster { StaysBehindHeader S.view self.old self.new }
-        ensures faults { CountsImageFaults S.view F.backing self.old self.new result }
     {
         let next = self.zero_first(from, end)?;
         self.fill_range(old, from, &ZeroWrites::Short)?;
@@ -254,21 +236,15 @@ impl<S: Storage, F: WrappedFormat<S>> Qcow2<S, F> {
     // Makes whole clusters read as zeros, table by table.
     fn zero_range(&mut self, from: u64, to: u64) -> Result<(), ImageError>
         requires writable { IsTrue (is_writable self.old) }
-        ensures stays { ImageStays self.old self.new }
-        ensures cause { IfErr result IsMetPreparing }
-        ensures met { (out : List (Option Prepared))
+        ensures step { ImageStep S.view self.old self.new }
+        ensures fails { ImageFails S.view F.backing self.old self.new result IsMetPreparing }
+        ensures sound { (out : List (Option Prepared))
             → ImageInvariant S.view F.backing (pending_in S.view F.backing self.old out) self.old out → from ≤ to
             → IsWholeRange self.old.file.header.fields from to → 3 ≤ self.old.file.header.fields.version
-            → HasNearEntries to self.old.file.header.fields
-            → IfErr result (IsMetTaking (HasPrepared out) (HasPrepared out) ⊥ ⊥) }
+            → FillsPart (FillsOrRefuses S.view F.backing 0 from to self.old self.new out result)
+            (HasNearEntries to self.old.file.header.fields
+            → IfErr result (IsMetTaking (HasPrepared out) (HasPrepared out) ⊥ ⊥)) }
         ensures emptied { HasNothingToFree self.old → OnOk result (HasNothingToFree self.new) }
-        ensures fills { (out : List (Option Prepared))
-            → ImageInvariant S.view F.backing (pending_in S.view F.backing self.old out) self.old out → from ≤ to
-            → IsWholeRange self.old.file.header.fields from to → 3 ≤ self.old.file.header.fields.version
-            → FillsOrRefuses S.view F.backing 0 from to self.old self.new out result }
-        ensures notes { KeepsFileNotes S.view self.old.file self.new.file }
-        ensures header_cluster { StaysBehindHeader S.view self.old self.new }
-        ensures faults { CountsImageFaults S.view F.backing self.old self.new result }
     {
         let mut at = from;
         while at < to {
@@ -280,26 +256,20 @@ impl<S: Storage, F: WrappedFormat<S>> Qcow2<S, F> {
     // Makes those read as zeros that the first L2 table of a range covers; where they end.
     fn zero_first(&mut self, from: u64, to: u64) -> Result<u64, ImageError>
         requires writable { IsTrue (is_writable self.old) }
-        ensures stays { ImageStays self.old self.new }
-        ensures cause { IfErr result IsMetPreparing }
-        ensures met { (out : List (Option Prepared))
+        ensures step { ImageStep S.view self.old self.new }
+        ensures fails { ImageFails S.view F.backing self.old self.new result IsMetPreparing }
+        ensures sound { (out : List (Option Prepared))
             → ImageInvariant S.view F.backing (pending_in S.view F.backing self.old out) self.old out → from ≤ to
             → IsWholeRange self.old.file.header.fields from to → 3 ≤ self.old.file.header.fields.version
-            → HasNearEntries to self.old.file.header.fields
-            → IfErr result (IsMetTaking (HasPrepared out) (HasPrepared out) ⊥ ⊥) }
+            → FillsPart (FillsFirst S.view F.backing 0 from to self.old self.new out result)
+            (HasNearEntries to self.old.file.header.fields
+            → IfErr result (IsMetTaking (HasPrepared out) (HasPrepared out) ⊥ ⊥)) }
         ensures emptied { HasNothingToFree self.old → OnOk result (HasNothingToFree self.new) }
         ensures next { IfOk result (λ next. (from ≤ next) × (from < to → from < next) × (next ≤ max from to)) }
         ensures whole { (out : List (Option Prepared))
             → ImageInvariant S.view F.backing (pending_in S.view F.backing self.old out) self.old out
             → IsWholeRange self.old.file.header.fields from to
             → IfOk result (λ next. next % cluster_size self.old.file.header.fields ≡ 0) }
-        ensures fills { (out : List (Option Prepared))
-            → ImageInvariant S.view F.backing (pending_in S.view F.backing self.old out) self.old out → from ≤ to
-            → IsWholeRange self.old.file.header.fields from to → 3 ≤ self.old.file.header.fields.version
-            → FillsFirst S.view F.backing 0 from to self.old self.new out result }
-        ensures notes { KeepsFileNotes S.view self.old.file self.new.file }
-        ensures header_cluster { StaysBehindHeader S.view self.old self.new }
-        ensures faults { CountsImageFaults S.view F.backing self.old self.new result }
     {
         if to <= from {
             return Ok(from);
@@ -315,21 +285,16 @@ impl<S: Storage, F: WrappedFormat<S>> Qcow2<S, F> {
         requires writable { IsTrue (is_writable self.old) }
         requires few { 2 ^ 21 ≤ most_of writes.now }
         requires zeros { AreZeros writes.now }
-        ensures stays { ImageStays self.old self.new }
-        ensures cause { IfErr result IsMetPreparing }
-        ensures met { (out : List (Option Prepared))
-            → ImageInvariant S.view F.backing (pending_in S.view F.backing self.old out) self.old out → from ≤ to
-            → to % cluster_size self.old.file.header.fields ≡ 0 → HasNearEntries to self.old.file.header.fields
-            → IfErr result (IsMetTaking (HasPrepared out) (HasPrepared out)
-            (HasCompressedIn from to self.old.file.header.fields (known_in S.view self.old.file)) ⊥) }
-        ensures emptied { HasNothingToFree self.old → OnOk result (HasNothingToFree self.new) }
-        ensures fills { (out : List (Option Prepared))
+        ensures step { ImageStep S.view self.old self.new }
+        ensures fails { ImageFails S.view F.backing self.old self.new result IsMetPreparing }
+        ensures sound { (out : List (Option Prepared))
             → ImageInvariant S.view F.backing (pending_in S.view F.backing self.old out) self.old out → from ≤ to
             → to % cluster_size self.old.file.header.fields ≡ 0
-            → FillsOrRefuses S.view F.backing to from to self.old self.new out result }
-        ensures notes { KeepsFileNotes S.view self.old.file self.new.file }
-        ensures header_cluster { StaysBehindHeader S.view self.old self.new }
-        ensures faults { CountsImageFaults S.view F.backing self.old self.new result }
+            → FillsPart (FillsOrRefuses S.view F.backing to from to self.old self.new out result)
+            (HasNearEntries to self.old.file.header.fields
+            → IfErr result (IsMetTaking (HasPrepared out) (HasPrepared out)
+            (HasCompressedIn from to self.old.file.header.fields (known_in S.view self.old.file)) ⊥)) }
+        ensures emptied { HasNothingToFree self.old → OnOk result (HasNothingToFree self.new) }
     {
         let mut at = from;
         while at < to {
@@ -344,20 +309,17 @@ impl<S: Storage, F: WrappedFormat<S>> Qcow2<S, F> {
         requires few { 2 ^ 21 ≤ most_of writes.now }
         requires zeros { AreZeros writes.now }
         requires some { from < to }
-        ensures stays { ImageStays self.old self.new }
-        ensures cause { IfErr result IsMetPreparing }
-        ensures met { (out : List (Option Prepared))
+        ensures step { ImageStep S.view self.old self.new }
+        ensures fails { ImageFails S.view F.backing self.old self.new result IsMetPreparing }
+        ensures sound { (out : List (Option Prepared))
             → ImageInvariant S.view F.backing (pending_in S.view F.backing self.old out) self.old out
-            → to % cluster_size self.old.file.header.fields ≡ 0 → HasNearEntries to self.old.file.header.fields
+            → FillsPart (to % cluster_size self.old.file.header.fields ≡ 0
+            → FillsFirst S.view F.backing to from to self.old self.new out result)
+            (to % cluster_size self.old.file.header.fields ≡ 0 → HasNearEntries to self.old.file.header.fields
             → IfErr result (IsMetTaking (HasPrepared out) (HasPrepared out)
-            (HasCompressedIn from to self.old.file.header.fields (known_in S.view self.old.file)) ⊥) }
+            (HasCompressedIn from to self.old.file.header.fields (known_in S.view self.old.file)) ⊥)) }
         ensures emptied { HasNothingToFree self.old → OnOk result (HasNothingToFree self.new) }
         ensures next { IfOk result (λ next. (from < next) × (next ≤ to)) }
-        ensures fills { (out : List (Option Prepared)) → ImageInvariant S.view F.backing (pending_in S.view F.backing self.old out) self.old out
-            → to % cluster_size self.old.file.header.fields ≡ 0 → FillsFirst S.view F.backing to from to self.old self.new out result }
-        ensures notes { KeepsFileNotes S.view self.old.file self.new.file }
-        ensures header_cluster { StaysBehindHeader S.view self.old self.new }
-        ensures faults { CountsImageFaults S.view F.backing self.old self.new result }
     {
         let prepared = self.prepare(from, writes.most().min(to - from), true)?;
         let next = to.min(from.saturating_add(prepared.length));
@@ -375,14 +337,10 @@ impl<S: Storage, F: WrappedFormat<S>> Qcow2<S, F> {
     fn put_zeros(&mut self, host: u64, count: u64, writes: &ZeroWrites) -> Result<(), ImageError>
         requires few { count ≤ most_of writes.now }
         requires zeros { AreZeros writes.now }
-        ensures stays { ImageStays self.old self.new }
-        ensures cause { IfErr result IsMet }
+        ensures step { ImageStep S.view self.old self.new }
+        ensures fails { FailsUnlimited S.view F.backing self.old self.new result IsMet }
         ensures fault { cluster_size self.old.file.header.fields ≤ host → IfErr result IsFault }
-        ensures limited { IfErr result IsUnlimited }
         ensures written { WritesBytes S.view self.old self.new host (replicate count 0) result }
-        ensures notes { KeepsFileNotes S.view self.old.file self.new.file }
-        ensures header_cluster { StaysBehindHeader S.view self.old self.new }
-        ensures faults { CountsImageFaults S.view F.backing self.old self.new result }
     {
         if host < self.file.header.cluster_size() {
             return Err(ImageError::Metadata);
@@ -394,14 +352,12 @@ impl<S: Storage, F: WrappedFormat<S>> Qcow2<S, F> {
 
     // Commits a mapping into which zeros were written. What it drops is to be freed.
     fn commit_filled(&mut self, mut prepared: Prepared)
-        ensures stays { ImageStays self.old self.new }
+        ensures step { ImageStep S.view self.old self.new }
         ensures header { self.new.file.header ≡ self.old.file.header }
         ensures table { self.new.l1_table ≡ self.old.l1_table }
         ensures commits { (out : List (Option Prepared)) (k : ℕ) → slice_get out k ≡ Some (Some prepared)
             → ImageInvariant S.view F.backing (pending_in S.view F.backing self.old out) self.old out
             → CommitsWhole S.view F.backing self.old self.new out k prepared (slice_set out k None) }
-        ensures notes { KeepsFileNotes S.view self.old.file self.new.file }
-        ensures header_cluster { StaysBehindHeader S.view self.old self.new }
         ensures faults { SameFaults S.view F.backing self.old self.new }
     {
         if prepared.table.is_none() {

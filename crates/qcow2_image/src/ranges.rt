@@ -1,18 +1,17 @@
 //! The clusters of a prepared range behind its first one.
-ghost use Rattle.qcow2_image.specs.LackedPlaces.{CantGoBehind, CantTake, CantTakeAt};
+ghost use Rattle.qcow2_image.specs.SoundParts.{BehindSoundly, FillsSoundly, RestSoundly};
+ghost use Rattle.qcow2_image.specs.ImageSteps.{ImageFails, ImageStep};
+ghost use Rattle.qcow2_image.specs.LackedPlaces.{CantTake, CantTakeAt};
 ghost use Rattle.qcow2_alloc.specs.declared.error.ImageError.TheVariants.{Limit};
-ghost use Rattle.qcow2_image.specs.BehindHeader.{StaysBehindHeader};
-ghost use Rattle.qcow2_alloc.specs.KeptMarks.{KeepsFileNotes};
 ghost use Rattle.std.specs.Prelude.{ℕ, List, Option, ◌≡◌, ◌≢◌, ◌+◌, ◌-◌, ◌*◌, ◌%◌, ◌<◌, min, true, Some, None, Ok, slice_get, vec_len, vec_capacity, IfOk, IfErr, OnOk, IsTrue, IsSome, ◌/◌};
-ghost use Rattle.qcow2_metadata.specs.Cover.{cover};
-ghost use Rattle.qcow2_image.specs.MetAlone.{CopiesCompressed, IsCopiedCompressed, IsMetAlone};
+ghost use Rattle.qcow2_image.specs.MetAlone.{IsCopiedCompressed, IsMetAlone};
 ghost use Rattle.qcow2_metadata.specs.L2Mapping.{IsHostCluster, IsInReach};
 ghost use Rattle.qcow2_metadata.specs.Header.{cluster_size};
 ghost use Rattle.qcow2_disk.specs.Found.{rest_of_table};
 ghost use Rattle.qcow2_laws.specs.CrashInvariant.{Pending};
-ghost use Rattle.qcow2_alloc.specs.ImageFile.{KeepsHeader, known_in};
+ghost use Rattle.qcow2_alloc.specs.ImageFile.{KeepsHeader};
 ghost use Rattle.qcow2_alloc.specs.LowestRuns.{StaysUsed};
-ghost use Rattle.qcow2_image.specs.Image.{ImageStays, is_writable};
+ghost use Rattle.qcow2_image.specs.Image.{is_writable};
 ghost use Rattle.qcow2_image.specs.ListedClusters.{ListsFormer};
 ghost use Rattle.qcow2_image.specs.Refusals.{IsMet, IsFaultOrLimit};
 ghost use Rattle.qcow2_image.specs.declared.prepared.Prepared.{Prepared};
@@ -21,7 +20,6 @@ ghost use Rattle.qcow2_image.specs.CallParts.{IsReadied};
 ghost use Rattle.qcow2_image.specs.ImageInvariant.{pending_in, ImageInvariant};
 ghost use Rattle.qcow2_image.specs.UnseenSteps.{HoldsAll, ListGrows};
 ghost use Rattle.qcow2_image.specs.Ranges.{FindsBehind, GainsAt, GoesNext, GoesOn, HasRoomForRange, IsLongerMapping, IsNext, EndsWithCluster, MayGoOn, SharesAt, TakesDataAt};
-ghost use Rattle.qcow2_image.specs.Faults.{CountsImageFaults};
 
 use crate::mappings::{copied_place, keeps};
 use crate::prepared::Share;
@@ -56,33 +54,16 @@ impl<S: Storage, F: WrappedFormat<S>> Qcow2<S, F> {
         requires writable { IsTrue (is_writable self.old) }
         requires whole { EndsWithCluster self.old.file.header.fields prepared.old }
         requires room { HasRoomForRange self.old.file.header.fields length prepared.old }
-        ensures stays { ImageStays self.old self.new }
+        ensures step { ImageStep S.view self.old self.new }
+        ensures fails { ImageFails S.view F.backing self.old self.new result IsMet }
         ensures header { KeepsHeader self.old.file.header self.new.file.header }
-        ensures notes { KeepsFileNotes S.view self.old.file self.new.file }
-        ensures header_cluster { StaysBehindHeader S.view self.old self.new }
-        ensures cause { IfErr result IsMet }
-        ensures met { (start : Qcow2 S F) (out : List (Option Prepared)) (k : ℕ) → slice_get out k ≡ Some None
+        ensures sound { (start : Qcow2 S F) (out : List (Option Prepared)) (k : ℕ) → slice_get out k ≡ Some None
             → prepared.old.table ≡ Some table
             → IsReadied S.view F.backing start self.old out k prepared.old.guest length overwrite prepared.old
-            → IfErr result (IsMetAlone (CopiesCompressed prepared.old.guest length overwrite self.old.file.header.fields
-            (known_in S.view self.old.file)) ⊥) }
-        ensures limit { (start : Qcow2 S F) (out : List (Option Prepared)) (k : ℕ) → slice_get out k ≡ Some None
-            → prepared.old.table ≡ Some table
-            → IsReadied S.view F.backing start self.old out k prepared.old.guest length overwrite prepared.old
-            → IfErr result (λ e. e ≡ Limit
-            → (prepared.new.length < min length (rest_of_table self.old.file.header.fields prepared.old.guest))
-            × CantGoBehind S.view prepared.new self.old self.new) }
+            → RestSoundly S.view F.backing length overwrite prepared.old prepared.new self.old self.new result
+            (GoesOn S.view F.backing start self.new out k length overwrite prepared.new result) }
         ensures longer { IsLongerMapping self.old.file.header.fields length prepared.old prepared.new }
-        ensures image_step { (start : Qcow2 S F) (out : List (Option Prepared)) (k : ℕ) → slice_get out k ≡ Some None
-            → prepared.old.table ≡ Some table
-            → IsReadied S.view F.backing start self.old out k prepared.old.guest length overwrite prepared.old
-            → GoesOn S.view F.backing start self.new out k length overwrite prepared.new result }
         ensures former { OnOk result (ListsFormer self.old self.new) }
-        ensures uses { (start : Qcow2 S F) (out : List (Option Prepared)) (k : ℕ) → slice_get out k ≡ Some None
-            → prepared.old.table ≡ Some table
-            → IsReadied S.view F.backing start self.old out k prepared.old.guest length overwrite prepared.old
-            → OnOk result (StaysUsed S.view self.old.file self.new.file) }
-        ensures faults { CountsImageFaults S.view F.backing self.old self.new result }
     {
         let end = length.min(self.rest_of_table(prepared.guest));
         while prepared.length < end {
@@ -103,35 +84,18 @@ impl<S: Storage, F: WrappedFormat<S>> Qcow2<S, F> {
     ) -> Result<bool, ImageError>
         requires writable { IsTrue (is_writable self.old) }
         requires room { vec_len prepared.old.shares < vec_capacity prepared.old.shares }
-        ensures stays { ImageStays self.old self.new }
+        ensures step { ImageStep S.view self.old self.new }
+        ensures fails { ImageFails S.view F.backing self.old self.new result IsMet }
         ensures header { KeepsHeader self.old.file.header self.new.file.header }
-        ensures notes { KeepsFileNotes S.view self.old.file self.new.file }
-        ensures header_cluster { StaysBehindHeader S.view self.old self.new }
-        ensures cause { IfErr result IsMet }
-        ensures met { (out : List (Option Prepared)) (k : ℕ) → slice_get out k ≡ Some (Some prepared.old)
+        ensures sound { (out : List (Option Prepared)) (k : ℕ) → slice_get out k ≡ Some (Some prepared.old)
             → MayGoOn self.old.file.header.fields length table prepared.old
             → ImageInvariant S.view F.backing (pending_in S.view F.backing self.old out) self.old out
-            → IfErr result (IsMetAlone (IsCopiedCompressed self.old.file.header.fields
-            (cover self.old.file.header.fields (known_in S.view self.old.file)
-            ((prepared.old.guest + prepared.old.length) / cluster_size self.old.file.header.fields))
-            (prepared.old.guest + prepared.old.length) (length - prepared.old.length) overwrite) ⊥) }
-        ensures limit { (out : List (Option Prepared)) (k : ℕ) → slice_get out k ≡ Some (Some prepared.old)
-            → MayGoOn self.old.file.header.fields length table prepared.old
-            → ImageInvariant S.view F.backing (pending_in S.view F.backing self.old out) self.old out
-            → IfErr result (λ e. e ≡ Limit → CantGoBehind S.view prepared.old self.old self.new) }
+            → BehindSoundly S.view F.backing prepared.old length overwrite self.old self.new result
+            (GoesNext S.view F.backing self.old self.new out k length overwrite prepared.old prepared.new result) }
         ensures same { result ≢ Ok true → prepared.new ≡ prepared.old }
         ensures room { vec_capacity prepared.new.shares ≡ vec_capacity prepared.old.shares }
         ensures next { result ≡ Ok true → IsNext self.old.file.header.fields length prepared.old prepared.new }
-        ensures image_step { (out : List (Option Prepared)) (k : ℕ) → slice_get out k ≡ Some (Some prepared.old)
-            → MayGoOn self.old.file.header.fields length table prepared.old
-            → ImageInvariant S.view F.backing (pending_in S.view F.backing self.old out) self.old out
-            → GoesNext S.view F.backing self.old self.new out k length overwrite prepared.old prepared.new result }
         ensures former { OnOk result (ListsFormer self.old self.new) }
-        ensures uses { (out : List (Option Prepared)) (k : ℕ) → slice_get out k ≡ Some (Some prepared.old)
-            → MayGoOn self.old.file.header.fields length table prepared.old
-            → ImageInvariant S.view F.backing (pending_in S.view F.backing self.old out) self.old out
-            → OnOk result (StaysUsed S.view self.old.file self.new.file) }
-        ensures faults { CountsImageFaults S.view F.backing self.old self.new result }
     {
         let Some(share) = self.share_behind(prepared, table, length, overwrite)? else {
             return Ok(false);
@@ -151,32 +115,15 @@ impl<S: Storage, F: WrappedFormat<S>> Qcow2<S, F> {
         overwrite: bool,
     ) -> Result<Option<Share>, ImageError>
         requires writable { IsTrue (is_writable self.old) }
-        ensures stays { ImageStays self.old self.new }
+        ensures step { ImageStep S.view self.old self.new }
+        ensures fails { ImageFails S.view F.backing self.old self.new result IsMet }
         ensures header { KeepsHeader self.old.file.header self.new.file.header }
-        ensures notes { KeepsFileNotes S.view self.old.file self.new.file }
-        ensures header_cluster { StaysBehindHeader S.view self.old self.new }
-        ensures cause { IfErr result IsMet }
-        ensures met { (out : List (Option Prepared)) (k : ℕ) → slice_get out k ≡ Some (Some prepared.now)
+        ensures sound { (out : List (Option Prepared)) (k : ℕ) → slice_get out k ≡ Some (Some prepared.now)
             → MayGoOn self.old.file.header.fields length table prepared.now
             → ImageInvariant S.view F.backing (pending_in S.view F.backing self.old out) self.old out
-            → IfErr result (IsMetAlone (IsCopiedCompressed self.old.file.header.fields
-            (cover self.old.file.header.fields (known_in S.view self.old.file)
-            ((prepared.now.guest + prepared.now.length) / cluster_size self.old.file.header.fields))
-            (prepared.now.guest + prepared.now.length) (length - prepared.now.length) overwrite) ⊥) }
-        ensures limit { (out : List (Option Prepared)) (k : ℕ) → slice_get out k ≡ Some (Some prepared.now)
-            → MayGoOn self.old.file.header.fields length table prepared.now
-            → ImageInvariant S.view F.backing (pending_in S.view F.backing self.old out) self.old out
-            → IfErr result (λ e. e ≡ Limit → CantGoBehind S.view prepared.now self.old self.new) }
-        ensures finds { (out : List (Option Prepared)) (k : ℕ) → slice_get out k ≡ Some (Some prepared.now)
-            → MayGoOn self.old.file.header.fields length table prepared.now
-            → ImageInvariant S.view F.backing (pending_in S.view F.backing self.old out) self.old out
-            → FindsBehind S.view F.backing self.old self.new out length overwrite prepared.now result }
+            → BehindSoundly S.view F.backing prepared.now length overwrite self.old self.new result
+            (FindsBehind S.view F.backing self.old self.new out length overwrite prepared.now result) }
         ensures former { OnOk result (ListsFormer self.old self.new) }
-        ensures uses { (out : List (Option Prepared)) (k : ℕ) → slice_get out k ≡ Some (Some prepared.now)
-            → MayGoOn self.old.file.header.fields length table prepared.now
-            → ImageInvariant S.view F.backing (pending_in S.view F.backing self.old out) self.old out
-            → OnOk result (StaysUsed S.view self.old.file self.new.file) }
-        ensures faults { CountsImageFaults S.view F.backing self.old self.new result }
     {
         let Some(next) = prepared.guest.checked_add(prepared.length) else {
             return Err(ImageError::Overflow);
@@ -209,11 +156,9 @@ impl<S: Storage, F: WrappedFormat<S>> Qcow2<S, F> {
     ) -> Result<Option<Share>, ImageError>
         requires writable { IsTrue (is_writable self.old) }
         requires reach { IsInReach old.now }
-        ensures stays { ImageStays self.old self.new }
+        ensures step { ImageStep S.view self.old self.new }
+        ensures fails { ImageFails S.view F.backing self.old self.new result IsMet }
         ensures header { KeepsHeader self.old.file.header self.new.file.header }
-        ensures notes { KeepsFileNotes S.view self.old.file self.new.file }
-        ensures header_cluster { StaysBehindHeader S.view self.old self.new }
-        ensures cause { IfErr result IsMet }
         ensures met { (p : Pending) (out : List (Option Prepared)) → ImageInvariant S.view F.backing p self.old out
             → HoldsAll S.view F.backing p out → host % cluster_size self.old.file.header.fields ≡ 0
             → IfErr result (IsMetAlone (IsCopiedCompressed self.old.file.header.fields old.now offset length overwrite)
@@ -227,7 +172,6 @@ impl<S: Storage, F: WrappedFormat<S>> Qcow2<S, F> {
         ensures former { OnOk result (ListsFormer self.old self.new) }
         ensures uses { (p : Pending) (out : List (Option Prepared)) → ImageInvariant S.view F.backing p self.old out
             → HoldsAll S.view F.backing p out → OnOk result (StaysUsed S.view self.old.file self.new.file) }
-        ensures faults { CountsImageFaults S.view F.backing self.old self.new result }
     {
         let bits = self.file.header.cluster_bits();
         let Some(cluster) = HostOffset::new(host).checked_cluster(bits) else {
@@ -253,26 +197,16 @@ impl<S: Storage, F: WrappedFormat<S>> Qcow2<S, F> {
     ) -> Result<Option<PendingClusters>, ImageError>
         requires writable { IsTrue (is_writable self.old) }
         requires reach { IsInReach old.now }
-        ensures stays { ImageStays self.old self.new }
+        ensures step { ImageStep S.view self.old self.new }
+        ensures fails { ImageFails S.view F.backing self.old self.new result IsMet }
         ensures header { KeepsHeader self.old.file.header self.new.file.header }
-        ensures notes { KeepsFileNotes S.view self.old.file self.new.file }
-        ensures header_cluster { StaysBehindHeader S.view self.old self.new }
-        ensures cause { IfErr result IsMet }
-        ensures met { (p : Pending) (out : List (Option Prepared)) → ImageInvariant S.view F.backing p self.old out
+        ensures sound { (p : Pending) (out : List (Option Prepared)) → ImageInvariant S.view F.backing p self.old out
             → HoldsAll S.view F.backing p out
-            → IfErr result (IsMetAlone (IsCopiedCompressed self.old.file.header.fields old.now offset length overwrite)
-            ⊥) }
-        ensures limit { (p : Pending) (out : List (Option Prepared)) → ImageInvariant S.view F.backing p self.old out
-            → HoldsAll S.view F.backing p out
-            → IfErr result (λ e. e ≡ Limit → CantTake S.view cluster self.old self.new) }
+            → FillsSoundly S.view F.backing old.now offset length overwrite self.old self.new result
+            (GainsAt S.view F.backing p self.old self.new out offset length overwrite old.now cluster result)
+            (CantTake S.view cluster self.old self.new) }
         ensures nameable { IfOk result (λ run. IsSome run → IsHostCluster self.old.file.header.fields.cluster_bits cluster) }
-        ensures gains { (p : Pending) (out : List (Option Prepared)) → ImageInvariant S.view F.backing p self.old out
-            → HoldsAll S.view F.backing p out
-            → GainsAt S.view F.backing p self.old self.new out offset length overwrite old.now cluster result }
         ensures former { OnOk result (ListsFormer self.old self.new) }
-        ensures uses { (p : Pending) (out : List (Option Prepared)) → ImageInvariant S.view F.backing p self.old out
-            → HoldsAll S.view F.backing p out → OnOk result (StaysUsed S.view self.old.file self.new.file) }
-        ensures faults { CountsImageFaults S.view F.backing self.old self.new result }
     {
         let Some(pending) = self.take_data_at(cluster)? else {
             return Ok(None);
@@ -289,11 +223,9 @@ impl<S: Storage, F: WrappedFormat<S>> Qcow2<S, F> {
     // Takes a cluster for data, where it can be taken.
     fn take_data_at(&mut self, cluster: HostCluster) -> Result<Option<PendingClusters>, ImageError>
         requires writable { IsTrue (is_writable self.old) }
-        ensures stays { ImageStays self.old self.new }
+        ensures step { ImageStep S.view self.old self.new }
+        ensures fails { ImageFails S.view F.backing self.old self.new result IsMet }
         ensures header { KeepsHeader self.old.file.header self.new.file.header }
-        ensures notes { KeepsFileNotes S.view self.old.file self.new.file }
-        ensures header_cluster { StaysBehindHeader S.view self.old self.new }
-        ensures cause { IfErr result IsMet }
         ensures fault { (p : Pending) (out : List (Option Prepared)) → ImageInvariant S.view F.backing p self.old out
             → IfErr result IsFaultOrLimit }
         ensures limit { (p : Pending) (out : List (Option Prepared)) → ImageInvariant S.view F.backing p self.old out
@@ -305,7 +237,6 @@ impl<S: Storage, F: WrappedFormat<S>> Qcow2<S, F> {
         ensures former { ListsFormer self.old self.new }
         ensures uses { (p : Pending) (out : List (Option Prepared)) → ImageInvariant S.view F.backing p self.old out
             → HoldsAll S.view F.backing p out → OnOk result (StaysUsed S.view self.old.file self.new.file) }
-        ensures faults { CountsImageFaults S.view F.backing self.old self.new result }
     {
         let Some(allocator) = &mut self.allocator else {
             unreachable!();

@@ -1,6 +1,8 @@
 //! A disk of another size: what lies behind a smaller one is dropped first, and the size is written last.
+ghost use Rattle.qcow2_image.specs.SoundParts.{GrowsSoundly};
+ghost use Rattle.qcow2_image.specs.ImageSteps.{ImageFails, ImageStep, MarkedStep};
 ghost use Rattle.qcow2_image.specs.BehindHeader.{StaysBehindHeader};
-ghost use Rattle.qcow2_image.specs.Noted.{ChangesRose, FailsOnceWritten, NotesChanges, NotesPart};
+ghost use Rattle.qcow2_image.specs.Noted.{ChangesRose, NotesChanges, NotesPart};
 ghost use Rattle.qcow2_alloc.specs.KeptMarks.{HaveRisen, KeepsFileNotes};
 ghost use Rattle.std.specs.Prelude.{ℕ, List, Option, ◌≡◌, ◌↔◌, ◌⊎◌, ◌+◌, ◌-◌, ◌<◌, ◌≤◌, max, [], Some, None, Ok, Err, IfOk, IfErr, IfSome, OnOk, OnErr, IsTrue, MatchOption, false};
 ghost use Rattle.qcow2_image.specs.LackedPlaces.{IsPlacedNear};
@@ -18,7 +20,7 @@ ghost use Rattle.qcow2_alloc.specs.ImageStorage.{is_changed_of};
 ghost use Rattle.qcow2_image.specs.Backings.{HasPrepared};
 ghost use Rattle.qcow2_image.specs.declared.prepared.Prepared.{Prepared};
 ghost use Rattle.qcow2_image.specs.Growing.{Resizes};
-ghost use Rattle.qcow2_image.specs.Image.{HasNothingToFree, IsSameImage, ImageStays, has_noted_change, is_failed, is_writable, size_of, with_marks};
+ghost use Rattle.qcow2_image.specs.Image.{HasNothingToFree, IsSameImage, has_noted_change, is_failed, is_writable, size_of, with_marks};
 ghost use Rattle.qcow2_image.specs.ImageInvariant.{ImageInvariant, abstract_of, pending_in};
 ghost use Rattle.qcow2_image.specs.LackedTables.{CantGrowDisk, LacksTableReaching};
 ghost use Rattle.qcow2_image.specs.LongerTables.{MakesEntry};
@@ -41,6 +43,7 @@ impl<S: Storage, F: WrappedFormat<S>> Qcow2<S, F> {
     /// Refused in this order: 16 (failed), 12 (dependency), 1 (read-only). Of a smaller size also 17 (mapping prepared) while a mapping
     /// is prepared that isn't existing. Where the work meets them: 14 (memory), 15 (storage).
     pub fn resize_shrink(&mut self, size: u64) -> Result<u64, ImageError>
+        ensures step { MarkedStep S.view F.backing self.old self.new result }
         ensures early { IfSome (refuses_to_resize self.old) (λ e. (result ≡ Err e) × (self.new ≡ self.old)) }
         ensures no_smaller { refuses_to_resize self.old ≡ None → size_of self.old ≤ size
             → (result ≡ Ok (size_of self.old)) × (self.new ≡ self.old) }
@@ -50,7 +53,6 @@ impl<S: Storage, F: WrappedFormat<S>> Qcow2<S, F> {
         ensures pinned { refuses_to_resize self.old ≡ None → size < size_of self.old
             → (result ≡ Err MappingPrepared) ↔ HasPinnedTable self.old }
         ensures late { refuses_to_resize self.old ≡ None → IfErr result (IsMetShrinking S.view F.backing self.old self.new) }
-        ensures marks { MarksFailed self.old self.new result }
         ensures image { size < size_of self.old → IsResized (size_after result (size_of self.old) size) self.old self.new }
         ensures sees { Shrinks S.view F.backing self.old self.new size result }
         ensures covers { (out : List (Option Prepared)) → (abstract_of S.view F.backing self.old out).is_sound
@@ -59,9 +61,6 @@ impl<S: Storage, F: WrappedFormat<S>> Qcow2<S, F> {
             → IfOk result (EndsTail S.view F.backing out self.old self.new size) }
         ensures last { (out : List (Option Prepared)) → (abstract_of S.view F.backing self.old out).is_sound
             → WritesSizeLast S.view F.backing self.old self.new }
-        ensures once_written { FailsOnceWritten S.view self.old self.new result }
-        ensures header_cluster { StaysBehindHeader S.view self.old self.new }
-        ensures faults { CountsImageFaults S.view F.backing self.old self.new result }
     {
         self.check_resize()?;
         if self.file.header.size() <= size {
@@ -88,8 +87,8 @@ impl<S: Storage, F: WrappedFormat<S>> Qcow2<S, F> {
     fn shrink(&mut self, size: u64) -> Result<u64, ImageError>
         requires usable { is_failed self.old ≡ false }
         requires smaller { size < size_of self.old }
+        ensures step { MarkedStep S.view F.backing self.old self.new result }
         ensures cause { IfErr result IsFault }
-        ensures marks { MarksFailed self.old self.new result }
         ensures image { IsResized (size_after result (size_of self.old) size) self.old self.new }
         ensures sees { Shrinks S.view F.backing self.old self.new size result }
         ensures covers { (out : List (Option Prepared)) → (abstract_of S.view F.backing self.old out).is_sound
@@ -99,9 +98,6 @@ impl<S: Storage, F: WrappedFormat<S>> Qcow2<S, F> {
             → IfOk result (EndsTail S.view F.backing out self.old self.new size) }
         ensures last { (out : List (Option Prepared)) → (abstract_of S.view F.backing self.old out).is_sound
             → WritesSizeLast S.view F.backing self.old self.new }
-        ensures once_written { FailsOnceWritten S.view self.old self.new result }
-        ensures header_cluster { StaysBehindHeader S.view self.old self.new }
-        ensures faults { CountsImageFaults S.view F.backing self.old self.new result }
     {
         let before = self.file.changes();
         let (end, stopped) = self.uncover_tail(size);
@@ -230,6 +226,7 @@ impl<S: Storage, F: WrappedFormat<S>> Qcow2<S, F> {
     /// 7 (compressed), 8 (everything is in use), 9 (table prepared) too. On a sound image the work meets 13, 14 and 15 alone, 7 where a
     /// cluster behind the old end is compressed, and 8 and 9 where a mapping is prepared that isn't existing.
     pub fn resize_grow(&mut self, size: u64, mode: PreallocateMode) -> Result<(), ImageError>
+        ensures step { MarkedStep S.view F.backing self.old self.new result }
         ensures early { IfSome (refuses_to_resize self.old) (λ e. (result ≡ Err e) × (self.new ≡ self.old)) }
         ensures no_larger { refuses_to_resize self.old ≡ None → size ≤ size_of self.old → (result ≡ Ok tt) × (self.new ≡ self.old) }
         ensures preallocation { refuses_to_resize self.old ≡ None → size_of self.old < size
@@ -244,7 +241,6 @@ impl<S: Storage, F: WrappedFormat<S>> Qcow2<S, F> {
         ensures limit { refuses_to_resize self.old ≡ None → size_of self.old < size → (out : List (Option Prepared))
             → (abstract_of S.view F.backing self.old out).is_sound
             → IfErr result (λ e. e ≡ Limit → CantGrowDisk S.view F.backing mode size self.old self.new out) }
-        ensures marks { MarksFailed self.old self.new result }
         ensures image { size_of self.old < size → IsResized (size_after result (size_of self.old) size) self.old self.new }
         ensures sees { GrowsTo S.view F.backing self.old self.new size mode result }
         ensures last { (out : List (Option Prepared)) → (abstract_of S.view F.backing self.old out).is_sound
@@ -255,9 +251,6 @@ impl<S: Storage, F: WrappedFormat<S>> Qcow2<S, F> {
         ensures freed { refuses_to_resize self.old ≡ None → size_of self.old < size
             → ¬ IsTrue (takes_over self.old mode) → (out : List (Option Prepared))
             → (abstract_of S.view F.backing self.old out).is_sound → IfErr result (FreesRefused self.new) }
-        ensures once_written { FailsOnceWritten S.view self.old self.new result }
-        ensures header_cluster { StaysBehindHeader S.view self.old self.new }
-        ensures faults { CountsImageFaults S.view F.backing self.old self.new result }
     {
         self.check_resize()?;
         if size <= self.file.header.size() {
@@ -286,25 +279,12 @@ impl<S: Storage, F: WrappedFormat<S>> Qcow2<S, F> {
         requires usable { is_failed self.old ≡ false }
         requires writable { IsTrue (is_writable self.old) }
         requires larger { size_of self.old < size }
+        ensures step { MarkedStep S.view F.backing self.old self.new result }
         ensures cause { IfErr result IsMetPreparing }
-        ensures met { (out : List (Option Prepared)) → (abstract_of S.view F.backing self.old out).is_sound
-            → IfErr result (IsMetGrowing out mode (size_of self.old)
-            (rounded_up (cluster_size self.old.file.header.fields) size) self.old.file.header.fields
-            (known_in S.view self.old.file)) }
-        ensures limit { (out : List (Option Prepared)) → (abstract_of S.view F.backing self.old out).is_sound
-            → IfErr result (λ e. e ≡ Limit → CantGrowDisk S.view F.backing mode size self.old self.new out) }
-        ensures marks { MarksFailed self.old self.new result }
+        ensures sound { (out : List (Option Prepared)) → (abstract_of S.view F.backing self.old out).is_sound
+            → GrowsSoundly S.view F.backing mode size self.old self.new out result }
         ensures image { IsResized (size_after result (size_of self.old) size) self.old self.new }
         ensures sees { GrowsTo S.view F.backing self.old self.new size mode result }
-        ensures last { (out : List (Option Prepared)) → (abstract_of S.view F.backing self.old out).is_sound
-            → WritesSizeLast S.view F.backing self.old self.new }
-        ensures tables { (out : List (Option Prepared)) → (abstract_of S.view F.backing self.old out).is_sound
-            → GrowsTables S.view F.backing self.old self.new size mode out result }
-        ensures freed { (out : List (Option Prepared)) → (abstract_of S.view F.backing self.old out).is_sound
-            → IfErr result (FreesRefused self.new) }
-        ensures once_written { FailsOnceWritten S.view self.old self.new result }
-        ensures header_cluster { StaysBehindHeader S.view self.old self.new }
-        ensures faults { CountsImageFaults S.view F.backing self.old self.new result }
     {
         self.begin();
         let longer = self.renew_l1_table(size - 1);
@@ -334,11 +314,9 @@ impl<S: Storage, F: WrappedFormat<S>> Qcow2<S, F> {
     #[tactic(auto, using(crate::proofs::Call::MetErrors::tables_met))]
     fn renew_l1_table(&mut self, offset: u64) -> Result<(), ImageError>
         requires writable { IsTrue (is_writable self.old) }
-        ensures stays { ImageStays self.old self.new }
-        ensures notes { KeepsFileNotes S.view self.old.file self.new.file }
+        ensures step { ImageStep S.view self.old self.new }
+        ensures fails { ImageFails S.view F.backing self.old self.new result IsMet }
         ensures noted { OnOk result (IsTrue self.new.file.caches.is_changed) }
-        ensures header_cluster { StaysBehindHeader S.view self.old self.new }
-        ensures cause { IfErr result IsMet }
         ensures placed { self.old.l1_table.cluster_bits ≡ self.old.file.header.fields.cluster_bits
             → OnOk result (IsPlacedNear self.new.l1_table) }
         ensures limit { (out : List (Option Prepared))
@@ -357,7 +335,6 @@ impl<S: Storage, F: WrappedFormat<S>> Qcow2<S, F> {
         ensures freed { (out : List (Option Prepared))
             → ImageInvariant S.view F.backing (pending_in S.view F.backing self.old out) self.old out
             → IfErr result (FreesRefused self.new) }
-        ensures faults { CountsImageFaults S.view F.backing self.old self.new result }
     {
         match self.lengthen_l1_table(offset) {
             Ok(()) => Ok(()),
@@ -369,11 +346,9 @@ impl<S: Storage, F: WrappedFormat<S>> Qcow2<S, F> {
     #[tactic(auto, using(crate::proofs::Call::MetErrors::tables_met))]
     fn lengthen_l1_table(&mut self, offset: u64) -> Result<(), ImageError>
         requires writable { IsTrue (is_writable self.old) }
-        ensures stays { ImageStays self.old self.new }
-        ensures notes { KeepsFileNotes S.view self.old.file self.new.file }
+        ensures step { ImageStep S.view self.old self.new }
+        ensures fails { ImageFails S.view F.backing self.old self.new result IsMet }
         ensures noted { OnOk result (IsTrue self.new.file.caches.is_changed) }
-        ensures header_cluster { StaysBehindHeader S.view self.old self.new }
-        ensures cause { IfErr result IsMet }
         ensures placed { self.old.l1_table.cluster_bits ≡ self.old.file.header.fields.cluster_bits
             → OnOk result (IsPlacedNear self.new.l1_table) }
         ensures limit { (out : List (Option Prepared))
@@ -389,7 +364,6 @@ impl<S: Storage, F: WrappedFormat<S>> Qcow2<S, F> {
         ensures makes { (out : List (Option Prepared))
             → ImageInvariant S.view F.backing (pending_in S.view F.backing self.old out) self.old out
             → MakesEntry S.view F.backing self.old self.new out result }
-        ensures faults { CountsImageFaults S.view F.backing self.old self.new result }
     {
         let index = GuestOffset::new(offset).l1_index(self.file.header.cluster_bits());
         self.grow_l1_table(index)?;
@@ -412,7 +386,7 @@ impl<S: Storage, F: WrappedFormat<S>> Qcow2<S, F> {
 
     // Writes the size, as the last write of a call. Refused, the size in memory is the old one again.
     pub(crate) fn write_size(&mut self, size: u64) -> Result<(), ImageError>
-        ensures cause { IfErr result IsFault }
+        ensures fails { ImageFails S.view F.backing self.old self.new result IsFault }
         ensures rest { self.new ≡ record self.old {
           file = record self.old.file {
             storage = self.new.file.storage;
@@ -431,7 +405,6 @@ impl<S: Storage, F: WrappedFormat<S>> Qcow2<S, F> {
             → Resizes S.view F.backing p self.old self.new size result }
         ensures notes { KeepsFileNotes S.view self.old.file self.new.file }
         ensures header_cluster { StaysBehindHeader S.view self.old self.new }
-        ensures faults { CountsImageFaults S.view F.backing self.old self.new result }
     {
         let old = self.file.header.size();
         self.file.header.set_size(size);

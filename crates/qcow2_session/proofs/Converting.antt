@@ -272,9 +272,7 @@ module _ {S F : Type 0} (view : S → StorageView) (backing : F → BackingView)
     -- the flush was refused
     pub imports_unflushed : (e : ImageError) (r : Result ℕ ImageError) → r ≡ Err e → ImportsAll view backing old mid contents (Ok tt) → FlushesImage view backing mid new (Err e) → Imports view backing old new contents r
     imports_unflushed e r is all flush = subst (λ x. Imports view backing old new contents x) (sym is) (λ out.
-        let v = abstract_of view backing old out in
-        let w = abstract_of view backing new out in
-        interrupted_if (λ h. (length contents, inr refl, may_write_all (refusal_of e) (guest_of v) (guest_of w) contents (h.1 ∙ h.0)))
+        interrupted_if (λ h. (length contents, inr refl, may_write_all (refusal_of e) (guest_of (abstract_of view backing old out)) (guest_of (abstract_of view backing new out)) contents (h.1 ∙ h.0)))
         (interrupted_then (λ _ _. none_within (abstract_of view backing mid out) (given_of 0 contents ∷ [])) (all out) (interrupted (flush out))))
 
     pub imports_flushed : (n : ℕ) → n ≡ length contents → ((out : List (Option Prepared)) → (abstract_of view backing old out).is_sound → length contents ≡ (guest_of (abstract_of view backing old out)).disk.size)

@@ -7,3 +7,4 @@ pub mod Told
 pub mod Opening
 pub mod Boxes
 pub mod Marks
+pub mod CallSteps

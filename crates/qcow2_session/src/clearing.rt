@@ -1,12 +1,10 @@
 //! The commands that zero and discard ranges.
+ghost use Rattle.qcow2_session.specs.CallSteps.{CommandStep};
 ghost use Rattle.std.specs.Prelude.{ℕ, ◌≡◌, false, List, Option};
-ghost use Rattle.qcow2_image.specs.BehindHeader.{StaysBehindHeader};
 ghost use Rattle.qcow2_image.specs.declared.mapping.Mapping.{Mapping};
-ghost use Rattle.qcow2_image.specs.Image.{number_of, IsSameImage, is_writable};
+ghost use Rattle.qcow2_image.specs.Image.{is_writable};
 ghost use Rattle.qcow2_image.specs.declared.prepared.Prepared.{Prepared};
 ghost use Rattle.qcow2_session.specs.Causes.{IsRightlyRefused};
-ghost use Rattle.qcow2_session.specs.CountedFaults.{CommandCounts, refusal_in};
-ghost use Rattle.qcow2_session.specs.Marks.{MarksAtOnce};
 ghost use Rattle.qcow2_session.specs.Commands.{reply_of_clearing};
 ghost use Rattle.qcow2_session.specs.Sessions.{CommandSteps, Finds};
 ghost use Rattle.qcow2_session.specs.Told.{TellsOfImage};
@@ -23,11 +21,8 @@ pub(crate) fn ensure_zero<S: Storage, F: WrappedFormat<S>>(
     offset: u64,
     length: u64,
 ) -> Reply
-    ensures image { IsSameImage image.old image.new }
+    ensures step { CommandStep S.view F.backing image.old image.new result }
     ensures reading { is_writable image.old ≡ false → image.new ≡ image.old }
-    ensures faults { CommandCounts S.view F.backing image.old image.new result }
-    ensures header_cluster { StaysBehindHeader S.view image.old image.new }
-    ensures marks { MarksAtOnce S.view (refusal_in result) image.old image.new }
     ensures tells { (before : List (Option Prepared))
         → TellsOfImage S.view F.backing image.old image.new before before (EnsureZeroMapping offset length) result }
     ensures causes { (before : List (Option Prepared)) (found : ℕ → Option Mapping)
@@ -45,11 +40,8 @@ pub(crate) fn discard_to_zero<S: Storage, F: WrappedFormat<S>>(
     offset: u64,
     length: u64,
 ) -> Reply
-    ensures image { IsSameImage image.old image.new }
+    ensures step { CommandStep S.view F.backing image.old image.new result }
     ensures reading { is_writable image.old ≡ false → image.new ≡ image.old }
-    ensures faults { CommandCounts S.view F.backing image.old image.new result }
-    ensures header_cluster { StaysBehindHeader S.view image.old image.new }
-    ensures marks { MarksAtOnce S.view (refusal_in result) image.old image.new }
     ensures tells { (before : List (Option Prepared))
         → TellsOfImage S.view F.backing image.old image.new before before (DiscardToZero offset length) result }
     ensures causes { (before : List (Option Prepared)) (found : ℕ → Option Mapping)
@@ -66,11 +58,8 @@ pub(crate) fn discard_to_any<S: Storage, F: WrappedFormat<S>>(
     offset: u64,
     length: u64,
 ) -> Reply
-    ensures image { IsSameImage image.old image.new }
+    ensures step { CommandStep S.view F.backing image.old image.new result }
     ensures reading { is_writable image.old ≡ false → image.new ≡ image.old }
-    ensures faults { CommandCounts S.view F.backing image.old image.new result }
-    ensures header_cluster { StaysBehindHeader S.view image.old image.new }
-    ensures marks { MarksAtOnce S.view (refusal_in result) image.old image.new }
     ensures tells { (before : List (Option Prepared))
         → TellsOfImage S.view F.backing image.old image.new before before (DiscardToAny offset length) result }
     ensures causes { (before : List (Option Prepared)) (found : ℕ → Option Mapping)
@@ -87,11 +76,8 @@ pub(crate) fn discard_to_backing<S: Storage, F: WrappedFormat<S>>(
     offset: u64,
     length: u64,
 ) -> Reply
-    ensures image { IsSameImage image.old image.new }
+    ensures step { CommandStep S.view F.backing image.old image.new result }
     ensures reading { is_writable image.old ≡ false → image.new ≡ image.old }
-    ensures faults { CommandCounts S.view F.backing image.old image.new result }
-    ensures header_cluster { StaysBehindHeader S.view image.old image.new }
-    ensures marks { MarksAtOnce S.view (refusal_in result) image.old image.new }
     ensures tells { (before : List (Option Prepared))
         → TellsOfImage S.view F.backing image.old image.new before before (DiscardToBacking offset length) result }
     ensures causes { (before : List (Option Prepared)) (found : ℕ → Option Mapping)

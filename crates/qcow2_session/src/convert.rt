@@ -1,19 +1,16 @@
 //! Images of raw disks, and raw disks of images.
+ghost use Rattle.qcow2_session.specs.CallSteps.{ExportStep, ImportStep};
 ghost use Rattle.std.specs.Prelude.{◌≡◌, ◌≢◌, ◌⊎◌, ◌↔◌, ◌+◌, ◌-◌, ◌<◌, ◌≤◌, List, Option, None, Err, length, replicate, IfSome, IfErr, IfOk, OnOk, IsTrue};
 ghost use Rattle.image_access.specs.Contents.{bytes_at};
 ghost use Rattle.qcow2_alloc.specs.ImageFile.{known_in};
-ghost use Rattle.qcow2_image.specs.BehindHeader.{StaysBehindHeader};
-ghost use Rattle.qcow2_image.specs.Image.{HasNothingToFree, IsSameImage, is_writable, size_of};
+ghost use Rattle.qcow2_image.specs.Image.{HasNothingToFree, is_writable, size_of};
 ghost use Rattle.qcow2_image.specs.ImageInvariant.{abstract_of};
 ghost use Rattle.qcow2_image.specs.declared.prepared.Prepared.{Prepared};
 ghost use Rattle.qcow2_image.specs.MetAlone.{IsMetReadingRange};
 ghost use Rattle.qcow2_image.specs.Refusals.{refuses_to_read};
 ghost use Rattle.qcow2_alloc.specs.declared.error.ImageError.TheVariants.{InvalidOption};
 ghost use Rattle.qcow2_session.specs.Sessions.{IsOfReading, IsOfWriting, cluster_size_of};
-ghost use Rattle.qcow2_session.specs.CountedFaults.{ConversionCounts};
-ghost use Rattle.qcow2_session.specs.Conversions.{DiffersWhereKept, IsMetImporting, IsOfImporting, IsReasonNotToWrite, IsRefusedUnequal, IsLeft, IsUnchanged, Imports, ImportsAll, ImportsAt, ImportsAny, ImportsAnyAt, ImportsAnyOf, Fills, Exports};
-ghost use Rattle.qcow2_image.specs.Unwritten.{ReadsQuietly};
-ghost use Rattle.qcow2_session.specs.Told.{StaysQuiet};
+ghost use Rattle.qcow2_session.specs.Conversions.{DiffersWhereKept, IsMetImporting, IsOfImporting, IsReasonNotToWrite, IsRefusedUnequal, Imports, ImportsAll, ImportsAt, ImportsAny, ImportsAnyAt, ImportsAnyOf, Fills, Exports};
 
 use crate::session::{read_into, write};
 use image_access::{Storage, StoragePreallocate, WrappedFormat};
@@ -31,14 +28,13 @@ pub fn to_qcow2<R: Storage, S: Storage, F: WrappedFormat<S>>(
     raw: &mut R,
     image: &mut Qcow2<S, F>,
 ) -> Result<u64, ImageError>
-    ensures image { IsSameImage image.old image.new }
+    ensures step { ImportStep S.view F.backing image.old image.new (R.view raw.old) (R.view raw.new) result }
     ensures early { IfSome (refuses_to_read image.old 0 0) (λ e. (result ≡ Err e) × (image.new ≡ image.old) × (raw.new ≡ raw.old)) }
     ensures unequal { (R.view raw.old).is_honest → length (R.view raw.old).contents ≢ size_of image.old
         → IsRefusedUnequal (refuses_to_read image.old 0 0) (R.view raw.old).faults (R.view raw.new).faults result
         × (image.new ≡ image.old) }
     ensures option { (R.view raw.old).is_honest
         → IfErr result (λ e. e ≡ InvalidOption → length (R.view raw.old).contents ≢ size_of image.old) }
-    ensures raw { IsLeft (R.view raw.old) (R.view raw.new) }
     ensures sees { (R.view raw.old).is_honest → Imports S.view F.backing image.old image.new (R.view raw.old).contents result }
     ensures any { ImportsAny S.view F.backing image.old image.new result }
     ensures cause { IfErr result IsOfImporting }
@@ -47,9 +43,6 @@ pub fn to_qcow2<R: Storage, S: Storage, F: WrappedFormat<S>>(
     ensures met { refuses_to_read image.old 0 0 ≡ None → (out : List (Option Prepared)) → (abstract_of S.view F.backing image.old out).is_sound
         → IfErr result (λ e. (e ≡ InvalidOption) ⊎ IsMetImporting S.view 0 (size_of image.old) image.new out e) }
     ensures emptied { IsTrue (is_writable image.old) → IfOk result (λ n. HasNothingToFree image.new) }
-    ensures faults { ConversionCounts S.view F.backing image.old image.new (R.view raw.old).faults (R.view raw.new).faults result }
-    ensures quiet { StaysQuiet S.view image.old image.new }
-    ensures header_cluster { StaysBehindHeader S.view image.old image.new }
     ensures differs { (R.view raw.old).is_honest → IfErr result (DiffersWhereKept S.view F.backing image.old 0 (R.view raw.old).contents) }
 {
     image.check_read(0, 0)?;
@@ -76,8 +69,7 @@ fn import_all<R: Storage, S: Storage, F: WrappedFormat<S>>(
     requires wanted { length wanted.old ≡ cluster_size_of image.old }
     requires present { length present.old ≡ cluster_size_of image.old }
     requires some { 0 < length wanted.old }
-    ensures image { IsSameImage image.old image.new }
-    ensures raw { IsLeft (R.view raw.old) (R.view raw.new) }
+    ensures step { ImportStep S.view F.backing image.old image.new (R.view raw.old) (R.view raw.new) result }
     ensures cause { IfErr result IsOfWriting }
     ensures sees { (R.view raw.old).is_honest → size ≡ length (R.view raw.old).contents
         → ImportsAll S.view F.backing image.old image.new (R.view raw.old).contents result }
@@ -88,9 +80,6 @@ fn import_all<R: Storage, S: Storage, F: WrappedFormat<S>>(
     ensures met { refuses_to_read image.old 0 0 ≡ None → size ≡ size_of image.old → (out : List (Option Prepared))
         → (abstract_of S.view F.backing image.old out).is_sound
         → IfErr result (IsMetImporting S.view 0 size image.new out) }
-    ensures faults { ConversionCounts S.view F.backing image.old image.new (R.view raw.old).faults (R.view raw.new).faults result }
-    ensures quiet { StaysQuiet S.view image.old image.new }
-    ensures header_cluster { StaysBehindHeader S.view image.old image.new }
     ensures differs { (R.view raw.old).is_honest → size ≡ length (R.view raw.old).contents
         → IfErr result (DiffersWhereKept S.view F.backing image.old 0 (R.view raw.old).contents) }
 {
@@ -112,8 +101,7 @@ fn import_at<R: Storage, S: Storage, F: WrappedFormat<S>>(
     present: &mut [u8],
 ) -> Result<(), ImageError>
     requires { length present.old ≡ length wanted.old }
-    ensures image { IsSameImage image.old image.new }
-    ensures raw { IsLeft (R.view raw.old) (R.view raw.new) }
+    ensures step { ImportStep S.view F.backing image.old image.new (R.view raw.old) (R.view raw.new) result }
     ensures cause { IfErr result IsOfWriting }
     ensures sees { (R.view raw.old).is_honest
         → ImportsAt S.view F.backing image.old image.new at
@@ -126,9 +114,6 @@ fn import_at<R: Storage, S: Storage, F: WrappedFormat<S>>(
     ensures met { refuses_to_read image.old at (length wanted.old) ≡ None → (out : List (Option Prepared))
         → (abstract_of S.view F.backing image.old out).is_sound
         → IfErr result (IsMetImporting S.view at (at + length wanted.old) image.new out) }
-    ensures faults { ConversionCounts S.view F.backing image.old image.new (R.view raw.old).faults (R.view raw.new).faults result }
-    ensures quiet { StaysQuiet S.view image.old image.new }
-    ensures header_cluster { StaysBehindHeader S.view image.old image.new }
     ensures differs { (R.view raw.old).is_honest
         → IfErr result (DiffersWhereKept S.view F.backing image.old at
         (bytes_at (R.view raw.old).contents at (length wanted.old))) }
@@ -154,19 +139,14 @@ pub fn to_raw<S: Storage, F: WrappedFormat<S>, R: Storage>(
     image: &mut Qcow2<S, F>,
     raw: &mut R,
 ) -> Result<u64, ImageError>
-    ensures image { IsSameImage image.old image.new }
+    ensures step { ExportStep S.view F.backing image.old image.new (R.view raw.old) (R.view raw.new) result }
     ensures early { IfSome (refuses_to_read image.old 0 0) (λ e. (result ≡ Err e) × (image.new ≡ image.old) × (raw.new ≡ raw.old)) }
-    ensures same { IsUnchanged S.view F.backing image.old image.new result }
-    ensures honest { (R.view raw.old).is_honest → (R.view raw.new).is_honest }
     ensures sees { (R.view raw.old).is_honest → IfOk result (λ n. Exports S.view F.backing image.old (R.view raw.new).contents n) }
     ensures cause { IfErr result IsOfReading }
     ensures met { refuses_to_read image.old 0 0 ≡ None → (out : List (Option Prepared))
         → (abstract_of S.view F.backing image.old out).is_sound
         → IfErr result (IsMetReadingRange out 0 (size_of image.old) image.old.file.header.fields
         (known_in S.view image.old.file)) }
-    ensures faults { ConversionCounts S.view F.backing image.old image.new (R.view raw.old).faults (R.view raw.new).faults result }
-    ensures header_cluster { StaysBehindHeader S.view image.old image.new }
-    ensures quiet { ReadsQuietly S.view image.old image.new }
 {
     image.check_read(0, 0)?;
     let size = image.size();
@@ -189,18 +169,13 @@ fn export_all<S: Storage, F: WrappedFormat<S>, R: Storage>(
 ) -> Result<(), ImageError>
     requires some { 0 < length bytes.old }
     requires zeros { zeros.now ≡ replicate (length bytes.old) 0 }
-    ensures image { IsSameImage image.old image.new }
-    ensures same { IsUnchanged S.view F.backing image.old image.new result }
-    ensures honest { (R.view raw.old).is_honest → (R.view raw.new).is_honest }
+    ensures step { ExportStep S.view F.backing image.old image.new (R.view raw.old) (R.view raw.new) result }
     ensures sees { (R.view raw.old).is_honest
         → OnOk result (Fills S.view F.backing image.old 0 size (R.view raw.old).contents (R.view raw.new).contents) }
     ensures cause { IfErr result IsOfReading }
     ensures met { refuses_to_read image.old 0 0 ≡ None → size ≡ size_of image.old → (out : List (Option Prepared))
         → (abstract_of S.view F.backing image.old out).is_sound
         → IfErr result (IsMetReadingRange out 0 size image.old.file.header.fields (known_in S.view image.old.file)) }
-    ensures faults { ConversionCounts S.view F.backing image.old image.new (R.view raw.old).faults (R.view raw.new).faults result }
-    ensures header_cluster { StaysBehindHeader S.view image.old image.new }
-    ensures quiet { ReadsQuietly S.view image.old image.new }
 {
     let mut at = 0;
     while at < size {
@@ -220,9 +195,7 @@ fn export_at<S: Storage, F: WrappedFormat<S>, R: Storage>(
     zeros: &[u8],
 ) -> Result<(), ImageError>
     requires { zeros.now ≡ replicate (length bytes.old) 0 }
-    ensures image { IsSameImage image.old image.new }
-    ensures same { IsUnchanged S.view F.backing image.old image.new result }
-    ensures honest { (R.view raw.old).is_honest → (R.view raw.new).is_honest }
+    ensures step { ExportStep S.view F.backing image.old image.new (R.view raw.old) (R.view raw.new) result }
     ensures sees { (R.view raw.old).is_honest
         → OnOk result (Fills S.view F.backing image.old at (at + length bytes.old) (R.view raw.old).contents
         (R.view raw.new).contents) }
@@ -231,9 +204,6 @@ fn export_at<S: Storage, F: WrappedFormat<S>, R: Storage>(
         → (abstract_of S.view F.backing image.old out).is_sound
         → IfErr result (IsMetReadingRange out at (at + length bytes.old) image.old.file.header.fields
         (known_in S.view image.old.file)) }
-    ensures faults { ConversionCounts S.view F.backing image.old image.new (R.view raw.old).faults (R.view raw.new).faults result }
-    ensures header_cluster { StaysBehindHeader S.view image.old image.new }
-    ensures quiet { ReadsQuietly S.view image.old image.new }
 {
     read_into(image, at, bytes)?;
     if is_same(bytes, zeros) {

@@ -1,26 +1,24 @@
 //! Commands, one after the other, on one image.
+ghost use Rattle.qcow2_session.specs.CallSteps.{CommandStep, ReadingParts, ReleasingStep, SpecialStep, WritesSoundly, WritingParts};
 ghost use Rattle.std.specs.Prelude.{◌≡◌, ◌+◌, ◌^◌, ◌≤◌, ◌⊎◌, ◌<◌, ◌++◌, ◌∷◌, ℕ, List, [], length, vec_len, IfSome, IfErr, IfOk, IsTrue, MatchResult, OnOk, Option, None, Some, Err, true, false, ◌-◌};
 ghost use Rattle.qcow2_alloc.specs.declared.error.ImageError.TheVariants.{Limit, Memory, OutdatedMapping, TablePrepared};
 ghost use Rattle.qcow2_alloc.specs.ImageFile.{known_in};
 ghost use Rattle.qcow2_image.specs.Backings.{HasPrepared};
 ghost use Rattle.qcow2_image.specs.BehindHeader.{StaysBehindHeader};
 ghost use Rattle.qcow2_image.specs.Found.{IsFoundWhole, further_by};
-ghost use Rattle.qcow2_image.specs.L1Entries.{NeedsFarEntry};
-ghost use Rattle.qcow2_image.specs.LackedPlaces.{LacksPlaceFor};
 ghost use Rattle.qcow2_image.specs.ListedClusters.{ListsNoMore};
 ghost use Rattle.qcow2_image.specs.MetAlone.{CopiesCompressed, IsCacheHeld, IsMetMapped, IsMetReadingRange, IsMetTaking};
-ghost use Rattle.qcow2_image.specs.Clearing.{IsUnderMapping};
 ghost use Rattle.qcow2_image.specs.Preallocation.{IsUnderMappingIn};
 ghost use Rattle.qcow2_image.specs.Image.{IsSameImage, is_failed, is_writable, number_of, size_of, KeepsWholeHeader};
 ghost use Rattle.qcow2_image.specs.Prepared.{image_of};
 ghost use Rattle.qcow2_image.specs.ImageInvariant.{abstract_of};
 ghost use Rattle.qcow2_image.specs.Calls.{Discards};
 ghost use Rattle.qcow2_image.specs.Refusals.{IsMet, IsMetPreparing, unusable, refuses_mapping, refuses_to_read, refuses_to_prepare};
-ghost use Rattle.qcow2_image.specs.Faults.{CountsImageFaults, NoFewerFaults, SameFaults, TellsEachBy, TellsFault};
+ghost use Rattle.qcow2_image.specs.Faults.{NoFewerFaults, SameFaults, TellsEachBy, TellsFault};
 ghost use Rattle.qcow2_session.specs.Causes.{IsRightlyRefused};
 ghost use Rattle.qcow2_session.specs.CountedFaults.{CommandCounts, RunCounts, refusal_in};
-ghost use Rattle.qcow2_session.specs.Marks.{MarksAtOnce, MarksBy, MarksInParts, reason_in};
-ghost use Rattle.qcow2_session.specs.Sessions.{IsRightlyBeyond, IsOfReading, IsOfWriting, LacksPlaceToWrite, LeavesCopied, NeedsFarToWrite, EndsCluster, Reads, ReadsInto, ReadsFirst, Writes, WritesFirst, CommandSteps, Finds, ReleasesMappings, RunsThrough, RunRefinesDisk, LookupsFindContents, mappings_in, HeedsFirst, HeedsMappings};
+ghost use Rattle.qcow2_session.specs.Marks.{MarksBy, MarksInParts};
+ghost use Rattle.qcow2_session.specs.Sessions.{IsRightlyBeyond, IsOfReading, IsOfWriting, LacksPlaceToWrite, LeavesCopied, NeedsFarToWrite, EndsCluster, Reads, ReadsInto, ReadsFirst, Writes, WritesFirst, CommandSteps, Finds, ReleasesMappings, RunsThrough, RunRefinesDisk, LookupsFindContents, mappings_in, HeedsMappings};
 ghost use Rattle.qcow2_image.specs.declared.mapping.Mapping.{Mapping};
 ghost use Rattle.qcow2_image.specs.Ranges.{ReleasesOneMapping};
 ghost use Rattle.qcow2_image.specs.Unwritten.{ReadsQuietly};
@@ -171,11 +169,7 @@ pub fn read<S: Storage, F: WrappedFormat<S>>(
     offset: u64,
     length: u64,
 ) -> Result<Vec<u8>, ImageError>
-    ensures image { IsSameImage image.old image.new }
-    ensures faults { CountsImageFaults S.view F.backing image.old image.new result }
-    ensures header { KeepsWholeHeader image.old image.new }
-    ensures header_cluster { StaysBehindHeader S.view image.old image.new }
-    ensures marks { MarksInParts S.view (reason_in result) image.old image.new }
+    ensures step { ReadingParts S.view F.backing image.old image.new result }
     ensures early { IfSome (refuses_to_read image.old offset length) (λ e. (result ≡ Err e) × (image.new ≡ image.old)) }
     ensures late { refuses_to_read image.old offset length ≡ None → IfErr result (λ e. IsMet e × (0 < length)) }
     ensures met { refuses_to_read image.old offset length ≡ None → (out : List (Option Prepared))
@@ -185,7 +179,6 @@ pub fn read<S: Storage, F: WrappedFormat<S>>(
     ensures beyond { IfErr result (IsRightlyBeyond image.old offset length) }
     ensures cause { IfErr result IsOfReading }
     ensures sees { Reads S.view F.backing image.old image.new offset length result }
-    ensures quiet { ReadsQuietly S.view image.old image.new }
 {
     image.check_read(offset, length)?;
     let Ok(count) = usize::try_from(length) else {
@@ -216,11 +209,7 @@ pub fn read_into<S: Storage, F: WrappedFormat<S>>(
     offset: u64,
     bytes: &mut [u8],
 ) -> Result<(), ImageError>
-    ensures image { IsSameImage image.old image.new }
-    ensures faults { CountsImageFaults S.view F.backing image.old image.new result }
-    ensures header { KeepsWholeHeader image.old image.new }
-    ensures header_cluster { StaysBehindHeader S.view image.old image.new }
-    ensures marks { MarksInParts S.view (reason_in result) image.old image.new }
+    ensures step { ReadingParts S.view F.backing image.old image.new result }
     ensures early { IfSome (refuses_to_read image.old offset (length bytes.old)) (λ e. (result ≡ Err e) × (image.new ≡ image.old)) }
     ensures late { refuses_to_read image.old offset (length bytes.old) ≡ None → IfErr result (λ e. IsMet e × (0 < length bytes.old)) }
     ensures met { refuses_to_read image.old offset (length bytes.old) ≡ None → (out : List (Option Prepared))
@@ -230,7 +219,6 @@ pub fn read_into<S: Storage, F: WrappedFormat<S>>(
     ensures beyond { IfErr result (IsRightlyBeyond image.old offset (length bytes.old)) }
     ensures cause { IfErr result IsOfReading }
     ensures sees { ReadsInto S.view F.backing image.old image.new offset bytes.new result }
-    ensures quiet { ReadsQuietly S.view image.old image.new }
 {
     image.check_read(offset, bytes.len() as u64)?;
     let mut done = 0;
@@ -249,11 +237,7 @@ fn read_some<S: Storage, F: WrappedFormat<S>>(
     offset: u64,
     bytes: &mut [u8],
 ) -> Result<usize, ImageError>
-    ensures image { IsSameImage image.old image.new }
-    ensures faults { CountsImageFaults S.view F.backing image.old image.new result }
-    ensures header { KeepsWholeHeader image.old image.new }
-    ensures header_cluster { StaysBehindHeader S.view image.old image.new }
-    ensures marks { MarksInParts S.view (reason_in result) image.old image.new }
+    ensures step { ReadingParts S.view F.backing image.old image.new result }
     ensures some { IfOk result (λ n. 0 < n) }
     ensures within { IfOk result (λ n. n ≤ length bytes.old) }
     ensures late { refuses_to_read image.old offset (length bytes.old) ≡ None → 0 < length bytes.old → IfErr result IsMet }
@@ -264,7 +248,6 @@ fn read_some<S: Storage, F: WrappedFormat<S>>(
     ensures beyond { 0 < length bytes.old → IfErr result (IsRightlyBeyond image.old offset (length bytes.old)) }
     ensures cause { IfErr result IsOfReading }
     ensures sees { ReadsFirst S.view F.backing image.old image.new offset bytes.new result }
-    ensures quiet { ReadsQuietly S.view image.old image.new }
 {
     let (mapping, found) = image.get_mapping(offset, bytes.len() as u64)?;
     let count = found as usize;
@@ -348,24 +331,13 @@ fn write_some<S: Storage, F: WrappedFormat<S>>(
     offset: u64,
     bytes: &[u8],
 ) -> Result<usize, ImageError>
-    ensures image { IsSameImage image.old image.new }
-    ensures faults { CountsImageFaults S.view F.backing image.old image.new result }
-    ensures header_cluster { StaysBehindHeader S.view image.old image.new }
-    ensures marks { MarksInParts S.view (reason_in result) image.old image.new }
+    ensures step { WritingParts S.view F.backing image.old image.new result }
     ensures early { IfSome (refuses_to_prepare image.old offset (length bytes.now)) (λ e. (result ≡ Err e) × (image.new ≡ image.old)) }
     ensures late { refuses_to_prepare image.old offset (length bytes.now) ≡ None
         → IfErr result (λ e. IsMetPreparing e × (0 < length bytes.now)) }
-    ensures met { refuses_to_prepare image.old offset (length bytes.now) ≡ None → (out : List (Option Prepared))
+    ensures sound { refuses_to_prepare image.old offset (length bytes.now) ≡ None → (out : List (Option Prepared))
         → (abstract_of S.view F.backing image.old out).is_sound
-        → IfErr result (IsMetTaking (HasPrepared out) (IsUnderMapping image.old.file.header.fields offset out)
-        (CopiesCompressed offset (length bytes.now) true image.new.file.header.fields (known_in S.view image.new.file))
-        (NeedsFarEntry image.old offset)) }
-    ensures taken { refuses_to_prepare image.old offset (length bytes.now) ≡ None → (out : List (Option Prepared))
-        → (abstract_of S.view F.backing image.old out).is_sound
-        → HeedsFirst S.view F.backing image.old out offset (length bytes.now) result }
-    ensures limit { refuses_to_prepare image.old offset (length bytes.now) ≡ None → (out : List (Option Prepared))
-        → (abstract_of S.view F.backing image.old out).is_sound
-        → IfErr result (λ e. e ≡ Limit → LacksPlaceFor S.view offset (length bytes.now) image.old image.new) }
+        → WritesSoundly S.view F.backing image.old image.new offset (length bytes.now) out result }
     ensures freeing { (out : List (Option Prepared)) → (abstract_of S.view F.backing image.old out).is_sound
         → OnOk result (ListsNoMore image.old image.new) }
     ensures some { IfOk result (λ n. 0 < length bytes.now → 0 < n) }
@@ -379,7 +351,6 @@ fn write_some<S: Storage, F: WrappedFormat<S>>(
     ensures copied { 0 < length bytes.now → (out : List (Option Prepared))
         → (abstract_of S.view F.backing image.old out).is_sound
         → IfOk result (LeavesCopied S.view F.backing image.old image.new offset bytes.now) }
-    ensures quiet { StaysQuiet S.view image.old image.new }
 {
     let prepared = image.prepare_data_mapping(offset, bytes.len() as u64, true)?;
     let count = bytes.len().min(prepared.length() as usize);
@@ -514,10 +485,7 @@ fn get_mapping<S: Storage, F: WrappedFormat<S>>(
     max: u64,
 ) -> Reply
     requires { slots.old.image ≡ number_of image.old }
-    ensures image { IsSameImage image.old image.new }
-    ensures faults { CommandCounts S.view F.backing image.old image.new result }
-    ensures header_cluster { StaysBehindHeader S.view image.old image.new }
-    ensures marks { MarksAtOnce S.view (refusal_in result) image.old image.new }
+    ensures step { CommandStep S.view F.backing image.old image.new result }
     ensures causes { IsRightlyRefused S.view F.backing image.old image.new slots.old.prepared.items
         (mappings_in slots.old.mappings.items) (Command.GetMapping slot offset max) result }
     ensures slots { slots.new.image ≡ slots.old.image }
@@ -546,10 +514,7 @@ fn read_mapped<S: Storage, F: WrappedFormat<S>>(
     length: u64,
 ) -> Reply
     requires { slots.now.image ≡ number_of image.old }
-    ensures image { IsSameImage image.old image.new }
-    ensures faults { CommandCounts S.view F.backing image.old image.new result }
-    ensures header_cluster { StaysBehindHeader S.view image.old image.new }
-    ensures marks { MarksAtOnce S.view (refusal_in result) image.old image.new }
+    ensures step { CommandStep S.view F.backing image.old image.new result }
     ensures causes { IsRightlyRefused S.view F.backing image.old image.new slots.now.prepared.items
         (mappings_in slots.now.mappings.items) (Command.ReadMapped slot at length) result }
     ensures command_step { CommandSteps S.view F.backing image.old image.new slots.now slots.now (Command.ReadMapped slot at length) result }
@@ -577,10 +542,7 @@ fn read_range<S: Storage, F: WrappedFormat<S>>(
     length: u64,
 ) -> Result<Vec<u8>, ImageError>
     requires { at + length ≤ mapping.now.length }
-    ensures image { IsSameImage image.old image.new }
-    ensures faults { CountsImageFaults S.view F.backing image.old image.new result }
-    ensures header_cluster { StaysBehindHeader S.view image.old image.new }
-    ensures marks { MarksAtOnce S.view (reason_in result) image.old image.new }
+    ensures step { SpecialStep S.view F.backing image.old image.new result }
     ensures early { IfSome (unusable image.old) (λ e. (result ≡ Err e) × (image.new ≡ image.old)) }
     ensures late { refuses_mapping image.old mapping.now.image ≡ None → IfErr result (λ e. IsMet e × (0 < length)) }
     ensures met { refuses_mapping image.old mapping.now.image ≡ None → (out : List (Option Prepared))
@@ -593,7 +555,6 @@ fn read_range<S: Storage, F: WrappedFormat<S>>(
         → OnOk result (IsFoundWhole S.view image.old (mapping.now.offset + at)
         (further_by at mapping.now.kind) length) }
     ensures sees { Reads S.view F.backing image.old image.new (mapping.now.offset + at) length result }
-    ensures quiet { ReadsQuietly S.view image.old image.new }
 {
     image.check_read(0, 0)?;
     let mut bytes = zeros(alloc, length as usize)?;
@@ -610,10 +571,7 @@ fn prepare<S: Storage, F: WrappedFormat<S>>(
     overwrite: bool,
 ) -> Reply
     requires { slots.old.image ≡ number_of image.old }
-    ensures image { IsSameImage image.old image.new }
-    ensures faults { CommandCounts S.view F.backing image.old image.new result }
-    ensures header_cluster { StaysBehindHeader S.view image.old image.new }
-    ensures marks { MarksAtOnce S.view (refusal_in result) image.old image.new }
+    ensures step { CommandStep S.view F.backing image.old image.new result }
     ensures causes { IsRightlyRefused S.view F.backing image.old image.new slots.old.prepared.items
         (mappings_in slots.old.mappings.items) (Command.PrepareDataMapping slot offset length overwrite) result }
     ensures slots { slots.new.image ≡ slots.old.image }
@@ -650,11 +608,8 @@ fn write_mapped<S: Storage, F: WrappedFormat<S>>(
     bytes: &Vec<u8>,
 ) -> Reply
     requires { slots.now.image ≡ number_of image.old }
-    ensures image { IsSameImage image.old image.new }
+    ensures step { CommandStep S.view F.backing image.old image.new result }
     ensures reading { is_writable image.old ≡ false → image.new ≡ image.old }
-    ensures faults { CommandCounts S.view F.backing image.old image.new result }
-    ensures header_cluster { StaysBehindHeader S.view image.old image.new }
-    ensures marks { MarksAtOnce S.view (refusal_in result) image.old image.new }
     ensures causes { IsRightlyRefused S.view F.backing image.old image.new slots.now.prepared.items
         (mappings_in slots.now.mappings.items) (Command.WriteMapped slot at bytes.now) result }
     ensures command_step { CommandSteps S.view F.backing image.old image.new slots.now slots.now (Command.WriteMapped slot at bytes.now) result }
@@ -679,10 +634,7 @@ fn commit<S: Storage, F: WrappedFormat<S>>(
     slot: u8,
 ) -> Reply
     requires { slots.old.image ≡ number_of image.old }
-    ensures image { IsSameImage image.old image.new }
-    ensures faults { CommandCounts S.view F.backing image.old image.new result }
-    ensures header_cluster { StaysBehindHeader S.view image.old image.new }
-    ensures marks { MarksAtOnce S.view (refusal_in result) image.old image.new }
+    ensures step { CommandStep S.view F.backing image.old image.new result }
     ensures causes { IsRightlyRefused S.view F.backing image.old image.new slots.old.prepared.items
         (mappings_in slots.old.mappings.items) (Command.CommitDataMapping slot) result }
     ensures slots { slots.new.image ≡ slots.old.image }
@@ -710,10 +662,7 @@ fn discard<S: Storage, F: WrappedFormat<S>>(
     slot: u8,
 ) -> Reply
     requires { slots.old.image ≡ number_of image.old }
-    ensures image { IsSameImage image.old image.new }
-    ensures faults { CommandCounts S.view F.backing image.old image.new result }
-    ensures header_cluster { StaysBehindHeader S.view image.old image.new }
-    ensures marks { MarksAtOnce S.view (refusal_in result) image.old image.new }
+    ensures step { CommandStep S.view F.backing image.old image.new result }
     ensures causes { IsRightlyRefused S.view F.backing image.old image.new slots.old.prepared.items
         (mappings_in slots.old.mappings.items) (Command.DiscardDataMapping slot) result }
     ensures slots { slots.new.image ≡ slots.old.image }
@@ -732,10 +681,7 @@ fn discard<S: Storage, F: WrappedFormat<S>>(
 }
 
 fn flush<S: Storage, F: WrappedFormat<S>>(image: &mut Qcow2<S, F>) -> Reply
-    ensures image { IsSameImage image.old image.new }
-    ensures faults { CommandCounts S.view F.backing image.old image.new result }
-    ensures header_cluster { StaysBehindHeader S.view image.old image.new }
-    ensures marks { MarksAtOnce S.view (refusal_in result) image.old image.new }
+    ensures step { CommandStep S.view F.backing image.old image.new result }
     ensures causes { (before : List (Option Prepared)) (found : ℕ → Option Mapping)
         → IsRightlyRefused S.view F.backing image.old image.new before found Command.Flush result }
     ensures command_step { (slots : Slots) → CommandSteps S.view F.backing image.old image.new slots slots Command.Flush result }
@@ -751,12 +697,8 @@ fn flush<S: Storage, F: WrappedFormat<S>>(image: &mut Qcow2<S, F>) -> Reply
 // Discards what stands in a slot.
 fn release_slot<S: Storage, F: WrappedFormat<S>>(image: &mut Qcow2<S, F>, slot: Option<Prepared>)
     requires { IfSome slot (λ p. image_of p ≡ number_of image.old) }
-    ensures image { IsSameImage image.old image.new }
-    ensures faults { SameFaults S.view F.backing image.old image.new }
-    ensures header_cluster { StaysBehindHeader S.view image.old image.new }
-    ensures marks { is_failed image.new ≡ is_failed image.old }
+    ensures step { ReleasingStep S.view F.backing image.old image.new }
     ensures sees { (out : List (Option Prepared)) → ReleasesMappings S.view F.backing image.old image.new (out ++ slot ∷ []) out }
-    ensures quiet { ReadsQuietly S.view image.old image.new }
 {
     if let Some(prepared) = slot {
         release(image, prepared);
@@ -766,12 +708,8 @@ fn release_slot<S: Storage, F: WrappedFormat<S>>(image: &mut Qcow2<S, F>, slot: 
 // Discards what is left.
 fn discard_all<S: Storage, F: WrappedFormat<S>>(image: &mut Qcow2<S, F>, slots: Slots)
     requires { slots.image ≡ number_of image.old }
-    ensures image { IsSameImage image.old image.new }
+    ensures step { ReleasingStep S.view F.backing image.old image.new }
     ensures sees { ReleasesMappings S.view F.backing image.old image.new slots.prepared.items [] }
-    ensures faults { SameFaults S.view F.backing image.old image.new }
-    ensures header_cluster { StaysBehindHeader S.view image.old image.new }
-    ensures marks { is_failed image.new ≡ is_failed image.old }
-    ensures quiet { ReadsQuietly S.view image.old image.new }
 {
     let Slots {
         image: _,

@@ -1,19 +1,15 @@
 //! The commands that read what isn't mapped plainly.
+ghost use Rattle.qcow2_session.specs.CallSteps.{CommandStep, SpecialStep};
 ghost use Rattle.std.specs.Prelude.{ℕ, ◌≡◌, ◌<◌, ◌⊎◌, [], List, Option, None, IfErr, IfOk, IfSome, MatchOption, Err};
 ghost use Rattle.qcow2_alloc.specs.ImageFile.{known_in};
-ghost use Rattle.qcow2_image.specs.BehindHeader.{StaysBehindHeader};
 ghost use Rattle.qcow2_image.specs.declared.mapping.Mapping.{Mapping};
 ghost use Rattle.qcow2_image.specs.Calls.{AnswersCall};
-ghost use Rattle.qcow2_image.specs.Image.{IsSameImage};
 ghost use Rattle.qcow2_image.specs.MetAlone.{IsCacheHeld, IsMetLooking, IsMetSpecial};
 ghost use Rattle.qcow2_image.specs.Refusals.{IsMet, unusable};
 ghost use Rattle.qcow2_alloc.specs.declared.error.ImageError.TheVariants.{Compressed, NotCompressed};
 ghost use Rattle.qcow2_image.specs.ImageInvariant.{abstract_of};
 ghost use Rattle.qcow2_image.specs.declared.prepared.Prepared.{Prepared};
-ghost use Rattle.qcow2_image.specs.Faults.{CountsImageFaults};
 ghost use Rattle.qcow2_session.specs.Causes.{IsRightlyRefused};
-ghost use Rattle.qcow2_session.specs.CountedFaults.{CommandCounts, refusal_in};
-ghost use Rattle.qcow2_session.specs.Marks.{MarksAtOnce, reason_in};
 ghost use Rattle.qcow2_session.specs.Commands.{IsOwnOffset, TellsPlain, TellsSpecial};
 ghost use Rattle.qcow2_session.specs.Sessions.{CommandSteps, Finds};
 ghost use Rattle.qcow2_image.specs.Unwritten.{ReadsQuietly};
@@ -33,10 +29,7 @@ pub(crate) fn readv_special<S: Storage, F: WrappedFormat<S>>(
     offset: u64,
     length: u64,
 ) -> Reply
-    ensures image { IsSameImage image.old image.new }
-    ensures faults { CommandCounts S.view F.backing image.old image.new result }
-    ensures header_cluster { StaysBehindHeader S.view image.old image.new }
-    ensures marks { MarksAtOnce S.view (refusal_in result) image.old image.new }
+    ensures step { CommandStep S.view F.backing image.old image.new result }
     ensures causes { (before : List (Option Prepared)) (found : ℕ → Option Mapping)
         → IsRightlyRefused S.view F.backing image.old image.new before found (ReadvSpecial offset length) result }
     ensures command_step { (slots : Slots) → CommandSteps S.view F.backing image.old image.new slots slots (ReadvSpecial offset length) result }
@@ -56,10 +49,7 @@ pub(crate) fn try_readv_special<S: Storage, F: WrappedFormat<S>>(
     offset: u64,
     length: u64,
 ) -> Reply
-    ensures image { IsSameImage image.old image.new }
-    ensures faults { CommandCounts S.view F.backing image.old image.new result }
-    ensures header_cluster { StaysBehindHeader S.view image.old image.new }
-    ensures marks { MarksAtOnce S.view (refusal_in result) image.old image.new }
+    ensures step { CommandStep S.view F.backing image.old image.new result }
     ensures tells { (before : List (Option Prepared))
         → TellsOfImage S.view F.backing image.old image.new before before (TryReadvSpecial offset length) result }
     ensures causes { (before : List (Option Prepared)) (found : ℕ → Option Mapping)
@@ -80,10 +70,7 @@ fn read_range<S: Storage, F: WrappedFormat<S>>(
     offset: u64,
     length: u64,
 ) -> Result<(), ImageError>
-    ensures image { IsSameImage image.old image.new }
-    ensures faults { CountsImageFaults S.view F.backing image.old image.new result }
-    ensures header_cluster { StaysBehindHeader S.view image.old image.new }
-    ensures marks { MarksAtOnce S.view (reason_in result) image.old image.new }
+    ensures step { SpecialStep S.view F.backing image.old image.new result }
     ensures early { IfSome (unusable image.old) (λ e. (result ≡ Err e) × (image.new ≡ image.old)) }
     ensures late { unusable image.old ≡ None → IfErr result (λ e. (IsMet e ⊎ (e ≡ NotCompressed offset)) × (0 < length)) }
     ensures met { (out : List (Option Prepared)) → (abstract_of S.view F.backing image.old out).is_sound
@@ -93,7 +80,6 @@ fn read_range<S: Storage, F: WrappedFormat<S>>(
     ensures tells { (out : List (Option Prepared)) → (abstract_of S.view F.backing image.old out).is_sound
         → TellsSpecial (known_in S.view image.old.file) offset length result }
     ensures sees { AnswersCall S.view F.backing image.old image.new [] (λ done was is. is ≡ was) result }
-    ensures quiet { ReadsQuietly S.view image.old image.new }
 {
     image.check_read(0, 0)?;
     let mut bytes = zeros(alloc, length as usize)?;
@@ -106,10 +92,7 @@ fn try_range<S: Storage, F: WrappedFormat<S>>(
     offset: u64,
     length: u64,
 ) -> Result<Option<u64>, ImageError>
-    ensures image { IsSameImage image.old image.new }
-    ensures faults { CountsImageFaults S.view F.backing image.old image.new result }
-    ensures header_cluster { StaysBehindHeader S.view image.old image.new }
-    ensures marks { MarksAtOnce S.view (reason_in result) image.old image.new }
+    ensures step { SpecialStep S.view F.backing image.old image.new result }
     ensures early { IfSome (unusable image.old) (λ e. (result ≡ Err e) × (image.new ≡ image.old)) }
     ensures late { unusable image.old ≡ None → IfErr result (λ e. IsMet e × (0 < length)) }
     ensures met { (out : List (Option Prepared)) → (abstract_of S.view F.backing image.old out).is_sound
@@ -118,7 +101,6 @@ fn try_range<S: Storage, F: WrappedFormat<S>>(
     ensures tells { (out : List (Option Prepared)) → (abstract_of S.view F.backing image.old out).is_sound
         → TellsPlain (known_in S.view image.old.file) offset length result }
     ensures sees { AnswersCall S.view F.backing image.old image.new [] (λ plain was is. is ≡ was) result }
-    ensures quiet { ReadsQuietly S.view image.old image.new }
 {
     image.check_read(0, 0)?;
     let mut bytes = zeros(alloc, length as usize)?;

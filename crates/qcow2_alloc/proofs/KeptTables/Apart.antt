@@ -1,18 +1,15 @@
 -- What is true along the calls of caches of which no cluster has a modified table in both.
-use Rattle.std.proofs.Common.{◌≡◌, ◌⊎◌, inl, inr, ℕ, ◌*◌, ◌/◌, ◌%◌, ◌^◌, ◌<◌, Bool, true, false, eqb, List, [], ◌∷◌, ◌++◌, None, refl, sym, ap, ◌∙◌, subst}
+use Rattle.std.proofs.Common.{◌≡◌, ◌⊎◌, inl, inr, ℕ, ◌/◌, ◌%◌, ◌^◌, ◌<◌, Bool, false, eqb, List, [], ◌∷◌, ◌++◌, None, refl, sym, ap, ◌∙◌, subst}
 use mathlib.Core.Path.{fun_ext}
-use Rattle.std.proofs.lemmas.Nat.{pow_pos}
 use Rattle.std.specs.List.{AllByRecursion, IsDistinct}
 use Rattle.std.specs.Map.{keys_of, lookup}
 use Rattle.qcow2_metadata.specs.Bytes.{Bytes}
-use Rattle.qcow2_metadata.specs.declared.header.HeaderFields.{HeaderFields}
-use Rattle.qcow2_metadata.specs.Header.{cluster_size}
 use Rattle.qcow2_metadata.specs.Tables.{CachedTable, known}
 use Rattle.qcow2_laws.specs.Clusters.{Direction, Neither, L2DependsOnRb, RbDependsOnL2}
 use Rattle.qcow2_laws.specs.CrashInvariant.{SameIn, IsPartly}
 use Rattle.qcow2_laws.specs.Caches.{known_bytes, IsFreeAt, IsFreeOf, AreApart, AreClean, BlocksMayGo, TablesMayGo, IsWrittenSo}
 use Rattle.qcow2_laws.proofs.Lists.{known-at, known-none, unmodified_over, free_too, written_partly, written_known}
-use Rattle.qcow2_alloc.specs.ApartCaches.{StandAsIn, IsFlushedSo, IsPartlyFlushed}
+use Rattle.qcow2_alloc.specs.ApartCaches.{IsFlushedSo}
 use Rattle.qcow2_alloc.specs.KeptTables.{cached_tables, AreElsewhere, AreLoaded}
 use Rattle.qcow2_alloc.specs.declared.async_lru_cache.slot.Slot.{Slot}
 use Rattle.qcow2_alloc.proofs.KeptTables.Loaded.{stays_free, loaded_written, loaded_without, loaded_promoted}

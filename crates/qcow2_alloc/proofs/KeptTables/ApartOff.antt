@@ -1,5 +1,5 @@
 -- Tables are taken off caches of which no cluster has a modified table in both, unwritten.
-use Rattle.std.proofs.Common.{◌≡◌, ◌⊎◌, inl, inr, ℕ, ◌+◌, ◌-◌, ◌*◌, ◌/◌, ◌%◌, ◌^◌, ◌<◌, ◌&&◌, Bool, true, false, cond, eqb, List, ◌∷◌, ◌++◌, Option, Some, None, IsTrue, arith, refl, sym, ap, ◌∙◌, subst}
+use Rattle.std.proofs.Common.{◌≡◌, ◌⊎◌, inl, inr, ℕ, ◌+◌, ◌*◌, ◌/◌, ◌%◌, ◌^◌, ◌<◌, ◌&&◌, Bool, true, false, cond, eqb, List, ◌∷◌, ◌++◌, Option, Some, None, IsTrue, arith, refl, sym, ap, ◌∙◌, subst}
 use Rattle.std.proofs.lemmas.Nat.{pow_pos, div-mul-add}
 use Rattle.std.specs.List.{IsDistinct}
 use Rattle.std.specs.Option.{IfSome, option_map}

@@ -1,5 +1,5 @@
 -- Calls of the caches leave cluster 0 alone where no cached table stands there.
-use Rattle.std.proofs.Common.{◌≡◌, ◌⊎◌, inl, inr, ℕ, ◌*◌, ◌<◌, ◌^◌, Bool, true, false, cond, eqb, List, [], ◌∷◌, Option, Some, None, Result, Ok, Err, IsSome, refl, sym, ap, ◌∙◌, subst, arith}
+use Rattle.std.proofs.Common.{◌≡◌, inl, inr, ℕ, ◌*◌, ◌<◌, ◌^◌, Bool, true, false, cond, eqb, List, [], ◌∷◌, Option, Some, None, Result, Ok, Err, IsSome, refl, sym, ap, ◌∙◌, subst, arith}
 use Rattle.std.specs.Option.{IfSome, IsNone, option_map, option_map_or, option_or}
 use Rattle.std.specs.Map.{lookup, lookup_entry, remove_entry, set_value}
 use Rattle.std.proofs.lemmas.Bool.Decides.{nat_tests}
@@ -23,7 +23,7 @@ use Rattle.qcow2_alloc.specs.SparedHeaders.{AreBehindHeader, CachesSpareHeader, 
 use Rattle.qcow2_alloc.specs.ImageStorage.{storage_of}
 use Rattle.qcow2_alloc.specs.TableSteps.{answer_done, answer_refused, table_steps, LoadsTable, FailsToLoad, FlushesTable, FailsToFlush}
 use Rattle.qcow2_alloc.specs.TableCaches.{l2_steps, rb_steps, cleared_l2, cleared_rb, IsTableOf, IsBlockOf}
-use Rattle.qcow2_alloc.proofs.HeaderClusters.{below_others, bytes_stay, call_keeps, quiet_keeps, same_kept, above_kept, header_cluster_none, header_cluster_then}
+use Rattle.qcow2_alloc.proofs.HeaderClusters.{below_others, call_keeps, quiet_keeps, same_kept, above_kept, header_cluster_none, header_cluster_then}
 use Rattle.qcow2_alloc.proofs.KeptTables.Fetching.{none_or_some}
 use Rattle.qcow2_alloc.proofs.KeptTables.Inserting.{found_or_not, lookup_none}
 use Rattle.qcow2_alloc.proofs.KeptTables.Off.{SomeOf}

@@ -96,6 +96,7 @@ module _ {S F : Type 0} (view : S → StorageView) (backing : F → BackingView)
       pinned = λ some none own. not_none none;
       under = λ none some out sound. not_none none;
       freed = λ none some out sound. not_none none;
+      limit = λ none some out sound. not_none none;
     }
 
     sound_refused : ClearsSoundly view backing how old old offset n (Err e)
@@ -158,6 +159,7 @@ module _ {S F : Type 0} (view : S → StorageView) (backing : F → BackingView)
         pinned = λ some _ own. touches_none some;
         under = λ _ some out sound. touches_none some;
         freed = λ _ some out sound. tt;
+        limit = λ _ some out sound. tt;
       }
 
       sound_idle : ClearsSoundly view backing how old old offset n (Ok (from_in old offset n, 0))

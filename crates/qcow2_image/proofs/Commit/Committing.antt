@@ -7,7 +7,7 @@ use Rattle.std.proofs.lemmas.Nat.{div-mul-add, mod-mul-add, div-add-mod', pow_po
 use Rattle.std.proofs.lemmas.Option.{slice_get_within}
 use Rattle.image_access.specs.Backing.{BackingView}
 use Rattle.image_access.specs.Moments.{StorageView}
-use Rattle.qcow2_metadata.specs.Bytes.{Bytes}
+use Rattle.qcow2_metadata.specs.Bytes.{Bytes, one_if}
 use Rattle.qcow2_metadata.specs.declared.header.HeaderFields.{HeaderFields}
 use Rattle.qcow2_metadata.specs.Header.{cluster_size, entries_per_cluster, has_data_file, rounded_up}
 use Rattle.qcow2_metadata.specs.Entries.{l1_entry, l2_entry, host_offset, count}
@@ -15,7 +15,6 @@ use Rattle.qcow2_metadata.specs.Guest.{Value, known_byte}
 use Rattle.qcow2_metadata.specs.Cover.{cover, entry_cover}
 use Rattle.qcow2_metadata.specs.L2Mapping.{IsHostCluster, named_run, run_has}
 use Rattle.qcow2_metadata.proofs.NamedRuns.{named_by_cover-run}
-use Rattle.qcow2_metadata.specs.Bytes.{one_if}
 use Rattle.qcow2_metadata.specs.L2Table.{IsEntryHost, copied_entry, copied_host}
 use Rattle.qcow2_metadata.specs.Named.{in_cluster, named_by_cover, named_for_tables}
 use Rattle.qcow2_metadata.specs.declared.l2_mapping.L2Mapping.TheVariants.{Data, Zero}

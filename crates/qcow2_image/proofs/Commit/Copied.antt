@@ -67,7 +67,6 @@ module _ {S F : Type 0} (view : S → StorageView) (backing : F → BackingView)
       → AreDataAt new.file.header.fields (known_in view new.file) true p.guest p.offset p.length
   stands_copied some r begins enters whole ends ok released out k placed sound =
       let all : CommitsAll view backing begun entered out k p q = (enters out k placed some (quiet_sound view backing out old begun (begins out) sound)).0 in
-      let left = slice_set out k (Some q) in
       let freeing : UnseenCall view backing entered freed (slice_set out k (Some q)) = subst (EndsFreeing view backing entered freed (slice_set out k (Some q))) ok (ends (slice_set out k (Some q)) all.part.sound) in
       let told = stands_entered view entered p q some whole (all.part.sound.ready k q (get_set_same out k (Some q) (Some p) placed)).mapped in
       let moved : AreDataAt freed.file.header.fields (known_in view freed.file) true p.guest p.offset p.length =

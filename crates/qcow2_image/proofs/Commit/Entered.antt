@@ -68,8 +68,7 @@ module _ (a b c : Guest) (k : ℕ) (ma mb mc : PreparedMapping) (first : ShowsPa
   pub committed_same : committed b.disk mb ≡ committed a.disk ma
   committed_same =
       let values : (committed b.disk mb).value ≡ (committed a.disk ma).value = fun_ext (λ o. value_same o (mb.is_private o) refl) in
-      let sizes = first.size in
-      λ i. record { size = sizes i; value = values i }
+      λ i. record { size = first.size i; value = values i }
 
   pub given_same : (size : ℕ) → given_by_commit size b.disk mb ≡ given_by_commit size a.disk ma
   given_same size =

@@ -147,12 +147,11 @@ module _ {S F : Type 0} (view : S → StorageView) (backing : F → BackingView)
 
   opened_first : (new : StorageView) (r : Result (Unit {0}) ImageError) → Enlarges mode size (view_in view mid.file) new r → Enlarges mode size (view start) new r
   opened_first new (Ok x) done =
-      let mid_is = opened.sound.file.caches.kept.kept.crash_invariant.top.header_is in
       record {
         stays = record { honest = done.stays.honest; moments = all_stops new done.stays.moments };
         new_disk = done.new_disk;
         covers = done.covers;
-        format = done.format ∙ ap (λ h. with_places h (places_of (header (byte_at new.contents)))) (mid_is ∙ format);
+        format = done.format ∙ ap (λ h. with_places h (places_of (header (byte_at new.contents)))) (opened.sound.file.caches.kept.kept.crash_invariant.top.header_is ∙ format);
         no_autoclear = λ none. done.no_autoclear (ap (λ (l : List ℕ). (header (byte_at l)).autoclear) (uncleared none) ∙ none);
         reaches = done.reaches;
         l1_length = λ none fits. done.l1_length (ap (λ (l : List ℕ). (header (byte_at l)).autoclear) (uncleared none) ∙ none) (subst (λ (l : List ℕ). FitsSize (header (byte_at l))) (sym (uncleared none)) fits);

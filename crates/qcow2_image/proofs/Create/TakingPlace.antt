@@ -195,9 +195,8 @@ module _ {S F : Type 0} (view : S → StorageView) (backing : F → BackingView)
           taken new (with_listed rest mid.file.free_list) (with_listed rest new.file.free_list) written stays ((flushes []).answer sound.0).1.0
       taken_so new (Err e) stays flushes writes =
           let sound = (takes.sees []).answer opened.sound in
-          let works = (takes.sees []).acts.works opened.sound in
           let rest : Pending = beside view backing mid [] in
-          taken_stops works sound.0 new (writes rest (subst (λ (p : Pending). ImageInvariant view backing p mid []) (all_listed view backing mid []) sound.0))
+          taken_stops ((takes.sees []).acts.works opened.sound) sound.0 new (writes rest (subst (λ (p : Pending). ImageInvariant view backing p mid []) (all_listed view backing mid []) sound.0))
 
   -- ---- in each mode
   pub refused_by : (mode : PreallocateMode) (e : ImageError) → GrowsBy view backing mode old mid size (Err e) → StopsCreating mode size (view_in view old.file) (view_in view mid.file)

@@ -100,10 +100,9 @@ module _ {S F : Type 0} (view : S → StorageView) (backing : F → BackingView)
       → i ≡ (size - 1) / cluster_size a.file.header.fields / entries_per_cluster a.file.header.fields → i < entry_count b.l1_table → c.l1_table ≡ b.l1_table → OnOk r (ReachesSize c.file.header.fields)
   resized_reaches p a b c size i (Err e) lasts is lt same = tt
   resized_reaches p a b c size i (Ok x) resizes is lt same =
-      let h = a.file.header.fields in
       let h' = c.file.header.fields in
       let sound = resizes.0.sound in
-      let bits : h'.cluster_bits ≡ h.cluster_bits = ap (λ (k : HeaderFields). k.cluster_bits) resizes.0.format in
+      let bits : h'.cluster_bits ≡ a.file.header.fields.cluster_bits = ap (λ (k : HeaderFields). k.cluster_bits) resizes.0.format in
       let is' : i ≡ (size - 1) / cluster_size h' / entries_per_cluster h' = is ∙ sym (ap (λ n. (size - 1) / 2 ^ n / (2 ^ n / 8)) bits) in
       let count : entry_count b.l1_table ≡ h'.l1_entries = ap entry_count (sym same) ∙ sound.l1_table.count in
       let reach = reaches_so h' size i (file_sizes view _ c.file sound.file) is' (subst (λ n. i < n) count lt) in

@@ -38,8 +38,7 @@ entries_aligned view file p t table i index sound shows at g =
     let h = file.header.fields in
     let n = entries_per_cluster h in
     let bits = (shows h p (contents_in view file) i index sound.caches at).format.bits in
-    let any = (Sizes-from h (contents_in view file) sound.caches.kept.kept.crash_invariant.top.header_reads).entries in
-    let lt = mod_below g n any in
+    let lt = mod_below g n ((Sizes-from h (contents_in view file) sound.caches.kept.kept.crash_invariant.top.header_reads).entries) in
     let row : (i * n + g % n) % n ≡ g % n = mod-mul-add i n (g % n) lt in
     let same : (i * n + g % n) % entries_of t ≡ g % entries_of t = ap (λ b. (i * n + g % n) % (2 ^ b / 8)) bits ∙ row ∙ sym (ap (λ b. g % (2 ^ b / 8)) bits) in
     subst (HasAlignedHost t.cluster_bits) (ap (cover_at t) same)

@@ -1,8 +1,8 @@
 -- Tables are loaded, written and evicted, and bytes are read: no guest sees it.
 use Rattle.std.proofs.Common.{◌≡◌, ℕ, ◌+◌, List, [], refl, sym, ap, ◌∙◌, subst, arith}
-use Rattle.std.specs.Prelude.{Option, Some, None, IfSome, Result, Ok, Err, IfOk, true}
+use Rattle.std.specs.Prelude.{Option, IfSome, Result, Ok, Err, IfOk}
 use Rattle.image_access.specs.Backing.{BackingView}
-use Rattle.image_access.specs.Moments.{StorageView, IsLeftBy}
+use Rattle.image_access.specs.Moments.{StorageView, IsLeftBy, QuietCalls, EachMomentSince, ContentsStay}
 use Rattle.qcow2_metadata.specs.Bytes.{Bytes, byte_at}
 use Rattle.qcow2_metadata.specs.Entries.{l1_entry, reftable_entry, count}
 use Rattle.qcow2_metadata.specs.Cover.{cover}
@@ -22,8 +22,6 @@ use Rattle.qcow2_metadata.specs.Tables.{CachedTable, known}
 use Rattle.qcow2_laws.proofs.Lists.{clean_known}
 use Rattle.qcow2_laws.specs.Caches.{AreNamedBlocks}
 use Rattle.image_access.specs.declared.error.StorageError.{StorageError}
-use Rattle.image_access.specs.Moments.{QuietCalls, EachMomentSince, ContentsStay}
-use Rattle.qcow2_laws.proofs.SafeSteps.{safe_step_none, safe_throughout_none}
 use Rattle.qcow2_alloc.specs.MetadataCaches.{l2_tables, refblocks, known_of, AreAllWritten, CacheInvariant, UnseenCacheStep}
 use Rattle.qcow2_alloc.specs.ImageFile.{state_in, view_in, contents_in, known_in}
 use Rattle.qcow2_alloc.specs.KeptAllocators.{IsAllocatorOf}

@@ -17,7 +17,7 @@ use Rattle.qcow2_metadata.specs.declared.l2_mapping.L2Mapping.{L2Mapping}
 use Rattle.qcow2_metadata.specs.declared.l2_mapping.L2Mapping.TheVariants.{Data, Zero, Compressed, Uncovered}
 use Rattle.qcow2_disk.specs.Alike.{AreDataAt, IsAlike, IsAlikeAt, IsAlikeRun, IsDataAt, IsLongestRun}
 use Rattle.qcow2_laws.specs.Guests.{table_at}
-use Rattle.qcow2_laws.proofs.Places.{Sizes, cover_none, cover_in}
+use Rattle.qcow2_laws.proofs.Places.{Sizes, cover_none, cover_in, Sizes-from}
 use Rattle.qcow2_alloc.specs.TableCaches.{IsTableOf}
 use Rattle.qcow2_laws.proofs.Alike.{run_first, run_less, run_begins, clusters_on, clusters_end, run_longest}
 use Rattle.std.proofs.lemmas.Bool.{cases_lt}
@@ -28,7 +28,6 @@ use Rattle.qcow2_alloc.specs.declared.image_file.ImageFile.{ImageFile}
 use Rattle.qcow2_alloc.specs.MetadataCaches.{IsEntryAt, ShowsKnown}
 use Rattle.qcow2_laws.specs.CrashInvariant.{Pending, SameCovers}
 use Rattle.qcow2_laws.proofs.Formats.{cover_with}
-use Rattle.qcow2_laws.proofs.Places.{Sizes-from}
 use Rattle.qcow2_laws.proofs.Tops.{IsTop-top}
 use Rattle.qcow2_image.specs.declared.image.Qcow2.{Qcow2}
 use Rattle.qcow2_image.specs.declared.mapping.MappingKind.{MappingKind}

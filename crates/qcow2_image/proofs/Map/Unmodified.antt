@@ -1,11 +1,7 @@
 -- Tables are loaded and evicted, and bytes are read, of an image of which nothing is modified: what stands on its storage stays.
 use Rattle.std.proofs.Common.{◌≡◌}
-use Rattle.image_access.specs.Backing.{BackingView}
 use Rattle.image_access.specs.Moments.{StorageView, EachMomentSince, IsLeftBy}
-use Rattle.qcow2_alloc.specs.declared.image_storage.ImageStorage.{ImageStorage}
 use Rattle.qcow2_alloc.specs.Quiet.{IsQuiet}
-use Rattle.qcow2_image.specs.declared.image.Qcow2.{Qcow2}
-use Rattle.qcow2_image.specs.Unwritten.{IsUnmodified}
 
 -- ---- moments of a storage whose bytes stay: each is built here
 

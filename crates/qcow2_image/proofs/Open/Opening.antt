@@ -127,9 +127,8 @@ module _ {S F : Type 0} (view : S → StorageView) (backing : F → BackingView)
       → ((on_storage : Bytes) → known_of file.header.fields file.caches on_storage ≡ on_storage) → ((on_storage : Bytes) → AreNamedBlocks file.header.fields (refblocks file.caches) on_storage)
       → CachesHaveRoom file.caches → ((cluster : ℕ) → l2_pins file.caches cluster ≡ 0) → file.free_list ≡ [] → IsFresh view backing (nothing_pending (surplus_of file.header.fields (byte_at contents))) file
   new_tables_new contents file consistent honest same there sound known named_blocks room pins list =
-      let h = file.header.fields in
       let p = nothing_pending (surplus_of file.header.fields (byte_at contents)) in
-      let crash_invariant : CrashInvariant h Neither p (byte_at contents) (byte_at contents) =
+      let crash_invariant : CrashInvariant file.header.fields Neither p (byte_at contents) (byte_at contents) =
       opened_crash_invariant file.header.fields (byte_at contents) (subst (λ k. Consistent k (byte_at contents)) (sym there.fields) consistent) (sym there.fields) in record {
         sound = file_invariant_of
             honest

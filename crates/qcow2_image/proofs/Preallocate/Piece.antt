@@ -231,7 +231,6 @@ module _ {S F : Type 0} (view : S → StorageView) (backing : F → BackingView)
     existing_copied : 0 < p.length → p.table ≡ None → (g : ℕ) → from < g * cluster_size old.file.header.fields + cluster_size old.file.header.fields → g * cluster_size old.file.header.fields < from + p.length → is_copied_data (cover mid.file.header.fields (known_in view mid.file) g) ≡ true
     existing_copied some none g low high =
         let h = old.file.header.fields in
-        let cs = cluster_size h in
         let shares = subst (IsReadyWith mid.file.header.fields (known_in view mid.file) (contents_in view mid.file) p) none (ready.sound.ready 0 p refl).mapped in
         let hit = byte_in (cluster_size h) (pow_pos h.cluster_bits) from p.length g low high some in
         let was = answered.in_place hit.index hit.within (never_private view backing mid p shares (from + hit.index)) in
@@ -332,9 +331,8 @@ module _ {S F : Type 0} (view : S → StorageView) (backing : F → BackingView)
     pub all_put : (mid2 : Qcow2 S F) (r : Result (Unit {0}) ImageError) → WritesBytes view mid mid2 p.offset (replicate count 0) r → PutsPart view backing mid mid2 (Some p ∷ out) 0 p 0 (zeros_of p.length) r
     all_put mid2 r w =
         let contents = (view_in view mid.file).contents in
-        let storage = mid2.file.storage in
         subst (λ (image : Qcow2 S F). PutsPart view backing mid image (Some p ∷ out) 0 p 0 (zeros_of p.length) r) (sym w.rest)
-        (zeros_put out old mid p from n sound ready answered all_fits storage (w.honest ready.sound.file.honest) (w.time ready.sound.file.honest) r
+        (zeros_put out old mid p from n sound ready answered all_fits mid2.file.storage (w.honest ready.sound.file.honest) (w.time ready.sound.file.honest) r
         (subst (λ k. IsWriteOutcome r contents (overwritten contents p.offset (zeros_of k)) (view_in view mid2.file).contents) all_counted (w.written ready.sound.file.honest)))
 
     pub all_behind : 0 < p.length → cluster_size mid.file.header.fields ≤ p.offset
@@ -346,11 +344,9 @@ module _ {S F : Type 0} (view : S → StorageView) (backing : F → BackingView)
     -- what stands for each guest cluster stays
     all_still : (mid2 : Qcow2 S F) → WritesBytes view mid mid2 p.offset (replicate count 0) (Ok tt) → (g : ℕ) → cover mid.file.header.fields (known_in view mid.file) g ≡ cover mid2.file.header.fields (known_in view mid2.file) g
     all_still mid2 w =
-        let storage = mid2.file.storage in
-        let contents = (view_in view mid.file).contents in
         subst (λ (image : Qcow2 S F). (g : ℕ) → cover mid.file.header.fields (known_in view mid.file) g ≡ cover image.file.header.fields (known_in view image.file) g) (sym w.rest)
-        (zeros_covers out old mid p from n sound ready answered all_fits storage (w.honest ready.sound.file.honest) (w.time ready.sound.file.honest)
-        (w.written ready.sound.file.honest ∙ ap (λ k. overwritten contents p.offset (zeros_of k)) all_counted))
+        (zeros_covers out old mid p from n sound ready answered all_fits mid2.file.storage (w.honest ready.sound.file.honest) (w.time ready.sound.file.honest)
+        (w.written ready.sound.file.honest ∙ ap (λ k. overwritten ((view_in view mid.file).contents) p.offset (zeros_of k)) all_counted))
 
     -- what stands for guest clusters then
     all_covers : 0 < p.length → (mid2 new : Qcow2 S F) → WritesBytes view mid mid2 p.offset (replicate count 0) (Ok tt) → CommitsWhole view backing mid2 new (Some p ∷ out) 0 p (None ∷ out) → (first : ℕ) → from + p.length ≤ first

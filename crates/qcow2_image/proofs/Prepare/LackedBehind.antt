@@ -7,7 +7,6 @@ use Rattle.std.specs.Prelude.{min, slice_get}
 use Rattle.image_access.specs.Moments.{StorageView}
 use Rattle.qcow2_metadata.specs.Bytes.{Bytes}
 use Rattle.qcow2_metadata.specs.Cover.{cover}
-use Rattle.qcow2_metadata.specs.Entries.{count}
 use Rattle.qcow2_metadata.specs.Header.{HeaderView, cluster_size}
 use Rattle.qcow2_metadata.specs.declared.header.HeaderFields.{HeaderFields}
 use Rattle.qcow2_metadata.specs.declared.l2_mapping.L2Mapping.{L2Mapping}
@@ -233,7 +232,6 @@ module _ {S F : Type 0} (view : S → StorageView) where
   lacks_uncounted first behind_it start n cluster taken old mid rest new released one two allocator header used list own after has cant =
       let former = lists_then old mid rest one two in
       let went = former.behind.more in
-      let gave = gave_still went old rest new (gave_former old rest former) allocator in
       let is : new.file.free_list ≡ old.file.free_list ++ (went ++ released) = list ∙ ap (λ l. l ++ released) former.behind.is ∙ append_assoc old.file.free_list went released in
       record {
         cluster = cluster;
@@ -244,7 +242,7 @@ module _ {S F : Type 0} (view : S → StorageView) where
           allocator = after;
           is = allocator ∙ has;
           went = went;
-          gone = gave;
+          gone = (gave_still went old rest new (gave_former old rest former) allocator);
           stands = subst (λ (v : HeaderView). CantGoOnFrom first (behind_it taken) start n cluster taken (λ k. IsUsed view new.file k ⊎ IsListed ((old.file.free_list ++ released) ++ went) k) v.fields after) (sym header)
               (behind_more first (behind_it taken) start n cluster taken (IsUsed view rest.file) (λ k. IsUsed view new.file k ⊎ IsListed ((old.file.free_list ++ released) ++ went) k) rest.file.header.fields after after (λ k was. inl (used k was)) refl cant);
           left = λ k at. moved k (subst (λ l. IsListed l k) is at);

@@ -50,8 +50,7 @@ module _ {V : Type 0} where
   pub some_pinned : (size : ℕ) (es : List (ℕ × Slot V)) → 0 < size → size ≤ length es → pinned es ≡ es → (t : ℕ) × (0 < option_map_or (λ (s : Slot V). s.pins) (lookup (λ k. t == k) es) 0)
   some_pinned size [] some le all = absurd (omega (arith, some, le))
   some_pinned size (e ∷ es) some le all =
-      let pins = first_pinned (is_pinned e.1) e es refl all in
-      let lt : 0 < e.1.pins = ltb-true 0 e.1.pins pins in
+      let lt : 0 < e.1.pins = ltb-true 0 e.1.pins (first_pinned (is_pinned e.1) e es refl all) in
       (e.0, subst (λ b. 0 < option_map_or (λ (s : Slot V). s.pins) (cond b (Some e.1) (lookup (λ k. e.0 == k) es)) 0) (sym (eq-eqb e.0 e.0 refl)) lt)
 
 -- what a table has no entry for lies past it

@@ -3,8 +3,7 @@ use Rattle.std.proofs.Common.{◌≡◌, inl, inr, Result, Ok, Err}
 use Rattle.std.specs.Prelude.{IfErr}
 use Rattle.qcow2_alloc.specs.declared.error.ImageError.{ImageError}
 use Rattle.qcow2_alloc.specs.declared.error.ImageError.TheVariants as I
-use Rattle.qcow2_image.specs.MetAlone.{IsMetAlone, IsMetLooking, IsMetTaking}
-use Rattle.qcow2_image.specs.Refusals.{IsFaultOrLimit}
+use Rattle.qcow2_image.specs.MetAlone.{IsMetLooking, IsMetTaking}
 use Rattle.qcow2_image.proofs.Prepare.MetRanges.{alone_as}
 
 -- the causes follow from those of a part

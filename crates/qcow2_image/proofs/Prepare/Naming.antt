@@ -140,8 +140,7 @@ module _ {S F : Type 0} (view : S → StorageView) (backing : F → BackingView)
 
   known_here : (i : ℕ) → i < length table.bytes → byte_at table.bytes i ≡ known (at * cluster_size h + i)
   known_here i lt =
-      let there = known_there view q old.file at sound.file free in
-      ready.stands i lt ∙ sym (there (at * cluster_size h + i) (in_own h.cluster_bits at i (subst (λ n. i < n) long lt)))
+      ready.stands i lt ∙ sym ((known_there view q old.file at sound.file free) (at * cluster_size h + i) (in_own h.cluster_bits at i (subst (λ n. i < n) long lt)))
 
   stands : (b : Bytes) → ((i : ℕ) → i < length table.bytes → byte_at table.bytes i ≡ b (at * cluster_size h + i)) → (j : ℕ) → j < entries_per_cluster h → entry_at table.bytes j ≡ l2_entry b (host_offset entry) j
   stands b there j lt =
@@ -156,8 +155,7 @@ module _ {S F : Type 0} (view : S → StorageView) (backing : F → BackingView)
   stored g here = elim (cases_eq (table_at h on_storage index) 0) [
     | inl none ↦
         let at_storage : table_at h on_storage (g / entries_per_cluster h) ≡ 0 = ap (table_at h on_storage) here ∙ none in
-        let at_known = ap host_offset (sym (sound.file.caches.kept.kept.crash_invariant.same_top.l1 (g / entries_per_cluster h))) ∙ at_storage in
-        cover_none h on_storage g at_storage ∙ sym (cover_none h known g at_known)
+        cover_none h on_storage g at_storage ∙ sym (cover_none h known g (ap host_offset (sym (sound.file.caches.kept.kept.crash_invariant.same_top.l1 (g / entries_per_cluster h))) ∙ at_storage))
     | inr real ↦ shared_covers h (order_of old.file.caches) q (l2_tables old.file.caches) (refblocks old.file.caches) on_storage sound.file.caches.kept.kept index (λ copied. may (real, copied)) g here
   ]
 
@@ -201,7 +199,6 @@ module _ {S F : Type 0} (view : S → StorageView) (backing : F → BackingView)
 
     table_now : IsL1TableOf h on_storage' t'
     table_now =
-        let as_long = enters.as_long in
         let count : entry_count t' ≡ entry_count old.l1_table = ap (λ n. n / 8) enters.as_long in
         subst (λ (l : List ℕ). IsL1TableOf h (byte_at l) t') (sym is)
         (IsL1TableOf-written_entry h (view_in view old.file).contents h.l1_offset t' index (subst (λ n. index < n) (sym count) within) fits

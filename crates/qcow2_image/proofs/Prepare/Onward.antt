@@ -1,10 +1,9 @@
 -- A range is prepared part by part, and let go where a part is refused.
 use Rattle.std.proofs.Common.{◌≡◌, ◌++◌, inl, inr, ℕ, suc, ◌+◌, ◌-◌, ◌*◌, ◌/◌, ◌%◌, ◌<◌, ◌≤◌, Bool, true, false, List, length, [], ◌∷◌, Option, Some, None, refl, sym, ap, ◌∙◌, subst, arith, min}
-use Rattle.std.specs.Prelude.{IfOk, Result, Ok, Err, slice_get, slice_set, vec_capacity, ◌==◌}
+use Rattle.std.specs.Prelude.{IfOk, Result, Ok, Err, slice_get, slice_set, vec_capacity, ◌==◌, ◌||◌}
 use Rattle.std.proofs.lemmas.Grind.{common_steps}
 use Rattle.std.proofs.lemmas.Nat.{div-add-mod', mod-mul-add, mod_below, pow_pos}
 use mathlib.Core.Path.{fun_ext}
-use Rattle.std.specs.Prelude.{◌||◌}
 use Rattle.std.proofs.lemmas.Bool.{cases_eq, cases_lt, cond-true, cond-false, eq-eqb, ne_eqb}
 use Rattle.image_access.specs.Backing.{BackingView}
 use Rattle.image_access.specs.Moments.{StorageView}
@@ -66,7 +65,6 @@ module _ {S F : Type 0} (view : S → StorageView) (backing : F → BackingView)
   readied_on q guest is =
       let end : slice_set (slice_set out k (Some p)) k (Some q) ≡ slice_set out k (Some q) = set_set out k (Some p) (Some q) in
       let m = meaning view backing new q in
-      let d = (guest_of (abstract_of view backing mid out1)).disk in
       let disk : (guest_of (abstract_of view backing mid out1)).disk ≡ (guest_of (abstract_of view backing start out)).disk = ap (λ (x : Guest). x.disk) first.is in
       let size : cluster_size mid.file.header.fields ≡ cluster_size start.file.header.fields = ap (λ (x : HeaderFields). cluster_size x) first.header in
       let was : IsPrepared (cluster_size mid.file.header.fields) (guest_of (abstract_of view backing mid out1)).disk p.guest n overwrite (meaning view backing mid p) =
@@ -81,7 +79,7 @@ module _ {S F : Type 0} (view : S → StorageView) (backing : F → BackingView)
             (format_stay mid.file.header.fields new.file.header.fields (known_in view mid.file) (known_in view new.file) is.header is.covers);
         prepared = subst (λ o. IsPrepared (cluster_size start.file.header.fields) (guest_of (abstract_of view backing start out)).disk o n overwrite m) (sym guest)
             (subst (λ (x : Disk). IsPrepared (cluster_size start.file.header.fields) x p.guest n overwrite m) disk
-            (subst (λ s. IsPrepared s d p.guest n overwrite m) size (is.prepared was)));
+            (subst (λ s. IsPrepared s ((guest_of (abstract_of view backing mid out1)).disk) p.guest n overwrite m) size (is.prepared was)));
         is = ap (λ l. guest_of (abstract_of view backing new l)) (sym end) ∙ is.is ∙ ap (λ (x : Guest). with_slot x k (Some m)) first.is ∙ slot_twice (guest_of (abstract_of view backing start out)) k (Some (meaning view backing mid p)) (Some m);
       }
 

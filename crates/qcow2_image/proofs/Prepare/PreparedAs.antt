@@ -289,12 +289,9 @@ pub answered_range : {S F : Type 0} (view : S → StorageView) (backing : F → 
     → IfOk r (λ p. IsAnswered old.file.header.fields (known_in view old.file) offset n new.file.header.fields (known_in view new.file) p (meaning view backing new p))
 answered_range view backing old new out k offset n overwrite free never (Err e) readies reaches = tt
 answered_range view backing old new out k offset n overwrite free never (Ok p) readies reaches =
-    let h = old.file.header.fields in
-    let h' = new.file.header.fields in
-    let now = known_in view new.file in
     let is = readies k free in
     let never_now : (place : ℕ) → IsWritableAt new.file.header.fields (known_in view new.file) offset n place → ⊥ = λ place at.
     never place (writable_as_before view old new offset n is.header is.covers place at) in
-    answered_before view old new offset n is.header is.covers h' now p (meaning view backing new p)
+    answered_before view old new offset n is.header is.covers new.file.header.fields (known_in view new.file) p (meaning view backing new p)
     (subst (λ o. IsAnswered new.file.header.fields (known_in view new.file) o n new.file.header.fields (known_in view new.file) p (meaning view backing new p)) reaches.guest
     (answered_out view backing new (slice_set out k (Some p)) k p (get_set_same out k (Some p) None free) is.sound offset n reaches never_now))

@@ -2,7 +2,7 @@
 use Rattle.std.proofs.Common.{◌≡◌, inl, inr, ℕ, ◌+◌, ◌-◌, ◌*◌, ◌/◌, ◌%◌, ◌^◌, ◌<◌, Bool, true, false, List, [], ◌∷◌, Option, Some, None, refl, sym, ap, ◌∙◌, subst, arith}
 use Rattle.qcow2_alloc.specs.declared.error.ImageError.{ImageError}
 use Rattle.qcow2_metadata.specs.declared.l2_mapping.L2Mapping.{L2Mapping}
-use Rattle.qcow2_metadata.specs.L2Mapping.{IsInReach, named_run}
+use Rattle.qcow2_metadata.specs.L2Mapping.{IsInReach, named_run, IsHostCluster}
 use Rattle.qcow2_disk.specs.Mappings.{is_copied_data}
 use Rattle.std.specs.Prelude.{◌↔◌, IsSome, IsTrue, min, nat_le, nat_lt, slice_get, ◌&&◌}
 use Rattle.std.proofs.lemmas.Bool.{cases_lt, cond-true, le-leb, lt-ltb, lt-leb, le-ltb}
@@ -15,7 +15,6 @@ use Rattle.qcow2_metadata.specs.Header.{cluster_size, entries_per_cluster}
 use Rattle.qcow2_metadata.specs.Entries.{l1_entry, host_offset, is_copied}
 use Rattle.qcow2_metadata.specs.Cover.{cover}
 use Rattle.qcow2_metadata.specs.Guest.{known_byte}
-use Rattle.qcow2_metadata.specs.L2Mapping.{IsHostCluster}
 use Rattle.qcow2_metadata.specs.declared.l2_mapping.L2Mapping.TheVariants.{Data}
 use Rattle.qcow2_laws.specs.Changes.{with_new_data}
 use Rattle.qcow2_laws.specs.CrashInvariant.{Pending}
@@ -60,7 +59,6 @@ within_shift g a m i = let e : g + a + m ≡ g + (a + m) = omega arith in ap (λ
 
 within_cluster : (size offset m o : ℕ) → o / size ≡ offset / size → is_within offset m o ≡ is_within (offset % size) m (o % size)
 within_cluster size offset m o here =
-    let g = offset / size * size in
     let offset_is : offset / size * size + offset % size ≡ offset = div-add-mod' offset size in
     let o_is : o / size * size + o % size ≡ o = div-add-mod' o size in
     let same : o ≡ offset / size * size + o % size = sym o_is ∙ ap (λ c. c * size + o % size) here in
@@ -105,7 +103,6 @@ pub first_stands : {S F : Type 0} (view : S → StorageView) (backing : F → Ba
     → cover old.file.header.fields (known_in view old.file) cluster ≡ first)
     → cover old.file.header.fields (known_in view old.file) (offset / cluster_size old.file.header.fields) ≡ first
 first_stands view backing old p offset table guest bits cluster first found here same holds stands =
-    let h = old.file.header.fields in
     let is : cluster ≡ offset / cluster_size old.file.header.fields = found ∙ ap (λ o. o / 2 ^ bits) here ∙ ap (λ b. offset / 2 ^ b) same in
     let entry = first_entry view backing old offset table guest bits cluster found here same holds in
     subst (λ g. cover old.file.header.fields (known_in view old.file) g ≡ first) is (stands entry.0 entry.1)
@@ -115,7 +112,6 @@ module _ {S F : Type 0} (view : S → StorageView) (backing : F → BackingView)
   pub holds_still : (old new : Qcow2 S F) (p q : Pending) (offset table : ℕ) → ImageInvariant view backing p old out → UnseenFillingStep view backing p q old new out → HoldsTable view backing old offset table → IsSome (l2_at new.file.caches table) → HoldsTable view backing new offset table
   holds_still old new p q offset table sound image_step holds new_data =
       let h = old.file.header.fields in
-      let i = l1_index_of h offset in
       let on_storage = contents_in view new.file in
       let known = known_in view new.file in
       let moved : l1_entry h on_storage (l1_index_of h offset) ≡ l1_entry h (contents_in view old.file) (l1_index_of h offset) =
@@ -157,7 +153,6 @@ module _ {S F : Type 0} (view : S → StorageView) (backing : F → BackingView)
       ap (cover old.file.header.fields (known_in view old.file)) first ∙ is ∙ ap (λ b. Data b true) (sym begin) in
       let now : IsNowPending old out (mapping_at old.file.header.fields (number_of old) table offset host like) q q.surplus =
       record { new_data = λ c. (let none : new_data_in like.shares.items c ≡ 0 = ap (λ (l : List Share). new_data_in l c) one in omega arith); new_tables = λ c. refl; old_tables = λ c. refl; old_data = λ c. refl; surplus = refl } in
-      let caches = new.file.caches in
       let more = pins.pins holds.new_data unpinned in
       subst (λ (image : Qcow2 S F). IsReadied view backing old image out k offset n overwrite (mapping_at old.file.header.fields (number_of old) table offset host like)) (sym pins.rest)
       (readied view backing old old out k free q image_step offset table host InPlace like one holds unpinned stands new.file.caches pins.tables more now sound.file.caches.kept.kept.crash_invariant n overwrite

@@ -117,12 +117,11 @@ module _ {S F : Type 0} (view : S → StorageView) (backing : F → BackingView)
   pub lasts_resized : {T : Type 0} (result : Result T StorageError) (asked after : S) → asked ≡ storage_of old.file.storage → Changes (view asked) (view after) result (size_written (with_size old.file.header.fields size))
       → Calls (view asked) (view after) result → SafeThroughout (view_in view old.file) (view after) known nothing_given (size ∷ [])
   lasts_resized result asked after same wrote called =
-      let writes = size_writes view p old.file sound.file size fits in
       step_safe_throughout {result = result} (view_in view old.file) (view after) (state_in view old.file p) (record (state_in view old.file p) { header = with_size h size; on_storage = byte_at changed; known = known_of h old.file.caches (byte_at changed) })
       nothing_given (size ∷ []) change
       (subst (λ (s : S). Calls (view s) (view after) result) same called)
       (subst (λ (s : S). Changes (view s) (view after) result (size_written (with_size old.file.header.fields size))) same wrote)
-      sound.file.honest refl refl (safe_step_at (byte_at changed) writes)
+      sound.file.honest refl refl (safe_step_at (byte_at changed) (size_writes view p old.file sound.file size fits))
 
   module _ (storage : ImageStorage S) (is : (view (storage_of storage)).contents ≡ size_written (with_size old.file.header.fields size) (view_in view old.file).contents) (honest : (view (storage_of storage)).is_honest) where
     abbrev pub sized : Qcow2 S F

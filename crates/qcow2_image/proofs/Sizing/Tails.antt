@@ -267,12 +267,11 @@ module _ {S F : Type 0} (view : S → StorageView) (backing : F → BackingView)
   pub uncovers_still : (size at : ℕ) (old mid new : Qcow2 S F) → UncoversPart view backing size at old mid out → EffectOnSound (abstract_of view backing mid out) (abstract_of view backing new out) [] [] → ImageInvariant view backing (pending_in view backing new out) new out
       → guest_of (abstract_of view backing new out) ≡ guest_of (abstract_of view backing mid out) → UncoversPart view backing size at old new out
   uncovers_still size at old mid new part works sound same =
-      let v = abstract_of view backing old out in
       let m = abstract_of view backing mid out in
       let w = abstract_of view backing new out in
       let gs = given_below (setting_of view backing old) (disk_of view backing old) (boundary_in old size) (boundary_in old at - boundary_in old size) in
       record {
-        works = works_then v m w gs [] part.sound part.works (works_less m w [] gs [] (λ o x never. absurd never) (λ g u. tt) works);
+        works = works_then (abstract_of view backing old out) m w gs [] part.sound part.works (works_less m w [] gs [] (λ o x never. absurd never) (λ g u. tt) works);
         sound = sound;
         shows = same ∙ part.shows;
         covers = covers_after Uncovered (boundary_in old size) (boundary_in old at) old.file.header.fields mid.file.header.fields new.file.header.fields (known_in view old.file) (known_in view mid.file) (known_in view new.file) part.covers

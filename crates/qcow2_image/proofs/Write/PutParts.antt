@@ -4,7 +4,7 @@ use Rattle.std.specs.Prelude.{Option, Some, None, Result, Ok, Err, slice_get}
 use Rattle.image_access.specs.Backing.{BackingView}
 use Rattle.image_access.specs.Contents.{overwritten}
 use Rattle.image_access.specs.Moments.{StorageView, EachMomentSince, IsLeftBy}
-use Rattle.qcow2_metadata.specs.Bytes.{Bytes}
+use Rattle.qcow2_metadata.specs.Bytes.{Bytes, byte_at, laid_over}
 use Rattle.qcow2_metadata.specs.declared.header.HeaderFields.{HeaderFields}
 use Rattle.qcow2_metadata.specs.Header.{cluster_size}
 use Rattle.qcow2_metadata.specs.Cover.{cover}
@@ -12,7 +12,7 @@ use Rattle.qcow2_metadata.specs.declared.l2_mapping.L2Mapping.{L2Mapping}
 use Rattle.qcow2_metadata.specs.declared.l2_mapping.L2Mapping.TheVariants.{Data, Zero, Compressed, Uncovered}
 use Rattle.qcow2_disk.specs.Alike.{AreDataAt}
 use Rattle.qcow2_disk.specs.Calls.{EffectOnSound, AnsweredEffect, storage}
-use Rattle.qcow2_disk.specs.Mappings.{given_by_put}
+use Rattle.qcow2_disk.specs.Mappings.{given_by_put, PreparedMapping, put_mapping, put_disk}
 use Rattle.qcow2_disk.specs.Stops.{GivenBytes}
 use Rattle.qcow2_disk.specs.AbstractImages.{Guest, guest_of, meaning_at}
 use Rattle.qcow2_laws.proofs.Alike.{run_data}
@@ -30,8 +30,7 @@ use Rattle.qcow2_disk.specs.Found.{raw, kind_at}
 use Rattle.qcow2_image.specs.Found.{IsMappedAs}
 use Rattle.qcow2_image.specs.CallParts.{put_guest, IsPut, IsWriteOutcome, PutsPart}
 use Rattle.qcow2_image.specs.ImageInvariant.{ImageInvariant, pending_in, abstract_of, meaning}
-use Rattle.qcow2_image.proofs.Call.Called.{Quietly, quiet_works, quiet_sound, quiet_same}
-use Rattle.qcow2_image.proofs.Call.Called.{works_none}
+use Rattle.qcow2_image.proofs.Call.Called.{Quietly, quiet_works, quiet_sound, quiet_same, works_none}
 use Rattle.qcow2_image.proofs.Call.CallOutcomes.{outcome_answered, outcome_refused}
 use Rattle.qcow2_image.proofs.Call.Answered.{same_guest}
 use Rattle.qcow2_disk.proofs.RunSteps.{acts_none}
@@ -40,10 +39,8 @@ use Rattle.qcow2_image.specs.Image.{number_of, is_failed}
 use Rattle.qcow2_image.proofs.Call.Marked.{MayMarkBy}
 use Rattle.qcow2_image.proofs.Map.Loading.{still_moved}
 use Rattle.std.proofs.lemmas.Bool.{cases_lt, cases_eq, cond-true, cond-false, eq-eqb, ne_eqb}
-use Rattle.qcow2_metadata.specs.Bytes.{byte_at, laid_over}
 use Rattle.qcow2_metadata.specs.Guest.{known_byte}
 use Rattle.qcow2_disk.specs.Disk.{with_bytes}
-use Rattle.qcow2_disk.specs.Mappings.{PreparedMapping, put_mapping, put_disk}
 use Rattle.qcow2_disk.proofs.ForUsers.{laid_outside}
 use mathlib.Core.Path.{fun_ext}
 use Rattle.qcow2_image.proofs.Write.Put.{put_covers, put_works, put_sound, put_seen}

@@ -14,19 +14,19 @@ use Rattle.program_parts.proofs.conversions.fill.Goals as goal
 pub returns-in_err-count-clause-faults : goal.returns-in_err-count-clause-faults
 returns-in_err-count-clause-faults g c =
     converting_part g.S.Storage.view g.F.BackingDisk.backing c.args.image.now c.args.image.now c.to_qcow2.new.image _ _ _ (so_far_none g.S.Storage.view g.F.BackingDisk.backing c.args.image.now) refl
-    c.to_qcow2.result c.in_err-count.field-0.0 _ c.to_qcow2.ensures.faults c.in_err-count.was (refused_is _ c.in_err-count.field-0.0 c.from_residual.ensures)
+    c.to_qcow2.result c.in_err-count.field-0.0 _ c.to_qcow2.ensures.step.faults c.in_err-count.was (refused_is _ c.in_err-count.field-0.0 c.from_residual.ensures)
 
 pub returns-in_err-size-clause-faults : goal.returns-in_err-size-clause-faults
 returns-in_err-size-clause-faults g c =
-    converting_raw g.S.Storage.view g.F.BackingDisk.backing c.args.image.now c.to_qcow2.new.image _ _ _ (so_far_part g.S.Storage.view g.F.BackingDisk.backing c.args.image.now c.to_qcow2.new.image _ _ c.in_ok-count.ensures.faults) c.in_ok-count.ensures.faults.told.1
+    converting_raw g.S.Storage.view g.F.BackingDisk.backing c.args.image.now c.to_qcow2.new.image _ _ _ (so_far_part g.S.Storage.view g.F.BackingDisk.backing c.args.image.now c.to_qcow2.new.image _ _ c.in_ok-count.ensures.step.faults) c.in_ok-count.ensures.step.faults.told.1
     c.size.result c.in_err-size.field-0.0 _ c.size.ensures.calls.cause c.in_err-size.was (refused_is _ (of_storage c.in_err-size.field-0.0) c.from_residual-in_err-size.ensures)
 
 pub returns-then-branch-count-clause-faults : goal.returns-then-branch-count-clause-faults
 returns-then-branch-count-clause-faults g c =
-    converting_else g.S.Storage.view g.F.BackingDisk.backing c.args.image.now c.to_qcow2.new.image _ _ (so_far_part g.S.Storage.view g.F.BackingDisk.backing c.args.image.now c.to_qcow2.new.image _ _ c.in_ok-count.ensures.faults) (c.in_ok-size.ensures.calls.cause.told ∙ c.in_ok-count.ensures.faults.told.1) InvalidOption _ (λ is. absurd cc) refl
+    converting_else g.S.Storage.view g.F.BackingDisk.backing c.args.image.now c.to_qcow2.new.image _ _ (so_far_part g.S.Storage.view g.F.BackingDisk.backing c.args.image.now c.to_qcow2.new.image _ _ c.in_ok-count.ensures.step.faults) (c.in_ok-size.ensures.calls.cause.told ∙ c.in_ok-count.ensures.step.faults.told.1) InvalidOption _ (λ is. absurd cc) refl
 
 pub returns-clause-faults : goal.returns-clause-faults
-returns-clause-faults g c = converted _ _ _ _ _ _ _ (so_far_part g.S.Storage.view g.F.BackingDisk.backing c.args.image.now c.to_qcow2.new.image _ _ c.in_ok-count.ensures.faults) (c.in_ok-size.ensures.calls.cause.told ∙ c.in_ok-count.ensures.faults.told.1)
+returns-clause-faults g c = converted _ _ _ _ _ _ _ (so_far_part g.S.Storage.view g.F.BackingDisk.backing c.args.image.now c.to_qcow2.new.image _ _ c.in_ok-count.ensures.step.faults) (c.in_ok-size.ensures.calls.cause.told ∙ c.in_ok-count.ensures.step.faults.told.1)
 
 pub returns-in_err-count-clause-stops : goal.returns-in_err-count-clause-stops
 returns-in_err-count-clause-stops g c = λ n opened image. while_imported g.S.Storage.view g.F.BackingDisk.backing c.args.image.now c.to_qcow2.new.image n _ c.to_qcow2.ensures.any opened image
@@ -55,11 +55,10 @@ returns-then-branch-count-clause-stands g c = λ n opened image. once_imported g
 pub returns-in_err-count-clause-met : goal.returns-in_err-count-clause-met
 returns-in_err-count-clause-met g c = λ honest same opened.
     let view = g.S.Storage.view in
-    let backing = g.F.BackingDisk.backing in
     let e = c.in_err-count.field-0.0 in
     let met = IsMetImporting view 0 (size_of c.args.image.now) c.to_qcow2.new.image [] in
     given_err _ e met c.from_residual.ensures
-    (met_importing met c.to_qcow2.result e c.in_err-count.was same (c.to_qcow2.ensures.option honest) (c.to_qcow2.ensures.met (may_be_read view backing c.args.image.now opened) [] opened.sound))
+    (met_importing met c.to_qcow2.result e c.in_err-count.was same (c.to_qcow2.ensures.option honest) (c.to_qcow2.ensures.met (may_be_read view g.F.BackingDisk.backing c.args.image.now opened) [] opened.sound))
 
 pub returns-in_err-size-clause-met : goal.returns-in_err-size-clause-met
 returns-in_err-size-clause-met g c = λ honest same opened.
@@ -67,6 +66,5 @@ returns-in_err-size-clause-met g c = λ honest same opened.
 
 pub returns-then-branch-count-clause-met : goal.returns-then-branch-count-clause-met
 returns-then-branch-count-clause-met g c = λ honest same opened.
-    let left = c.to_qcow2.ensures.raw honest in
-    let counted = ((c.in_ok-count.ensures.sees honest []).answer opened.sound).1.0 in
-    absurd (c.if-branch-count.true (c.in_ok-size.ensures.size left.0 ∙ ap length left.1 ∙ sym counted))
+    let left = c.to_qcow2.ensures.step.raw_left honest in
+    absurd (c.if-branch-count.true (c.in_ok-size.ensures.size left.0 ∙ ap length left.1 ∙ sym (((c.in_ok-count.ensures.sees honest []).answer opened.sound).1.0)))

@@ -1,27 +1,22 @@
-use Rattle.std.proofs.Common.{◌≡◌, ℕ, Result, Ok, Err, refl, sym, ap, ◌∙◌, subst}
+use Rattle.std.proofs.Common.{◌≡◌, ℕ, Result, Ok, Err, refl, sym, ap, ◌∙◌, subst, length, ◌<◌, inl, inr}
 use Rattle.qcow2_alloc.specs.Faults.{FaultsTold}
 use Rattle.qcow2_alloc.specs.declared.error.ImageError.{ImageError}
-use Rattle.qcow2_image.proofs.Create.Causes.{told_opening}
+use Rattle.qcow2_image.proofs.Create.Causes.{told_opening, fault_reason}
 use Rattle.program_parts.proofs.Counted.{both_of, both_retold, both_since, image_refused, raw_refused}
 use Rattle.qcow2_metadata.specs.Bytes.{byte_at}
 use Rattle.qcow2_metadata.specs.Header.{header}
 use Rattle.qcow2_image.specs.declared.builder.Qcow2CreateBuilder.{Qcow2CreateBuilder}
 use Rattle.qcow2_image.specs.Image.{storage_of_image}
 use Rattle.qcow2_image.proofs.Create.NewDisks.{new_disk_consistent}
-use Rattle.program_parts.specs.Conversions.{CountsBoth, IsImageOf, IsImageOfSize, IsStopOfMaking}
-use Rattle.std.proofs.Common.{length, ◌<◌}
+use Rattle.program_parts.specs.Conversions.{CountsBoth, IsImageOf, IsImageOfSize, IsStopOfMaking, IsMetOnceCreated, asked_for}
 use Rattle.qcow2_metadata.specs.declared.header.HeaderFields.{HeaderFields}
 use Rattle.image_access.specs.Moments.{EachMomentSince}
 use Rattle.program_parts.proofs.Imported.{of_ok, ok_both, has_image}
 use Rattle.program_parts.proofs.Making.{counts_imported, counts_opened, new_image, once_opened, then_opened, while_created, while_opened}
-use Rattle.std.proofs.Common.{inl, inr}
-use Rattle.std.specs.Prelude.{IfErr}
 use Rattle.qcow2_alloc.proofs.AllocationSteps.{fault_of_storage}
 use Rattle.qcow2_alloc.specs.ImageError.{IsFault}
 use Rattle.qcow2_alloc.specs.declared.error.ImageError.TheVariants.{InvalidOption, Limit}
 use Rattle.qcow2_image.specs.Created.{IsReasonNotToCreate, IsReasonNotToCreateOpen, longest_disk}
-use Rattle.qcow2_image.proofs.Create.Causes.{fault_reason}
-use Rattle.program_parts.specs.Conversions.{IsMetOnceCreated, IsReasonNotToMake, asked_for}
 use Rattle.program_parts.proofs.Refused.{asked_so, err_then, header_is, met_once_created, no_layout, not_refused, of_err, of_layout, opening_refused, untouched}
 use Rattle.program_parts.proofs.conversions.make_image.Goals as goal
 
@@ -42,14 +37,13 @@ returns-in-Ok-open_alone-clause-image g c = λ raw_honest honest.
     let first : IsImageOfSize c.refcount_width.result.size (byte_at (view c.create-storage.result.0).contents) = new_image c.refcount_width.result.preallocate _ _ made.new_disk in
     let since = c.in-Ok-open_alone.ensures.since made.honest first.consistent in
     let then : IsImageOfSize c.refcount_width.result.size (byte_at (view (storage_of_image c.in-Ok-open_alone.image)).contents) = once_opened c.refcount_width.result.size (view c.create-storage.result.0) (view (storage_of_image c.in-Ok-open_alone.image)) first since in
-    let h = header (byte_at (view c.create-storage.result.0).contents) in
     let from = c.in-Ok-open_alone.ensures.opens made.honest (new_disk_consistent c.refcount_width.result.preallocate c.refcount_width.result.size (byte_at (view c.create-storage.result.0).contents) made.new_disk) in
     let writable = c.in-Ok-open_alone.ensures.ok.2 in
     ok_both c.fill-imported.result (λ n imports empty.
     subst (λ b. IsImageOf (view c.into_storage.result) b c.args.cluster c.args.width) (c.size.ensures.same raw_honest)
     (subst (λ s. IsImageOf (view s) bytes c.args.cluster c.args.width) (sym c.into_storage.ensures)
     (subst (λ k. IsImageOf (view (storage_of_image c.fill-imported.new.image)) bytes k c.args.width) (made.clusters ∙ clusters_are)
-    (has_image view _ c.in-Ok-open_alone.image c.fill-imported.new.image bytes n c.args.width h
+    (has_image view _ c.in-Ok-open_alone.image c.fill-imported.new.image bytes n c.args.width (header (byte_at (view c.create-storage.result.0).contents))
     (counts_imported view _ c.in-Ok-open_alone.image c.fill-imported.new.image c.refcount_width.result.size bytes (Ok n) imports from.opened then ∙ counts_opened c.refcount_width.result.size _ _ first since ∙ made.counts ∙ width_is) from.opened c.in-Ok-open_alone.ensures.below (c.in-Ok-open_alone.ensures.format made.honest) writable
     (λ k. ap (λ (f : ℕ → ℕ). f k) from.surplus ∙ made.no_leaks k) c.fill-imported.ensures.image empty imports))))
     (c.fill-imported.ensures.sees (c.size.ensures.calls.honest raw_honest)) (c.fill-imported.ensures.emptied writable)
@@ -91,8 +85,7 @@ returns-in-Ok-open_alone-clause-faults g c =
     in
     let first = ap (λ s. (view s).faults) image_is in
     let made = (subst (λ (r : Result _ _). FaultsTold (view c.refcount_width.result.image).faults (view c.create-storage.result.0).faults r) c.in_default.is c.create-storage.ensures.faults).told in
-    let opened = c.in-Ok-open_alone.ensures.faults.told in
-    both_since _ _ _ _ _ _ _ (opened ∙ made ∙ first) c.in-Ok.ensures.calls.cause.told (both_of view _ (λ b. refl) c.in-Ok-open_alone.image c.fill-imported.new.image c.into_storage.result _ _ c.fill-imported.result c.fill-imported.ensures.faults c.into_storage.ensures)
+    both_since _ _ _ _ _ _ _ (c.in-Ok-open_alone.ensures.faults.told ∙ made ∙ first) c.in-Ok.ensures.calls.cause.told (both_of view _ (λ b. refl) c.in-Ok-open_alone.image c.fill-imported.new.image c.into_storage.result _ _ c.fill-imported.result c.fill-imported.ensures.faults c.into_storage.ensures)
 
 pub returns-in-Err-created-clause-stops : goal.returns-in-Err-created-clause-stops
 returns-in-Err-created-clause-stops g c = λ raw_honest honest.
@@ -156,8 +149,7 @@ returns-in-Ok-open_alone-clause-stops g c = λ raw_honest honest.
     let created = of_ok _ c.create-storage.result.1 c.in_default.field-0 c.in_default.is (c.create-storage.ensures.created from) in
     let first : IsImageOfSize n (byte_at made.contents) = new_image c.refcount_width.result.preallocate n _ created.new_disk in
     let since = c.in-Ok-open_alone.ensures.since created.honest first.consistent in
-    let is = c.in-Ok-open_alone.ensures.opens created.honest first.consistent in
-    let filling = c.fill-imported.ensures.stops n is.opened (once_opened n made opened first since) in
+    let filling = c.fill-imported.ensures.stops n (c.in-Ok-open_alone.ensures.opens created.honest first.consistent).opened (once_opened n made opened first since) in
     subst (λ s. EachMomentSince (view c.args.storage) (view s) (λ b. IsStopOfMaking (length raw) (byte_at b))) (sym c.into_storage.ensures)
     (subst (λ s. EachMomentSince (view s) filled (λ b. IsStopOfMaking (length raw) (byte_at b))) image_is
     (subst (λ n. EachMomentSince start filled (λ b. IsStopOfMaking n (byte_at b))) size_is
@@ -240,11 +232,9 @@ returns-in-Ok-open_alone-clause-cause g c = λ raw_honest honest.
     let from = subst (λ (b : Qcow2CreateBuilder g.row.S.Denot). (view b.image).is_honest) (sym asked) honest in
     let created = of_ok _ c.create-storage.result.1 c.in_default.field-0 c.in_default.is (c.create-storage.ensures.created from) in
     let first : IsImageOfSize n (byte_at made.contents) = new_image c.refcount_width.result.preallocate n _ created.new_disk in
-    let since = c.in-Ok-open_alone.ensures.since created.honest first.consistent in
     let is = (c.in-Ok-open_alone.ensures.opens created.honest first.consistent).opened in
-    let then = once_opened n made opened first since in
+    let then = once_opened n made opened first (c.in-Ok-open_alone.ensures.since created.honest first.consistent) in
     let sized = ap (λ (h : HeaderFields). h.size) (header_is view _ image is opened.contents refl) ∙ then.size in
-    let same = c.size.ensures.same raw_honest in
     err_then c.fill-imported.result (λ e met. inr (subst (λ k. IsMetOnceCreated view k c.into_storage.result e) size_is met))
     (met_once_created view n image c.fill-imported.new.image c.into_storage.result c.fill-imported.result c.into_storage.ensures sized c.in-Ok-open_alone.ensures.ok.2 c.fill-imported.ensures.image (c.fill-imported.ensures.stands n is then)
-    (c.fill-imported.ensures.met (c.size.ensures.calls.honest raw_honest) (ap length same ∙ sym size_is ∙ sym sized) is))
+    (c.fill-imported.ensures.met (c.size.ensures.calls.honest raw_honest) (ap length (c.size.ensures.same raw_honest) ∙ sym size_is ∙ sym sized) is))

@@ -15,7 +15,7 @@ returns-in-Ok-clause-raw g c = λ raw_honest honest consistent.
     let view = g.S.Storage.view in
     let raw = g.R.Storage.view c.to_raw-copied.new.raw in
     once_flushed (IsExport (view c.args.storage).contents) raw.contents (g.R.Storage.view c.flushed-exported.new.raw).contents c.to_raw-copied.result c.flushed-exported.result
-    (c.flushed-exported.ensures.same (c.to_raw-copied.ensures.honest raw_honest)) c.flushed-exported.ensures.told
+    (c.flushed-exported.ensures.same (c.to_raw-copied.ensures.step.honest raw_honest)) c.flushed-exported.ensures.told
     (ok_then c.to_raw-copied.result
     (λ n exports.
     has_export view _ (view c.args.storage) c.in-Ok.image c.to_raw-copied.new.image (c.in-Ok.ensures.opens honest consistent).opened c.in-Ok.ensures.below (c.in-Ok.ensures.storage.contents honest).contents
@@ -27,7 +27,7 @@ returns-in-Ok-clause-image g c = λ honest consistent.
     let view = g.S.Storage.view in
     subst (λ s. KeepsDisk (view c.args.storage) (view s)) (sym c.into_storage.ensures)
     (keeps_disk view _ (view c.args.storage) c.in-Ok.image c.to_raw-copied.new.image (c.in-Ok.ensures.opens honest consistent).opened c.in-Ok.ensures.below (c.in-Ok.ensures.storage.contents honest).contents
-    c.to_raw-copied.result c.to_raw-copied.ensures.same)
+    c.to_raw-copied.result c.to_raw-copied.ensures.step.same)
 
 pub returns-in-Err-clause-image : goal.returns-in-Err-clause-image
 returns-in-Err-clause-image g c = λ honest consistent. keeps_itself (g.S.Storage.view c.args.storage) (g.S.Storage.view c.in-Err.storage).contents consistent (elim (c.in-Err.ensures.storage.contents honest) [ inl stay ↦ stay | inr made ↦ made.2 ])
@@ -38,18 +38,16 @@ returns-in-Err-clause-faults g c = image_refused _ _ _ _ _ c.in-Err.e refl refl 
 pub returns-in-Ok-clause-faults : goal.returns-in-Ok-clause-faults
 returns-in-Ok-clause-faults g c =
     let view = g.S.Storage.view in
-    let opened = c.in-Ok.ensures.faults.told in
     c.flushed-exported.ensures.faults (view c.args.storage).faults (view c.into_storage.result).faults (g.R.Storage.view c.args.raw.now).faults
-    (both_since _ _ _ _ _ _ _ opened refl (both_of view _ (λ b. refl) c.in-Ok.image c.to_raw-copied.new.image c.into_storage.result _ _ c.to_raw-copied.result c.to_raw-copied.ensures.faults c.into_storage.ensures))
+    (both_since _ _ _ _ _ _ _ c.in-Ok.ensures.faults.told refl (both_of view _ (λ b. refl) c.in-Ok.image c.to_raw-copied.new.image c.into_storage.result _ _ c.to_raw-copied.result c.to_raw-copied.ensures.step.faults c.into_storage.ensures))
 
 pub returns-in-Ok-clause-quiet : goal.returns-in-Ok-clause-quiet
 returns-in-Ok-clause-quiet g c = λ honest.
     let view = g.S.Storage.view in
     let opened = view (storage_of_image c.in-Ok.image) in
     let first = opened_quietly (view c.args.storage) opened (c.in-Ok.ensures.storage.honest honest) (c.in-Ok.ensures.storage.at_once honest) (c.in-Ok.ensures.storage.contents honest).contents in
-    let last = view (storage_of_image c.to_raw-copied.new.image) in
     subst (λ s. IsQuiet (view c.args.storage) (view s)) (sym c.into_storage.ensures)
-    (quiet_then (view c.args.storage) opened last first (c.to_raw-copied.ensures.quiet.quiet c.in-Ok.ensures.unmodified first.honest))
+    (quiet_then (view c.args.storage) opened (view (storage_of_image c.to_raw-copied.new.image)) first (c.to_raw-copied.ensures.step.quiet.quiet c.in-Ok.ensures.unmodified first.honest))
 
 pub returns-in-Err-clause-quiet : goal.returns-in-Err-clause-quiet
 returns-in-Err-clause-quiet g c = λ honest.

@@ -1,4 +1,4 @@
-use Rattle.std.proofs.Common.{◌*◌, ◌^◌, subst, refl, sym, IsSome}
+use Rattle.std.proofs.Common.{◌*◌, ◌^◌, subst, refl, sym, IsSome, ◌∙◌}
 use Rattle.std.specs.Option.{IfSome}
 use Rattle.image_access.specs.Contents.{overwritten}
 use Rattle.image_access.specs.Moments.{Changes}
@@ -10,7 +10,8 @@ use Rattle.qcow2_alloc.specs.ImageStorage.{storage_of}
 use Rattle.qcow2_alloc.specs.Rooms.{WritesTable}
 use Rattle.qcow2_alloc.proofs.AllocationSteps.{handed_on}
 use Rattle.qcow2_alloc.proofs.RoomWrites.{table_refused, table_stands}
-use Rattle.qcow2_alloc.proofs.KeptMarks.{placed_kept}
+use Rattle.qcow2_alloc.proofs.KeptMarks.{placed_kept, marks_of_storage}
+use Rattle.qcow2_alloc.proofs.Steps.{fails_ok, fails_since, fails_storage, same_faults}
 use Rattle.qcow2_alloc.proofs.new_refblocks.place_table.Goals as goal
 
 pub returns-in_err-place_reftable-clause-sound : goal.returns-in_err-place_reftable-clause-sound
@@ -25,30 +26,37 @@ returns-in_err-place_reftable-clause-sound g c = λ p first n clusters a sound m
 pub returns-clause-sound : goal.returns-clause-sound
 returns-clause-sound g c = λ p first n clusters a sound may low high t_bits long.
     let view = g.S.Storage.view in
-    let old = c.args.file.now in
     let asked = storage_of c.will_write.new.self in
     let written = subst (λ (x : EntryTableView). IfSome x.cluster (λ k. Changes (view asked) (view (storage_of c.place_reftable.new.self)) c.place_reftable.result (λ b. overwritten b (k * 2 ^ x.cluster_bits) x.bytes))) c.set_cluster.ensures c.place_reftable.ensures.written in
-    table_stands view p first n old a sound may c.args.cluster clusters low high c.args.table.now t_bits long asked c.place_reftable.new.self c.place_reftable.result c.will_write.ensures.storage written c.place_reftable.ensures.calls c.in_ok-place_reftable.field-0 c.in_ok-place_reftable.was
-
-pub returns-in_err-place_reftable-clause-header_cluster : goal.returns-in_err-place_reftable-clause-header_cluster
-returns-in_err-place_reftable-clause-header_cluster g c =
-    subst (λ s. KeepsHeaderCluster c.args.table.now.cluster_bits (g.S.Storage.view s) (g.S.Storage.view (storage_of c.place_reftable.new.self))) c.will_write.ensures.storage
-    (subst (λ (x : EntryTableView). KeepsHeaderCluster x.cluster_bits (g.S.Storage.view (storage_of c.will_write.new.self)) (g.S.Storage.view (storage_of c.place_reftable.new.self))) c.set_cluster.ensures c.place_reftable.ensures.header_cluster)
-
-pub returns-clause-header_cluster : goal.returns-clause-header_cluster
-returns-clause-header_cluster g c =
-    subst (λ s. KeepsHeaderCluster c.args.table.now.cluster_bits (g.S.Storage.view s) (g.S.Storage.view (storage_of c.place_reftable.new.self))) c.will_write.ensures.storage
-    (subst (λ (x : EntryTableView). KeepsHeaderCluster x.cluster_bits (g.S.Storage.view (storage_of c.will_write.new.self)) (g.S.Storage.view (storage_of c.place_reftable.new.self))) c.set_cluster.ensures c.place_reftable.ensures.header_cluster)
-
-pub returns-in_err-place_reftable-clause-notes : goal.returns-in_err-place_reftable-clause-notes
-returns-in_err-place_reftable-clause-notes g c =
-    placed_kept c.args.file.now.storage c.will_write.new.self c.place_reftable.new.self c.place_reftable.result c.will_write.ensures.storage c.will_write.ensures.changed c.set_cluster.new.self.cluster _
-    (subst (λ (x : EntryTableView). IsSome x.cluster) (sym c.set_cluster.ensures) refl) c.place_reftable.ensures.written c.place_reftable.ensures.calls c.place_reftable.ensures.noted
-
-pub returns-clause-notes : goal.returns-clause-notes
-returns-clause-notes g c =
-    placed_kept c.args.file.now.storage c.will_write.new.self c.place_reftable.new.self c.place_reftable.result c.will_write.ensures.storage c.will_write.ensures.changed c.set_cluster.new.self.cluster _
-    (subst (λ (x : EntryTableView). IsSome x.cluster) (sym c.set_cluster.ensures) refl) c.place_reftable.ensures.written c.place_reftable.ensures.calls c.place_reftable.ensures.noted
+    table_stands view p first n c.args.file.now a sound may c.args.cluster clusters low high c.args.table.now t_bits long asked c.place_reftable.new.self c.place_reftable.result c.will_write.ensures.storage written c.place_reftable.ensures.calls c.in_ok-place_reftable.field-0 c.in_ok-place_reftable.was
 
 pub returns-clause-noted : goal.returns-clause-noted
 returns-clause-noted g c = c.in_ok-place_reftable.ensures.noted.0
+
+pub returns-in_err-place_reftable-clause-fails : goal.returns-in_err-place_reftable-clause-fails
+returns-in_err-place_reftable-clause-fails g c = fails_since (same_faults g.S.Storage.view c.will_write.ensures.storage) (fails_storage c.from_residual.result c.in_err-place_reftable.field-0.0 c.from_residual.ensures c.in_err-place_reftable.ensures.calls.cause)
+
+pub returns-clause-fails : goal.returns-clause-fails
+returns-clause-fails g c = fails_ok (c.in_ok-place_reftable.ensures.calls.cause.told ∙ same_faults g.S.Storage.view c.will_write.ensures.storage)
+
+pub returns-in_err-place_reftable-clause-step : goal.returns-in_err-place_reftable-clause-step
+returns-in_err-place_reftable-clause-step g c = record {
+  header = refl;
+  list = refl;
+  marks = marks_of_storage refl (placed_kept c.args.file.now.storage c.will_write.new.self c.place_reftable.new.self c.place_reftable.result c.will_write.ensures.storage c.will_write.ensures.changed c.set_cluster.new.self.cluster _
+      (subst (λ (x : EntryTableView). IsSome x.cluster) (sym c.set_cluster.ensures) refl) c.place_reftable.ensures.written c.place_reftable.ensures.calls c.place_reftable.ensures.noted);
+  header_cluster = subst (λ s. KeepsHeaderCluster c.args.table.now.cluster_bits (g.S.Storage.view s) (g.S.Storage.view (storage_of c.place_reftable.new.self))) c.will_write.ensures.storage
+      (subst (λ (x : EntryTableView). KeepsHeaderCluster x.cluster_bits (g.S.Storage.view (storage_of c.will_write.new.self)) (g.S.Storage.view (storage_of c.place_reftable.new.self))) c.set_cluster.ensures c.place_reftable.ensures.header_cluster);
+  behind = λ n are. are;
+}
+
+pub returns-clause-step : goal.returns-clause-step
+returns-clause-step g c = record {
+  header = refl;
+  list = refl;
+  marks = marks_of_storage refl (placed_kept c.args.file.now.storage c.will_write.new.self c.place_reftable.new.self c.place_reftable.result c.will_write.ensures.storage c.will_write.ensures.changed c.set_cluster.new.self.cluster _
+      (subst (λ (x : EntryTableView). IsSome x.cluster) (sym c.set_cluster.ensures) refl) c.place_reftable.ensures.written c.place_reftable.ensures.calls c.place_reftable.ensures.noted);
+  header_cluster = subst (λ s. KeepsHeaderCluster c.args.table.now.cluster_bits (g.S.Storage.view s) (g.S.Storage.view (storage_of c.place_reftable.new.self))) c.will_write.ensures.storage
+      (subst (λ (x : EntryTableView). KeepsHeaderCluster x.cluster_bits (g.S.Storage.view (storage_of c.will_write.new.self)) (g.S.Storage.view (storage_of c.place_reftable.new.self))) c.set_cluster.ensures c.place_reftable.ensures.header_cluster);
+  behind = λ n are. are;
+}

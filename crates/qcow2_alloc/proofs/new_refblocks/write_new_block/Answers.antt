@@ -1,4 +1,4 @@
-use Rattle.std.proofs.Common.{sym, subst, refl, IsSome, ℕ, Option}
+use Rattle.std.proofs.Common.{sym, subst, refl, IsSome, ℕ, Option, ◌∙◌}
 use Rattle.std.proofs.lemmas.Bool.{ne_eqb}
 use Rattle.qcow2_alloc.specs.GrownTables.{with_run}
 use Rattle.qcow2_alloc.specs.ImageError.{of_storage}
@@ -9,6 +9,7 @@ use Rattle.qcow2_alloc.specs.Rooms.{WritesTo}
 use Rattle.qcow2_alloc.proofs.AllocationSteps.{handed_on}
 use Rattle.qcow2_alloc.proofs.RoomWrites.{block_refused, block_stands}
 use Rattle.qcow2_alloc.proofs.KeptMarks.{kept_marks_then, marks_of_caches, placed_kept, marks_of_storage}
+use Rattle.qcow2_alloc.proofs.Steps.{fails_ok, fails_since, fails_storage, same_faults}
 use Rattle.qcow2_alloc.proofs.new_refblocks.write_new_block.Goals as goal
 
 pub returns-clause-others : goal.returns-clause-others
@@ -32,26 +33,30 @@ returns-clause-sound g c = λ p first n a sound may some fits.
     (storage_of c.will_write.new.self) c.place_refblock.new.self c.args.block.now c.place_refblock.result fits c.requires.place c.requires.whole.whole c.will_write.ensures.storage c.place_refblock.ensures.written c.place_refblock.ensures.calls c.in_ok-place_refblock.field-0 c.in_ok-place_refblock.was
     (c.rb_remove.ensures.gone old.header.fields q (contents_in view old) sound.sound.caches sound.sound.room)
 
-pub returns-in_err-place_refblock-clause-header_cluster : goal.returns-in_err-place_refblock-clause-header_cluster
-returns-in_err-place_refblock-clause-header_cluster g c = subst (λ s. KeepsHeaderCluster c.args.block.now.cluster_bits (g.S.Storage.view s) (g.S.Storage.view (storage_of c.place_refblock.new.self))) c.will_write.ensures.storage c.place_refblock.ensures.header_cluster
+pub returns-in_err-place_refblock-clause-fails : goal.returns-in_err-place_refblock-clause-fails
+returns-in_err-place_refblock-clause-fails g c = fails_since (same_faults g.S.Storage.view c.will_write.ensures.storage) (fails_storage c.from_residual.result c.in_err-place_refblock.field-0.0 c.from_residual.ensures c.in_err-place_refblock.ensures.calls.cause)
 
-pub returns-clause-header_cluster : goal.returns-clause-header_cluster
-returns-clause-header_cluster g c = subst (λ s. KeepsHeaderCluster c.args.block.now.cluster_bits (g.S.Storage.view s) (g.S.Storage.view (storage_of c.place_refblock.new.self))) c.will_write.ensures.storage c.place_refblock.ensures.header_cluster
+pub returns-clause-fails : goal.returns-clause-fails
+returns-clause-fails g c = fails_ok (c.in_ok-place_refblock.ensures.calls.cause.told ∙ same_faults g.S.Storage.view c.will_write.ensures.storage)
 
-pub returns-in_err-place_refblock-clause-behind_header : goal.returns-in_err-place_refblock-clause-behind_header
-returns-in_err-place_refblock-clause-behind_header g c = c.rb_remove.ensures.header_cluster
+pub returns-in_err-place_refblock-clause-step : goal.returns-in_err-place_refblock-clause-step
+returns-in_err-place_refblock-clause-step g c = record {
+  header = refl;
+  list = refl;
+  marks = kept_marks_then (marks_of_caches c.rb_remove.ensures.marks c.rb_remove.ensures.order)
+      (marks_of_storage refl (placed_kept c.args.file.now.storage c.will_write.new.self c.place_refblock.new.self c.place_refblock.result c.will_write.ensures.storage c.will_write.ensures.changed c.args.block.now.cluster _ (subst (λ (o : Option ℕ). IsSome o) (sym c.requires.place) refl)
+      c.place_refblock.ensures.written c.place_refblock.ensures.calls c.place_refblock.ensures.noted));
+  header_cluster = subst (λ s. KeepsHeaderCluster c.args.block.now.cluster_bits (g.S.Storage.view s) (g.S.Storage.view (storage_of c.place_refblock.new.self))) c.will_write.ensures.storage c.place_refblock.ensures.header_cluster;
+  behind = c.rb_remove.ensures.header_cluster;
+}
 
-pub returns-clause-behind_header : goal.returns-clause-behind_header
-returns-clause-behind_header g c = c.rb_remove.ensures.header_cluster
-
-pub returns-in_err-place_refblock-clause-marks : goal.returns-in_err-place_refblock-clause-marks
-returns-in_err-place_refblock-clause-marks g c =
-    kept_marks_then (marks_of_caches c.rb_remove.ensures.marks c.rb_remove.ensures.order)
-    (marks_of_storage refl (placed_kept c.args.file.now.storage c.will_write.new.self c.place_refblock.new.self c.place_refblock.result c.will_write.ensures.storage c.will_write.ensures.changed c.args.block.now.cluster _ (subst (λ (o : Option ℕ). IsSome o) (sym c.requires.place) refl)
-    c.place_refblock.ensures.written c.place_refblock.ensures.calls c.place_refblock.ensures.noted))
-
-pub returns-clause-marks : goal.returns-clause-marks
-returns-clause-marks g c =
-    kept_marks_then (marks_of_caches c.rb_remove.ensures.marks c.rb_remove.ensures.order)
-    (marks_of_storage refl (placed_kept c.args.file.now.storage c.will_write.new.self c.place_refblock.new.self c.place_refblock.result c.will_write.ensures.storage c.will_write.ensures.changed c.args.block.now.cluster _ (subst (λ (o : Option ℕ). IsSome o) (sym c.requires.place) refl)
-    c.place_refblock.ensures.written c.place_refblock.ensures.calls c.place_refblock.ensures.noted))
+pub returns-clause-step : goal.returns-clause-step
+returns-clause-step g c = record {
+  header = refl;
+  list = refl;
+  marks = kept_marks_then (marks_of_caches c.rb_remove.ensures.marks c.rb_remove.ensures.order)
+      (marks_of_storage refl (placed_kept c.args.file.now.storage c.will_write.new.self c.place_refblock.new.self c.place_refblock.result c.will_write.ensures.storage c.will_write.ensures.changed c.args.block.now.cluster _ (subst (λ (o : Option ℕ). IsSome o) (sym c.requires.place) refl)
+      c.place_refblock.ensures.written c.place_refblock.ensures.calls c.place_refblock.ensures.noted));
+  header_cluster = subst (λ s. KeepsHeaderCluster c.args.block.now.cluster_bits (g.S.Storage.view s) (g.S.Storage.view (storage_of c.place_refblock.new.self))) c.will_write.ensures.storage c.place_refblock.ensures.header_cluster;
+  behind = c.rb_remove.ensures.header_cluster;
+}

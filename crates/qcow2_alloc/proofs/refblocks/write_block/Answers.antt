@@ -30,6 +30,7 @@ use Rattle.qcow2_alloc.proofs.SparedHeaders.{spares_cached, spares_then, spares_
 use Rattle.qcow2_alloc.specs.SparedHeaders.{CachesSpareHeader}
 use Rattle.qcow2_alloc.specs.HeaderClusters.{KeepsHeaderCluster}
 use Rattle.qcow2_alloc.proofs.KeptMarks.{kept_marks_then, marks_of_both, placed_kept, marks_of_storage}
+use Rattle.qcow2_alloc.proofs.Steps.{fails_of, fails_on, fails_since, fails_storage, same_faults}
 use Rattle.qcow2_alloc.proofs.refblocks.write_block.Goals as goal
 
 -- all counts are written, and then the block's bytes, or they are not
@@ -153,3 +154,13 @@ returns-clause-marks g c =
 
 pub returns-clause-noted : goal.returns-clause-noted
 returns-clause-noted g c = on_ok _ c.rb_insert.result (c.rb_insert.ensures.notes.changes.noted c.in_ok-place_refblock.ensures.noted.0)
+
+pub returns-in_err-flush_rb-clause-fails : goal.returns-in_err-flush_rb-clause-fails
+returns-in_err-flush_rb-clause-fails g c = fails_on c.from_residual.result c.in_err-flush_rb.field-0.0 c.from_residual.ensures (fails_of (Err c.in_err-flush_rb.field-0.0) c.in_err-flush_rb.ensures.storage_faults c.in_err-flush_rb.ensures.cause)
+
+pub returns-in_err-place_refblock-clause-fails : goal.returns-in_err-place_refblock-clause-fails
+returns-in_err-place_refblock-clause-fails g c =
+    fails_since (same_faults g.S.Storage.view c.will_write.ensures.storage ∙ c.in_ok-flush_rb.ensures.storage_faults.told) (fails_storage c.from_residual-in_err-place_refblock.result c.in_err-place_refblock.field-0.0 c.from_residual-in_err-place_refblock.ensures c.in_err-place_refblock.ensures.calls.cause)
+
+pub returns-clause-fails : goal.returns-clause-fails
+returns-clause-fails g c = fails_since (c.in_ok-place_refblock.ensures.calls.cause.told ∙ (same_faults g.S.Storage.view c.will_write.ensures.storage ∙ c.in_ok-flush_rb.ensures.storage_faults.told)) (fails_of c.rb_insert.result c.rb_insert.ensures.storage_faults c.rb_insert.ensures.cause)

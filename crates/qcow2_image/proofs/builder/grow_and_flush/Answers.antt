@@ -25,7 +25,7 @@ returns-clause-enlarges g c = λ opened writable alone unwritten.
     let old = c.args.image.now in
     let mid = c.grow_by.new.image in
     grown_by view below c.args.size old mid opened writable alone unwritten c.args.mode c.in_ok-grow_by.field-0 (subst (GrowsBy view below c.args.mode old mid c.args.size) c.in_ok-grow_by.was c.grow_by.ensures.grows)
-    c.flush.new.self c.flush.result c.flush.ensures.image.size c.flush.ensures.sees c.flush.ensures.writes
+    c.flush.new.self c.flush.result c.flush.ensures.step.image.size c.flush.ensures.sees c.flush.ensures.writes
 
 pub returns-in_err-grow_by-clause-fault : goal.returns-in_err-grow_by-clause-fault
 returns-in_err-grow_by-clause-fault g c = λ usable writable alone sound unmapped. hands_either c.from_residual.result c.in_err-grow_by.field-0.0 c.from_residual.ensures (c.in_err-grow_by.ensures.fault usable writable alone sound unmapped)
@@ -40,7 +40,7 @@ returns-in_err-grow_by-clause-faults g c =
     c.grow_by.ensures.faults c.in_err-grow_by.was c.from_residual.ensures
 
 pub returns-clause-faults : goal.returns-clause-faults
-returns-clause-faults g c = counted_since g.S.Storage.view g.F.BackingDisk.backing c.args.image.now c.grow_by.new.image c.flush.new.self c.flush.result c.in_ok-grow_by.ensures.faults.told c.flush.ensures.faults
+returns-clause-faults g c = counted_since g.S.Storage.view g.F.BackingDisk.backing c.args.image.now c.grow_by.new.image c.flush.new.self c.flush.result c.in_ok-grow_by.ensures.faults.told c.flush.ensures.step.faults
 
 pub returns-clause-leaks : goal.returns-clause-leaks
 returns-clause-leaks g c = λ opened writable none.

@@ -50,10 +50,9 @@ returns-in-Ok-clause-faults g c = λ none.
 
 pub returns-in-Ok-clause-leaks : goal.returns-in-Ok-clause-leaks
 returns-in-Ok-clause-leaks g c = λ honest unwritten none.
-    let view = g.S.Storage.view in
     let opens = c.in-Ok.ensures.opens honest unwritten.consistent in
     let flushed = c.grow_and_flush-done.ensures.leaks opens.opened c.in-Ok.ensures.ok.2 (λ k. ap (λ (f : ℕ → ℕ). f k) opens.surplus ∙ none k) in
-    subst (λ s. OnOk c.grow_and_flush-done.result (HasNoLeaks (byte_at (view s).contents))) (sym c.into_storage.ensures) flushed
+    subst (λ s. OnOk c.grow_and_flush-done.result (HasNoLeaks (byte_at (g.S.Storage.view s).contents))) (sym c.into_storage.ensures) flushed
 
 pub returns-in-Err-clause-limit : goal.returns-in-Err-clause-limit
 returns-in-Err-clause-limit g c = λ honest unwritten new_image uncleared.
@@ -69,7 +68,6 @@ returns-in-Ok-clause-limit g c = λ honest unwritten new_image uncleared.
     let image = c.in-Ok.image in
     let left = c.grow_and_flush-done.new.image in
     let is = (c.in-Ok.ensures.opens honest unwritten.consistent).opened in
-    let usable = usable_opened view below image is c.in-Ok.ensures.ok.2 in
     limits_as (λ e. CantGrowBy view below c.args.mode c.args.size image left) (λ e. CantEnlarge view below c.args.mode c.args.size contents c.into_storage.result) c.grow_and_flush-done.result
     (λ e lacks. record {
       opened = image;
@@ -82,4 +80,4 @@ returns-in-Ok-clause-limit g c = λ honest unwritten new_image uncleared.
       keeps = lacks.1.0;
       leaks = lacks.1.1;
     })
-    (c.grow_and_flush-done.ensures.limit usable is.sound)
+    (c.grow_and_flush-done.ensures.limit (usable_opened view below image is c.in-Ok.ensures.ok.2) is.sound)

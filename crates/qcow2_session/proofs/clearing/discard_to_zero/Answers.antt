@@ -1,11 +1,10 @@
 use Rattle.qcow2_session.proofs.Marking.{cleared_at_once}
 use Rattle.qcow2_disk.specs.Calls.{to_zero}
-use Rattle.qcow2_session.proofs.Cleared.{clears_command_step}
+use Rattle.qcow2_session.proofs.Cleared.{clears_command_step, clearing_counted, range_told}
 use Rattle.qcow2_session.proofs.Unwritten.{clear_same}
-use Rattle.std.proofs.Common.{refl}
+use Rattle.std.proofs.Common.{refl, rules}
 use Rattle.qcow2_session.specs.declared.session.Command.TheVariants as C
 use Rattle.qcow2_session.proofs.Causing.{clears_rightly, if_err_to}
-use Rattle.qcow2_session.proofs.Cleared.{clearing_counted, range_told}
 use Rattle.qcow2_session.proofs.clearing.discard_to_zero.Goals as goal
 
 pub returns-clause-command_step : goal.returns-clause-command_step
@@ -24,8 +23,10 @@ returns-clause-causes g c = λ before found.
 pub returns-clause-tells : goal.returns-clause-tells
 returns-clause-tells g c = λ before. range_told g.S.Storage.view g.F.BackingDisk.backing c.args.image.now c.discard_to_zero_unsafe.new.self c.args.offset c.args.length c.discard_to_zero_unsafe.result c.range_reply.result c.range_reply.ensures c.discard_to_zero_unsafe.ensures.sound.range
 
-pub returns-clause-marks : goal.returns-clause-marks
-returns-clause-marks g c = cleared_at_once g.S.Storage.view c.args.image.now c.discard_to_zero_unsafe.new.self c.discard_to_zero_unsafe.result c.range_reply.result c.range_reply.ensures c.discard_to_zero_unsafe.ensures.step.once_written c.discard_to_zero_unsafe.ensures.step.marks
-
-pub returns-clause-faults : goal.returns-clause-faults
-returns-clause-faults g c = clearing_counted g.S.Storage.view g.F.BackingDisk.backing c.args.image.now c.discard_to_zero_unsafe.new.self c.discard_to_zero_unsafe.result c.range_reply.result c.range_reply.ensures c.discard_to_zero_unsafe.ensures.step.faults
+pub returns-clause-step : goal.returns-clause-step
+returns-clause-step g c = record {
+  image = search rules;
+  header_cluster = search rules;
+  faults = clearing_counted g.S.Storage.view g.F.BackingDisk.backing c.args.image.now c.discard_to_zero_unsafe.new.self c.discard_to_zero_unsafe.result c.range_reply.result c.range_reply.ensures c.discard_to_zero_unsafe.ensures.step.faults;
+  marks = cleared_at_once g.S.Storage.view c.args.image.now c.discard_to_zero_unsafe.new.self c.discard_to_zero_unsafe.result c.range_reply.result c.range_reply.ensures c.discard_to_zero_unsafe.ensures.step.once_written c.discard_to_zero_unsafe.ensures.step.marks;
+}

@@ -1,4 +1,4 @@
-use Rattle.std.proofs.Common.{◌≡◌, ◌∙◌, ◌+◌, ◌≤◌, refl, sym, [], length, take, subst, arith}
+use Rattle.std.proofs.Common.{◌≡◌, ◌∙◌, ◌+◌, ◌≤◌, refl, sym, [], length, take, subst, arith, rules}
 use Rattle.std.proofs.lemmas.Grind.{common_steps}
 use Rattle.qcow2_image.specs.ImageInvariant.{abstract_of}
 use Rattle.qcow2_session.specs.Conversions.{Fills}
@@ -15,13 +15,6 @@ use Rattle.qcow2_image.proofs.Call.BehindHeader.{behind_none, behind_then}
 use Rattle.qcow2_image.proofs.Map.Quiet.{reads_none}
 use Rattle.qcow2_alloc.proofs.KeptTables.AllWritten.{written_then}
 use Rattle.qcow2_session.proofs.convert.export_all.Goals as goal
-
-pub returns-in_err-export_at-clause-same : goal.returns-in_err-export_at-clause-same
-returns-in_err-export_at-clause-same g c =
-    let view = g.S.Storage.view in
-    let below = g.F.BackingDisk.backing in
-    unchanged_refused view below c.args.image.now c.export_at.new.image c.in_err-export_at.field-0.0 _ (refused_is _ c.in_err-export_at.field-0.0 c.from_residual.ensures)
-    (λ out. interrupted_if (λ h. h.1 ∙ h.0) (interrupted_then {more = []} (λ _ _. none_within (abstract_of view below c.loop-at.image out) []) (c.loop-at.invariant.same out) (c.in_err-export_at.ensures.same out)))
 
 pub loop-at-init : goal.loop-at-init
 loop-at-init g c = record {
@@ -41,14 +34,14 @@ loop-at-preserved g c =
     let view = g.S.Storage.view in
     let below = g.F.BackingDisk.backing in
     record {
-      behind = behind_then c.loop-at.invariant.behind c.export_at.ensures.header_cluster;
-      faults = so_far_then g.S.Storage.view g.F.BackingDisk.backing c.args.image.now c.loop-at.image c.export_at.new.image c.loop-at.invariant.faults (so_far_part g.S.Storage.view g.F.BackingDisk.backing c.loop-at.image c.export_at.new.image _ _ c.in_ok-export_at.ensures.faults);
-      counted = c.in_ok-export_at.ensures.faults.told.1 ∙ c.loop-at.invariant.counted;
+      behind = behind_then c.loop-at.invariant.behind c.export_at.ensures.step.header_cluster;
+      faults = so_far_then g.S.Storage.view g.F.BackingDisk.backing c.args.image.now c.loop-at.image c.export_at.new.image c.loop-at.invariant.faults (so_far_part g.S.Storage.view g.F.BackingDisk.backing c.loop-at.image c.export_at.new.image _ _ c.in_ok-export_at.ensures.step.faults);
+      counted = c.in_ok-export_at.ensures.step.faults.told.1 ∙ c.loop-at.invariant.counted;
       within = grind (arith, common_steps);
-      image = same_then c.loop-at.invariant.image c.export_at.ensures.image;
-      quiet = written_then g.S.Storage.view c.loop-at.invariant.quiet c.export_at.ensures.quiet;
-      honest = λ h. c.export_at.ensures.honest (c.loop-at.invariant.honest h);
-      same = λ out. does_if (λ h. h.1 ∙ h.0) (does_then {more = []} (λ _ _. none_within (abstract_of view below c.loop-at.image out) []) (c.loop-at.invariant.same out) (c.in_ok-export_at.ensures.same out));
+      image = same_then c.loop-at.invariant.image c.export_at.ensures.step.image;
+      quiet = written_then g.S.Storage.view c.loop-at.invariant.quiet c.export_at.ensures.step.quiet;
+      honest = λ h. c.export_at.ensures.step.honest (c.loop-at.invariant.honest h);
+      same = λ out. does_if (λ h. h.1 ∙ h.0) (does_then {more = []} (λ _ _. none_within (abstract_of view below c.loop-at.image out) []) (c.loop-at.invariant.same out) (c.in_ok-export_at.ensures.step.same out));
       filled = λ h.
           let long : length (take c.min-count.result c.loop-at.bytes) ≡ c.min-count.result = grind (arith, common_steps) in
           fills_more view below c.args.image.now c.loop-at.image 0 c.loop-at.at (length (take c.min-count.result c.loop-at.bytes)) c.min-count.result (g.R.Storage.view c.args.raw.now).contents (g.R.Storage.view c.loop-at.raw).contents (g.R.Storage.view c.export_at.new.raw).contents
@@ -77,16 +70,26 @@ returns-in_err-export_at-clause-met g c = λ none size out sound.
     (reads_part view below out old mid sound still (so_far.acts.works sound) 0 c.args.size at (at + count) e (omega arith) upto
     (c.in_err-export_at.ensures.met (part_of_disk old mid c.loop-at.invariant.image at count (omega (arith, upto, size)) still.works none) out still))
 
-pub returns-in_err-export_at-clause-faults : goal.returns-in_err-export_at-clause-faults
-returns-in_err-export_at-clause-faults g c =
-    converting_part g.S.Storage.view g.F.BackingDisk.backing c.args.image.now c.loop-at.image c.export_at.new.image (g.R.Storage.view c.args.raw.now).faults (g.R.Storage.view c.loop-at.raw).faults (g.R.Storage.view c.export_at.new.raw).faults c.loop-at.invariant.faults c.loop-at.invariant.counted
-    c.export_at.result c.in_err-export_at.field-0.0 _ c.export_at.ensures.faults c.in_err-export_at.was (refused_is _ c.in_err-export_at.field-0.0 c.from_residual.ensures)
+pub returns-in_err-export_at-clause-step : goal.returns-in_err-export_at-clause-step
+returns-in_err-export_at-clause-step g c = record {
+  image = search rules;
+  honest = search rules;
+  same = let view = g.S.Storage.view in
+      let below = g.F.BackingDisk.backing in
+      unchanged_refused view below c.args.image.now c.export_at.new.image c.in_err-export_at.field-0.0 _ (refused_is _ c.in_err-export_at.field-0.0 c.from_residual.ensures)
+      (λ out. interrupted_if (λ h. h.1 ∙ h.0) (interrupted_then {more = []} (λ _ _. none_within (abstract_of view below c.loop-at.image out) []) (c.loop-at.invariant.same out) (c.in_err-export_at.ensures.step.same out)));
+  faults = converting_part g.S.Storage.view g.F.BackingDisk.backing c.args.image.now c.loop-at.image c.export_at.new.image (g.R.Storage.view c.args.raw.now).faults (g.R.Storage.view c.loop-at.raw).faults (g.R.Storage.view c.export_at.new.raw).faults c.loop-at.invariant.faults c.loop-at.invariant.counted
+      c.export_at.result c.in_err-export_at.field-0.0 _ c.export_at.ensures.step.faults c.in_err-export_at.was (refused_is _ c.in_err-export_at.field-0.0 c.from_residual.ensures);
+  header_cluster = behind_then c.loop-at.invariant.behind c.export_at.ensures.step.header_cluster;
+  quiet = written_then g.S.Storage.view c.loop-at.invariant.quiet c.export_at.ensures.step.quiet;
+}
 
-pub returns-clause-faults : goal.returns-clause-faults
-returns-clause-faults g c = converted _ _ _ _ _ _ _ (c.loop-at.invariant.faults) (c.loop-at.invariant.counted)
-
-pub returns-in_err-export_at-clause-header_cluster : goal.returns-in_err-export_at-clause-header_cluster
-returns-in_err-export_at-clause-header_cluster g c = behind_then c.loop-at.invariant.behind c.export_at.ensures.header_cluster
-
-pub returns-in_err-export_at-clause-quiet : goal.returns-in_err-export_at-clause-quiet
-returns-in_err-export_at-clause-quiet g c = written_then g.S.Storage.view c.loop-at.invariant.quiet c.export_at.ensures.quiet
+pub returns-clause-step : goal.returns-clause-step
+returns-clause-step g c = record {
+  image = search rules;
+  same = search rules;
+  honest = search rules;
+  header_cluster = search rules;
+  quiet = search rules;
+  faults = converted _ _ _ _ _ _ _ (c.loop-at.invariant.faults) (c.loop-at.invariant.counted);
+}

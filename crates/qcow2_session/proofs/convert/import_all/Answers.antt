@@ -1,5 +1,5 @@
 use Rattle.qcow2_session.proofs.convert.import_all.Goals as goal
-use Rattle.std.proofs.Common.{sym, ◌≡◌, ◌+◌, ◌-◌, ◌%◌, ◌<◌, ◌≤◌, ◌++◌, drop, length, take, refl, ap, ◌∙◌, subst, arith, min, ℕ}
+use Rattle.std.proofs.Common.{sym, ◌≡◌, ◌+◌, ◌-◌, ◌%◌, ◌<◌, ◌≤◌, ◌++◌, drop, length, take, refl, ap, ◌∙◌, subst, arith, min, ℕ, rules}
 use Rattle.std.proofs.Math.Nat.{zero-mod, add-mod_right}
 use Rattle.std.proofs.lemmas.Grind.{common_steps}
 use Rattle.image_access.specs.Contents.{bytes_at}
@@ -47,15 +47,15 @@ loop-at-preserved g c =
     let kept : length c.import_at.new.wanted ≡ c.min-count.result = grind (arith, common_steps) in
     let whole : length c.loop-at.wanted ≡ length (c.import_at.new.wanted ++ drop c.min-count.result c.loop-at.wanted) = grind (arith, common_steps) in
     record {
-      behind = behind_then c.loop-at.invariant.behind c.import_at.ensures.header_cluster;
-      quiet = λ reading. written_then g.S.Storage.view (c.loop-at.invariant.quiet reading) (c.import_at.ensures.quiet (c.loop-at.invariant.image.writable ∙ reading));
-      faults = so_far_then g.S.Storage.view g.F.BackingDisk.backing c.args.image.now c.loop-at.image c.import_at.new.image c.loop-at.invariant.faults (so_far_part g.S.Storage.view g.F.BackingDisk.backing c.loop-at.image c.import_at.new.image _ _ c.in_ok-import_at.ensures.faults);
-      counted = c.in_ok-import_at.ensures.faults.told.1 ∙ c.loop-at.invariant.counted;
+      behind = behind_then c.loop-at.invariant.behind c.import_at.ensures.step.header_cluster;
+      quiet = λ reading. written_then g.S.Storage.view (c.loop-at.invariant.quiet reading) (c.import_at.ensures.step.quiet (c.loop-at.invariant.image.writable ∙ reading));
+      faults = so_far_then g.S.Storage.view g.F.BackingDisk.backing c.args.image.now c.loop-at.image c.import_at.new.image c.loop-at.invariant.faults (so_far_part g.S.Storage.view g.F.BackingDisk.backing c.loop-at.image c.import_at.new.image _ _ c.in_ok-import_at.ensures.step.faults);
+      counted = c.in_ok-import_at.ensures.step.faults.told.1 ∙ c.loop-at.invariant.counted;
       within = grind (arith, common_steps);
       aligned = λ more. subst (λ k. (c.loop-at.at + c.min-count.result) % k ≡ 0) whole
           (next_aligned c.loop-at.at c.min-count.result (length c.loop-at.wanted) c.args.size c.min-count.ensures (c.loop-at.invariant.aligned c.loop-at-test.true) more);
-      image = same_then c.loop-at.invariant.image c.import_at.ensures.image;
-      raw = λ honest. let before = c.loop-at.invariant.raw honest in let after = c.import_at.ensures.raw before.0 in (after.0, after.1 ∙ before.1);
+      image = same_then c.loop-at.invariant.image c.import_at.ensures.step.image;
+      raw = λ honest. let before = c.loop-at.invariant.raw honest in let after = c.import_at.ensures.step.raw_left before.0 in (after.0, after.1 ∙ before.1);
       any =
           let long : length (take c.min-count.result c.loop-at.wanted) ≡ c.min-count.result = grind (arith, common_steps) in
           subst (λ n. ImportsAnyOf g.S.Storage.view g.F.BackingDisk.backing c.args.image.now c.import_at.new.image (c.loop-at.at + n) (Ok tt)) long
@@ -128,14 +128,6 @@ returns-in_err-import_at-clause-met g c = λ none size out sound.
     (importing_within g.S.Storage.view new out 0 c.args.size at (at + count) e (omega arith) upto
     (c.in_err-import_at.ensures.met (part_of_disk c.args.image.now c.loop-at.image c.loop-at.invariant.image at count (omega (arith, upto, size)) now.works none) out now))
 
-pub returns-in_err-import_at-clause-faults : goal.returns-in_err-import_at-clause-faults
-returns-in_err-import_at-clause-faults g c =
-    converting_part g.S.Storage.view g.F.BackingDisk.backing c.args.image.now c.loop-at.image c.import_at.new.image (g.R.Storage.view c.args.raw.now).faults (g.R.Storage.view c.loop-at.raw).faults (g.R.Storage.view c.import_at.new.raw).faults c.loop-at.invariant.faults c.loop-at.invariant.counted
-    c.import_at.result c.in_err-import_at.field-0.0 _ c.import_at.ensures.faults c.in_err-import_at.was (refused_is _ c.in_err-import_at.field-0.0 c.from_residual.ensures)
-
-pub returns-clause-faults : goal.returns-clause-faults
-returns-clause-faults g c = converted _ _ _ _ _ _ _ (c.loop-at.invariant.faults) (c.loop-at.invariant.counted)
-
 pub returns-in_err-import_at-clause-differs : goal.returns-in_err-import_at-clause-differs
 returns-in_err-import_at-clause-differs g c = λ honest size.
     let before = c.loop-at.invariant.raw honest in
@@ -146,8 +138,15 @@ returns-in_err-import_at-clause-differs g c = λ honest size.
     (same_range (g.R.Storage.view c.loop-at.raw).contents (g.R.Storage.view c.args.raw.now).contents c.loop-at.at (length (take c.min-count.result c.loop-at.wanted)) c.min-count.result before.1 long)
     (c.loop-at.invariant.written honest size) c.in_err-import_at.field-0.0 _ (refused_is _ c.in_err-import_at.field-0.0 c.from_residual.ensures) (c.in_err-import_at.ensures.differs before.0)
 
-pub returns-in_err-import_at-clause-header_cluster : goal.returns-in_err-import_at-clause-header_cluster
-returns-in_err-import_at-clause-header_cluster g c = behind_then c.loop-at.invariant.behind c.import_at.ensures.header_cluster
+pub returns-in_err-import_at-clause-step : goal.returns-in_err-import_at-clause-step
+returns-in_err-import_at-clause-step g c = record {
+  image = search rules;
+  raw_left = search rules;
+  faults = converting_part g.S.Storage.view g.F.BackingDisk.backing c.args.image.now c.loop-at.image c.import_at.new.image (g.R.Storage.view c.args.raw.now).faults (g.R.Storage.view c.loop-at.raw).faults (g.R.Storage.view c.import_at.new.raw).faults c.loop-at.invariant.faults c.loop-at.invariant.counted
+      c.import_at.result c.in_err-import_at.field-0.0 _ c.import_at.ensures.step.faults c.in_err-import_at.was (refused_is _ c.in_err-import_at.field-0.0 c.from_residual.ensures);
+  quiet = λ reading. written_then g.S.Storage.view (c.loop-at.invariant.quiet reading) (c.import_at.ensures.step.quiet (c.loop-at.invariant.image.writable ∙ reading));
+  header_cluster = behind_then c.loop-at.invariant.behind c.import_at.ensures.step.header_cluster;
+}
 
-pub returns-in_err-import_at-clause-quiet : goal.returns-in_err-import_at-clause-quiet
-returns-in_err-import_at-clause-quiet g c = λ reading. written_then g.S.Storage.view (c.loop-at.invariant.quiet reading) (c.import_at.ensures.quiet (c.loop-at.invariant.image.writable ∙ reading))
+pub returns-clause-step : goal.returns-clause-step
+returns-clause-step g c = record { image = search rules; raw_left = search rules; faults = converted _ _ _ _ _ _ _ (c.loop-at.invariant.faults) (c.loop-at.invariant.counted); quiet = search rules; header_cluster = search rules }

@@ -1,5 +1,5 @@
 use Rattle.qcow2_session.proofs.convert.import_at.Goals as goal
-use Rattle.std.proofs.Common.{◌≡◌, ◌+◌, ◌-◌, ◌∙◌, inl, length, None, true, false, refl, sym, ap, subst, arith}
+use Rattle.std.proofs.Common.{◌≡◌, ◌+◌, ◌-◌, ◌∙◌, inl, length, None, true, false, refl, sym, ap, subst, arith, rules}
 use Rattle.std.specs.Prelude.{IfErr}
 use Rattle.image_access.specs.Contents.{bytes_at}
 use Rattle.qcow2_disk.specs.AbstractImages.{Setting}
@@ -88,18 +88,16 @@ returns-in-Err-clause-any g c = (
 
 pub returns-in_err-read-clause-late : goal.returns-in_err-read-clause-late
 returns-in_err-read-clause-late g c = λ none few out sound.
-    let e = of_storage c.in_err-read.field-0.0 in
     subst (λ r. IfErr r (IsReasonNotToWrite g.S.Storage.view g.F.BackingDisk.backing c.args.image.now c.args.image.now c.args.at (c.args.at + length c.args.wanted.now) out)) (sym (refused_is _ (of_storage c.in_err-read.field-0.0) c.from_residual.ensures))
-    (inl (storage_met c.in_err-read.field-0.0, other_limit _ e (storage_unlimited c.in_err-read.field-0.0)))
+    (inl (storage_met c.in_err-read.field-0.0, other_limit _ (of_storage c.in_err-read.field-0.0) (storage_unlimited c.in_err-read.field-0.0)))
 
 pub returns-in_err-read_into-clause-late : goal.returns-in_err-read_into-clause-late
 returns-in_err-read_into-clause-late g c = λ none few out sound.
-    let view = g.S.Storage.view in
     let old = c.args.image.now in
     let e = c.in_err-read_into.field-0.0 in
     let free = subst (λ n. refuses_to_read c.args.image.now c.args.at n ≡ None) (sym c.requires) none in
     subst (λ r. IfErr r (IsReasonNotToWrite g.S.Storage.view g.F.BackingDisk.backing c.args.image.now c.read_into.new.image c.args.at (c.args.at + length c.args.wanted.now) out)) (sym (refused_is _ c.in_err-read_into.field-0.0 c.from_residual-in_err-read_into.ensures))
-    (inl ((c.in_err-read_into.ensures.late free).0, other_limit _ e (reading_unlimited out c.args.at _ old.file.header.fields (known_in view old.file) e (c.in_err-read_into.ensures.met free out sound))))
+    (inl ((c.in_err-read_into.ensures.late free).0, other_limit _ e (reading_unlimited out c.args.at _ old.file.header.fields (known_in g.S.Storage.view old.file) e (c.in_err-read_into.ensures.met free out sound))))
 
 pub returns-in-Err-clause-late : goal.returns-in-Err-clause-late
 returns-in-Err-clause-late g c = λ none few out sound.
@@ -112,7 +110,7 @@ returns-in-Err-clause-late g c = λ none few out sound.
     let mid = c.read_into.new.image in
     let new = c.write.new.image in
     subst (λ n. IsReasonNotToWrite view below c.args.image.now c.write.new.image c.args.at (c.args.at + n) out c.in-Err.refusal) long
-    (write_reason view below c.args.image.now c.read_into.new.image c.write.new.image c.in_ok-read_into.ensures.image (ap (λ (x : Setting). x.cluster_size) (first.acts.works sound).setting) c.args.at (length c.read.new.buf) now.works
+    (write_reason view below c.args.image.now c.read_into.new.image c.write.new.image c.in_ok-read_into.ensures.step.image (ap (λ (x : Setting). x.cluster_size) (first.acts.works sound).setting) c.args.at (length c.read.new.buf) now.works
     (subst (λ n. refuses_to_read c.args.image.now c.args.at n ≡ None) (sym long) none) out c.in-Err.refusal _ _ c.in-Err.ensures.early c.in-Err.ensures.late (λ free t. c.in-Err.ensures.taken free out now t)
     (λ free is. write_lacks view below old mid new c.args.at c.read_into.new.bytes c.read.new.buf _ c.in_ok-read_into.ensures.sees (left_some (c.in-Err.ensures.late free).1 (c.in-Err.ensures.ends out now)) (omega (arith, few, long)) (c.in-Err.ensures.limit free out now is)))
 
@@ -138,37 +136,8 @@ returns-in-Err-clause-met g c = λ none out sound.
     let now = ((c.in_ok-read_into.ensures.sees out).answer sound).0 in
     let long : length c.read.new.buf ≡ length c.args.wanted.now = grind (arith, common_steps) in
     subst (λ n. IsMetImporting g.S.Storage.view at (at + n) c.write.new.image out e) long
-    (write_importing g.S.Storage.view c.write.new.image out old c.read_into.new.image c.in_ok-read_into.ensures.image c.write.ensures.image.writable at (length c.read.new.buf) now.works
+    (write_importing g.S.Storage.view c.write.new.image out old c.read_into.new.image c.in_ok-read_into.ensures.step.image c.write.ensures.image.writable at (length c.read.new.buf) now.works
     (subst (λ n. refuses_to_read old at n ≡ None) (sym long) none) e _ _ c.in-Err.ensures.early (λ unrefused. c.in-Err.ensures.met unrefused out now))
-
-pub returns-in_err-read-clause-faults : goal.returns-in_err-read-clause-faults
-returns-in_err-read-clause-faults g c =
-    converting_raw g.S.Storage.view g.F.BackingDisk.backing c.args.image.now c.args.image.now (g.R.Storage.view c.args.raw.now).faults (g.R.Storage.view c.args.raw.now).faults (g.R.Storage.view c.read.new.self).faults (so_far_none g.S.Storage.view g.F.BackingDisk.backing c.args.image.now) refl
-    c.read.result c.in_err-read.field-0.0 _ c.read.ensures.calls.cause c.in_err-read.was (refused_is _ (of_storage c.in_err-read.field-0.0) c.from_residual.ensures)
-
-pub returns-in_err-read_into-clause-faults : goal.returns-in_err-read_into-clause-faults
-returns-in_err-read_into-clause-faults g c =
-    converting_image g.S.Storage.view g.F.BackingDisk.backing c.args.image.now c.args.image.now c.read_into.new.image (g.R.Storage.view c.args.raw.now).faults (g.R.Storage.view c.read.new.self).faults (so_far_none g.S.Storage.view g.F.BackingDisk.backing c.args.image.now) c.in_ok-read.ensures.calls.cause.told
-    c.read_into.result c.in_err-read_into.field-0.0 _ c.read_into.ensures.faults c.in_err-read_into.ensures.marks c.in_err-read_into.was (refused_is _ c.in_err-read_into.field-0.0 c.from_residual-in_err-read_into.ensures)
-
-pub returns-then-is_same-clause-faults : goal.returns-then-is_same-clause-faults
-returns-then-is_same-clause-faults g c = converted _ _ _ _ _ _ _ (so_far_call g.S.Storage.view g.F.BackingDisk.backing c.args.image.now c.read_into.new.image c.in_ok-read_into.ensures.faults.told c.in_ok-read_into.ensures.marks) (c.in_ok-read.ensures.calls.cause.told)
-
-pub returns-in-Ok-clause-faults : goal.returns-in-Ok-clause-faults
-returns-in-Ok-clause-faults g c =
-    converted _ _ _ _ _ _ _ (so_far_then g.S.Storage.view g.F.BackingDisk.backing c.args.image.now c.read_into.new.image c.write.new.image (so_far_call g.S.Storage.view g.F.BackingDisk.backing c.args.image.now c.read_into.new.image c.in_ok-read_into.ensures.faults.told c.in_ok-read_into.ensures.marks) (so_far_call g.S.Storage.view g.F.BackingDisk.backing c.read_into.new.image c.write.new.image c.in-Ok.ensures.faults.2 c.in-Ok.ensures.marks)) (c.in_ok-read.ensures.calls.cause.told)
-
-pub returns-in-Err-clause-faults : goal.returns-in-Err-clause-faults
-returns-in-Err-clause-faults g c =
-    let first = c.in_ok-read_into.ensures.faults.told in
-    let same = c.in_ok-read.ensures.calls.cause.told in
-    record {
-      no_fewer = fewer_since g.S.Storage.view g.F.BackingDisk.backing c.args.image.now c.read_into.new.image c.write.new.image first c.write.ensures.faults.0;
-      raw = c.read.ensures.calls.cause.no_fewer;
-      rose = image_tells g.S.Storage.view g.F.BackingDisk.backing c.args.image.now c.read_into.new.image c.write.new.image (g.R.Storage.view c.args.raw.now).faults (g.R.Storage.view c.read.new.self).faults c.in-Err.refusal first c.in-Err.ensures.faults.1 c.in-Err.ensures.marks.fails;
-      told = λ other. (faults_then g.S.Storage.view g.F.BackingDisk.backing c.args.image.now c.read_into.new.image c.write.new.image first (c.in-Err.ensures.faults.2 other), same);
-      marks = image_marks g.S.Storage.view g.F.BackingDisk.backing c.args.image.now c.read_into.new.image c.write.new.image c.in-Err.refusal (so_far_call g.S.Storage.view g.F.BackingDisk.backing c.args.image.now c.read_into.new.image c.in_ok-read_into.ensures.faults.told c.in_ok-read_into.ensures.marks) c.in-Err.ensures.marks;
-    }
 
 pub returns-in_err-read-clause-differs : goal.returns-in_err-read-clause-differs
 returns-in_err-read-clause-differs g c = λ honest.
@@ -185,26 +154,56 @@ returns-in-Err-clause-differs g c = λ honest.
     other_bytes g.S.Storage.view g.F.BackingDisk.backing c.args.image.now c.args.at (bytes_at (g.R.Storage.view c.args.raw.now).contents c.args.at (length c.args.wanted.now)) c.read_into.new.image c.read_into.new.bytes c.read.new.buf c.in_ok-read_into.ensures.sees (wanted ∙ sym c.requires ∙ sym present) (c.in_ok-read.ensures.read honest)
     (λ same. let no : true ≡ false = sym (c.is_same.ensures.1 same) ∙ c.if-is_same.false in cc) c.in-Err.refusal
 
-pub returns-in_err-read-clause-header_cluster : goal.returns-in_err-read-clause-header_cluster
-returns-in_err-read-clause-header_cluster g c = behind_none
+pub returns-in_err-read-clause-step : goal.returns-in_err-read-clause-step
+returns-in_err-read-clause-step g c = record {
+  image = search rules;
+  raw_left = search rules;
+  faults = converting_raw g.S.Storage.view g.F.BackingDisk.backing c.args.image.now c.args.image.now (g.R.Storage.view c.args.raw.now).faults (g.R.Storage.view c.args.raw.now).faults (g.R.Storage.view c.read.new.self).faults (so_far_none g.S.Storage.view g.F.BackingDisk.backing c.args.image.now) refl
+      c.read.result c.in_err-read.field-0.0 _ c.read.ensures.calls.cause c.in_err-read.was (refused_is _ (of_storage c.in_err-read.field-0.0) c.from_residual.ensures);
+  quiet = λ reading. quiet_image g.S.Storage.view c.args.image.now c.args.image.now refl;
+  header_cluster = behind_none;
+}
 
-pub returns-in-Ok-clause-header_cluster : goal.returns-in-Ok-clause-header_cluster
-returns-in-Ok-clause-header_cluster g c = behind_then c.read_into.ensures.header_cluster c.write.ensures.header_cluster
+pub returns-in_err-read_into-clause-step : goal.returns-in_err-read_into-clause-step
+returns-in_err-read_into-clause-step g c = record {
+  image = search rules;
+  raw_left = search rules;
+  header_cluster = search rules;
+  faults = converting_image g.S.Storage.view g.F.BackingDisk.backing c.args.image.now c.args.image.now c.read_into.new.image (g.R.Storage.view c.args.raw.now).faults (g.R.Storage.view c.read.new.self).faults (so_far_none g.S.Storage.view g.F.BackingDisk.backing c.args.image.now) c.in_ok-read.ensures.calls.cause.told
+      c.read_into.result c.in_err-read_into.field-0.0 _ c.read_into.ensures.step.faults c.in_err-read_into.ensures.step.marks c.in_err-read_into.was (refused_is _ c.in_err-read_into.field-0.0 c.from_residual-in_err-read_into.ensures);
+  quiet = λ reading. c.read_into.ensures.step.quiet;
+}
 
-pub returns-in-Err-clause-header_cluster : goal.returns-in-Err-clause-header_cluster
-returns-in-Err-clause-header_cluster g c = behind_then c.read_into.ensures.header_cluster c.write.ensures.header_cluster
+pub returns-then-is_same-clause-step : goal.returns-then-is_same-clause-step
+returns-then-is_same-clause-step g c = record {
+  image = search rules;
+  raw_left = search rules;
+  header_cluster = search rules;
+  faults = converted _ _ _ _ _ _ _ (so_far_call g.S.Storage.view g.F.BackingDisk.backing c.args.image.now c.read_into.new.image c.in_ok-read_into.ensures.step.faults.told c.in_ok-read_into.ensures.step.marks) (c.in_ok-read.ensures.calls.cause.told);
+  quiet = λ reading. c.read_into.ensures.step.quiet;
+}
 
-pub returns-in_err-read-clause-quiet : goal.returns-in_err-read-clause-quiet
-returns-in_err-read-clause-quiet g c = λ reading. quiet_image g.S.Storage.view c.args.image.now c.args.image.now refl
+pub returns-in-Ok-clause-step : goal.returns-in-Ok-clause-step
+returns-in-Ok-clause-step g c = record {
+  image = search rules;
+  raw_left = search rules;
+  faults = converted _ _ _ _ _ _ _ (so_far_then g.S.Storage.view g.F.BackingDisk.backing c.args.image.now c.read_into.new.image c.write.new.image (so_far_call g.S.Storage.view g.F.BackingDisk.backing c.args.image.now c.read_into.new.image c.in_ok-read_into.ensures.step.faults.told c.in_ok-read_into.ensures.step.marks) (so_far_call g.S.Storage.view g.F.BackingDisk.backing c.read_into.new.image c.write.new.image c.in-Ok.ensures.faults.2 c.in-Ok.ensures.marks)) (c.in_ok-read.ensures.calls.cause.told);
+  quiet = λ reading. written_then g.S.Storage.view c.read_into.ensures.step.quiet (c.write.ensures.quiet (c.read_into.ensures.step.image.writable ∙ reading));
+  header_cluster = behind_then c.read_into.ensures.step.header_cluster c.write.ensures.header_cluster;
+}
 
-pub returns-in_err-read_into-clause-quiet : goal.returns-in_err-read_into-clause-quiet
-returns-in_err-read_into-clause-quiet g c = λ reading. c.read_into.ensures.quiet
-
-pub returns-then-is_same-clause-quiet : goal.returns-then-is_same-clause-quiet
-returns-then-is_same-clause-quiet g c = λ reading. c.read_into.ensures.quiet
-
-pub returns-in-Ok-clause-quiet : goal.returns-in-Ok-clause-quiet
-returns-in-Ok-clause-quiet g c = λ reading. written_then g.S.Storage.view c.read_into.ensures.quiet (c.write.ensures.quiet (c.read_into.ensures.image.writable ∙ reading))
-
-pub returns-in-Err-clause-quiet : goal.returns-in-Err-clause-quiet
-returns-in-Err-clause-quiet g c = λ reading. written_then g.S.Storage.view c.read_into.ensures.quiet (c.write.ensures.quiet (c.read_into.ensures.image.writable ∙ reading))
+pub returns-in-Err-clause-step : goal.returns-in-Err-clause-step
+returns-in-Err-clause-step g c = record {
+  image = search rules;
+  raw_left = search rules;
+  faults = let first = c.in_ok-read_into.ensures.step.faults.told in
+      record {
+        no_fewer = fewer_since g.S.Storage.view g.F.BackingDisk.backing c.args.image.now c.read_into.new.image c.write.new.image first c.write.ensures.faults.0;
+        raw = c.read.ensures.calls.cause.no_fewer;
+        rose = image_tells g.S.Storage.view g.F.BackingDisk.backing c.args.image.now c.read_into.new.image c.write.new.image (g.R.Storage.view c.args.raw.now).faults (g.R.Storage.view c.read.new.self).faults c.in-Err.refusal first c.in-Err.ensures.faults.1 c.in-Err.ensures.marks.fails;
+        told = λ other. (faults_then g.S.Storage.view g.F.BackingDisk.backing c.args.image.now c.read_into.new.image c.write.new.image first (c.in-Err.ensures.faults.2 other), c.in_ok-read.ensures.calls.cause.told);
+        marks = image_marks g.S.Storage.view g.F.BackingDisk.backing c.args.image.now c.read_into.new.image c.write.new.image c.in-Err.refusal (so_far_call g.S.Storage.view g.F.BackingDisk.backing c.args.image.now c.read_into.new.image c.in_ok-read_into.ensures.step.faults.told c.in_ok-read_into.ensures.step.marks) c.in-Err.ensures.marks;
+      };
+  quiet = λ reading. written_then g.S.Storage.view c.read_into.ensures.step.quiet (c.write.ensures.quiet (c.read_into.ensures.step.image.writable ∙ reading));
+  header_cluster = behind_then c.read_into.ensures.step.header_cluster c.write.ensures.header_cluster;
+}

@@ -6,7 +6,7 @@ use Rattle.qcow2_image.specs.Refusals.{refuses_to_read}
 use Rattle.qcow2_image.proofs.Call.MetErrors.{storage_met, tables_met}
 use Rattle.qcow2_image.proofs.Call.Unlimited.{fault_unlimited, storage_unlimited}
 use Rattle.qcow2_image.proofs.Prepare.Lacked.{other_limit}
-use Rattle.std.proofs.Common.{◌≡◌, ◌⊎◌, ◌-◌, inl, inr, refl, sym, ap, ◌∙◌, subst, length, Ok, Err}
+use Rattle.std.proofs.Common.{◌≡◌, ◌⊎◌, ◌-◌, inl, inr, refl, sym, ap, ◌∙◌, subst, length, Ok, Err, rules}
 use Rattle.qcow2_alloc.proofs.AllocationSteps.{fault_of_storage}
 use Rattle.qcow2_alloc.specs.ImageError.{of_storage}
 use Rattle.qcow2_alloc.specs.declared.error.ImageError.TheVariants.{InvalidOption, Memory}
@@ -63,7 +63,7 @@ returns-clause-sees g c = λ honest.
     (c.in_ok-import_all.ensures.sees (c.size.ensures.calls.honest honest) (c.in_ok-size.ensures.size honest ∙ ap length (sym left)))) c.in_ok-flush.ensures.sees
 
 pub returns-clause-emptied : goal.returns-clause-emptied
-returns-clause-emptied g c = λ writable. c.in_ok-flush.ensures.emptied (c.import_all.ensures.image.writable ∙ writable)
+returns-clause-emptied g c = λ writable. c.in_ok-flush.ensures.emptied (c.import_all.ensures.step.image.writable ∙ writable)
 
 pub returns-in_err-check_read-clause-any : goal.returns-in_err-check_read-clause-any
 returns-in_err-check_read-clause-any g c = any_nothing g.S.Storage.view g.F.BackingDisk.backing c.args.image.now c.in_err-check_read.field-0.0 _ (refused_is _ c.in_err-check_read.field-0.0 c.from_residual.ensures)
@@ -82,11 +82,10 @@ returns-then-size-clause-any g c = any_nothing g.S.Storage.view g.F.BackingDisk.
 
 pub returns-in_err-import_all-clause-any : goal.returns-in_err-import_all-clause-any
 returns-in_err-import_all-clause-any g c =
-    let e = c.in_err-import_all.field-0.0 in
     let any = c.in_err-import_all.ensures.any in (
       any.0,
       any.1 ∙ c.if-size.false ∙ c.size-2.ensures.value,
-      subst (λ r. Imports g.S.Storage.view g.F.BackingDisk.backing c.args.image.now c.import_all.new.image any.0 r) (sym (refused_is _ e c.from_residual-in_err-import_all.ensures)) any.2,
+      subst (λ r. Imports g.S.Storage.view g.F.BackingDisk.backing c.args.image.now c.import_all.new.image any.0 r) (sym (refused_is _ c.in_err-import_all.field-0.0 c.from_residual-in_err-import_all.ensures)) any.2,
     )
 
 pub returns-in_err-flush-clause-any : goal.returns-in_err-flush-clause-any
@@ -168,43 +167,6 @@ returns-in_err-size-clause-unequal g c = λ honest differ.
       refl,
     )
 
-pub returns-in_err-check_read-clause-faults : goal.returns-in_err-check_read-clause-faults
-returns-in_err-check_read-clause-faults g c =
-    converting_else g.S.Storage.view g.F.BackingDisk.backing c.args.image.now c.args.image.now (g.R.Storage.view c.args.raw.now).faults (g.R.Storage.view c.args.raw.now).faults (so_far_none g.S.Storage.view g.F.BackingDisk.backing c.args.image.now) refl c.in_err-check_read.field-0.0 _ c.in_err-check_read.ensures.faults (refused_is _ c.in_err-check_read.field-0.0 c.from_residual.ensures)
-
-pub returns-in_err-size-clause-faults : goal.returns-in_err-size-clause-faults
-returns-in_err-size-clause-faults g c =
-    converting_raw g.S.Storage.view g.F.BackingDisk.backing c.args.image.now c.args.image.now (g.R.Storage.view c.args.raw.now).faults (g.R.Storage.view c.args.raw.now).faults (g.R.Storage.view c.size.new.self).faults (so_far_none g.S.Storage.view g.F.BackingDisk.backing c.args.image.now) refl
-    c.size.result c.in_err-size.field-0.0 _ c.size.ensures.calls.cause c.in_err-size.was (refused_is _ (of_storage c.in_err-size.field-0.0) c.from_residual-in_err-size.ensures)
-
-pub returns-then-size-clause-faults : goal.returns-then-size-clause-faults
-returns-then-size-clause-faults g c =
-    converting_else g.S.Storage.view g.F.BackingDisk.backing c.args.image.now c.args.image.now (g.R.Storage.view c.args.raw.now).faults (g.R.Storage.view c.size.new.self).faults (so_far_none g.S.Storage.view g.F.BackingDisk.backing c.args.image.now) c.in_ok-size.ensures.calls.cause.told InvalidOption _ (λ is. absurd cc) refl
-
-pub returns-in_err-wanted-clause-faults : goal.returns-in_err-wanted-clause-faults
-returns-in_err-wanted-clause-faults g c =
-    converting_else g.S.Storage.view g.F.BackingDisk.backing c.args.image.now c.args.image.now (g.R.Storage.view c.args.raw.now).faults (g.R.Storage.view c.size.new.self).faults (so_far_none g.S.Storage.view g.F.BackingDisk.backing c.args.image.now) c.in_ok-size.ensures.calls.cause.told Memory _ (λ is. absurd cc) (refused_is _ Memory c.from_residual-in_err-wanted.ensures)
-
-pub returns-in_err-present-clause-faults : goal.returns-in_err-present-clause-faults
-returns-in_err-present-clause-faults g c =
-    converting_else g.S.Storage.view g.F.BackingDisk.backing c.args.image.now c.args.image.now (g.R.Storage.view c.args.raw.now).faults (g.R.Storage.view c.size.new.self).faults (so_far_none g.S.Storage.view g.F.BackingDisk.backing c.args.image.now) c.in_ok-size.ensures.calls.cause.told Memory _ (λ is. absurd cc) (refused_is _ Memory c.from_residual-in_err-present.ensures)
-
-pub returns-in_err-import_all-clause-faults : goal.returns-in_err-import_all-clause-faults
-returns-in_err-import_all-clause-faults g c =
-    converting_part g.S.Storage.view g.F.BackingDisk.backing c.args.image.now c.args.image.now c.import_all.new.image (g.R.Storage.view c.args.raw.now).faults (g.R.Storage.view c.size.new.self).faults (g.R.Storage.view c.import_all.new.raw).faults (so_far_none g.S.Storage.view g.F.BackingDisk.backing c.args.image.now) c.in_ok-size.ensures.calls.cause.told
-    c.import_all.result c.in_err-import_all.field-0.0 _ c.import_all.ensures.faults c.in_err-import_all.was (refused_is _ c.in_err-import_all.field-0.0 c.from_residual-in_err-import_all.ensures)
-
-pub returns-in_err-flush-clause-faults : goal.returns-in_err-flush-clause-faults
-returns-in_err-flush-clause-faults g c =
-    converting_image g.S.Storage.view g.F.BackingDisk.backing c.args.image.now c.import_all.new.image c.flush.new.self (g.R.Storage.view c.args.raw.now).faults (g.R.Storage.view c.import_all.new.raw).faults (so_far_part g.S.Storage.view g.F.BackingDisk.backing c.args.image.now c.import_all.new.image _ _ c.in_ok-import_all.ensures.faults) (c.in_ok-import_all.ensures.faults.told.1 ∙ c.in_ok-size.ensures.calls.cause.told)
-    c.flush.result c.in_err-flush.field-0.0 _ c.flush.ensures.faults (in_parts g.S.Storage.view (refused_at_once g.S.Storage.view c.import_all.new.image c.flush.new.self c.in_err-flush.field-0.0 c.in_err-flush.ensures.once_written c.in_err-flush.ensures.marks)) c.in_err-flush.was (refused_is _ c.in_err-flush.field-0.0 c.from_residual-in_err-flush.ensures)
-
-pub returns-clause-faults : goal.returns-clause-faults
-returns-clause-faults g c =
-    converted _ _ _ _ _ _ _ (so_far_then g.S.Storage.view g.F.BackingDisk.backing c.args.image.now c.import_all.new.image c.flush.new.self (so_far_part g.S.Storage.view g.F.BackingDisk.backing c.args.image.now c.import_all.new.image _ _ c.in_ok-import_all.ensures.faults)
-    (so_far_call g.S.Storage.view g.F.BackingDisk.backing c.import_all.new.image c.flush.new.self c.in_ok-flush.ensures.faults.told (in_parts g.S.Storage.view (answered_at_once g.S.Storage.view c.import_all.new.image c.flush.new.self c.in_ok-flush.ensures.once_written c.in_ok-flush.ensures.marks))))
-    (c.in_ok-import_all.ensures.faults.told.1 ∙ c.in_ok-size.ensures.calls.cause.told)
-
 pub returns-in_err-check_read-clause-differs : goal.returns-in_err-check_read-clause-differs
 returns-in_err-check_read-clause-differs g c = λ honest.
     reading_differs g.S.Storage.view g.F.BackingDisk.backing c.args.image.now 0 (g.R.Storage.view c.args.raw.now).contents c.in_err-check_read.field-0.0 _ (refused_is _ c.in_err-check_read.field-0.0 c.from_residual.ensures) (subst (λ r. IfErr r IsOfReading) c.in_err-check_read.was (early_reading c.args.image.now 0 0 c.check_read.result c.check_read.ensures.refusal))
@@ -237,50 +199,81 @@ returns-in_err-flush-clause-differs g c = λ honest.
     let e = c.in_err-flush.field-0.0 in
     subst (λ r. IfErr r (DiffersWhereKept g.S.Storage.view g.F.BackingDisk.backing c.args.image.now 0 (g.R.Storage.view c.args.raw.now).contents)) (sym (refused_is _ e c.from_residual-in_err-flush.ensures))
     (λ out sound kept shows.
-    let now = ((c.in_ok-import_all.ensures.any.2 out).answer sound).0 in
-    reading_other e (inl (tables_met e (c.in_err-flush.ensures.late now.works))) kept)
+    reading_other e (inl (tables_met e (c.in_err-flush.ensures.late (((c.in_ok-import_all.ensures.any.2 out).answer sound).0).works))) kept)
 
-pub returns-clause-header_cluster : goal.returns-clause-header_cluster
-returns-clause-header_cluster g c = behind_then c.import_all.ensures.header_cluster c.flush.ensures.header_cluster
+pub returns-in_err-check_read-clause-step : goal.returns-in_err-check_read-clause-step
+returns-in_err-check_read-clause-step g c = record {
+  image = search rules;
+  raw_left = search rules;
+  faults = converting_else g.S.Storage.view g.F.BackingDisk.backing c.args.image.now c.args.image.now (g.R.Storage.view c.args.raw.now).faults (g.R.Storage.view c.args.raw.now).faults (so_far_none g.S.Storage.view g.F.BackingDisk.backing c.args.image.now) refl c.in_err-check_read.field-0.0 _ c.in_err-check_read.ensures.faults (refused_is _ c.in_err-check_read.field-0.0 c.from_residual.ensures);
+  quiet = λ reading. quiet_image g.S.Storage.view c.args.image.now c.args.image.now refl;
+  header_cluster = behind_none;
+}
 
-pub returns-in_err-flush-clause-header_cluster : goal.returns-in_err-flush-clause-header_cluster
-returns-in_err-flush-clause-header_cluster g c = behind_then c.import_all.ensures.header_cluster c.flush.ensures.header_cluster
+pub returns-in_err-size-clause-step : goal.returns-in_err-size-clause-step
+returns-in_err-size-clause-step g c = record {
+  image = search rules;
+  raw_left = search rules;
+  faults = converting_raw g.S.Storage.view g.F.BackingDisk.backing c.args.image.now c.args.image.now (g.R.Storage.view c.args.raw.now).faults (g.R.Storage.view c.args.raw.now).faults (g.R.Storage.view c.size.new.self).faults (so_far_none g.S.Storage.view g.F.BackingDisk.backing c.args.image.now) refl
+      c.size.result c.in_err-size.field-0.0 _ c.size.ensures.calls.cause c.in_err-size.was (refused_is _ (of_storage c.in_err-size.field-0.0) c.from_residual-in_err-size.ensures);
+  quiet = λ reading. quiet_image g.S.Storage.view c.args.image.now c.args.image.now refl;
+  header_cluster = behind_none;
+}
 
-pub returns-in_err-check_read-clause-header_cluster : goal.returns-in_err-check_read-clause-header_cluster
-returns-in_err-check_read-clause-header_cluster g c = behind_none
+pub returns-then-size-clause-step : goal.returns-then-size-clause-step
+returns-then-size-clause-step g c = record {
+  image = search rules;
+  raw_left = search rules;
+  faults = converting_else g.S.Storage.view g.F.BackingDisk.backing c.args.image.now c.args.image.now (g.R.Storage.view c.args.raw.now).faults (g.R.Storage.view c.size.new.self).faults (so_far_none g.S.Storage.view g.F.BackingDisk.backing c.args.image.now) c.in_ok-size.ensures.calls.cause.told InvalidOption _ (λ is. absurd cc) refl;
+  quiet = λ reading. quiet_image g.S.Storage.view c.args.image.now c.args.image.now refl;
+  header_cluster = behind_none;
+}
 
-pub returns-in_err-present-clause-header_cluster : goal.returns-in_err-present-clause-header_cluster
-returns-in_err-present-clause-header_cluster g c = behind_none
+pub returns-in_err-wanted-clause-step : goal.returns-in_err-wanted-clause-step
+returns-in_err-wanted-clause-step g c = record {
+  image = search rules;
+  raw_left = search rules;
+  faults = converting_else g.S.Storage.view g.F.BackingDisk.backing c.args.image.now c.args.image.now (g.R.Storage.view c.args.raw.now).faults (g.R.Storage.view c.size.new.self).faults (so_far_none g.S.Storage.view g.F.BackingDisk.backing c.args.image.now) c.in_ok-size.ensures.calls.cause.told Memory _ (λ is. absurd cc) (refused_is _ Memory c.from_residual-in_err-wanted.ensures);
+  quiet = λ reading. quiet_image g.S.Storage.view c.args.image.now c.args.image.now refl;
+  header_cluster = behind_none;
+}
 
-pub returns-in_err-size-clause-header_cluster : goal.returns-in_err-size-clause-header_cluster
-returns-in_err-size-clause-header_cluster g c = behind_none
+pub returns-in_err-present-clause-step : goal.returns-in_err-present-clause-step
+returns-in_err-present-clause-step g c = record {
+  image = search rules;
+  raw_left = search rules;
+  faults = converting_else g.S.Storage.view g.F.BackingDisk.backing c.args.image.now c.args.image.now (g.R.Storage.view c.args.raw.now).faults (g.R.Storage.view c.size.new.self).faults (so_far_none g.S.Storage.view g.F.BackingDisk.backing c.args.image.now) c.in_ok-size.ensures.calls.cause.told Memory _ (λ is. absurd cc) (refused_is _ Memory c.from_residual-in_err-present.ensures);
+  quiet = λ reading. quiet_image g.S.Storage.view c.args.image.now c.args.image.now refl;
+  header_cluster = behind_none;
+}
 
-pub returns-in_err-wanted-clause-header_cluster : goal.returns-in_err-wanted-clause-header_cluster
-returns-in_err-wanted-clause-header_cluster g c = behind_none
+pub returns-in_err-import_all-clause-step : goal.returns-in_err-import_all-clause-step
+returns-in_err-import_all-clause-step g c = record {
+  image = search rules;
+  raw_left = search rules;
+  header_cluster = search rules;
+  faults = converting_part g.S.Storage.view g.F.BackingDisk.backing c.args.image.now c.args.image.now c.import_all.new.image (g.R.Storage.view c.args.raw.now).faults (g.R.Storage.view c.size.new.self).faults (g.R.Storage.view c.import_all.new.raw).faults (so_far_none g.S.Storage.view g.F.BackingDisk.backing c.args.image.now) c.in_ok-size.ensures.calls.cause.told
+      c.import_all.result c.in_err-import_all.field-0.0 _ c.import_all.ensures.step.faults c.in_err-import_all.was (refused_is _ c.in_err-import_all.field-0.0 c.from_residual-in_err-import_all.ensures);
+  quiet = c.import_all.ensures.step.quiet;
+}
 
-pub returns-then-size-clause-header_cluster : goal.returns-then-size-clause-header_cluster
-returns-then-size-clause-header_cluster g c = behind_none
+pub returns-in_err-flush-clause-step : goal.returns-in_err-flush-clause-step
+returns-in_err-flush-clause-step g c = record {
+  image = search rules;
+  raw_left = search rules;
+  faults = converting_image g.S.Storage.view g.F.BackingDisk.backing c.args.image.now c.import_all.new.image c.flush.new.self (g.R.Storage.view c.args.raw.now).faults (g.R.Storage.view c.import_all.new.raw).faults (so_far_part g.S.Storage.view g.F.BackingDisk.backing c.args.image.now c.import_all.new.image _ _ c.in_ok-import_all.ensures.step.faults) (c.in_ok-import_all.ensures.step.faults.told.1 ∙ c.in_ok-size.ensures.calls.cause.told)
+      c.flush.result c.in_err-flush.field-0.0 _ c.flush.ensures.step.faults (in_parts g.S.Storage.view (refused_at_once g.S.Storage.view c.import_all.new.image c.flush.new.self c.in_err-flush.field-0.0 c.in_err-flush.ensures.step.once_written c.in_err-flush.ensures.step.marks)) c.in_err-flush.was (refused_is _ c.in_err-flush.field-0.0 c.from_residual-in_err-flush.ensures);
+  quiet = λ reading. written_then g.S.Storage.view (c.import_all.ensures.step.quiet reading) (c.flush.ensures.quiet (c.import_all.ensures.step.image.writable ∙ reading));
+  header_cluster = behind_then c.import_all.ensures.step.header_cluster c.flush.ensures.step.header_cluster;
+}
 
-pub returns-in_err-check_read-clause-quiet : goal.returns-in_err-check_read-clause-quiet
-returns-in_err-check_read-clause-quiet g c = λ reading. quiet_image g.S.Storage.view c.args.image.now c.args.image.now refl
-
-pub returns-in_err-size-clause-quiet : goal.returns-in_err-size-clause-quiet
-returns-in_err-size-clause-quiet g c = λ reading. quiet_image g.S.Storage.view c.args.image.now c.args.image.now refl
-
-pub returns-then-size-clause-quiet : goal.returns-then-size-clause-quiet
-returns-then-size-clause-quiet g c = λ reading. quiet_image g.S.Storage.view c.args.image.now c.args.image.now refl
-
-pub returns-in_err-wanted-clause-quiet : goal.returns-in_err-wanted-clause-quiet
-returns-in_err-wanted-clause-quiet g c = λ reading. quiet_image g.S.Storage.view c.args.image.now c.args.image.now refl
-
-pub returns-in_err-present-clause-quiet : goal.returns-in_err-present-clause-quiet
-returns-in_err-present-clause-quiet g c = λ reading. quiet_image g.S.Storage.view c.args.image.now c.args.image.now refl
-
-pub returns-in_err-import_all-clause-quiet : goal.returns-in_err-import_all-clause-quiet
-returns-in_err-import_all-clause-quiet g c = c.import_all.ensures.quiet
-
-pub returns-in_err-flush-clause-quiet : goal.returns-in_err-flush-clause-quiet
-returns-in_err-flush-clause-quiet g c = λ reading. written_then g.S.Storage.view (c.import_all.ensures.quiet reading) (c.flush.ensures.quiet (c.import_all.ensures.image.writable ∙ reading))
-
-pub returns-clause-quiet : goal.returns-clause-quiet
-returns-clause-quiet g c = λ reading. written_then g.S.Storage.view (c.import_all.ensures.quiet reading) (c.flush.ensures.quiet (c.import_all.ensures.image.writable ∙ reading))
+pub returns-clause-step : goal.returns-clause-step
+returns-clause-step g c = record {
+  image = search rules;
+  raw_left = search rules;
+  faults = converted _ _ _ _ _ _ _ (so_far_then g.S.Storage.view g.F.BackingDisk.backing c.args.image.now c.import_all.new.image c.flush.new.self (so_far_part g.S.Storage.view g.F.BackingDisk.backing c.args.image.now c.import_all.new.image _ _ c.in_ok-import_all.ensures.step.faults)
+      (so_far_call g.S.Storage.view g.F.BackingDisk.backing c.import_all.new.image c.flush.new.self c.in_ok-flush.ensures.step.faults.told (in_parts g.S.Storage.view (answered_at_once g.S.Storage.view c.import_all.new.image c.flush.new.self c.in_ok-flush.ensures.step.once_written c.in_ok-flush.ensures.step.marks))))
+      (c.in_ok-import_all.ensures.step.faults.told.1 ∙ c.in_ok-size.ensures.calls.cause.told);
+  quiet = λ reading. written_then g.S.Storage.view (c.import_all.ensures.step.quiet reading) (c.flush.ensures.quiet (c.import_all.ensures.step.image.writable ∙ reading));
+  header_cluster = behind_then c.import_all.ensures.step.header_cluster c.flush.ensures.step.header_cluster;
+}

@@ -1,4 +1,4 @@
-use Rattle.std.proofs.Common.{inl, arith, sym, subst, refl, ◌∙◌}
+use Rattle.std.proofs.Common.{inl, arith, sym, subst, refl, ◌∙◌, rules}
 use Rattle.qcow2_alloc.specs.ImageError.{of_storage}
 use Rattle.qcow2_alloc.specs.declared.error.ImageError.TheVariants.{Memory}
 use Rattle.qcow2_disk.specs.AbstractImages.{guest_of}
@@ -17,10 +17,6 @@ use Rattle.qcow2_session.proofs.Turns.{refused_is}
 use Rattle.qcow2_image.proofs.Call.BehindHeader.{behind_none}
 use Rattle.qcow2_image.proofs.Map.Quiet.{reads_none}
 use Rattle.qcow2_session.proofs.convert.to_raw.Goals as goal
-
-pub returns-in_err-export_all-clause-same : goal.returns-in_err-export_all-clause-same
-returns-in_err-export_all-clause-same g c =
-    unchanged_refused g.S.Storage.view g.F.BackingDisk.backing c.args.image.now c.export_all.new.image c.in_err-export_all.field-0.0 _ (refused_is _ c.in_err-export_all.field-0.0 c.from_residual-in_err-export_all.ensures) c.in_err-export_all.ensures.same
 
 pub returns-clause-sees : goal.returns-clause-sees
 returns-clause-sees g c = λ honest out sound.
@@ -57,53 +53,75 @@ returns-in_err-export_all-clause-met g c = λ none out sound.
     subst (λ r. IfErr r (IsMetReadingRange out 0 (size_of c.args.image.now) c.args.image.now.file.header.fields (known_in g.S.Storage.view c.args.image.now.file))) (sym (refused_is _ e c.from_residual-in_err-export_all.ensures))
     (subst (λ n. IsMetReadingRange out 0 n c.args.image.now.file.header.fields (known_in g.S.Storage.view c.args.image.now.file) e) is (c.in_err-export_all.ensures.met none is out sound))
 
-pub returns-in_err-check_read-clause-faults : goal.returns-in_err-check_read-clause-faults
-returns-in_err-check_read-clause-faults g c =
-    converting_else g.S.Storage.view g.F.BackingDisk.backing c.args.image.now c.args.image.now (g.R.Storage.view c.args.raw.now).faults (g.R.Storage.view c.args.raw.now).faults (so_far_none g.S.Storage.view g.F.BackingDisk.backing c.args.image.now) refl c.in_err-check_read.field-0.0 _ c.in_err-check_read.ensures.faults (refused_is _ c.in_err-check_read.field-0.0 c.from_residual.ensures)
+pub returns-in_err-export_all-clause-step : goal.returns-in_err-export_all-clause-step
+returns-in_err-export_all-clause-step g c = record {
+  image = search rules;
+  honest = search rules;
+  header_cluster = search rules;
+  quiet = search rules;
+  same = unchanged_refused g.S.Storage.view g.F.BackingDisk.backing c.args.image.now c.export_all.new.image c.in_err-export_all.field-0.0 _ (refused_is _ c.in_err-export_all.field-0.0 c.from_residual-in_err-export_all.ensures) c.in_err-export_all.ensures.step.same;
+  faults = converting_part g.S.Storage.view g.F.BackingDisk.backing c.args.image.now c.args.image.now c.export_all.new.image (g.R.Storage.view c.args.raw.now).faults (g.R.Storage.view c.resize-2.new.self).faults (g.R.Storage.view c.export_all.new.raw).faults (so_far_none g.S.Storage.view g.F.BackingDisk.backing c.args.image.now) (c.in_ok-resize-2.ensures.calls.cause.told ∙ c.in_ok-resize.ensures.calls.cause.told)
+      c.export_all.result c.in_err-export_all.field-0.0 _ c.export_all.ensures.step.faults c.in_err-export_all.was (refused_is _ c.in_err-export_all.field-0.0 c.from_residual-in_err-export_all.ensures);
+}
 
-pub returns-in_err-zeros-clause-faults : goal.returns-in_err-zeros-clause-faults
-returns-in_err-zeros-clause-faults g c =
-    converting_else g.S.Storage.view g.F.BackingDisk.backing c.args.image.now c.args.image.now (g.R.Storage.view c.args.raw.now).faults (g.R.Storage.view c.args.raw.now).faults (so_far_none g.S.Storage.view g.F.BackingDisk.backing c.args.image.now) refl Memory _ (λ is. absurd cc) (refused_is _ Memory c.from_residual-in_err-zeros.ensures)
+pub returns-in_err-check_read-clause-step : goal.returns-in_err-check_read-clause-step
+returns-in_err-check_read-clause-step g c = record {
+  image = search rules;
+  same = search rules;
+  honest = search rules;
+  quiet = search rules;
+  faults = converting_else g.S.Storage.view g.F.BackingDisk.backing c.args.image.now c.args.image.now (g.R.Storage.view c.args.raw.now).faults (g.R.Storage.view c.args.raw.now).faults (so_far_none g.S.Storage.view g.F.BackingDisk.backing c.args.image.now) refl c.in_err-check_read.field-0.0 _ c.in_err-check_read.ensures.faults (refused_is _ c.in_err-check_read.field-0.0 c.from_residual.ensures);
+  header_cluster = behind_none;
+}
 
-pub returns-in_err-bytes-clause-faults : goal.returns-in_err-bytes-clause-faults
-returns-in_err-bytes-clause-faults g c =
-    converting_else g.S.Storage.view g.F.BackingDisk.backing c.args.image.now c.args.image.now (g.R.Storage.view c.args.raw.now).faults (g.R.Storage.view c.args.raw.now).faults (so_far_none g.S.Storage.view g.F.BackingDisk.backing c.args.image.now) refl Memory _ (λ is. absurd cc) (refused_is _ Memory c.from_residual-in_err-bytes.ensures)
+pub returns-in_err-zeros-clause-step : goal.returns-in_err-zeros-clause-step
+returns-in_err-zeros-clause-step g c = record {
+  image = search rules;
+  same = search rules;
+  honest = search rules;
+  quiet = search rules;
+  faults = converting_else g.S.Storage.view g.F.BackingDisk.backing c.args.image.now c.args.image.now (g.R.Storage.view c.args.raw.now).faults (g.R.Storage.view c.args.raw.now).faults (so_far_none g.S.Storage.view g.F.BackingDisk.backing c.args.image.now) refl Memory _ (λ is. absurd cc) (refused_is _ Memory c.from_residual-in_err-zeros.ensures);
+  header_cluster = behind_none;
+}
 
-pub returns-in_err-resize-clause-faults : goal.returns-in_err-resize-clause-faults
-returns-in_err-resize-clause-faults g c =
-    converting_raw g.S.Storage.view g.F.BackingDisk.backing c.args.image.now c.args.image.now (g.R.Storage.view c.args.raw.now).faults (g.R.Storage.view c.args.raw.now).faults (g.R.Storage.view c.resize.new.self).faults (so_far_none g.S.Storage.view g.F.BackingDisk.backing c.args.image.now) refl
-    c.resize.result c.in_err-resize.field-0.0 _ c.resize.ensures.calls.cause c.in_err-resize.was (refused_is _ (of_storage c.in_err-resize.field-0.0) c.from_residual-in_err-resize.ensures)
+pub returns-in_err-bytes-clause-step : goal.returns-in_err-bytes-clause-step
+returns-in_err-bytes-clause-step g c = record {
+  image = search rules;
+  same = search rules;
+  honest = search rules;
+  quiet = search rules;
+  faults = converting_else g.S.Storage.view g.F.BackingDisk.backing c.args.image.now c.args.image.now (g.R.Storage.view c.args.raw.now).faults (g.R.Storage.view c.args.raw.now).faults (so_far_none g.S.Storage.view g.F.BackingDisk.backing c.args.image.now) refl Memory _ (λ is. absurd cc) (refused_is _ Memory c.from_residual-in_err-bytes.ensures);
+  header_cluster = behind_none;
+}
 
-pub returns-in_err-resize-2-clause-faults : goal.returns-in_err-resize-2-clause-faults
-returns-in_err-resize-2-clause-faults g c =
-    converting_raw g.S.Storage.view g.F.BackingDisk.backing c.args.image.now c.args.image.now (g.R.Storage.view c.args.raw.now).faults (g.R.Storage.view c.resize.new.self).faults (g.R.Storage.view c.resize-2.new.self).faults (so_far_none g.S.Storage.view g.F.BackingDisk.backing c.args.image.now) c.in_ok-resize.ensures.calls.cause.told
-    c.resize-2.result c.in_err-resize-2.field-0.0 _ c.resize-2.ensures.calls.cause c.in_err-resize-2.was (refused_is _ (of_storage c.in_err-resize-2.field-0.0) c.from_residual-in_err-resize-2.ensures)
+pub returns-in_err-resize-clause-step : goal.returns-in_err-resize-clause-step
+returns-in_err-resize-clause-step g c = record {
+  image = search rules;
+  same = search rules;
+  honest = search rules;
+  faults = converting_raw g.S.Storage.view g.F.BackingDisk.backing c.args.image.now c.args.image.now (g.R.Storage.view c.args.raw.now).faults (g.R.Storage.view c.args.raw.now).faults (g.R.Storage.view c.resize.new.self).faults (so_far_none g.S.Storage.view g.F.BackingDisk.backing c.args.image.now) refl
+      c.resize.result c.in_err-resize.field-0.0 _ c.resize.ensures.calls.cause c.in_err-resize.was (refused_is _ (of_storage c.in_err-resize.field-0.0) c.from_residual-in_err-resize.ensures);
+  header_cluster = behind_none;
+  quiet = reads_none g.S.Storage.view c.args.image.now;
+}
 
-pub returns-in_err-export_all-clause-faults : goal.returns-in_err-export_all-clause-faults
-returns-in_err-export_all-clause-faults g c =
-    converting_part g.S.Storage.view g.F.BackingDisk.backing c.args.image.now c.args.image.now c.export_all.new.image (g.R.Storage.view c.args.raw.now).faults (g.R.Storage.view c.resize-2.new.self).faults (g.R.Storage.view c.export_all.new.raw).faults (so_far_none g.S.Storage.view g.F.BackingDisk.backing c.args.image.now) (c.in_ok-resize-2.ensures.calls.cause.told ∙ c.in_ok-resize.ensures.calls.cause.told)
-    c.export_all.result c.in_err-export_all.field-0.0 _ c.export_all.ensures.faults c.in_err-export_all.was (refused_is _ c.in_err-export_all.field-0.0 c.from_residual-in_err-export_all.ensures)
+pub returns-in_err-resize-2-clause-step : goal.returns-in_err-resize-2-clause-step
+returns-in_err-resize-2-clause-step g c = record {
+  image = search rules;
+  same = search rules;
+  honest = search rules;
+  faults = converting_raw g.S.Storage.view g.F.BackingDisk.backing c.args.image.now c.args.image.now (g.R.Storage.view c.args.raw.now).faults (g.R.Storage.view c.resize.new.self).faults (g.R.Storage.view c.resize-2.new.self).faults (so_far_none g.S.Storage.view g.F.BackingDisk.backing c.args.image.now) c.in_ok-resize.ensures.calls.cause.told
+      c.resize-2.result c.in_err-resize-2.field-0.0 _ c.resize-2.ensures.calls.cause c.in_err-resize-2.was (refused_is _ (of_storage c.in_err-resize-2.field-0.0) c.from_residual-in_err-resize-2.ensures);
+  header_cluster = behind_none;
+  quiet = reads_none g.S.Storage.view c.args.image.now;
+}
 
-pub returns-clause-faults : goal.returns-clause-faults
-returns-clause-faults g c = converted _ _ _ _ _ _ _ (so_far_part g.S.Storage.view g.F.BackingDisk.backing c.args.image.now c.export_all.new.image _ _ c.in_ok-export_all.ensures.faults) (c.in_ok-export_all.ensures.faults.told.1 ∙ (c.in_ok-resize-2.ensures.calls.cause.told ∙ c.in_ok-resize.ensures.calls.cause.told))
-
-pub returns-in_err-check_read-clause-header_cluster : goal.returns-in_err-check_read-clause-header_cluster
-returns-in_err-check_read-clause-header_cluster g c = behind_none
-
-pub returns-in_err-bytes-clause-header_cluster : goal.returns-in_err-bytes-clause-header_cluster
-returns-in_err-bytes-clause-header_cluster g c = behind_none
-
-pub returns-in_err-zeros-clause-header_cluster : goal.returns-in_err-zeros-clause-header_cluster
-returns-in_err-zeros-clause-header_cluster g c = behind_none
-
-pub returns-in_err-resize-clause-header_cluster : goal.returns-in_err-resize-clause-header_cluster
-returns-in_err-resize-clause-header_cluster g c = behind_none
-
-pub returns-in_err-resize-2-clause-header_cluster : goal.returns-in_err-resize-2-clause-header_cluster
-returns-in_err-resize-2-clause-header_cluster g c = behind_none
-
-pub returns-in_err-resize-clause-quiet : goal.returns-in_err-resize-clause-quiet
-returns-in_err-resize-clause-quiet g c = reads_none g.S.Storage.view c.args.image.now
-
-pub returns-in_err-resize-2-clause-quiet : goal.returns-in_err-resize-2-clause-quiet
-returns-in_err-resize-2-clause-quiet g c = reads_none g.S.Storage.view c.args.image.now
+pub returns-clause-step : goal.returns-clause-step
+returns-clause-step g c = record {
+  image = search rules;
+  same = search rules;
+  honest = search rules;
+  header_cluster = search rules;
+  quiet = search rules;
+  faults = converted _ _ _ _ _ _ _ (so_far_part g.S.Storage.view g.F.BackingDisk.backing c.args.image.now c.export_all.new.image _ _ c.in_ok-export_all.ensures.step.faults) (c.in_ok-export_all.ensures.step.faults.told.1 ∙ (c.in_ok-resize-2.ensures.calls.cause.told ∙ c.in_ok-resize.ensures.calls.cause.told));
+}

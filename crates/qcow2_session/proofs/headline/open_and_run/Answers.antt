@@ -12,10 +12,9 @@ use Rattle.qcow2_image.proofs.Free.{whole}
 use Rattle.qcow2_image.specs.Opened.{IsKeptSince}
 use Rattle.qcow2_image.specs.Image.{storage_of_image}
 use Rattle.qcow2_session.specs.Commands.{command_of, reply_of}
-use Rattle.qcow2_session.specs.Opening.{bytes_below}
+use Rattle.qcow2_session.specs.Opening.{bytes_below, missing_beside}
 use Rattle.qcow2_session.specs.Sessions.{IsUntouched}
 use Rattle.qcow2_session.proofs.Opening.{refused_consistent}
-use Rattle.qcow2_session.specs.Opening.{missing_beside}
 use Rattle.qcow2_session.proofs.headline.open_and_run.Goals as goal
 
 -- the bytes of the disk below are those that show where the image has nothing
@@ -62,7 +61,6 @@ returns-clause-tells g c =
     let view = g.S.Storage.view in
     let below = g.F.BackingDisk.backing in
     let opened = c.in-Ok.image in
-    let v = abstract_of view below opened [] in
     record {
       opened = opened;
       over = c.in-Ok.ensures.over;
@@ -75,7 +73,7 @@ returns-clause-tells g c =
       behind = c.in-Ok.ensures.header_cluster;
       header_cluster = c.run-replies.ensures.header_cluster;
       is = λ honest consistent stays. c.in-Ok.ensures.opens stays honest consistent;
-      begins = λ honest consistent stays. let is = c.in-Ok.ensures.opens stays honest consistent in begins v is.opened.sound (whole view below opened [] is.opened.sound) is.opened.clean;
+      begins = λ honest consistent stays. let is = c.in-Ok.ensures.opens stays honest consistent in begins (abstract_of view below opened []) is.opened.sound (whole view below opened [] is.opened.sound) is.opened.clean;
     }
 
 pub returns-clause-faults : goal.returns-clause-faults

@@ -61,7 +61,6 @@ returns-in-Err-set_backing g c = absurd (c.in-Ok.ensures.unpinned ((c.set_backin
 pub returns : goal.returns
 returns g c =
     let view = g.S.Storage.view in
-    let below = g.F.BackingDisk.backing in
     let before = view c.args.storage in
     let image = c.in-Ok.image in
     let set = c.in_default-set_backing.ensures in
@@ -69,7 +68,7 @@ returns g c =
     record {
       opens = λ stays honest consistent.
           let was = c.in-Ok.ensures.opens honest consistent in
-          let over = set.sees [] was.opened.sound (subst (λ (disk : Option _). IsHonestBacking view below disk) c.in-Some.is stays) in
+          let over = set.sees [] was.opened.sound (subst (λ (disk : Option _). IsHonestBacking view g.F.BackingDisk.backing disk) c.in-Some.is stays) in
           record { opened = record { sound = over.sound; clean = over.known ∙ was.opened.clean ∙ sym over.contents }; surplus = over.surplus ∙ was.surplus; leaks = over.leaks ∙ was.leaks };
       since = λ honest consistent. subst (λ (i : Qcow2 _ _). IsKeptSince before (view (storage_of_image i))) done (c.in-Ok.ensures.since honest consistent);
       format = λ honest. subst (λ (i : Qcow2 _ _). SameFormat (header (byte_at before.contents)) i.file.header.fields) done (c.in-Ok.ensures.format honest);

@@ -1,26 +1,23 @@
 use Rattle.qcow2_session.specs.Marks.{MarksAtOnce}
 use Rattle.qcow2_session.proofs.Marking.{at_rest, commit_at_once}
-use Rattle.std.proofs.Common.{◌≡◌, inl, inr, refl, sym, ap, subst, ◌∙◌, List, Option, Some, None, Err}
-use Rattle.std.specs.Prelude.{slice_get, slice_set}
-use Rattle.qcow2_disk.specs.Runs.{RefinesCommand}
+use Rattle.std.proofs.Common.{◌≡◌, inl, inr, refl, sym, ap, subst, ◌∙◌, List, Option, Some, None, Err, rules}
+use Rattle.std.specs.Prelude.{slice_get, slice_set, IsNone}
+use Rattle.qcow2_disk.specs.Runs.{RefinesCommand, commit, done, misuse, refused}
 use Rattle.qcow2_disk.proofs.RunSteps.{done_as, refused_as, none_as}
 use Rattle.qcow2_image.specs.ImageInvariant.{image_abstraction}
 use Rattle.qcow2_session.proofs.Places.{set_found, set_twice, get_set_same, set_again}
 use Rattle.qcow2_session.proofs.Meanings.{found_at, none_at, does_commit, refuses_commit}
 use Rattle.qcow2_session.proofs.Answering.{not_both, not_old_tables, kept_is}
-use Rattle.qcow2_disk.specs.Runs.{commit, done, misuse, refused}
 use Rattle.qcow2_disk.specs.AbstractImages.{abstract_image}
-use Rattle.qcow2_image.specs.Calls.{refusal_of, Commits}
+use Rattle.qcow2_image.specs.Calls.{refusal_of, Commits, reason_of}
 use Rattle.qcow2_image.proofs.Sizing.Shrinking.{fault_of}
 use Rattle.qcow2_session.proofs.Unwritten.{existing_set}
 use Rattle.qcow2_session.specs.Told.{AreExisting}
 use Rattle.qcow2_session.specs.declared.session.Command.TheVariants as C
 use Rattle.qcow2_session.specs.declared.session.Reply.TheVariants as R
 use Rattle.qcow2_image.specs.Image.{is_failed}
-use Rattle.qcow2_image.specs.Calls.{reason_of}
 use Rattle.qcow2_image.specs.Prepared.{table_of}
 use Rattle.qcow2_alloc.specs.ImageError.{IsOfTables}
-use Rattle.std.specs.Prelude.{IsNone}
 use Rattle.qcow2_session.proofs.Causing.{is_done, is_misused, is_refused, kept_error, kept_same, not_failed, not_free, same_mapping, where_failed, where_works}
 use Rattle.qcow2_image.proofs.Call.BehindHeader.{behind_none}
 use Rattle.qcow2_image.proofs.Map.Quiet.{reads_none}
@@ -107,13 +104,9 @@ returns-in-Err-Spent-clause-after g c =
 
 pub returns-in-Err-Kept-clause-after : goal.returns-in-Err-Kept-clause-after
 returns-in-Err-Kept-clause-after g c =
-    let out = c.args.slots.now.prepared.items in
     let q = c.in-Err-Kept.prepared in
     inl (c.fill.ensures.is ∙ ap (λ (o : List (Option _)). slice_set o c.args.slot (Some q)) c.put.ensures.is
-    ∙ set_again out c.args.slot None (Some q) (Some c.in-Some.prepared) c.in-Some.ensures.was (ap Some (kept_same c.in-Some.prepared c.in-Err-Kept.field-0-is c.in-Err-Kept.ensures.kept)))
-
-pub returns-in_default-clause-header_cluster : goal.returns-in_default-clause-header_cluster
-returns-in_default-clause-header_cluster g c = behind_none
+    ∙ set_again c.args.slots.now.prepared.items c.args.slot None (Some q) (Some c.in-Some.prepared) c.in-Some.ensures.was (ap Some (kept_same c.in-Some.prepared c.in-Err-Kept.field-0-is c.in-Err-Kept.ensures.kept)))
 
 pub returns-in-Ok-clause-quiet : goal.returns-in-Ok-clause-quiet
 returns-in-Ok-clause-quiet g c = λ reading existing. record { reading = c.commit_data_mapping.ensures.image.writable ∙ reading; quiet = quiet_commit g.S.Storage.view c.args.image.now c.commit_data_mapping.new.self (c.commit_data_mapping.ensures.failed (c.in-Some.ensures.own ∙ c.put.ensures.image ∙ c.requires)) (λ works. c.commit_data_mapping.ensures.existing (c.in-Some.ensures.own ∙ c.put.ensures.image ∙ c.requires) works (existing c.args.slot c.in-Some.prepared c.in-Some.ensures.was)); existing = subst AreExisting (sym c.put.ensures.is) (existing_set c.args.slots.now.prepared.items c.args.slot None existing tt) }
@@ -132,14 +125,24 @@ returns-in-Err-Kept-clause-quiet g c = λ reading existing. record {
 pub returns-in_default-clause-quiet : goal.returns-in_default-clause-quiet
 returns-in_default-clause-quiet g c = λ reading existing. record { reading = reading; quiet = reads_none g.S.Storage.view c.args.image.now; existing = subst AreExisting (sym c.put.ensures.is) (existing_set c.args.slots.now.prepared.items c.args.slot None existing tt) }
 
-pub returns-in_default-clause-marks : goal.returns-in_default-clause-marks
-returns-in_default-clause-marks g c = at_rest g.S.Storage.view None c.args.image.now refl
+pub returns-in_default-clause-step : goal.returns-in_default-clause-step
+returns-in_default-clause-step g c = record { image = search rules; faults = search rules; header_cluster = behind_none; marks = at_rest g.S.Storage.view None c.args.image.now refl }
 
-pub returns-in-Ok-clause-marks : goal.returns-in-Ok-clause-marks
-returns-in-Ok-clause-marks g c = record { fails = c.in-Ok.ensures.marks; counts = c.in-Ok.ensures.once_written.counts; memory = λ bad. absurd (cc) }
+pub returns-in-Ok-clause-step : goal.returns-in-Ok-clause-step
+returns-in-Ok-clause-step g c = record { image = search rules; faults = search rules; header_cluster = search rules; marks = record { fails = c.in-Ok.ensures.marks; counts = c.in-Ok.ensures.once_written.counts; memory = λ bad. absurd (cc) } }
 
-pub returns-in-Err-Spent-clause-marks : goal.returns-in-Err-Spent-clause-marks
-returns-in-Err-Spent-clause-marks g c = subst (λ r. MarksAtOnce g.S.Storage.view (Some (reason_of r)) c.args.image.now c.commit_data_mapping.new.self) c.in-Err-Spent.field-0-is (commit_at_once g.S.Storage.view c.args.image.now c.commit_data_mapping.new.self _ c.in-Err-Spent.ensures.once_written c.in-Err-Spent.ensures.marks)
+pub returns-in-Err-Spent-clause-step : goal.returns-in-Err-Spent-clause-step
+returns-in-Err-Spent-clause-step g c = record {
+  image = search rules;
+  faults = search rules;
+  header_cluster = search rules;
+  marks = subst (λ r. MarksAtOnce g.S.Storage.view (Some (reason_of r)) c.args.image.now c.commit_data_mapping.new.self) c.in-Err-Spent.field-0-is (commit_at_once g.S.Storage.view c.args.image.now c.commit_data_mapping.new.self _ c.in-Err-Spent.ensures.once_written c.in-Err-Spent.ensures.marks);
+}
 
-pub returns-in-Err-Kept-clause-marks : goal.returns-in-Err-Kept-clause-marks
-returns-in-Err-Kept-clause-marks g c = subst (λ r. MarksAtOnce g.S.Storage.view (Some (reason_of r)) c.args.image.now c.commit_data_mapping.new.self) c.in-Err-Kept.field-0-is (commit_at_once g.S.Storage.view c.args.image.now c.commit_data_mapping.new.self _ c.in-Err-Kept.ensures.once_written c.in-Err-Kept.ensures.marks)
+pub returns-in-Err-Kept-clause-step : goal.returns-in-Err-Kept-clause-step
+returns-in-Err-Kept-clause-step g c = record {
+  image = search rules;
+  faults = search rules;
+  header_cluster = search rules;
+  marks = subst (λ r. MarksAtOnce g.S.Storage.view (Some (reason_of r)) c.args.image.now c.commit_data_mapping.new.self) c.in-Err-Kept.field-0-is (commit_at_once g.S.Storage.view c.args.image.now c.commit_data_mapping.new.self _ c.in-Err-Kept.ensures.once_written c.in-Err-Kept.ensures.marks);
+}

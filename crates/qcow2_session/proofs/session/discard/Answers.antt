@@ -1,10 +1,9 @@
 use Rattle.qcow2_image.proofs.Call.OnceWritten.{counts_released}
 use Rattle.qcow2_session.proofs.Marking.{at_rest}
-use Rattle.std.proofs.Common.{refl, sym, subst, ◌∙◌, List, Option, None}
-use Rattle.qcow2_disk.specs.Runs.{RefinesCommand}
+use Rattle.std.proofs.Common.{refl, sym, subst, ◌∙◌, List, Option, None, rules}
+use Rattle.qcow2_disk.specs.Runs.{RefinesCommand, discard, done, misuse}
 use Rattle.qcow2_disk.proofs.RunSteps.{done_as, none_as}
 use Rattle.qcow2_image.specs.ImageInvariant.{abstract_of, image_abstraction}
-use Rattle.qcow2_disk.specs.Runs.{discard, done, misuse}
 use Rattle.qcow2_disk.specs.AbstractImages.{abstract_image}
 use Rattle.qcow2_session.proofs.Places.{set_found}
 use Rattle.qcow2_session.proofs.Meanings.{found_at, none_at, does_discard}
@@ -45,19 +44,20 @@ returns-in-None-clause-after g c = c.put.ensures.is ∙ set_found c.args.slots.n
 pub returns-in-Some-clause-after : goal.returns-in-Some-clause-after
 returns-in-Some-clause-after g c = (c.in-Some.prepared, c.in-Some.ensures.was, c.put.ensures.is)
 
-pub returns-in-None-clause-header_cluster : goal.returns-in-None-clause-header_cluster
-returns-in-None-clause-header_cluster g c = behind_none
-
 pub returns-in-Some-clause-quiet : goal.returns-in-Some-clause-quiet
 returns-in-Some-clause-quiet g c = λ reading existing. record { reading = c.release.ensures.image.writable ∙ reading; quiet = quiet_release g.S.Storage.view c.args.image.now c.release.new.image c.release.ensures.rest; existing = subst AreExisting (sym c.put.ensures.is) (existing_set c.args.slots.now.prepared.items c.args.slot None existing tt) }
 
 pub returns-in-None-clause-quiet : goal.returns-in-None-clause-quiet
 returns-in-None-clause-quiet g c = λ reading existing. record { reading = reading; quiet = reads_none g.S.Storage.view c.args.image.now; existing = subst AreExisting (sym c.put.ensures.is) (existing_set c.args.slots.now.prepared.items c.args.slot None existing tt) }
 
-pub returns-in-None-clause-marks : goal.returns-in-None-clause-marks
-returns-in-None-clause-marks g c = at_rest g.S.Storage.view None c.args.image.now refl
+pub returns-in-None-clause-step : goal.returns-in-None-clause-step
+returns-in-None-clause-step g c = record { image = search rules; faults = search rules; header_cluster = behind_none; marks = at_rest g.S.Storage.view None c.args.image.now refl }
 
-pub returns-in-Some-clause-marks : goal.returns-in-Some-clause-marks
-returns-in-Some-clause-marks g c =
-    let released = counts_released g.S.Storage.view c.args.image.now c.release.new.image c.release.ensures.rest in
-    record { fails = c.release.ensures.marks; counts = released; memory = λ bad. absurd (cc) }
+pub returns-in-Some-clause-step : goal.returns-in-Some-clause-step
+returns-in-Some-clause-step g c = record {
+  image = search rules;
+  faults = search rules;
+  header_cluster = search rules;
+  marks = let released = counts_released g.S.Storage.view c.args.image.now c.release.new.image c.release.ensures.rest in
+      record { fails = c.release.ensures.marks; counts = released; memory = λ bad. absurd (cc) };
+}

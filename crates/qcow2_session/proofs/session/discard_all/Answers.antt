@@ -18,12 +18,12 @@ loop-slot-preserved g c =
     let below = g.F.BackingDisk.backing in
     let rest = c.pop.new.self.items in
     record {
-      behind = behind_then c.loop-slot.invariant.behind c.release_slot.ensures.header_cluster;
-      faults = faults_then g.S.Storage.view g.F.BackingDisk.backing c.args.image.now c.loop-slot.image c.release_slot.new.image c.loop-slot.invariant.faults c.release_slot.ensures.faults;
-      own = λ k p e. c.loop-slot.invariant.own k p (subst (λ o. slice_get o k ≡ Some (Some p)) (sym c.in-Some.ensures.items) (get_front rest (c.in-Some.slot ∷ []) k (Some p) e)) ∙ sym c.release_slot.ensures.image.number;
-      image = same_then c.loop-slot.invariant.image c.release_slot.ensures.image;
-      works = c.release_slot.ensures.marks ∙ c.loop-slot.invariant.works;
-      quiet = written_then view c.loop-slot.invariant.quiet c.release_slot.ensures.quiet;
+      behind = behind_then c.loop-slot.invariant.behind c.release_slot.ensures.step.header_cluster;
+      faults = faults_then g.S.Storage.view g.F.BackingDisk.backing c.args.image.now c.loop-slot.image c.release_slot.new.image c.loop-slot.invariant.faults c.release_slot.ensures.step.faults;
+      own = λ k p e. c.loop-slot.invariant.own k p (subst (λ o. slice_get o k ≡ Some (Some p)) (sym c.in-Some.ensures.items) (get_front rest (c.in-Some.slot ∷ []) k (Some p) e)) ∙ sym c.release_slot.ensures.step.image.number;
+      image = same_then c.loop-slot.invariant.image c.release_slot.ensures.step.image;
+      works = c.release_slot.ensures.step.marks ∙ c.loop-slot.invariant.works;
+      quiet = written_then view c.loop-slot.invariant.quiet c.release_slot.ensures.step.quiet;
       gone = does_if (λ h. h.1 ∙ h.0)
           (does_then (λ _ _. none_within (abstract_of view below c.loop-slot.image (rest ++ c.in-Some.slot ∷ [])) [])
           (subst (λ o. ReleasesMappings view below c.args.image.now c.loop-slot.image c.args.slots.prepared.items o) c.in-Some.ensures.items c.loop-slot.invariant.gone) (c.release_slot.ensures.sees rest));

@@ -1,5 +1,5 @@
 use Rattle.qcow2_session.proofs.Marking.{answered_at_once, refused_at_once}
-use Rattle.std.proofs.Common.{refl, sym, ◌∙◌}
+use Rattle.std.proofs.Common.{refl, sym, ◌∙◌, rules}
 use Rattle.qcow2_disk.proofs.RunSteps.{refused_as, flushed_as}
 use Rattle.qcow2_image.proofs.Free.{whole}
 use Rattle.qcow2_session.proofs.Answering.{error_is, none_to_free, not_both}
@@ -14,7 +14,7 @@ returns-in-Err-clause-command_step g c = λ slots x s stands founds. refused_as 
 
 pub returns-clause-command_step : goal.returns-clause-command_step
 returns-clause-command_step g c = λ slots x s stands founds. flushed_as x _ _ s _ _ _ refl stands (record { sized = λ _. tt; failed = λ f. absurd (not_both (c.in_default.ensures.early f)); may = λ _. tt }) (c.in_default.ensures.sees slots.prepared.items) (whole g.S.Storage.view g.F.BackingDisk.backing _ slots.prepared.items) (λ f. f) (λ _ _. refl)
-    (none_to_free g.S.Storage.view g.F.BackingDisk.backing c.flush.new.self slots.prepared.items (λ writes. c.in_default.ensures.emptied (sym c.flush.ensures.image.writable ∙ writes)))
+    (none_to_free g.S.Storage.view g.F.BackingDisk.backing c.flush.new.self slots.prepared.items (λ writes. c.in_default.ensures.emptied (sym c.flush.ensures.step.image.writable ∙ writes)))
 
 pub returns-in-Err-clause-causes : goal.returns-in-Err-clause-causes
 returns-in-Err-clause-causes g c = λ before found.
@@ -31,8 +31,18 @@ returns-in-Err-clause-quiet g c = c.flush.ensures.quiet
 pub returns-clause-quiet : goal.returns-clause-quiet
 returns-clause-quiet g c = c.flush.ensures.quiet
 
-pub returns-in-Err-clause-marks : goal.returns-in-Err-clause-marks
-returns-in-Err-clause-marks g c = refused_at_once g.S.Storage.view c.args.image.now c.flush.new.self c.in-Err.refusal c.in-Err.ensures.once_written c.in-Err.ensures.marks
+pub returns-in-Err-clause-step : goal.returns-in-Err-clause-step
+returns-in-Err-clause-step g c = record {
+  image = search rules;
+  faults = search rules;
+  header_cluster = search rules;
+  marks = refused_at_once g.S.Storage.view c.args.image.now c.flush.new.self c.in-Err.refusal c.in-Err.ensures.step.once_written c.in-Err.ensures.step.marks;
+}
 
-pub returns-clause-marks : goal.returns-clause-marks
-returns-clause-marks g c = answered_at_once g.S.Storage.view c.args.image.now c.flush.new.self c.in_default.ensures.once_written c.in_default.ensures.marks
+pub returns-clause-step : goal.returns-clause-step
+returns-clause-step g c = record {
+  image = search rules;
+  faults = search rules;
+  header_cluster = search rules;
+  marks = answered_at_once g.S.Storage.view c.args.image.now c.flush.new.self c.in_default.ensures.step.once_written c.in_default.ensures.step.marks;
+}

@@ -1,5 +1,5 @@
 use Rattle.qcow2_session.proofs.Marking.{answered_at_once, refused_at_once}
-use Rattle.std.proofs.Common.{◌≡◌, refl, sym, ap, subst, ◌∙◌, Some, is_some, arith}
+use Rattle.std.proofs.Common.{◌≡◌, refl, sym, ap, subst, ◌∙◌, Some, is_some, arith, rules, ⊎_elim}
 use Rattle.std.specs.Prelude.{slice_set}
 use Rattle.qcow2_disk.specs.Found.{IsFoundIn}
 use Rattle.qcow2_disk.proofs.RunSteps.{done_as, refused_as}
@@ -13,7 +13,6 @@ use Rattle.qcow2_session.specs.declared.session.Command.TheVariants as C
 use Rattle.qcow2_session.specs.declared.session.Reply.TheVariants as R
 use Rattle.qcow2_image.specs.Refusals.{unusable}
 use Rattle.qcow2_session.proofs.Causing.{begun_with, is_answered, is_refused, some_error}
-use Rattle.std.proofs.Common.{⊎_elim}
 use Rattle.qcow2_image.specs.declared.mapping.Mapping.{Mapping}
 use Rattle.qcow2_image.proofs.Call.Slots.{length_set}
 use Rattle.qcow2_session.proofs.Told.{none_refused}
@@ -42,7 +41,7 @@ returns-in-Err-clause-command_step g c = λ x s stands founds. refused_as x _ _ 
 
 pub returns-in-Ok-clause-tells : goal.returns-in-Ok-clause-tells
 returns-in-Ok-clause-tells g c = record {
-  own = c.in-Ok.ensures.own.0 ∙ sym c.get_mapping.ensures.image.number;
+  own = c.in-Ok.ensures.own.0 ∙ sym c.get_mapping.ensures.step.image.number;
   from = c.in-Ok.ensures.own.1;
   within = omega (arith, c.in-Ok.ensures.own.2, c.in-Ok.ensures.within);
   past = λ past. let none = (c.in-Ok.ensures.past (none_refused _ (unusable c.args.image.now) _ c.in-Ok.ensures.early) past).1 in (none.0, c.in-Ok.ensures.own.2 ∙ none.1);
@@ -72,13 +71,23 @@ pub returns-in-Err-clause-after : goal.returns-in-Err-clause-after
 returns-in-Err-clause-after g c = refl
 
 pub returns-in-Ok-clause-quiet : goal.returns-in-Ok-clause-quiet
-returns-in-Ok-clause-quiet g c = λ reading existing. record { reading = c.get_mapping.ensures.image.writable ∙ reading; quiet = c.get_mapping.ensures.quiet; existing = existing }
+returns-in-Ok-clause-quiet g c = λ reading existing. record { reading = c.get_mapping.ensures.step.image.writable ∙ reading; quiet = c.get_mapping.ensures.step.quiet; existing = existing }
 
 pub returns-in-Err-clause-quiet : goal.returns-in-Err-clause-quiet
-returns-in-Err-clause-quiet g c = λ reading existing. record { reading = c.get_mapping.ensures.image.writable ∙ reading; quiet = c.get_mapping.ensures.quiet; existing = existing }
+returns-in-Err-clause-quiet g c = λ reading existing. record { reading = c.get_mapping.ensures.step.image.writable ∙ reading; quiet = c.get_mapping.ensures.step.quiet; existing = existing }
 
-pub returns-in-Err-clause-marks : goal.returns-in-Err-clause-marks
-returns-in-Err-clause-marks g c = refused_at_once g.S.Storage.view c.args.image.now c.get_mapping.new.self c.in-Err.refusal c.in-Err.ensures.once_written c.in-Err.ensures.marks
+pub returns-in-Err-clause-step : goal.returns-in-Err-clause-step
+returns-in-Err-clause-step g c = record {
+  image = search rules;
+  faults = search rules;
+  header_cluster = search rules;
+  marks = refused_at_once g.S.Storage.view c.args.image.now c.get_mapping.new.self c.in-Err.refusal c.in-Err.ensures.step.once_written c.in-Err.ensures.step.marks;
+}
 
-pub returns-in-Ok-clause-marks : goal.returns-in-Ok-clause-marks
-returns-in-Ok-clause-marks g c = answered_at_once g.S.Storage.view c.args.image.now c.get_mapping.new.self c.in-Ok.ensures.once_written c.in-Ok.ensures.marks
+pub returns-in-Ok-clause-step : goal.returns-in-Ok-clause-step
+returns-in-Ok-clause-step g c = record {
+  image = search rules;
+  faults = search rules;
+  header_cluster = search rules;
+  marks = answered_at_once g.S.Storage.view c.args.image.now c.get_mapping.new.self c.in-Ok.ensures.step.once_written c.in-Ok.ensures.step.marks;
+}

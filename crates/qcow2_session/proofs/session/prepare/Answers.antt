@@ -1,11 +1,10 @@
 use Rattle.qcow2_session.proofs.Marking.{answered_at_once, at_rest, refused_at_once}
-use Rattle.std.proofs.Common.{◌≡◌, inl, inr, refl, sym, ap, subst, ◌∙◌, List, Option, arith}
+use Rattle.std.proofs.Common.{◌≡◌, inl, inr, refl, sym, ap, subst, ◌∙◌, List, Option, arith, rules}
 use Rattle.std.proofs.lemmas.Bool.{cases_lt}
-use Rattle.qcow2_disk.specs.Runs.{RefinesCommand}
+use Rattle.qcow2_disk.specs.Runs.{RefinesCommand, prepare, prepared_is, misuse}
 use Rattle.qcow2_disk.proofs.RunSteps.{done_as, refused_as, none_as}
-use Rattle.qcow2_image.specs.ImageInvariant.{image_abstraction}
-use Rattle.qcow2_disk.specs.Runs.{prepare, prepared_is, misuse}
-use Rattle.qcow2_disk.specs.AbstractImages.{abstract_image}
+use Rattle.qcow2_image.specs.ImageInvariant.{image_abstraction, meaning}
+use Rattle.qcow2_disk.specs.AbstractImages.{abstract_image, Setting}
 use Rattle.std.specs.Prelude.{slice_get, slice_set, Some, None}
 use Rattle.qcow2_metadata.specs.Header.{header}
 use Rattle.qcow2_metadata.specs.declared.header.HeaderFields.{HeaderFields}
@@ -22,8 +21,6 @@ use Rattle.qcow2_image.specs.Image.{is_writable}
 use Rattle.qcow2_session.specs.Told.{AreExisting}
 use Rattle.qcow2_session.specs.declared.session.Command.TheVariants as C
 use Rattle.qcow2_session.specs.declared.session.Reply.TheVariants as R
-use Rattle.qcow2_disk.specs.AbstractImages.{Setting}
-use Rattle.qcow2_image.specs.ImageInvariant.{meaning}
 use Rattle.qcow2_session.proofs.Untaken.{prepared_untaken}
 use Rattle.qcow2_session.proofs.Causing.{begun_with, holds, is_answered, is_misused, is_refused, not_free, some_error}
 use Rattle.qcow2_image.proofs.Call.BehindHeader.{behind_none}
@@ -117,36 +114,41 @@ returns-in-Ok-clause-after g c =
     let free = untaken (image_abstraction g.S.Storage.view g.F.BackingDisk.backing) c.args.image.now c.args.slots.now.prepared.items c.args.slot c.get.result c.get.ensures (sym c.is_some.ensures ∙ c.if-is_some.false) in
     (c.in-Ok.prepared, (free, c.fill.ensures.is), c.offset.ensures, c.length.ensures, c.is_nonblocking.ensures)
 
-pub returns-then-is_some-clause-header_cluster : goal.returns-then-is_some-clause-header_cluster
-returns-then-is_some-clause-header_cluster g c = behind_none
-
 pub returns-in-Ok-clause-quiet : goal.returns-in-Ok-clause-quiet
 returns-in-Ok-clause-quiet g c = λ reading existing.
     let old = c.args.image.now in
-    let new = c.prepare_data_mapping.new.self in
     let same = prepare_same old reading _ c.args.offset c.args.length c.prepare_data_mapping.ensures.early c.prepare_data_mapping.ensures.nothing in
     let p = nothing_prepared old reading _ c.in-Ok.prepared c.args.offset c.args.length c.in-Ok.ensures.early c.in-Ok.ensures.nothing in
     record {
       reading = ap is_writable same ∙ reading;
-      quiet = quiet_image g.S.Storage.view old new same;
+      quiet = quiet_image g.S.Storage.view old c.prepare_data_mapping.new.self same;
       existing = subst AreExisting (sym c.fill.ensures.is) (existing_set c.args.slots.now.prepared.items c.args.slot (Some c.in-Ok.prepared) existing p.0);
     }
 
 pub returns-in-Err-clause-quiet : goal.returns-in-Err-clause-quiet
 returns-in-Err-clause-quiet g c = λ reading existing.
     let old = c.args.image.now in
-    let new = c.prepare_data_mapping.new.self in
     let same = prepare_same old reading _ c.args.offset c.args.length c.prepare_data_mapping.ensures.early c.prepare_data_mapping.ensures.nothing in
-    quiet_left g.S.Storage.view old new c.args.slots.now.prepared.items same reading existing
+    quiet_left g.S.Storage.view old c.prepare_data_mapping.new.self c.args.slots.now.prepared.items same reading existing
 
 pub returns-then-is_some-clause-quiet : goal.returns-then-is_some-clause-quiet
 returns-then-is_some-clause-quiet g c = λ reading existing. record { reading = reading; quiet = reads_none g.S.Storage.view c.args.image.now; existing = existing }
 
-pub returns-then-is_some-clause-marks : goal.returns-then-is_some-clause-marks
-returns-then-is_some-clause-marks g c = at_rest g.S.Storage.view None c.args.image.now refl
+pub returns-then-is_some-clause-step : goal.returns-then-is_some-clause-step
+returns-then-is_some-clause-step g c = record { image = search rules; faults = search rules; header_cluster = behind_none; marks = at_rest g.S.Storage.view None c.args.image.now refl }
 
-pub returns-in-Err-clause-marks : goal.returns-in-Err-clause-marks
-returns-in-Err-clause-marks g c = refused_at_once g.S.Storage.view c.args.image.now c.prepare_data_mapping.new.self c.in-Err.refusal c.in-Err.ensures.once_written c.in-Err.ensures.marks
+pub returns-in-Err-clause-step : goal.returns-in-Err-clause-step
+returns-in-Err-clause-step g c = record {
+  image = search rules;
+  faults = search rules;
+  header_cluster = search rules;
+  marks = refused_at_once g.S.Storage.view c.args.image.now c.prepare_data_mapping.new.self c.in-Err.refusal c.in-Err.ensures.step.once_written c.in-Err.ensures.step.marks;
+}
 
-pub returns-in-Ok-clause-marks : goal.returns-in-Ok-clause-marks
-returns-in-Ok-clause-marks g c = answered_at_once g.S.Storage.view c.args.image.now c.prepare_data_mapping.new.self c.in-Ok.ensures.once_written c.in-Ok.ensures.marks
+pub returns-in-Ok-clause-step : goal.returns-in-Ok-clause-step
+returns-in-Ok-clause-step g c = record {
+  image = search rules;
+  faults = search rules;
+  header_cluster = search rules;
+  marks = answered_at_once g.S.Storage.view c.args.image.now c.prepare_data_mapping.new.self c.in-Ok.ensures.step.once_written c.in-Ok.ensures.step.marks;
+}

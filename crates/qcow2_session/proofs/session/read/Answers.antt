@@ -1,5 +1,5 @@
 use Rattle.qcow2_alloc.specs.declared.error.ImageError.TheVariants.{Memory}
-use Rattle.std.proofs.Common.{Some, arith, drop, length, refl, subst, sym, take, ◌++◌, ◌<◌, ◌≡◌}
+use Rattle.std.proofs.Common.{Some, arith, drop, length, refl, subst, sym, take, ◌++◌, ◌<◌, ◌≡◌, rules, inl, ◌+◌}
 use Rattle.std.proofs.lemmas.Grind.{common_steps}
 use Rattle.qcow2_disk.specs.Calls.{Shows}
 use Rattle.qcow2_disk.specs.AbstractImages.{guest_of}
@@ -7,16 +7,12 @@ use Rattle.qcow2_image.specs.ImageInvariant.{abstract_of}
 use Rattle.qcow2_session.specs.Sessions.{Reads}
 use Rattle.qcow2_session.proofs.Turns.{refused_is, does_if}
 use Rattle.std.specs.Prelude.{IfErr}
-use Rattle.qcow2_image.specs.Refusals.{IsMet}
-use Rattle.qcow2_session.proofs.Marking.{at_rest, in_parts, memory_marks, parts_handed, unmarked}
+use Rattle.qcow2_image.specs.Refusals.{IsMet, refuses_to_read}
+use Rattle.qcow2_session.proofs.Marking.{at_rest, in_parts, memory_marks, parts_handed, unmarked, refused_none}
 use Rattle.qcow2_image.proofs.Call.BehindHeader.{behind_none}
 use Rattle.qcow2_image.specs.MetAlone.{IsMetReadingRange}
 use Rattle.qcow2_alloc.specs.ImageFile.{known_in}
-use Rattle.qcow2_session.proofs.Marking.{refused_none}
 use Rattle.qcow2_session.proofs.MetOnSound.{memory_looking}
-use Rattle.std.proofs.Common.{inl}
-use Rattle.std.proofs.Common.{◌+◌}
-use Rattle.qcow2_image.specs.Refusals.{refuses_to_read}
 use Rattle.qcow2_session.proofs.session.read.Goals as goal
 
 pub returns-in_err-read_into-clause-sees : goal.returns-in_err-read_into-clause-sees
@@ -34,12 +30,6 @@ returns-in_err-read_into-clause-late g c = λ none.
     subst (λ r. IfErr r (λ e. IsMet e × (0 < c.args.length))) (sym (refused_is _ c.in_err-read_into.field-0.0 c.from_residual-in_err-read_into.ensures))
     (let met = c.in_err-read_into.ensures.late (grind (arith, common_steps)) in (met.0, grind (arith, common_steps)))
 
-pub returns-in_err-bytes-clause-header_cluster : goal.returns-in_err-bytes-clause-header_cluster
-returns-in_err-bytes-clause-header_cluster g c = behind_none
-
-pub returns-in_err-check_read-clause-header_cluster : goal.returns-in_err-check_read-clause-header_cluster
-returns-in_err-check_read-clause-header_cluster g c = behind_none
-
 pub returns-in_err-check_read-clause-met : goal.returns-in_err-check_read-clause-met
 returns-in_err-check_read-clause-met g c = λ none out sound. absurd (refused_none (refuses_to_read c.args.image.now c.args.offset c.args.length) c.in_err-check_read.field-0.0 c.in_err-check_read.ensures.refusal none)
 
@@ -52,17 +42,45 @@ returns-in_err-read_into-clause-met g c = λ none out sound.
     subst (λ r. IfErr r (IsMetReadingRange out c.args.offset (c.args.offset + c.args.length) c.args.image.now.file.header.fields (known_in g.S.Storage.view c.args.image.now.file))) (sym (refused_is _ c.in_err-read_into.field-0.0 c.from_residual-in_err-read_into.ensures))
     ((rw long at c.in_err-read_into.ensures.met) none out sound)
 
-pub returns-in_err-read_into-clause-marks : goal.returns-in_err-read_into-clause-marks
-returns-in_err-read_into-clause-marks g c = parts_handed g.S.Storage.view _ c.in_err-read_into.field-0.0 c.args.image.now c.read_into.new.image (refused_is _ c.in_err-read_into.field-0.0 c.from_residual-in_err-read_into.ensures) c.in_err-read_into.ensures.marks
+pub returns-in_err-bytes-clause-step : goal.returns-in_err-bytes-clause-step
+returns-in_err-bytes-clause-step g c = record {
+  image = search rules;
+  faults = search rules;
+  header = search rules;
+  quiet = search rules;
+  header_cluster = behind_none;
+  marks = parts_handed g.S.Storage.view _ c.in_err-bytes.field-0.0 c.args.image.now c.args.image.now (refused_is _ c.in_err-bytes.field-0.0 c.from_residual-in_err-bytes.ensures) (in_parts g.S.Storage.view (at_rest g.S.Storage.view (Some c.in_err-bytes.field-0.0) c.args.image.now (memory_marks c.in_err-bytes.field-0.0 _ c.in_err-bytes.ensures.cause.0)));
+}
 
-pub returns-clause-marks : goal.returns-clause-marks
-returns-clause-marks g c = c.in_ok-read_into.ensures.marks
+pub returns-in_err-check_read-clause-step : goal.returns-in_err-check_read-clause-step
+returns-in_err-check_read-clause-step g c = record {
+  image = search rules;
+  faults = search rules;
+  header = search rules;
+  quiet = search rules;
+  header_cluster = behind_none;
+  marks = parts_handed g.S.Storage.view _ c.in_err-check_read.field-0.0 c.args.image.now c.args.image.now (refused_is _ c.in_err-check_read.field-0.0 c.from_residual.ensures) (in_parts g.S.Storage.view (at_rest g.S.Storage.view (Some c.in_err-check_read.field-0.0) c.args.image.now (unmarked c.in_err-check_read.field-0.0 _ _ c.in_err-check_read.ensures.faults refl)));
+}
 
-pub returns-in_err-check_read-clause-marks : goal.returns-in_err-check_read-clause-marks
-returns-in_err-check_read-clause-marks g c = parts_handed g.S.Storage.view _ c.in_err-check_read.field-0.0 c.args.image.now c.args.image.now (refused_is _ c.in_err-check_read.field-0.0 c.from_residual.ensures) (in_parts g.S.Storage.view (at_rest g.S.Storage.view (Some c.in_err-check_read.field-0.0) c.args.image.now (unmarked c.in_err-check_read.field-0.0 _ _ c.in_err-check_read.ensures.faults refl)))
+pub returns-in_err-read_into-clause-step : goal.returns-in_err-read_into-clause-step
+returns-in_err-read_into-clause-step g c = record {
+  image = search rules;
+  faults = search rules;
+  header = search rules;
+  header_cluster = search rules;
+  quiet = search rules;
+  marks = parts_handed g.S.Storage.view _ c.in_err-read_into.field-0.0 c.args.image.now c.read_into.new.image (refused_is _ c.in_err-read_into.field-0.0 c.from_residual-in_err-read_into.ensures) c.in_err-read_into.ensures.step.marks;
+}
 
-pub returns-in_err-bytes-clause-marks : goal.returns-in_err-bytes-clause-marks
-returns-in_err-bytes-clause-marks g c = parts_handed g.S.Storage.view _ c.in_err-bytes.field-0.0 c.args.image.now c.args.image.now (refused_is _ c.in_err-bytes.field-0.0 c.from_residual-in_err-bytes.ensures) (in_parts g.S.Storage.view (at_rest g.S.Storage.view (Some c.in_err-bytes.field-0.0) c.args.image.now (memory_marks c.in_err-bytes.field-0.0 _ c.in_err-bytes.ensures.cause.0)))
+pub returns-clause-step : goal.returns-clause-step
+returns-clause-step g c = record { image = search rules; faults = search rules; header = search rules; header_cluster = search rules; marks = c.in_ok-read_into.ensures.step.marks; quiet = search rules }
 
-pub returns-in_default-clause-marks : goal.returns-in_default-clause-marks
-returns-in_default-clause-marks g c = in_parts g.S.Storage.view (at_rest g.S.Storage.view (Some Memory) c.args.image.now (λ failed. failed))
+pub returns-in_default-clause-step : goal.returns-in_default-clause-step
+returns-in_default-clause-step g c = record {
+  image = search rules;
+  faults = search rules;
+  header = search rules;
+  header_cluster = search rules;
+  quiet = search rules;
+  marks = in_parts g.S.Storage.view (at_rest g.S.Storage.view (Some Memory) c.args.image.now (λ failed. failed));
+}

@@ -1,5 +1,5 @@
 use Rattle.qcow2_image.proofs.Call.OnceWritten.{counts_on, counts_still}
-use Rattle.std.proofs.Common.{◌≡◌, ◌<◌, ◌∙◌, ◌+◌, ◌-◌, refl, length, IfErr, sym, subst, ap, [], take, drop, arith}
+use Rattle.std.proofs.Common.{◌≡◌, ◌<◌, ◌∙◌, ◌+◌, ◌-◌, refl, length, IfErr, sym, subst, ap, [], take, drop, arith, rules, Some, ◌≤◌}
 use Rattle.std.proofs.lemmas.Grind.{common_steps}
 use Rattle.qcow2_disk.specs.Calls.{another, Shows}
 use Rattle.qcow2_disk.specs.AbstractImages.{Guest, guest_of}
@@ -12,19 +12,15 @@ use Rattle.qcow2_session.proofs.Turns.{refused_is, refuses_here, none_within, do
 use Rattle.qcow2_session.proofs.Told.{same_then}
 use Rattle.qcow2_image.proofs.Call.BehindHeader.{behind_none, behind_then}
 use Rattle.qcow2_image.proofs.Call.FaultCounts.{counted_on, faults_then}
-use Rattle.qcow2_image.specs.Refusals.{IsMet}
+use Rattle.qcow2_image.specs.Refusals.{IsMet, refuses_to_read}
 use Rattle.qcow2_session.proofs.Parts.{part_reads}
-use Rattle.std.proofs.Common.{Some}
-use Rattle.qcow2_session.proofs.Marking.{at_rest, in_parts, parts_answered, parts_behind, parts_beyond, parts_handed, unmarked}
+use Rattle.qcow2_session.proofs.Marking.{at_rest, in_parts, parts_answered, parts_behind, parts_beyond, parts_handed, unmarked, refused_none}
 use Rattle.qcow2_session.proofs.Counting.{none_counted}
 use Rattle.qcow2_session.proofs.Converting.{does_nothing}
 use Rattle.qcow2_alloc.proofs.KeptTables.AllWritten.{written_none, written_then}
 use Rattle.qcow2_image.specs.MetAlone.{IsMetReadingRange}
 use Rattle.qcow2_alloc.specs.ImageFile.{known_in}
-use Rattle.qcow2_session.proofs.Marking.{refused_none}
 use Rattle.qcow2_session.proofs.MetOnSound.{reads_part}
-use Rattle.qcow2_image.specs.Refusals.{refuses_to_read}
-use Rattle.std.proofs.Common.{◌≤◌}
 use Rattle.qcow2_session.proofs.session.read_into.Goals as goal
 
 pub returns-in_default-clause-sees : goal.returns-in_default-clause-sees
@@ -39,15 +35,15 @@ returns-in_err-done-clause-sees g c =
 
 pub loop-done-preserved : goal.loop-done-preserved
 loop-done-preserved g c = record {
-  behind = behind_then c.loop-done.invariant.behind c.read_some.ensures.header_cluster;
-  faults = faults_then g.S.Storage.view g.F.BackingDisk.backing c.args.image.now c.loop-done.image c.read_some.new.image c.loop-done.invariant.faults c.in_ok-done.ensures.faults.told;
+  behind = behind_then c.loop-done.invariant.behind c.read_some.ensures.step.header_cluster;
+  faults = faults_then g.S.Storage.view g.F.BackingDisk.backing c.args.image.now c.loop-done.image c.read_some.new.image c.loop-done.invariant.faults c.in_ok-done.ensures.step.faults.told;
   within = grind (arith, common_steps);
   end = grind (arith, common_steps);
-  image = same_then c.loop-done.invariant.image c.read_some.ensures.image;
-  works = c.in_ok-done.ensures.marks.fails ∙ c.loop-done.invariant.works;
-  counts = counts_on g.S.Storage.view c.args.image.now c.loop-done.image c.read_some.new.image c.loop-done.invariant.counts c.in_ok-done.ensures.marks.counts;
-  header = c.read_some.ensures.header ∙ c.loop-done.invariant.header;
-  quiet = written_then g.S.Storage.view c.loop-done.invariant.quiet c.read_some.ensures.quiet;
+  image = same_then c.loop-done.invariant.image c.read_some.ensures.step.image;
+  works = c.in_ok-done.ensures.step.marks.fails ∙ c.loop-done.invariant.works;
+  counts = counts_on g.S.Storage.view c.args.image.now c.loop-done.image c.read_some.new.image c.loop-done.invariant.counts c.in_ok-done.ensures.step.marks.counts;
+  header = c.read_some.ensures.step.header ∙ c.loop-done.invariant.header;
+  quiet = written_then g.S.Storage.view c.loop-done.invariant.quiet c.read_some.ensures.step.quiet;
   shown = λ out.
       let view = g.S.Storage.view in
       let below = g.F.BackingDisk.backing in
@@ -93,17 +89,6 @@ returns-in_err-done-clause-late g c = λ none.
       omega (arith, c.loop-done.auto.bytes, c.loop-done-test.true),
     ))
 
-pub returns-in_err-done-clause-faults : goal.returns-in_err-done-clause-faults
-returns-in_err-done-clause-faults g c =
-    counted_on g.S.Storage.view g.F.BackingDisk.backing c.args.image.now c.loop-done.image c.read_some.new.image c.read_some.result c.in_err-done.field-0.0 c.from_residual-in_err-done.result c.loop-done.invariant.faults c.read_some.ensures.faults c.in_err-done.was
-    c.from_residual-in_err-done.ensures
-
-pub returns-in_err-done-clause-header_cluster : goal.returns-in_err-done-clause-header_cluster
-returns-in_err-done-clause-header_cluster g c = behind_then c.loop-done.invariant.behind c.read_some.ensures.header_cluster
-
-pub returns-in_err-check_read-clause-header_cluster : goal.returns-in_err-check_read-clause-header_cluster
-returns-in_err-check_read-clause-header_cluster g c = behind_none
-
 pub loop-done-init : goal.loop-done-init
 loop-done-init g c = record {
   faults = none_counted g.S.Storage.view g.F.BackingDisk.backing c.args.image.now;
@@ -118,9 +103,6 @@ loop-done-init g c = record {
   shown = λ out. does_if (λ same. (λ i lt. absurd (let none : i < length (take 0 c.args.bytes.now) = lt in grind (arith, common_steps)), same)) (does_nothing (abstract_of g.S.Storage.view g.F.BackingDisk.backing c.args.image.now out));
 }
 
-pub returns-in_err-done-clause-quiet : goal.returns-in_err-done-clause-quiet
-returns-in_err-done-clause-quiet g c = written_then g.S.Storage.view c.loop-done.invariant.quiet c.read_some.ensures.quiet
-
 pub returns-in_err-check_read-clause-met : goal.returns-in_err-check_read-clause-met
 returns-in_err-check_read-clause-met g c = λ none out sound. absurd (refused_none (refuses_to_read c.args.image.now c.args.offset (length c.args.bytes.now)) c.in_err-check_read.field-0.0 c.in_err-check_read.ensures.refusal none)
 
@@ -129,8 +111,6 @@ returns-in_default-clause-met g c = λ none out sound. absurd (c.in_default.ensu
 
 pub returns-in_err-done-clause-met : goal.returns-in_err-done-clause-met
 returns-in_err-done-clause-met g c = λ none out sound.
-    let view = g.S.Storage.view in
-    let below = g.F.BackingDisk.backing in
     let old = c.args.image.now in
     let mid = c.loop-done.image in
     let n = length c.args.bytes.now in
@@ -141,17 +121,46 @@ returns-in_err-done-clause-met g c = λ none out sound.
     let so_far = c.loop-done.invariant.shown out in
     let still = (so_far.answer sound).0 in
     subst (λ r. IfErr r (IsMetReadingRange out c.args.offset (c.args.offset + length c.args.bytes.now) c.args.image.now.file.header.fields (known_in g.S.Storage.view c.args.image.now.file))) (sym (refused_is _ c.in_err-done.field-0.0 c.from_residual-in_err-done.ensures))
-    (reads_part view below out old mid sound still (so_far.acts.works sound) c.args.offset (c.args.offset + n) c.in-Some.at (c.in-Some.at + length part) c.in_err-done.field-0.0 from upto
+    (reads_part g.S.Storage.view g.F.BackingDisk.backing out old mid sound still (so_far.acts.works sound) c.args.offset (c.args.offset + n) c.in-Some.at (c.in-Some.at + length part) c.in_err-done.field-0.0 from upto
     (c.in_err-done.ensures.met (part_reads old mid c.loop-done.invariant.image c.args.offset n c.in-Some.at (length part) from upto c.loop-done.invariant.works none) (omega (arith, rest, c.loop-done-test.true)) out still))
 
-pub returns-in_err-done-clause-marks : goal.returns-in_err-done-clause-marks
-returns-in_err-done-clause-marks g c = parts_handed g.S.Storage.view _ c.in_err-done.field-0.0 c.args.image.now c.read_some.new.image (refused_is _ c.in_err-done.field-0.0 c.from_residual-in_err-done.ensures) (parts_behind g.S.Storage.view (Some c.in_err-done.field-0.0) c.args.image.now c.loop-done.image c.read_some.new.image c.loop-done.invariant.works c.loop-done.invariant.counts c.in_err-done.ensures.marks)
+pub returns-in_err-done-clause-step : goal.returns-in_err-done-clause-step
+returns-in_err-done-clause-step g c = record {
+  image = search rules;
+  header = search rules;
+  faults = counted_on g.S.Storage.view g.F.BackingDisk.backing c.args.image.now c.loop-done.image c.read_some.new.image c.read_some.result c.in_err-done.field-0.0 c.from_residual-in_err-done.result c.loop-done.invariant.faults c.read_some.ensures.step.faults c.in_err-done.was
+      c.from_residual-in_err-done.ensures;
+  header_cluster = behind_then c.loop-done.invariant.behind c.read_some.ensures.step.header_cluster;
+  marks = parts_handed g.S.Storage.view _ c.in_err-done.field-0.0 c.args.image.now c.read_some.new.image (refused_is _ c.in_err-done.field-0.0 c.from_residual-in_err-done.ensures) (parts_behind g.S.Storage.view (Some c.in_err-done.field-0.0) c.args.image.now c.loop-done.image c.read_some.new.image c.loop-done.invariant.works c.loop-done.invariant.counts c.in_err-done.ensures.step.marks);
+  quiet = written_then g.S.Storage.view c.loop-done.invariant.quiet c.read_some.ensures.step.quiet;
+}
 
-pub returns-in_default-clause-marks : goal.returns-in_default-clause-marks
-returns-in_default-clause-marks g c = parts_beyond g.S.Storage.view c.args.image.now c.loop-done.image c.loop-done.invariant.works c.loop-done.invariant.counts
+pub returns-in_err-check_read-clause-step : goal.returns-in_err-check_read-clause-step
+returns-in_err-check_read-clause-step g c = record {
+  image = search rules;
+  faults = search rules;
+  header = search rules;
+  quiet = search rules;
+  header_cluster = behind_none;
+  marks = parts_handed g.S.Storage.view _ c.in_err-check_read.field-0.0 c.args.image.now c.args.image.now (refused_is _ c.in_err-check_read.field-0.0 c.from_residual.ensures) (in_parts g.S.Storage.view (at_rest g.S.Storage.view (Some c.in_err-check_read.field-0.0) c.args.image.now (unmarked c.in_err-check_read.field-0.0 _ _ c.in_err-check_read.ensures.faults refl)));
+}
 
-pub returns-clause-marks : goal.returns-clause-marks
-returns-clause-marks g c = parts_answered g.S.Storage.view c.args.image.now c.loop-done.image c.loop-done.invariant.works c.loop-done.invariant.counts
+pub returns-in_default-clause-step : goal.returns-in_default-clause-step
+returns-in_default-clause-step g c = record {
+  image = search rules;
+  faults = search rules;
+  header = search rules;
+  header_cluster = search rules;
+  quiet = search rules;
+  marks = parts_beyond g.S.Storage.view c.args.image.now c.loop-done.image c.loop-done.invariant.works c.loop-done.invariant.counts;
+}
 
-pub returns-in_err-check_read-clause-marks : goal.returns-in_err-check_read-clause-marks
-returns-in_err-check_read-clause-marks g c = parts_handed g.S.Storage.view _ c.in_err-check_read.field-0.0 c.args.image.now c.args.image.now (refused_is _ c.in_err-check_read.field-0.0 c.from_residual.ensures) (in_parts g.S.Storage.view (at_rest g.S.Storage.view (Some c.in_err-check_read.field-0.0) c.args.image.now (unmarked c.in_err-check_read.field-0.0 _ _ c.in_err-check_read.ensures.faults refl)))
+pub returns-clause-step : goal.returns-clause-step
+returns-clause-step g c = record {
+  image = search rules;
+  faults = search rules;
+  header = search rules;
+  header_cluster = search rules;
+  quiet = search rules;
+  marks = parts_answered g.S.Storage.view c.args.image.now c.loop-done.image c.loop-done.invariant.works c.loop-done.invariant.counts;
+}

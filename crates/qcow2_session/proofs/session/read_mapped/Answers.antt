@@ -1,5 +1,5 @@
 use Rattle.qcow2_session.proofs.Marking.{at_rest}
-use Rattle.std.proofs.Common.{refl, ap, ◌∙◌, Some, None, Err, arith}
+use Rattle.std.proofs.Common.{refl, ap, ◌∙◌, Some, None, Err, arith, rules, ◌≡◌, ◌+◌, ◌<◌, ◌≤◌, subst}
 use Rattle.qcow2_disk.proofs.RunSteps.{done_as, refused_as, none_as}
 use Rattle.qcow2_session.proofs.Turns.{does_if, does_why}
 use Rattle.qcow2_session.specs.Sessions.{mapping_at, range_of}
@@ -12,7 +12,6 @@ use Rattle.qcow2_image.specs.ImageInvariant.{abstract_of}
 use Rattle.qcow2_session.specs.declared.session.Command.TheVariants as C
 use Rattle.qcow2_session.specs.declared.session.Reply.TheVariants as R
 use Rattle.std.specs.Prelude.{get_or, length}
-use Rattle.std.proofs.Common.{◌≡◌, ◌+◌, ◌<◌, ◌≤◌, subst}
 use Rattle.std.proofs.lemmas.Option.{slice_get_read}
 use Rattle.qcow2_image.proofs.Sizes.{disk_size}
 use Rattle.qcow2_image.specs.Refusals.{IsMet, unusable}
@@ -91,20 +90,14 @@ returns-in-Err-clause-causes g c =
     (begun_with _ _ _ (unusable c.args.image.now) c.in-Err.ensures.early) (λ none. (late none).0) (λ _ _. tt) (λ none empty. let some = (late none).1 in omega (arith, some, empty))
     (λ none sound. (λ is. (c.in-Some.mapping, ap mapping_at (there ∙ ap Some c.in-Some.is), c.in-Err.ensures.outdated c.args.slots.now.prepared.items sound (ap Err (some_error is))), (c.in-Some.mapping, ap mapping_at (there ∙ ap Some c.in-Some.is), c.in-Err.ensures.met (own_mapping c.args.image.now c.in-Some.mapping.image own ∙ none) c.args.slots.now.prepared.items sound)))
 
-pub returns-in_default-clause-header_cluster : goal.returns-in_default-clause-header_cluster
-returns-in_default-clause-header_cluster g c = behind_none
+pub returns-in_default-clause-step : goal.returns-in_default-clause-step
+returns-in_default-clause-step g c = record { image = search rules; faults = search rules; header_cluster = behind_none; marks = at_rest g.S.Storage.view None c.args.image.now refl }
 
-pub returns-then-at-mapping-clause-header_cluster : goal.returns-then-at-mapping-clause-header_cluster
-returns-then-at-mapping-clause-header_cluster g c = behind_none
+pub returns-then-at-mapping-clause-step : goal.returns-then-at-mapping-clause-step
+returns-then-at-mapping-clause-step g c = record { image = search rules; faults = search rules; header_cluster = behind_none; marks = at_rest g.S.Storage.view None c.args.image.now refl }
 
-pub returns-in_default-clause-marks : goal.returns-in_default-clause-marks
-returns-in_default-clause-marks g c = at_rest g.S.Storage.view None c.args.image.now refl
+pub returns-in-Ok-clause-step : goal.returns-in-Ok-clause-step
+returns-in-Ok-clause-step g c = record { image = search rules; faults = search rules; header_cluster = search rules; marks = c.in-Ok.ensures.step.marks }
 
-pub returns-then-at-mapping-clause-marks : goal.returns-then-at-mapping-clause-marks
-returns-then-at-mapping-clause-marks g c = at_rest g.S.Storage.view None c.args.image.now refl
-
-pub returns-in-Ok-clause-marks : goal.returns-in-Ok-clause-marks
-returns-in-Ok-clause-marks g c = c.in-Ok.ensures.marks
-
-pub returns-in-Err-clause-marks : goal.returns-in-Err-clause-marks
-returns-in-Err-clause-marks g c = c.in-Err.ensures.marks
+pub returns-in-Err-clause-step : goal.returns-in-Err-clause-step
+returns-in-Err-clause-step g c = record { image = search rules; faults = search rules; header_cluster = search rules; marks = c.in-Err.ensures.step.marks }

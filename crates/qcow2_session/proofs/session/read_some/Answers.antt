@@ -1,6 +1,6 @@
 use Rattle.qcow2_image.proofs.Call.OnceWritten.{counts_on}
 use Rattle.qcow2_session.proofs.Marking.{in_parts, parts_answered, parts_behind, parts_beyond, parts_handed, refused_at_once}
-use Rattle.std.proofs.Common.{◌≡◌, ◌∙◌, ◌+◌, ◌++◌, Some, sym, subst, ap, [], take, drop, arith}
+use Rattle.std.proofs.Common.{◌≡◌, ◌∙◌, ◌+◌, ◌++◌, Some, sym, subst, ap, [], take, drop, arith, rules, inl, ◌<◌, Err}
 use Rattle.std.proofs.lemmas.Grind.{common_steps}
 use Rattle.qcow2_disk.specs.Calls.{another}
 use Rattle.qcow2_disk.specs.AbstractImages.{Guest}
@@ -22,7 +22,6 @@ use Rattle.qcow2_image.specs.Found.{IsFoundWhole, further_by}
 use Rattle.qcow2_image.specs.MetAlone.{IsMetReadingRange}
 use Rattle.qcow2_alloc.specs.ImageFile.{known_in}
 use Rattle.qcow2_session.proofs.MetOnSound.{found_there, looking_prepared, reads_found}
-use Rattle.std.proofs.Common.{inl, ◌<◌, Err}
 use Rattle.qcow2_session.proofs.session.read_some.Goals as goal
 
 pub returns-in_err-mapping-clause-sees : goal.returns-in_err-mapping-clause-sees
@@ -43,12 +42,10 @@ returns-in_err-read_mapped-clause-sees g c =
 
 pub returns-clause-sees : goal.returns-clause-sees
 returns-clause-sees g c = λ out.
-    let view = g.S.Storage.view in
-    let below = g.F.BackingDisk.backing in
     let first : c.read_mapped.new.bytes ≡ take c.in_ok-mapping.found (c.read_mapped.new.bytes ++ drop c.in_ok-mapping.found c.args.bytes.now) = grind (arith, common_steps) in
     let place : c.in_ok-mapping.mapping.offset + 0 ≡ c.args.offset = omega (arith, c.in_ok-mapping.ensures.own.1) in
     does_if (λ h. (shows_as (ap (λ (v : Guest). v.disk) h.0) place first h.1.1, h.1.0 ∙ h.0))
-    (does_then (λ _ _. none_within (abstract_of view below c.get_mapping.new.self out) []) (c.in_ok-mapping.ensures.sees out) (c.in_ok-read_mapped.ensures.sees out))
+    (does_then (λ _ _. none_within (abstract_of g.S.Storage.view g.F.BackingDisk.backing c.get_mapping.new.self out) []) (c.in_ok-mapping.ensures.sees out) (c.in_ok-read_mapped.ensures.sees out))
 
 pub returns-in_err-mapping-clause-cause : goal.returns-in_err-mapping-clause-cause
 returns-in_err-mapping-clause-cause g c = subst (λ r. IfErr r IsOfReading) (sym (refused_is _ c.in_err-mapping.field-0.0 c.from_residual.ensures))
@@ -69,30 +66,7 @@ pub returns-in_err-read_mapped-clause-late : goal.returns-in_err-read_mapped-cla
 returns-in_err-read_mapped-clause-late g c = λ none some.
     let first = then_none (unusable c.args.image.now) (passes (size_of c.args.image.now) c.args.offset (length c.args.bytes.now)) BeyondSize none in
     subst (λ r. IfErr r IsMet) (sym (refused_is _ c.in_err-read_mapped.field-0.0 c.from_residual-in_err-read_mapped.ensures))
-    (c.in_err-read_mapped.ensures.late (mapping_usable c.args.image.now c.get_mapping.new.self c.get_mapping.ensures.image c.in_ok-mapping.mapping.image c.in_ok-mapping.ensures.own.0 c.in_ok-mapping.ensures.marks first.0))
-
-pub returns-clause-header_cluster : goal.returns-clause-header_cluster
-returns-clause-header_cluster g c = behind_then c.get_mapping.ensures.header_cluster c.read_mapped.ensures.header_cluster
-
-pub returns-in_err-read_mapped-clause-header_cluster : goal.returns-in_err-read_mapped-clause-header_cluster
-returns-in_err-read_mapped-clause-header_cluster g c = behind_then c.get_mapping.ensures.header_cluster c.read_mapped.ensures.header_cluster
-
-pub returns-in_err-read_mapped-clause-quiet : goal.returns-in_err-read_mapped-clause-quiet
-returns-in_err-read_mapped-clause-quiet g c = written_then g.S.Storage.view c.get_mapping.ensures.quiet c.read_mapped.ensures.quiet
-
-pub returns-clause-quiet : goal.returns-clause-quiet
-returns-clause-quiet g c = written_then g.S.Storage.view c.get_mapping.ensures.quiet c.read_mapped.ensures.quiet
-
-pub returns-in_err-mapping-clause-quiet : goal.returns-in_err-mapping-clause-quiet
-returns-in_err-mapping-clause-quiet g c = c.get_mapping.ensures.quiet
-
-pub returns-then-count-eq0-clause-quiet : goal.returns-then-count-eq0-clause-quiet
-returns-then-count-eq0-clause-quiet g c = c.get_mapping.ensures.quiet
-
-pub returns-in_err-read_mapped-clause-faults : goal.returns-in_err-read_mapped-clause-faults
-returns-in_err-read_mapped-clause-faults g c =
-    counted_on g.S.Storage.view g.F.BackingDisk.backing c.args.image.now c.get_mapping.new.self c.read_mapped.new.self c.read_mapped.result c.in_err-read_mapped.field-0.0 c.from_residual-in_err-read_mapped.result c.in_ok-mapping.ensures.faults.told
-    c.read_mapped.ensures.faults c.in_err-read_mapped.was c.from_residual-in_err-read_mapped.ensures
+    (c.in_err-read_mapped.ensures.late (mapping_usable c.args.image.now c.get_mapping.new.self c.get_mapping.ensures.step.image c.in_ok-mapping.mapping.image c.in_ok-mapping.ensures.own.0 c.in_ok-mapping.ensures.step.marks first.0))
 
 pub returns-in_err-mapping-clause-met : goal.returns-in_err-mapping-clause-met
 returns-in_err-mapping-clause-met g c = λ none some out sound. subst (λ r. IfErr r (IsMetReadingRange out c.args.offset (c.args.offset + length c.args.bytes.now) c.args.image.now.file.header.fields (known_in g.S.Storage.view c.args.image.now.file))) (sym (refused_is _ c.in_err-mapping.field-0.0 c.from_residual.ensures)) (inl (looking_prepared c.args.image.now out c.in_err-mapping.field-0.0 (c.in_err-mapping.ensures.met out sound)))
@@ -113,10 +87,10 @@ returns-in_err-read_mapped-clause-met g c = λ none some out sound.
     let m = c.in_ok-mapping.mapping in
     let e = c.in_err-read_mapped.field-0.0 in
     let first = then_none (unusable old) (passes (size_of old) c.args.offset n) BeyondSize none in
-    let usable = mapping_usable old mid c.get_mapping.ensures.image m.image c.in_ok-mapping.ensures.own.0 c.in_ok-mapping.ensures.marks first.0 in
+    let usable = mapping_usable old mid c.get_mapping.ensures.step.image m.image c.in_ok-mapping.ensures.own.0 c.in_ok-mapping.ensures.step.marks first.0 in
     let still = ((c.in_ok-mapping.ensures.sees out).answer sound).0 in
     let found = c.in_ok-mapping.ensures.run out sound in
-    let lies : c.args.offset < size_of mid = let s = c.get_mapping.ensures.image.size in let b = fits_below (size_of old) c.args.offset n first.1 some in omega (arith, s, b) in
+    let lies : c.args.offset < size_of mid = let s = c.get_mapping.ensures.step.image.size in let b = fits_below (size_of old) c.args.offset n first.1 some in omega (arith, s, b) in
     let begin : m.offset + 0 ≡ c.args.offset = let own = c.in_ok-mapping.ensures.own.1 in omega (arith, own) in
     let long : length (take c.in_ok-mapping.found c.args.bytes.now) ≡ c.in_ok-mapping.found = grind (arith, common_steps) in
     let whole = subst (λ k. IsFoundWhole view mid k (further_by 0 m.kind) (length (take c.in_ok-mapping.found c.args.bytes.now))) (sym begin)
@@ -126,19 +100,46 @@ returns-in_err-read_mapped-clause-met g c = λ none some out sound.
     (λ outdated. c.in_err-read_mapped.ensures.outdated out still (ap Err outdated) whole)
     (c.in_err-read_mapped.ensures.met usable out still))
 
-pub returns-in_err-mapping-clause-marks : goal.returns-in_err-mapping-clause-marks
-returns-in_err-mapping-clause-marks g c = parts_handed g.S.Storage.view _ c.in_err-mapping.field-0.0 c.args.image.now c.get_mapping.new.self (refused_is _ c.in_err-mapping.field-0.0 c.from_residual.ensures) (in_parts g.S.Storage.view (refused_at_once g.S.Storage.view c.args.image.now c.get_mapping.new.self c.in_err-mapping.field-0.0 c.in_err-mapping.ensures.once_written c.in_err-mapping.ensures.marks))
+pub returns-clause-step : goal.returns-clause-step
+returns-clause-step g c = record {
+  image = search rules;
+  faults = search rules;
+  header = search rules;
+  header_cluster = behind_then c.get_mapping.ensures.step.header_cluster c.read_mapped.ensures.step.header_cluster;
+  marks = parts_answered g.S.Storage.view c.args.image.now c.read_mapped.new.self (c.in_ok-read_mapped.ensures.step.marks ∙ c.in_ok-mapping.ensures.step.marks)
+      (counts_on g.S.Storage.view c.args.image.now c.get_mapping.new.self c.read_mapped.new.self c.in_ok-mapping.ensures.step.once_written.counts c.in_ok-read_mapped.ensures.step.once_written.counts);
+  quiet = written_then g.S.Storage.view c.get_mapping.ensures.step.quiet c.read_mapped.ensures.step.quiet;
+}
 
-pub returns-then-count-eq0-clause-marks : goal.returns-then-count-eq0-clause-marks
-returns-then-count-eq0-clause-marks g c = parts_beyond g.S.Storage.view c.args.image.now c.get_mapping.new.self c.in_ok-mapping.ensures.marks c.in_ok-mapping.ensures.once_written.counts
+pub returns-in_err-read_mapped-clause-step : goal.returns-in_err-read_mapped-clause-step
+returns-in_err-read_mapped-clause-step g c = record {
+  image = search rules;
+  header = search rules;
+  faults = counted_on g.S.Storage.view g.F.BackingDisk.backing c.args.image.now c.get_mapping.new.self c.read_mapped.new.self c.read_mapped.result c.in_err-read_mapped.field-0.0 c.from_residual-in_err-read_mapped.result c.in_ok-mapping.ensures.step.faults.told
+      c.read_mapped.ensures.step.faults c.in_err-read_mapped.was c.from_residual-in_err-read_mapped.ensures;
+  header_cluster = behind_then c.get_mapping.ensures.step.header_cluster c.read_mapped.ensures.step.header_cluster;
+  marks = parts_handed g.S.Storage.view _ c.in_err-read_mapped.field-0.0 c.args.image.now c.read_mapped.new.self (refused_is _ c.in_err-read_mapped.field-0.0 c.from_residual-in_err-read_mapped.ensures)
+      (parts_behind g.S.Storage.view (Some c.in_err-read_mapped.field-0.0) c.args.image.now c.get_mapping.new.self c.read_mapped.new.self c.in_ok-mapping.ensures.step.marks c.in_ok-mapping.ensures.step.once_written.counts
+      (in_parts g.S.Storage.view (refused_at_once g.S.Storage.view c.get_mapping.new.self c.read_mapped.new.self c.in_err-read_mapped.field-0.0 c.in_err-read_mapped.ensures.step.once_written c.in_err-read_mapped.ensures.step.marks)));
+  quiet = written_then g.S.Storage.view c.get_mapping.ensures.step.quiet c.read_mapped.ensures.step.quiet;
+}
 
-pub returns-in_err-read_mapped-clause-marks : goal.returns-in_err-read_mapped-clause-marks
-returns-in_err-read_mapped-clause-marks g c =
-    parts_handed g.S.Storage.view _ c.in_err-read_mapped.field-0.0 c.args.image.now c.read_mapped.new.self (refused_is _ c.in_err-read_mapped.field-0.0 c.from_residual-in_err-read_mapped.ensures)
-    (parts_behind g.S.Storage.view (Some c.in_err-read_mapped.field-0.0) c.args.image.now c.get_mapping.new.self c.read_mapped.new.self c.in_ok-mapping.ensures.marks c.in_ok-mapping.ensures.once_written.counts
-    (in_parts g.S.Storage.view (refused_at_once g.S.Storage.view c.get_mapping.new.self c.read_mapped.new.self c.in_err-read_mapped.field-0.0 c.in_err-read_mapped.ensures.once_written c.in_err-read_mapped.ensures.marks)))
+pub returns-in_err-mapping-clause-step : goal.returns-in_err-mapping-clause-step
+returns-in_err-mapping-clause-step g c = record {
+  image = search rules;
+  faults = search rules;
+  header = search rules;
+  header_cluster = search rules;
+  marks = parts_handed g.S.Storage.view _ c.in_err-mapping.field-0.0 c.args.image.now c.get_mapping.new.self (refused_is _ c.in_err-mapping.field-0.0 c.from_residual.ensures) (in_parts g.S.Storage.view (refused_at_once g.S.Storage.view c.args.image.now c.get_mapping.new.self c.in_err-mapping.field-0.0 c.in_err-mapping.ensures.step.once_written c.in_err-mapping.ensures.step.marks));
+  quiet = c.get_mapping.ensures.step.quiet;
+}
 
-pub returns-clause-marks : goal.returns-clause-marks
-returns-clause-marks g c =
-    parts_answered g.S.Storage.view c.args.image.now c.read_mapped.new.self (c.in_ok-read_mapped.ensures.marks ∙ c.in_ok-mapping.ensures.marks)
-    (counts_on g.S.Storage.view c.args.image.now c.get_mapping.new.self c.read_mapped.new.self c.in_ok-mapping.ensures.once_written.counts c.in_ok-read_mapped.ensures.once_written.counts)
+pub returns-then-count-eq0-clause-step : goal.returns-then-count-eq0-clause-step
+returns-then-count-eq0-clause-step g c = record {
+  image = search rules;
+  faults = search rules;
+  header = search rules;
+  header_cluster = search rules;
+  marks = parts_beyond g.S.Storage.view c.args.image.now c.get_mapping.new.self c.in_ok-mapping.ensures.step.marks c.in_ok-mapping.ensures.step.once_written.counts;
+  quiet = c.get_mapping.ensures.step.quiet;
+}

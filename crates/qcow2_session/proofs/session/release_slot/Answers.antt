@@ -1,4 +1,4 @@
-use Rattle.std.proofs.Common.{sym, subst, [], ◌∷◌, ◌++◌, Option}
+use Rattle.std.proofs.Common.{sym, subst, [], ◌∷◌, ◌++◌, Option, rules}
 use Rattle.qcow2_image.specs.ImageInvariant.{image_abstraction}
 use Rattle.qcow2_session.specs.Sessions.{ReleasesMappings}
 use Rattle.qcow2_image.proofs.Free.{free_places}
@@ -19,11 +19,10 @@ returns-in_default-clause-sees g c = λ out.
     let view = g.S.Storage.view in
     let below = g.F.BackingDisk.backing in
     let old = c.args.image.now in
-    let has = free_places view below in
-    subst (λ (q : Option _). ReleasesMappings view below old old (out ++ q ∷ []) out) (sym c.in_default.is) (last_none (image_abstraction view below) has old out)
+    subst (λ (q : Option _). ReleasesMappings view below old old (out ++ q ∷ []) out) (sym c.in_default.is) (last_none (image_abstraction view below) (free_places view below) old out)
 
-pub returns-in_default-clause-header_cluster : goal.returns-in_default-clause-header_cluster
-returns-in_default-clause-header_cluster g c = behind_none
+pub returns-in_default-clause-step : goal.returns-in_default-clause-step
+returns-in_default-clause-step g c = record { image = search rules; faults = search rules; header_cluster = behind_none; marks = search rules; quiet = search rules }
 
-pub returns-in-Some-clause-quiet : goal.returns-in-Some-clause-quiet
-returns-in-Some-clause-quiet g c = quiet_release g.S.Storage.view c.args.image.now c.release.new.image c.release.ensures.rest
+pub returns-in-Some-clause-step : goal.returns-in-Some-clause-step
+returns-in-Some-clause-step g c = record { image = search rules; faults = search rules; header_cluster = search rules; marks = search rules; quiet = quiet_release g.S.Storage.view c.args.image.now c.release.new.image c.release.ensures.rest }

@@ -76,7 +76,7 @@ loop-command-preserved g c = record {
 }
 
 pub returns-clause-number : goal.returns-clause-number
-returns-clause-number g c = c.discard_all.ensures.image.number ∙ c.loop-command.invariant.keeps.number
+returns-clause-number g c = c.discard_all.ensures.step.image.number ∙ c.loop-command.invariant.keeps.number
 
 pub returns-clause-runs : goal.returns-clause-runs
 returns-clause-runs g c = λ x s stands.
@@ -96,11 +96,10 @@ returns-clause-means g c = λ opened.
     let view = g.S.Storage.view in
     let below = g.F.BackingDisk.backing in
     let old = c.args.image.now in
-    let new = c.discard_all.new.image in
     let before = abstract_of view below old [] in
     let stands = begins before opened.sound (whole view below old [] opened.sound) opened.clean in
     ⊎_elim (λ h. inl h)
-    (λ all. inr (refines_the_disk (image_abstraction view below) old new (map command_of c.args.commands.now) (map reply_of c.loop-command.replies.items) (nothing_since view below g.S.Storage.only_now old) stands all))
+    (λ all. inr (refines_the_disk (image_abstraction view below) old c.discard_all.new.image (map command_of c.args.commands.now) (map reply_of c.loop-command.replies.items) (nothing_since view below g.S.Storage.only_now old) stands all))
     (returns-clause-runs g c before.setting (started before) stands)
 
 pub returns-in_default-clause-maps : goal.returns-in_default-clause-maps
@@ -130,26 +129,24 @@ pub returns-in_default-new-clause-faults : goal.returns-in_default-new-clause-fa
 returns-in_default-new-clause-faults g c = subst (λ l. RunCounts g.S.Storage.view g.F.BackingDisk.backing c.args.image.now c.args.image.now l) (sym c.new-in_default-new.ensures.items) (none_counted g.S.Storage.view g.F.BackingDisk.backing c.args.image.now)
 
 pub returns-clause-faults : goal.returns-clause-faults
-returns-clause-faults g c = run_counts_still g.S.Storage.view g.F.BackingDisk.backing c.args.image.now c.loop-command.image c.discard_all.new.image c.loop-command.replies.items c.loop-command.invariant.faults c.discard_all.ensures.faults
+returns-clause-faults g c = run_counts_still g.S.Storage.view g.F.BackingDisk.backing c.args.image.now c.loop-command.image c.discard_all.new.image c.loop-command.replies.items c.loop-command.invariant.faults c.discard_all.ensures.step.faults
 
 pub returns-clause-tells : goal.returns-clause-tells
 returns-clause-tells g c =
-    let view = g.S.Storage.view in
-    let below = g.F.BackingDisk.backing in
     let all : take c.loop-command.command-index c.args.commands.now ≡ c.args.commands.now = take_all c.loop-command.command-index c.args.commands.now c.loop-command-test.false in
     let told = c.loop-command.invariant.told in
-    inr (subst (λ k. IsToldRun view below c.args.image.now c.discard_all.new.image k c.loop-command.replies.items) all (record {
+    inr (subst (λ k. IsToldRun g.S.Storage.view g.F.BackingDisk.backing c.args.image.now c.discard_all.new.image k c.loop-command.replies.items) all (record {
       points = told.points;
       last = record { image = c.loop-command.image; prepared = c.loop-command.slots.prepared.items; found = mappings_in c.loop-command.slots.mappings.items };
       along = told.along;
       steps = λ x s stands. let so_far = told.so_far x s stands in (so_far.end, so_far.steps);
       leaves = c.discard_all.ensures.sees;
-      keeps = image_itself c.discard_all.ensures.image;
-      failed = c.discard_all.ensures.marks;
+      keeps = image_itself c.discard_all.ensures.step.image;
+      failed = c.discard_all.ensures.step.marks;
     }))
 
 pub returns-clause-header_cluster : goal.returns-clause-header_cluster
-returns-clause-header_cluster g c = behind_then c.loop-command.invariant.behind c.discard_all.ensures.header_cluster
+returns-clause-header_cluster g c = behind_then c.loop-command.invariant.behind c.discard_all.ensures.step.header_cluster
 
 pub returns-in_default-clause-header_cluster : goal.returns-in_default-clause-header_cluster
 returns-in_default-clause-header_cluster g c = behind_none
@@ -160,4 +157,4 @@ returns-in_default-new-clause-header_cluster g c = behind_none
 pub returns-clause-quiet : goal.returns-clause-quiet
 returns-clause-quiet g c = λ reading.
     let told = c.loop-command.invariant.told in
-    written_then g.S.Storage.view (along_quietly g.S.Storage.view g.F.BackingDisk.backing (first_point c.args.image.now) (take c.loop-command.command-index c.args.commands.now) c.loop-command.replies.items told.points _ told.along reading existing_none) c.discard_all.ensures.quiet
+    written_then g.S.Storage.view (along_quietly g.S.Storage.view g.F.BackingDisk.backing (first_point c.args.image.now) (take c.loop-command.command-index c.args.commands.now) c.loop-command.replies.items told.points _ told.along reading existing_none) c.discard_all.ensures.step.quiet

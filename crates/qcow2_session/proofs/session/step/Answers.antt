@@ -267,10 +267,10 @@ pub returns-in-Size-clause-header_cluster : goal.returns-in-Size-clause-header_c
 returns-in-Size-clause-header_cluster g c = behind_none
 
 pub returns-in-Ok-clause-quiet : goal.returns-in-Ok-clause-quiet
-returns-in-Ok-clause-quiet g c = λ reading existing. record { reading = c.read.ensures.image.writable ∙ reading; quiet = c.read.ensures.quiet; existing = existing }
+returns-in-Ok-clause-quiet g c = λ reading existing. record { reading = c.read.ensures.step.image.writable ∙ reading; quiet = c.read.ensures.step.quiet; existing = existing }
 
 pub returns-in-Err-clause-quiet : goal.returns-in-Err-clause-quiet
-returns-in-Err-clause-quiet g c = λ reading existing. record { reading = c.read.ensures.image.writable ∙ reading; quiet = c.read.ensures.quiet; existing = existing }
+returns-in-Err-clause-quiet g c = λ reading existing. record { reading = c.read.ensures.step.image.writable ∙ reading; quiet = c.read.ensures.step.quiet; existing = existing }
 
 pub returns-in-Ok-write-clause-quiet : goal.returns-in-Ok-write-clause-quiet
 returns-in-Ok-write-clause-quiet g c = λ reading existing. record { reading = c.write.ensures.image.writable ∙ reading; quiet = c.write.ensures.quiet reading; existing = existing }
@@ -279,16 +279,16 @@ pub returns-in-Err-write-clause-quiet : goal.returns-in-Err-write-clause-quiet
 returns-in-Err-write-clause-quiet g c = λ reading existing. record { reading = c.write.ensures.image.writable ∙ reading; quiet = c.write.ensures.quiet reading; existing = existing }
 
 pub returns-in-Flush-clause-quiet : goal.returns-in-Flush-clause-quiet
-returns-in-Flush-clause-quiet g c = λ reading existing. record { reading = c.flush.ensures.image.writable ∙ reading; quiet = c.flush.ensures.quiet reading; existing = existing }
+returns-in-Flush-clause-quiet g c = λ reading existing. record { reading = c.flush.ensures.step.image.writable ∙ reading; quiet = c.flush.ensures.quiet reading; existing = existing }
 
 pub returns-in-ReadMapped-clause-quiet : goal.returns-in-ReadMapped-clause-quiet
-returns-in-ReadMapped-clause-quiet g c = λ reading existing. record { reading = c.read_mapped.ensures.image.writable ∙ reading; quiet = c.read_mapped.ensures.quiet; existing = existing }
+returns-in-ReadMapped-clause-quiet g c = λ reading existing. record { reading = c.read_mapped.ensures.step.image.writable ∙ reading; quiet = c.read_mapped.ensures.quiet; existing = existing }
 
 pub returns-in-ReadvSpecial-clause-quiet : goal.returns-in-ReadvSpecial-clause-quiet
-returns-in-ReadvSpecial-clause-quiet g c = λ reading existing. record { reading = c.readv_special.ensures.image.writable ∙ reading; quiet = c.readv_special.ensures.quiet; existing = existing }
+returns-in-ReadvSpecial-clause-quiet g c = λ reading existing. record { reading = c.readv_special.ensures.step.image.writable ∙ reading; quiet = c.readv_special.ensures.quiet; existing = existing }
 
 pub returns-in-TryReadvSpecial-clause-quiet : goal.returns-in-TryReadvSpecial-clause-quiet
-returns-in-TryReadvSpecial-clause-quiet g c = λ reading existing. record { reading = c.try_readv_special.ensures.image.writable ∙ reading; quiet = c.try_readv_special.ensures.quiet; existing = existing }
+returns-in-TryReadvSpecial-clause-quiet g c = λ reading existing. record { reading = c.try_readv_special.ensures.step.image.writable ∙ reading; quiet = c.try_readv_special.ensures.quiet; existing = existing }
 
 pub returns-in-Size-clause-quiet : goal.returns-in-Size-clause-quiet
 returns-in-Size-clause-quiet g c = λ reading existing. record { reading = reading; quiet = reads_none g.S.Storage.view c.args.image.now; existing = existing }
@@ -327,10 +327,10 @@ pub returns-in-ResizeShrink-clause-quiet : goal.returns-in-ResizeShrink-clause-q
 returns-in-ResizeShrink-clause-quiet g c = λ reading existing. quiet_left g.S.Storage.view c.args.image.now c.shrink.new.image c.args.slots.now.prepared.items (c.shrink.ensures.reading reading) reading existing
 
 pub returns-in-Ok-clause-marks : goal.returns-in-Ok-clause-marks
-returns-in-Ok-clause-marks g c = subst (λ q. MarksBy g.S.Storage.view c.args.image.now c.read.new.image q (None)) (sym c.in-Read.is) c.in-Ok.ensures.marks
+returns-in-Ok-clause-marks g c = subst (λ q. MarksBy g.S.Storage.view c.args.image.now c.read.new.image q (None)) (sym c.in-Read.is) c.in-Ok.ensures.step.marks
 
 pub returns-in-Err-clause-marks : goal.returns-in-Err-clause-marks
-returns-in-Err-clause-marks g c = subst (λ q. MarksBy g.S.Storage.view c.args.image.now c.read.new.image q (Some c.in-Err.refusal)) (sym c.in-Read.is) c.in-Err.ensures.marks
+returns-in-Err-clause-marks g c = subst (λ q. MarksBy g.S.Storage.view c.args.image.now c.read.new.image q (Some c.in-Err.refusal)) (sym c.in-Read.is) c.in-Err.ensures.step.marks
 
 pub returns-in-Ok-write-clause-marks : goal.returns-in-Ok-write-clause-marks
 returns-in-Ok-write-clause-marks g c = subst (λ q. MarksBy g.S.Storage.view c.args.image.now c.write.new.image q (None)) (sym c.in-Write.is) c.in-Ok-write.ensures.marks
@@ -339,43 +339,43 @@ pub returns-in-Err-write-clause-marks : goal.returns-in-Err-write-clause-marks
 returns-in-Err-write-clause-marks g c = subst (λ q. MarksBy g.S.Storage.view c.args.image.now c.write.new.image q (Some c.in-Err-write.refusal)) (sym c.in-Write.is) c.in-Err-write.ensures.marks
 
 pub returns-in-GetMapping-clause-marks : goal.returns-in-GetMapping-clause-marks
-returns-in-GetMapping-clause-marks g c = subst (λ q. MarksBy g.S.Storage.view c.args.image.now c.get_mapping.new.image q (refusal_in c.get_mapping.result)) (sym c.in-GetMapping.is) c.get_mapping.ensures.marks
+returns-in-GetMapping-clause-marks g c = subst (λ q. MarksBy g.S.Storage.view c.args.image.now c.get_mapping.new.image q (refusal_in c.get_mapping.result)) (sym c.in-GetMapping.is) c.get_mapping.ensures.step.marks
 
 pub returns-in-ReadMapped-clause-marks : goal.returns-in-ReadMapped-clause-marks
-returns-in-ReadMapped-clause-marks g c = subst (λ q. MarksBy g.S.Storage.view c.args.image.now c.read_mapped.new.image q (refusal_in c.read_mapped.result)) (sym c.in-ReadMapped.is) c.read_mapped.ensures.marks
+returns-in-ReadMapped-clause-marks g c = subst (λ q. MarksBy g.S.Storage.view c.args.image.now c.read_mapped.new.image q (refusal_in c.read_mapped.result)) (sym c.in-ReadMapped.is) c.read_mapped.ensures.step.marks
 
 pub returns-in-PrepareDataMapping-clause-marks : goal.returns-in-PrepareDataMapping-clause-marks
-returns-in-PrepareDataMapping-clause-marks g c = subst (λ q. MarksBy g.S.Storage.view c.args.image.now c.prepare.new.image q (refusal_in c.prepare.result)) (sym c.in-PrepareDataMapping.is) c.prepare.ensures.marks
+returns-in-PrepareDataMapping-clause-marks g c = subst (λ q. MarksBy g.S.Storage.view c.args.image.now c.prepare.new.image q (refusal_in c.prepare.result)) (sym c.in-PrepareDataMapping.is) c.prepare.ensures.step.marks
 
 pub returns-in-WriteMapped-clause-marks : goal.returns-in-WriteMapped-clause-marks
-returns-in-WriteMapped-clause-marks g c = subst (λ q. MarksBy g.S.Storage.view c.args.image.now c.write_mapped.new.image q (refusal_in c.write_mapped.result)) (sym c.in-WriteMapped.is) c.write_mapped.ensures.marks
+returns-in-WriteMapped-clause-marks g c = subst (λ q. MarksBy g.S.Storage.view c.args.image.now c.write_mapped.new.image q (refusal_in c.write_mapped.result)) (sym c.in-WriteMapped.is) c.write_mapped.ensures.step.marks
 
 pub returns-in-CommitDataMapping-clause-marks : goal.returns-in-CommitDataMapping-clause-marks
-returns-in-CommitDataMapping-clause-marks g c = subst (λ q. MarksBy g.S.Storage.view c.args.image.now c.commit.new.image q (refusal_in c.commit.result)) (sym c.in-CommitDataMapping.is) c.commit.ensures.marks
+returns-in-CommitDataMapping-clause-marks g c = subst (λ q. MarksBy g.S.Storage.view c.args.image.now c.commit.new.image q (refusal_in c.commit.result)) (sym c.in-CommitDataMapping.is) c.commit.ensures.step.marks
 
 pub returns-in-DiscardDataMapping-clause-marks : goal.returns-in-DiscardDataMapping-clause-marks
-returns-in-DiscardDataMapping-clause-marks g c = subst (λ q. MarksBy g.S.Storage.view c.args.image.now c.discard.new.image q (refusal_in c.discard.result)) (sym c.in-DiscardDataMapping.is) c.discard.ensures.marks
+returns-in-DiscardDataMapping-clause-marks g c = subst (λ q. MarksBy g.S.Storage.view c.args.image.now c.discard.new.image q (refusal_in c.discard.result)) (sym c.in-DiscardDataMapping.is) c.discard.ensures.step.marks
 
 pub returns-in-EnsureZeroMapping-clause-marks : goal.returns-in-EnsureZeroMapping-clause-marks
-returns-in-EnsureZeroMapping-clause-marks g c = subst (λ q. MarksBy g.S.Storage.view c.args.image.now c.ensure_zero.new.image q (refusal_in c.ensure_zero.result)) (sym c.in-EnsureZeroMapping.is) c.ensure_zero.ensures.marks
+returns-in-EnsureZeroMapping-clause-marks g c = subst (λ q. MarksBy g.S.Storage.view c.args.image.now c.ensure_zero.new.image q (refusal_in c.ensure_zero.result)) (sym c.in-EnsureZeroMapping.is) c.ensure_zero.ensures.step.marks
 
 pub returns-in-DiscardToZero-clause-marks : goal.returns-in-DiscardToZero-clause-marks
-returns-in-DiscardToZero-clause-marks g c = subst (λ q. MarksBy g.S.Storage.view c.args.image.now c.discard_to_zero.new.image q (refusal_in c.discard_to_zero.result)) (sym c.in-DiscardToZero.is) c.discard_to_zero.ensures.marks
+returns-in-DiscardToZero-clause-marks g c = subst (λ q. MarksBy g.S.Storage.view c.args.image.now c.discard_to_zero.new.image q (refusal_in c.discard_to_zero.result)) (sym c.in-DiscardToZero.is) c.discard_to_zero.ensures.step.marks
 
 pub returns-in-DiscardToAny-clause-marks : goal.returns-in-DiscardToAny-clause-marks
-returns-in-DiscardToAny-clause-marks g c = subst (λ q. MarksBy g.S.Storage.view c.args.image.now c.discard_to_any.new.image q (refusal_in c.discard_to_any.result)) (sym c.in-DiscardToAny.is) c.discard_to_any.ensures.marks
+returns-in-DiscardToAny-clause-marks g c = subst (λ q. MarksBy g.S.Storage.view c.args.image.now c.discard_to_any.new.image q (refusal_in c.discard_to_any.result)) (sym c.in-DiscardToAny.is) c.discard_to_any.ensures.step.marks
 
 pub returns-in-DiscardToBacking-clause-marks : goal.returns-in-DiscardToBacking-clause-marks
-returns-in-DiscardToBacking-clause-marks g c = subst (λ q. MarksBy g.S.Storage.view c.args.image.now c.discard_to_backing.new.image q (refusal_in c.discard_to_backing.result)) (sym c.in-DiscardToBacking.is) c.discard_to_backing.ensures.marks
+returns-in-DiscardToBacking-clause-marks g c = subst (λ q. MarksBy g.S.Storage.view c.args.image.now c.discard_to_backing.new.image q (refusal_in c.discard_to_backing.result)) (sym c.in-DiscardToBacking.is) c.discard_to_backing.ensures.step.marks
 
 pub returns-in-ReadvSpecial-clause-marks : goal.returns-in-ReadvSpecial-clause-marks
-returns-in-ReadvSpecial-clause-marks g c = subst (λ q. MarksBy g.S.Storage.view c.args.image.now c.readv_special.new.image q (refusal_in c.readv_special.result)) (sym c.in-ReadvSpecial.is) c.readv_special.ensures.marks
+returns-in-ReadvSpecial-clause-marks g c = subst (λ q. MarksBy g.S.Storage.view c.args.image.now c.readv_special.new.image q (refusal_in c.readv_special.result)) (sym c.in-ReadvSpecial.is) c.readv_special.ensures.step.marks
 
 pub returns-in-TryReadvSpecial-clause-marks : goal.returns-in-TryReadvSpecial-clause-marks
-returns-in-TryReadvSpecial-clause-marks g c = subst (λ q. MarksBy g.S.Storage.view c.args.image.now c.try_readv_special.new.image q (refusal_in c.try_readv_special.result)) (sym c.in-TryReadvSpecial.is) c.try_readv_special.ensures.marks
+returns-in-TryReadvSpecial-clause-marks g c = subst (λ q. MarksBy g.S.Storage.view c.args.image.now c.try_readv_special.new.image q (refusal_in c.try_readv_special.result)) (sym c.in-TryReadvSpecial.is) c.try_readv_special.ensures.step.marks
 
 pub returns-in-Flush-clause-marks : goal.returns-in-Flush-clause-marks
-returns-in-Flush-clause-marks g c = subst (λ q. MarksBy g.S.Storage.view c.args.image.now c.flush.new.image q (refusal_in c.flush.result)) (sym c.in-Flush.is) c.flush.ensures.marks
+returns-in-Flush-clause-marks g c = subst (λ q. MarksBy g.S.Storage.view c.args.image.now c.flush.new.image q (refusal_in c.flush.result)) (sym c.in-Flush.is) c.flush.ensures.step.marks
 
 pub returns-in-ResizeGrow-clause-marks : goal.returns-in-ResizeGrow-clause-marks
 returns-in-ResizeGrow-clause-marks g c = subst (λ q. MarksBy g.S.Storage.view c.args.image.now c.grow.new.image q (refusal_in c.grow.result)) (sym c.in-ResizeGrow.is) c.grow.ensures.marks

@@ -34,14 +34,14 @@ returns-in_default-clause-sees g c = λ out. refuses_if (λ same. (c.loop-done.i
 
 pub loop-done-preserved : goal.loop-done-preserved
 loop-done-preserved g c = record {
-  behind = behind_then c.loop-done.invariant.behind c.write_some-in-loop-done.ensures.header_cluster;
-  faults = faults_then g.S.Storage.view g.F.BackingDisk.backing c.args.image.now c.loop-done.image c.write_some-in-loop-done.new.image c.loop-done.invariant.faults c.in-Ok-write_some.ensures.faults.told;
+  behind = behind_then c.loop-done.invariant.behind c.write_some-in-loop-done.ensures.step.header_cluster;
+  faults = faults_then g.S.Storage.view g.F.BackingDisk.backing c.args.image.now c.loop-done.image c.write_some-in-loop-done.new.image c.loop-done.invariant.faults c.in-Ok-write_some.ensures.step.faults.told;
   works = c.in-Ok-write_some.ensures.end.0 ∙ c.loop-done.invariant.works;
-  counts = counts_on g.S.Storage.view c.args.image.now c.loop-done.image c.write_some-in-loop-done.new.image c.loop-done.invariant.counts c.in-Ok-write_some.ensures.marks.counts;
+  counts = counts_on g.S.Storage.view c.args.image.now c.loop-done.image c.write_some-in-loop-done.new.image c.loop-done.invariant.counts c.in-Ok-write_some.ensures.step.marks.counts;
   within = grind (arith, common_steps);
   some_done = λ some. let first = c.loop-done.invariant.some_done some in omega (arith, first);
-  image = same_then c.loop-done.invariant.image c.write_some-in-loop-done.ensures.image;
-  quiet = λ reading. written_then g.S.Storage.view (c.loop-done.invariant.quiet reading) (c.write_some-in-loop-done.ensures.quiet (c.loop-done.invariant.image.writable ∙ reading));
+  image = same_then c.loop-done.invariant.image c.write_some-in-loop-done.ensures.step.image;
+  quiet = λ reading. written_then g.S.Storage.view (c.loop-done.invariant.quiet reading) (c.write_some-in-loop-done.ensures.step.quiet (c.loop-done.invariant.image.writable ∙ reading));
   ends = λ out sound more.
       let view = g.S.Storage.view in
       let below = g.F.BackingDisk.backing in
@@ -50,26 +50,22 @@ loop-done-preserved g c = record {
       ends_on c.args.image.now c.loop-done.image (ap (λ (x : Setting). x.cluster_size) ((c.loop-done.invariant.written out).acts.works sound).setting) c.args.offset c.loop-done.done c.in-Ok-write_some.count c.in-Some.at c.in-Some.ensures.1
       ((rw (take_rest c.args.bytes.now c.loop-done.done) at (c.in-Ok-write_some.ensures.ends out still.0)) rest);
   copied = λ some out sound.
-      let view = g.S.Storage.view in
-      let below = g.F.BackingDisk.backing in
       let still = ((c.loop-done.invariant.written out).answer sound).0 in
       let more : 0 < length (drop c.loop-done.done c.args.bytes.now) = grind (arith, common_steps) in
       let part = rw (take_rest c.args.bytes.now c.loop-done.done) at (c.in-Ok-write_some.ensures.sees out) in
-      copied_on view below c.args.image.now c.loop-done.image c.write_some-in-loop-done.new.image out still (part.answer still).0 c.args.offset c.in-Some.at c.loop-done.done c.in-Ok-write_some.count c.args.bytes.now c.loop-done.invariant.within c.in-Some.ensures.1
+      copied_on g.S.Storage.view g.F.BackingDisk.backing c.args.image.now c.loop-done.image c.write_some-in-loop-done.new.image out still (part.answer still).0 c.args.offset c.in-Some.at c.loop-done.done c.in-Ok-write_some.count c.args.bytes.now c.loop-done.invariant.within c.in-Some.ensures.1
       c.loop-done.invariant.written (c.loop-done.invariant.some_done some) (part.acts.works still) (c.loop-done.invariant.copied some out sound) ((rw (take_rest c.args.bytes.now c.loop-done.done) at (c.in-Ok-write_some.ensures.copied)) more out still);
   end = c.loop-done.invariant.end;
   heeded = λ none out sound.
-      let view = g.S.Storage.view in
-      let below = g.F.BackingDisk.backing in
       let old = c.args.image.now in
       let mid = c.loop-done.image in
       let n = length c.args.bytes.now in
       let rest = length (drop c.loop-done.done c.args.bytes.now) in
       let so_far = c.loop-done.invariant.written out in
       let still = (so_far.answer sound).0 in
-      let heeds = (rw (take_rest c.args.bytes.now c.loop-done.done) at c.in-Ok-write_some.ensures.taken)
-      (part_prepares old mid c.loop-done.invariant.image c.args.offset n c.in-Some.at rest (grind (arith, common_steps)) (grind (arith, common_steps)) still.works (omega (arith, c.loop-done-test.true)) none) out still in
-      heeded_more view below old out c.args.offset c.args.bytes.now c.loop-done.done c.in-Ok-write_some.count c.in-Some.at mid c.in-Some.ensures.1 (ap (λ (x : Setting). x.cluster_size) (so_far.acts.works sound).setting) c.loop-done.invariant.written
+      let heeds = ((rw (take_rest c.args.bytes.now c.loop-done.done) at c.in-Ok-write_some.ensures.sound)
+      (part_prepares old mid c.loop-done.invariant.image c.args.offset n c.in-Some.at rest (grind (arith, common_steps)) (grind (arith, common_steps)) still.works (omega (arith, c.loop-done-test.true)) none) out still).taken in
+      heeded_more g.S.Storage.view g.F.BackingDisk.backing old out c.args.offset c.args.bytes.now c.loop-done.done c.in-Ok-write_some.count c.in-Some.at mid c.in-Some.ensures.1 (ap (λ (x : Setting). x.cluster_size) (so_far.acts.works sound).setting) c.loop-done.invariant.written
       (never_first c.loop-done.done (c.loop-done.invariant.some_done (omega (arith, c.loop-done-test.true))))
       (grind (arith, common_steps)) heeds (c.loop-done.invariant.heeded none out sound);
   freeing = λ out sound. no_more_then c.args.image.now c.loop-done.image c.write_some-in-loop-done.new.image (c.loop-done.invariant.freeing out sound) (c.in-Ok-write_some.ensures.freeing out ((c.loop-done.invariant.written out).answer sound).0);
@@ -88,10 +84,8 @@ returns-in-Err-write_some-clause-ends g c = λ out sound some. (c.loop-done-test
 
 pub returns-clause-sees : goal.returns-clause-sees
 returns-clause-sees g c = λ out.
-    let view = g.S.Storage.view in
-    let below = g.F.BackingDisk.backing in
     let all : take c.loop-done.done c.args.bytes.now ≡ c.args.bytes.now = grind (arith, common_steps) in
-    subst (λ b. Writes view below c.args.image.now c.loop-done.image c.args.offset b (Ok tt)) all c.loop-done.invariant.written out
+    subst (λ b. Writes g.S.Storage.view g.F.BackingDisk.backing c.args.image.now c.loop-done.image c.args.offset b (Ok tt)) all c.loop-done.invariant.written out
 
 pub returns-in_default-clause-beyond : goal.returns-in_default-clause-beyond
 returns-in_default-clause-beyond g c = λ is. absurd (c.in_default.ensures (omega (arith, c.loop-done.invariant.end, c.loop-done-test.true)))
@@ -130,7 +124,7 @@ returns-in-Err-write_some-clause-late g c = λ none.
 
 pub returns-in-Err-clause-taken : goal.returns-in-Err-clause-taken
 returns-in-Err-clause-taken g c = λ none out sound is.
-    let under = c.in-Err.ensures.taken none out sound is in
+    let under = (c.in-Err.ensures.sound none out sound).taken is in
     let h = c.args.image.now.file.header.fields in
     part_under h h refl c.args.offset (c.args.offset + length c.args.bytes.now) c.args.offset out (omega arith) (omega (arith, under.0)) (under_taken under.1)
 
@@ -146,15 +140,15 @@ returns-in-Err-write_some-clause-taken g c = λ none out sound is.
     let long : c.in-Some.at + rest ≡ c.args.offset + n = grind (arith, common_steps) in
     let so_far = c.loop-done.invariant.written out in
     let still = (so_far.answer sound).0 in
-    let under = (rw (take_rest c.args.bytes.now c.loop-done.done) at c.in-Err-write_some.ensures.taken)
-    (part_prepares old mid c.loop-done.invariant.image c.args.offset n c.in-Some.at rest (grind (arith, common_steps)) (grind (arith, common_steps)) still.works (omega (arith, c.loop-done-test.true)) none) out still is in
+    let under = ((rw (take_rest c.args.bytes.now c.loop-done.done) at c.in-Err-write_some.ensures.sound)
+    (part_prepares old mid c.loop-done.invariant.image c.args.offset n c.in-Some.at rest (grind (arith, common_steps)) (grind (arith, common_steps)) still.works (omega (arith, c.loop-done-test.true)) none) out still).taken is in
     part_under old.file.header.fields mid.file.header.fields (ap (λ (x : Setting). x.cluster_size) (so_far.acts.works sound).setting) c.args.offset (c.args.offset + n) c.in-Some.at out (grind (arith, common_steps)) (omega (arith, under.0, long)) (under_taken under.1)
 
 pub returns-in-Err-write_some-clause-header_cluster : goal.returns-in-Err-write_some-clause-header_cluster
-returns-in-Err-write_some-clause-header_cluster g c = behind_then c.loop-done.invariant.behind c.write_some-in-loop-done.ensures.header_cluster
+returns-in-Err-write_some-clause-header_cluster g c = behind_then c.loop-done.invariant.behind c.write_some-in-loop-done.ensures.step.header_cluster
 
 pub returns-in-Err-write_some-clause-quiet : goal.returns-in-Err-write_some-clause-quiet
-returns-in-Err-write_some-clause-quiet g c = λ reading. written_then g.S.Storage.view (c.loop-done.invariant.quiet reading) (c.write_some-in-loop-done.ensures.quiet (c.loop-done.invariant.image.writable ∙ reading))
+returns-in-Err-write_some-clause-quiet g c = λ reading. written_then g.S.Storage.view (c.loop-done.invariant.quiet reading) (c.write_some-in-loop-done.ensures.step.quiet (c.loop-done.invariant.image.writable ∙ reading))
 
 pub returns-clause-copied : goal.returns-clause-copied
 returns-clause-copied g c = λ some out sound.
@@ -163,7 +157,7 @@ returns-clause-copied g c = λ some out sound.
 
 pub returns-in-Err-clause-met : goal.returns-in-Err-clause-met
 returns-in-Err-clause-met g c = λ none out sound.
-    taking_kept (λ is. is) (λ far. stops_first g.S.Storage.view g.F.BackingDisk.backing c.args.image.now (λ at n before. NeedsFarEntry before at) c.args.offset c.args.bytes.now far) c.in-Err.refusal (returns-in-Err-clause-taken g c none out sound) (c.in-Err.ensures.met none out sound)
+    taking_kept (λ is. is) (λ far. stops_first g.S.Storage.view g.F.BackingDisk.backing c.args.image.now (λ at n before. NeedsFarEntry before at) c.args.offset c.args.bytes.now far) c.in-Err.refusal (returns-in-Err-clause-taken g c none out sound) ((c.in-Err.ensures.sound none out sound).met)
 
 pub returns-in_default-clause-met : goal.returns-in_default-clause-met
 returns-in_default-clause-met g c = λ none out sound. absurd (c.in_default.ensures (omega (arith, c.loop-done.invariant.end, c.loop-done-test.true)))
@@ -176,7 +170,6 @@ returns-in-Err-write_some-clause-met g c =
     let some : 0 < length c.args.bytes.now = omega (arith, c.loop-done-test.true) in
     λ none out sound.
     let view = g.S.Storage.view in
-    let below = g.F.BackingDisk.backing in
     let old = c.args.image.now in
     let mid = c.loop-done.image in
     let n = length c.args.bytes.now in
@@ -190,25 +183,25 @@ returns-in-Err-write_some-clause-met g c =
     let same : cluster_size_of new ≡ cluster_size_of old = ap (λ (x : Setting). x.cluster_size) ((part.acts.works still).setting ∙ (so_far.acts.works sound).setting) in
     let begins : c.in-Some.at % cluster_size_of new ≡ 0 = ap (λ size. c.in-Some.at % size) same ∙ ap (λ o. o % cluster_size_of old) c.in-Some.ensures.1 ∙ c.loop-done.invariant.ends out sound c.loop-done-test.true in
     taking_kept (compressed_in_part new.file.header.fields (known_in view new.file) c.args.offset n done c.in-Some.at rest c.in-Some.ensures.1 long begins)
-    (λ far. stops_behind view below old (λ at k before. NeedsFarEntry before at) c.args.offset c.args.bytes.now done c.in-Some.at mid c.in-Some.ensures.1 c.loop-done.invariant.written (never_first c.loop-done.done (c.loop-done.invariant.some_done some)) far) c.in-Err-write_some.refusal (returns-in-Err-write_some-clause-taken g c none out sound)
-    ((rw (take_rest c.args.bytes.now done) at c.in-Err-write_some.ensures.met)
-    (part_prepares old mid c.loop-done.invariant.image c.args.offset n c.in-Some.at rest from upto still.works some none) out still)
+    (λ far. stops_behind view g.F.BackingDisk.backing old (λ at k before. NeedsFarEntry before at) c.args.offset c.args.bytes.now done c.in-Some.at mid c.in-Some.ensures.1 c.loop-done.invariant.written (never_first c.loop-done.done (c.loop-done.invariant.some_done some)) far) c.in-Err-write_some.refusal (returns-in-Err-write_some-clause-taken g c none out sound)
+    (((rw (take_rest c.args.bytes.now done) at c.in-Err-write_some.ensures.sound)
+    (part_prepares old mid c.loop-done.invariant.image c.args.offset n c.in-Some.at rest from upto still.works some none) out still).met)
 
 pub loop-done-init : goal.loop-done-init
 loop-done-init g c = record {
-  faults = c.in-Ok.ensures.faults.told;
-  behind = c.write_some.ensures.header_cluster;
+  faults = c.in-Ok.ensures.step.faults.told;
+  behind = c.write_some.ensures.step.header_cluster;
   works = c.in-Ok.ensures.end.0;
-  counts = c.in-Ok.ensures.marks.counts;
+  counts = c.in-Ok.ensures.step.marks.counts;
   within = c.in-Ok.ensures.within;
   some_done = λ some. c.in-Ok.ensures.some some;
-  image = c.write_some.ensures.image;
+  image = c.write_some.ensures.step.image;
   ends = λ out sound more. c.in-Ok.ensures.ends out sound more;
   end = c.in-Ok.ensures.end.1;
-  heeded = λ none out sound. heeded_first g.S.Storage.view g.F.BackingDisk.backing c.args.image.now out c.args.offset c.args.bytes.now c.in-Ok.count c.in-Ok.ensures.within (c.in-Ok.ensures.taken none out sound);
+  heeded = λ none out sound. heeded_first g.S.Storage.view g.F.BackingDisk.backing c.args.image.now out c.args.offset c.args.bytes.now c.in-Ok.count c.in-Ok.ensures.within ((c.in-Ok.ensures.sound none out sound).taken);
   copied = λ some out sound. c.in-Ok.ensures.copied some out sound;
   freeing = λ out sound. c.in-Ok.ensures.freeing out sound;
-  quiet = c.write_some.ensures.quiet;
+  quiet = c.write_some.ensures.step.quiet;
   written = λ out. c.in-Ok.ensures.sees out;
 }
 
@@ -220,12 +213,12 @@ returns-clause-freeing g c = λ out sound. c.loop-done.invariant.freeing out sou
 pub returns-in-Err-clause-limit : goal.returns-in-Err-clause-limit
 returns-in-Err-clause-limit g c = λ none out sound is.
     let view = g.S.Storage.view in
-    stops_first view g.F.BackingDisk.backing c.args.image.now (λ at n before. LacksPlaceFor view at n before c.write_some.new.image) c.args.offset c.args.bytes.now (c.in-Err.ensures.limit none out sound is)
+    stops_first view g.F.BackingDisk.backing c.args.image.now (λ at n before. LacksPlaceFor view at n before c.write_some.new.image) c.args.offset c.args.bytes.now ((c.in-Err.ensures.sound none out sound).limit is)
 
 pub returns-in-Err-clause-taken_part : goal.returns-in-Err-clause-taken_part
 returns-in-Err-clause-taken_part g c = λ none out sound.
     let view = g.S.Storage.view in (
-      λ is. stops_first view g.F.BackingDisk.backing c.args.image.now (λ at n before. IsTaken before.file.header.fields (known_in view before.file) at n out) c.args.offset c.args.bytes.now (c.in-Err.ensures.taken none out sound is).1,
+      λ is. stops_first view g.F.BackingDisk.backing c.args.image.now (λ at n before. IsTaken before.file.header.fields (known_in view before.file) at n out) c.args.offset c.args.bytes.now ((c.in-Err.ensures.sound none out sound).taken is).1,
       λ i lt. absurd (omega (arith, lt)),
     )
 
@@ -240,14 +233,13 @@ returns-in-Err-write_some-clause-limit g c = λ none out sound is.
     let view = g.S.Storage.view in
     let old = c.args.image.now in
     let mid = c.loop-done.image in
-    let new = c.write_some-in-loop-done.new.image in
     let n = length c.args.bytes.now in
     let rest = length (drop c.loop-done.done c.args.bytes.now) in
     let still = ((c.loop-done.invariant.written out).answer sound).0 in
-    stops_behind view g.F.BackingDisk.backing old (λ at k before. LacksPlaceFor view at k before new) c.args.offset c.args.bytes.now c.loop-done.done c.in-Some.at mid c.in-Some.ensures.1 c.loop-done.invariant.written
+    stops_behind view g.F.BackingDisk.backing old (λ at k before. LacksPlaceFor view at k before c.write_some-in-loop-done.new.image) c.args.offset c.args.bytes.now c.loop-done.done c.in-Some.at mid c.in-Some.ensures.1 c.loop-done.invariant.written
     (never_first c.loop-done.done (c.loop-done.invariant.some_done (omega (arith, c.loop-done-test.true))))
-    ((rw (take_rest c.args.bytes.now c.loop-done.done) at c.in-Err-write_some.ensures.limit)
-    (part_prepares old mid c.loop-done.invariant.image c.args.offset n c.in-Some.at rest (grind (arith, common_steps)) (grind (arith, common_steps)) still.works (omega (arith, c.loop-done-test.true)) none) out still is)
+    (((rw (take_rest c.args.bytes.now c.loop-done.done) at c.in-Err-write_some.ensures.sound)
+    (part_prepares old mid c.loop-done.invariant.image c.args.offset n c.in-Some.at rest (grind (arith, common_steps)) (grind (arith, common_steps)) still.works (omega (arith, c.loop-done-test.true)) none) out still).limit is)
 
 pub returns-in-Err-write_some-clause-taken_part : goal.returns-in-Err-write_some-clause-taken_part
 returns-in-Err-write_some-clause-taken_part g c = λ none out sound.
@@ -259,8 +251,8 @@ returns-in-Err-write_some-clause-taken_part g c = λ none out sound.
     let still = ((c.loop-done.invariant.written out).answer sound).0 in (
       λ is. stops_behind view g.F.BackingDisk.backing old (λ at k before. IsTaken before.file.header.fields (known_in view before.file) at k out) c.args.offset c.args.bytes.now c.loop-done.done c.in-Some.at mid c.in-Some.ensures.1 c.loop-done.invariant.written
           (never_first c.loop-done.done (c.loop-done.invariant.some_done (omega (arith, c.loop-done-test.true))))
-          ((rw (take_rest c.args.bytes.now c.loop-done.done) at c.in-Err-write_some.ensures.taken)
-          (part_prepares old mid c.loop-done.invariant.image c.args.offset n c.in-Some.at rest (grind (arith, common_steps)) (grind (arith, common_steps)) still.works (omega (arith, c.loop-done-test.true)) none) out still is).1,
+          (((rw (take_rest c.args.bytes.now c.loop-done.done) at c.in-Err-write_some.ensures.sound)
+          (part_prepares old mid c.loop-done.invariant.image c.args.offset n c.in-Some.at rest (grind (arith, common_steps)) (grind (arith, common_steps)) still.works (omega (arith, c.loop-done-test.true)) none) out still).taken is).1,
       λ i lt. c.loop-done.invariant.heeded none out sound i lt,
     )
 
@@ -268,13 +260,13 @@ pub returns-in_default-clause-marks : goal.returns-in_default-clause-marks
 returns-in_default-clause-marks g c = parts_beyond g.S.Storage.view c.args.image.now c.loop-done.image c.loop-done.invariant.works c.loop-done.invariant.counts
 
 pub returns-in-Err-write_some-clause-marks : goal.returns-in-Err-write_some-clause-marks
-returns-in-Err-write_some-clause-marks g c = parts_behind g.S.Storage.view (Some c.in-Err-write_some.refusal) c.args.image.now c.loop-done.image c.write_some-in-loop-done.new.image c.loop-done.invariant.works c.loop-done.invariant.counts c.in-Err-write_some.ensures.marks
+returns-in-Err-write_some-clause-marks g c = parts_behind g.S.Storage.view (Some c.in-Err-write_some.refusal) c.args.image.now c.loop-done.image c.write_some-in-loop-done.new.image c.loop-done.invariant.works c.loop-done.invariant.counts c.in-Err-write_some.ensures.step.marks
 
 pub returns-clause-marks : goal.returns-clause-marks
 returns-clause-marks g c = parts_answered g.S.Storage.view c.args.image.now c.loop-done.image c.loop-done.invariant.works c.loop-done.invariant.counts
 
 pub returns-in-Err-clause-marks : goal.returns-in-Err-clause-marks
-returns-in-Err-clause-marks g c = c.in-Err.ensures.marks
+returns-in-Err-clause-marks g c = c.in-Err.ensures.step.marks
 
 pub returns-clause-taken_part : goal.returns-clause-taken_part
 returns-clause-taken_part g c = λ none out sound i lt. c.loop-done.invariant.heeded none out sound i (omega (arith, lt, c.loop-done-test.false))

@@ -1,24 +1,21 @@
 use Rattle.qcow2_session.proofs.Marking.{answered_at_once, at_rest, refused_at_once}
-use Rattle.std.proofs.Common.{refl, length, arith}
+use Rattle.std.proofs.Common.{refl, length, arith, rules, ◌≡◌, ◌⊎◌, ◌+◌, ◌<◌, ◌≤◌, ◌∙◌, inl, inr, ℕ, ap, subst, List, Option, Some, None, Err}
 use Rattle.qcow2_disk.proofs.RunSteps.{done_as, refused_as, none_as}
 use Rattle.qcow2_image.specs.ImageInvariant.{image_abstraction}
 use Rattle.qcow2_session.proofs.Meanings.{found_at, none_at, does_put, refuses_put, is_past}
 use Rattle.qcow2_session.proofs.Answering.{mapping_first, error_is, not_both}
 use Rattle.qcow2_disk.specs.Runs.{misuse}
 use Rattle.qcow2_session.proofs.Unwritten.{put_same}
-use Rattle.qcow2_image.specs.Prepared.{image_of}
-use Rattle.qcow2_image.specs.Refusals.{refuses_mapping}
+use Rattle.qcow2_image.specs.Prepared.{image_of, length_of, table_of}
+use Rattle.qcow2_image.specs.Refusals.{refuses_mapping, unusable}
 use Rattle.qcow2_session.specs.declared.session.Command.TheVariants as C
 use Rattle.qcow2_session.specs.declared.session.Reply.TheVariants as R
-use Rattle.std.proofs.Common.{◌≡◌, ◌⊎◌, ◌+◌, ◌<◌, ◌≤◌, ◌∙◌, inl, inr, ℕ, ap, subst, List, Option, Some, None, Err}
 use Rattle.std.specs.Prelude.{◌&&◌, not, nat_lt, slice_get, IfSome, Result, Ok}
 use Rattle.std.proofs.lemmas.Bool.{cases_lt}
 use Rattle.qcow2_alloc.specs.declared.error.ImageError.{ImageError}
 use Rattle.qcow2_alloc.specs.declared.error.ImageError.TheVariants.{ReadOnly}
 use Rattle.qcow2_image.specs.Image.{is_writable}
-use Rattle.qcow2_image.specs.Prepared.{length_of, table_of}
 use Rattle.qcow2_image.specs.declared.prepared.Prepared.{Prepared}
-use Rattle.qcow2_image.specs.Refusals.{unusable}
 use Rattle.qcow2_session.proofs.Causing.{begun_with, is_answered, is_misused, is_refused, none_of, not_free, own_mapping, put_reads, put_writes, same_error, same_mapping, some_error, then_early, then_none}
 use Rattle.qcow2_image.proofs.Call.BehindHeader.{behind_none}
 use Rattle.qcow2_session.proofs.session.write_mapped.Goals as goal
@@ -27,15 +24,13 @@ use Rattle.qcow2_session.proofs.session.write_mapped.Goals.{then-at-length-via-t
 pub returns-in_default-clause-command_step : goal.returns-in_default-clause-command_step
 returns-in_default-clause-command_step g c = λ x s stands founds.
     let spec = image_abstraction g.S.Storage.view g.F.BackingDisk.backing in
-    let out = c.args.slots.now.prepared.items in
-    none_as x _ s _ _ misuse refl stands (record { sized = λ _. tt; failed = λ _. tt; may = λ _. tt }) (λ _. (is_past (c.args.at) (length c.args.bytes.now.items) (none_at spec c.args.image.now out c.args.slot c.in_default.ensures) tt, refl)) (λ f. f) (λ _ _. refl) tt
+    none_as x _ s _ _ misuse refl stands (record { sized = λ _. tt; failed = λ _. tt; may = λ _. tt }) (λ _. (is_past (c.args.at) (length c.args.bytes.now.items) (none_at spec c.args.image.now c.args.slots.now.prepared.items c.args.slot c.in_default.ensures) tt, refl)) (λ f. f) (λ _ _. refl) tt
 
 pub returns-then-at-length-clause-command_step : goal.returns-then-at-length-clause-command_step
 returns-then-at-length-clause-command_step g c = λ x s stands founds.
     let spec = image_abstraction g.S.Storage.view g.F.BackingDisk.backing in
-    let out = c.args.slots.now.prepared.items in
     none_as x _ s _ _ misuse refl stands (record { sized = λ _. tt; failed = λ _. tt; may = λ _. tt }) (λ _. (
-      is_past c.args.at (length c.args.bytes.now.items) (found_at spec c.args.image.now out c.args.slot c.in-Some.prepared.now c.in-Some.ensures)
+      is_past c.args.at (length c.args.bytes.now.items) (found_at spec c.args.image.now c.args.slots.now.prepared.items c.args.slot c.in-Some.prepared.now c.in-Some.ensures)
           (elim c.then-at-length.branch [
             | then-at-length-via-then-at-length w ↦ omega (arith, w.if-at-length.true, c.length-length.ensures)
             | then-at-length-via-else-at-length+then-len-length w ↦ omega (arith, w.if-at-length.false, w.if-len-length.true, w.len.ensures, c.length-length.ensures)
@@ -117,20 +112,24 @@ returns-in-Err-clause-causes g c =
           ],
     ))
 
-pub returns-in_default-clause-header_cluster : goal.returns-in_default-clause-header_cluster
-returns-in_default-clause-header_cluster g c = behind_none
+pub returns-in_default-clause-step : goal.returns-in_default-clause-step
+returns-in_default-clause-step g c = record { image = search rules; faults = search rules; header_cluster = behind_none; marks = at_rest g.S.Storage.view None c.args.image.now refl }
 
-pub returns-then-at-length-clause-header_cluster : goal.returns-then-at-length-clause-header_cluster
-returns-then-at-length-clause-header_cluster g c = behind_none
+pub returns-then-at-length-clause-step : goal.returns-then-at-length-clause-step
+returns-then-at-length-clause-step g c = record { image = search rules; faults = search rules; header_cluster = behind_none; marks = at_rest g.S.Storage.view None c.args.image.now refl }
 
-pub returns-in_default-clause-marks : goal.returns-in_default-clause-marks
-returns-in_default-clause-marks g c = at_rest g.S.Storage.view None c.args.image.now refl
+pub returns-in-Err-clause-step : goal.returns-in-Err-clause-step
+returns-in-Err-clause-step g c = record {
+  image = search rules;
+  faults = search rules;
+  header_cluster = search rules;
+  marks = refused_at_once g.S.Storage.view c.args.image.now c.write_mapped.new.self c.in-Err.refusal c.in-Err.ensures.step.once_written c.in-Err.ensures.step.marks;
+}
 
-pub returns-then-at-length-clause-marks : goal.returns-then-at-length-clause-marks
-returns-then-at-length-clause-marks g c = at_rest g.S.Storage.view None c.args.image.now refl
-
-pub returns-in-Err-clause-marks : goal.returns-in-Err-clause-marks
-returns-in-Err-clause-marks g c = refused_at_once g.S.Storage.view c.args.image.now c.write_mapped.new.self c.in-Err.refusal c.in-Err.ensures.once_written c.in-Err.ensures.marks
-
-pub returns-in-Ok-clause-marks : goal.returns-in-Ok-clause-marks
-returns-in-Ok-clause-marks g c = answered_at_once g.S.Storage.view c.args.image.now c.write_mapped.new.self c.in-Ok.ensures.once_written c.in-Ok.ensures.marks
+pub returns-in-Ok-clause-step : goal.returns-in-Ok-clause-step
+returns-in-Ok-clause-step g c = record {
+  image = search rules;
+  faults = search rules;
+  header_cluster = search rules;
+  marks = answered_at_once g.S.Storage.view c.args.image.now c.write_mapped.new.self c.in-Ok.ensures.step.once_written c.in-Ok.ensures.step.marks;
+}

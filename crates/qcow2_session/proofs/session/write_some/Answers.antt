@@ -3,7 +3,7 @@ use Rattle.qcow2_image.proofs.Call.OnceWritten.{counts_on, counts_released}
 use Rattle.qcow2_session.proofs.Marking.{commit_at_once, in_parts, parts_answered, parts_before, parts_behind, parts_handed, refused_at_once}
 use Rattle.qcow2_image.specs.Clearing.{IsUnderMapping}
 use Rattle.qcow2_session.proofs.session.write_some.Goals as goal
-use Rattle.std.proofs.Common.{◌≡◌, sym, subst, ap, ◌∙◌, Err, [], ◌∷◌, Some, None, min, length, refl, arith, ℕ, ◌+◌, ◌<◌, ◌≤◌, ⊎_elim, List, inl, inr, take, true, false}
+use Rattle.std.proofs.Common.{◌≡◌, sym, subst, ap, ◌∙◌, Err, [], ◌∷◌, Some, None, min, length, refl, arith, ℕ, ◌+◌, ◌<◌, ◌≤◌, ⊎_elim, List, inl, inr, take, true, false, rules}
 use Rattle.std.specs.Prelude.{IfSome, IfOk, IsOk, Ok, Option, Result, IfErr, is_some}
 use Rattle.qcow2_disk.specs.Mappings.{given_of}
 use Rattle.qcow2_disk.specs.AbstractImages.{Setting, guest_of}
@@ -140,13 +140,11 @@ returns-in-Err-clause-early g c =
 
 pub returns-in-Ok-clause-ends : goal.returns-in-Ok-clause-ends
 returns-in-Ok-clause-ends g c = λ out sound short.
-    let view = g.S.Storage.view in
-    let below = g.F.BackingDisk.backing in
     let old = c.args.image.now in
     let mid = c.prepare_data_mapping.new.self in
     let maps = c.in_ok-prepared.ensures.maps (omega arith) out sound in
     let prepared = c.in_ok-prepared.ensures.sees (None ∷ out) 0 refl in
-    let same : cluster_size_of mid ≡ cluster_size_of old = ap (λ (x : Setting). x.cluster_size) (prepared.acts.works ((free_places view below).free old [] out sound)).setting in
+    let same : cluster_size_of mid ≡ cluster_size_of old = ap (λ (x : Setting). x.cluster_size) (prepared.acts.works ((free_places g.S.Storage.view g.F.BackingDisk.backing).free old [] out sound)).setting in
     chunk_ends old mid c.args.offset (length c.args.bytes.now) c.min-count.result (length_of c.in_ok-prepared.prepared) (c.min-count.ensures ∙ ap (λ k. min (length c.args.bytes.now) k) c.length.ensures) short same (λ less. (maps.short less).cluster)
 
 -- more than none
@@ -169,20 +167,19 @@ returns-in-Err-clause-late g c = λ none.
     let mid = c.prepare_data_mapping.new.self in
     let p = c.in_ok-prepared.prepared in
     let n = length c.args.bytes.now in (
-      inl (put_met old mid c.prepare_data_mapping.ensures.image (image_of p) c.args.offset n (length (take c.min-count.result c.args.bytes.now)) c.in-Err.refusal
-          c.in_ok-prepared.ensures.own c.in_ok-prepared.ensures.marks (λ empty. grind (arith, common_steps)) none c.in-Err.ensures.late (λ usable empty. let no = (c.in-Err.ensures.nothing usable empty).0 in absurd cc)),
+      inl (put_met old mid c.prepare_data_mapping.ensures.step.image (image_of p) c.args.offset n (length (take c.min-count.result c.args.bytes.now)) c.in-Err.refusal
+          c.in_ok-prepared.ensures.own c.in_ok-prepared.ensures.step.marks (λ empty. grind (arith, common_steps)) none c.in-Err.ensures.late (λ usable empty. let no = (c.in-Err.ensures.nothing usable empty).0 in absurd cc)),
       some_bytes n (λ empty.
-          let usable = mapping_usable old mid c.prepare_data_mapping.ensures.image (image_of p) c.in_ok-prepared.ensures.own c.in_ok-prepared.ensures.marks (prepares_usable old c.args.offset n none) in
+          let usable = mapping_usable old mid c.prepare_data_mapping.ensures.step.image (image_of p) c.in_ok-prepared.ensures.own c.in_ok-prepared.ensures.step.marks (prepares_usable old c.args.offset n none) in
           let no = (c.in-Err.ensures.nothing usable (grind (arith, common_steps))).0 in absurd cc),
     )
 
 pub returns-in-Err-Spent-clause-late : goal.returns-in-Err-Spent-clause-late
 returns-in-Err-Spent-clause-late g c = λ none.
     let old = c.args.image.now in
-    let mid = c.prepare_data_mapping.new.self in
     let n = length c.args.bytes.now in
-    let own = c.in_ok-prepared.ensures.own ∙ sym (c.write_mapped.ensures.image.number ∙ c.prepare_data_mapping.ensures.image.number) in
-    let works = c.in_default.ensures.marks ∙ c.in_ok-prepared.ensures.marks ∙ not_failed_yet old mid c.prepare_data_mapping.ensures.image (prepares_usable old c.args.offset n none) in (
+    let own = c.in_ok-prepared.ensures.own ∙ sym (c.write_mapped.ensures.step.image.number ∙ c.prepare_data_mapping.ensures.step.image.number) in
+    let works = c.in_default.ensures.step.marks ∙ c.in_ok-prepared.ensures.step.marks ∙ not_failed_yet old c.prepare_data_mapping.new.self c.prepare_data_mapping.ensures.step.image (prepares_usable old c.args.offset n none) in (
       inl (tables_met c.in-Err-Spent.refusal (subst (λ r. IsOfTables (reason_of r)) c.in-Err-Spent.field-0-is (c.in-Err-Spent.ensures.late own works))),
       some_bytes n (λ empty.
           let nothing = (c.in_ok-prepared.ensures.nothing (ap (λ k. refuses_to_prepare old c.args.offset k) (sym empty) ∙ none) empty).1 in
@@ -192,10 +189,9 @@ returns-in-Err-Spent-clause-late g c = λ none.
 pub returns-in-Err-Kept-clause-late : goal.returns-in-Err-Kept-clause-late
 returns-in-Err-Kept-clause-late g c = λ none.
     let old = c.args.image.now in
-    let mid = c.prepare_data_mapping.new.self in
     let n = length c.args.bytes.now in
-    let own = c.in_ok-prepared.ensures.own ∙ sym (c.write_mapped.ensures.image.number ∙ c.prepare_data_mapping.ensures.image.number) in
-    let works = c.in_default.ensures.marks ∙ c.in_ok-prepared.ensures.marks ∙ not_failed_yet old mid c.prepare_data_mapping.ensures.image (prepares_usable old c.args.offset n none) in (
+    let own = c.in_ok-prepared.ensures.own ∙ sym (c.write_mapped.ensures.step.image.number ∙ c.prepare_data_mapping.ensures.step.image.number) in
+    let works = c.in_default.ensures.step.marks ∙ c.in_ok-prepared.ensures.step.marks ∙ not_failed_yet old c.prepare_data_mapping.new.self c.prepare_data_mapping.ensures.step.image (prepares_usable old c.args.offset n none) in (
       inl (tables_met c.in-Err-Kept.refusal (subst (λ r. IsOfTables (reason_of r)) c.in-Err-Kept.field-0-is (c.in-Err-Kept.ensures.late own works))),
       some_bytes n (λ empty.
           let nothing = (c.in_ok-prepared.ensures.nothing (ap (λ k. refuses_to_prepare old c.args.offset k) (sym empty) ∙ none) empty).1 in
@@ -205,150 +201,25 @@ returns-in-Err-Kept-clause-late g c = λ none.
 pub returns-in-Err-Spent-clause-cause : goal.returns-in-Err-Spent-clause-cause
 returns-in-Err-Spent-clause-cause g c =
     let old = c.args.image.now in
-    let mid = c.prepare_data_mapping.new.self in
     let n = length c.args.bytes.now in
     let none = none_refused _ (refuses_to_prepare old c.args.offset n) c.in_ok-prepared.prepared c.in_ok-prepared.ensures.early in
-    let own = c.in_ok-prepared.ensures.own ∙ sym (c.write_mapped.ensures.image.number ∙ c.prepare_data_mapping.ensures.image.number) in
-    let works = c.in_default.ensures.marks ∙ c.in_ok-prepared.ensures.marks ∙ not_failed_yet old mid c.prepare_data_mapping.ensures.image (prepares_usable old c.args.offset n none) in
+    let own = c.in_ok-prepared.ensures.own ∙ sym (c.write_mapped.ensures.step.image.number ∙ c.prepare_data_mapping.ensures.step.image.number) in
+    let works = c.in_default.ensures.step.marks ∙ c.in_ok-prepared.ensures.step.marks ∙ not_failed_yet old c.prepare_data_mapping.new.self c.prepare_data_mapping.ensures.step.image (prepares_usable old c.args.offset n none) in
     inl (inl (tables_met c.in-Err-Spent.refusal (subst (λ r. IsOfTables (reason_of r)) c.in-Err-Spent.field-0-is (c.in-Err-Spent.ensures.late own works))))
 
 pub returns-in-Err-Kept-clause-cause : goal.returns-in-Err-Kept-clause-cause
 returns-in-Err-Kept-clause-cause g c =
     let old = c.args.image.now in
-    let mid = c.prepare_data_mapping.new.self in
     let n = length c.args.bytes.now in
     let none = none_refused _ (refuses_to_prepare old c.args.offset n) c.in_ok-prepared.prepared c.in_ok-prepared.ensures.early in
-    let own = c.in_ok-prepared.ensures.own ∙ sym (c.write_mapped.ensures.image.number ∙ c.prepare_data_mapping.ensures.image.number) in
-    let works = c.in_default.ensures.marks ∙ c.in_ok-prepared.ensures.marks ∙ not_failed_yet old mid c.prepare_data_mapping.ensures.image (prepares_usable old c.args.offset n none) in
+    let own = c.in_ok-prepared.ensures.own ∙ sym (c.write_mapped.ensures.step.image.number ∙ c.prepare_data_mapping.ensures.step.image.number) in
+    let works = c.in_default.ensures.step.marks ∙ c.in_ok-prepared.ensures.step.marks ∙ not_failed_yet old c.prepare_data_mapping.new.self c.prepare_data_mapping.ensures.step.image (prepares_usable old c.args.offset n none) in
     inl (inl (tables_met c.in-Err-Kept.refusal (subst (λ r. IsOfTables (reason_of r)) c.in-Err-Kept.field-0-is (c.in-Err-Kept.ensures.late own works))))
-
-pub returns-in_err-prepared-clause-taken : goal.returns-in_err-prepared-clause-taken
-returns-in_err-prepared-clause-taken g c = λ none out sound.
-    let old = c.args.image.now in
-    let n = length c.args.bytes.now in
-    subst (λ r. HeedsFirst g.S.Storage.view g.F.BackingDisk.backing old out c.args.offset n r) (sym (refused_is _ c.in_err-prepared.field-0.0 c.from_residual.ensures))
-    (λ is. (
-      elim (cases_lt 0 n) [
-        | inl some ↦ some
-        | inr least ↦ absurd (let empty : n ≡ 0 = omega (arith, least) in let no = (c.in_err-prepared.ensures.nothing (ap (λ k. refuses_to_prepare old c.args.offset k) (sym empty) ∙ none) empty).0 in cc)
-      ],
-      c.in_err-prepared.ensures.taken none out sound is,
-    ))
-
-pub returns-in-Ok-clause-taken : goal.returns-in-Ok-clause-taken
-returns-in-Ok-clause-taken g c = λ none out sound some.
-    let view = g.S.Storage.view in
-    let below = g.F.BackingDisk.backing in
-    let old = c.args.image.now in
-    let mid = c.prepare_data_mapping.new.self in
-    let p = c.in_ok-prepared.prepared in
-    let n = length c.args.bytes.now in
-    let call = c.in_ok-prepared.ensures.sees (None ∷ out) 0 refl in
-    let free_place = (free_places view below).free old [] out sound in
-    let prepared = call.answer free_place in
-    let same : cluster_size_of mid ≡ cluster_size_of old = ap (λ (x : Setting). x.cluster_size) (call.acts.works free_place).setting in
-    let maps = c.in_ok-prepared.ensures.maps some out sound in
-    let count_is : c.min-count.result ≡ min n (length_of p) = c.min-count.ensures ∙ ap (λ k. min n k) c.length.ensures in
-    let within = maps.within in (
-      omega (arith, count_is, within),
-      untaken_beside view below old.file.header.fields (known_in view old.file) mid out p (meaning view below mid p) c.args.offset n prepared.0 same prepared.1.0.from maps,
-    )
-
-pub returns-in-Err-clause-taken : goal.returns-in-Err-clause-taken
-returns-in-Err-clause-taken g c = λ none out sound is. absurd (subst IsMet is (put_met c.args.image.now c.prepare_data_mapping.new.self c.prepare_data_mapping.ensures.image (image_of c.in_ok-prepared.prepared) c.args.offset (length c.args.bytes.now) (length (take c.min-count.result c.args.bytes.now)) c.in-Err.refusal
-    c.in_ok-prepared.ensures.own c.in_ok-prepared.ensures.marks (λ empty. grind (arith, common_steps)) none c.in-Err.ensures.late (λ usable empty. let no = (c.in-Err.ensures.nothing usable empty).0 in absurd cc)))
-
-pub returns-in-Err-Spent-clause-taken : goal.returns-in-Err-Spent-clause-taken
-returns-in-Err-Spent-clause-taken g c = λ none out sound is. absurd (subst IsOfTables is (subst (λ r. IsOfTables (reason_of r)) c.in-Err-Spent.field-0-is
-    (c.in-Err-Spent.ensures.late (c.in_ok-prepared.ensures.own ∙ sym (c.write_mapped.ensures.image.number ∙ c.prepare_data_mapping.ensures.image.number))
-    (c.in_default.ensures.marks ∙ c.in_ok-prepared.ensures.marks ∙ not_failed_yet c.args.image.now c.prepare_data_mapping.new.self c.prepare_data_mapping.ensures.image (prepares_usable c.args.image.now c.args.offset (length c.args.bytes.now) none)))))
-
-pub returns-in-Err-Kept-clause-taken : goal.returns-in-Err-Kept-clause-taken
-returns-in-Err-Kept-clause-taken g c = λ none out sound is. absurd (subst IsOfTables is (subst (λ r. IsOfTables (reason_of r)) c.in-Err-Kept.field-0-is
-    (c.in-Err-Kept.ensures.late (c.in_ok-prepared.ensures.own ∙ sym (c.write_mapped.ensures.image.number ∙ c.prepare_data_mapping.ensures.image.number))
-    (c.in_default.ensures.marks ∙ c.in_ok-prepared.ensures.marks ∙ not_failed_yet c.args.image.now c.prepare_data_mapping.new.self c.prepare_data_mapping.ensures.image (prepares_usable c.args.image.now c.args.offset (length c.args.bytes.now) none)))))
 
 pub returns-in_err-prepared-clause-early : goal.returns-in_err-prepared-clause-early
 returns-in_err-prepared-clause-early g c =
     early_handed _ (refuses_to_prepare c.args.image.now c.args.offset (length c.args.bytes.now)) c.prepare_data_mapping.result c.in_err-prepared.field-0.0 c.from_residual.result
     c.prepare_data_mapping.ensures.early c.in_err-prepared.was (refused_is _ c.in_err-prepared.field-0.0 c.from_residual.ensures)
-
-pub returns-in-Err-clause-header_cluster : goal.returns-in-Err-clause-header_cluster
-returns-in-Err-clause-header_cluster g c = behind_then (behind_then c.prepare_data_mapping.ensures.header_cluster c.write_mapped.ensures.header_cluster) c.release.ensures.header_cluster
-
-pub returns-in-Ok-clause-header_cluster : goal.returns-in-Ok-clause-header_cluster
-returns-in-Ok-clause-header_cluster g c = behind_then (behind_then c.prepare_data_mapping.ensures.header_cluster c.write_mapped.ensures.header_cluster) c.commit_data_mapping.ensures.header_cluster
-
-pub returns-in-Err-Spent-clause-header_cluster : goal.returns-in-Err-Spent-clause-header_cluster
-returns-in-Err-Spent-clause-header_cluster g c = behind_then (behind_then c.prepare_data_mapping.ensures.header_cluster c.write_mapped.ensures.header_cluster) c.commit_data_mapping.ensures.header_cluster
-
-pub returns-in-Err-Kept-clause-header_cluster : goal.returns-in-Err-Kept-clause-header_cluster
-returns-in-Err-Kept-clause-header_cluster g c = behind_then (behind_then (behind_then c.prepare_data_mapping.ensures.header_cluster c.write_mapped.ensures.header_cluster) c.commit_data_mapping.ensures.header_cluster) c.release-in-Err-Kept.ensures.header_cluster
-
-pub returns-in_err-prepared-clause-quiet : goal.returns-in_err-prepared-clause-quiet
-returns-in_err-prepared-clause-quiet g c = λ reading.
-    let view = g.S.Storage.view in
-    let old = c.args.image.now in
-    let mid = c.prepare_data_mapping.new.self in
-    let made = prepare_same old reading _ c.args.offset (length c.args.bytes.now) c.prepare_data_mapping.ensures.early c.prepare_data_mapping.ensures.nothing in
-    quiet_image view old mid made
-
-pub returns-in-Err-clause-quiet : goal.returns-in-Err-clause-quiet
-returns-in-Err-clause-quiet g c = λ reading.
-    let view = g.S.Storage.view in
-    let old = c.args.image.now in
-    let mid = c.prepare_data_mapping.new.self in
-    let made = prepare_same old reading _ c.args.offset (length c.args.bytes.now) c.prepare_data_mapping.ensures.early c.prepare_data_mapping.ensures.nothing in
-    let put = c.write_mapped.new.self in
-    let p = c.in_ok-prepared.prepared in
-    let same : put ≡ old = put_same mid (ap is_writable made ∙ reading) _ (refuses_mapping mid (image_of p)) _ c.write_mapped.ensures.early c.write_mapped.ensures.read_only c.write_mapped.ensures.nothing ∙ made in
-    let first = quiet_image view old put same in
-    written_then view first (quiet_release view put c.release.new.image c.release.ensures.rest)
-
-pub returns-in-Ok-clause-quiet : goal.returns-in-Ok-clause-quiet
-returns-in-Ok-clause-quiet g c = λ reading.
-    let view = g.S.Storage.view in
-    let old = c.args.image.now in
-    let mid = c.prepare_data_mapping.new.self in
-    let made = prepare_same old reading _ c.args.offset (length c.args.bytes.now) c.prepare_data_mapping.ensures.early c.prepare_data_mapping.ensures.nothing in
-    let put = c.write_mapped.new.self in
-    let p = c.in_ok-prepared.prepared in
-    let same : put ≡ old = put_same mid (ap is_writable made ∙ reading) _ (refuses_mapping mid (image_of p)) _ c.write_mapped.ensures.early c.write_mapped.ensures.read_only c.write_mapped.ensures.nothing ∙ made in
-    let first = quiet_image view old put same in
-    let none = nothing_prepared old reading _ p c.args.offset (length c.args.bytes.now) c.in_ok-prepared.ensures.early c.in_ok-prepared.ensures.nothing in
-    let own = c.in_ok-prepared.ensures.own ∙ sym (ap number_of same) in
-    let second = written_then view first (quiet_commit view put c.commit_data_mapping.new.self (c.commit_data_mapping.ensures.failed own) (λ works. c.commit_data_mapping.ensures.existing own works none.0)) in
-    second
-
-pub returns-in-Err-Spent-clause-quiet : goal.returns-in-Err-Spent-clause-quiet
-returns-in-Err-Spent-clause-quiet g c = λ reading.
-    let view = g.S.Storage.view in
-    let old = c.args.image.now in
-    let mid = c.prepare_data_mapping.new.self in
-    let made = prepare_same old reading _ c.args.offset (length c.args.bytes.now) c.prepare_data_mapping.ensures.early c.prepare_data_mapping.ensures.nothing in
-    let put = c.write_mapped.new.self in
-    let p = c.in_ok-prepared.prepared in
-    let same : put ≡ old = put_same mid (ap is_writable made ∙ reading) _ (refuses_mapping mid (image_of p)) _ c.write_mapped.ensures.early c.write_mapped.ensures.read_only c.write_mapped.ensures.nothing ∙ made in
-    let first = quiet_image view old put same in
-    let none = nothing_prepared old reading _ p c.args.offset (length c.args.bytes.now) c.in_ok-prepared.ensures.early c.in_ok-prepared.ensures.nothing in
-    let own = c.in_ok-prepared.ensures.own ∙ sym (ap number_of same) in
-    let second = written_then view first (quiet_commit view put c.commit_data_mapping.new.self (c.commit_data_mapping.ensures.failed own) (λ works. c.commit_data_mapping.ensures.existing own works none.0)) in
-    second
-
-pub returns-in-Err-Kept-clause-quiet : goal.returns-in-Err-Kept-clause-quiet
-returns-in-Err-Kept-clause-quiet g c = λ reading.
-    let view = g.S.Storage.view in
-    let old = c.args.image.now in
-    let mid = c.prepare_data_mapping.new.self in
-    let made = prepare_same old reading _ c.args.offset (length c.args.bytes.now) c.prepare_data_mapping.ensures.early c.prepare_data_mapping.ensures.nothing in
-    let put = c.write_mapped.new.self in
-    let p = c.in_ok-prepared.prepared in
-    let same : put ≡ old = put_same mid (ap is_writable made ∙ reading) _ (refuses_mapping mid (image_of p)) _ c.write_mapped.ensures.early c.write_mapped.ensures.read_only c.write_mapped.ensures.nothing ∙ made in
-    let first = quiet_image view old put same in
-    let none = nothing_prepared old reading _ p c.args.offset (length c.args.bytes.now) c.in_ok-prepared.ensures.early c.in_ok-prepared.ensures.nothing in
-    let own = c.in_ok-prepared.ensures.own ∙ sym (ap number_of same) in
-    let second = written_then view first (quiet_commit view put c.commit_data_mapping.new.self (c.commit_data_mapping.ensures.failed own) (λ works. c.commit_data_mapping.ensures.existing own works none.0)) in
-    written_then view second (quiet_release view c.commit_data_mapping.new.self c.release-in-Err-Kept.new.image c.release-in-Err-Kept.ensures.rest)
 
 -- so many of the first bytes are put
 chunk_long : (n m : ℕ) (bytes : List ℕ) → n ≡ min (length bytes) m → length (take n bytes) ≡ n
@@ -374,8 +245,8 @@ returns-in-Ok-clause-copied g c = λ some out sound.
     let ready = (c.in_default.ensures.sees (Some p ∷ out) 0 refl).answer prepared.0 in
     let from_is : guest_offset_of p ≡ offset = prepared.1.0.from in
     let none = none_refused _ (refuses_to_prepare old offset n) p c.in_ok-prepared.ensures.early in
-    let usable = mapping_usable old mid c.prepare_data_mapping.ensures.image (image_of p) c.in_ok-prepared.ensures.own c.in_ok-prepared.ensures.marks (prepares_usable old offset n none) in
-    let own = c.in_ok-prepared.ensures.own ∙ sym (c.write_mapped.ensures.image.number ∙ c.prepare_data_mapping.ensures.image.number) in
+    let usable = mapping_usable old mid c.prepare_data_mapping.ensures.step.image (image_of p) c.in_ok-prepared.ensures.own c.in_ok-prepared.ensures.step.marks (prepares_usable old offset n none) in
+    let own = c.in_ok-prepared.ensures.own ∙ sym (c.write_mapped.ensures.step.image.number ∙ c.prepare_data_mapping.ensures.step.image.number) in
     let stood : AreDataAt new.file.header.fields (known_in view new.file) true (guest_offset_of p) (offset_of p) count =
     existing_or_not (table_of p)
     (λ existing.
@@ -392,158 +263,228 @@ returns-in-Ok-clause-copied g c = λ some out sound.
     (part_copied view below old mid new out sound (done.answer sound).0 offset p c.args.bytes.now chunk (omega (arith, any, long)) (omega (arith, cut)) from_is (c.in_ok-prepared.ensures.maps some out sound) c.in_ok-prepared.ensures.sees
     (done.acts.works sound) all)
 
-pub returns-in_err-prepared-clause-met : goal.returns-in_err-prepared-clause-met
-returns-in_err-prepared-clause-met g c = λ none out sound.
-    let view = g.S.Storage.view in
-    let below = g.F.BackingDisk.backing in
-    let old = c.args.image.now in
-    let new = c.prepare_data_mapping.new.self in
-    let n = length c.args.bytes.now in
-    let e = c.in_err-prepared.field-0.0 in
-    let some = some_bytes n (λ empty. let no = (c.in_err-prepared.ensures.nothing (ap (λ k. refuses_to_prepare old c.args.offset k) (sym empty) ∙ none) empty).0 in absurd cc) in
-    let call = c.in_err-prepared.ensures.sees out in
-    subst (λ r. IfErr r (IsMetTaking (HasPrepared out) (IsUnderMapping old.file.header.fields c.args.offset out) (CopiesCompressed c.args.offset n true new.file.header.fields (known_in view new.file)) (NeedsFarEntry old c.args.offset))) (sym (refused_is _ e c.from_residual.ensures))
-    (⊎_elim (λ still. taking_as (λ held. held) (λ taken. under_taken taken) (compressed_behind view below out old new sound still.0 (call.acts.works sound) c.args.offset n) (λ far. far) e (c.in_err-prepared.ensures.met none some out sound)) (λ failed. inl (inl (inl (fault_of e failed.0)))) (call.answer sound))
-
-pub returns-in-Err-clause-met : goal.returns-in-Err-clause-met
-returns-in-Err-clause-met g c = λ none out sound.
-    let view = g.S.Storage.view in
-    let below = g.F.BackingDisk.backing in
-    let old = c.args.image.now in
-    let mid = c.prepare_data_mapping.new.self in
-    let p = c.in_ok-prepared.prepared in
-    let n = length c.args.bytes.now in
-    let offset = c.args.offset in
-    let count = c.min-count.result in
-    let usable = mapping_usable old mid c.prepare_data_mapping.ensures.image (image_of p) c.in_ok-prepared.ensures.own c.in_ok-prepared.ensures.marks (prepares_usable old offset n none) in
-    let some : 0 < n = some_bytes n (λ empty. let no = (c.in-Err.ensures.nothing usable (grind (arith, common_steps))).0 in absurd cc) in
-    let call = c.in_ok-prepared.ensures.sees (None ∷ out) 0 refl in
-    let free_place = (free_places view below).free old [] out sound in
-    let prepared = call.answer free_place in
-    let same : cluster_size_of mid ≡ cluster_size_of old = ap (λ (x : Setting). x.cluster_size) (call.acts.works free_place).setting in
-    let maps = c.in_ok-prepared.ensures.maps some out sound in
-    let fits : offset + n ≤ size_of mid = let s = c.prepare_data_mapping.ensures.image.size in let b = prepares_within old offset n none some in omega (arith, s, b) in
-    let long : table_of p ≡ None → length (take count c.args.bytes.now) ≡ n = λ existing.
-    let whole = existing_long view below out old mid p offset n prepared.0 same maps some existing in
-    let count_is : count ≡ min n (length_of p) = c.min-count.ensures ∙ ap (λ k. min n k) c.length.ensures in
-    chunk_long count (length_of p) c.args.bytes.now count_is ∙ (grind (arith, common_steps, count_is, whole)) in
-    elim (put_looking (IsCacheHeld mid (Some p ∷ out)) out p c.in-Err.refusal (λ held. held.1) (λ existing. existing_near view below out old mid p offset n prepared.0 same maps some existing)
-    (λ existing outdated. c.in-Err.ensures.outdated existing (Some p ∷ out) prepared.0 (ap Err outdated) (existing_found view below out old mid p offset n prepared.0 same maps some existing fits prepared.1.0.from (length (take count c.args.bytes.now)) (long existing)))
-    (c.in-Err.ensures.met (Some p ∷ out) 0 refl prepared.0 (c.prepare_data_mapping.ensures.image.writable ∙ prepares_writable old offset n none some))) [ inl fault ↦ inl (inl (inl fault)) | inr used ↦ inr (inl used) ]
-
-pub returns-in-Err-Spent-clause-met : goal.returns-in-Err-Spent-clause-met
-returns-in-Err-Spent-clause-met g c = λ none out sound.
-    let view = g.S.Storage.view in
-    let below = g.F.BackingDisk.backing in
-    let p = c.in_ok-prepared.prepared in
-    let prepared = (c.in_ok-prepared.ensures.sees (None ∷ out) 0 refl).answer ((free_places view below).free c.args.image.now [] out sound) in
-    let ready = (c.in_default.ensures.sees (Some p ∷ out) 0 refl).answer prepared.0 in
-    let refused = subst (λ r. Commits view below c.write_mapped.new.self c.commit_data_mapping.new.self p (Err r)) c.in-Err-Spent.field-0-is c.in-Err-Spent.ensures.sees (Some p ∷ out) 0 refl in
-    inl (inl (inl (fault_of c.in-Err-Spent.refusal (refused.0 ready.0))))
-
-pub returns-in-Err-Kept-clause-met : goal.returns-in-Err-Kept-clause-met
-returns-in-Err-Kept-clause-met g c = λ none out sound.
-    let view = g.S.Storage.view in
-    let below = g.F.BackingDisk.backing in
-    let p = c.in_ok-prepared.prepared in
-    let same : c.in-Err-Kept.prepared ≡ p = subst (λ r. IsHandedBackBy p r) c.in-Err-Kept.field-0-is c.in-Err-Kept.ensures.kept in
-    let prepared = (c.in_ok-prepared.ensures.sees (None ∷ out) 0 refl).answer ((free_places view below).free c.args.image.now [] out sound) in
-    let ready = (c.in_default.ensures.sees (Some p ∷ out) 0 refl).answer prepared.0 in
-    let refused = subst (λ r. Commits view below c.write_mapped.new.self c.commit_data_mapping.new.self p (Err r)) (c.in-Err-Kept.field-0-is ∙ ap (λ q. Kept c.in-Err-Kept.refusal q) same) c.in-Err-Kept.ensures.sees (Some p ∷ out) 0 refl in
-    inl (inl (inl (fault_of c.in-Err-Kept.refusal (refused.0 ready.0))))
-
-pub returns-in_err-prepared-clause-limit : goal.returns-in_err-prepared-clause-limit
-returns-in_err-prepared-clause-limit g c = λ none out sound.
-    let old = c.args.image.now in
-    let n = length c.args.bytes.now in
-    let some = some_bytes n (λ empty. let no = (c.in_err-prepared.ensures.nothing (ap (λ k. refuses_to_prepare old c.args.offset k) (sym empty) ∙ none) empty).0 in absurd cc) in
-    subst (λ r. IfErr r (λ (e : ImageError). e ≡ Limit → LacksPlaceFor g.S.Storage.view c.args.offset n old c.prepare_data_mapping.new.self)) (sym (refused_is _ c.in_err-prepared.field-0.0 c.from_residual.ensures))
-    (c.in_err-prepared.ensures.limit none some out sound)
-
-pub returns-in-Err-clause-limit : goal.returns-in-Err-clause-limit
-returns-in-Err-clause-limit g c = λ none out sound.
-    let old = c.args.image.now in
-    let p = c.in_ok-prepared.prepared in
-    let n = length c.args.bytes.now in
-    let usable = mapping_usable old c.prepare_data_mapping.new.self c.prepare_data_mapping.ensures.image (image_of p) c.in_ok-prepared.ensures.own c.in_ok-prepared.ensures.marks (prepares_usable old c.args.offset n none) in
-    let some : 0 < n = some_bytes n (λ empty. let no = (c.in-Err.ensures.nothing usable (grind (arith, common_steps))).0 in absurd cc) in
-    let prepared = (c.in_ok-prepared.ensures.sees (None ∷ out) 0 refl).answer ((free_places g.S.Storage.view g.F.BackingDisk.backing).free old [] out sound) in
-    other_limit _ c.in-Err.refusal (put_unlimited _ p 0 c.in-Err.refusal (c.in-Err.ensures.met (Some p ∷ out) 0 refl prepared.0 (c.prepare_data_mapping.ensures.image.writable ∙ prepares_writable old c.args.offset n none some)))
-
-pub returns-in-Err-Spent-clause-limit : goal.returns-in-Err-Spent-clause-limit
-returns-in-Err-Spent-clause-limit g c = λ none out sound.
-    let view = g.S.Storage.view in
-    let below = g.F.BackingDisk.backing in
-    let p = c.in_ok-prepared.prepared in
-    let prepared = (c.in_ok-prepared.ensures.sees (None ∷ out) 0 refl).answer ((free_places view below).free c.args.image.now [] out sound) in
-    let ready = (c.in_default.ensures.sees (Some p ∷ out) 0 refl).answer prepared.0 in
-    let refused = subst (λ r. Commits view below c.write_mapped.new.self c.commit_data_mapping.new.self p (Err r)) c.in-Err-Spent.field-0-is c.in-Err-Spent.ensures.sees (Some p ∷ out) 0 refl in
-    other_limit _ c.in-Err-Spent.refusal (fault_unlimited c.in-Err-Spent.refusal (fault_of c.in-Err-Spent.refusal (refused.0 ready.0)))
-
-pub returns-in-Err-Kept-clause-limit : goal.returns-in-Err-Kept-clause-limit
-returns-in-Err-Kept-clause-limit g c = λ none out sound.
-    let view = g.S.Storage.view in
-    let below = g.F.BackingDisk.backing in
-    let p = c.in_ok-prepared.prepared in
-    let same : c.in-Err-Kept.prepared ≡ p = subst (λ r. IsHandedBackBy p r) c.in-Err-Kept.field-0-is c.in-Err-Kept.ensures.kept in
-    let prepared = (c.in_ok-prepared.ensures.sees (None ∷ out) 0 refl).answer ((free_places view below).free c.args.image.now [] out sound) in
-    let ready = (c.in_default.ensures.sees (Some p ∷ out) 0 refl).answer prepared.0 in
-    let refused = subst (λ r. Commits view below c.write_mapped.new.self c.commit_data_mapping.new.self p (Err r)) (c.in-Err-Kept.field-0-is ∙ ap (λ q. Kept c.in-Err-Kept.refusal q) same) c.in-Err-Kept.ensures.sees (Some p ∷ out) 0 refl in
-    other_limit _ c.in-Err-Kept.refusal (fault_unlimited c.in-Err-Kept.refusal (fault_of c.in-Err-Kept.refusal (refused.0 ready.0)))
-
 pub returns-in-Ok-clause-freeing : goal.returns-in-Ok-clause-freeing
 returns-in-Ok-clause-freeing g c = λ out sound.
-    let view = g.S.Storage.view in
-    let below = g.F.BackingDisk.backing in
     let old = c.args.image.now in
     let p = c.in_ok-prepared.prepared in
     let n = length c.args.bytes.now in
-    let prepared = (c.in_ok-prepared.ensures.sees (None ∷ out) 0 refl).answer ((free_places view below).free old [] out sound) in
+    let prepared = (c.in_ok-prepared.ensures.sees (None ∷ out) 0 refl).answer ((free_places g.S.Storage.view g.F.BackingDisk.backing).free old [] out sound) in
     let ready = (c.in_default.ensures.sees (Some p ∷ out) 0 refl).answer prepared.0 in
-    let own = c.in_ok-prepared.ensures.own ∙ sym (c.write_mapped.ensures.image.number ∙ c.prepare_data_mapping.ensures.image.number) in
+    let own = c.in_ok-prepared.ensures.own ∙ sym (c.write_mapped.ensures.step.image.number ∙ c.prepare_data_mapping.ensures.step.image.number) in
     existing_or_not (table_of p)
     (λ existing.
     let none = ap is_some existing in
     let stays = c.in-Ok.ensures.freeing (Some p ∷ out) 0 refl ready.0 none ∙ c.write_mapped.ensures.freeing in
     no_more_then old c.prepare_data_mapping.new.self c.commit_data_mapping.new.self (c.in_ok-prepared.ensures.freeing out sound none) (inl stays))
     (λ table. elim (cases_Bool (is_writable old)) [
-      | inl writable ↦ inr (c.in-Ok.ensures.emptied own table (c.write_mapped.ensures.image.writable ∙ c.prepare_data_mapping.ensures.image.writable ∙ writable))
+      | inl writable ↦ inr (c.in-Ok.ensures.emptied own table (c.write_mapped.ensures.step.image.writable ∙ c.prepare_data_mapping.ensures.step.image.writable ∙ writable))
       | inr reading ↦
           let nothing = nothing_prepared old reading _ p c.args.offset n c.in_ok-prepared.ensures.early c.in_ok-prepared.ensures.nothing in
           absurd (let no : false ≡ true = sym nothing.0 ∙ table in cc)
     ])
 
-pub returns-in_err-prepared-clause-marks : goal.returns-in_err-prepared-clause-marks
-returns-in_err-prepared-clause-marks g c = parts_handed g.S.Storage.view _ c.in_err-prepared.field-0.0 c.args.image.now c.prepare_data_mapping.new.self (refused_is _ c.in_err-prepared.field-0.0 c.from_residual.ensures) (in_parts g.S.Storage.view (refused_at_once g.S.Storage.view c.args.image.now c.prepare_data_mapping.new.self c.in_err-prepared.field-0.0 c.in_err-prepared.ensures.once_written c.in_err-prepared.ensures.marks))
+pub returns-in-Err-clause-step : goal.returns-in-Err-clause-step
+returns-in-Err-clause-step g c = record {
+  image = search rules;
+  faults = search rules;
+  header_cluster = behind_then (behind_then c.prepare_data_mapping.ensures.step.header_cluster c.write_mapped.ensures.step.header_cluster) c.release.ensures.header_cluster;
+  marks = parts_before g.S.Storage.view (Some c.in-Err.refusal) c.args.image.now c.write_mapped.new.self c.release.new.image c.release.ensures.marks (counts_released g.S.Storage.view c.write_mapped.new.self c.release.new.image c.release.ensures.rest)
+      (parts_behind g.S.Storage.view (Some c.in-Err.refusal) c.args.image.now c.prepare_data_mapping.new.self c.write_mapped.new.self c.in_ok-prepared.ensures.step.marks c.in_ok-prepared.ensures.step.once_written.counts (in_parts g.S.Storage.view (refused_at_once g.S.Storage.view c.prepare_data_mapping.new.self c.write_mapped.new.self c.in-Err.refusal c.in-Err.ensures.step.once_written c.in-Err.ensures.step.marks)));
+  quiet = λ reading.
+      let view = g.S.Storage.view in
+      let old = c.args.image.now in
+      let mid = c.prepare_data_mapping.new.self in
+      let made = prepare_same old reading _ c.args.offset (length c.args.bytes.now) c.prepare_data_mapping.ensures.early c.prepare_data_mapping.ensures.nothing in
+      let put = c.write_mapped.new.self in
+      let same : put ≡ old = put_same mid (ap is_writable made ∙ reading) _ (refuses_mapping mid (image_of c.in_ok-prepared.prepared)) _ c.write_mapped.ensures.early c.write_mapped.ensures.read_only c.write_mapped.ensures.nothing ∙ made in
+      written_then view (quiet_image view old put same) (quiet_release view put c.release.new.image c.release.ensures.rest);
+}
 
-pub returns-in-Err-clause-marks : goal.returns-in-Err-clause-marks
-returns-in-Err-clause-marks g c =
-    parts_before g.S.Storage.view (Some c.in-Err.refusal) c.args.image.now c.write_mapped.new.self c.release.new.image c.release.ensures.marks (counts_released g.S.Storage.view c.write_mapped.new.self c.release.new.image c.release.ensures.rest)
-    (parts_behind g.S.Storage.view (Some c.in-Err.refusal) c.args.image.now c.prepare_data_mapping.new.self c.write_mapped.new.self c.in_ok-prepared.ensures.marks c.in_ok-prepared.ensures.once_written.counts (in_parts g.S.Storage.view (refused_at_once g.S.Storage.view c.prepare_data_mapping.new.self c.write_mapped.new.self c.in-Err.refusal c.in-Err.ensures.once_written c.in-Err.ensures.marks)))
+pub returns-in-Ok-clause-step : goal.returns-in-Ok-clause-step
+returns-in-Ok-clause-step g c = record {
+  image = search rules;
+  faults = search rules;
+  header_cluster = behind_then (behind_then c.prepare_data_mapping.ensures.step.header_cluster c.write_mapped.ensures.step.header_cluster) c.commit_data_mapping.ensures.header_cluster;
+  marks = parts_answered g.S.Storage.view c.args.image.now c.commit_data_mapping.new.self (c.in-Ok.ensures.marks ∙ c.in_default.ensures.step.marks ∙ c.in_ok-prepared.ensures.step.marks) (counts_on g.S.Storage.view c.args.image.now c.write_mapped.new.self c.commit_data_mapping.new.self (counts_on g.S.Storage.view c.args.image.now c.prepare_data_mapping.new.self c.write_mapped.new.self c.in_ok-prepared.ensures.step.once_written.counts c.in_default.ensures.step.once_written.counts) c.in-Ok.ensures.once_written.counts);
+  quiet = λ reading.
+      let view = g.S.Storage.view in
+      let old = c.args.image.now in
+      let mid = c.prepare_data_mapping.new.self in
+      let made = prepare_same old reading _ c.args.offset (length c.args.bytes.now) c.prepare_data_mapping.ensures.early c.prepare_data_mapping.ensures.nothing in
+      let put = c.write_mapped.new.self in
+      let p = c.in_ok-prepared.prepared in
+      let same : put ≡ old = put_same mid (ap is_writable made ∙ reading) _ (refuses_mapping mid (image_of p)) _ c.write_mapped.ensures.early c.write_mapped.ensures.read_only c.write_mapped.ensures.nothing ∙ made in
+      let none = nothing_prepared old reading _ p c.args.offset (length c.args.bytes.now) c.in_ok-prepared.ensures.early c.in_ok-prepared.ensures.nothing in
+      let own = c.in_ok-prepared.ensures.own ∙ sym (ap number_of same) in
+      written_then view (quiet_image view old put same) (quiet_commit view put c.commit_data_mapping.new.self (c.commit_data_mapping.ensures.failed own) (λ works. c.commit_data_mapping.ensures.existing own works none.0));
+}
 
-pub returns-in-Ok-clause-marks : goal.returns-in-Ok-clause-marks
-returns-in-Ok-clause-marks g c = parts_answered g.S.Storage.view c.args.image.now c.commit_data_mapping.new.self (c.in-Ok.ensures.marks ∙ c.in_default.ensures.marks ∙ c.in_ok-prepared.ensures.marks) (counts_on g.S.Storage.view c.args.image.now c.write_mapped.new.self c.commit_data_mapping.new.self (counts_on g.S.Storage.view c.args.image.now c.prepare_data_mapping.new.self c.write_mapped.new.self c.in_ok-prepared.ensures.once_written.counts c.in_default.ensures.once_written.counts) c.in-Ok.ensures.once_written.counts)
+pub returns-in-Err-Spent-clause-step : goal.returns-in-Err-Spent-clause-step
+returns-in-Err-Spent-clause-step g c = record {
+  image = search rules;
+  faults = let view = g.S.Storage.view in
+      let below = g.F.BackingDisk.backing in
+      let first = faults_then view below c.args.image.now c.prepare_data_mapping.new.self c.write_mapped.new.self c.in_ok-prepared.ensures.step.faults.told c.in_default.ensures.step.faults.told in
+      commit_since view below c.args.image.now c.write_mapped.new.self c.commit_data_mapping.new.self c.in-Err-Spent.field-0 c.in-Err-Spent.refusal (ap reason_of c.in-Err-Spent.field-0-is) first c.in-Err-Spent.ensures.faults;
+  header_cluster = behind_then (behind_then c.prepare_data_mapping.ensures.step.header_cluster c.write_mapped.ensures.step.header_cluster) c.commit_data_mapping.ensures.header_cluster;
+  marks = parts_behind g.S.Storage.view (Some c.in-Err-Spent.refusal) c.args.image.now c.write_mapped.new.self c.commit_data_mapping.new.self (c.in_default.ensures.step.marks ∙ c.in_ok-prepared.ensures.step.marks) (counts_on g.S.Storage.view c.args.image.now c.prepare_data_mapping.new.self c.write_mapped.new.self c.in_ok-prepared.ensures.step.once_written.counts c.in_default.ensures.step.once_written.counts) (in_parts g.S.Storage.view (subst (λ r. MarksAtOnce g.S.Storage.view (Some (reason_of r)) c.write_mapped.new.self c.commit_data_mapping.new.self) c.in-Err-Spent.field-0-is (commit_at_once g.S.Storage.view c.write_mapped.new.self c.commit_data_mapping.new.self _ c.in-Err-Spent.ensures.once_written c.in-Err-Spent.ensures.marks)));
+  quiet = λ reading.
+      let view = g.S.Storage.view in
+      let old = c.args.image.now in
+      let mid = c.prepare_data_mapping.new.self in
+      let made = prepare_same old reading _ c.args.offset (length c.args.bytes.now) c.prepare_data_mapping.ensures.early c.prepare_data_mapping.ensures.nothing in
+      let put = c.write_mapped.new.self in
+      let p = c.in_ok-prepared.prepared in
+      let same : put ≡ old = put_same mid (ap is_writable made ∙ reading) _ (refuses_mapping mid (image_of p)) _ c.write_mapped.ensures.early c.write_mapped.ensures.read_only c.write_mapped.ensures.nothing ∙ made in
+      let none = nothing_prepared old reading _ p c.args.offset (length c.args.bytes.now) c.in_ok-prepared.ensures.early c.in_ok-prepared.ensures.nothing in
+      let own = c.in_ok-prepared.ensures.own ∙ sym (ap number_of same) in
+      written_then view (quiet_image view old put same) (quiet_commit view put c.commit_data_mapping.new.self (c.commit_data_mapping.ensures.failed own) (λ works. c.commit_data_mapping.ensures.existing own works none.0));
+}
 
-pub returns-in-Err-Spent-clause-marks : goal.returns-in-Err-Spent-clause-marks
-returns-in-Err-Spent-clause-marks g c = parts_behind g.S.Storage.view (Some c.in-Err-Spent.refusal) c.args.image.now c.write_mapped.new.self c.commit_data_mapping.new.self (c.in_default.ensures.marks ∙ c.in_ok-prepared.ensures.marks) (counts_on g.S.Storage.view c.args.image.now c.prepare_data_mapping.new.self c.write_mapped.new.self c.in_ok-prepared.ensures.once_written.counts c.in_default.ensures.once_written.counts) (in_parts g.S.Storage.view (subst (λ r. MarksAtOnce g.S.Storage.view (Some (reason_of r)) c.write_mapped.new.self c.commit_data_mapping.new.self) c.in-Err-Spent.field-0-is (commit_at_once g.S.Storage.view c.write_mapped.new.self c.commit_data_mapping.new.self _ c.in-Err-Spent.ensures.once_written c.in-Err-Spent.ensures.marks)))
+pub returns-in-Err-Kept-clause-step : goal.returns-in-Err-Kept-clause-step
+returns-in-Err-Kept-clause-step g c = record {
+  image = search rules;
+  faults = let view = g.S.Storage.view in
+      let below = g.F.BackingDisk.backing in
+      let e = c.in-Err-Kept.refusal in
+      let first = faults_then view below c.args.image.now c.prepare_data_mapping.new.self c.write_mapped.new.self c.in_ok-prepared.ensures.step.faults.told c.in_default.ensures.step.faults.told in
+      let told : CountsImageFaults view below {T = ℕ} c.args.image.now c.commit_data_mapping.new.self (Err e) = commit_since view below c.args.image.now c.write_mapped.new.self c.commit_data_mapping.new.self c.in-Err-Kept.field-0 e (ap reason_of c.in-Err-Kept.field-0-is) first c.in-Err-Kept.ensures.faults in
+      counted_still view below c.args.image.now c.commit_data_mapping.new.self c.release-in-Err-Kept.new.image (Err e) told c.release-in-Err-Kept.ensures.faults;
+  header_cluster = behind_then (behind_then (behind_then c.prepare_data_mapping.ensures.step.header_cluster c.write_mapped.ensures.step.header_cluster) c.commit_data_mapping.ensures.header_cluster) c.release-in-Err-Kept.ensures.header_cluster;
+  marks = parts_before g.S.Storage.view (Some c.in-Err-Kept.refusal) c.args.image.now c.commit_data_mapping.new.self c.release-in-Err-Kept.new.image c.release-in-Err-Kept.ensures.marks (counts_released g.S.Storage.view c.commit_data_mapping.new.self c.release-in-Err-Kept.new.image c.release-in-Err-Kept.ensures.rest)
+      (parts_behind g.S.Storage.view (Some c.in-Err-Kept.refusal) c.args.image.now c.write_mapped.new.self c.commit_data_mapping.new.self (c.in_default.ensures.step.marks ∙ c.in_ok-prepared.ensures.step.marks) (counts_on g.S.Storage.view c.args.image.now c.prepare_data_mapping.new.self c.write_mapped.new.self c.in_ok-prepared.ensures.step.once_written.counts c.in_default.ensures.step.once_written.counts) (in_parts g.S.Storage.view (subst (λ r. MarksAtOnce g.S.Storage.view (Some (reason_of r)) c.write_mapped.new.self c.commit_data_mapping.new.self) c.in-Err-Kept.field-0-is (commit_at_once g.S.Storage.view c.write_mapped.new.self c.commit_data_mapping.new.self _ c.in-Err-Kept.ensures.once_written c.in-Err-Kept.ensures.marks))));
+  quiet = λ reading.
+      let view = g.S.Storage.view in
+      let old = c.args.image.now in
+      let mid = c.prepare_data_mapping.new.self in
+      let made = prepare_same old reading _ c.args.offset (length c.args.bytes.now) c.prepare_data_mapping.ensures.early c.prepare_data_mapping.ensures.nothing in
+      let put = c.write_mapped.new.self in
+      let p = c.in_ok-prepared.prepared in
+      let same : put ≡ old = put_same mid (ap is_writable made ∙ reading) _ (refuses_mapping mid (image_of p)) _ c.write_mapped.ensures.early c.write_mapped.ensures.read_only c.write_mapped.ensures.nothing ∙ made in
+      let none = nothing_prepared old reading _ p c.args.offset (length c.args.bytes.now) c.in_ok-prepared.ensures.early c.in_ok-prepared.ensures.nothing in
+      let own = c.in_ok-prepared.ensures.own ∙ sym (ap number_of same) in
+      let second = written_then view (quiet_image view old put same) (quiet_commit view put c.commit_data_mapping.new.self (c.commit_data_mapping.ensures.failed own) (λ works. c.commit_data_mapping.ensures.existing own works none.0)) in
+      written_then view second (quiet_release view c.commit_data_mapping.new.self c.release-in-Err-Kept.new.image c.release-in-Err-Kept.ensures.rest);
+}
 
-pub returns-in-Err-Kept-clause-marks : goal.returns-in-Err-Kept-clause-marks
-returns-in-Err-Kept-clause-marks g c =
-    parts_before g.S.Storage.view (Some c.in-Err-Kept.refusal) c.args.image.now c.commit_data_mapping.new.self c.release-in-Err-Kept.new.image c.release-in-Err-Kept.ensures.marks (counts_released g.S.Storage.view c.commit_data_mapping.new.self c.release-in-Err-Kept.new.image c.release-in-Err-Kept.ensures.rest)
-    (parts_behind g.S.Storage.view (Some c.in-Err-Kept.refusal) c.args.image.now c.write_mapped.new.self c.commit_data_mapping.new.self (c.in_default.ensures.marks ∙ c.in_ok-prepared.ensures.marks) (counts_on g.S.Storage.view c.args.image.now c.prepare_data_mapping.new.self c.write_mapped.new.self c.in_ok-prepared.ensures.once_written.counts c.in_default.ensures.once_written.counts) (in_parts g.S.Storage.view (subst (λ r. MarksAtOnce g.S.Storage.view (Some (reason_of r)) c.write_mapped.new.self c.commit_data_mapping.new.self) c.in-Err-Kept.field-0-is (commit_at_once g.S.Storage.view c.write_mapped.new.self c.commit_data_mapping.new.self _ c.in-Err-Kept.ensures.once_written c.in-Err-Kept.ensures.marks))))
+pub returns-in_err-prepared-clause-step : goal.returns-in_err-prepared-clause-step
+returns-in_err-prepared-clause-step g c = record {
+  image = search rules;
+  faults = search rules;
+  header_cluster = search rules;
+  marks = parts_handed g.S.Storage.view _ c.in_err-prepared.field-0.0 c.args.image.now c.prepare_data_mapping.new.self (refused_is _ c.in_err-prepared.field-0.0 c.from_residual.ensures) (in_parts g.S.Storage.view (refused_at_once g.S.Storage.view c.args.image.now c.prepare_data_mapping.new.self c.in_err-prepared.field-0.0 c.in_err-prepared.ensures.step.once_written c.in_err-prepared.ensures.step.marks));
+  quiet = λ reading.
+      let old = c.args.image.now in
+      quiet_image g.S.Storage.view old c.prepare_data_mapping.new.self (prepare_same old reading _ c.args.offset (length c.args.bytes.now) c.prepare_data_mapping.ensures.early c.prepare_data_mapping.ensures.nothing);
+}
 
-pub returns-in-Err-Spent-clause-faults : goal.returns-in-Err-Spent-clause-faults
-returns-in-Err-Spent-clause-faults g c =
+pub returns-in_err-prepared-clause-sound : goal.returns-in_err-prepared-clause-sound
+returns-in_err-prepared-clause-sound g c = λ none out sound.
+    let view = g.S.Storage.view in
+    let old = c.args.image.now in
+    let n = length c.args.bytes.now in
+    let some = some_bytes n (λ empty. let no = (c.in_err-prepared.ensures.nothing (ap (λ k. refuses_to_prepare old c.args.offset k) (sym empty) ∙ none) empty).0 in absurd cc) in
+    let new = c.prepare_data_mapping.new.self in
+    let e = c.in_err-prepared.field-0.0 in
+    let call = c.in_err-prepared.ensures.sees out in
+    record {
+      met = subst (λ r. IfErr r (IsMetTaking (HasPrepared out) (IsUnderMapping old.file.header.fields c.args.offset out) (CopiesCompressed c.args.offset n true new.file.header.fields (known_in view new.file)) (NeedsFarEntry old c.args.offset))) (sym (refused_is _ e c.from_residual.ensures))
+          (⊎_elim (λ still. taking_as (λ held. held) (λ taken. under_taken taken) (compressed_behind view g.F.BackingDisk.backing out old new sound still.0 (call.acts.works sound) c.args.offset n) (λ far. far) e (c.in_err-prepared.ensures.met none some out sound)) (λ failed. inl (inl (inl (fault_of e failed.0)))) (call.answer sound));
+      taken = subst (λ r. HeedsFirst g.S.Storage.view g.F.BackingDisk.backing old out c.args.offset n r) (sym (refused_is _ c.in_err-prepared.field-0.0 c.from_residual.ensures))
+          (λ is. (
+            elim (cases_lt 0 n) [
+              | inl some ↦ some
+              | inr least ↦ absurd (let empty : n ≡ 0 = omega (arith, least) in let no = (c.in_err-prepared.ensures.nothing (ap (λ k. refuses_to_prepare old c.args.offset k) (sym empty) ∙ none) empty).0 in cc)
+            ],
+            c.in_err-prepared.ensures.taken none out sound is,
+          ));
+      limit = subst (λ r. IfErr r (λ (e : ImageError). e ≡ Limit → LacksPlaceFor g.S.Storage.view c.args.offset n old c.prepare_data_mapping.new.self)) (sym (refused_is _ c.in_err-prepared.field-0.0 c.from_residual.ensures))
+          (c.in_err-prepared.ensures.limit none some out sound);
+    }
+
+pub returns-in-Ok-clause-sound : goal.returns-in-Ok-clause-sound
+returns-in-Ok-clause-sound g c = λ none out sound.
     let view = g.S.Storage.view in
     let below = g.F.BackingDisk.backing in
-    let first = faults_then view below c.args.image.now c.prepare_data_mapping.new.self c.write_mapped.new.self c.in_ok-prepared.ensures.faults.told c.in_default.ensures.faults.told in
-    commit_since view below c.args.image.now c.write_mapped.new.self c.commit_data_mapping.new.self c.in-Err-Spent.field-0 c.in-Err-Spent.refusal (ap reason_of c.in-Err-Spent.field-0-is) first c.in-Err-Spent.ensures.faults
+    let old = c.args.image.now in
+    let mid = c.prepare_data_mapping.new.self in
+    let p = c.in_ok-prepared.prepared in
+    let n = length c.args.bytes.now in
+    let call = c.in_ok-prepared.ensures.sees (None ∷ out) 0 refl in
+    let free_place = (free_places view below).free old [] out sound in
+    let prepared = call.answer free_place in
+    let same : cluster_size_of mid ≡ cluster_size_of old = ap (λ (x : Setting). x.cluster_size) (call.acts.works free_place).setting in
+    record {
+      met = search rules;
+      limit = search rules;
+      taken = λ some. let maps = c.in_ok-prepared.ensures.maps some out sound in
+          let count_is : c.min-count.result ≡ min n (length_of p) = c.min-count.ensures ∙ ap (λ k. min n k) c.length.ensures in
+          let within = maps.within in (
+            omega (arith, count_is, within),
+            untaken_beside view below old.file.header.fields (known_in view old.file) mid out p (meaning view below mid p) c.args.offset n prepared.0 same prepared.1.0.from maps,
+          );
+    }
 
-pub returns-in-Err-Kept-clause-faults : goal.returns-in-Err-Kept-clause-faults
-returns-in-Err-Kept-clause-faults g c =
+pub returns-in-Err-clause-sound : goal.returns-in-Err-clause-sound
+returns-in-Err-clause-sound g c = λ none out sound.
+    let view = g.S.Storage.view in
+    let old = c.args.image.now in
+    let below = g.F.BackingDisk.backing in
+    let p = c.in_ok-prepared.prepared in
+    let n = length c.args.bytes.now in
+    let mid = c.prepare_data_mapping.new.self in
+    let usable = mapping_usable old c.prepare_data_mapping.new.self c.prepare_data_mapping.ensures.step.image (image_of p) c.in_ok-prepared.ensures.own c.in_ok-prepared.ensures.step.marks (prepares_usable old c.args.offset n none) in
+    let some : 0 < n = some_bytes n (λ empty. let no = (c.in-Err.ensures.nothing usable (grind (arith, common_steps))).0 in absurd cc) in
+    let prepared = (c.in_ok-prepared.ensures.sees (None ∷ out) 0 refl).answer ((free_places g.S.Storage.view g.F.BackingDisk.backing).free old [] out sound) in
+    let offset = c.args.offset in
+    let count = c.min-count.result in
+    record {
+      met = let usable = mapping_usable old mid c.prepare_data_mapping.ensures.step.image (image_of p) c.in_ok-prepared.ensures.own c.in_ok-prepared.ensures.step.marks (prepares_usable old offset n none) in
+          let call = c.in_ok-prepared.ensures.sees (None ∷ out) 0 refl in
+          let free_place = (free_places view below).free old [] out sound in
+          let prepared = call.answer free_place in
+          let same : cluster_size_of mid ≡ cluster_size_of old = ap (λ (x : Setting). x.cluster_size) (call.acts.works free_place).setting in
+          let maps = c.in_ok-prepared.ensures.maps some out sound in
+          let fits : offset + n ≤ size_of mid = let s = c.prepare_data_mapping.ensures.step.image.size in let b = prepares_within old offset n none some in omega (arith, s, b) in
+          let long : table_of p ≡ None → length (take count c.args.bytes.now) ≡ n = λ existing.
+          let whole = existing_long view below out old mid p offset n prepared.0 same maps some existing in
+          let count_is : count ≡ min n (length_of p) = c.min-count.ensures ∙ ap (λ k. min n k) c.length.ensures in
+          chunk_long count (length_of p) c.args.bytes.now count_is ∙ (grind (arith, common_steps, count_is, whole)) in
+          elim (put_looking (IsCacheHeld mid (Some p ∷ out)) out p c.in-Err.refusal (λ held. held.1) (λ existing. existing_near view below out old mid p offset n prepared.0 same maps some existing)
+          (λ existing outdated. c.in-Err.ensures.outdated existing (Some p ∷ out) prepared.0 (ap Err outdated) (existing_found view below out old mid p offset n prepared.0 same maps some existing fits prepared.1.0.from (length (take count c.args.bytes.now)) (long existing)))
+          (c.in-Err.ensures.met (Some p ∷ out) 0 refl prepared.0 (c.prepare_data_mapping.ensures.step.image.writable ∙ prepares_writable old offset n none some))) [ inl fault ↦ inl (inl (inl fault)) | inr used ↦ inr (inl used) ];
+      taken = λ is. absurd (subst IsMet is (put_met c.args.image.now c.prepare_data_mapping.new.self c.prepare_data_mapping.ensures.step.image (image_of c.in_ok-prepared.prepared) c.args.offset (length c.args.bytes.now) (length (take c.min-count.result c.args.bytes.now)) c.in-Err.refusal
+          c.in_ok-prepared.ensures.own c.in_ok-prepared.ensures.step.marks (λ empty. grind (arith, common_steps)) none c.in-Err.ensures.late (λ usable empty. let no = (c.in-Err.ensures.nothing usable empty).0 in absurd cc)));
+      limit = other_limit _ c.in-Err.refusal (put_unlimited _ p 0 c.in-Err.refusal (c.in-Err.ensures.met (Some p ∷ out) 0 refl prepared.0 (c.prepare_data_mapping.ensures.step.image.writable ∙ prepares_writable old c.args.offset n none some)));
+    }
+
+pub returns-in-Err-Spent-clause-sound : goal.returns-in-Err-Spent-clause-sound
+returns-in-Err-Spent-clause-sound g c = λ none out sound.
     let view = g.S.Storage.view in
     let below = g.F.BackingDisk.backing in
-    let e = c.in-Err-Kept.refusal in
-    let first = faults_then view below c.args.image.now c.prepare_data_mapping.new.self c.write_mapped.new.self c.in_ok-prepared.ensures.faults.told c.in_default.ensures.faults.told in
-    let told : CountsImageFaults view below {T = ℕ} c.args.image.now c.commit_data_mapping.new.self (Err e) = commit_since view below c.args.image.now c.write_mapped.new.self c.commit_data_mapping.new.self c.in-Err-Kept.field-0 e (ap reason_of c.in-Err-Kept.field-0-is) first c.in-Err-Kept.ensures.faults in
-    counted_still view below c.args.image.now c.commit_data_mapping.new.self c.release-in-Err-Kept.new.image (Err e) told c.release-in-Err-Kept.ensures.faults
+    let p = c.in_ok-prepared.prepared in
+    let ready = (c.in_default.ensures.sees (Some p ∷ out) 0 refl).answer ((c.in_ok-prepared.ensures.sees (None ∷ out) 0 refl).answer ((free_places view below).free c.args.image.now [] out sound)).0 in
+    let refused = subst (λ r. Commits view below c.write_mapped.new.self c.commit_data_mapping.new.self p (Err r)) c.in-Err-Spent.field-0-is c.in-Err-Spent.ensures.sees (Some p ∷ out) 0 refl in
+    record {
+      met = inl (inl (inl (fault_of c.in-Err-Spent.refusal (refused.0 ready.0))));
+      taken = λ is. absurd (subst IsOfTables is (subst (λ r. IsOfTables (reason_of r)) c.in-Err-Spent.field-0-is
+          (c.in-Err-Spent.ensures.late (c.in_ok-prepared.ensures.own ∙ sym (c.write_mapped.ensures.step.image.number ∙ c.prepare_data_mapping.ensures.step.image.number))
+          (c.in_default.ensures.step.marks ∙ c.in_ok-prepared.ensures.step.marks ∙ not_failed_yet c.args.image.now c.prepare_data_mapping.new.self c.prepare_data_mapping.ensures.step.image (prepares_usable c.args.image.now c.args.offset (length c.args.bytes.now) none)))));
+      limit = other_limit _ c.in-Err-Spent.refusal (fault_unlimited c.in-Err-Spent.refusal (fault_of c.in-Err-Spent.refusal (refused.0 ready.0)));
+    }
+
+pub returns-in-Err-Kept-clause-sound : goal.returns-in-Err-Kept-clause-sound
+returns-in-Err-Kept-clause-sound g c = λ none out sound.
+    let view = g.S.Storage.view in
+    let below = g.F.BackingDisk.backing in
+    let p = c.in_ok-prepared.prepared in
+    let same : c.in-Err-Kept.prepared ≡ p = subst (λ r. IsHandedBackBy p r) c.in-Err-Kept.field-0-is c.in-Err-Kept.ensures.kept in
+    let ready = (c.in_default.ensures.sees (Some p ∷ out) 0 refl).answer ((c.in_ok-prepared.ensures.sees (None ∷ out) 0 refl).answer ((free_places view below).free c.args.image.now [] out sound)).0 in
+    let refused = subst (λ r. Commits view below c.write_mapped.new.self c.commit_data_mapping.new.self p (Err r)) (c.in-Err-Kept.field-0-is ∙ ap (λ q. Kept c.in-Err-Kept.refusal q) same) c.in-Err-Kept.ensures.sees (Some p ∷ out) 0 refl in
+    record {
+      met = inl (inl (inl (fault_of c.in-Err-Kept.refusal (refused.0 ready.0))));
+      taken = λ is. absurd (subst IsOfTables is (subst (λ r. IsOfTables (reason_of r)) c.in-Err-Kept.field-0-is
+          (c.in-Err-Kept.ensures.late (c.in_ok-prepared.ensures.own ∙ sym (c.write_mapped.ensures.step.image.number ∙ c.prepare_data_mapping.ensures.step.image.number))
+          (c.in_default.ensures.step.marks ∙ c.in_ok-prepared.ensures.step.marks ∙ not_failed_yet c.args.image.now c.prepare_data_mapping.new.self c.prepare_data_mapping.ensures.step.image (prepares_usable c.args.image.now c.args.offset (length c.args.bytes.now) none)))));
+      limit = other_limit _ c.in-Err-Kept.refusal (fault_unlimited c.in-Err-Kept.refusal (fault_of c.in-Err-Kept.refusal (refused.0 ready.0)));
+    }

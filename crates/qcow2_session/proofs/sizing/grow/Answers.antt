@@ -1,16 +1,14 @@
 use Rattle.qcow2_session.proofs.Marking.{answered_at_once, refused_at_once}
-use Rattle.std.proofs.Common.{inl, inr, ap, arith}
+use Rattle.std.proofs.Common.{inl, inr, ap, arith, refl}
 use Rattle.std.proofs.lemmas.Bool.{cases_lt}
 use Rattle.qcow2_session.proofs.Resized.{none_early, grow_done, grow_refused}
 use Rattle.qcow2_session.proofs.Unwritten.{resizes_failed, resized_itself, resizes_reading, same_early}
 use Rattle.qcow2_image.specs.Image.{size_of}
-use Rattle.qcow2_image.specs.Resizing.{refuses_to_resize}
+use Rattle.qcow2_image.specs.Resizing.{refuses_to_resize, takes_over}
 use Rattle.qcow2_session.specs.declared.session.Command.TheVariants as C
 use Rattle.qcow2_session.specs.declared.session.Reply.TheVariants as R
-use Rattle.std.proofs.Common.{refl}
 use Rattle.std.specs.Prelude.{◌&&◌, nat_lt}
 use Rattle.qcow2_alloc.specs.declared.error.ImageError.TheVariants.{Preallocation}
-use Rattle.qcow2_image.specs.Resizing.{takes_over}
 use Rattle.qcow2_session.proofs.Causing.{begun_with, grow_meets, is_answered, is_refused, same_error, some_error, takes_larger, then_early, then_none}
 use Rattle.qcow2_session.proofs.sizing.grow.Goals as goal
 
@@ -64,7 +62,7 @@ returns-in-Err-clause-causes g c = λ before found.
     (λ none sound larger is. (c.in-Err.ensures.tables (first none).0 larger before sound).taken (some_error is))
 
 pub returns-in-Err-clause-marks : goal.returns-in-Err-clause-marks
-returns-in-Err-clause-marks g c = refused_at_once g.S.Storage.view c.args.image.now c.resize_grow.new.self c.in-Err.refusal c.in-Err.ensures.once_written c.in-Err.ensures.marks
+returns-in-Err-clause-marks g c = refused_at_once g.S.Storage.view c.args.image.now c.resize_grow.new.self c.in-Err.refusal c.in-Err.ensures.step.once_written c.in-Err.ensures.step.marks
 
 pub returns-in-Ok-clause-marks : goal.returns-in-Ok-clause-marks
-returns-in-Ok-clause-marks g c = answered_at_once g.S.Storage.view c.args.image.now c.resize_grow.new.self c.in-Ok.ensures.once_written c.in-Ok.ensures.marks
+returns-in-Ok-clause-marks g c = answered_at_once g.S.Storage.view c.args.image.now c.resize_grow.new.self c.in-Ok.ensures.step.once_written c.in-Ok.ensures.step.marks

@@ -1,12 +1,11 @@
 use Rattle.qcow2_session.proofs.Marking.{answered_at_once, refused_at_once}
-use Rattle.std.proofs.Common.{ap}
+use Rattle.std.proofs.Common.{ap, refl}
 use Rattle.qcow2_session.proofs.Resized.{shrink_done, shrink_refused}
 use Rattle.qcow2_session.proofs.Unwritten.{resizes_failed, resized_itself, resizes_reading, same_early}
 use Rattle.qcow2_image.specs.Image.{size_of}
 use Rattle.qcow2_image.specs.Resizing.{refuses_to_resize}
 use Rattle.qcow2_session.specs.declared.session.Command.TheVariants as C
 use Rattle.qcow2_session.specs.declared.session.Reply.TheVariants as R
-use Rattle.std.proofs.Common.{refl}
 use Rattle.qcow2_session.proofs.Causing.{begun_with, is_answered, is_refused, some_error}
 use Rattle.qcow2_session.proofs.Told.{none_refused}
 use Rattle.qcow2_session.proofs.sizing.shrink.Goals as goal
@@ -57,7 +56,7 @@ pub returns-in-Err-clause-tells : goal.returns-in-Err-clause-tells
 returns-in-Err-clause-tells g c = λ before. tt
 
 pub returns-in-Err-clause-marks : goal.returns-in-Err-clause-marks
-returns-in-Err-clause-marks g c = refused_at_once g.S.Storage.view c.args.image.now c.resize_shrink.new.self c.in-Err.refusal c.in-Err.ensures.once_written c.in-Err.ensures.marks
+returns-in-Err-clause-marks g c = refused_at_once g.S.Storage.view c.args.image.now c.resize_shrink.new.self c.in-Err.refusal c.in-Err.ensures.step.once_written c.in-Err.ensures.step.marks
 
 pub returns-in-Ok-clause-marks : goal.returns-in-Ok-clause-marks
-returns-in-Ok-clause-marks g c = answered_at_once g.S.Storage.view c.args.image.now c.resize_shrink.new.self c.in-Ok.ensures.once_written c.in-Ok.ensures.marks
+returns-in-Ok-clause-marks g c = answered_at_once g.S.Storage.view c.args.image.now c.resize_shrink.new.self c.in-Ok.ensures.step.once_written c.in-Ok.ensures.step.marks

@@ -1,17 +1,15 @@
-use Rattle.std.proofs.Common.{Some, arith, length, refl, subst, sym, ◌<◌, ◌∙◌, ◌≡◌, ◌⊎◌}
+use Rattle.std.proofs.Common.{Some, arith, length, refl, subst, sym, ◌<◌, ◌∙◌, ◌≡◌, ◌⊎◌, rules, inl}
 use Rattle.std.proofs.lemmas.Grind.{common_steps}
 use Rattle.qcow2_alloc.specs.ImageFile.{known_in}
 use Rattle.qcow2_image.proofs.Sizes.{sound_is_usable}
 use Rattle.qcow2_alloc.specs.declared.error.ImageError.TheVariants.{NotCompressed}
-use Rattle.qcow2_image.specs.Refusals.{IsMet}
+use Rattle.qcow2_image.specs.Refusals.{IsMet, unusable}
 use Rattle.qcow2_session.proofs.Turns.{refused_is, refused_some}
 use Rattle.qcow2_session.proofs.SpecialReads.{told_specially}
 use Rattle.qcow2_session.proofs.Marking.{at_rest, call_at_once, memory_marks, once_handed, unchecked, unmarked}
 use Rattle.qcow2_image.proofs.Call.BehindHeader.{behind_none}
 use Rattle.qcow2_session.proofs.MetOnSound.{memory_looking}
-use Rattle.qcow2_image.specs.Refusals.{unusable}
 use Rattle.std.specs.Prelude.{IfErr}
-use Rattle.std.proofs.Common.{inl}
 use Rattle.qcow2_image.specs.MetAlone.{IsCacheHeld, IsMetSpecial}
 use Rattle.qcow2_session.proofs.special.read_range.Goals as goal
 
@@ -28,15 +26,6 @@ returns-clause-late g c = λ usable.
     let long : length c.deref_mut.result.now ≡ c.args.length = grind (arith, common_steps) in
     refused_some (λ e. IsMet e ⊎ (e ≡ NotCompressed c.args.offset)) c.args.length c.readv_special.result tt (c.readv_special.ensures.late usable) (λ none. (c.readv_special.ensures.nothing usable (long ∙ none)).0)
 
-pub returns-in_err-bytes-clause-header_cluster : goal.returns-in_err-bytes-clause-header_cluster
-returns-in_err-bytes-clause-header_cluster g c = behind_none
-
-pub returns-in_err-check_read-clause-header_cluster : goal.returns-in_err-check_read-clause-header_cluster
-returns-in_err-check_read-clause-header_cluster g c = behind_none
-
-pub returns-clause-quiet : goal.returns-clause-quiet
-returns-clause-quiet g c = c.readv_special.ensures.quiet
-
 pub returns-in_err-check_read-clause-met : goal.returns-in_err-check_read-clause-met
 returns-in_err-check_read-clause-met g c = λ out sound. absurd (unchecked (unusable c.args.image.now) c.in_err-check_read.field-0.0 c.in_err-check_read.ensures.refusal (sound_is_usable g.S.Storage.view g.F.BackingDisk.backing c.args.image.now out sound))
 
@@ -46,11 +35,29 @@ returns-in_err-bytes-clause-met g c = λ out sound. subst (λ r. IfErr r (IsMetS
 pub returns-clause-met : goal.returns-clause-met
 returns-clause-met g c = c.readv_special.ensures.met
 
-pub returns-clause-marks : goal.returns-clause-marks
-returns-clause-marks g c = call_at_once g.S.Storage.view c.args.image.now c.readv_special.new.self c.readv_special.result c.readv_special.ensures.once_written c.readv_special.ensures.marks
+pub returns-in_err-bytes-clause-step : goal.returns-in_err-bytes-clause-step
+returns-in_err-bytes-clause-step g c = record {
+  image = search rules;
+  faults = search rules;
+  quiet = search rules;
+  header_cluster = behind_none;
+  marks = once_handed g.S.Storage.view _ c.in_err-bytes.field-0.0 c.args.image.now c.args.image.now (refused_is _ c.in_err-bytes.field-0.0 c.from_residual-in_err-bytes.ensures) (at_rest g.S.Storage.view (Some c.in_err-bytes.field-0.0) c.args.image.now (memory_marks c.in_err-bytes.field-0.0 _ c.in_err-bytes.ensures.cause.0));
+}
 
-pub returns-in_err-check_read-clause-marks : goal.returns-in_err-check_read-clause-marks
-returns-in_err-check_read-clause-marks g c = once_handed g.S.Storage.view _ c.in_err-check_read.field-0.0 c.args.image.now c.args.image.now (refused_is _ c.in_err-check_read.field-0.0 c.from_residual.ensures) (at_rest g.S.Storage.view (Some c.in_err-check_read.field-0.0) c.args.image.now (unmarked c.in_err-check_read.field-0.0 _ _ c.in_err-check_read.ensures.faults refl))
+pub returns-in_err-check_read-clause-step : goal.returns-in_err-check_read-clause-step
+returns-in_err-check_read-clause-step g c = record {
+  image = search rules;
+  faults = search rules;
+  quiet = search rules;
+  header_cluster = behind_none;
+  marks = once_handed g.S.Storage.view _ c.in_err-check_read.field-0.0 c.args.image.now c.args.image.now (refused_is _ c.in_err-check_read.field-0.0 c.from_residual.ensures) (at_rest g.S.Storage.view (Some c.in_err-check_read.field-0.0) c.args.image.now (unmarked c.in_err-check_read.field-0.0 _ _ c.in_err-check_read.ensures.faults refl));
+}
 
-pub returns-in_err-bytes-clause-marks : goal.returns-in_err-bytes-clause-marks
-returns-in_err-bytes-clause-marks g c = once_handed g.S.Storage.view _ c.in_err-bytes.field-0.0 c.args.image.now c.args.image.now (refused_is _ c.in_err-bytes.field-0.0 c.from_residual-in_err-bytes.ensures) (at_rest g.S.Storage.view (Some c.in_err-bytes.field-0.0) c.args.image.now (memory_marks c.in_err-bytes.field-0.0 _ c.in_err-bytes.ensures.cause.0))
+pub returns-clause-step : goal.returns-clause-step
+returns-clause-step g c = record {
+  image = search rules;
+  faults = search rules;
+  header_cluster = search rules;
+  marks = call_at_once g.S.Storage.view c.args.image.now c.readv_special.new.self c.readv_special.result c.readv_special.ensures.step.once_written c.readv_special.ensures.step.marks;
+  quiet = c.readv_special.ensures.step.quiet;
+}

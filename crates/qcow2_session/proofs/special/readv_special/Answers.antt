@@ -1,4 +1,4 @@
-use Rattle.std.proofs.Common.{refl, arith}
+use Rattle.std.proofs.Common.{refl, arith, rules}
 use Rattle.qcow2_disk.proofs.RunSteps.{done_as, refused_told}
 use Rattle.qcow2_session.proofs.Answering.{unusable_first, error_is, not_both}
 use Rattle.qcow2_session.proofs.Turns.{does_if}
@@ -24,8 +24,8 @@ returns-in-Err-clause-causes g c = λ before found.
     (λ is. absurd cc) (λ is. absurd cc, λ is. absurd is) refl (begun_with _ _ _ (unusable c.args.image.now) c.in-Err.ensures.early)
     (λ none. (c.in-Err.ensures.late none).0) (λ _ _. tt) (λ none empty. let some = (c.in-Err.ensures.late none).1 in omega (arith, some, empty)) (λ _ sound. c.in-Err.ensures.met before sound)
 
-pub returns-in-Ok-clause-marks : goal.returns-in-Ok-clause-marks
-returns-in-Ok-clause-marks g c = c.in-Ok.ensures.marks
+pub returns-in-Ok-clause-step : goal.returns-in-Ok-clause-step
+returns-in-Ok-clause-step g c = record { image = search rules; faults = search rules; header_cluster = search rules; marks = c.in-Ok.ensures.step.marks }
 
-pub returns-in-Err-clause-marks : goal.returns-in-Err-clause-marks
-returns-in-Err-clause-marks g c = c.in-Err.ensures.marks
+pub returns-in-Err-clause-step : goal.returns-in-Err-clause-step
+returns-in-Err-clause-step g c = record { image = search rules; faults = search rules; header_cluster = search rules; marks = c.in-Err.ensures.step.marks }

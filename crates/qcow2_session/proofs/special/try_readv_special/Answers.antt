@@ -1,4 +1,4 @@
-use Rattle.std.proofs.Common.{refl, arith}
+use Rattle.std.proofs.Common.{refl, arith, rules}
 use Rattle.qcow2_disk.proofs.RunSteps.{done_as, refused_told}
 use Rattle.qcow2_session.proofs.Answering.{unusable_first, error_is, not_both}
 use Rattle.qcow2_session.specs.declared.session.Command.TheVariants as C
@@ -25,8 +25,8 @@ returns-in-Err-clause-causes g c = λ before found.
 pub returns-in-Ok-clause-tells : goal.returns-in-Ok-clause-tells
 returns-in-Ok-clause-tells g c = λ before. c.in-Ok.ensures.answer
 
-pub returns-in-Ok-clause-marks : goal.returns-in-Ok-clause-marks
-returns-in-Ok-clause-marks g c = c.in-Ok.ensures.marks
+pub returns-in-Ok-clause-step : goal.returns-in-Ok-clause-step
+returns-in-Ok-clause-step g c = record { image = search rules; faults = search rules; header_cluster = search rules; marks = c.in-Ok.ensures.step.marks }
 
-pub returns-in-Err-clause-marks : goal.returns-in-Err-clause-marks
-returns-in-Err-clause-marks g c = c.in-Err.ensures.marks
+pub returns-in-Err-clause-step : goal.returns-in-Err-clause-step
+returns-in-Err-clause-step g c = record { image = search rules; faults = search rules; header_cluster = search rules; marks = c.in-Err.ensures.step.marks }

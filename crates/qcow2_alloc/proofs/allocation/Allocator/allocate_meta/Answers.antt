@@ -2,23 +2,22 @@ use Rattle.qcow2_alloc.specs.declared.clusters_to_free.ClusterKind.TheVariants.{
 use Rattle.qcow2_alloc.proofs.MadeClusters.{made_run}
 use Rattle.qcow2_alloc.proofs.allocation.Allocator.allocate_meta.Goals as goal
 
+pub returns-clause-step : goal.returns-clause-step
+returns-clause-step g c = c.allocate.ensures.step
+
 pub returns-clause-sound : goal.returns-clause-sound
-returns-clause-sound g c = λ p sound. c.allocate.ensures.sound p sound tt
+returns-clause-sound g c = λ p sound.
+    record {
+      found = record {
+        takes = (c.allocate.ensures.sound p sound tt).takes;
+        uses = (c.allocate.ensures.sound p sound tt).uses;
+        hint = λ hint. (c.allocate.ensures.sound p sound tt).hint hint;
+        lowest = λ hint. (c.allocate.ensures.sound p sound tt).lowest hint;
+        limit = λ hint some. (c.allocate.ensures.sound p sound tt).limit hint some;
+      };
+      leaks = c.allocate.ensures.leaks p sound;
+      made = made_run g.S.Storage.view p c.args.file.now c.allocate.new.file c.args.self.now c.allocate.new.self sound c.allocate.ensures.step.list c.allocate.ensures.step.former Metadata c.args.count c.allocate.result ((c.allocate.ensures.sound p sound tt).takes);
+    }
 
-pub returns-clause-lowest : goal.returns-clause-lowest
-returns-clause-lowest g c = λ p kept. c.allocate.ensures.lowest p kept.sound tt kept.hint
-
-pub returns-clause-uses : goal.returns-clause-uses
-returns-clause-uses g c = λ p sound. c.allocate.ensures.uses p sound tt
-
-pub returns-clause-hint : goal.returns-clause-hint
-returns-clause-hint g c = λ p kept. c.allocate.ensures.hint p kept.sound tt kept.hint
-
-pub returns-clause-limit : goal.returns-clause-limit
-returns-clause-limit g c = λ p kept some. c.allocate.ensures.limit p kept.sound tt kept.hint some
-
-pub returns-clause-header_cluster : goal.returns-clause-header_cluster
-returns-clause-header_cluster g c = c.allocate.ensures.header_cluster
-
-pub returns-clause-made : goal.returns-clause-made
-returns-clause-made g c = λ p sound. made_run g.S.Storage.view p c.args.file.now c.allocate.new.file c.args.self.now c.allocate.new.self sound c.allocate.ensures.list c.allocate.ensures.former Metadata c.args.count c.allocate.result (c.allocate.ensures.sound p sound tt)
+pub returns-clause-fails : goal.returns-clause-fails
+returns-clause-fails g c = c.allocate.ensures.fails

@@ -15,8 +15,7 @@ use Rattle.qcow2_alloc.specs.ImageFile.{contents_in}
 use Rattle.qcow2_alloc.proofs.AllocationSteps.{handed_on, counted_at, none_named}
 use Rattle.qcow2_alloc.proofs.CachedEntries.Putting.{some_of}
 use Rattle.qcow2_alloc.proofs.Outcomes.{if_no_ok}
-use Rattle.qcow2_alloc.specs.declared.error.ImageError.TheVariants as I
-use Rattle.qcow2_alloc.proofs.Faults.{told_on, told_ok}
+use Rattle.qcow2_alloc.proofs.Steps.{fails_ok, fails_on}
 use Rattle.qcow2_alloc.proofs.allocation.Allocator.behind_used.Goals as goal
 
 -- a cluster behind another one in its range
@@ -49,15 +48,21 @@ returns-clause-sound g c = λ p sound.
           let least = c.min.ensures in
           let place = in_range c.args.cluster k (2 ^ bits) low (omega (arith, low, high, index, width, least)) in
           let moved = place.1 in
-          let at = counted_at g.S.Storage.view c.load_block.new.file c.args.file.now.header.fields (ap (λ x. x.fields) c.load_block.ensures.header) k _ c.in-Some.block (k % 2 ^ bits) bits l.1 c.rb_bits-bits.ensures.counts place.0 refl in
+          let at = counted_at g.S.Storage.view c.load_block.new.file c.args.file.now.header.fields (ap (λ x. x.fields) c.load_block.ensures.step.header) k _ c.in-Some.block (k % 2 ^ bits) bits l.1 c.rb_bits-bits.ensures.counts place.0 refl in
           c.rb_used_from-used.ensures.used c.load_block.new.file.header.fields p (contents_in g.S.Storage.view c.load_block.new.file) k (k % 2 ^ bits) l.0.file_step.sound.caches at (omega (arith, index, moved)) (omega (arith, low, high, index, least, moved)),
     ))
 
-pub returns-in_err-block-clause-header_cluster : goal.returns-in_err-block-clause-header_cluster
-returns-in_err-block-clause-header_cluster g c = c.load_block.ensures.header_cluster
+pub returns-in_err-block-clause-step : goal.returns-in_err-block-clause-step
+returns-in_err-block-clause-step g c = c.load_block.ensures.step
 
-pub returns-in_default-clause-header_cluster : goal.returns-in_default-clause-header_cluster
-returns-in_default-clause-header_cluster g c = c.load_block.ensures.header_cluster
+pub returns-in_err-block-clause-fails : goal.returns-in_err-block-clause-fails
+returns-in_err-block-clause-fails g c = fails_on c.from_residual.result c.in_err-block.field-0.0 c.from_residual.ensures c.in_err-block.ensures.fails
+
+pub returns-in_default-clause-step : goal.returns-in_default-clause-step
+returns-in_default-clause-step g c = c.load_block.ensures.step
+
+pub returns-in_default-clause-fails : goal.returns-in_default-clause-fails
+returns-in_default-clause-fails g c = fails_ok c.in_ok-block.ensures.fails.told
 
 -- it goes on at the first count of 0 of its refblock, or where the next range begins
 goes_far : {S : Type 0} (h : HeaderFields) (reftable : EntryTableView) (caches : MetadataCaches S) (cluster block index used per next : ℕ) → counts_per_block h ≡ per → index ≡ cluster % per → index < per
@@ -95,7 +100,7 @@ returns-in_default-clause-far g c =
     inl (
       refl,
       subst (λ n. HasNone c.args.self.now.reftable (c.args.cluster / n)) (sym c.rb_bits-bits.ensures.counts)
-          (none_named c.args.file.now.header.fields c.args.self.now.reftable (c.args.cluster / 2 ^ c.rb_bits-bits.result) c.in_ok-block.field-0 (ap is_some c.in_default.is) c.in_ok-block.ensures.names),
+          (none_named c.args.file.now.header.fields c.args.self.now.reftable (c.args.cluster / 2 ^ c.rb_bits-bits.result) c.in_ok-block.field-0 (ap is_some c.in_default.is) c.in_ok-block.ensures.finds.names),
     )
 
 pub returns-clause-far : goal.returns-clause-far
@@ -106,18 +111,18 @@ returns-clause-far g c =
     let index : c.rb_index-index.result ≡ c.args.cluster % 2 ^ bits = c.rb_index-index.ensures.value ∙ ap (λ n. n % 2 ^ bits) c.new.ensures in
     let few = c.rb_bits-bits.ensures.high in
     let width = one_shl bits 64 (omega (arith, few)) in
-    let names : NamesBlock h t (c.args.cluster / 2 ^ bits) (Some c.in-Some.block) = subst (NamesBlock h t (c.args.cluster / 2 ^ bits)) c.in-Some.is c.in_ok-block.ensures.names in
-    let held : IsSome (rb_at c.load_block.new.file.caches c.in-Some.block) = rw c.in-Some.is at c.in_ok-block.ensures.held in
+    let names : NamesBlock h t (c.args.cluster / 2 ^ bits) (Some c.in-Some.block) = subst (NamesBlock h t (c.args.cluster / 2 ^ bits)) c.in-Some.is c.in_ok-block.ensures.finds.names in
+    let held : IsSome (rb_at c.load_block.new.file.caches c.in-Some.block) = rw c.in-Some.is at c.in_ok-block.ensures.finds.held in
     let least = c.min.ensures in
     rw c.rb_used_from-used.ensures.same
     (goes_far h t c.load_block.new.file.caches c.args.cluster c.in-Some.block c.rb_index-index.result c.rb_used_from-used.result (2 ^ bits) _ c.rb_bits-bits.ensures.counts index (let low = mod_below c.args.cluster (2 ^ bits) (pow_pos bits) in omega (arith, index, low))
     names held c.rb_used_from-used.ensures.first (omega (arith, least, width)))
 
-pub returns-clause-marks : goal.returns-clause-marks
-returns-clause-marks g c = rw c.rb_used_from-used.ensures.same c.load_block.ensures.marks
+pub returns-clause-step : goal.returns-clause-step
+returns-clause-step g c = rw c.rb_used_from-used.ensures.same c.load_block.ensures.step
 
-pub returns-clause-header_cluster : goal.returns-clause-header_cluster
-returns-clause-header_cluster g c = rw c.rb_used_from-used.ensures.same c.load_block.ensures.header_cluster
+pub returns-clause-fails : goal.returns-clause-fails
+returns-clause-fails g c = fails_ok c.in_ok-block.ensures.fails.told
 
 -- ---- without a refblock nothing changes
 pub returns-in_err-block-clause-none : goal.returns-in_err-block-clause-none
@@ -128,12 +133,3 @@ returns-in_default-clause-none g c = λ none. (c.in_ok-block.ensures.none (subst
 
 pub returns-clause-none : goal.returns-clause-none
 returns-clause-none g c = λ none. rw c.rb_used_from-used.ensures.same (c.in_ok-block.ensures.none (subst (λ n. HasNone c.args.self.now.reftable (c.args.cluster / n)) c.rb_bits-bits.ensures.counts none)).1
-
-pub returns-in_err-block-clause-storage_faults : goal.returns-in_err-block-clause-storage_faults
-returns-in_err-block-clause-storage_faults g c = told_on _ _ c.load_block.result c.in_err-block.field-0.0 c.from_residual.result c.load_block.ensures.storage_faults c.in_err-block.was c.from_residual.ensures
-
-pub returns-in_default-clause-storage_faults : goal.returns-in_default-clause-storage_faults
-returns-in_default-clause-storage_faults g c = told_ok _ _ _ c.in_ok-block.ensures.storage_faults.told
-
-pub returns-clause-storage_faults : goal.returns-clause-storage_faults
-returns-clause-storage_faults g c = told_ok _ _ _ c.in_ok-block.ensures.storage_faults.told

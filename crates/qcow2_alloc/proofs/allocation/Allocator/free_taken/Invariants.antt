@@ -1,23 +1,19 @@
 use Rattle.std.proofs.Common.{◌≡◌, ◌≤◌, ◌++◌, length}
 use Rattle.qcow2_laws.specs.CrashInvariant.{Pending}
 use Rattle.qcow2_alloc.specs.Allocation.{MayFree, SameLeaks, UnseenAllocatorStep}
-use Rattle.qcow2_alloc.specs.KeptMarks.{KeepsMarks}
 use Rattle.qcow2_alloc.specs.Faults.{faults_of}
 use Rattle.qcow2_alloc.specs.FreeList.{with_listed, but}
 use Rattle.qcow2_alloc.specs.ImageFile.{AllocatorInvariant}
 use Rattle.qcow2_alloc.specs.Leaks.{LeaksUnaligned}
 use Rattle.qcow2_alloc.specs.LowestRuns.{NoFreeBelowHint}
-use Rattle.qcow2_alloc.specs.SparedHeaders.{SparesHeader}
+use Rattle.qcow2_alloc.specs.Steps.{FreeStep}
 use Rattle.qcow2_alloc.proofs.allocation.Allocator.free_taken.Given as goal
 
 -- what is listed, and what is taken and not looked at yet, is pending
 abbrev pub invariant-freeing : goal.invariant-freeing
 invariant-freeing g l = record {
-  header : l.file.header ≡ l.fn.file.header;
-  reftable : l.self.reftable ≡ l.fn.self.reftable;
-  marks : KeepsMarks g.S.Storage.view l.fn.file l.file;
   faults : faults_of g.S.Storage.view l.file.storage ≡ faults_of g.S.Storage.view l.fn.file.storage;
-  spared : SparesHeader g.S.Storage.view l.fn.self.reftable l.fn.file l.self.reftable l.file;
+  step : FreeStep g.S.Storage.view l.fn.self.reftable l.fn.file l.self.reftable l.file;
   others : but l.fn.kind (l.file.free_list ++ l.taken) ≡ but l.fn.kind (l.fn.file.free_list ++ l.fn.taken);
   left : l.file.free_list ++ but l.fn.kind l.taken ≡ l.fn.file.free_list ++ but l.fn.kind l.fn.taken;
   sound : (p : Pending) → AllocatorInvariant g.S.Storage.view l.fn.self (with_listed p (l.fn.file.free_list ++ l.fn.taken)) l.fn.file → MayFree l.fn.kind l.fn.file

@@ -8,10 +8,7 @@ use Rattle.qcow2_alloc.proofs.FileSteps.{file_step_on, on_then, on_interrupted_a
 use Rattle.qcow2_alloc.proofs.AllocationSteps.{handed_on, is_sound_now}
 use Rattle.qcow2_alloc.proofs.Hints.{kept_refused, not_in_run, taken_pending, used_stays}
 use Rattle.qcow2_alloc.proofs.Runs.{taken_first, taken_none, new_data_more}
-use Rattle.qcow2_alloc.proofs.Faults.{told_ok}
-use Rattle.qcow2_alloc.proofs.Outcomes.{told_after, handed_cause}
-use Rattle.qcow2_alloc.proofs.SparedHeaders.{spares_none, spares_then}
-use Rattle.qcow2_alloc.proofs.KeptMarks.{kept_marks_none, kept_marks_then}
+use Rattle.qcow2_alloc.proofs.Steps.{fails_ok, fails_on, fails_since, table_step_none, table_step_then}
 use Rattle.qcow2_alloc.proofs.allocation.Allocator.give_back.Goals as goal
 
 pub returns-then-n-eq0-clause-sound : goal.returns-then-n-eq0-clause-sound
@@ -19,11 +16,8 @@ returns-then-n-eq0-clause-sound g c = λ p p' d start new_data b noted. subst (�
 
 pub lowering-init : goal.lowering-init
 lowering-init g c = record {
-  header = refl;
-  list = refl;
-  marks = kept_marks_none;
   faults = refl;
-  spared = spares_none;
+  step = table_step_none;
   reftable = refl;
   sound = λ p p' d start new_data b.
       let whole : c.args.n ≡ c.args.first + c.args.n - c.args.first = omega arith in
@@ -42,27 +36,24 @@ returns-in_err-lower-clause-sound g c = λ p p' d start new_data b noted.
     let q : Pending = (taken_as d p' (run_at (c.lowering.cluster + 1) ((c.args.first + c.args.n) - (c.lowering.cluster + 1)))) in
     let same = taken_first d p' c.lowering.cluster (c.args.first + c.args.n) c.lowering-test.true in
     let moved = subst (λ (r : Pending). UnseenFileGrowth g.S.Storage.view p r start c.lowering.file) (sym same) one.file_step in
-    let low = c.in_err-lower.ensures.sound q (Taken d) (record { sound = moved.sound; reftable = one.reftable }) tt in
+    let low = (c.in_err-lower.ensures.sound q (Taken d) (record { sound = moved.sound; reftable = one.reftable }) tt).gives in
     handed_on (GivesBackAs g.S.Storage.view p start c.lower.new.self c.lower.new.file p') c.from_residual.result c.in_err-lower.field-0.0 c.from_residual.ensures (
       low.0,
       inr (on_interrupted_after g.S.Storage.view p (taken_as d q (one_at c.lowering.cluster)) start c.lowering.file c.lower.new.file c.lower.new.self c.in_err-lower.field-0.0 moved low.0
-          (c.lower.ensures.marks.pins.changes.noted (c.lowering.invariant.marks.pins.changes.noted (noted (let lt = c.lowering-test.true in let le = c.lowering.auto.cluster in omega arith)))) low.1),
+          (c.lower.ensures.step.marks.pins.changes.noted (c.lowering.invariant.step.marks.pins.changes.noted (noted (let lt = c.lowering-test.true in let le = c.lowering.auto.cluster in omega arith)))) low.1),
     )
 
 pub lowering-preserved : goal.lowering-preserved
 lowering-preserved g c = record {
-  header = c.lower.ensures.header ∙ c.lowering.invariant.header;
-  list = c.lower.ensures.list ∙ c.lowering.invariant.list;
-  marks = kept_marks_then c.lowering.invariant.marks c.lower.ensures.marks;
-  faults = c.in_ok-lower.ensures.storage_faults.told ∙ c.lowering.invariant.faults;
-  spared = spares_then c.lowering.invariant.spared c.lower.ensures.header_cluster;
+  faults = c.in_ok-lower.ensures.fails.told ∙ c.lowering.invariant.faults;
+  step = table_step_then c.lowering.invariant.step c.lower.ensures.step;
   reftable = c.lower.ensures.reftable ∙ c.lowering.invariant.reftable;
   sound = λ p p' d start new_data b.
       let one = c.lowering.invariant.sound p p' d start new_data b in
       let q : Pending = (taken_as d p' (run_at (c.lowering.cluster + 1) ((c.args.first + c.args.n) - (c.lowering.cluster + 1)))) in
       let same = taken_first d p' c.lowering.cluster (c.args.first + c.args.n) c.lowering-test.true in
       let moved = subst (λ (r : Pending). UnseenFileGrowth g.S.Storage.view p r start c.lowering.file) (sym same) one.file_step in
-      let low = c.in_ok-lower.ensures.sound q (Taken d) (record { sound = moved.sound; reftable = one.reftable }) tt in
+      let low = (c.in_ok-lower.ensures.sound q (Taken d) (record { sound = moved.sound; reftable = one.reftable }) tt).gives in
       record {
         file_step = on_then g.S.Storage.view p (taken_as d q (one_at c.lowering.cluster)) q start c.lowering.file c.lower.new.file
             (λ k some. subst (λ (r : Pending). 0 < r.new_data k) (sym same) (new_data_more d p' (run_at c.lowering.cluster ((c.args.first + c.args.n) - c.lowering.cluster)) k (new_data k some))) moved (file_step_on g.S.Storage.view (taken_as d q (one_at c.lowering.cluster)) q c.lowering.file c.lower.new.file low.file_step);
@@ -72,17 +63,17 @@ lowering-preserved g c = record {
       let one = c.lowering.invariant.kept p d sound in
       let q : Pending = (taken_as d p (run_at (c.lowering.cluster + 1) ((c.args.first + c.args.n) - (c.lowering.cluster + 1)))) in
       let same = taken_first d p c.lowering.cluster (c.args.first + c.args.n) c.lowering-test.true in
-      c.lower.ensures.leaks q (Taken d) (subst (λ (r : Pending). AllocatorInvariant g.S.Storage.view c.lowering.self r c.lowering.file) (sym same) one.0) tt ∙ c.lowering.invariant.leaks p d sound;
+      (c.lower.ensures.sound q (Taken d) (subst (λ (r : Pending). AllocatorInvariant g.S.Storage.view c.lowering.self r c.lowering.file) (sym same) one.0) tt).leaks ∙ c.lowering.invariant.leaks p d sound;
   hint = λ p d sound hint.
       let one = c.lowering.invariant.kept p d sound in
       let q : Pending = (taken_as d p (run_at (c.lowering.cluster + 1) ((c.args.first + c.args.n) - (c.lowering.cluster + 1)))) in
       let same = taken_first d p c.lowering.cluster (c.args.first + c.args.n) c.lowering-test.true in
-      c.in_ok-lower.ensures.hint q (Taken d) (subst (λ (r : Pending). AllocatorInvariant g.S.Storage.view c.lowering.self r c.lowering.file) (sym same) one.0) tt (c.lowering.invariant.hint p d sound hint);
+      (c.in_ok-lower.ensures.sound q (Taken d) (subst (λ (r : Pending). AllocatorInvariant g.S.Storage.view c.lowering.self r c.lowering.file) (sym same) one.0) tt).hint (c.lowering.invariant.hint p d sound hint);
   kept = λ p d sound.
       let one = c.lowering.invariant.kept p d sound in
       let q : Pending = (taken_as d p (run_at (c.lowering.cluster + 1) ((c.args.first + c.args.n) - (c.lowering.cluster + 1)))) in
       let same = taken_first d p c.lowering.cluster (c.args.first + c.args.n) c.lowering-test.true in
-      let low = c.in_ok-lower.ensures.sound q (Taken d) (subst (λ (r : Pending). AllocatorInvariant g.S.Storage.view c.lowering.self r c.lowering.file) (sym same) one.0) tt in (
+      let low = (c.in_ok-lower.ensures.sound q (Taken d) (subst (λ (r : Pending). AllocatorInvariant g.S.Storage.view c.lowering.self r c.lowering.file) (sym same) one.0) tt).gives in (
         is_sound_now g.S.Storage.view (taken_as d q (one_at c.lowering.cluster)) q c.lowering.file c.lower.new.file c.lower.new.self low,
         λ k none used.
             let other = not_in_run c.args.first c.args.n c.lowering.cluster k c.lowering.auto.cluster c.lowering-test.true none in
@@ -102,14 +93,14 @@ returns-in_err-lower-clause-hint g c = λ p d sound hint.
     let q : Pending = (taken_as d p (run_at (c.lowering.cluster + 1) ((c.args.first + c.args.n) - (c.lowering.cluster + 1)))) in
     let same = taken_first d p c.lowering.cluster (c.args.first + c.args.n) c.lowering-test.true in
     handed_on (KeepsNoFreeBelowHint g.S.Storage.view c.lower.new.self c.lower.new.file) c.from_residual.result c.in_err-lower.field-0.0 c.from_residual.ensures
-    (c.in_err-lower.ensures.hint q (Taken d) (subst (λ (r : Pending). AllocatorInvariant g.S.Storage.view c.lowering.self r c.lowering.file) (sym same) one.0) tt (c.lowering.invariant.hint p d sound hint))
+    ((c.in_err-lower.ensures.sound q (Taken d) (subst (λ (r : Pending). AllocatorInvariant g.S.Storage.view c.lowering.self r c.lowering.file) (sym same) one.0) tt).hint (c.lowering.invariant.hint p d sound hint))
 
 pub returns-in_err-lower-clause-kept : goal.returns-in_err-lower-clause-kept
 returns-in_err-lower-clause-kept g c = λ p d sound.
     let one = c.lowering.invariant.kept p d sound in
     let q : Pending = (taken_as d p (run_at (c.lowering.cluster + 1) ((c.args.first + c.args.n) - (c.lowering.cluster + 1)))) in
     let same = taken_first d p c.lowering.cluster (c.args.first + c.args.n) c.lowering-test.true in
-    let low = c.in_err-lower.ensures.sound q (Taken d) (subst (λ (r : Pending). AllocatorInvariant g.S.Storage.view c.lowering.self r c.lowering.file) (sym same) one.0) tt in
+    let low = (c.in_err-lower.ensures.sound q (Taken d) (subst (λ (r : Pending). AllocatorInvariant g.S.Storage.view c.lowering.self r c.lowering.file) (sym same) one.0) tt).gives in
     handed_on (KeepsUsedBut g.S.Storage.view (run_at c.args.first c.args.n) c.args.file.now c.lower.new.file) c.from_residual.result c.in_err-lower.field-0.0 c.from_residual.ensures
     (kept_refused g.S.Storage.view (run_at c.args.first c.args.n) (taken_as d q (one_at c.lowering.cluster)) c.args.file.now c.lowering.file c.lower.new.file c.lower.new.self c.in_err-lower.field-0.0 low.1 one.1)
 
@@ -119,78 +110,42 @@ returns-clause-hint g c = λ p d sound hint. c.lowering.invariant.hint p d sound
 pub returns-clause-kept : goal.returns-clause-kept
 returns-clause-kept g c = λ p d sound. (c.lowering.invariant.kept p d sound).1
 
-pub returns-in_err-lower-clause-marks : goal.returns-in_err-lower-clause-marks
-returns-in_err-lower-clause-marks g c = kept_marks_then c.lowering.invariant.marks c.lower.ensures.marks
+pub returns-in_err-lower-clause-step : goal.returns-in_err-lower-clause-step
+returns-in_err-lower-clause-step g c = table_step_then c.lowering.invariant.step c.lower.ensures.step
 
-pub returns-in_err-lower-clause-cause : goal.returns-in_err-lower-clause-cause
-returns-in_err-lower-clause-cause g c = handed_cause c.from_residual.result c.in_err-lower.field-0.0 c.from_residual.ensures c.in_err-lower.ensures.cause
-
-pub returns-in_err-lower-clause-storage_faults : goal.returns-in_err-lower-clause-storage_faults
-returns-in_err-lower-clause-storage_faults g c = told_after _ _ _ c.lower.result c.in_err-lower.field-0.0 c.from_residual.result c.lowering.invariant.faults c.lower.ensures.storage_faults c.in_err-lower.was c.from_residual.ensures
-
-pub returns-in_err-lower-clause-header : goal.returns-in_err-lower-clause-header
-returns-in_err-lower-clause-header g c = c.lower.ensures.header ∙ c.lowering.invariant.header
-
-pub returns-in_err-lower-clause-list : goal.returns-in_err-lower-clause-list
-returns-in_err-lower-clause-list g c = c.lower.ensures.list ∙ c.lowering.invariant.list
+pub returns-in_err-lower-clause-fails : goal.returns-in_err-lower-clause-fails
+returns-in_err-lower-clause-fails g c = fails_on c.from_residual.result c.in_err-lower.field-0.0 c.from_residual.ensures (fails_since c.lowering.invariant.faults c.in_err-lower.ensures.fails)
 
 pub returns-in_err-lower-clause-reftable : goal.returns-in_err-lower-clause-reftable
 returns-in_err-lower-clause-reftable g c = c.lower.ensures.reftable ∙ c.lowering.invariant.reftable
 
-pub returns-then-n-eq0-clause-marks : goal.returns-then-n-eq0-clause-marks
-returns-then-n-eq0-clause-marks g c = kept_marks_none
+pub returns-then-n-eq0-clause-step : goal.returns-then-n-eq0-clause-step
+returns-then-n-eq0-clause-step g c = table_step_none
 
-pub returns-then-n-eq0-clause-header : goal.returns-then-n-eq0-clause-header
-returns-then-n-eq0-clause-header g c = refl
-
-pub returns-then-n-eq0-clause-list : goal.returns-then-n-eq0-clause-list
-returns-then-n-eq0-clause-list g c = refl
+pub returns-then-n-eq0-clause-fails : goal.returns-then-n-eq0-clause-fails
+returns-then-n-eq0-clause-fails g c = fails_ok refl
 
 pub returns-then-n-eq0-clause-reftable : goal.returns-then-n-eq0-clause-reftable
 returns-then-n-eq0-clause-reftable g c = refl
 
-pub returns-then-n-eq0-clause-cause : goal.returns-then-n-eq0-clause-cause
-returns-then-n-eq0-clause-cause g c = tt
+pub returns-clause-step : goal.returns-clause-step
+returns-clause-step g c = c.lowering.invariant.step
 
-pub returns-then-n-eq0-clause-storage_faults : goal.returns-then-n-eq0-clause-storage_faults
-returns-then-n-eq0-clause-storage_faults g c = told_ok _ _ tt refl
-
-pub returns-clause-marks : goal.returns-clause-marks
-returns-clause-marks g c = c.lowering.invariant.marks
-
-pub returns-clause-header : goal.returns-clause-header
-returns-clause-header g c = c.lowering.invariant.header
-
-pub returns-clause-list : goal.returns-clause-list
-returns-clause-list g c = c.lowering.invariant.list
+pub returns-clause-fails : goal.returns-clause-fails
+returns-clause-fails g c = fails_ok c.lowering.invariant.faults
 
 pub returns-clause-reftable : goal.returns-clause-reftable
 returns-clause-reftable g c = c.lowering.invariant.reftable
-
-pub returns-clause-cause : goal.returns-clause-cause
-returns-clause-cause g c = tt
-
-pub returns-clause-storage_faults : goal.returns-clause-storage_faults
-returns-clause-storage_faults g c = told_ok _ _ tt c.lowering.invariant.faults
 
 pub returns-in_err-lower-clause-leaks : goal.returns-in_err-lower-clause-leaks
 returns-in_err-lower-clause-leaks g c = λ p d sound.
     let one = c.lowering.invariant.kept p d sound in
     let q : Pending = (taken_as d p (run_at (c.lowering.cluster + 1) ((c.args.first + c.args.n) - (c.lowering.cluster + 1)))) in
     let same = taken_first d p c.lowering.cluster (c.args.first + c.args.n) c.lowering-test.true in
-    c.lower.ensures.leaks q (Taken d) (subst (λ (r : Pending). AllocatorInvariant g.S.Storage.view c.lowering.self r c.lowering.file) (sym same) one.0) tt ∙ c.lowering.invariant.leaks p d sound
+    (c.lower.ensures.sound q (Taken d) (subst (λ (r : Pending). AllocatorInvariant g.S.Storage.view c.lowering.self r c.lowering.file) (sym same) one.0) tt).leaks ∙ c.lowering.invariant.leaks p d sound
 
 pub returns-clause-leaks : goal.returns-clause-leaks
 returns-clause-leaks g c = λ p d sound. c.lowering.invariant.leaks p d sound
 
 pub returns-then-n-eq0-clause-leaks : goal.returns-then-n-eq0-clause-leaks
 returns-then-n-eq0-clause-leaks g c = λ p d sound. refl
-
-pub returns-then-n-eq0-clause-header_cluster : goal.returns-then-n-eq0-clause-header_cluster
-returns-then-n-eq0-clause-header_cluster g c = spares_none
-
-pub returns-in_err-lower-clause-header_cluster : goal.returns-in_err-lower-clause-header_cluster
-returns-in_err-lower-clause-header_cluster g c = spares_then c.lowering.invariant.spared c.lower.ensures.header_cluster
-
-pub returns-clause-header_cluster : goal.returns-clause-header_cluster
-returns-clause-header_cluster g c = c.lowering.invariant.spared

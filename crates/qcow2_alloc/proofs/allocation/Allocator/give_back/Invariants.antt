@@ -1,22 +1,18 @@
 use Rattle.std.proofs.Common.{◌≡◌, ℕ, ◌+◌, ◌-◌, ◌<◌, Bool}
 use Rattle.qcow2_laws.specs.CrashInvariant.{Pending}
 use Rattle.qcow2_alloc.specs.Allocation.{run_at, taken_as, SameLeaks, UnseenAllocatorGrowth}
-use Rattle.qcow2_alloc.specs.KeptMarks.{KeepsMarks}
 use Rattle.qcow2_alloc.specs.Faults.{faults_of}
 use Rattle.qcow2_alloc.specs.declared.image_file.ImageFile.{ImageFile}
 use Rattle.qcow2_alloc.specs.ImageFile.{AllocatorInvariant}
 use Rattle.qcow2_alloc.specs.LowestRuns.{NoFreeBelowHint, IsUsed}
-use Rattle.qcow2_alloc.specs.SparedHeaders.{SparesHeader}
+use Rattle.qcow2_alloc.specs.Steps.{TableStep}
 use Rattle.qcow2_alloc.proofs.allocation.Allocator.give_back.Given as goal
 
 -- the clusters before this one are given back
 abbrev pub invariant-lowering : goal.invariant-lowering
 invariant-lowering g l = record {
-  header : l.file.header ≡ l.fn.file.header;
-  list : l.file.free_list ≡ l.fn.file.free_list;
-  marks : KeepsMarks g.S.Storage.view l.fn.file l.file;
   faults : faults_of g.S.Storage.view l.file.storage ≡ faults_of g.S.Storage.view l.fn.file.storage;
-  spared : SparesHeader g.S.Storage.view l.fn.self.reftable l.fn.file l.self.reftable l.file;
+  step : TableStep g.S.Storage.view l.fn.self.reftable l.fn.file l.self.reftable l.file;
   reftable : l.self.reftable ≡ l.fn.self.reftable;
   sound : (p p' : Pending) (d : Bool) (start : ImageFile g.row.S.Denot) → ((k : ℕ) → 0 < p.new_data k → 0 < p'.new_data k) → UnseenAllocatorGrowth g.S.Storage.view p start l.fn.self l.fn.file (taken_as d p' (run_at l.fn.first l.fn.n))
       → UnseenAllocatorGrowth g.S.Storage.view p start l.self l.file (taken_as d p' (run_at l.cluster (l.fn.first + l.fn.n - l.cluster)));

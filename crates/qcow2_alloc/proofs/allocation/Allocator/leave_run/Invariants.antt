@@ -1,23 +1,19 @@
-use Rattle.std.proofs.Common.{◌≤◌, ◌≡◌, ℕ, ◌+◌, ◌-◌, ◌^◌}
+use Rattle.std.proofs.Common.{◌≡◌, ℕ, ◌+◌, ◌-◌, ◌^◌}
 use Rattle.qcow2_metadata.specs.Header.{counts_per_block}
 use Rattle.qcow2_laws.specs.CrashInvariant.{Pending}
 use Rattle.qcow2_alloc.specs.Allocation.{run_at, SameLeaks, UnseenAllocatorStep}
-use Rattle.qcow2_alloc.specs.KeptMarks.{KeepsMarks}
 use Rattle.qcow2_alloc.specs.Faults.{faults_of}
 use Rattle.qcow2_alloc.specs.GrownTables.{with_run}
 use Rattle.qcow2_alloc.specs.declared.image_file.ImageFile.{ImageFile}
 use Rattle.qcow2_alloc.specs.LowestRuns.{IsUsed}
-use Rattle.qcow2_alloc.specs.SparedHeaders.{SparesHeader}
+use Rattle.qcow2_alloc.specs.Steps.{TableStep}
 use Rattle.qcow2_alloc.proofs.allocation.Allocator.leave_run.Given as goal
 
 -- the clusters before this one are given back
 abbrev pub invariant-leaving : goal.invariant-leaving
 invariant-leaving g l = record {
-  header : l.file.header ≡ l.fn.file.header;
-  list : l.file.free_list ≡ l.fn.file.free_list;
-  marks : KeepsMarks g.S.Storage.view l.fn.file l.file;
   faults : faults_of g.S.Storage.view l.file.storage ≡ faults_of g.S.Storage.view l.fn.file.storage;
-  spared : SparesHeader g.S.Storage.view l.fn.self.reftable l.fn.file l.self.reftable l.file;
+  step : TableStep g.S.Storage.view l.fn.self.reftable l.fn.file l.self.reftable l.file;
   reftable : l.self.reftable ≡ l.fn.self.reftable;
   first : l.self.first_free_cluster ≡ l.fn.self.first_free_cluster;
   counts : counts_per_block l.fn.file.header.fields ≡ 2 ^ l.bits;

@@ -2,9 +2,10 @@ use Rattle.std.proofs.Common.{refl, inl, ◌^◌}
 use Rattle.qcow2_alloc.specs.Allocation.{LoadsBlock}
 use Rattle.qcow2_alloc.proofs.FileSteps.{file_step_cached, reftable_cached}
 use Rattle.qcow2_alloc.proofs.AllocationSteps.{handed_on, place_fits, stands}
-use Rattle.qcow2_alloc.proofs.SparedHeaders.{spares_cached, not_first}
 use Rattle.qcow2_alloc.proofs.KeptMarks.{marks_of_both}
 use Rattle.qcow2_alloc.proofs.AlignedBlocks.{not_off}
+use Rattle.qcow2_alloc.proofs.SparedHeaders.{not_first}
+use Rattle.qcow2_alloc.proofs.Steps.{fails_of, fails_ok, fails_on, table_step_cached, table_step_none}
 use Rattle.qcow2_alloc.proofs.allocation.Allocator.load_block.Goals as goal
 
 pub returns-in_err-rb_get_or_insert-clause-sound : goal.returns-in_err-rb_get_or_insert-clause-sound
@@ -26,18 +27,6 @@ returns-clause-sound g c = λ p sound.
           c.in-Some.ensures.offset c.in-Some.ensures.some c.in-Some-checked_cluster.ensures.cluster c.cluster_bits.ensures.value c.in_ok-rb_get_or_insert.ensures.cached,
     )
 
-pub returns-in_err-rb_get_or_insert-clause-header_cluster : goal.returns-in_err-rb_get_or_insert-clause-header_cluster
-returns-in_err-rb_get_or_insert-clause-header_cluster g c = spares_cached c.args.self.now.reftable c.args.file.now c.rb_get_or_insert.new.storage c.rb_get_or_insert.new.self (c.rb_get_or_insert.ensures.header_cluster (not_first c.in-Some-checked_cluster.cluster (2 ^ c.cluster_bits.result) c.in-Some.offset c.in-Some.ensures.some c.in-Some-checked_cluster.ensures.cluster))
-
-pub returns-clause-header_cluster : goal.returns-clause-header_cluster
-returns-clause-header_cluster g c = spares_cached c.args.self.now.reftable c.args.file.now c.rb_get_or_insert.new.storage c.rb_get_or_insert.new.self (c.rb_get_or_insert.ensures.header_cluster (not_first c.in-Some-checked_cluster.cluster (2 ^ c.cluster_bits.result) c.in-Some.offset c.in-Some.ensures.some c.in-Some-checked_cluster.ensures.cluster))
-
-pub returns-in_err-rb_get_or_insert-clause-marks : goal.returns-in_err-rb_get_or_insert-clause-marks
-returns-in_err-rb_get_or_insert-clause-marks g c = marks_of_both c.rb_get_or_insert.ensures.marks c.rb_get_or_insert.ensures.order c.rb_get_or_insert.ensures.notes
-
-pub returns-clause-marks : goal.returns-clause-marks
-returns-clause-marks g c = marks_of_both c.rb_get_or_insert.ensures.marks c.rb_get_or_insert.ensures.order c.rb_get_or_insert.ensures.notes
-
 pub returns-in_default-clause-none : goal.returns-in_default-clause-none
 returns-in_default-clause-none g c = λ none. (refl, refl)
 
@@ -46,3 +35,23 @@ returns-in_err-rb_get_or_insert-clause-unaligned g c = λ u. not_off c.args.file
 
 pub returns-clause-unaligned : goal.returns-clause-unaligned
 returns-clause-unaligned g c = λ u. not_off c.args.file.now.header.fields c.args.self.now.reftable c.args.range c.in-Some-checked_cluster.cluster c.cluster_bits.result c.in-Some.offset c.in-Some.ensures.offset c.in-Some-checked_cluster.ensures.cluster c.cluster_bits.ensures.value u
+
+pub returns-in_err-rb_get_or_insert-clause-step : goal.returns-in_err-rb_get_or_insert-clause-step
+returns-in_err-rb_get_or_insert-clause-step g c = table_step_cached (marks_of_both c.rb_get_or_insert.ensures.marks c.rb_get_or_insert.ensures.order c.rb_get_or_insert.ensures.notes)
+    (c.rb_get_or_insert.ensures.header_cluster (not_first c.in-Some-checked_cluster.cluster (2 ^ c.cluster_bits.result) c.in-Some.offset c.in-Some.ensures.some c.in-Some-checked_cluster.ensures.cluster))
+
+pub returns-clause-step : goal.returns-clause-step
+returns-clause-step g c = table_step_cached (marks_of_both c.rb_get_or_insert.ensures.marks c.rb_get_or_insert.ensures.order c.rb_get_or_insert.ensures.notes)
+    (c.rb_get_or_insert.ensures.header_cluster (not_first c.in-Some-checked_cluster.cluster (2 ^ c.cluster_bits.result) c.in-Some.offset c.in-Some.ensures.some c.in-Some-checked_cluster.ensures.cluster))
+
+pub returns-in_default-clause-step : goal.returns-in_default-clause-step
+returns-in_default-clause-step g c = table_step_none
+
+pub returns-in_default-checked_cluster-clause-step : goal.returns-in_default-checked_cluster-clause-step
+returns-in_default-checked_cluster-clause-step g c = table_step_none
+
+pub returns-in_err-rb_get_or_insert-clause-fails : goal.returns-in_err-rb_get_or_insert-clause-fails
+returns-in_err-rb_get_or_insert-clause-fails g c = fails_on c.from_residual.result c.in_err-rb_get_or_insert.field-0.0 c.from_residual.ensures (fails_of _ c.in_err-rb_get_or_insert.ensures.storage_faults c.in_err-rb_get_or_insert.ensures.cause)
+
+pub returns-clause-fails : goal.returns-clause-fails
+returns-clause-fails g c = fails_ok c.in_ok-rb_get_or_insert.ensures.storage_faults.told

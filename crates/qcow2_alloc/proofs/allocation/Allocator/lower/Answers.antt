@@ -3,34 +3,30 @@ use Rattle.qcow2_alloc.proofs.Outcomes.{not_both}
 use Rattle.qcow2_alloc.proofs.allocation.Allocator.lower.Goals as goal
 
 pub returns-in-Ok-true-clause-sound : goal.returns-in-Ok-true-clause-sound
-returns-in-Ok-true-clause-sound g c = λ p owed sound may. rw c.in-Ok-true.field-0-test at (c.in-Ok-true.ensures.sound p owed sound may)
+returns-in-Ok-true-clause-sound g c = λ p owed sound may.
+    record {
+      gives = rw c.in-Ok-true.field-0-test at (c.in-Ok-true.ensures.sound p owed sound may);
+      leaks = c.try_lower.ensures.leaked;
+      hint = λ hint. c.in-Ok-true.ensures.hint p owed sound may hint;
+    }
 
 pub returns-clause-sound : goal.returns-clause-sound
-returns-clause-sound g c = λ p owed sound may. elim c.match-try_lower.branch [
-  | in-Ok-false w ↦ absurd (rw w.in-Ok-false.field-0-test at (w.in-Ok-false.ensures.sound p owed sound may))
-  | in-Err+else-is_fault+in-StillInUse-1 w ↦ not_both w.is_fault.result (w.is_fault.ensures.1 (w.in-Err.ensures.sound p owed sound may).0) w.if-is_fault.false
-  | in-Err+else-is_fault+in-ReadOnly-1 w ↦ not_both w.is_fault.result (w.is_fault.ensures.1 (w.in-Err.ensures.sound p owed sound may).0) w.if-is_fault.false
-]
+returns-clause-sound g c = λ p owed sound may.
+    elim c.match-try_lower.branch [
+      | in-Ok-false w ↦ absurd (rw w.in-Ok-false.field-0-test at (w.in-Ok-false.ensures.sound p owed sound may))
+      | in-Err+else-is_fault+in-StillInUse-1 w ↦ not_both w.is_fault.result (w.is_fault.ensures.1 (w.in-Err.ensures.sound p owed sound may).0) w.if-is_fault.false
+      | in-Err+else-is_fault+in-ReadOnly-1 w ↦ not_both w.is_fault.result (w.is_fault.ensures.1 (w.in-Err.ensures.sound p owed sound may).0) w.if-is_fault.false
+    ]
 
-pub returns-in-Ok-true-clause-hint : goal.returns-in-Ok-true-clause-hint
-returns-in-Ok-true-clause-hint g c = λ p owed sound may hint. c.in-Ok-true.ensures.hint p owed sound may hint
+pub returns-in-Ok-true-clause-step : goal.returns-in-Ok-true-clause-step
+returns-in-Ok-true-clause-step g c = c.try_lower.ensures.step
 
-pub returns-clause-hint : goal.returns-clause-hint
-returns-clause-hint g c = λ p owed sound may hint. elim c.match-try_lower.branch [
-  | in-Ok-false w ↦ absurd (rw w.in-Ok-false.field-0-test at (w.in-Ok-false.ensures.sound p owed sound may))
-  | in-Err+else-is_fault+in-StillInUse-1 w ↦ not_both w.is_fault.result (w.is_fault.ensures.1 (w.in-Err.ensures.sound p owed sound may).0) w.if-is_fault.false
-  | in-Err+else-is_fault+in-ReadOnly-1 w ↦ not_both w.is_fault.result (w.is_fault.ensures.1 (w.in-Err.ensures.sound p owed sound may).0) w.if-is_fault.false
-]
+pub returns-clause-step : goal.returns-clause-step
+returns-clause-step g c = c.try_lower.ensures.step
 
-pub returns-clause-leaks : goal.returns-clause-leaks
-returns-clause-leaks g c = λ p owed sound may. elim c.match-try_lower.branch [
-  | in-Ok-false w ↦ absurd (rw w.in-Ok-false.field-0-test at (w.in-Ok-false.ensures.sound p owed sound may))
-  | in-Err+else-is_fault+in-StillInUse-1 w ↦ not_both w.is_fault.result (w.is_fault.ensures.1 (w.in-Err.ensures.sound p owed sound may).0) w.if-is_fault.false
-  | in-Err+else-is_fault+in-ReadOnly-1 w ↦ not_both w.is_fault.result (w.is_fault.ensures.1 (w.in-Err.ensures.sound p owed sound may).0) w.if-is_fault.false
-]
-
-pub returns-in-Ok-true-clause-header_cluster : goal.returns-in-Ok-true-clause-header_cluster
-returns-in-Ok-true-clause-header_cluster g c = c.try_lower.ensures.header_cluster
-
-pub returns-clause-header_cluster : goal.returns-clause-header_cluster
-returns-clause-header_cluster g c = c.try_lower.ensures.header_cluster
+pub returns-then-is_fault-clause-sound : goal.returns-then-is_fault-clause-sound
+returns-then-is_fault-clause-sound g c = λ p owed sound may. record {
+  gives = c.in-Err.ensures.sound p owed sound may;
+  leaks = c.try_lower.ensures.leaked;
+  hint = c.in-Err.ensures.hint p owed sound may;
+}

@@ -1,4 +1,4 @@
-use Rattle.std.proofs.Common.{◌≡◌, max, Ok, inl, false, refl, sym, ap, ◌+◌, ◌/◌, ◌^◌, ◌∙◌, subst, arith, inr, Result, ℕ, ◌≤◌, ◌<◌}
+use Rattle.std.proofs.Common.{◌≡◌, Ok, inl, false, refl, sym, ap, ◌+◌, ◌/◌, ◌^◌, ◌∙◌, subst, arith, inr, Result, ℕ, ◌≤◌, ◌<◌}
 use Rattle.qcow2_metadata.specs.L2Mapping.{greatest_offset}
 use Rattle.std.proofs.Math.Nat.{div-le_self}
 use Rattle.qcow2_laws.specs.CrashInvariant.{Pending}
@@ -8,37 +8,18 @@ use Rattle.qcow2_alloc.proofs.Hints.{hint_header, lowest_behind, lowest_first, l
 use Rattle.qcow2_alloc.specs.Allocation.{LacksBlock, run_at, UnseenAllocatorGrowth, TakesSomeRun, RefusedGrowth}
 use Rattle.qcow2_alloc.specs.FreeList.{pending_then}
 use Rattle.qcow2_alloc.proofs.AllocationSteps.{handed_on, may_still, on_none, on_of, leaves_as, is_sound_on}
-use Rattle.qcow2_alloc.proofs.ListedAfter.{header_same, header_then, lists_none, lists_same, lists_then, listed_after_same, then_none, then_taken, then_leaves, header_bits}
+use Rattle.qcow2_alloc.proofs.ListedAfter.{lists_same, lists_then, listed_after_same, then_none, then_taken, then_leaves, header_bits}
 use Rattle.std.specs.Prelude.{IsErrOf, IfErr}
 use Rattle.qcow2_alloc.specs.declared.error.ImageError.{ImageError}
 use Rattle.qcow2_alloc.specs.Limits.{IsFaultOr, HasNoPlace, nameable_clusters}
 use Rattle.qcow2_alloc.proofs.Limits.{full_behind, limit_is_no_fault}
-use Rattle.qcow2_alloc.proofs.KeptMarks.{kept_marks_none, kept_marks_then}
 use Rattle.qcow2_alloc.proofs.allocation.Allocator.lowest_run.Goals.{then-search-test+then-n-limit+else-first-limit, then-search-test+else-n-limit, else-search-test}
-use Rattle.qcow2_alloc.proofs.FormerReftables.{former_none, former_still, former_then}
-use Rattle.qcow2_alloc.proofs.Faults.{told_ok}
-use Rattle.qcow2_alloc.proofs.Outcomes.{ok_no_err, told_limit, told_after, on_no_ok, if_no_ok, handed_cause}
-use Rattle.qcow2_alloc.proofs.SparedHeaders.{spares_none, spares_then, spares_less}
+use Rattle.qcow2_alloc.proofs.Outcomes.{ok_no_err, on_no_ok, if_no_ok}
 use Rattle.qcow2_metadata.specs.EntryTable.{EntryTableView}
 use Rattle.qcow2_metadata.specs.declared.header.HeaderFields.{HeaderFields}
 use Rattle.qcow2_alloc.specs.declared.error.ImageError.TheVariants as I
+use Rattle.qcow2_alloc.proofs.Steps.{fails_by, fails_ok, fails_on, fails_since, limit_other, step_none, step_on, step_then}
 use Rattle.qcow2_alloc.proofs.allocation.Allocator.lowest_run.Goals as goal
-
-pub returns-in_err-taken-clause-sound : goal.returns-in_err-taken-clause-sound
-returns-in_err-taken-clause-sound g c = λ p d sound may.
-    let before = c.search.invariant.sound p sound in
-    let q : Pending = pending_then p c.args.file.now.free_list c.search.file.free_list in
-    let now = is_sound_on g.S.Storage.view p q c.args.file.now c.search.file c.search.self before in
-    handed_on (TakesSomeRun g.S.Storage.view p c.args.file.now c.take_run.new.self c.take_run.new.file (pending_then p c.args.file.now.free_list c.take_run.new.file.free_list) d c.args.n) c.from_residual.result c.in_err-taken.field-0.0 c.from_residual.ensures
-    (then_leaves g.S.Storage.view p c.args.file.now c.search.file c.take_run.new.file c.search.self c.take_run.new.self c.search.invariant.list c.take_run.ensures.list before c.in_err-taken.field-0.0 (c.in_err-taken.ensures.sound q d now (may_still d c.args.file.now c.search.file c.search.invariant.marks.order may)))
-
-pub returns-then-taken-n-clause-sound : goal.returns-then-taken-n-clause-sound
-returns-then-taken-n-clause-sound g c = λ p d sound may.
-    let before = c.search.invariant.sound p sound in
-    let q : Pending = pending_then p c.args.file.now.free_list c.search.file.free_list in
-    let now = is_sound_on g.S.Storage.view p q c.args.file.now c.search.file c.search.self before in
-    then_taken g.S.Storage.view p c.args.file.now c.search.file c.take_run.new.file c.search.self c.take_run.new.self c.search.invariant.list c.take_run.ensures.list before d (run_at c.search.first c.args.n)
-    ((c.in_ok-taken.ensures.sound q d now (may_still d c.args.file.now c.search.file c.search.invariant.marks.order may)).0 c.if-taken-n.true)
 
 -- what is lacking at first is lacking where nothing moved
 lacks_here : (h h' : HeaderFields) (t t' : EntryTableView) (from first : ℕ) (e : ImageError) → h' ≡ h → t' ≡ t → first ≡ from → LacksBlock h t from e → LacksBlock h' t' first e
@@ -47,14 +28,10 @@ lacks_here h h' t t' from first e same_header same_table place lacks =
 
 pub search-init : goal.search-init
 search-init g c = record {
-  header = header_same c.args.file.now.header c.args.file.now.header refl;
-  list = lists_none c.args.file.now.free_list;
-  former = former_none c.args.self.now.reftable c.args.file.now.free_list;
   limit = ap (λ n. greatest_offset / 2 ^ n + 1) c.cluster_bits.ensures.value;
   near = let le = div-le_self greatest_offset (2 ^ c.cluster_bits.result) in omega (arith, le);
-  marks = kept_marks_none;
   faults = refl;
-  spared = spares_none;
+  step = step_none;
   sound = λ p sound.
       subst (λ (r : Pending). UnseenAllocatorGrowth g.S.Storage.view p c.args.file.now (record c.args.self.now { first_free_cluster = c.max-self.result }) c.args.file.now r) (sym (listed_after_same p c.args.file.now.free_list c.args.file.now.free_list refl))
       (on_none g.S.Storage.view p c.args.file.now (record c.args.self.now { first_free_cluster = c.max-self.result }) (record { sound = sound.sound; reftable = sound.reftable }));
@@ -70,133 +47,67 @@ search-init g c = record {
 
 pub search-preserved : goal.search-preserved
 search-preserved g c = record {
-  header = header_then c.args.file.now.header c.take_run.new.file.header c.pass_used.new.file.header (header_then c.args.file.now.header c.search.file.header c.take_run.new.file.header c.search.invariant.header c.take_run.ensures.header) (header_same c.take_run.new.file.header c.pass_used.new.file.header c.pass_used.ensures.header);
-  list = lists_then c.args.file.now.free_list c.take_run.new.file.free_list c.pass_used.new.file.free_list (lists_then c.args.file.now.free_list c.search.file.free_list c.take_run.new.file.free_list c.search.invariant.list c.take_run.ensures.list) (lists_same c.take_run.new.file.free_list c.pass_used.new.file.free_list c.pass_used.ensures.list);
-  former = former_still c.args.self.now.reftable c.take_run.new.self.reftable c.pass_used.new.self.reftable c.args.file.now.free_list c.take_run.new.file.free_list c.pass_used.new.file.free_list
-      (former_then c.args.self.now.reftable c.search.self.reftable c.take_run.new.self.reftable c.args.file.now.free_list c.search.file.free_list c.take_run.new.file.free_list c.search.invariant.former c.take_run.ensures.former) (ap (λ (t : Allocator). t.reftable) c.pass_used.ensures.moves) c.pass_used.ensures.list;
   limit = c.search.invariant.limit;
   near = c.search.invariant.near;
   above = let behind = c.in_ok-first.ensures.behind in omega (arith, behind);
   behind = let so_far = c.search.invariant.behind in let behind = c.in_ok-first.ensures.behind in omega (arith, so_far, behind);
-  marks = kept_marks_then (kept_marks_then c.search.invariant.marks c.take_run.ensures.marks) c.pass_used.ensures.marks;
-  faults = c.in_ok-first.ensures.storage_faults.told ∙ (c.in_ok-taken.ensures.storage_faults.told ∙ c.search.invariant.faults);
-  spared = spares_then (spares_then c.search.invariant.spared c.take_run.ensures.header_cluster) (spares_less (c.pass_used.ensures.header_cluster));
+  faults = c.in_ok-first.ensures.fails.told ∙ (c.in_ok-taken.ensures.fails.told ∙ c.search.invariant.faults);
+  step = step_then (step_then c.search.invariant.step c.take_run.ensures.step) (step_on c.pass_used.ensures.step);
   sound = λ p sound.
       let before = c.search.invariant.sound p sound in
       let q : Pending = pending_then p c.args.file.now.free_list c.search.file.free_list in
       let now = is_sound_on g.S.Storage.view p q c.args.file.now c.search.file c.search.self before in
-      let lists = lists_then c.args.file.now.free_list c.search.file.free_list c.take_run.new.file.free_list c.search.invariant.list c.take_run.ensures.list in
-      let mid = then_none g.S.Storage.view p c.args.file.now c.search.file c.take_run.new.file c.search.self c.take_run.new.self c.search.invariant.list c.take_run.ensures.list before ((c.in_ok-taken.ensures.sound q false now tt).1 c.if-taken-n.false) in
+      let lists = lists_then c.args.file.now.free_list c.search.file.free_list c.take_run.new.file.free_list c.search.invariant.step.list c.take_run.ensures.step.list in
+      let mid = then_none g.S.Storage.view p c.args.file.now c.search.file c.take_run.new.file c.search.self c.take_run.new.self c.search.invariant.step.list c.take_run.ensures.step.list before (((c.in_ok-taken.ensures.sound q false now tt).takes).1 c.if-taken-n.false) in
       let r : Pending = pending_then p c.args.file.now.free_list c.take_run.new.file.free_list in
       let there = is_sound_on g.S.Storage.view p r c.args.file.now c.take_run.new.file c.take_run.new.self mid in
-      then_none g.S.Storage.view p c.args.file.now c.take_run.new.file c.pass_used.new.file c.take_run.new.self c.pass_used.new.self lists (lists_same c.take_run.new.file.free_list c.pass_used.new.file.free_list c.pass_used.ensures.list) mid
-      (subst (λ (s : Pending). UnseenAllocatorGrowth g.S.Storage.view r c.take_run.new.file c.pass_used.new.self c.pass_used.new.file s) (sym (listed_after_same r c.take_run.new.file.free_list c.pass_used.new.file.free_list c.pass_used.ensures.list))
+      then_none g.S.Storage.view p c.args.file.now c.take_run.new.file c.pass_used.new.file c.take_run.new.self c.pass_used.new.self lists (lists_same c.take_run.new.file.free_list c.pass_used.new.file.free_list c.pass_used.ensures.step.list) mid
+      (subst (λ (s : Pending). UnseenAllocatorGrowth g.S.Storage.view r c.take_run.new.file c.pass_used.new.self c.pass_used.new.file s) (sym (listed_after_same r c.take_run.new.file.free_list c.pass_used.new.file.free_list c.pass_used.ensures.step.list))
       (on_of g.S.Storage.view r r c.take_run.new.file c.pass_used.new.file c.pass_used.new.self (c.in_ok-first.ensures.sound r there).0));
   leaks = λ p sound.
       let q : Pending = pending_then p c.args.file.now.free_list c.search.file.free_list in
       let now = is_sound_on g.S.Storage.view p q c.args.file.now c.search.file c.search.self (c.search.invariant.sound p sound) in
-      ap (λ (t : Allocator). t.leaked_clusters) c.pass_used.ensures.moves ∙ c.take_run.ensures.leaks q now ∙ c.search.invariant.leaks p sound;
+      ap (λ (t : Allocator). t.leaked_clusters) c.pass_used.ensures.moves ∙ (c.take_run.ensures.sound q false now tt).leaks ∙ c.search.invariant.leaks p sound;
   hint = λ p d sound may hint.
       let before = c.search.invariant.sound p sound in
       let q : Pending = pending_then p c.args.file.now.free_list c.search.file.free_list in
       let now = is_sound_on g.S.Storage.view p q c.args.file.now c.search.file c.search.self before in
-      let lists = lists_then c.args.file.now.free_list c.search.file.free_list c.take_run.new.file.free_list c.search.invariant.list c.take_run.ensures.list in
-      let mid = then_none g.S.Storage.view p c.args.file.now c.search.file c.take_run.new.file c.search.self c.take_run.new.self c.search.invariant.list c.take_run.ensures.list before ((c.in_ok-taken.ensures.sound q false now tt).1 c.if-taken-n.false) in
+      let lists = lists_then c.args.file.now.free_list c.search.file.free_list c.take_run.new.file.free_list c.search.invariant.step.list c.take_run.ensures.step.list in
+      let mid = then_none g.S.Storage.view p c.args.file.now c.search.file c.take_run.new.file c.search.self c.take_run.new.self c.search.invariant.step.list c.take_run.ensures.step.list before (((c.in_ok-taken.ensures.sound q false now tt).takes).1 c.if-taken-n.false) in
       let r : Pending = pending_then p c.args.file.now.free_list c.take_run.new.file.free_list in
       let there = is_sound_on g.S.Storage.view p r c.args.file.now c.take_run.new.file c.take_run.new.self mid in
-      let may_now = may_still d c.args.file.now c.search.file c.search.invariant.marks.order may in
-      c.in_ok-first.ensures.hint r there (c.in_ok-taken.ensures.hint q d now may_now (c.search.invariant.hint p d sound may hint));
+      let may_now = may_still d c.args.file.now c.search.file c.search.invariant.step.marks.order may in
+      c.in_ok-first.ensures.hint r there ((c.in_ok-taken.ensures.sound q d now may_now).hint (c.search.invariant.hint p d sound may hint));
   lowest = λ p d sound may hint some.
       let before = c.search.invariant.sound p sound in
       let q : Pending = pending_then p c.args.file.now.free_list c.search.file.free_list in
       let now = is_sound_on g.S.Storage.view p q c.args.file.now c.search.file c.search.self before in
-      let lists = lists_then c.args.file.now.free_list c.search.file.free_list c.take_run.new.file.free_list c.search.invariant.list c.take_run.ensures.list in
-      let mid = then_none g.S.Storage.view p c.args.file.now c.search.file c.take_run.new.file c.search.self c.take_run.new.self c.search.invariant.list c.take_run.ensures.list before ((c.in_ok-taken.ensures.sound q false now tt).1 c.if-taken-n.false) in
+      let lists = lists_then c.args.file.now.free_list c.search.file.free_list c.take_run.new.file.free_list c.search.invariant.step.list c.take_run.ensures.step.list in
+      let mid = then_none g.S.Storage.view p c.args.file.now c.search.file c.take_run.new.file c.search.self c.take_run.new.self c.search.invariant.step.list c.take_run.ensures.step.list before (((c.in_ok-taken.ensures.sound q false now tt).takes).1 c.if-taken-n.false) in
       let r : Pending = pending_then p c.args.file.now.free_list c.take_run.new.file.free_list in
       let there = is_sound_on g.S.Storage.view p r c.args.file.now c.take_run.new.file c.take_run.new.self mid in
-      let may_now = may_still d c.args.file.now c.search.file c.search.invariant.marks.order may in
+      let may_now = may_still d c.args.file.now c.search.file c.search.invariant.step.marks.order may in
       let passed = c.in_ok-first.ensures.sound r there in
       lowest_passed g.S.Storage.view c.pass_used.new.file (c.search.first + (c.in_ok-taken.taken + 1)) c.in_ok-first.first c.args.n (let behind = c.in_ok-first.ensures.behind in omega (arith, behind)) some (λ k low high. passed.1 k (omega (arith, low)) high)
       (lowest_stays g.S.Storage.view c.take_run.new.file c.pass_used.new.file (c.search.first + (c.in_ok-taken.taken + 1)) c.args.n (λ k used. used_stays g.S.Storage.view r r c.take_run.new.file c.pass_used.new.file c.pass_used.new.self k passed.0 (omega arith) used)
-      (lowest_behind g.S.Storage.view c.take_run.new.file c.search.first c.args.n c.in_ok-taken.taken c.in_ok-taken.ensures.within c.if-taken-n.false (c.in_ok-taken.ensures.used q d now may_now c.if-taken-n.false)
-      (lowest_stays g.S.Storage.view c.search.file c.take_run.new.file c.search.first c.args.n (c.in_ok-taken.ensures.uses q d now may_now) (c.search.invariant.lowest p d sound may hint some))));
+      (lowest_behind g.S.Storage.view c.take_run.new.file c.search.first c.args.n c.in_ok-taken.taken c.in_ok-taken.ensures.within c.if-taken-n.false ((c.in_ok-taken.ensures.sound q d now may_now).used c.if-taken-n.false)
+      (lowest_stays g.S.Storage.view c.search.file c.take_run.new.file c.search.first c.args.n ((c.in_ok-taken.ensures.sound q d now may_now).uses) (c.search.invariant.lowest p d sound may hint some))));
   uses = λ p d sound may k used.
       let before = c.search.invariant.sound p sound in
       let q : Pending = pending_then p c.args.file.now.free_list c.search.file.free_list in
       let now = is_sound_on g.S.Storage.view p q c.args.file.now c.search.file c.search.self before in
-      let mid = then_none g.S.Storage.view p c.args.file.now c.search.file c.take_run.new.file c.search.self c.take_run.new.self c.search.invariant.list c.take_run.ensures.list before ((c.in_ok-taken.ensures.sound q false now tt).1 c.if-taken-n.false) in
+      let mid = then_none g.S.Storage.view p c.args.file.now c.search.file c.take_run.new.file c.search.self c.take_run.new.self c.search.invariant.step.list c.take_run.ensures.step.list before (((c.in_ok-taken.ensures.sound q false now tt).takes).1 c.if-taken-n.false) in
       let r : Pending = pending_then p c.args.file.now.free_list c.take_run.new.file.free_list in
       let there = is_sound_on g.S.Storage.view p r c.args.file.now c.take_run.new.file c.take_run.new.self mid in
       used_stays g.S.Storage.view r r c.take_run.new.file c.pass_used.new.file c.pass_used.new.self k (c.in_ok-first.ensures.sound r there).0 (omega arith)
-      (c.in_ok-taken.ensures.uses q d now (may_still d c.args.file.now c.search.file c.search.invariant.marks.order may) k (c.search.invariant.uses p d sound may k used));
+      ((c.in_ok-taken.ensures.sound q d now (may_still d c.args.file.now c.search.file c.search.invariant.step.marks.order may)).uses k (c.search.invariant.uses p d sound may k used));
 }
 
-pub returns-in_err-first-clause-sound : goal.returns-in_err-first-clause-sound
-returns-in_err-first-clause-sound g c = λ p d sound may.
-    let before = c.search.invariant.sound p sound in
-    let q : Pending = pending_then p c.args.file.now.free_list c.search.file.free_list in
-    let now = is_sound_on g.S.Storage.view p q c.args.file.now c.search.file c.search.self before in
-    let lists = lists_then c.args.file.now.free_list c.search.file.free_list c.take_run.new.file.free_list c.search.invariant.list c.take_run.ensures.list in
-    let mid = then_none g.S.Storage.view p c.args.file.now c.search.file c.take_run.new.file c.search.self c.take_run.new.self c.search.invariant.list c.take_run.ensures.list before ((c.in_ok-taken.ensures.sound q false now tt).1 c.if-taken-n.false) in
-    let r : Pending = pending_then p c.args.file.now.free_list c.take_run.new.file.free_list in
-    let there = is_sound_on g.S.Storage.view p r c.args.file.now c.take_run.new.file c.take_run.new.self mid in
-    handed_on (TakesSomeRun g.S.Storage.view p c.args.file.now c.pass_used.new.self c.pass_used.new.file (pending_then p c.args.file.now.free_list c.pass_used.new.file.free_list) d c.args.n) c.from_residual-in_err-first.result c.in_err-first.field-0.0 c.from_residual-in_err-first.ensures
-    (then_leaves g.S.Storage.view p c.args.file.now c.take_run.new.file c.pass_used.new.file c.take_run.new.self c.pass_used.new.self lists (lists_same c.take_run.new.file.free_list c.pass_used.new.file.free_list c.pass_used.ensures.list) mid c.in_err-first.field-0.0
-    (subst (λ (s : Pending). RefusedGrowth g.S.Storage.view r c.take_run.new.file c.pass_used.new.self c.pass_used.new.file s c.in_err-first.field-0.0) (sym (listed_after_same r c.take_run.new.file.free_list c.pass_used.new.file.free_list c.pass_used.ensures.list))
-    (leaves_as g.S.Storage.view r c.take_run.new.file c.pass_used.new.file c.pass_used.new.self c.in_err-first.field-0.0 (c.in_err-first.ensures.sound r there).1)))
+pub returns-in_err-first-clause-step : goal.returns-in_err-first-clause-step
+returns-in_err-first-clause-step g c = step_then (step_then c.search.invariant.step c.take_run.ensures.step) (step_on c.pass_used.ensures.step)
 
-pub returns-then-taken-n-clause-uses : goal.returns-then-taken-n-clause-uses
-returns-then-taken-n-clause-uses g c = λ p d sound may k used.
-    let before = c.search.invariant.sound p sound in
-    let q : Pending = pending_then p c.args.file.now.free_list c.search.file.free_list in
-    let now = is_sound_on g.S.Storage.view p q c.args.file.now c.search.file c.search.self before in
-    c.in_ok-taken.ensures.uses q d now (may_still d c.args.file.now c.search.file c.search.invariant.marks.order may) k (c.search.invariant.uses p d sound may k used)
-
-pub returns-in_err-first-clause-hint : goal.returns-in_err-first-clause-hint
-returns-in_err-first-clause-hint g c = λ p d sound may hint.
-    let before = c.search.invariant.sound p sound in
-    let q : Pending = pending_then p c.args.file.now.free_list c.search.file.free_list in
-    let now = is_sound_on g.S.Storage.view p q c.args.file.now c.search.file c.search.self before in
-    let lists = lists_then c.args.file.now.free_list c.search.file.free_list c.take_run.new.file.free_list c.search.invariant.list c.take_run.ensures.list in
-    let mid = then_none g.S.Storage.view p c.args.file.now c.search.file c.take_run.new.file c.search.self c.take_run.new.self c.search.invariant.list c.take_run.ensures.list before ((c.in_ok-taken.ensures.sound q false now tt).1 c.if-taken-n.false) in
-    let r : Pending = pending_then p c.args.file.now.free_list c.take_run.new.file.free_list in
-    let there = is_sound_on g.S.Storage.view p r c.args.file.now c.take_run.new.file c.take_run.new.self mid in
-    let may_now = may_still d c.args.file.now c.search.file c.search.invariant.marks.order may in
-    handed_on (KeepsNoFreeBelowHint g.S.Storage.view c.pass_used.new.self c.pass_used.new.file) c.from_residual-in_err-first.result c.in_err-first.field-0.0 c.from_residual-in_err-first.ensures
-    (c.in_err-first.ensures.hint r there (c.in_ok-taken.ensures.hint q d now may_now (c.search.invariant.hint p d sound may hint)))
-
-pub returns-in_err-first-clause-limit : goal.returns-in_err-first-clause-limit
-returns-in_err-first-clause-limit g c = λ p d sound may hint some.
-    let before = c.search.invariant.sound p sound in
-    let q : Pending = pending_then p c.args.file.now.free_list c.search.file.free_list in
-    let now = is_sound_on g.S.Storage.view p q c.args.file.now c.search.file c.search.self before in
-    let lists = lists_then c.args.file.now.free_list c.search.file.free_list c.take_run.new.file.free_list c.search.invariant.list c.take_run.ensures.list in
-    let mid = then_none g.S.Storage.view p c.args.file.now c.search.file c.take_run.new.file c.search.self c.take_run.new.self c.search.invariant.list c.take_run.ensures.list before ((c.in_ok-taken.ensures.sound q false now tt).1 c.if-taken-n.false) in
-    let r : Pending = pending_then p c.args.file.now.free_list c.take_run.new.file.free_list in
-    let there = is_sound_on g.S.Storage.view p r c.args.file.now c.take_run.new.file c.take_run.new.self mid in
-    handed_on (λ (x : Result ℕ ImageError). IfErr x (IsFaultOr (HasNoPlace (IsUsed g.S.Storage.view c.pass_used.new.file) c.pass_used.new.file.header.fields c.pass_used.new.self c.args.n))) c.from_residual-in_err-first.result c.in_err-first.field-0.0 c.from_residual-in_err-first.ensures
-    (inl (c.in_err-first.ensures.sound r there).0)
-
-pub returns-in_err-first-clause-header : goal.returns-in_err-first-clause-header
-returns-in_err-first-clause-header g c = header_then c.args.file.now.header c.take_run.new.file.header c.pass_used.new.file.header (header_then c.args.file.now.header c.search.file.header c.take_run.new.file.header c.search.invariant.header c.take_run.ensures.header) (header_same c.take_run.new.file.header c.pass_used.new.file.header c.pass_used.ensures.header)
-
-pub returns-in_err-first-clause-list : goal.returns-in_err-first-clause-list
-returns-in_err-first-clause-list g c = lists_then c.args.file.now.free_list c.take_run.new.file.free_list c.pass_used.new.file.free_list (lists_then c.args.file.now.free_list c.search.file.free_list c.take_run.new.file.free_list c.search.invariant.list c.take_run.ensures.list) (lists_same c.take_run.new.file.free_list c.pass_used.new.file.free_list c.pass_used.ensures.list)
-
-pub returns-in_err-first-clause-former : goal.returns-in_err-first-clause-former
-returns-in_err-first-clause-former g c =
-    former_still c.args.self.now.reftable c.take_run.new.self.reftable c.pass_used.new.self.reftable c.args.file.now.free_list c.take_run.new.file.free_list c.pass_used.new.file.free_list
-    (former_then c.args.self.now.reftable c.search.self.reftable c.take_run.new.self.reftable c.args.file.now.free_list c.search.file.free_list c.take_run.new.file.free_list c.search.invariant.former c.take_run.ensures.former) (ap (λ (t : Allocator). t.reftable) c.pass_used.ensures.moves) c.pass_used.ensures.list
-
-pub returns-in_err-first-clause-marks : goal.returns-in_err-first-clause-marks
-returns-in_err-first-clause-marks g c = kept_marks_then (kept_marks_then c.search.invariant.marks c.take_run.ensures.marks) c.pass_used.ensures.marks
-
-pub returns-in_err-first-clause-cause : goal.returns-in_err-first-clause-cause
-returns-in_err-first-clause-cause g c = handed_cause c.from_residual-in_err-first.result c.in_err-first.field-0.0 c.from_residual-in_err-first.ensures c.in_err-first.ensures.cause
-
-pub returns-in_err-first-clause-storage_faults : goal.returns-in_err-first-clause-storage_faults
-returns-in_err-first-clause-storage_faults g c =
-    told_after _ _ _ c.pass_used.result c.in_err-first.field-0.0 c.from_residual-in_err-first.result (c.in_ok-taken.ensures.storage_faults.told ∙ c.search.invariant.faults) c.pass_used.ensures.storage_faults c.in_err-first.was c.from_residual-in_err-first.ensures
+pub returns-in_err-first-clause-fails : goal.returns-in_err-first-clause-fails
+returns-in_err-first-clause-fails g c = fails_on c.from_residual-in_err-first.result c.in_err-first.field-0.0 c.from_residual-in_err-first.ensures (fails_since (c.in_ok-taken.ensures.fails.told ∙ c.search.invariant.faults) c.in_err-first.ensures.fails)
 
 pub returns-in_err-first-clause-nameable : goal.returns-in_err-first-clause-nameable
 returns-in_err-first-clause-nameable g c = if_no_ok _ c.from_residual-in_err-first.result c.in_err-first.field-0.0 c.from_residual-in_err-first.ensures
@@ -204,92 +115,74 @@ returns-in_err-first-clause-nameable g c = if_no_ok _ c.from_residual-in_err-fir
 pub returns-in_err-first-clause-elsewhere : goal.returns-in_err-first-clause-elsewhere
 returns-in_err-first-clause-elsewhere g c = if_no_ok _ c.from_residual-in_err-first.result c.in_err-first.field-0.0 c.from_residual-in_err-first.ensures
 
-pub returns-in_err-first-clause-lowest : goal.returns-in_err-first-clause-lowest
-returns-in_err-first-clause-lowest g c = λ _ _ _ _ _. if_no_ok _ c.from_residual-in_err-first.result c.in_err-first.field-0.0 c.from_residual-in_err-first.ensures
+pub returns-in_err-first-clause-sound : goal.returns-in_err-first-clause-sound
+returns-in_err-first-clause-sound g c = λ p d sound may.
+    let before = c.search.invariant.sound p sound in
+    let q : Pending = pending_then p c.args.file.now.free_list c.search.file.free_list in
+    let now = is_sound_on g.S.Storage.view p q c.args.file.now c.search.file c.search.self before in
+    let lists = lists_then c.args.file.now.free_list c.search.file.free_list c.take_run.new.file.free_list c.search.invariant.step.list c.take_run.ensures.step.list in
+    let mid = then_none g.S.Storage.view p c.args.file.now c.search.file c.take_run.new.file c.search.self c.take_run.new.self c.search.invariant.step.list c.take_run.ensures.step.list before (((c.in_ok-taken.ensures.sound q false now tt).takes).1 c.if-taken-n.false) in
+    let r : Pending = pending_then p c.args.file.now.free_list c.take_run.new.file.free_list in
+    let there = is_sound_on g.S.Storage.view p r c.args.file.now c.take_run.new.file c.take_run.new.self mid in
+    record {
+      takes = handed_on (TakesSomeRun g.S.Storage.view p c.args.file.now c.pass_used.new.self c.pass_used.new.file (pending_then p c.args.file.now.free_list c.pass_used.new.file.free_list) d c.args.n) c.from_residual-in_err-first.result c.in_err-first.field-0.0 c.from_residual-in_err-first.ensures
+          (then_leaves g.S.Storage.view p c.args.file.now c.take_run.new.file c.pass_used.new.file c.take_run.new.self c.pass_used.new.self lists (lists_same c.take_run.new.file.free_list c.pass_used.new.file.free_list c.pass_used.ensures.step.list) mid c.in_err-first.field-0.0
+          (subst (λ (s : Pending). RefusedGrowth g.S.Storage.view r c.take_run.new.file c.pass_used.new.self c.pass_used.new.file s c.in_err-first.field-0.0) (sym (listed_after_same r c.take_run.new.file.free_list c.pass_used.new.file.free_list c.pass_used.ensures.step.list))
+          (leaves_as g.S.Storage.view r c.take_run.new.file c.pass_used.new.file c.pass_used.new.self c.in_err-first.field-0.0 (c.in_err-first.ensures.sound r there).1)));
+      uses = on_no_ok _ c.from_residual-in_err-first.result c.in_err-first.field-0.0 c.from_residual-in_err-first.ensures;
+      hint = λ hint. let may_now = may_still d c.args.file.now c.search.file c.search.invariant.step.marks.order may in
+          handed_on (KeepsNoFreeBelowHint g.S.Storage.view c.pass_used.new.self c.pass_used.new.file) c.from_residual-in_err-first.result c.in_err-first.field-0.0 c.from_residual-in_err-first.ensures
+          (c.in_err-first.ensures.hint r there ((c.in_ok-taken.ensures.sound q d now may_now).hint (c.search.invariant.hint p d sound may hint)));
+      lowest = λ _. if_no_ok _ c.from_residual-in_err-first.result c.in_err-first.field-0.0 c.from_residual-in_err-first.ensures;
+      limit = λ hint some. handed_on (λ (x : Result ℕ ImageError). IfErr x (IsFaultOr (HasNoPlace (IsUsed g.S.Storage.view c.pass_used.new.file) c.pass_used.new.file.header.fields c.pass_used.new.self c.args.n))) c.from_residual-in_err-first.result c.in_err-first.field-0.0 c.from_residual-in_err-first.ensures
+          (inl (c.in_err-first.ensures.sound r there).0);
+    }
 
 pub returns-in_err-first-clause-noted : goal.returns-in_err-first-clause-noted
 returns-in_err-first-clause-noted g c = on_no_ok _ c.from_residual-in_err-first.result c.in_err-first.field-0.0 c.from_residual-in_err-first.ensures
 
+pub returns-then-taken-n-clause-sound : goal.returns-then-taken-n-clause-sound
+returns-then-taken-n-clause-sound g c = λ p d sound may.
+    let before = c.search.invariant.sound p sound in
+    let q : Pending = pending_then p c.args.file.now.free_list c.search.file.free_list in
+    let now = is_sound_on g.S.Storage.view p q c.args.file.now c.search.file c.search.self before in
+    let may_now = may_still d c.args.file.now c.search.file c.search.invariant.step.marks.order may in
+    record {
+      takes = then_taken g.S.Storage.view p c.args.file.now c.search.file c.take_run.new.file c.search.self c.take_run.new.self c.search.invariant.step.list c.take_run.ensures.step.list before d (run_at c.search.first c.args.n)
+          (((c.in_ok-taken.ensures.sound q d now may_now).takes).0 c.if-taken-n.true);
+      uses = λ k used. (c.in_ok-taken.ensures.sound q d now may_now).uses k (c.search.invariant.uses p d sound may k used);
+      hint = λ hint. (c.in_ok-taken.ensures.sound q d now may_now).hint (c.search.invariant.hint p d sound may hint);
+      lowest = λ hint. lowest_stays g.S.Storage.view c.search.file c.take_run.new.file c.search.first c.args.n ((c.in_ok-taken.ensures.sound q d now may_now).uses) (c.search.invariant.lowest p d sound may hint c.search-test.true);
+      limit = λ _ _. tt;
+    }
+
+pub returns-in_err-taken-clause-step : goal.returns-in_err-taken-clause-step
+returns-in_err-taken-clause-step g c = step_then c.search.invariant.step c.take_run.ensures.step
+
+pub returns-in_err-taken-clause-fails : goal.returns-in_err-taken-clause-fails
+returns-in_err-taken-clause-fails g c = fails_on c.from_residual.result c.in_err-taken.field-0.0 c.from_residual.ensures (fails_since c.search.invariant.faults c.in_err-taken.ensures.fails)
+
+pub returns-then-taken-n-clause-step : goal.returns-then-taken-n-clause-step
+returns-then-taken-n-clause-step g c = step_then c.search.invariant.step c.take_run.ensures.step
+
+pub returns-then-taken-n-clause-fails : goal.returns-then-taken-n-clause-fails
+returns-then-taken-n-clause-fails g c = fails_ok (c.in_ok-taken.ensures.fails.told ∙ c.search.invariant.faults)
+
 pub returns-clause-sound : goal.returns-clause-sound
-returns-clause-sound g c = λ p d sound may. inl (c.search.invariant.sound p sound)
-
-pub returns-in_err-taken-clause-hint : goal.returns-in_err-taken-clause-hint
-returns-in_err-taken-clause-hint g c = λ p d sound may hint.
-    let before = c.search.invariant.sound p sound in
-    let q : Pending = pending_then p c.args.file.now.free_list c.search.file.free_list in
-    let now = is_sound_on g.S.Storage.view p q c.args.file.now c.search.file c.search.self before in
-    let may_now = may_still d c.args.file.now c.search.file c.search.invariant.marks.order may in
-    handed_on (KeepsNoFreeBelowHint g.S.Storage.view c.take_run.new.self c.take_run.new.file) c.from_residual.result c.in_err-taken.field-0.0 c.from_residual.ensures (c.in_err-taken.ensures.hint q d now may_now (c.search.invariant.hint p d sound may hint))
-
-pub returns-then-taken-n-clause-lowest : goal.returns-then-taken-n-clause-lowest
-returns-then-taken-n-clause-lowest g c = λ p d sound may hint.
-    let before = c.search.invariant.sound p sound in
-    let q : Pending = pending_then p c.args.file.now.free_list c.search.file.free_list in
-    let now = is_sound_on g.S.Storage.view p q c.args.file.now c.search.file c.search.self before in
-    let may_now = may_still d c.args.file.now c.search.file c.search.invariant.marks.order may in
-    lowest_stays g.S.Storage.view c.search.file c.take_run.new.file c.search.first c.args.n (c.in_ok-taken.ensures.uses q d now may_now) (c.search.invariant.lowest p d sound may hint c.search-test.true)
-
-pub returns-then-taken-n-clause-hint : goal.returns-then-taken-n-clause-hint
-returns-then-taken-n-clause-hint g c = λ p d sound may hint.
-    let before = c.search.invariant.sound p sound in
-    let q : Pending = pending_then p c.args.file.now.free_list c.search.file.free_list in
-    let now = is_sound_on g.S.Storage.view p q c.args.file.now c.search.file c.search.self before in
-    let may_now = may_still d c.args.file.now c.search.file c.search.invariant.marks.order may in
-    c.in_ok-taken.ensures.hint q d now may_now (c.search.invariant.hint p d sound may hint)
-
-pub returns-clause-hint : goal.returns-clause-hint
-returns-clause-hint g c = λ p d sound may hint. inl (c.search.invariant.hint p d sound may hint)
-
-pub returns-in_err-taken-clause-list : goal.returns-in_err-taken-clause-list
-returns-in_err-taken-clause-list g c = lists_then c.args.file.now.free_list c.search.file.free_list c.take_run.new.file.free_list c.search.invariant.list c.take_run.ensures.list
-
-pub returns-then-taken-n-clause-list : goal.returns-then-taken-n-clause-list
-returns-then-taken-n-clause-list g c = lists_then c.args.file.now.free_list c.search.file.free_list c.take_run.new.file.free_list c.search.invariant.list c.take_run.ensures.list
-
-pub returns-in_err-taken-clause-limit : goal.returns-in_err-taken-clause-limit
-returns-in_err-taken-clause-limit g c = λ p d sound may hint some.
-    let before = c.search.invariant.sound p sound in
-    let q : Pending = pending_then p c.args.file.now.free_list c.search.file.free_list in
-    let now = is_sound_on g.S.Storage.view p q c.args.file.now c.search.file c.search.self before in
-    let may_now = may_still d c.args.file.now c.search.file c.search.invariant.marks.order may in
-    let bits = header_bits c.args.file.now.header c.search.file.header c.search.invariant.header in
-    let within : c.search.first + c.args.n ≤ nameable_clusters c.search.file.header.fields =
-    let few = c.if-n-limit.true in let below = c.if-first-limit.true in let limit = c.search.invariant.limit in let now = ap (λ n. greatest_offset / 2 ^ n + 1) bits in omega (arith, few, below, limit, now) in
-    let after = header_bits c.search.file.header c.take_run.new.file.header c.take_run.ensures.header in
-    let same = ap (λ n. greatest_offset / 2 ^ n + 1) after in
-    handed_on (λ (r : Result ℕ ImageError). IfErr r (IsFaultOr (HasNoPlace (IsUsed g.S.Storage.view c.take_run.new.file) c.take_run.new.file.header.fields c.take_run.new.self c.args.n))) c.from_residual.result c.in_err-taken.field-0.0 c.from_residual.ensures
-    (elim (c.in_err-taken.ensures.limit q d now may_now (c.search.invariant.hint p d sound may hint) within) [
-      | inl fault ↦ inl fault
-      | inr why ↦
-          let uses = not_broken c.take_run.new.file c.in_err-taken.field-0.0 (limit_is_no_fault c.in_err-taken.field-0.0 why.0) (c.in_err-taken.ensures.uses q d now may_now) in
-          let lowest = lowest_stays g.S.Storage.view c.search.file c.take_run.new.file c.search.first c.args.n uses (c.search.invariant.lowest p d sound may hint some) in
-          inr (why.0, inr (c.search.first, omega (arith, within, same), lowest, why.1))
-    ])
-
-pub returns-clause-limit : goal.returns-clause-limit
-returns-clause-limit g c = λ p d sound may hint some.
-    let limit = c.search.invariant.limit ∙ ap (λ n. greatest_offset / 2 ^ n + 1) (sym (header_bits c.args.file.now.header c.search.file.header c.search.invariant.header)) in
-    let past : c.args.n ≤ greatest_offset / 2 ^ c.cluster_bits.result + 1 → greatest_offset / 2 ^ c.cluster_bits.result + 1 < c.search.first + c.args.n = λ few. elim c.search-test.branch [
-      | then-search-test+then-n-limit+else-first-limit w ↦ let past = w.if-first-limit.false in omega (arith, few, past)
-      | then-search-test+else-n-limit w ↦ let many = w.if-n-limit.false in omega (arith, few, many)
-      | else-search-test w ↦ let none = w.search-test.false in omega (arith, some, none)
-    ] in
-    inr (refl, inl (full_behind g.S.Storage.view c.search.file c.search.first c.args.n (greatest_offset / 2 ^ c.cluster_bits.result + 1) limit past (c.search.invariant.lowest p d sound may hint some)))
-
-pub returns-in_err-taken-clause-former : goal.returns-in_err-taken-clause-former
-returns-in_err-taken-clause-former g c = former_then c.args.self.now.reftable c.search.self.reftable c.take_run.new.self.reftable c.args.file.now.free_list c.search.file.free_list c.take_run.new.file.free_list c.search.invariant.former c.take_run.ensures.former
-
-pub returns-then-taken-n-clause-former : goal.returns-then-taken-n-clause-former
-returns-then-taken-n-clause-former g c = former_then c.args.self.now.reftable c.search.self.reftable c.take_run.new.self.reftable c.args.file.now.free_list c.search.file.free_list c.take_run.new.file.free_list c.search.invariant.former c.take_run.ensures.former
-
-pub returns-in_err-taken-clause-marks : goal.returns-in_err-taken-clause-marks
-returns-in_err-taken-clause-marks g c = kept_marks_then c.search.invariant.marks c.take_run.ensures.marks
-
-pub returns-in_err-taken-clause-cause : goal.returns-in_err-taken-clause-cause
-returns-in_err-taken-clause-cause g c = handed_cause c.from_residual.result c.in_err-taken.field-0.0 c.from_residual.ensures c.in_err-taken.ensures.cause
-
-pub returns-in_err-taken-clause-storage_faults : goal.returns-in_err-taken-clause-storage_faults
-returns-in_err-taken-clause-storage_faults g c = told_after _ _ _ c.take_run.result c.in_err-taken.field-0.0 c.from_residual.result c.search.invariant.faults c.take_run.ensures.storage_faults c.in_err-taken.was c.from_residual.ensures
+returns-clause-sound g c = λ p d sound may.
+    record {
+      takes = inl (c.search.invariant.sound p sound);
+      uses = tt;
+      hint = λ hint. inl (c.search.invariant.hint p d sound may hint);
+      lowest = λ _. tt;
+      limit = λ hint some. let limit = c.search.invariant.limit ∙ ap (λ n. greatest_offset / 2 ^ n + 1) (sym (header_bits c.args.file.now.header c.search.file.header c.search.invariant.step.header)) in
+          let past : c.args.n ≤ greatest_offset / 2 ^ c.cluster_bits.result + 1 → greatest_offset / 2 ^ c.cluster_bits.result + 1 < c.search.first + c.args.n = λ few. elim c.search-test.branch [
+            | then-search-test+then-n-limit+else-first-limit w ↦ let past = w.if-first-limit.false in omega (arith, few, past)
+            | then-search-test+else-n-limit w ↦ let many = w.if-n-limit.false in omega (arith, few, many)
+            | else-search-test w ↦ let none = w.search-test.false in omega (arith, some, none)
+          ] in
+          inr (refl, inl (full_behind g.S.Storage.view c.search.file c.search.first c.args.n (greatest_offset / 2 ^ c.cluster_bits.result + 1) limit past (c.search.invariant.lowest p d sound may hint some)));
+    }
 
 pub returns-in_err-taken-clause-nameable : goal.returns-in_err-taken-clause-nameable
 returns-in_err-taken-clause-nameable g c = if_no_ok _ c.from_residual.result c.in_err-taken.field-0.0 c.from_residual.ensures
@@ -297,80 +190,65 @@ returns-in_err-taken-clause-nameable g c = if_no_ok _ c.from_residual.result c.i
 pub returns-in_err-taken-clause-elsewhere : goal.returns-in_err-taken-clause-elsewhere
 returns-in_err-taken-clause-elsewhere g c = if_no_ok _ c.from_residual.result c.in_err-taken.field-0.0 c.from_residual.ensures
 
-pub returns-in_err-taken-clause-lowest : goal.returns-in_err-taken-clause-lowest
-returns-in_err-taken-clause-lowest g c = λ _ _ _ _ _. if_no_ok _ c.from_residual.result c.in_err-taken.field-0.0 c.from_residual.ensures
+pub returns-in_err-taken-clause-sound : goal.returns-in_err-taken-clause-sound
+returns-in_err-taken-clause-sound g c = λ p d sound may.
+    let before = c.search.invariant.sound p sound in
+    let q : Pending = pending_then p c.args.file.now.free_list c.search.file.free_list in
+    let now = is_sound_on g.S.Storage.view p q c.args.file.now c.search.file c.search.self before in
+    let may_now = may_still d c.args.file.now c.search.file c.search.invariant.step.marks.order may in
+    record {
+      takes = handed_on (TakesSomeRun g.S.Storage.view p c.args.file.now c.take_run.new.self c.take_run.new.file (pending_then p c.args.file.now.free_list c.take_run.new.file.free_list) d c.args.n) c.from_residual.result c.in_err-taken.field-0.0 c.from_residual.ensures
+          (then_leaves g.S.Storage.view p c.args.file.now c.search.file c.take_run.new.file c.search.self c.take_run.new.self c.search.invariant.step.list c.take_run.ensures.step.list before c.in_err-taken.field-0.0 ((c.in_err-taken.ensures.sound q d now may_now).takes));
+      uses = on_no_ok _ c.from_residual.result c.in_err-taken.field-0.0 c.from_residual.ensures;
+      hint = λ hint. handed_on (KeepsNoFreeBelowHint g.S.Storage.view c.take_run.new.self c.take_run.new.file) c.from_residual.result c.in_err-taken.field-0.0 c.from_residual.ensures ((c.in_err-taken.ensures.sound q d now may_now).hint (c.search.invariant.hint p d sound may hint));
+      lowest = λ _. if_no_ok _ c.from_residual.result c.in_err-taken.field-0.0 c.from_residual.ensures;
+      limit = λ hint some. let bits = header_bits c.args.file.now.header c.search.file.header c.search.invariant.step.header in
+          let within : c.search.first + c.args.n ≤ nameable_clusters c.search.file.header.fields =
+          let few = c.if-n-limit.true in let below = c.if-first-limit.true in let limit = c.search.invariant.limit in let now = ap (λ n. greatest_offset / 2 ^ n + 1) bits in omega (arith, few, below, limit, now) in
+          let after = header_bits c.search.file.header c.take_run.new.file.header c.take_run.ensures.step.header in
+          let same = ap (λ n. greatest_offset / 2 ^ n + 1) after in
+          handed_on (λ (r : Result ℕ ImageError). IfErr r (IsFaultOr (HasNoPlace (IsUsed g.S.Storage.view c.take_run.new.file) c.take_run.new.file.header.fields c.take_run.new.self c.args.n))) c.from_residual.result c.in_err-taken.field-0.0 c.from_residual.ensures
+          (elim ((c.in_err-taken.ensures.sound q d now may_now).limit (c.search.invariant.hint p d sound may hint) within) [
+            | inl fault ↦ inl fault
+            | inr why ↦
+                let uses = not_broken c.take_run.new.file c.in_err-taken.field-0.0 (limit_is_no_fault c.in_err-taken.field-0.0 why.0) ((c.in_err-taken.ensures.sound q d now may_now).uses) in
+                let lowest = lowest_stays g.S.Storage.view c.search.file c.take_run.new.file c.search.first c.args.n uses (c.search.invariant.lowest p d sound may hint some) in
+                inr (why.0, inr (c.search.first, omega (arith, within, same), lowest, why.1))
+          ]);
+    }
 
 pub returns-in_err-taken-clause-noted : goal.returns-in_err-taken-clause-noted
 returns-in_err-taken-clause-noted g c = on_no_ok _ c.from_residual.result c.in_err-taken.field-0.0 c.from_residual.ensures
 
-pub returns-in_err-taken-clause-header : goal.returns-in_err-taken-clause-header
-returns-in_err-taken-clause-header g c = header_then c.args.file.now.header c.search.file.header c.take_run.new.file.header c.search.invariant.header c.take_run.ensures.header
-
-pub returns-then-taken-n-clause-header : goal.returns-then-taken-n-clause-header
-returns-then-taken-n-clause-header g c = header_then c.args.file.now.header c.search.file.header c.take_run.new.file.header c.search.invariant.header c.take_run.ensures.header
-
-pub returns-then-taken-n-clause-marks : goal.returns-then-taken-n-clause-marks
-returns-then-taken-n-clause-marks g c = kept_marks_then c.search.invariant.marks c.take_run.ensures.marks
-
-pub returns-then-taken-n-clause-cause : goal.returns-then-taken-n-clause-cause
-returns-then-taken-n-clause-cause g c = tt
-
-pub returns-then-taken-n-clause-storage_faults : goal.returns-then-taken-n-clause-storage_faults
-returns-then-taken-n-clause-storage_faults g c = told_ok _ _ _ (c.in_ok-taken.ensures.storage_faults.told ∙ c.search.invariant.faults)
-
 pub returns-then-taken-n-clause-elsewhere : goal.returns-then-taken-n-clause-elsewhere
 returns-then-taken-n-clause-elsewhere g c = c.search.invariant.above
 
-pub returns-clause-marks : goal.returns-clause-marks
-returns-clause-marks g c = c.search.invariant.marks
+pub returns-clause-step : goal.returns-clause-step
+returns-clause-step g c = c.search.invariant.step
 
-pub returns-clause-header : goal.returns-clause-header
-returns-clause-header g c = c.search.invariant.header
-
-pub returns-clause-list : goal.returns-clause-list
-returns-clause-list g c = c.search.invariant.list
-
-pub returns-clause-former : goal.returns-clause-former
-returns-clause-former g c = c.search.invariant.former
-
-pub returns-clause-cause : goal.returns-clause-cause
-returns-clause-cause g c = tt
-
-pub returns-clause-storage_faults : goal.returns-clause-storage_faults
-returns-clause-storage_faults g c = told_limit _ _ c.search.invariant.faults
+pub returns-clause-fails : goal.returns-clause-fails
+returns-clause-fails g c = fails_by I.Limit limit_other c.search.invariant.faults tt
 
 pub returns-in_err-taken-clause-leaks : goal.returns-in_err-taken-clause-leaks
 returns-in_err-taken-clause-leaks g c = λ p sound.
     let q : Pending = pending_then p c.args.file.now.free_list c.search.file.free_list in
     let now = is_sound_on g.S.Storage.view p q c.args.file.now c.search.file c.search.self (c.search.invariant.sound p sound) in
-    c.take_run.ensures.leaks q now ∙ c.search.invariant.leaks p sound
+    (c.take_run.ensures.sound q false now tt).leaks ∙ c.search.invariant.leaks p sound
 
 pub returns-then-taken-n-clause-leaks : goal.returns-then-taken-n-clause-leaks
 returns-then-taken-n-clause-leaks g c = λ p sound.
     let q : Pending = pending_then p c.args.file.now.free_list c.search.file.free_list in
     let now = is_sound_on g.S.Storage.view p q c.args.file.now c.search.file c.search.self (c.search.invariant.sound p sound) in
-    c.take_run.ensures.leaks q now ∙ c.search.invariant.leaks p sound
+    (c.take_run.ensures.sound q false now tt).leaks ∙ c.search.invariant.leaks p sound
 
 pub returns-in_err-first-clause-leaks : goal.returns-in_err-first-clause-leaks
 returns-in_err-first-clause-leaks g c = λ p sound.
     let q : Pending = pending_then p c.args.file.now.free_list c.search.file.free_list in
     let now = is_sound_on g.S.Storage.view p q c.args.file.now c.search.file c.search.self (c.search.invariant.sound p sound) in
-    ap (λ (t : Allocator). t.leaked_clusters) c.pass_used.ensures.moves ∙ c.take_run.ensures.leaks q now ∙ c.search.invariant.leaks p sound
+    ap (λ (t : Allocator). t.leaked_clusters) c.pass_used.ensures.moves ∙ (c.take_run.ensures.sound q false now tt).leaks ∙ c.search.invariant.leaks p sound
 
 pub returns-clause-leaks : goal.returns-clause-leaks
 returns-clause-leaks g c = λ p sound. c.search.invariant.leaks p sound
-
-pub returns-in_err-taken-clause-header_cluster : goal.returns-in_err-taken-clause-header_cluster
-returns-in_err-taken-clause-header_cluster g c = spares_then c.search.invariant.spared c.take_run.ensures.header_cluster
-
-pub returns-then-taken-n-clause-header_cluster : goal.returns-then-taken-n-clause-header_cluster
-returns-then-taken-n-clause-header_cluster g c = spares_then c.search.invariant.spared c.take_run.ensures.header_cluster
-
-pub returns-in_err-first-clause-header_cluster : goal.returns-in_err-first-clause-header_cluster
-returns-in_err-first-clause-header_cluster g c = spares_then (spares_then c.search.invariant.spared c.take_run.ensures.header_cluster) (spares_less (c.pass_used.ensures.header_cluster))
-
-pub returns-clause-header_cluster : goal.returns-clause-header_cluster
-returns-clause-header_cluster g c = c.search.invariant.spared
 
 -- ---- where the refblock of the first cluster can't be had: no run is taken
 answers_none : {A : Type 0} (h h' : HeaderFields) (t t' : EntryTableView) (from first n taken : ℕ) (e : ImageError) (Stays : Type 0) → h' ≡ h → t' ≡ t → first ≡ from → LacksBlock h t from e

@@ -2,27 +2,22 @@ use Rattle.std.proofs.Common.{max, ◌≡◌, ◌+◌, ◌-◌, ◌/◌, ◌^◌
 use Rattle.qcow2_metadata.specs.L2Mapping.{greatest_offset}
 use Rattle.qcow2_laws.specs.CrashInvariant.{Pending}
 use Rattle.qcow2_alloc.specs.Allocation.{UnseenAllocatorGrowth, MayTake, SameLeaks}
-use Rattle.qcow2_alloc.specs.KeptMarks.{KeepsMarks}
 use Rattle.qcow2_alloc.specs.Faults.{faults_of}
-use Rattle.qcow2_alloc.specs.ImageFile.{AllocatorInvariant, KeepsHeader}
-use Rattle.qcow2_alloc.specs.FreeList.{pending_then, ListsTables, ListsReftables}
+use Rattle.qcow2_alloc.specs.ImageFile.{AllocatorInvariant}
+use Rattle.qcow2_alloc.specs.FreeList.{pending_then}
 use Rattle.qcow2_alloc.specs.LowestRuns.{NoFreeBelowHint, IsLowestRun, IsUsed, StaysUsed}
-use Rattle.qcow2_alloc.specs.SparedHeaders.{SparesHeaderButPointer}
+use Rattle.qcow2_alloc.specs.Steps.{FileStep}
 use Rattle.qcow2_alloc.proofs.allocation.Allocator.lowest_run.Given as goal
 
 -- nothing is taken yet
 abbrev pub invariant-search : goal.invariant-search
 invariant-search g l = record {
-  header : KeepsHeader l.fn.file.header l.file.header;
-  list : ListsTables l.fn.file.free_list l.file.free_list;
-  former : ListsReftables l.fn.self.reftable l.self.reftable l.fn.file.free_list l.file.free_list;
   limit : l.limit ≡ greatest_offset / 2 ^ l.fn.file.header.fields.cluster_bits + 1;
   near : l.limit ≤ 2 ^ 57;
   above : 0 < l.first;
   behind : max l.fn.self.first_free_cluster 1 ≤ l.first;
-  marks : KeepsMarks g.S.Storage.view l.fn.file l.file;
   faults : faults_of g.S.Storage.view l.file.storage ≡ faults_of g.S.Storage.view l.fn.file.storage;
-  spared : SparesHeaderButPointer g.S.Storage.view l.fn.self.reftable l.fn.file l.self.reftable l.file;
+  step : FileStep g.S.Storage.view l.fn.self.reftable l.fn.file l.self.reftable l.file;
   sound : (p : Pending) → AllocatorInvariant g.S.Storage.view l.fn.self p l.fn.file → UnseenAllocatorGrowth g.S.Storage.view p l.fn.file l.self l.file (pending_then p l.fn.file.free_list l.file.free_list);
   leaks : (p : Pending) → AllocatorInvariant g.S.Storage.view l.fn.self p l.fn.file → SameLeaks l.fn.self l.self;
   hint : (p : Pending) (d : Bool) → AllocatorInvariant g.S.Storage.view l.fn.self p l.fn.file → MayTake d l.fn.file → NoFreeBelowHint g.S.Storage.view l.fn.self l.fn.file → NoFreeBelowHint g.S.Storage.view l.self l.file;

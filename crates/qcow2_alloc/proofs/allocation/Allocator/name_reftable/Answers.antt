@@ -5,13 +5,15 @@ use Rattle.qcow2_alloc.specs.ImageStorage.{storage_of}
 use Rattle.qcow2_alloc.proofs.AllocationSteps.{handed_on, fault_of_storage}
 use Rattle.qcow2_alloc.proofs.NamedReftables.{within_limit, interrupted_named, allocator_step_named, keeps_used}
 use Rattle.qcow2_alloc.proofs.ListedAfter.{header_same}
-use Rattle.qcow2_alloc.proofs.Outcomes.{told_limit, on_no_ok, handed_cause, on_err}
+use Rattle.qcow2_alloc.proofs.Outcomes.{on_no_ok, on_err}
 use Rattle.qcow2_alloc.proofs.KeptNotes.{note_kept}
-use Rattle.qcow2_alloc.proofs.TableErrors.{storage_of_tables, metadata_of_tables}
 use Rattle.qcow2_alloc.proofs.SparedHeaders.{spares_none, spares_pointer, placed_above}
 use Rattle.qcow2_alloc.specs.SparedHeaders.{SparesHeaderButPointer}
 use Rattle.qcow2_metadata.specs.Header.{HeaderView}
 use Rattle.qcow2_alloc.proofs.KeptMarks.{kept_marks_none, told_kept, marks_of_storage}
+use Rattle.qcow2_alloc.proofs.Steps.{fails_by, limit_other, fails_ok, fails_on, fails_since, fails_storage, other_as, same_faults}
+use Rattle.qcow2_alloc.specs.declared.error.ImageError.TheVariants as I
+use Rattle.qcow2_alloc.proofs.TableErrors.{metadata_of_tables}
 use Rattle.qcow2_alloc.proofs.allocation.Allocator.name_reftable.Goals as goal
 
 pub returns-in_err-set_reftable-clause-names : goal.returns-in_err-set_reftable-clause-names
@@ -64,11 +66,8 @@ returns-in_default-clause-first g c = refl
 pub returns-in_default-clause-kept : goal.returns-in_default-clause-kept
 returns-in_default-clause-kept g c = refl
 
-pub returns-in_default-clause-cause : goal.returns-in_default-clause-cause
-returns-in_default-clause-cause g c = tt
-
-pub returns-in_default-clause-storage_faults : goal.returns-in_default-clause-storage_faults
-returns-in_default-clause-storage_faults g c = told_limit _ _ refl
+pub returns-in_default-clause-fails : goal.returns-in_default-clause-fails
+returns-in_default-clause-fails g c = fails_by I.Limit limit_other refl tt
 
 pub returns-in_err-set_reftable-clause-marks : goal.returns-in_err-set_reftable-clause-marks
 returns-in_err-set_reftable-clause-marks g c = kept_marks_none
@@ -88,9 +87,6 @@ returns-in_err-set_reftable-clause-kept g c = on_err _ c.from_residual.result re
 pub returns-in_err-set_reftable-clause-table : goal.returns-in_err-set_reftable-clause-table
 returns-in_err-set_reftable-clause-table g c = on_no_ok _ c.from_residual.result (of_metadata c.in_err-set_reftable.field-0.0) c.from_residual.ensures
 
-pub returns-in_err-set_reftable-clause-cause : goal.returns-in_err-set_reftable-clause-cause
-returns-in_err-set_reftable-clause-cause g c = handed_cause c.from_residual.result (of_metadata c.in_err-set_reftable.field-0.0) c.from_residual.ensures (metadata_of_tables c.in_err-set_reftable.field-0.0)
-
 pub returns-in_err-write_reftable_pointer-clause-marks : goal.returns-in_err-write_reftable_pointer-clause-marks
 returns-in_err-write_reftable_pointer-clause-marks g c =
     (marks_of_storage refl (told_kept c.args.file.now.storage c.will_write.new.self c.write_reftable_pointer.new.self c.write_reftable_pointer.result c.will_write.ensures.storage c.will_write.ensures.changed _ c.write_reftable_pointer.ensures.written c.write_reftable_pointer.ensures.calls c.write_reftable_pointer.ensures.noted))
@@ -107,9 +103,6 @@ returns-in_err-write_reftable_pointer-clause-kept g c = on_err _ c.from_residual
 pub returns-in_err-write_reftable_pointer-clause-table : goal.returns-in_err-write_reftable_pointer-clause-table
 returns-in_err-write_reftable_pointer-clause-table g c = on_no_ok _ c.from_residual-in_err-write_reftable_pointer.result (of_storage c.in_err-write_reftable_pointer.field-0.0) c.from_residual-in_err-write_reftable_pointer.ensures
 
-pub returns-in_err-write_reftable_pointer-clause-cause : goal.returns-in_err-write_reftable_pointer-clause-cause
-returns-in_err-write_reftable_pointer-clause-cause g c = handed_cause c.from_residual-in_err-write_reftable_pointer.result (of_storage c.in_err-write_reftable_pointer.field-0.0) c.from_residual-in_err-write_reftable_pointer.ensures (storage_of_tables c.in_err-write_reftable_pointer.field-0.0)
-
 pub returns-clause-marks : goal.returns-clause-marks
 returns-clause-marks g c =
     (marks_of_storage refl (told_kept c.args.file.now.storage c.will_write.new.self c.write_reftable_pointer.new.self c.write_reftable_pointer.result c.will_write.ensures.storage c.will_write.ensures.changed _ c.write_reftable_pointer.ensures.written c.write_reftable_pointer.ensures.calls c.write_reftable_pointer.ensures.noted))
@@ -122,9 +115,6 @@ returns-clause-table g c = refl
 
 pub returns-clause-first : goal.returns-clause-first
 returns-clause-first g c = refl
-
-pub returns-clause-cause : goal.returns-clause-cause
-returns-clause-cause g c = tt
 
 pub returns-clause-kept : goal.returns-clause-kept
 returns-clause-kept g c = tt
@@ -140,3 +130,14 @@ returns-in_err-write_reftable_pointer-clause-header_cluster g c = λ above bits.
 
 pub returns-clause-header_cluster : goal.returns-clause-header_cluster
 returns-clause-header_cluster g c = λ above bits. spares_pointer g.S.Storage.view c.args.self.now.reftable c.args.file.now c.set_reftable.new.self c.args.file.now.caches (storage_of c.will_write.new.self) c.write_reftable_pointer.new.self _ _ c.write_reftable_pointer.result c.in_ok-set_reftable.ensures.ok (λ bits are. are) c.will_write.ensures.storage c.write_reftable_pointer.ensures.written c.write_reftable_pointer.ensures.calls c.args.table (λ n stands. (bits ∙ stands.header, λ has. placed_above c.args.table.cluster above))
+
+pub returns-in_err-set_reftable-clause-fails : goal.returns-in_err-set_reftable-clause-fails
+returns-in_err-set_reftable-clause-fails g c =
+    let e = c.in_err-set_reftable.field-0.0 in
+    fails_on c.from_residual.result (of_metadata e) c.from_residual.ensures (fails_by (of_metadata e) (other_as (ap of_metadata c.in_err-set_reftable.ensures.err.0) limit_other) refl (metadata_of_tables e))
+
+pub returns-in_err-write_reftable_pointer-clause-fails : goal.returns-in_err-write_reftable_pointer-clause-fails
+returns-in_err-write_reftable_pointer-clause-fails g c = fails_since (same_faults g.S.Storage.view c.will_write.ensures.storage) (fails_storage c.from_residual-in_err-write_reftable_pointer.result c.in_err-write_reftable_pointer.field-0.0 c.from_residual-in_err-write_reftable_pointer.ensures c.in_err-write_reftable_pointer.ensures.calls.cause)
+
+pub returns-clause-fails : goal.returns-clause-fails
+returns-clause-fails g c = fails_ok (c.in_ok-write_reftable_pointer.ensures.calls.cause.told ∙ same_faults g.S.Storage.view c.will_write.ensures.storage)

@@ -1,5 +1,5 @@
 use Rattle.qcow2_alloc.proofs.AllocationSteps.{table_loaded, handed_on}
-use Rattle.std.proofs.Common.{◌≡◌, inl, inr, ℕ, ◌+◌, ◌*◌, ◌/◌, ◌<◌, ◌≤◌, ◌^◌, Ok, Result, Some, sym, ap, ◌∙◌, subst, refl, arith}
+use Rattle.std.proofs.Common.{◌≡◌, inl, inr, ℕ, ◌+◌, ◌*◌, ◌<◌, ◌≤◌, ◌^◌, Ok, Result, Some, sym, ap, ◌∙◌, subst, refl, arith}
 use Rattle.std.specs.Prelude.{MatchResult}
 use Rattle.image_access.specs.Contents.{bytes_at}
 use Rattle.qcow2_metadata.specs.Bytes.{byte_at}
@@ -15,6 +15,8 @@ use Rattle.qcow2_alloc.specs.ImageFile.{contents_in, view_in}
 use Rattle.qcow2_alloc.specs.LoadedTables.{HasUnreadEntry, IsReasonAgainst, IsReasonAgainstReftable, ReftableReads}
 use Rattle.qcow2_alloc.proofs.LoadedTables.{entries_read, fits_so, not_loaded}
 use Rattle.qcow2_alloc.proofs.SparedHeaders.{not_first, placed_above}
+use Rattle.qcow2_alloc.proofs.Steps.{fails_by, fails_loaded, fails_ok}
+use Rattle.qcow2_alloc.specs.declared.error.ImageError.TheVariants as I
 use Rattle.qcow2_alloc.proofs.allocation.Allocator.new.Goals as goal
 
 pub returns-clause-reftable : goal.returns-clause-reftable
@@ -44,12 +46,11 @@ returns-in_err-reftable-clause-why g c = λ honest.
     let b = byte_at contents in
     let n = c.reftable_entries-entries.result in
     let entries : c.reftable_entries-entries.result ≡ reftable_entries h = c.reftable_entries-entries.ensures.value in
-    let few = c.reftable_entries-entries.ensures.limit in
     let at : c.in-Some.cluster * 2 ^ h.cluster_bits ≡ h.reftable_offset = ap (λ n. c.in-Some.cluster * 2 ^ n) (sym c.cluster_bits-bits.ensures.value) ∙ c.in-Some.ensures.cluster ∙ c.reftable_offset.ensures in
     let e = c.in_err-reftable.field-0.0 in
     let is = subst (λ m. (i : ℕ) → entry_at (bytes_at contents h.reftable_offset (8 * m)) i ≡ reftable_entry h b i) (sym entries) (reftable_entries-loaded h contents _ refl) in
     let There : Type 0 = (view_in g.S.Storage.view c.args.file.now).is_honest → SomeUnread ReftableEntryReads (bytes_at contents (c.in-Some.cluster * cluster_size h) (8 * n)) in
-    let why = not_loaded 1048576 h.cluster_bits (8 * n) c.in-Some.cluster h.reftable_offset n at few h contents (reftable_entry h b) ReftableEntryReads is There
+    let why = not_loaded 1048576 h.cluster_bits (8 * n) c.in-Some.cluster h.reftable_offset n at c.reftable_entries-entries.ensures.limit h contents (reftable_entry h b) ReftableEntryReads is There
     (λ some. subst (λ p. SomeUnread ReftableEntryReads (bytes_at contents p (8 * n))) at (some honest)) (2 ^ 64 ≤ h.reftable_offset + 8 * n) ((h.reftable_offset + 8 * n < 2 ^ 64) × HasUnreadEntry n (λ k. ReftableEntryReads (reftable_entry h b k))) (λ past. past) (λ fits unread. (fits, unread)) e c.in_err-reftable.ensures.limit c.in_err-reftable.ensures.err in
     handed_on (λ (r : Result Allocator ImageError). MatchResult r (λ a. ReftableReads h b) (IsReasonAgainstReftable h b)) c.from_residual.result (of_metadata e) c.from_residual.ensures
     (subst (λ m. IsReasonAgainst h h.reftable_offset (2 ^ 64 ≤ h.reftable_offset + 8 * m) ((h.reftable_offset + 8 * m < 2 ^ 64) × HasUnreadEntry m (λ k. ReftableEntryReads (reftable_entry h b k))) (of_metadata e)) entries why)
@@ -57,9 +58,8 @@ returns-in_err-reftable-clause-why g c = λ honest.
 pub returns-clause-header_cluster : goal.returns-clause-header_cluster
 returns-clause-header_cluster g c = λ named are.
     let h = c.args.file.now.header.fields in
-    let t = c.in_ok-reftable.reftable in
     let at : c.in-Some.cluster * 2 ^ c.cluster_bits-bits.result ≡ h.reftable_offset = c.in-Some.ensures.cluster ∙ c.reftable_offset.ensures in
-    let above : 0 < entry_count t → 0 < c.in-Some.cluster = λ has. elim named [
+    let above : 0 < entry_count c.in_ok-reftable.reftable → 0 < c.in-Some.cluster = λ has. elim named [
       | inl none ↦
           let entries : c.reftable_entries-entries.result ≡ reftable_entries h = c.reftable_entries-entries.ensures.value in
           let empty : reftable_entries h ≡ 0 * entries_per_cluster h = ap (λ n. n * entries_per_cluster h) none in
@@ -73,3 +73,12 @@ returns-clause-header_cluster g c = λ named are.
       reftable_bits = ap (λ (x : EntryTableView). x.cluster_bits) c.in_ok-reftable.ensures.table;
       elsewhere = λ has is. placed_above (Some c.in-Some.cluster) (above has) (sym (ap (λ (x : EntryTableView). x.cluster) c.in_ok-reftable.ensures.table) ∙ is);
     }
+
+pub returns-in_default-clause-fails : goal.returns-in_default-clause-fails
+returns-in_default-clause-fails g c = fails_by I.UnalignedTable (λ bad. absurd cc) refl tt
+
+pub returns-in_err-reftable-clause-fails : goal.returns-in_err-reftable-clause-fails
+returns-in_err-reftable-clause-fails g c = fails_loaded EntryTableView c.from_residual.result c.in_err-reftable.field-0.0 c.from_residual.ensures c.in_err-reftable.ensures.calls.cause
+
+pub returns-clause-fails : goal.returns-clause-fails
+returns-clause-fails g c = fails_ok c.in_ok-reftable.ensures.calls.cause.told

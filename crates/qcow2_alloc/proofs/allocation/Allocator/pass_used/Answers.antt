@@ -5,9 +5,8 @@ use Rattle.qcow2_alloc.specs.declared.allocation.Allocator.{Allocator}
 use Rattle.qcow2_alloc.proofs.AllocationSteps.{handed_on, allocator_step_as}
 use Rattle.qcow2_alloc.proofs.Hints.{hint_passed, hint_stays, hint_refused}
 use Rattle.qcow2_alloc.proofs.allocation.Allocator.pass_used.Goals.{then-cluster-self, else-cluster-self}
-use Rattle.qcow2_alloc.proofs.SparedHeaders.{spares_as}
 use Rattle.qcow2_alloc.proofs.Outcomes.{if_no_ok}
-use Rattle.qcow2_alloc.specs.declared.error.ImageError.TheVariants as I
+use Rattle.qcow2_alloc.proofs.Steps.{table_step_as}
 use Rattle.qcow2_alloc.proofs.allocation.Allocator.pass_used.Goals as goal
 
 pub returns-in_err-next-clause-sound : goal.returns-in_err-next-clause-sound
@@ -38,16 +37,11 @@ returns-clause-hint g c = λ p sound hint.
           (ap (λ (t : Allocator). t.first_free_cluster) w.self-is) hint
     ]
 
-pub returns-in_err-next-clause-header_cluster : goal.returns-in_err-next-clause-header_cluster
-returns-in_err-next-clause-header_cluster g c = c.behind_used.ensures.header_cluster
+pub returns-in_err-next-clause-step : goal.returns-in_err-next-clause-step
+returns-in_err-next-clause-step g c = c.behind_used.ensures.step
 
-pub returns-clause-header_cluster : goal.returns-clause-header_cluster
-returns-clause-header_cluster g c =
-    let same : c.if-cluster-self.self.reftable ≡ c.args.self.now.reftable = elim c.if-cluster-self.branch [
-      | then-cluster-self w ↦ ap (λ (t : Allocator). t.reftable) w.self-is
-      | else-cluster-self w ↦ ap (λ (t : Allocator). t.reftable) w.self-is
-    ] in
-    spares_as same c.behind_used.ensures.header_cluster
+pub returns-clause-step : goal.returns-clause-step
+returns-clause-step g c = let same : c.if-cluster-self.self.reftable ≡ c.args.self.now.reftable = elim c.if-cluster-self.branch [ then-cluster-self w ↦ ap (λ (t : Allocator). t.reftable) w.self-is | else-cluster-self w ↦ ap (λ (t : Allocator). t.reftable) w.self-is ] in table_step_as same refl c.behind_used.ensures.step
 
 pub returns-in_err-next-clause-far : goal.returns-in_err-next-clause-far
 returns-in_err-next-clause-far g c = if_no_ok _ c.from_residual.result c.in_err-next.field-0.0 c.from_residual.ensures

@@ -26,13 +26,12 @@ use Rattle.qcow2_alloc.specs.TableCaches.{cleared_rb, IsBlockOf}
 use Rattle.qcow2_alloc.proofs.FileSteps.{file_step_then, interrupted_then}
 use Rattle.qcow2_alloc.proofs.AllocationSteps.{entered_has, handed_on, entries_entered, fault_of_storage, is_sound_now, stands}
 use Rattle.qcow2_alloc.proofs.NamedBlocks.{entry_write_as, real, safe_throughout_named, named_so}
-use Rattle.qcow2_alloc.proofs.Faults.{told_on}
-use Rattle.qcow2_alloc.proofs.Outcomes.{on_no_ok, handed_cause, entries_none}
-use Rattle.qcow2_alloc.proofs.TableErrors.{storage_of_tables}
+use Rattle.qcow2_alloc.proofs.Outcomes.{on_no_ok, entries_none}
 use Rattle.qcow2_alloc.proofs.SparedHeaders.{spares_then, spares_entry}
 use Rattle.qcow2_alloc.proofs.KeptMarks.{kept_marks_then, placed_kept, marks_of_storage}
 use Rattle.qcow2_alloc.proofs.KeptNotes.{note_kept}
 use Rattle.std.proofs.lemmas.Bool.{or_left}
+use Rattle.qcow2_alloc.proofs.Steps.{fails_on, fails_by, fails_ok, fails_since, fails_storage, memory_other, other_as, same_faults}
 use Rattle.qcow2_alloc.proofs.allocation.Allocator.place_block.Goals as goal
 
 pub returns-in_err-write_block-clause-sound : goal.returns-in_err-write_block-clause-sound
@@ -127,11 +126,8 @@ returns-clause-sound g c = λ p sound place.
 pub returns-in_err-write_block-clause-marks : goal.returns-in_err-write_block-clause-marks
 returns-in_err-write_block-clause-marks g c = c.write_block.ensures.marks
 
-pub returns-in_err-write_block-clause-cause : goal.returns-in_err-write_block-clause-cause
-returns-in_err-write_block-clause-cause g c = handed_cause c.from_residual-in_err-write_block.result c.in_err-write_block.field-0.0 c.from_residual-in_err-write_block.ensures c.in_err-write_block.ensures.cause
-
-pub returns-in_err-write_block-clause-storage_faults : goal.returns-in_err-write_block-clause-storage_faults
-returns-in_err-write_block-clause-storage_faults g c = told_on _ _ c.write_block.result c.in_err-write_block.field-0.0 c.from_residual-in_err-write_block.result c.write_block.ensures.storage_faults c.in_err-write_block.was c.from_residual-in_err-write_block.ensures
+pub returns-in_err-write_block-clause-fails : goal.returns-in_err-write_block-clause-fails
+returns-in_err-write_block-clause-fails g c = fails_on c.from_residual-in_err-write_block.result c.in_err-write_block.field-0.0 c.from_residual-in_err-write_block.ensures c.in_err-write_block.ensures.fails
 
 pub returns-in_err-write_block-clause-noted : goal.returns-in_err-write_block-clause-noted
 returns-in_err-write_block-clause-noted g c = on_no_ok _ c.from_residual-in_err-write_block.result c.in_err-write_block.field-0.0 c.from_residual-in_err-write_block.ensures
@@ -178,14 +174,8 @@ returns-clause-list g c = c.write_block.ensures.list
 pub returns-clause-first : goal.returns-clause-first
 returns-clause-first g c = refl
 
-pub returns-clause-cause : goal.returns-clause-cause
-returns-clause-cause g c = tt
-
 pub returns-in_err-write_reftable_entry-clause-noted : goal.returns-in_err-write_reftable_entry-clause-noted
 returns-in_err-write_reftable_entry-clause-noted g c = on_no_ok _ c.from_residual-in_err-write_reftable_entry.result (of_storage c.in_err-write_reftable_entry.field-0.0) c.from_residual-in_err-write_reftable_entry.ensures
-
-pub returns-in_err-write_reftable_entry-clause-cause : goal.returns-in_err-write_reftable_entry-clause-cause
-returns-in_err-write_reftable_entry-clause-cause g c = handed_cause c.from_residual-in_err-write_reftable_entry.result (of_storage c.in_err-write_reftable_entry.field-0.0) c.from_residual-in_err-write_reftable_entry.ensures (storage_of_tables c.in_err-write_reftable_entry.field-0.0)
 
 pub returns-in_err-write_reftable_entry-clause-entries : goal.returns-in_err-write_reftable_entry-clause-entries
 returns-in_err-write_reftable_entry-clause-entries g c = entries_entered c.args.self.now.reftable c.enter_refblock.new.self c.args.range c.new-cluster.result (subst (λ n. 0 < n) (sym c.new-cluster.ensures) c.requires.elsewhere) c.enter_refblock.ensures.rest c.enter_refblock.ensures.entry c.enter_refblock.ensures.offset
@@ -213,3 +203,13 @@ returns-clause-has g c = entered_has c.enter_refblock.new.self c.args.range c.ne
 
 pub returns-clause-noted : goal.returns-clause-noted
 returns-clause-noted g c = or_left (is_changed_of c.write_reftable_entry.new.self) c.write_block.new.file.caches.is_changed (note_kept c.will_write.new.self c.write_reftable_entry.new.self c.write_reftable_entry.result c.write_reftable_entry.ensures.noted (c.will_write.ensures.changed.note ∙ c.in_ok-write_block.ensures.noted))
+
+pub returns-in_err-block-clause-fails : goal.returns-in_err-block-clause-fails
+returns-in_err-block-clause-fails g c = fails_on c.from_residual.result c.in_err-block.field-0.0 c.from_residual.ensures (fails_by c.in_err-block.field-0.0 (other_as c.in_err-block.ensures.memory memory_other) refl c.in_err-block.ensures.cause)
+
+pub returns-in_err-write_reftable_entry-clause-fails : goal.returns-in_err-write_reftable_entry-clause-fails
+returns-in_err-write_reftable_entry-clause-fails g c =
+    fails_since (same_faults g.S.Storage.view c.will_write.ensures.storage ∙ c.in_ok-write_block.ensures.fails.told) (fails_storage c.from_residual-in_err-write_reftable_entry.result c.in_err-write_reftable_entry.field-0.0 c.from_residual-in_err-write_reftable_entry.ensures c.in_err-write_reftable_entry.ensures.calls.cause)
+
+pub returns-clause-fails : goal.returns-clause-fails
+returns-clause-fails g c = fails_ok (c.in_ok-write_reftable_entry.ensures.calls.cause.told ∙ (same_faults g.S.Storage.view c.will_write.ensures.storage ∙ c.in_ok-write_block.ensures.fails.told))

@@ -11,8 +11,7 @@ use Rattle.qcow2_metadata.specs.Bytes.{one_if}
 use Rattle.qcow2_metadata.specs.TableBytes.{ChangesEntry, HasPlace}
 use Rattle.qcow2_alloc.specs.Allocation.{run_at, NamesLacking, StandAt, UnseenAllocatorStep}
 use Rattle.qcow2_alloc.specs.GrownTables.{with_run}
-use Rattle.qcow2_alloc.specs.HeaderClusters.{KeepsHeaderCluster}
-use Rattle.qcow2_alloc.specs.ImageFile.{view_in, contents_in}
+use Rattle.qcow2_alloc.specs.ImageFile.{contents_in}
 use Rattle.qcow2_alloc.specs.MetadataCaches.{l2_tables, refblocks, rb_at}
 use Rattle.qcow2_alloc.specs.Rooms.{opens, opened, room_length, PlacesBlocks}
 use Rattle.qcow2_alloc.specs.TableCaches.{IsBlockOf}
@@ -23,12 +22,9 @@ use Rattle.qcow2_alloc.proofs.Runs.{run_in}
 use Rattle.qcow2_alloc.proofs.PlacedRooms.{EntersSo, Counting, opens_range, enters_none, enters_first, counting_first}
 use Rattle.qcow2_alloc.proofs.RoomSteps.{entries_aligned, wrote_err, wrote_ok, may_go, of_three, rest_then, placed_more, range_within, run_within, counts_as, room_enters, room_counts, room_uncached}
 use Rattle.qcow2_alloc.proofs.PlacedBlocks.{file_sizes}
-use Rattle.qcow2_alloc.proofs.KeptMarks.{kept_marks_none, kept_marks_then}
-use Rattle.qcow2_alloc.specs.KeptMarks.{KeepsMarks}
 use Rattle.qcow2_alloc.proofs.allocation.Allocator.place_blocks.Goals.{then-opens_range+in_ok-block+in_ok-write_new_block, else-opens_range}
 use Rattle.qcow2_alloc.specs.Faults.{faults_of}
-use Rattle.qcow2_alloc.proofs.HeaderClusters.{header_cluster_none, header_cluster_then}
-use Rattle.qcow2_alloc.specs.SparedHeaders.{KeepBehindHeader}
+use Rattle.qcow2_alloc.proofs.Steps.{fails_by, fails_ok, fails_on, fails_since, memory_other, other_as, part_as, part_none, part_then}
 use Rattle.qcow2_alloc.proofs.allocation.Allocator.place_blocks.Goals as goal
 
 pub placing-init : goal.placing-init
@@ -39,12 +35,8 @@ placing-init g c =
     let first = c.args.room.first in
     let none : first - first ≡ 0 = omega arith in
     record {
-      header = refl;
-      list = refl;
-      marks = kept_marks_none;
+      step = part_none;
       faults = refl;
-      header_cluster = header_cluster_none c.args.file.now.header.fields.cluster_bits (view_in g.S.Storage.view c.args.file.now);
-      spared = λ n are. are;
       tables = refl;
       clean = λ all. all;
       rest = refl;
@@ -67,26 +59,24 @@ placing-init g c =
 
 pub returns-in_err-block-clause-sound : goal.returns-in_err-block-clause-sound
 returns-in_err-block-clause-sound g c = λ p sound may longer.
-    let view = g.S.Storage.view in
     let q = with_run p c.args.file.now.header.fields c.args.self.now.reftable c.args.room.first (room_length c.args.room) in
     let before = c.placing.invariant.sound p sound may longer in
-    handed_on (PlacesBlocks view q c.args.file.now c.args.self.now c.placing.file c.args.self.now.reftable c.placing.table c.args.room) c.from_residual.result c.in_err-block.field-0.0 c.from_residual.ensures
+    handed_on (PlacesBlocks g.S.Storage.view q c.args.file.now c.args.self.now c.placing.file c.args.self.now.reftable c.placing.table c.args.room) c.from_residual.result c.in_err-block.field-0.0 c.from_residual.ensures
     (inr c.in_err-block.ensures.memory, inl (before.0.file_step, before.0.reftable))
 
 pub returns-in_err-write_new_block-clause-sound : goal.returns-in_err-write_new_block-clause-sound
 returns-in_err-write_new_block-clause-sound g c = λ p sound may longer.
     let view = g.S.Storage.view in
-    let h = c.args.file.now.header.fields in
     let a = c.args.self.now in
     let n = room_length c.args.room in
     let first = c.args.room.first in
     let q = with_run p c.args.file.now.header.fields c.args.self.now.reftable c.args.room.first (room_length c.args.room) in
     let before = c.placing.invariant.sound p sound may longer in
-    let may_now = may_go c.args.file.now c.placing.file c.placing.invariant.marks.order c.placing.invariant.tables may in
+    let may_now = may_go c.args.file.now c.placing.file c.placing.invariant.step.marks.order c.placing.invariant.tables may in
     let at_in : 0 < run_at first n c.new-place.result =
     (let is = c.new-place.ensures in let low = c.placing.invariant.low in let high = c.placing.invariant.high in let lt = c.placing-test.true in let end = c.placing.invariant.end_is in
     let one = run_in first n c.new-place.result (omega (arith, is, low)) (omega (arith, is, high, lt, end)) in omega (arith, one)) in
-    let back = wrote_err view p first n a c.placing.file c.write_new_block.new.file c.new-place.result c.in_ok-block.block h (ap (λ x. x.fields) c.placing.invariant.header) c.in_err-write_new_block.field-0.0
+    let back = wrote_err view p first n a c.placing.file c.write_new_block.new.file c.new-place.result c.in_ok-block.block c.args.file.now.header.fields (ap (λ x. x.fields) c.placing.invariant.step.header) c.in_err-write_new_block.field-0.0
     (λ s fits. c.in_err-write_new_block.ensures.sound p first n a s may_now at_in fits) (is_sound_now view q q c.args.file.now c.placing.file a before.0) c.in_ok-block.ensures.format in
     handed_on (PlacesBlocks view q c.args.file.now a c.write_new_block.new.file a.reftable c.placing.table c.args.room) c.from_residual-in_err-write_new_block.result c.in_err-write_new_block.field-0.0 c.from_residual-in_err-write_new_block.ensures
     (back.0, leaves_then view q c.args.file.now c.placing.file c.write_new_block.new.file a c.in_err-write_new_block.field-0.0 before.0.file_step back.1)
@@ -105,13 +95,8 @@ placing-preserved g c =
     let opens_at = c.opens_range.ensures ∙ ap (λ m. opens t m first c.placing.cluster) (sym inv.counts) in
     elim c.if-opens_range.branch [
       | then-opens_range+in_ok-block+in_ok-write_new_block w ↦ record {
-        header = ap (λ f. f.header) w.file-is ∙ w.write_new_block.ensures.header ∙ inv.header;
-        list = ap (λ f. f.free_list) w.file-is ∙ w.write_new_block.ensures.list ∙ inv.list;
-        marks = subst (λ f. KeepsMarks g.S.Storage.view old f) (sym w.file-is) (kept_marks_then inv.marks w.write_new_block.ensures.marks);
-        faults = subst (λ f. faults_of g.S.Storage.view f.storage ≡ faults_of g.S.Storage.view old.storage) (sym w.file-is) (w.in_ok-write_new_block.ensures.storage_faults.told ∙ inv.faults);
-        header_cluster = subst (λ f. KeepsHeaderCluster h.cluster_bits (view_in view old) (view_in view f)) (sym w.file-is) (header_cluster_then h.cluster_bits (view_in view old) (view_in view c.placing.file) (view_in view w.write_new_block.new.file) inv.header_cluster
-            (subst (λ n. KeepsHeaderCluster n (view_in view c.placing.file) (view_in view w.write_new_block.new.file)) (w.in_ok-block.ensures.format.bits ∙ ap (λ x. x.fields.cluster_bits) inv.header) w.write_new_block.ensures.header_cluster));
-        spared = subst (λ f. KeepBehindHeader old.caches f.caches) (sym w.file-is) (λ n are. w.write_new_block.ensures.behind_header n (inv.spared n are));
+        step = part_as w.file-is (part_then inv.step (w.in_ok-block.ensures.format.bits ∙ ap (λ x. x.fields.cluster_bits) inv.step.header) w.write_new_block.ensures.step);
+        faults = subst (λ f. faults_of g.S.Storage.view f.storage ≡ faults_of g.S.Storage.view old.storage) (sym w.file-is) (w.in_ok-write_new_block.ensures.fails.told ∙ inv.faults);
         tables = ap (λ f. l2_tables f.caches) w.file-is ∙ w.write_new_block.ensures.tables ∙ inv.tables;
         clean = λ all. subst (λ f. AreClean (refblocks f.caches)) (sym w.file-is) (w.write_new_block.ensures.clean (inv.clean all));
         rest = rest_then c.args.table.now c.placing.table w.enter_refblock.new.self c.if-opens_range.table w.table-is w.enter_refblock.ensures.rest inv.rest;
@@ -129,14 +114,14 @@ placing-preserved g c =
         sound = λ p sound may longer.
             let q = with_run p c.args.file.now.header.fields c.args.self.now.reftable c.args.room.first (room_length c.args.room) in
             let before = inv.sound p sound may longer in
-            let may_now = may_go old c.placing.file inv.marks.order inv.tables may in
+            let may_now = may_go old c.placing.file inv.step.marks.order inv.tables may in
             let at_same : w.new-place.result ≡ c.placing.at = w.new-place.ensures in
             let at_in : 0 < run_at first n w.new-place.result =
             (let low = inv.low in let high = inv.high in let lt = c.placing-test.true in let end = inv.end_is in
             let one = run_in first n w.new-place.result (omega (arith, at_same, low)) (omega (arith, at_same, high, lt, end)) in omega (arith, one)) in
-            let wrote = wrote_ok view p first n a c.placing.file w.write_new_block.new.file w.new-place.result w.in_ok-block.block h (ap (λ x. x.fields) inv.header) w.in_ok-write_new_block.field-0
+            let wrote = wrote_ok view p first n a c.placing.file w.write_new_block.new.file w.new-place.result w.in_ok-block.block h (ap (λ x. x.fields) inv.step.header) w.in_ok-write_new_block.field-0
             (λ s fits. w.in_ok-write_new_block.ensures.sound p first n a s may_now at_in fits) (is_sound_now view q q old c.placing.file a before.0) w.in_ok-block.ensures.format in
-            let header_same = ap (λ x. x.fields) inv.header in
+            let header_same = ap (λ x. x.fields) inv.step.header in
             let t_bits = ap (λ (x : EntryTableView). x.cluster_bits) inv.rest ∙ c.requires.bits in
             let format = subst (λ (k : HeaderFields). IsBlockOf k w.in_ok-block.block) header_same w.in_ok-block.ensures.format in
             let run_is : c.args.room.first + c.args.room.blocks + c.args.room.clusters - first ≡ n = omega arith in
@@ -166,12 +151,8 @@ placing-preserved g c =
             );
       }
       | else-opens_range w ↦ record {
-        header = ap (λ f. f.header) w.file-is ∙ inv.header;
-        list = ap (λ f. f.free_list) w.file-is ∙ inv.list;
-        marks = subst (λ f. KeepsMarks g.S.Storage.view old f) (sym w.file-is) inv.marks;
+        step = part_as w.file-is inv.step;
         faults = subst (λ f. faults_of g.S.Storage.view f.storage ≡ faults_of g.S.Storage.view old.storage) (sym w.file-is) inv.faults;
-        header_cluster = subst (λ f. KeepsHeaderCluster h.cluster_bits (view_in view old) (view_in view f)) (sym w.file-is) inv.header_cluster;
-        spared = subst (λ f. KeepBehindHeader old.caches f.caches) (sym w.file-is) inv.spared;
         tables = ap (λ f. l2_tables f.caches) w.file-is ∙ inv.tables;
         clean = λ all. subst (λ f. AreClean (refblocks f.caches)) (sym w.file-is) (inv.clean all);
         rest = subst (λ (x : EntryTableView). x ≡ record c.args.table.now { bytes = x.bytes }) (sym w.table-is) inv.rest;
@@ -195,7 +176,6 @@ placing-preserved g c =
 
 pub returns-clause-sound : goal.returns-clause-sound
 returns-clause-sound g c = λ p sound may longer.
-    let view = g.S.Storage.view in
     let h = c.args.file.now.header.fields in
     let t = c.args.self.now.reftable in
     let first = c.args.room.first in
@@ -217,41 +197,9 @@ returns-clause-sound g c = λ p sound may longer.
         named = λ k. enters.named k ∙ ap (λ m. m + run_at first c.args.room.blocks k) (longer.named k);
         covered = λ k some. let in_run = run_within first n k some in enters.covered k in_run.0 (let lt = in_run.1 in omega (arith, at_end, lt));
       };
-      counts = subst (λ (x : HeaderFields). Counting x (contents_in view c.placing.file) t c.placing.table first n) (sym (ap (λ x. x.fields) inv.header)) before.2;
+      counts = subst (λ (x : HeaderFields). Counting x (contents_in g.S.Storage.view c.placing.file) t c.placing.table first n) (sym (ap (λ x. x.fields) inv.step.header)) before.2;
       uncached = λ k some. before.3 k (subst (λ m. 0 < run_at first m k) (sym blocks) some);
     }
-
-pub returns-in_err-block-clause-header_cluster : goal.returns-in_err-block-clause-header_cluster
-returns-in_err-block-clause-header_cluster g c = c.placing.invariant.header_cluster
-
-pub returns-in_err-write_new_block-clause-header_cluster : goal.returns-in_err-write_new_block-clause-header_cluster
-returns-in_err-write_new_block-clause-header_cluster g c =
-    let view = g.S.Storage.view in
-    let old = c.args.file.now in
-    let h = c.args.file.now.header.fields in
-    header_cluster_then h.cluster_bits (view_in view old) (view_in view c.placing.file) (view_in view c.write_new_block.new.file) c.placing.invariant.header_cluster
-    (subst (λ n. KeepsHeaderCluster n (view_in view c.placing.file) (view_in view c.write_new_block.new.file)) (c.in_ok-block.ensures.format.bits ∙ ap (λ x. x.fields.cluster_bits) c.placing.invariant.header) c.write_new_block.ensures.header_cluster)
-
-pub returns-clause-header_cluster : goal.returns-clause-header_cluster
-returns-clause-header_cluster g c = c.placing.invariant.header_cluster
-
-pub returns-in_err-block-clause-behind_header : goal.returns-in_err-block-clause-behind_header
-returns-in_err-block-clause-behind_header g c = c.placing.invariant.spared
-
-pub returns-in_err-write_new_block-clause-behind_header : goal.returns-in_err-write_new_block-clause-behind_header
-returns-in_err-write_new_block-clause-behind_header g c = λ n are. c.write_new_block.ensures.behind_header n (c.placing.invariant.spared n are)
-
-pub returns-clause-behind_header : goal.returns-clause-behind_header
-returns-clause-behind_header g c = c.placing.invariant.spared
-
-pub returns-in_err-block-clause-marks : goal.returns-in_err-block-clause-marks
-returns-in_err-block-clause-marks g c = c.placing.invariant.marks
-
-pub returns-in_err-write_new_block-clause-marks : goal.returns-in_err-write_new_block-clause-marks
-returns-in_err-write_new_block-clause-marks g c = kept_marks_then c.placing.invariant.marks c.write_new_block.ensures.marks
-
-pub returns-clause-marks : goal.returns-clause-marks
-returns-clause-marks g c = c.placing.invariant.marks
 
 fits_below : (at greatest size : ℕ) → at ≤ greatest / size → at * size ≤ greatest
 fits_below at greatest size le = let product : size * at ≤ size * (greatest / size) = mul-le-mul_left size le in let e = div-add-mod' greatest size in omega (arith, product, e)
@@ -264,7 +212,7 @@ run_block-requires-clause-place g c =
     let inv = c.placing.invariant in
     let fits = at_fits c.placing.at c.placing.cluster c.args.room.first (room_length c.args.room) _ greatest_offset (2 ^ c.args.file.now.header.fields.cluster_bits) inv.high c.placing-test.true inv.end_is c.requires.near in
     let below : c.placing.at * 2 ^ c.args.file.now.header.fields.cluster_bits < 2 ^ 64 = omega arith in
-    subst (λ (m : ℕ). HasPlace c.placing.file.header.fields.cluster_bits m) (sym c.new-place.ensures) (subst (λ (x : HeaderView). HasPlace x.fields.cluster_bits c.placing.at) (sym inv.header) below)
+    subst (λ (m : ℕ). HasPlace c.placing.file.header.fields.cluster_bits m) (sym c.new-place.ensures) (subst (λ (x : HeaderView). HasPlace x.fields.cluster_bits c.placing.at) (sym inv.step.header) below)
 
 pub enter_refblock-requires-clause-within : goal.enter_refblock-requires-clause-within
 enter_refblock-requires-clause-within g c =
@@ -282,3 +230,22 @@ enter_refblock-requires-clause-cluster g c =
     let fits = at_fits c.placing.at c.placing.cluster c.args.room.first (room_length c.args.room) _ greatest_offset (2 ^ c.args.file.now.header.fields.cluster_bits) inv.high c.placing-test.true inv.end_is c.requires.near in
     let bits = ap (λ (x : EntryTableView). x.cluster_bits) inv.rest ∙ c.requires.bits in
     subst (λ (m : ℕ). IsHostCluster c.placing.table.cluster_bits m) (sym c.new-place.ensures) (subst (λ (b : ℕ). IsHostCluster b c.placing.at) (sym bits) fits)
+
+pub returns-in_err-block-clause-fails : goal.returns-in_err-block-clause-fails
+returns-in_err-block-clause-fails g c =
+    fails_since c.placing.invariant.faults (fails_on c.from_residual.result c.in_err-block.field-0.0 c.from_residual.ensures (fails_by c.in_err-block.field-0.0 (other_as c.in_err-block.ensures.memory memory_other) refl c.in_err-block.ensures.cause))
+
+pub returns-in_err-write_new_block-clause-fails : goal.returns-in_err-write_new_block-clause-fails
+returns-in_err-write_new_block-clause-fails g c = fails_on c.from_residual-in_err-write_new_block.result c.in_err-write_new_block.field-0.0 c.from_residual-in_err-write_new_block.ensures (fails_since c.placing.invariant.faults c.in_err-write_new_block.ensures.fails)
+
+pub returns-clause-fails : goal.returns-clause-fails
+returns-clause-fails g c = fails_ok c.placing.invariant.faults
+
+pub returns-in_err-block-clause-step : goal.returns-in_err-block-clause-step
+returns-in_err-block-clause-step g c = c.placing.invariant.step
+
+pub returns-in_err-write_new_block-clause-step : goal.returns-in_err-write_new_block-clause-step
+returns-in_err-write_new_block-clause-step g c = part_then c.placing.invariant.step (c.in_ok-block.ensures.format.bits ∙ ap (λ x. x.fields.cluster_bits) c.placing.invariant.step.header) c.write_new_block.ensures.step
+
+pub returns-clause-step : goal.returns-clause-step
+returns-clause-step g c = c.placing.invariant.step

@@ -3,25 +3,20 @@ use Rattle.qcow2_metadata.specs.Header.{counts_per_block}
 use Rattle.qcow2_laws.specs.Caches.{AreClean, BlocksMayGo}
 use Rattle.qcow2_laws.specs.CrashInvariant.{Pending}
 use Rattle.qcow2_alloc.specs.Allocation.{run_at, NamesLacking, UnseenAllocatorStep}
-use Rattle.qcow2_alloc.specs.KeptMarks.{KeepsMarks}
 use Rattle.qcow2_alloc.specs.Faults.{faults_of}
 use Rattle.qcow2_alloc.specs.GrownTables.{with_run}
-use Rattle.qcow2_alloc.specs.HeaderClusters.{KeepsHeaderCluster}
-use Rattle.qcow2_alloc.specs.ImageFile.{view_in, contents_in, AllocatorInvariant}
+use Rattle.qcow2_alloc.specs.ImageFile.{contents_in, AllocatorInvariant}
 use Rattle.qcow2_alloc.specs.MetadataCaches.{order_of, l2_tables, refblocks, rb_at}
 use Rattle.qcow2_alloc.specs.Rooms.{opened, room_length, IsLonger}
 use Rattle.qcow2_alloc.proofs.PlacedRooms.{EntersSo, Counting}
-use Rattle.qcow2_alloc.specs.SparedHeaders.{KeepBehindHeader}
+use Rattle.qcow2_alloc.specs.Steps.{PartStep}
 use Rattle.qcow2_alloc.proofs.allocation.Allocator.place_blocks.Given as goal
 
 -- the refblocks of the ranges that the clusters before this one enter are placed
 abbrev pub invariant-placing : goal.invariant-placing
 invariant-placing g l = record {
-  header : l.file.header ≡ l.fn.file.header;
-  list : l.file.free_list ≡ l.fn.file.free_list;
-  marks : KeepsMarks g.S.Storage.view l.fn.file l.file;
+  step : PartStep g.S.Storage.view l.fn.file.header.fields.cluster_bits l.fn.file l.file;
   faults : faults_of g.S.Storage.view l.file.storage ≡ faults_of g.S.Storage.view l.fn.file.storage;
-  spared : KeepBehindHeader l.fn.file.caches l.file.caches;
   tables : l2_tables l.file.caches ≡ l2_tables l.fn.file.caches;
   clean : AreClean (refblocks l.fn.file.caches) → AreClean (refblocks l.file.caches);
   rest : l.table ≡ record l.fn.table { bytes = l.table.bytes };
@@ -33,7 +28,6 @@ invariant-placing g l = record {
   low : l.fn.room.first ≤ l.at;
   high : l.at ≤ l.cluster;
   placed : l.at - l.fn.room.first ≡ opened l.fn.self.reftable (counts_per_block l.fn.file.header.fields) l.fn.room.first (l.cluster - l.fn.room.first);
-  header_cluster : KeepsHeaderCluster l.fn.file.header.fields.cluster_bits (view_in g.S.Storage.view l.fn.file) (view_in g.S.Storage.view l.file);
   sound : (p : Pending) → AllocatorInvariant g.S.Storage.view l.fn.self (with_run p l.fn.file.header.fields l.fn.self.reftable l.fn.room.first (room_length l.fn.room)) l.fn.file
       → BlocksMayGo (order_of l.fn.file.caches) (l2_tables l.fn.file.caches) → IsLonger l.fn.file.header.fields l.fn.self.reftable l.fn.table l.fn.room.clusters
       → UnseenAllocatorStep g.S.Storage.view (with_run p l.fn.file.header.fields l.fn.self.reftable l.fn.room.first (room_length l.fn.room)) l.fn.file l.fn.self l.file (with_run p l.fn.file.header.fields l.fn.self.reftable l.fn.room.first (room_length l.fn.room))

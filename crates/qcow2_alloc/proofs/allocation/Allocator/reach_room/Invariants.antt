@@ -2,22 +2,18 @@ use Rattle.std.proofs.Common.{◌≡◌, ◌⊎◌, ℕ, ◌+◌, ◌-◌, ◌^�
 use Rattle.qcow2_metadata.specs.Header.{counts_per_block}
 use Rattle.qcow2_laws.specs.CrashInvariant.{Pending}
 use Rattle.qcow2_alloc.specs.Allocation.{UnseenAllocatorStep}
-use Rattle.qcow2_alloc.specs.KeptMarks.{KeepsMarks}
 use Rattle.qcow2_alloc.specs.Faults.{faults_of}
 use Rattle.qcow2_alloc.specs.GrownTables.{counted_run, with_run}
 use Rattle.qcow2_alloc.specs.ImageFile.{AllocatorInvariant}
 use Rattle.qcow2_alloc.specs.Rooms.{opened}
-use Rattle.qcow2_alloc.specs.SparedHeaders.{SparesHeader}
+use Rattle.qcow2_alloc.specs.Steps.{TableStep}
 use Rattle.qcow2_alloc.proofs.allocation.Allocator.reach_room.Given as goal
 
 -- so many clusters are taken
 abbrev pub invariant-reaching : goal.invariant-reaching
 invariant-reaching g l = record {
-  header : l.file.header ≡ l.fn.file.header;
-  list : l.file.free_list ≡ l.fn.file.free_list;
-  marks : KeepsMarks g.S.Storage.view l.fn.file l.file;
   faults : faults_of g.S.Storage.view l.file.storage ≡ faults_of g.S.Storage.view l.fn.file.storage;
-  spared : SparesHeader g.S.Storage.view l.fn.self.reftable l.fn.file l.self.reftable l.file;
+  step : TableStep g.S.Storage.view l.fn.self.reftable l.fn.file l.self.reftable l.file;
   same : l.self ≡ l.fn.self;
   counts : counts_per_block l.fn.file.header.fields ≡ 2 ^ l.bits;
   bits : l.bits < 64;

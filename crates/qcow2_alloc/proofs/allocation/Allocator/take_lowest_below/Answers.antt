@@ -1,19 +1,16 @@
 use Rattle.std.proofs.Common.{ℕ, ap, ◌+◌, arith, ◌*◌, ◌^◌, ◌≤◌, false, refl, sym, ◌∙◌, subst, ◌<◌, ◌/◌, ◌≡◌}
 use Rattle.qcow2_metadata.specs.Header.{counts_per_block}
 use Rattle.qcow2_laws.specs.Changes.{one_at}
-use Rattle.qcow2_alloc.specs.Allocation.{taken_as, KeepsEntries, KeepsNamed, TakesLowest}
+use Rattle.qcow2_alloc.specs.Allocation.{taken_as, KeepsEntries, TakesLowest}
 use Rattle.qcow2_alloc.specs.declared.allocation.Allocator.{Allocator}
 use Rattle.qcow2_alloc.specs.LowestRuns.{KeepsNoFreeBelowHint}
 use Rattle.qcow2_alloc.proofs.FileSteps.{one_here, leaves_then}
 use Rattle.qcow2_alloc.proofs.Hints.{hint_header, hint_stays, hint_taken, hint_more, hint_passed, hint_refused, range_as, taken_used}
-use Rattle.qcow2_alloc.proofs.AllocationSteps.{allocator_step_none, behind_none, handed_on, entries_then, entries_less, named_then, other_range, allocator_step_as, allocator_step_then, is_sound_now}
-use Rattle.qcow2_alloc.proofs.Faults.{told_ok}
-use Rattle.qcow2_alloc.proofs.Outcomes.{told_after, if_no_ok, handed_cause}
-use Rattle.std.proofs.Math.Nat.{le_trans}
+use Rattle.qcow2_alloc.proofs.AllocationSteps.{allocator_step_none, behind_none, handed_on, entries_then, entries_less, other_range, allocator_step_as, allocator_step_then, is_sound_now}
+use Rattle.qcow2_alloc.proofs.Outcomes.{if_no_ok}
 use Rattle.std.specs.Prelude.{◌≢◌}
 use Rattle.qcow2_metadata.specs.EntryTable.{EntryTableView}
-use Rattle.qcow2_alloc.proofs.SparedHeaders.{spares_none, spares_then}
-use Rattle.qcow2_alloc.proofs.KeptMarks.{kept_marks_none, kept_marks_then}
+use Rattle.qcow2_alloc.proofs.Steps.{fails_ok, fails_on, fails_since, table_step_none, table_step_then}
 use Rattle.qcow2_alloc.proofs.allocation.Allocator.take_lowest_below.Goals as goal
 
 -- the entries from an end on stay while the range of a cluster below it gets its refblock
@@ -25,33 +22,29 @@ pub returns-in_err-cover_range-clause-sound : goal.returns-in_err-cover_range-cl
 returns-in_err-cover_range-clause-sound g c = λ p sound.
     let before = c.search.invariant.sound p sound in
     handed_on (TakesLowest g.S.Storage.view p c.args.file.now c.cover_range.new.self c.cover_range.new.file) c.from_residual.result c.in_err-cover_range.field-0.0 c.from_residual.ensures
-    (leaves_then g.S.Storage.view p c.args.file.now c.search.file c.cover_range.new.file c.cover_range.new.self c.in_err-cover_range.field-0.0 before.file_step (c.in_err-cover_range.ensures.sound p (is_sound_now g.S.Storage.view p p c.args.file.now c.search.file c.search.self before)))
+    (leaves_then g.S.Storage.view p c.args.file.now c.search.file c.cover_range.new.file c.cover_range.new.self c.in_err-cover_range.field-0.0 before.file_step ((c.in_err-cover_range.ensures.sound p (is_sound_now g.S.Storage.view p p c.args.file.now c.search.file c.search.self before)).gets))
 
 pub returns-in_err-taken-clause-sound : goal.returns-in_err-taken-clause-sound
 returns-in_err-taken-clause-sound g c = λ p sound.
     let before = c.search.invariant.sound p sound in
-    let covered = allocator_step_then g.S.Storage.view p p c.args.file.now c.search.file c.cover_range.new.file c.search.self c.cover_range.new.self before (c.in_ok-cover_range.ensures.sound p (is_sound_now g.S.Storage.view p p c.args.file.now c.search.file c.search.self before)) in
+    let covered = allocator_step_then g.S.Storage.view p p c.args.file.now c.search.file c.cover_range.new.file c.search.self c.cover_range.new.self before ((c.in_ok-cover_range.ensures.sound p (is_sound_now g.S.Storage.view p p c.args.file.now c.search.file c.search.self before)).gets) in
     handed_on (TakesLowest g.S.Storage.view p c.args.file.now c.raise.new.self c.raise.new.file) c.from_residual-in_err-taken.result c.in_err-taken.field-0.0 c.from_residual-in_err-taken.ensures
-    (leaves_then g.S.Storage.view p c.args.file.now c.cover_range.new.file c.raise.new.file c.raise.new.self c.in_err-taken.field-0.0 covered.file_step (c.in_err-taken.ensures.sound p false (is_sound_now g.S.Storage.view p p c.args.file.now c.cover_range.new.file c.cover_range.new.self covered) tt))
+    (leaves_then g.S.Storage.view p c.args.file.now c.cover_range.new.file c.raise.new.file c.raise.new.self c.in_err-taken.field-0.0 covered.file_step ((c.in_err-taken.ensures.sound p false (is_sound_now g.S.Storage.view p p c.args.file.now c.cover_range.new.file c.cover_range.new.self covered) tt).takes))
 
 pub returns-then-taken-clause-sound : goal.returns-then-taken-clause-sound
 returns-then-taken-clause-sound g c = λ p sound.
     let before = c.search.invariant.sound p sound in
-    let covered = allocator_step_then g.S.Storage.view p p c.args.file.now c.search.file c.cover_range.new.file c.search.self c.cover_range.new.self before (c.in_ok-cover_range.ensures.sound p (is_sound_now g.S.Storage.view p p c.args.file.now c.search.file c.search.self before)) in
-    let taken = rw c.if-taken.true at (c.in_ok-taken.ensures.sound p false (is_sound_now g.S.Storage.view p p c.args.file.now c.cover_range.new.file c.cover_range.new.self covered) tt) in
+    let covered = allocator_step_then g.S.Storage.view p p c.args.file.now c.search.file c.cover_range.new.file c.search.self c.cover_range.new.self before ((c.in_ok-cover_range.ensures.sound p (is_sound_now g.S.Storage.view p p c.args.file.now c.search.file c.search.self before)).gets) in
+    let taken = rw c.if-taken.true at ((c.in_ok-taken.ensures.sound p false (is_sound_now g.S.Storage.view p p c.args.file.now c.cover_range.new.file c.cover_range.new.self covered) tt).takes) in
     allocator_step_as g.S.Storage.view p (taken_as false p (one_at c.search.self.first_free_cluster)) c.args.file.now c.raise.new.file c.raise.new.self _ refl
     (allocator_step_then g.S.Storage.view p (taken_as false p (one_at c.search.self.first_free_cluster)) c.args.file.now c.cover_range.new.file c.raise.new.file c.cover_range.new.self c.raise.new.self covered taken)
 
 pub search-init : goal.search-init
 search-init g c = record {
-  header = refl;
-  list = refl;
-  marks = kept_marks_none;
   faults = refl;
-  spared = spares_none;
+  step = table_step_none;
   above = let first = c.max-self.ensures in omega (arith, first);
   entries = record { cluster = refl; bits = refl; count = refl; others = λ k past. refl; behind = behind_none c.args.self.now.reftable };
-  named = record { cluster = refl; bits = refl; count = refl; others = λ k has. refl; behind = behind_none c.args.self.now.reftable };
   leaks = refl;
   sound = λ p sound. allocator_step_none g.S.Storage.view p c.args.file.now (record c.args.self.now { first_free_cluster = c.max-self.result }) (record { sound = sound.sound; reftable = sound.reftable });
   hint = λ p sound hint. hint_header g.S.Storage.view p c.args.file.now c.args.self.now (record c.args.self.now { first_free_cluster = c.max-self.result }) sound.sound (λ k some below. let first = c.max-self.ensures in omega (arith, first, some, below)) hint;
@@ -59,22 +52,18 @@ search-init g c = record {
 
 pub search-preserved : goal.search-preserved
 search-preserved g c = record {
-  header = c.behind_used.ensures.header ∙ c.raise.ensures.header ∙ c.cover_range.ensures.header ∙ c.search.invariant.header;
-  list = c.behind_used.ensures.list ∙ c.raise.ensures.list ∙ c.cover_range.ensures.list ∙ c.search.invariant.list;
-  marks = kept_marks_then (kept_marks_then (kept_marks_then c.search.invariant.marks c.cover_range.ensures.marks) c.raise.ensures.marks) c.behind_used.ensures.marks;
-  faults = c.in_ok-self.ensures.storage_faults.told ∙ (c.in_ok-taken.ensures.storage_faults.told ∙ (c.in_ok-cover_range.ensures.storage_faults.told ∙ c.search.invariant.faults));
-  spared = spares_then (spares_then (spares_then c.search.invariant.spared c.cover_range.ensures.header_cluster) (c.raise.ensures.header_cluster)) (c.behind_used.ensures.header_cluster);
+  faults = c.in_ok-self.ensures.fails.told ∙ (c.in_ok-taken.ensures.fails.told ∙ (c.in_ok-cover_range.ensures.fails.told ∙ c.search.invariant.faults));
+  step = table_step_then (table_step_then (table_step_then c.search.invariant.step c.cover_range.ensures.step) c.raise.ensures.step) c.behind_used.ensures.step;
   entries =
       subst (λ (t : Allocator). KeepsEntries (λ k. c.args.end ≤ k * counts_per_block c.args.file.now.header.fields) c.args.self.now.reftable t.reftable) (sym c.raise.ensures.same)
       (covered_entries c.args.self.now.reftable c.search.self.reftable c.cover_range.new.self.reftable c.search.self.first_free_cluster c.args.end (2 ^ c.rb_bits-bits.result) (counts_per_block c.args.file.now.header.fields) c.search-test.true c.rb_bits-bits.ensures.counts
       c.search.invariant.entries c.cover_range.ensures.entries);
-  named = subst (λ (t : Allocator). KeepsNamed c.args.self.now.reftable t.reftable) (sym c.raise.ensures.same) (named_then c.args.self.now.reftable c.search.self.reftable c.cover_range.new.self.reftable c.search.invariant.named c.cover_range.ensures.named);
   above = let behind = c.in_ok-self.ensures.behind in omega (arith, behind);
   leaks = ap (λ (t : Allocator). t.leaked_clusters) c.raise.ensures.same ∙ c.cover_range.ensures.leaks ∙ c.search.invariant.leaks;
   sound = λ p sound.
       let before = c.search.invariant.sound p sound in
-      let covered = allocator_step_then g.S.Storage.view p p c.args.file.now c.search.file c.cover_range.new.file c.search.self c.cover_range.new.self before (c.in_ok-cover_range.ensures.sound p (is_sound_now g.S.Storage.view p p c.args.file.now c.search.file c.search.self before)) in
-      let taken = rw c.if-taken.false at (c.in_ok-taken.ensures.sound p false (is_sound_now g.S.Storage.view p p c.args.file.now c.cover_range.new.file c.cover_range.new.self covered) tt) in
+      let covered = allocator_step_then g.S.Storage.view p p c.args.file.now c.search.file c.cover_range.new.file c.search.self c.cover_range.new.self before ((c.in_ok-cover_range.ensures.sound p (is_sound_now g.S.Storage.view p p c.args.file.now c.search.file c.search.self before)).gets) in
+      let taken = rw c.if-taken.false at ((c.in_ok-taken.ensures.sound p false (is_sound_now g.S.Storage.view p p c.args.file.now c.cover_range.new.file c.cover_range.new.self covered) tt).takes) in
       let marked : Allocator = record c.raise.new.self { first_free_cluster = c.search.self.first_free_cluster + 1 } in
       let mid = allocator_step_as g.S.Storage.view p p c.args.file.now c.raise.new.file c.raise.new.self marked refl (allocator_step_then g.S.Storage.view p p c.args.file.now c.cover_range.new.file c.raise.new.file c.cover_range.new.self c.raise.new.self covered taken) in
       let there = is_sound_now g.S.Storage.view p p c.args.file.now c.raise.new.file marked mid in
@@ -82,17 +71,17 @@ search-preserved g c = record {
       allocator_step_as g.S.Storage.view p p c.args.file.now c.behind_used.new.file marked _ refl (allocator_step_then g.S.Storage.view p p c.args.file.now c.raise.new.file c.behind_used.new.file marked marked mid passed.0);
   hint = λ p sound hint.
       let before = c.search.invariant.sound p sound in
-      let covered = allocator_step_then g.S.Storage.view p p c.args.file.now c.search.file c.cover_range.new.file c.search.self c.cover_range.new.self before (c.in_ok-cover_range.ensures.sound p (is_sound_now g.S.Storage.view p p c.args.file.now c.search.file c.search.self before)) in
-      let taken = rw c.if-taken.false at (c.in_ok-taken.ensures.sound p false (is_sound_now g.S.Storage.view p p c.args.file.now c.cover_range.new.file c.cover_range.new.self covered) tt) in
+      let covered = allocator_step_then g.S.Storage.view p p c.args.file.now c.search.file c.cover_range.new.file c.search.self c.cover_range.new.self before ((c.in_ok-cover_range.ensures.sound p (is_sound_now g.S.Storage.view p p c.args.file.now c.search.file c.search.self before)).gets) in
+      let taken = rw c.if-taken.false at ((c.in_ok-taken.ensures.sound p false (is_sound_now g.S.Storage.view p p c.args.file.now c.cover_range.new.file c.cover_range.new.self covered) tt).takes) in
       let marked : Allocator = record c.raise.new.self { first_free_cluster = c.search.self.first_free_cluster + 1 } in
       let mid = allocator_step_as g.S.Storage.view p p c.args.file.now c.raise.new.file c.raise.new.self marked refl (allocator_step_then g.S.Storage.view p p c.args.file.now c.cover_range.new.file c.raise.new.file c.cover_range.new.self c.raise.new.self covered taken) in
       let there = is_sound_now g.S.Storage.view p p c.args.file.now c.raise.new.file marked mid in
       let now = is_sound_now g.S.Storage.view p p c.args.file.now c.search.file c.search.self before in
       let is_covered = is_sound_now g.S.Storage.view p p c.args.file.now c.cover_range.new.file c.cover_range.new.self covered in
-      let one = hint_stays g.S.Storage.view p c.search.file c.cover_range.new.file c.search.self c.cover_range.new.self (c.in_ok-cover_range.ensures.sound p now) c.cover_range.ensures.first (c.search.invariant.hint p sound hint) in
+      let one = hint_stays g.S.Storage.view p c.search.file c.cover_range.new.file c.search.self c.cover_range.new.self ((c.in_ok-cover_range.ensures.sound p now).gets) c.cover_range.ensures.first (c.search.invariant.hint p sound hint) in
       let two = hint_stays g.S.Storage.view p c.cover_range.new.file c.raise.new.file c.cover_range.new.self c.raise.new.self taken (ap (λ (t : Allocator). t.first_free_cluster) c.raise.ensures.same) one in
-      let used = c.in_ok-taken.ensures.used p is_covered (range_as c.cover_range.new.self.reftable c.search.self.first_free_cluster (2 ^ c.rb_bits-bits.result) (counts_per_block c.cover_range.new.file.header.fields)
-      (ap (λ h. counts_per_block h.fields) (c.cover_range.ensures.header ∙ c.search.invariant.header) ∙ c.rb_bits-bits.ensures.counts) c.in_ok-cover_range.ensures.has) c.if-taken.false in
+      let used = (c.in_ok-taken.ensures.sound p false is_covered tt).used (range_as c.cover_range.new.self.reftable c.search.self.first_free_cluster (2 ^ c.rb_bits-bits.result) (counts_per_block c.cover_range.new.file.header.fields)
+      (ap (λ h. counts_per_block h.fields) (c.cover_range.ensures.step.header ∙ c.search.invariant.step.header) ∙ c.rb_bits-bits.ensures.counts) c.in_ok-cover_range.ensures.has) c.if-taken.false in
       let three = hint_more g.S.Storage.view c.raise.new.file c.raise.new.self marked c.search.self.first_free_cluster two (ap (λ (t : Allocator). t.first_free_cluster) c.raise.ensures.same ∙ c.cover_range.ensures.first) refl used in
       let passed = c.in_ok-self.ensures.sound p there in
       hint_passed g.S.Storage.view p c.raise.new.file c.behind_used.new.file marked (record marked { first_free_cluster = c.in_ok-self.field-0 }) (c.search.self.first_free_cluster + 1) c.in_ok-self.field-0 passed.0 passed.1 refl refl three;
@@ -101,8 +90,8 @@ search-preserved g c = record {
 pub returns-in_err-self-clause-sound : goal.returns-in_err-self-clause-sound
 returns-in_err-self-clause-sound g c = λ p sound.
     let before = c.search.invariant.sound p sound in
-    let covered = allocator_step_then g.S.Storage.view p p c.args.file.now c.search.file c.cover_range.new.file c.search.self c.cover_range.new.self before (c.in_ok-cover_range.ensures.sound p (is_sound_now g.S.Storage.view p p c.args.file.now c.search.file c.search.self before)) in
-    let taken = rw c.if-taken.false at (c.in_ok-taken.ensures.sound p false (is_sound_now g.S.Storage.view p p c.args.file.now c.cover_range.new.file c.cover_range.new.self covered) tt) in
+    let covered = allocator_step_then g.S.Storage.view p p c.args.file.now c.search.file c.cover_range.new.file c.search.self c.cover_range.new.self before ((c.in_ok-cover_range.ensures.sound p (is_sound_now g.S.Storage.view p p c.args.file.now c.search.file c.search.self before)).gets) in
+    let taken = rw c.if-taken.false at ((c.in_ok-taken.ensures.sound p false (is_sound_now g.S.Storage.view p p c.args.file.now c.cover_range.new.file c.cover_range.new.self covered) tt).takes) in
     let marked : Allocator = record c.raise.new.self { first_free_cluster = c.search.self.first_free_cluster + 1 } in
     let mid = allocator_step_as g.S.Storage.view p p c.args.file.now c.raise.new.file c.raise.new.self marked refl (allocator_step_then g.S.Storage.view p p c.args.file.now c.cover_range.new.file c.raise.new.file c.cover_range.new.self c.raise.new.self covered taken) in
     let there = is_sound_now g.S.Storage.view p p c.args.file.now c.raise.new.file marked mid in
@@ -112,43 +101,32 @@ returns-in_err-self-clause-sound g c = λ p sound.
 pub returns-in_err-self-clause-hint : goal.returns-in_err-self-clause-hint
 returns-in_err-self-clause-hint g c = λ p sound hint.
     let before = c.search.invariant.sound p sound in
-    let covered = allocator_step_then g.S.Storage.view p p c.args.file.now c.search.file c.cover_range.new.file c.search.self c.cover_range.new.self before (c.in_ok-cover_range.ensures.sound p (is_sound_now g.S.Storage.view p p c.args.file.now c.search.file c.search.self before)) in
-    let taken = rw c.if-taken.false at (c.in_ok-taken.ensures.sound p false (is_sound_now g.S.Storage.view p p c.args.file.now c.cover_range.new.file c.cover_range.new.self covered) tt) in
+    let covered = allocator_step_then g.S.Storage.view p p c.args.file.now c.search.file c.cover_range.new.file c.search.self c.cover_range.new.self before ((c.in_ok-cover_range.ensures.sound p (is_sound_now g.S.Storage.view p p c.args.file.now c.search.file c.search.self before)).gets) in
+    let taken = rw c.if-taken.false at ((c.in_ok-taken.ensures.sound p false (is_sound_now g.S.Storage.view p p c.args.file.now c.cover_range.new.file c.cover_range.new.self covered) tt).takes) in
     let marked : Allocator = record c.raise.new.self { first_free_cluster = c.search.self.first_free_cluster + 1 } in
     let mid = allocator_step_as g.S.Storage.view p p c.args.file.now c.raise.new.file c.raise.new.self marked refl (allocator_step_then g.S.Storage.view p p c.args.file.now c.cover_range.new.file c.raise.new.file c.cover_range.new.self c.raise.new.self covered taken) in
     let there = is_sound_now g.S.Storage.view p p c.args.file.now c.raise.new.file marked mid in
     let now = is_sound_now g.S.Storage.view p p c.args.file.now c.search.file c.search.self before in
     let is_covered = is_sound_now g.S.Storage.view p p c.args.file.now c.cover_range.new.file c.cover_range.new.self covered in
-    let one = hint_stays g.S.Storage.view p c.search.file c.cover_range.new.file c.search.self c.cover_range.new.self (c.in_ok-cover_range.ensures.sound p now) c.cover_range.ensures.first (c.search.invariant.hint p sound hint) in
+    let one = hint_stays g.S.Storage.view p c.search.file c.cover_range.new.file c.search.self c.cover_range.new.self ((c.in_ok-cover_range.ensures.sound p now).gets) c.cover_range.ensures.first (c.search.invariant.hint p sound hint) in
     let two = hint_stays g.S.Storage.view p c.cover_range.new.file c.raise.new.file c.cover_range.new.self c.raise.new.self taken (ap (λ (t : Allocator). t.first_free_cluster) c.raise.ensures.same) one in
-    let used = c.in_ok-taken.ensures.used p is_covered (range_as c.cover_range.new.self.reftable c.search.self.first_free_cluster (2 ^ c.rb_bits-bits.result) (counts_per_block c.cover_range.new.file.header.fields)
-    (ap (λ h. counts_per_block h.fields) (c.cover_range.ensures.header ∙ c.search.invariant.header) ∙ c.rb_bits-bits.ensures.counts) c.in_ok-cover_range.ensures.has) c.if-taken.false in
+    let used = (c.in_ok-taken.ensures.sound p false is_covered tt).used (range_as c.cover_range.new.self.reftable c.search.self.first_free_cluster (2 ^ c.rb_bits-bits.result) (counts_per_block c.cover_range.new.file.header.fields)
+    (ap (λ h. counts_per_block h.fields) (c.cover_range.ensures.step.header ∙ c.search.invariant.step.header) ∙ c.rb_bits-bits.ensures.counts) c.in_ok-cover_range.ensures.has) c.if-taken.false in
     let three = hint_more g.S.Storage.view c.raise.new.file c.raise.new.self marked c.search.self.first_free_cluster two (ap (λ (t : Allocator). t.first_free_cluster) c.raise.ensures.same ∙ c.cover_range.ensures.first) refl used in
     handed_on (KeepsNoFreeBelowHint g.S.Storage.view marked c.behind_used.new.file) c.from_residual-in_err-self.result c.in_err-self.field-0.0 c.from_residual-in_err-self.ensures
     (hint_refused g.S.Storage.view p c.raise.new.file c.behind_used.new.file marked marked c.in_err-self.field-0.0 refl (c.in_err-self.ensures.sound p there).1 three)
 
-pub returns-in_err-self-clause-marks : goal.returns-in_err-self-clause-marks
-returns-in_err-self-clause-marks g c = kept_marks_then (kept_marks_then (kept_marks_then c.search.invariant.marks c.cover_range.ensures.marks) c.raise.ensures.marks) c.behind_used.ensures.marks
+pub returns-in_err-self-clause-step : goal.returns-in_err-self-clause-step
+returns-in_err-self-clause-step g c = table_step_then (table_step_then (table_step_then c.search.invariant.step c.cover_range.ensures.step) c.raise.ensures.step) c.behind_used.ensures.step
 
-pub returns-in_err-self-clause-cause : goal.returns-in_err-self-clause-cause
-returns-in_err-self-clause-cause g c = handed_cause c.from_residual-in_err-self.result c.in_err-self.field-0.0 c.from_residual-in_err-self.ensures c.in_err-self.ensures.cause
-
-pub returns-in_err-self-clause-storage_faults : goal.returns-in_err-self-clause-storage_faults
-returns-in_err-self-clause-storage_faults g c =
-    told_after _ _ _ c.behind_used.result c.in_err-self.field-0.0 c.from_residual-in_err-self.result (c.in_ok-taken.ensures.storage_faults.told ∙ (c.in_ok-cover_range.ensures.storage_faults.told ∙ c.search.invariant.faults))
-    c.behind_used.ensures.storage_faults c.in_err-self.was c.from_residual-in_err-self.ensures
+pub returns-in_err-self-clause-fails : goal.returns-in_err-self-clause-fails
+returns-in_err-self-clause-fails g c = fails_on c.from_residual-in_err-self.result c.in_err-self.field-0.0 c.from_residual-in_err-self.ensures (fails_since (c.in_ok-taken.ensures.fails.told ∙ (c.in_ok-cover_range.ensures.fails.told ∙ c.search.invariant.faults)) c.in_err-self.ensures.fails)
 
 pub returns-in_err-self-clause-noted : goal.returns-in_err-self-clause-noted
 returns-in_err-self-clause-noted g c = if_no_ok _ c.from_residual-in_err-self.result c.in_err-self.field-0.0 c.from_residual-in_err-self.ensures
 
 pub returns-in_err-self-clause-below : goal.returns-in_err-self-clause-below
 returns-in_err-self-clause-below g c = if_no_ok _ c.from_residual-in_err-self.result c.in_err-self.field-0.0 c.from_residual-in_err-self.ensures
-
-pub returns-in_err-self-clause-header : goal.returns-in_err-self-clause-header
-returns-in_err-self-clause-header g c = c.behind_used.ensures.header ∙ c.raise.ensures.header ∙ c.cover_range.ensures.header ∙ c.search.invariant.header
-
-pub returns-in_err-self-clause-list : goal.returns-in_err-self-clause-list
-returns-in_err-self-clause-list g c = c.behind_used.ensures.list ∙ c.raise.ensures.list ∙ c.cover_range.ensures.list ∙ c.search.invariant.list
 
 pub returns-in_err-self-clause-entries : goal.returns-in_err-self-clause-entries
 returns-in_err-self-clause-entries g c =
@@ -160,23 +138,23 @@ pub returns-in_err-cover_range-clause-hint : goal.returns-in_err-cover_range-cla
 returns-in_err-cover_range-clause-hint g c = λ p sound hint.
     let now = is_sound_now g.S.Storage.view p p c.args.file.now c.search.file c.search.self (c.search.invariant.sound p sound) in
     handed_on (KeepsNoFreeBelowHint g.S.Storage.view c.cover_range.new.self c.cover_range.new.file) c.from_residual.result c.in_err-cover_range.field-0.0 c.from_residual.ensures
-    (hint_refused g.S.Storage.view p c.search.file c.cover_range.new.file c.search.self c.cover_range.new.self c.in_err-cover_range.field-0.0 c.cover_range.ensures.first (c.in_err-cover_range.ensures.sound p now) (c.search.invariant.hint p sound hint))
+    (hint_refused g.S.Storage.view p c.search.file c.cover_range.new.file c.search.self c.cover_range.new.self c.in_err-cover_range.field-0.0 c.cover_range.ensures.first ((c.in_err-cover_range.ensures.sound p now).gets) (c.search.invariant.hint p sound hint))
 
 pub returns-in_err-taken-clause-hint : goal.returns-in_err-taken-clause-hint
 returns-in_err-taken-clause-hint g c = λ p sound hint.
     let now = is_sound_now g.S.Storage.view p p c.args.file.now c.search.file c.search.self (c.search.invariant.sound p sound) in
-    let covered = c.in_ok-cover_range.ensures.sound p now in
+    let covered = (c.in_ok-cover_range.ensures.sound p now).gets in
     let one = hint_stays g.S.Storage.view p c.search.file c.cover_range.new.file c.search.self c.cover_range.new.self covered c.cover_range.ensures.first (c.search.invariant.hint p sound hint) in
     handed_on (KeepsNoFreeBelowHint g.S.Storage.view c.raise.new.self c.raise.new.file) c.from_residual-in_err-taken.result c.in_err-taken.field-0.0 c.from_residual-in_err-taken.ensures
     (hint_refused g.S.Storage.view p c.cover_range.new.file c.raise.new.file c.cover_range.new.self c.raise.new.self c.in_err-taken.field-0.0 (ap (λ (t : Allocator). t.first_free_cluster) c.raise.ensures.same)
-    (c.in_err-taken.ensures.sound p false (is_sound_now g.S.Storage.view p p c.search.file c.cover_range.new.file c.cover_range.new.self covered) tt) one)
+    ((c.in_err-taken.ensures.sound p false (is_sound_now g.S.Storage.view p p c.search.file c.cover_range.new.file c.cover_range.new.self covered) tt).takes) one)
 
 pub returns-then-taken-clause-hint : goal.returns-then-taken-clause-hint
 returns-then-taken-clause-hint g c = λ p sound hint.
     let now = is_sound_now g.S.Storage.view p p c.args.file.now c.search.file c.search.self (c.search.invariant.sound p sound) in
-    let covered = c.in_ok-cover_range.ensures.sound p now in
+    let covered = (c.in_ok-cover_range.ensures.sound p now).gets in
     let one = hint_stays g.S.Storage.view p c.search.file c.cover_range.new.file c.search.self c.cover_range.new.self covered c.cover_range.ensures.first (c.search.invariant.hint p sound hint) in
-    let taken = rw c.if-taken.true at (c.in_ok-taken.ensures.sound p false (is_sound_now g.S.Storage.view p p c.search.file c.cover_range.new.file c.cover_range.new.self covered) tt) in
+    let taken = rw c.if-taken.true at ((c.in_ok-taken.ensures.sound p false (is_sound_now g.S.Storage.view p p c.search.file c.cover_range.new.file c.cover_range.new.self covered) tt).takes) in
     let cluster = c.search.self.first_free_cluster in
     let two = hint_taken g.S.Storage.view p false (one_at cluster) c.cover_range.new.file c.raise.new.file c.cover_range.new.self c.raise.new.self taken (ap (λ (t : Allocator). t.first_free_cluster) c.raise.ensures.same) one in
     hint_more g.S.Storage.view c.raise.new.file c.raise.new.self (record c.raise.new.self { first_free_cluster = cluster + 1 }) cluster two (ap (λ (t : Allocator). t.first_free_cluster) c.raise.ensures.same ∙ c.cover_range.ensures.first) refl
@@ -185,14 +163,11 @@ returns-then-taken-clause-hint g c = λ p sound hint.
 pub returns-clause-hint : goal.returns-clause-hint
 returns-clause-hint g c = λ p sound hint. c.search.invariant.hint p sound hint
 
-pub returns-in_err-cover_range-clause-marks : goal.returns-in_err-cover_range-clause-marks
-returns-in_err-cover_range-clause-marks g c = kept_marks_then c.search.invariant.marks c.cover_range.ensures.marks
+pub returns-in_err-cover_range-clause-step : goal.returns-in_err-cover_range-clause-step
+returns-in_err-cover_range-clause-step g c = table_step_then c.search.invariant.step c.cover_range.ensures.step
 
-pub returns-in_err-cover_range-clause-cause : goal.returns-in_err-cover_range-clause-cause
-returns-in_err-cover_range-clause-cause g c = handed_cause c.from_residual.result c.in_err-cover_range.field-0.0 c.from_residual.ensures c.in_err-cover_range.ensures.cause
-
-pub returns-in_err-cover_range-clause-storage_faults : goal.returns-in_err-cover_range-clause-storage_faults
-returns-in_err-cover_range-clause-storage_faults g c = told_after _ _ _ c.cover_range.result c.in_err-cover_range.field-0.0 c.from_residual.result c.search.invariant.faults c.cover_range.ensures.storage_faults c.in_err-cover_range.was c.from_residual.ensures
+pub returns-in_err-cover_range-clause-fails : goal.returns-in_err-cover_range-clause-fails
+returns-in_err-cover_range-clause-fails g c = fails_on c.from_residual.result c.in_err-cover_range.field-0.0 c.from_residual.ensures (fails_since c.search.invariant.faults c.in_err-cover_range.ensures.fails)
 
 pub returns-in_err-cover_range-clause-noted : goal.returns-in_err-cover_range-clause-noted
 returns-in_err-cover_range-clause-noted g c = if_no_ok _ c.from_residual.result c.in_err-cover_range.field-0.0 c.from_residual.ensures
@@ -200,20 +175,11 @@ returns-in_err-cover_range-clause-noted g c = if_no_ok _ c.from_residual.result 
 pub returns-in_err-cover_range-clause-below : goal.returns-in_err-cover_range-clause-below
 returns-in_err-cover_range-clause-below g c = if_no_ok _ c.from_residual.result c.in_err-cover_range.field-0.0 c.from_residual.ensures
 
-pub returns-in_err-cover_range-clause-header : goal.returns-in_err-cover_range-clause-header
-returns-in_err-cover_range-clause-header g c = c.cover_range.ensures.header ∙ c.search.invariant.header
+pub returns-in_err-taken-clause-step : goal.returns-in_err-taken-clause-step
+returns-in_err-taken-clause-step g c = table_step_then (table_step_then c.search.invariant.step c.cover_range.ensures.step) c.raise.ensures.step
 
-pub returns-in_err-cover_range-clause-list : goal.returns-in_err-cover_range-clause-list
-returns-in_err-cover_range-clause-list g c = c.cover_range.ensures.list ∙ c.search.invariant.list
-
-pub returns-in_err-taken-clause-marks : goal.returns-in_err-taken-clause-marks
-returns-in_err-taken-clause-marks g c = kept_marks_then (kept_marks_then c.search.invariant.marks c.cover_range.ensures.marks) c.raise.ensures.marks
-
-pub returns-in_err-taken-clause-cause : goal.returns-in_err-taken-clause-cause
-returns-in_err-taken-clause-cause g c = handed_cause c.from_residual-in_err-taken.result c.in_err-taken.field-0.0 c.from_residual-in_err-taken.ensures c.in_err-taken.ensures.cause
-
-pub returns-in_err-taken-clause-storage_faults : goal.returns-in_err-taken-clause-storage_faults
-returns-in_err-taken-clause-storage_faults g c = told_after _ _ _ c.raise.result c.in_err-taken.field-0.0 c.from_residual-in_err-taken.result (c.in_ok-cover_range.ensures.storage_faults.told ∙ c.search.invariant.faults) c.raise.ensures.storage_faults c.in_err-taken.was c.from_residual-in_err-taken.ensures
+pub returns-in_err-taken-clause-fails : goal.returns-in_err-taken-clause-fails
+returns-in_err-taken-clause-fails g c = fails_on c.from_residual-in_err-taken.result c.in_err-taken.field-0.0 c.from_residual-in_err-taken.ensures (fails_since (c.in_ok-cover_range.ensures.fails.told ∙ c.search.invariant.faults) c.in_err-taken.ensures.fails)
 
 pub returns-in_err-taken-clause-noted : goal.returns-in_err-taken-clause-noted
 returns-in_err-taken-clause-noted g c = if_no_ok _ c.from_residual-in_err-taken.result c.in_err-taken.field-0.0 c.from_residual-in_err-taken.ensures
@@ -221,20 +187,11 @@ returns-in_err-taken-clause-noted g c = if_no_ok _ c.from_residual-in_err-taken.
 pub returns-in_err-taken-clause-below : goal.returns-in_err-taken-clause-below
 returns-in_err-taken-clause-below g c = if_no_ok _ c.from_residual-in_err-taken.result c.in_err-taken.field-0.0 c.from_residual-in_err-taken.ensures
 
-pub returns-in_err-taken-clause-header : goal.returns-in_err-taken-clause-header
-returns-in_err-taken-clause-header g c = c.raise.ensures.header ∙ c.cover_range.ensures.header ∙ c.search.invariant.header
+pub returns-then-taken-clause-step : goal.returns-then-taken-clause-step
+returns-then-taken-clause-step g c = table_step_then (table_step_then c.search.invariant.step c.cover_range.ensures.step) c.raise.ensures.step
 
-pub returns-in_err-taken-clause-list : goal.returns-in_err-taken-clause-list
-returns-in_err-taken-clause-list g c = c.raise.ensures.list ∙ c.cover_range.ensures.list ∙ c.search.invariant.list
-
-pub returns-then-taken-clause-header : goal.returns-then-taken-clause-header
-returns-then-taken-clause-header g c = c.raise.ensures.header ∙ c.cover_range.ensures.header ∙ c.search.invariant.header
-
-pub returns-then-taken-clause-list : goal.returns-then-taken-clause-list
-returns-then-taken-clause-list g c = c.raise.ensures.list ∙ c.cover_range.ensures.list ∙ c.search.invariant.list
-
-pub returns-then-taken-clause-marks : goal.returns-then-taken-clause-marks
-returns-then-taken-clause-marks g c = kept_marks_then (kept_marks_then c.search.invariant.marks c.cover_range.ensures.marks) c.raise.ensures.marks
+pub returns-then-taken-clause-fails : goal.returns-then-taken-clause-fails
+returns-then-taken-clause-fails g c = fails_ok (c.in_ok-taken.ensures.fails.told ∙ (c.in_ok-cover_range.ensures.fails.told ∙ c.search.invariant.faults))
 
 pub returns-then-taken-clause-noted : goal.returns-then-taken-clause-noted
 returns-then-taken-clause-noted g c = λ some. c.in_ok-taken.ensures.noted c.if-taken.true
@@ -242,29 +199,14 @@ returns-then-taken-clause-noted g c = λ some. c.in_ok-taken.ensures.noted c.if-
 pub returns-then-taken-clause-below : goal.returns-then-taken-clause-below
 returns-then-taken-clause-below g c = (c.search.invariant.above, c.search-test.true)
 
-pub returns-then-taken-clause-cause : goal.returns-then-taken-clause-cause
-returns-then-taken-clause-cause g c = tt
+pub returns-clause-step : goal.returns-clause-step
+returns-clause-step g c = c.search.invariant.step
 
-pub returns-then-taken-clause-storage_faults : goal.returns-then-taken-clause-storage_faults
-returns-then-taken-clause-storage_faults g c = told_ok _ _ _ (c.in_ok-taken.ensures.storage_faults.told ∙ (c.in_ok-cover_range.ensures.storage_faults.told ∙ c.search.invariant.faults))
-
-pub returns-clause-marks : goal.returns-clause-marks
-returns-clause-marks g c = c.search.invariant.marks
-
-pub returns-clause-header : goal.returns-clause-header
-returns-clause-header g c = c.search.invariant.header
-
-pub returns-clause-list : goal.returns-clause-list
-returns-clause-list g c = c.search.invariant.list
+pub returns-clause-fails : goal.returns-clause-fails
+returns-clause-fails g c = fails_ok c.search.invariant.faults
 
 pub returns-clause-entries : goal.returns-clause-entries
 returns-clause-entries g c = c.search.invariant.entries
-
-pub returns-clause-cause : goal.returns-clause-cause
-returns-clause-cause g c = tt
-
-pub returns-clause-storage_faults : goal.returns-clause-storage_faults
-returns-clause-storage_faults g c = told_ok _ _ _ c.search.invariant.faults
 
 pub returns-in_err-cover_range-clause-entries : goal.returns-in_err-cover_range-clause-entries
 returns-in_err-cover_range-clause-entries g c = covered_entries c.args.self.now.reftable c.search.self.reftable c.cover_range.new.self.reftable c.search.self.first_free_cluster c.args.end (2 ^ c.rb_bits-bits.result) (counts_per_block c.args.file.now.header.fields) c.search-test.true c.rb_bits-bits.ensures.counts
@@ -294,33 +236,3 @@ returns-in_err-self-clause-leaks g c = ap (λ (t : Allocator). t.leaked_clusters
 
 pub returns-clause-leaks : goal.returns-clause-leaks
 returns-clause-leaks g c = c.search.invariant.leaks
-
-pub returns-in_err-cover_range-clause-header_cluster : goal.returns-in_err-cover_range-clause-header_cluster
-returns-in_err-cover_range-clause-header_cluster g c = spares_then c.search.invariant.spared c.cover_range.ensures.header_cluster
-
-pub returns-in_err-taken-clause-header_cluster : goal.returns-in_err-taken-clause-header_cluster
-returns-in_err-taken-clause-header_cluster g c = spares_then (spares_then c.search.invariant.spared c.cover_range.ensures.header_cluster) (c.raise.ensures.header_cluster)
-
-pub returns-then-taken-clause-header_cluster : goal.returns-then-taken-clause-header_cluster
-returns-then-taken-clause-header_cluster g c = spares_then (spares_then c.search.invariant.spared c.cover_range.ensures.header_cluster) (c.raise.ensures.header_cluster)
-
-pub returns-in_err-self-clause-header_cluster : goal.returns-in_err-self-clause-header_cluster
-returns-in_err-self-clause-header_cluster g c = spares_then (spares_then (spares_then c.search.invariant.spared c.cover_range.ensures.header_cluster) (c.raise.ensures.header_cluster)) (c.behind_used.ensures.header_cluster)
-
-pub returns-clause-header_cluster : goal.returns-clause-header_cluster
-returns-clause-header_cluster g c = c.search.invariant.spared
-
-pub returns-clause-named : goal.returns-clause-named
-returns-clause-named g c = c.search.invariant.named
-
-pub returns-in_err-cover_range-clause-named : goal.returns-in_err-cover_range-clause-named
-returns-in_err-cover_range-clause-named g c = named_then c.args.self.now.reftable c.search.self.reftable c.cover_range.new.self.reftable c.search.invariant.named c.cover_range.ensures.named
-
-pub returns-in_err-taken-clause-named : goal.returns-in_err-taken-clause-named
-returns-in_err-taken-clause-named g c = subst (λ (t : Allocator). KeepsNamed c.args.self.now.reftable t.reftable) (sym c.raise.ensures.same) (named_then c.args.self.now.reftable c.search.self.reftable c.cover_range.new.self.reftable c.search.invariant.named c.cover_range.ensures.named)
-
-pub returns-then-taken-clause-named : goal.returns-then-taken-clause-named
-returns-then-taken-clause-named g c = subst (λ (t : Allocator). KeepsNamed c.args.self.now.reftable t.reftable) (sym c.raise.ensures.same) (named_then c.args.self.now.reftable c.search.self.reftable c.cover_range.new.self.reftable c.search.invariant.named c.cover_range.ensures.named)
-
-pub returns-in_err-self-clause-named : goal.returns-in_err-self-clause-named
-returns-in_err-self-clause-named g c = subst (λ (t : Allocator). KeepsNamed c.args.self.now.reftable t.reftable) (sym c.raise.ensures.same) (named_then c.args.self.now.reftable c.search.self.reftable c.cover_range.new.self.reftable c.search.invariant.named c.cover_range.ensures.named)

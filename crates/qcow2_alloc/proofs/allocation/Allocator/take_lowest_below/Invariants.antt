@@ -1,24 +1,19 @@
 use Rattle.std.proofs.Common.{◌≡◌, ◌-◌, ◌*◌, ◌<◌, ◌≤◌}
 use Rattle.qcow2_metadata.specs.Header.{counts_per_block}
 use Rattle.qcow2_laws.specs.CrashInvariant.{Pending}
-use Rattle.qcow2_alloc.specs.Allocation.{KeepsEntries, KeepsNamed, SameLeaks, UnseenAllocatorStep}
-use Rattle.qcow2_alloc.specs.KeptMarks.{KeepsMarks}
+use Rattle.qcow2_alloc.specs.Allocation.{KeepsEntries, SameLeaks, UnseenAllocatorStep}
 use Rattle.qcow2_alloc.specs.Faults.{faults_of}
 use Rattle.qcow2_alloc.specs.ImageFile.{AllocatorInvariant}
 use Rattle.qcow2_alloc.specs.LowestRuns.{NoFreeBelowHint}
-use Rattle.qcow2_alloc.specs.SparedHeaders.{SparesHeader}
+use Rattle.qcow2_alloc.specs.Steps.{TableStep}
 use Rattle.qcow2_alloc.proofs.allocation.Allocator.take_lowest_below.Given as goal
 
 -- nothing is taken yet, and no refblock was placed for the ranges from the end on
 abbrev pub invariant-search : goal.invariant-search
 invariant-search g l = record {
-  header : l.file.header ≡ l.fn.file.header;
-  list : l.file.free_list ≡ l.fn.file.free_list;
-  marks : KeepsMarks g.S.Storage.view l.fn.file l.file;
   faults : faults_of g.S.Storage.view l.file.storage ≡ faults_of g.S.Storage.view l.fn.file.storage;
-  spared : SparesHeader g.S.Storage.view l.fn.self.reftable l.fn.file l.self.reftable l.file;
+  step : TableStep g.S.Storage.view l.fn.self.reftable l.fn.file l.self.reftable l.file;
   entries : KeepsEntries (λ k. l.fn.end ≤ k * counts_per_block l.fn.file.header.fields) l.fn.self.reftable l.self.reftable;
-  named : KeepsNamed l.fn.self.reftable l.self.reftable;
   above : 0 < l.self.first_free_cluster;
   leaks : SameLeaks l.fn.self l.self;
   sound : (p : Pending) → AllocatorInvariant g.S.Storage.view l.fn.self p l.fn.file → UnseenAllocatorStep g.S.Storage.view p l.fn.file l.self l.file p;

@@ -16,20 +16,16 @@ use Rattle.qcow2_alloc.proofs.Runs.{run_after}
 use Rattle.qcow2_alloc.proofs.Hints.{used_stays}
 use Rattle.qcow2_alloc.proofs.FullRooms.{full_behind, full_passed, full_stays, IsFullBelow}
 use Rattle.qcow2_alloc.proofs.Rooms.{run_of_same, noted_of_same, noted_of_room}
-use Rattle.qcow2_alloc.proofs.Faults.{told_ok}
-use Rattle.qcow2_alloc.proofs.Outcomes.{told_limit, told_after, if_no_ok, handed_cause}
+use Rattle.qcow2_alloc.proofs.Outcomes.{if_no_ok}
 use Rattle.qcow2_alloc.specs.declared.allocation.Allocator.{Allocator}
-use Rattle.qcow2_alloc.proofs.SparedHeaders.{spares_none, spares_then}
-use Rattle.qcow2_alloc.proofs.KeptMarks.{kept_marks_none, kept_marks_then}
+use Rattle.qcow2_alloc.proofs.Steps.{fails_by, fails_ok, fails_on, fails_since, limit_other, table_step_none, table_step_then}
+use Rattle.qcow2_alloc.specs.declared.error.ImageError.TheVariants as I
 use Rattle.qcow2_alloc.proofs.allocation.Allocator.take_room.Goals as goal
 
 pub search-init : goal.search-init
 search-init g c = record {
-  header = refl;
-  list = refl;
-  marks = kept_marks_none;
   faults = refl;
-  spared = spares_none;
+  step = table_step_none;
   reftable = refl;
   first_free = refl;
   low = let first = c.max-first.ensures in omega (arith, first);
@@ -42,44 +38,10 @@ search-init g c = record {
       (start, omega arith, omega (arith, is, some), below, hint start (omega (arith, first, above, below)));
 }
 
-pub returns-in_err-reach-clause-sound : goal.returns-in_err-reach-clause-sound
-returns-in_err-reach-clause-sound g c = λ p sound.
-    let view = g.S.Storage.view in
-    let before = c.search.invariant.sound p sound in
-    handed_on (TakesRoom view p c.args.file.now c.reach_room.new.self c.reach_room.new.file c.args.self.now.reftable) c.from_residual.result c.in_err-reach.field-0.0 c.from_residual.ensures
-    (leaves_then view p c.args.file.now c.search.file c.reach_room.new.file c.reach_room.new.self c.in_err-reach.field-0.0 before.file_step
-    (c.in_err-reach.ensures.sound p (is_sound_now view p p c.args.file.now c.search.file c.search.self before)).1)
-
-pub returns-then-reach-clusters-clause-sound : goal.returns-then-reach-clusters-clause-sound
-returns-then-reach-clusters-clause-sound g c = λ p sound.
-    let view = g.S.Storage.view in
-    let before = c.search.invariant.sound p sound in
-    let reached = c.in_ok-reach.ensures.sound p (is_sound_now view p p c.args.file.now c.search.file c.search.self before) in
-    let h = c.args.file.now.header.fields in
-    let t = c.args.self.now.reftable in
-    let same = run_of_same p c.search.file.header.fields h c.search.self.reftable t c.search.first c.in_ok-reach.reach.taken (c.in_ok-reach.reach.blocks + c.args.clusters) (ap (λ x. x.fields) c.search.invariant.header) c.search.invariant.reftable c.if-reach-clusters.true in
-    allocator_step_then view p (with_run p h t c.search.first (c.in_ok-reach.reach.blocks + c.args.clusters)) c.args.file.now c.search.file c.reach_room.new.file c.search.self c.reach_room.new.self before
-    (subst (λ (r : Pending). UnseenAllocatorStep view p c.search.file c.reach_room.new.self c.reach_room.new.file r) same reached)
-
-pub returns-in_err-leave_run-clause-sound : goal.returns-in_err-leave_run-clause-sound
-returns-in_err-leave_run-clause-sound g c = λ p sound.
-    let view = g.S.Storage.view in
-    let before = c.search.invariant.sound p sound in
-    let reached = c.in_ok-reach.ensures.sound p (is_sound_now view p p c.args.file.now c.search.file c.search.self before) in
-    let t_same : c.search.self.reftable ≡ c.reach_room.new.self.reftable = ap (λ a. a.reftable) (sym c.reach_room.ensures.same) in
-    let same = run_of_same p c.search.file.header.fields c.search.file.header.fields c.search.self.reftable c.reach_room.new.self.reftable c.search.first c.in_ok-reach.reach.taken c.in_ok-reach.reach.taken refl t_same refl in
-    let noted = noted_of_same c.search.file.header.fields c.search.self.reftable c.reach_room.new.self.reftable c.search.first c.in_ok-reach.reach.taken c.reach_room.new.file.caches.is_changed t_same c.in_ok-reach.ensures.noted in
-    let back = c.in_err-leave_run.ensures.sound p c.search.file (sym c.reach_room.ensures.header) (subst (λ (r : Pending). UnseenAllocatorStep view p c.search.file c.reach_room.new.self c.reach_room.new.file r) same reached) noted in
-    handed_on (TakesRoom view p c.args.file.now c.leave_run.new.self c.leave_run.new.file c.args.self.now.reftable) c.from_residual-in_err-leave_run.result c.in_err-leave_run.field-0.0 c.from_residual-in_err-leave_run.ensures
-    (leaves_then view p c.args.file.now c.search.file c.leave_run.new.file c.leave_run.new.self c.in_err-leave_run.field-0.0 before.file_step back.1)
-
 pub search-preserved : goal.search-preserved
 search-preserved g c = record {
-  header = c.behind_used.ensures.header ∙ c.leave_run.ensures.header ∙ c.reach_room.ensures.header ∙ c.search.invariant.header;
-  list = c.behind_used.ensures.list ∙ c.leave_run.ensures.list ∙ c.reach_room.ensures.list ∙ c.search.invariant.list;
-  marks = kept_marks_then (kept_marks_then (kept_marks_then c.search.invariant.marks c.reach_room.ensures.marks) c.leave_run.ensures.marks) c.behind_used.ensures.marks;
-  faults = c.in_ok-first.ensures.storage_faults.told ∙ (c.in_ok-leave_run.ensures.storage_faults.told ∙ (c.in_ok-reach.ensures.storage_faults.told ∙ c.search.invariant.faults));
-  spared = spares_then (spares_then (spares_then c.search.invariant.spared c.reach_room.ensures.header_cluster) (c.leave_run.ensures.header_cluster)) (c.behind_used.ensures.header_cluster);
+  faults = c.in_ok-first.ensures.fails.told ∙ (c.in_ok-leave_run.ensures.fails.told ∙ (c.in_ok-reach.ensures.fails.told ∙ c.search.invariant.faults));
+  step = table_step_then (table_step_then (table_step_then c.search.invariant.step c.reach_room.ensures.step) c.leave_run.ensures.step) c.behind_used.ensures.step;
   reftable = c.leave_run.ensures.reftable ∙ ap (λ a. a.reftable) c.reach_room.ensures.same ∙ c.search.invariant.reftable;
   first_free = c.leave_run.ensures.first ∙ ap (λ a. a.first_free_cluster) c.reach_room.ensures.same ∙ c.search.invariant.first_free;
   low = let low = c.search.invariant.low in let behind = c.in_ok-first.ensures.behind in omega (arith, low, behind);
@@ -91,7 +53,7 @@ search-preserved g c = record {
       let t_same : c.search.self.reftable ≡ c.reach_room.new.self.reftable = ap (λ a. a.reftable) (sym c.reach_room.ensures.same) in
       let same = run_of_same p c.search.file.header.fields c.search.file.header.fields c.search.self.reftable c.reach_room.new.self.reftable c.search.first c.in_ok-reach.reach.taken c.in_ok-reach.reach.taken refl t_same refl in
       let noted = noted_of_same c.search.file.header.fields c.search.self.reftable c.reach_room.new.self.reftable c.search.first c.in_ok-reach.reach.taken c.reach_room.new.file.caches.is_changed t_same c.in_ok-reach.ensures.noted in
-      let back = c.in_ok-leave_run.ensures.sound p c.search.file (sym c.reach_room.ensures.header) (subst (λ (r : Pending). UnseenAllocatorStep view p c.search.file c.reach_room.new.self c.reach_room.new.file r) same reached) noted in
+      let back = ((c.in_ok-leave_run.ensures.sound p c.search.file (sym c.reach_room.ensures.step.header) (subst (λ (r : Pending). UnseenAllocatorStep view p c.search.file c.reach_room.new.self c.reach_room.new.file r) same reached)).gives noted) in
       let mid = allocator_step_then view p p c.args.file.now c.search.file c.leave_run.new.file c.search.self c.leave_run.new.self before back in
       let there = is_sound_now view p p c.args.file.now c.leave_run.new.file c.leave_run.new.self mid in
       allocator_step_then view p p c.args.file.now c.leave_run.new.file c.behind_used.new.file c.leave_run.new.self c.leave_run.new.self mid (c.in_ok-first.ensures.sound p there).0;
@@ -101,7 +63,7 @@ search-preserved g c = record {
       let reached = c.in_ok-reach.ensures.sound p (is_sound_now view p p c.args.file.now c.search.file c.search.self before) in
       let t_same : c.search.self.reftable ≡ c.reach_room.new.self.reftable = ap (λ a. a.reftable) (sym c.reach_room.ensures.same) in
       let same = run_of_same p c.search.file.header.fields c.search.file.header.fields c.search.self.reftable c.reach_room.new.self.reftable c.search.first c.in_ok-reach.reach.taken c.in_ok-reach.reach.taken refl t_same refl in
-      c.leave_run.ensures.leaks p c.search.file (sym c.reach_room.ensures.header) (subst (λ (r : Pending). UnseenAllocatorStep view p c.search.file c.reach_room.new.self c.reach_room.new.file r) same reached)
+      (c.leave_run.ensures.sound p c.search.file (sym c.reach_room.ensures.step.header) (subst (λ (r : Pending). UnseenAllocatorStep view p c.search.file c.reach_room.new.self c.reach_room.new.file r) same reached)).leaks
       ∙ ap (λ (a : Allocator). a.leaked_clusters) c.reach_room.ensures.same ∙ c.search.invariant.leaks p sound;
   full = λ p sound hint.
       let view = g.S.Storage.view in
@@ -116,64 +78,25 @@ search-preserved g c = record {
       let same = run_of_same p c.search.file.header.fields c.search.file.header.fields c.search.self.reftable c.reach_room.new.self.reftable first taken taken refl t_same refl in
       let noted = noted_of_same c.search.file.header.fields c.search.self.reftable c.reach_room.new.self.reftable first taken c.reach_room.new.file.caches.is_changed t_same c.in_ok-reach.ensures.noted in
       let run = subst (λ (r : Pending). UnseenAllocatorStep view p c.search.file c.reach_room.new.self c.reach_room.new.file r) same reached in
-      let back = c.in_ok-leave_run.ensures.sound p c.search.file (sym c.reach_room.ensures.header) run noted in
-      let opened_same = λ (n : ℕ). ap (λ (h : HeaderView). opened c.search.self.reftable (counts_per_block h.fields) first n) c.search.invariant.header ∙ ap (λ (x : EntryTableView). opened x per first n) c.search.invariant.reftable in
+      let back = ((c.in_ok-leave_run.ensures.sound p c.search.file (sym c.reach_room.ensures.step.header) run).gives noted) in
+      let opened_same = λ (n : ℕ). ap (λ (h : HeaderView). opened c.search.self.reftable (counts_per_block h.fields) first n) c.search.invariant.step.header ∙ ap (λ (x : EntryTableView). opened x per first n) c.search.invariant.reftable in
       let mid = allocator_step_then view p p c.args.file.now c.search.file c.leave_run.new.file c.search.self c.leave_run.new.self before back in
       let passed = c.in_ok-first.ensures.sound p (is_sound_now view p p c.args.file.now c.leave_run.new.file c.leave_run.new.self mid) in
       full_passed view c.behind_used.new.file t per c.args.clusters c.args.end (first + (taken + 1)) c.in_ok-first.first (let behind = c.in_ok-first.ensures.behind in omega (arith, behind)) (let many = c.requires.some in omega (arith, many)) (λ k low high. passed.1 k (omega (arith, low)) high)
       (full_stays view c.leave_run.new.file c.behind_used.new.file t per c.args.clusters c.args.end (first + (taken + 1)) (λ k used. used_stays view p p c.leave_run.new.file c.behind_used.new.file c.leave_run.new.self k passed.0 (omega arith) used)
       (full_behind view c.leave_run.new.file t per c.args.clusters c.args.end first taken
       (λ n le. let lt = c.in_ok-reach.ensures.short c.if-reach-clusters.false n le in let e = opened_same n in omega (arith, lt, e))
-      (λ within. c.in_ok-leave_run.ensures.kept p c.search.file (sym c.reach_room.ensures.header) run (first + taken) (run_after first taken (first + taken) (omega arith))
+      (λ within. (c.in_ok-leave_run.ensures.sound p c.search.file (sym c.reach_room.ensures.step.header) run).kept (first + taken) (run_after first taken (first + taken) (omega arith))
       (c.in_ok-reach.ensures.stopped p now c.if-reach-clusters.false within))
       (full_stays view c.search.file c.leave_run.new.file t per c.args.clusters c.args.end first (λ k used. used_stays view p p c.search.file c.leave_run.new.file c.leave_run.new.self k back (omega arith) used)
       (c.search.invariant.full p sound hint))));
 }
 
-pub returns-in_err-first-clause-sound : goal.returns-in_err-first-clause-sound
-returns-in_err-first-clause-sound g c = λ p sound.
-    let view = g.S.Storage.view in
-    let before = c.search.invariant.sound p sound in
-    let reached = c.in_ok-reach.ensures.sound p (is_sound_now view p p c.args.file.now c.search.file c.search.self before) in
-    let t_same : c.search.self.reftable ≡ c.reach_room.new.self.reftable = ap (λ a. a.reftable) (sym c.reach_room.ensures.same) in
-    let same = run_of_same p c.search.file.header.fields c.search.file.header.fields c.search.self.reftable c.reach_room.new.self.reftable c.search.first c.in_ok-reach.reach.taken c.in_ok-reach.reach.taken refl t_same refl in
-    let noted = noted_of_same c.search.file.header.fields c.search.self.reftable c.reach_room.new.self.reftable c.search.first c.in_ok-reach.reach.taken c.reach_room.new.file.caches.is_changed t_same c.in_ok-reach.ensures.noted in
-    let back = c.in_ok-leave_run.ensures.sound p c.search.file (sym c.reach_room.ensures.header) (subst (λ (r : Pending). UnseenAllocatorStep view p c.search.file c.reach_room.new.self c.reach_room.new.file r) same reached) noted in
-    let mid = allocator_step_then view p p c.args.file.now c.search.file c.leave_run.new.file c.search.self c.leave_run.new.self before back in
-    let there = is_sound_now view p p c.args.file.now c.leave_run.new.file c.leave_run.new.self mid in
-    handed_on (TakesRoom view p c.args.file.now c.leave_run.new.self c.behind_used.new.file c.args.self.now.reftable) c.from_residual-in_err-first.result c.in_err-first.field-0.0 c.from_residual-in_err-first.ensures
-    (leaves_then view p c.args.file.now c.leave_run.new.file c.behind_used.new.file c.leave_run.new.self c.in_err-first.field-0.0 mid.file_step (c.in_err-first.ensures.sound p there).1)
+pub returns-in_err-first-clause-step : goal.returns-in_err-first-clause-step
+returns-in_err-first-clause-step g c = table_step_then (table_step_then (table_step_then c.search.invariant.step c.reach_room.ensures.step) c.leave_run.ensures.step) c.behind_used.ensures.step
 
-pub returns-in_err-first-clause-room : goal.returns-in_err-first-clause-room
-returns-in_err-first-clause-room g c = λ p sound hint.
-    let view = g.S.Storage.view in
-    let before = c.search.invariant.sound p sound in
-    let reached = c.in_ok-reach.ensures.sound p (is_sound_now view p p c.args.file.now c.search.file c.search.self before) in
-    let t_same : c.search.self.reftable ≡ c.reach_room.new.self.reftable = ap (λ a. a.reftable) (sym c.reach_room.ensures.same) in
-    let same = run_of_same p c.search.file.header.fields c.search.file.header.fields c.search.self.reftable c.reach_room.new.self.reftable c.search.first c.in_ok-reach.reach.taken c.in_ok-reach.reach.taken refl t_same refl in
-    let noted = noted_of_same c.search.file.header.fields c.search.self.reftable c.reach_room.new.self.reftable c.search.first c.in_ok-reach.reach.taken c.reach_room.new.file.caches.is_changed t_same c.in_ok-reach.ensures.noted in
-    let back = c.in_ok-leave_run.ensures.sound p c.search.file (sym c.reach_room.ensures.header) (subst (λ (r : Pending). UnseenAllocatorStep view p c.search.file c.reach_room.new.self c.reach_room.new.file r) same reached) noted in
-    let mid = allocator_step_then view p p c.args.file.now c.search.file c.leave_run.new.file c.search.self c.leave_run.new.self before back in
-    let there = is_sound_now view p p c.args.file.now c.leave_run.new.file c.leave_run.new.self mid in
-    handed_on (λ (r : Result Room ImageError). IfErr r (IsFaultOr (HasNoRoomBelow (IsUsed view c.behind_used.new.file) c.behind_used.new.file.header.fields (λ k. 0) c.args.self.now.reftable c.args.clusters c.args.end))) c.from_residual-in_err-first.result c.in_err-first.field-0.0 c.from_residual-in_err-first.ensures
-    (inl (c.in_err-first.ensures.sound p there).0)
-
-pub returns-in_err-first-clause-marks : goal.returns-in_err-first-clause-marks
-returns-in_err-first-clause-marks g c = kept_marks_then (kept_marks_then (kept_marks_then c.search.invariant.marks c.reach_room.ensures.marks) c.leave_run.ensures.marks) c.behind_used.ensures.marks
-
-pub returns-in_err-first-clause-cause : goal.returns-in_err-first-clause-cause
-returns-in_err-first-clause-cause g c = handed_cause c.from_residual-in_err-first.result c.in_err-first.field-0.0 c.from_residual-in_err-first.ensures c.in_err-first.ensures.cause
-
-pub returns-in_err-first-clause-storage_faults : goal.returns-in_err-first-clause-storage_faults
-returns-in_err-first-clause-storage_faults g c =
-    told_after _ _ _ c.behind_used.result c.in_err-first.field-0.0 c.from_residual-in_err-first.result (c.in_ok-leave_run.ensures.storage_faults.told ∙ (c.in_ok-reach.ensures.storage_faults.told ∙ c.search.invariant.faults))
-    c.behind_used.ensures.storage_faults c.in_err-first.was c.from_residual-in_err-first.ensures
-
-pub returns-in_err-first-clause-header : goal.returns-in_err-first-clause-header
-returns-in_err-first-clause-header g c = c.behind_used.ensures.header ∙ c.leave_run.ensures.header ∙ c.reach_room.ensures.header ∙ c.search.invariant.header
-
-pub returns-in_err-first-clause-list : goal.returns-in_err-first-clause-list
-returns-in_err-first-clause-list g c = c.behind_used.ensures.list ∙ c.leave_run.ensures.list ∙ c.reach_room.ensures.list ∙ c.search.invariant.list
+pub returns-in_err-first-clause-fails : goal.returns-in_err-first-clause-fails
+returns-in_err-first-clause-fails g c = fails_on c.from_residual-in_err-first.result c.in_err-first.field-0.0 c.from_residual-in_err-first.ensures (fails_since (c.in_ok-leave_run.ensures.fails.told ∙ (c.in_ok-reach.ensures.fails.told ∙ c.search.invariant.faults)) c.in_err-first.ensures.fails)
 
 pub returns-in_err-first-clause-reftable : goal.returns-in_err-first-clause-reftable
 returns-in_err-first-clause-reftable g c = c.leave_run.ensures.reftable ∙ ap (λ (a : Allocator). a.reftable) c.reach_room.ensures.same ∙ c.search.invariant.reftable
@@ -193,64 +116,11 @@ returns-in_err-first-clause-above g c = if_no_ok _ c.from_residual-in_err-first.
 pub returns-in_err-first-clause-below : goal.returns-in_err-first-clause-below
 returns-in_err-first-clause-below g c = if_no_ok _ c.from_residual-in_err-first.result c.in_err-first.field-0.0 c.from_residual-in_err-first.ensures
 
-pub returns-in_err-first-clause-lowest : goal.returns-in_err-first-clause-lowest
-returns-in_err-first-clause-lowest g c = λ _ _ _. if_no_ok _ c.from_residual-in_err-first.result c.in_err-first.field-0.0 c.from_residual-in_err-first.ensures
+pub returns-in_err-reach-clause-step : goal.returns-in_err-reach-clause-step
+returns-in_err-reach-clause-step g c = table_step_then c.search.invariant.step c.reach_room.ensures.step
 
-pub returns-clause-sound : goal.returns-clause-sound
-returns-clause-sound g c = λ p sound. let before = c.search.invariant.sound p sound in inl (before.file_step, before.reftable)
-
-pub returns-in_err-reach-clause-room : goal.returns-in_err-reach-clause-room
-returns-in_err-reach-clause-room g c = λ p sound hint.
-    let view = g.S.Storage.view in
-    let before = c.search.invariant.sound p sound in
-    handed_on (λ (r : Result Room ImageError). IfErr r (IsFaultOr (HasNoRoomBelow (IsUsed view c.reach_room.new.file) c.reach_room.new.file.header.fields (λ k. 0) c.args.self.now.reftable c.args.clusters c.args.end))) c.from_residual.result c.in_err-reach.field-0.0 c.from_residual.ensures
-    (inl (c.in_err-reach.ensures.sound p (is_sound_now view p p c.args.file.now c.search.file c.search.self before)).0)
-
-pub returns-in_err-leave_run-clause-room : goal.returns-in_err-leave_run-clause-room
-returns-in_err-leave_run-clause-room g c = λ p sound hint.
-    let view = g.S.Storage.view in
-    let before = c.search.invariant.sound p sound in
-    let reached = c.in_ok-reach.ensures.sound p (is_sound_now view p p c.args.file.now c.search.file c.search.self before) in
-    let t_same : c.search.self.reftable ≡ c.reach_room.new.self.reftable = ap (λ a. a.reftable) (sym c.reach_room.ensures.same) in
-    let same = run_of_same p c.search.file.header.fields c.search.file.header.fields c.search.self.reftable c.reach_room.new.self.reftable c.search.first c.in_ok-reach.reach.taken c.in_ok-reach.reach.taken refl t_same refl in
-    let noted = noted_of_same c.search.file.header.fields c.search.self.reftable c.reach_room.new.self.reftable c.search.first c.in_ok-reach.reach.taken c.reach_room.new.file.caches.is_changed t_same c.in_ok-reach.ensures.noted in
-    let back = c.in_err-leave_run.ensures.sound p c.search.file (sym c.reach_room.ensures.header) (subst (λ (r : Pending). UnseenAllocatorStep view p c.search.file c.reach_room.new.self c.reach_room.new.file r) same reached) noted in
-    handed_on (λ (r : Result Room ImageError). IfErr r (IsFaultOr (HasNoRoomBelow (IsUsed view c.leave_run.new.file) c.leave_run.new.file.header.fields (λ k. 0) c.args.self.now.reftable c.args.clusters c.args.end))) c.from_residual-in_err-leave_run.result c.in_err-leave_run.field-0.0 c.from_residual-in_err-leave_run.ensures
-    (inl back.0)
-
-pub returns-clause-room : goal.returns-clause-room
-returns-clause-room g c = λ p sound hint.
-    let t = c.args.self.now.reftable in
-    inr (
-      refl,
-      λ start n above is within.
-          let e : opened t (counts_per_block c.search.file.header.fields) start n ≡ opened t (counts_per_block c.args.file.now.header.fields) start n = ap (λ (h : HeaderView). opened t (counts_per_block h.fields) start n) c.search.invariant.header in
-          let past = c.search-test.false in
-          let some = c.requires.some in
-          let at = c.search.invariant.full p sound hint start n above (omega (arith, past, some, is, within)) (is ∙ ap (λ m. m + c.args.clusters) e) within in
-          (at.0, at.1, at.2, inl at.4),
-    )
-
-pub returns-then-reach-clusters-clause-lowest : goal.returns-then-reach-clusters-clause-lowest
-returns-then-reach-clusters-clause-lowest g c = λ p sound hint.
-    let view = g.S.Storage.view in
-    let t = c.args.self.now.reftable in
-    let before = c.search.invariant.sound p sound in
-    let now = is_sound_now view p p c.args.file.now c.search.file c.search.self before in
-    let reached = c.in_ok-reach.ensures.sound p now in
-    let per = ap (λ (h : HeaderView). counts_per_block h.fields) (c.reach_room.ensures.header ∙ c.search.invariant.header) in
-    let full = full_stays view c.search.file c.reach_room.new.file t (counts_per_block c.args.file.now.header.fields) c.args.clusters c.args.end c.search.first
-    (λ k used. used_stays view p (with_run p c.search.file.header.fields c.search.self.reftable c.search.first c.in_ok-reach.reach.taken) c.search.file c.reach_room.new.file c.reach_room.new.self k reached (omega arith) used) (c.search.invariant.full p sound hint) in
-    subst (λ n. IsFullBelow view c.reach_room.new.file t n c.args.clusters c.args.end c.search.first) (sym per) full
-
-pub returns-in_err-reach-clause-marks : goal.returns-in_err-reach-clause-marks
-returns-in_err-reach-clause-marks g c = kept_marks_then c.search.invariant.marks c.reach_room.ensures.marks
-
-pub returns-in_err-reach-clause-cause : goal.returns-in_err-reach-clause-cause
-returns-in_err-reach-clause-cause g c = handed_cause c.from_residual.result c.in_err-reach.field-0.0 c.from_residual.ensures c.in_err-reach.ensures.cause
-
-pub returns-in_err-reach-clause-storage_faults : goal.returns-in_err-reach-clause-storage_faults
-returns-in_err-reach-clause-storage_faults g c = told_after _ _ _ c.reach_room.result c.in_err-reach.field-0.0 c.from_residual.result c.search.invariant.faults c.reach_room.ensures.storage_faults c.in_err-reach.was c.from_residual.ensures
+pub returns-in_err-reach-clause-fails : goal.returns-in_err-reach-clause-fails
+returns-in_err-reach-clause-fails g c = fails_on c.from_residual.result c.in_err-reach.field-0.0 c.from_residual.ensures (fails_since c.search.invariant.faults c.in_err-reach.ensures.fails)
 
 pub returns-in_err-reach-clause-blocks : goal.returns-in_err-reach-clause-blocks
 returns-in_err-reach-clause-blocks g c = if_no_ok _ c.from_residual.result c.in_err-reach.field-0.0 c.from_residual.ensures
@@ -264,17 +134,11 @@ returns-in_err-reach-clause-above g c = if_no_ok _ c.from_residual.result c.in_e
 pub returns-in_err-reach-clause-below : goal.returns-in_err-reach-clause-below
 returns-in_err-reach-clause-below g c = if_no_ok _ c.from_residual.result c.in_err-reach.field-0.0 c.from_residual.ensures
 
-pub returns-in_err-reach-clause-lowest : goal.returns-in_err-reach-clause-lowest
-returns-in_err-reach-clause-lowest g c = λ _ _ _. if_no_ok _ c.from_residual.result c.in_err-reach.field-0.0 c.from_residual.ensures
+pub returns-in_err-leave_run-clause-step : goal.returns-in_err-leave_run-clause-step
+returns-in_err-leave_run-clause-step g c = table_step_then (table_step_then c.search.invariant.step c.reach_room.ensures.step) c.leave_run.ensures.step
 
-pub returns-in_err-leave_run-clause-marks : goal.returns-in_err-leave_run-clause-marks
-returns-in_err-leave_run-clause-marks g c = kept_marks_then (kept_marks_then c.search.invariant.marks c.reach_room.ensures.marks) c.leave_run.ensures.marks
-
-pub returns-in_err-leave_run-clause-cause : goal.returns-in_err-leave_run-clause-cause
-returns-in_err-leave_run-clause-cause g c = handed_cause c.from_residual-in_err-leave_run.result c.in_err-leave_run.field-0.0 c.from_residual-in_err-leave_run.ensures c.in_err-leave_run.ensures.cause
-
-pub returns-in_err-leave_run-clause-storage_faults : goal.returns-in_err-leave_run-clause-storage_faults
-returns-in_err-leave_run-clause-storage_faults g c = told_after _ _ _ c.leave_run.result c.in_err-leave_run.field-0.0 c.from_residual-in_err-leave_run.result (c.in_ok-reach.ensures.storage_faults.told ∙ c.search.invariant.faults) c.leave_run.ensures.storage_faults c.in_err-leave_run.was c.from_residual-in_err-leave_run.ensures
+pub returns-in_err-leave_run-clause-fails : goal.returns-in_err-leave_run-clause-fails
+returns-in_err-leave_run-clause-fails g c = fails_on c.from_residual-in_err-leave_run.result c.in_err-leave_run.field-0.0 c.from_residual-in_err-leave_run.ensures (fails_since (c.in_ok-reach.ensures.fails.told ∙ c.search.invariant.faults) c.in_err-leave_run.ensures.fails)
 
 pub returns-in_err-leave_run-clause-blocks : goal.returns-in_err-leave_run-clause-blocks
 returns-in_err-leave_run-clause-blocks g c = if_no_ok _ c.from_residual-in_err-leave_run.result c.in_err-leave_run.field-0.0 c.from_residual-in_err-leave_run.ensures
@@ -288,26 +152,17 @@ returns-in_err-leave_run-clause-above g c = if_no_ok _ c.from_residual-in_err-le
 pub returns-in_err-leave_run-clause-below : goal.returns-in_err-leave_run-clause-below
 returns-in_err-leave_run-clause-below g c = if_no_ok _ c.from_residual-in_err-leave_run.result c.in_err-leave_run.field-0.0 c.from_residual-in_err-leave_run.ensures
 
-pub returns-in_err-leave_run-clause-lowest : goal.returns-in_err-leave_run-clause-lowest
-returns-in_err-leave_run-clause-lowest g c = λ _ _ _. if_no_ok _ c.from_residual-in_err-leave_run.result c.in_err-leave_run.field-0.0 c.from_residual-in_err-leave_run.ensures
-
-pub returns-in_err-reach-clause-header : goal.returns-in_err-reach-clause-header
-returns-in_err-reach-clause-header g c = c.reach_room.ensures.header ∙ c.search.invariant.header
-
-pub returns-in_err-reach-clause-list : goal.returns-in_err-reach-clause-list
-returns-in_err-reach-clause-list g c = c.reach_room.ensures.list ∙ c.search.invariant.list
-
 pub returns-in_err-reach-clause-reftable : goal.returns-in_err-reach-clause-reftable
 returns-in_err-reach-clause-reftable g c = ap (λ (a : Allocator). a.reftable) c.reach_room.ensures.same ∙ c.search.invariant.reftable
 
 pub returns-in_err-reach-clause-first : goal.returns-in_err-reach-clause-first
 returns-in_err-reach-clause-first g c = ap (λ (a : Allocator). a.first_free_cluster) c.reach_room.ensures.same ∙ c.search.invariant.first_free
 
-pub returns-then-reach-clusters-clause-header : goal.returns-then-reach-clusters-clause-header
-returns-then-reach-clusters-clause-header g c = c.reach_room.ensures.header ∙ c.search.invariant.header
+pub returns-then-reach-clusters-clause-step : goal.returns-then-reach-clusters-clause-step
+returns-then-reach-clusters-clause-step g c = table_step_then c.search.invariant.step c.reach_room.ensures.step
 
-pub returns-then-reach-clusters-clause-list : goal.returns-then-reach-clusters-clause-list
-returns-then-reach-clusters-clause-list g c = c.reach_room.ensures.list ∙ c.search.invariant.list
+pub returns-then-reach-clusters-clause-fails : goal.returns-then-reach-clusters-clause-fails
+returns-then-reach-clusters-clause-fails g c = fails_ok (c.in_ok-reach.ensures.fails.told ∙ c.search.invariant.faults)
 
 pub returns-then-reach-clusters-clause-reftable : goal.returns-then-reach-clusters-clause-reftable
 returns-then-reach-clusters-clause-reftable g c = ap (λ (a : Allocator). a.reftable) c.reach_room.ensures.same ∙ c.search.invariant.reftable
@@ -315,38 +170,20 @@ returns-then-reach-clusters-clause-reftable g c = ap (λ (a : Allocator). a.reft
 pub returns-then-reach-clusters-clause-first : goal.returns-then-reach-clusters-clause-first
 returns-then-reach-clusters-clause-first g c = ap (λ (a : Allocator). a.first_free_cluster) c.reach_room.ensures.same ∙ c.search.invariant.first_free
 
-pub returns-in_err-leave_run-clause-header : goal.returns-in_err-leave_run-clause-header
-returns-in_err-leave_run-clause-header g c = c.leave_run.ensures.header ∙ c.reach_room.ensures.header ∙ c.search.invariant.header
-
-pub returns-in_err-leave_run-clause-list : goal.returns-in_err-leave_run-clause-list
-returns-in_err-leave_run-clause-list g c = c.leave_run.ensures.list ∙ c.reach_room.ensures.list ∙ c.search.invariant.list
-
 pub returns-in_err-leave_run-clause-reftable : goal.returns-in_err-leave_run-clause-reftable
 returns-in_err-leave_run-clause-reftable g c = c.leave_run.ensures.reftable ∙ ap (λ (a : Allocator). a.reftable) c.reach_room.ensures.same ∙ c.search.invariant.reftable
 
 pub returns-in_err-leave_run-clause-first : goal.returns-in_err-leave_run-clause-first
 returns-in_err-leave_run-clause-first g c = c.leave_run.ensures.first ∙ ap (λ (a : Allocator). a.first_free_cluster) c.reach_room.ensures.same ∙ c.search.invariant.first_free
 
-pub returns-then-reach-clusters-clause-marks : goal.returns-then-reach-clusters-clause-marks
-returns-then-reach-clusters-clause-marks g c = kept_marks_then c.search.invariant.marks c.reach_room.ensures.marks
-
-pub returns-then-reach-clusters-clause-cause : goal.returns-then-reach-clusters-clause-cause
-returns-then-reach-clusters-clause-cause g c = tt
-
-pub returns-then-reach-clusters-clause-storage_faults : goal.returns-then-reach-clusters-clause-storage_faults
-returns-then-reach-clusters-clause-storage_faults g c = told_ok _ _ _ (c.in_ok-reach.ensures.storage_faults.told ∙ c.search.invariant.faults)
-
 pub returns-then-reach-clusters-clause-above : goal.returns-then-reach-clusters-clause-above
 returns-then-reach-clusters-clause-above g c = c.search.invariant.some
 
-pub returns-clause-marks : goal.returns-clause-marks
-returns-clause-marks g c = c.search.invariant.marks
+pub returns-clause-step : goal.returns-clause-step
+returns-clause-step g c = c.search.invariant.step
 
-pub returns-clause-header : goal.returns-clause-header
-returns-clause-header g c = c.search.invariant.header
-
-pub returns-clause-list : goal.returns-clause-list
-returns-clause-list g c = c.search.invariant.list
+pub returns-clause-fails : goal.returns-clause-fails
+returns-clause-fails g c = fails_by I.Limit limit_other c.search.invariant.faults tt
 
 pub returns-clause-reftable : goal.returns-clause-reftable
 returns-clause-reftable g c = c.search.invariant.reftable
@@ -354,60 +191,103 @@ returns-clause-reftable g c = c.search.invariant.reftable
 pub returns-clause-first : goal.returns-clause-first
 returns-clause-first g c = c.search.invariant.first_free
 
-pub returns-clause-cause : goal.returns-clause-cause
-returns-clause-cause g c = tt
-
-pub returns-clause-storage_faults : goal.returns-clause-storage_faults
-returns-clause-storage_faults g c = told_limit _ _ c.search.invariant.faults
-
-pub returns-in_err-leave_run-clause-leaks : goal.returns-in_err-leave_run-clause-leaks
-returns-in_err-leave_run-clause-leaks g c = λ p sound.
+pub returns-in_err-leave_run-clause-sound : goal.returns-in_err-leave_run-clause-sound
+returns-in_err-leave_run-clause-sound g c = λ p sound.
     let view = g.S.Storage.view in
     let before = c.search.invariant.sound p sound in
     let reached = c.in_ok-reach.ensures.sound p (is_sound_now view p p c.args.file.now c.search.file c.search.self before) in
     let t_same : c.search.self.reftable ≡ c.reach_room.new.self.reftable = ap (λ a. a.reftable) (sym c.reach_room.ensures.same) in
     let same = run_of_same p c.search.file.header.fields c.search.file.header.fields c.search.self.reftable c.reach_room.new.self.reftable c.search.first c.in_ok-reach.reach.taken c.in_ok-reach.reach.taken refl t_same refl in
-    c.leave_run.ensures.leaks p c.search.file (sym c.reach_room.ensures.header) (subst (λ (r : Pending). UnseenAllocatorStep view p c.search.file c.reach_room.new.self c.reach_room.new.file r) same reached)
-    ∙ ap (λ (a : Allocator). a.leaked_clusters) c.reach_room.ensures.same ∙ c.search.invariant.leaks p sound
+    let noted = noted_of_same c.search.file.header.fields c.search.self.reftable c.reach_room.new.self.reftable c.search.first c.in_ok-reach.reach.taken c.reach_room.new.file.caches.is_changed t_same c.in_ok-reach.ensures.noted in
+    let back = ((c.in_err-leave_run.ensures.sound p c.search.file (sym c.reach_room.ensures.step.header) (subst (λ (r : Pending). UnseenAllocatorStep view p c.search.file c.reach_room.new.self c.reach_room.new.file r) same reached)).gives noted) in
+    record {
+      takes = handed_on (TakesRoom view p c.args.file.now c.leave_run.new.self c.leave_run.new.file c.args.self.now.reftable) c.from_residual-in_err-leave_run.result c.in_err-leave_run.field-0.0 c.from_residual-in_err-leave_run.ensures
+          (leaves_then view p c.args.file.now c.search.file c.leave_run.new.file c.leave_run.new.self c.in_err-leave_run.field-0.0 before.file_step back.1);
+      leaks = (c.leave_run.ensures.sound p c.search.file (sym c.reach_room.ensures.step.header) (subst (λ (r : Pending). UnseenAllocatorStep view p c.search.file c.reach_room.new.self c.reach_room.new.file r) same reached)).leaks
+          ∙ ap (λ (a : Allocator). a.leaked_clusters) c.reach_room.ensures.same ∙ c.search.invariant.leaks p sound;
+      lowest = λ _. if_no_ok _ c.from_residual-in_err-leave_run.result c.in_err-leave_run.field-0.0 c.from_residual-in_err-leave_run.ensures;
+      limit = λ hint. handed_on (λ (r : Result Room ImageError). IfErr r (IsFaultOr (HasNoRoomBelow (IsUsed view c.leave_run.new.file) c.leave_run.new.file.header.fields (λ k. 0) c.args.self.now.reftable c.args.clusters c.args.end))) c.from_residual-in_err-leave_run.result c.in_err-leave_run.field-0.0 c.from_residual-in_err-leave_run.ensures
+          (inl back.0);
+    }
 
-pub returns-in_err-first-clause-leaks : goal.returns-in_err-first-clause-leaks
-returns-in_err-first-clause-leaks g c = λ p sound.
+pub returns-in_err-first-clause-sound : goal.returns-in_err-first-clause-sound
+returns-in_err-first-clause-sound g c = λ p sound.
     let view = g.S.Storage.view in
     let before = c.search.invariant.sound p sound in
     let reached = c.in_ok-reach.ensures.sound p (is_sound_now view p p c.args.file.now c.search.file c.search.self before) in
     let t_same : c.search.self.reftable ≡ c.reach_room.new.self.reftable = ap (λ a. a.reftable) (sym c.reach_room.ensures.same) in
     let same = run_of_same p c.search.file.header.fields c.search.file.header.fields c.search.self.reftable c.reach_room.new.self.reftable c.search.first c.in_ok-reach.reach.taken c.in_ok-reach.reach.taken refl t_same refl in
-    c.leave_run.ensures.leaks p c.search.file (sym c.reach_room.ensures.header) (subst (λ (r : Pending). UnseenAllocatorStep view p c.search.file c.reach_room.new.self c.reach_room.new.file r) same reached)
-    ∙ ap (λ (a : Allocator). a.leaked_clusters) c.reach_room.ensures.same ∙ c.search.invariant.leaks p sound
+    let noted = noted_of_same c.search.file.header.fields c.search.self.reftable c.reach_room.new.self.reftable c.search.first c.in_ok-reach.reach.taken c.reach_room.new.file.caches.is_changed t_same c.in_ok-reach.ensures.noted in
+    let back = ((c.in_ok-leave_run.ensures.sound p c.search.file (sym c.reach_room.ensures.step.header) (subst (λ (r : Pending). UnseenAllocatorStep view p c.search.file c.reach_room.new.self c.reach_room.new.file r) same reached)).gives noted) in
+    let mid = allocator_step_then view p p c.args.file.now c.search.file c.leave_run.new.file c.search.self c.leave_run.new.self before back in
+    let there = is_sound_now view p p c.args.file.now c.leave_run.new.file c.leave_run.new.self mid in
+    record {
+      takes = handed_on (TakesRoom view p c.args.file.now c.leave_run.new.self c.behind_used.new.file c.args.self.now.reftable) c.from_residual-in_err-first.result c.in_err-first.field-0.0 c.from_residual-in_err-first.ensures
+          (leaves_then view p c.args.file.now c.leave_run.new.file c.behind_used.new.file c.leave_run.new.self c.in_err-first.field-0.0 mid.file_step (c.in_err-first.ensures.sound p there).1);
+      leaks = (c.leave_run.ensures.sound p c.search.file (sym c.reach_room.ensures.step.header) (subst (λ (r : Pending). UnseenAllocatorStep view p c.search.file c.reach_room.new.self c.reach_room.new.file r) same reached)).leaks
+          ∙ ap (λ (a : Allocator). a.leaked_clusters) c.reach_room.ensures.same ∙ c.search.invariant.leaks p sound;
+      lowest = λ _. if_no_ok _ c.from_residual-in_err-first.result c.in_err-first.field-0.0 c.from_residual-in_err-first.ensures;
+      limit = λ hint. handed_on (λ (r : Result Room ImageError). IfErr r (IsFaultOr (HasNoRoomBelow (IsUsed view c.behind_used.new.file) c.behind_used.new.file.header.fields (λ k. 0) c.args.self.now.reftable c.args.clusters c.args.end))) c.from_residual-in_err-first.result c.in_err-first.field-0.0 c.from_residual-in_err-first.ensures
+          (inl (c.in_err-first.ensures.sound p there).0);
+    }
 
-pub returns-in_err-reach-clause-leaks : goal.returns-in_err-reach-clause-leaks
-returns-in_err-reach-clause-leaks g c = λ p sound. ap (λ (a : Allocator). a.leaked_clusters) c.reach_room.ensures.same ∙ c.search.invariant.leaks p sound
+pub returns-in_err-reach-clause-sound : goal.returns-in_err-reach-clause-sound
+returns-in_err-reach-clause-sound g c = λ p sound.
+    let view = g.S.Storage.view in
+    let before = c.search.invariant.sound p sound in
+    record {
+      takes = handed_on (TakesRoom view p c.args.file.now c.reach_room.new.self c.reach_room.new.file c.args.self.now.reftable) c.from_residual.result c.in_err-reach.field-0.0 c.from_residual.ensures
+          (leaves_then view p c.args.file.now c.search.file c.reach_room.new.file c.reach_room.new.self c.in_err-reach.field-0.0 before.file_step
+          (c.in_err-reach.ensures.sound p (is_sound_now view p p c.args.file.now c.search.file c.search.self before)).1);
+      leaks = ap (λ (a : Allocator). a.leaked_clusters) c.reach_room.ensures.same ∙ c.search.invariant.leaks p sound;
+      lowest = λ _. if_no_ok _ c.from_residual.result c.in_err-reach.field-0.0 c.from_residual.ensures;
+      limit = λ hint. handed_on (λ (r : Result Room ImageError). IfErr r (IsFaultOr (HasNoRoomBelow (IsUsed view c.reach_room.new.file) c.reach_room.new.file.header.fields (λ k. 0) c.args.self.now.reftable c.args.clusters c.args.end))) c.from_residual.result c.in_err-reach.field-0.0 c.from_residual.ensures
+          (inl (c.in_err-reach.ensures.sound p (is_sound_now view p p c.args.file.now c.search.file c.search.self before)).0);
+    }
 
-pub returns-then-reach-clusters-clause-leaks : goal.returns-then-reach-clusters-clause-leaks
-returns-then-reach-clusters-clause-leaks g c = λ p sound. ap (λ (a : Allocator). a.leaked_clusters) c.reach_room.ensures.same ∙ c.search.invariant.leaks p sound
+pub returns-then-reach-clusters-clause-sound : goal.returns-then-reach-clusters-clause-sound
+returns-then-reach-clusters-clause-sound g c = λ p sound.
+    let view = g.S.Storage.view in
+    let before = c.search.invariant.sound p sound in
+    let t = c.args.self.now.reftable in
+    record {
+      takes = let reached = c.in_ok-reach.ensures.sound p (is_sound_now view p p c.args.file.now c.search.file c.search.self before) in
+          let h = c.args.file.now.header.fields in
+          let same = run_of_same p c.search.file.header.fields h c.search.self.reftable t c.search.first c.in_ok-reach.reach.taken (c.in_ok-reach.reach.blocks + c.args.clusters) (ap (λ x. x.fields) c.search.invariant.step.header) c.search.invariant.reftable c.if-reach-clusters.true in
+          allocator_step_then view p (with_run p h t c.search.first (c.in_ok-reach.reach.blocks + c.args.clusters)) c.args.file.now c.search.file c.reach_room.new.file c.search.self c.reach_room.new.self before
+          (subst (λ (r : Pending). UnseenAllocatorStep view p c.search.file c.reach_room.new.self c.reach_room.new.file r) same reached);
+      leaks = ap (λ (a : Allocator). a.leaked_clusters) c.reach_room.ensures.same ∙ c.search.invariant.leaks p sound;
+      lowest = λ hint. let now = is_sound_now view p p c.args.file.now c.search.file c.search.self before in
+          let reached = c.in_ok-reach.ensures.sound p now in
+          let per = ap (λ (h : HeaderView). counts_per_block h.fields) (c.reach_room.ensures.step.header ∙ c.search.invariant.step.header) in
+          let full = full_stays view c.search.file c.reach_room.new.file t (counts_per_block c.args.file.now.header.fields) c.args.clusters c.args.end c.search.first
+          (λ k used. used_stays view p (with_run p c.search.file.header.fields c.search.self.reftable c.search.first c.in_ok-reach.reach.taken) c.search.file c.reach_room.new.file c.reach_room.new.self k reached (omega arith) used) (c.search.invariant.full p sound hint) in
+          subst (λ n. IsFullBelow view c.reach_room.new.file t n c.args.clusters c.args.end c.search.first) (sym per) full;
+      limit = λ _. tt;
+    }
 
-pub returns-clause-leaks : goal.returns-clause-leaks
-returns-clause-leaks g c = λ p sound. c.search.invariant.leaks p sound
-
-pub returns-in_err-reach-clause-header_cluster : goal.returns-in_err-reach-clause-header_cluster
-returns-in_err-reach-clause-header_cluster g c = spares_then c.search.invariant.spared c.reach_room.ensures.header_cluster
-
-pub returns-then-reach-clusters-clause-header_cluster : goal.returns-then-reach-clusters-clause-header_cluster
-returns-then-reach-clusters-clause-header_cluster g c = spares_then c.search.invariant.spared c.reach_room.ensures.header_cluster
-
-pub returns-in_err-leave_run-clause-header_cluster : goal.returns-in_err-leave_run-clause-header_cluster
-returns-in_err-leave_run-clause-header_cluster g c = spares_then (spares_then c.search.invariant.spared c.reach_room.ensures.header_cluster) (c.leave_run.ensures.header_cluster)
-
-pub returns-in_err-first-clause-header_cluster : goal.returns-in_err-first-clause-header_cluster
-returns-in_err-first-clause-header_cluster g c = spares_then (spares_then (spares_then c.search.invariant.spared c.reach_room.ensures.header_cluster) (c.leave_run.ensures.header_cluster)) (c.behind_used.ensures.header_cluster)
-
-pub returns-clause-header_cluster : goal.returns-clause-header_cluster
-returns-clause-header_cluster g c = c.search.invariant.spared
+pub returns-clause-sound : goal.returns-clause-sound
+returns-clause-sound g c = λ p sound.
+    record {
+      takes = let before = c.search.invariant.sound p sound in inl (before.file_step, before.reftable);
+      leaks = c.search.invariant.leaks p sound;
+      lowest = λ _. tt;
+      limit = λ hint. let t = c.args.self.now.reftable in
+          inr (
+            refl,
+            λ start n above is within.
+                let e : opened t (counts_per_block c.search.file.header.fields) start n ≡ opened t (counts_per_block c.args.file.now.header.fields) start n = ap (λ (h : HeaderView). opened t (counts_per_block h.fields) start n) c.search.invariant.step.header in
+                let past = c.search-test.false in
+                let some = c.requires.some in
+                let at = c.search.invariant.full p sound hint start n above (omega (arith, past, some, is, within)) (is ∙ ap (λ m. m + c.args.clusters) e) within in
+                (at.0, at.1, at.2, inl at.4),
+          );
+    }
 
 pub returns-then-reach-clusters-clause-noted : goal.returns-then-reach-clusters-clause-noted
 returns-then-reach-clusters-clause-noted g c =
     noted_of_room c.search.file.header.fields c.args.file.now.header.fields c.search.self.reftable c.args.self.now.reftable c.search.first c.in_ok-reach.reach.taken (c.in_ok-reach.reach.blocks + c.args.clusters) c.reach_room.new.file.caches.is_changed
-    (ap (λ x. x.fields) c.search.invariant.header) c.search.invariant.reftable c.if-reach-clusters.true c.in_ok-reach.ensures.noted
+    (ap (λ x. x.fields) c.search.invariant.step.header) c.search.invariant.reftable c.if-reach-clusters.true c.in_ok-reach.ensures.noted
 
 pub returns-in_err-reach-clause-noted : goal.returns-in_err-reach-clause-noted
 returns-in_err-reach-clause-noted g c = if_no_ok _ c.from_residual.result c.in_err-reach.field-0.0 c.from_residual.ensures

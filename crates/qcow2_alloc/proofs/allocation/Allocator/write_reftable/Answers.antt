@@ -1,4 +1,4 @@
-use Rattle.std.proofs.Common.{◌≡◌, ℕ, ◌+◌, ◌*◌, ◌<◌, ◌≤◌, sym, ap, ◌∙◌, subst, arith, Some, refl, inl}
+use Rattle.std.proofs.Common.{◌≡◌, ℕ, ◌+◌, ◌*◌, ◌<◌, ◌≤◌, sym, ap, ◌∙◌, subst, arith, Some, refl, inl, Err}
 use Rattle.qcow2_metadata.specs.declared.header.HeaderFields.{HeaderFields}
 use Rattle.qcow2_metadata.specs.EntryTable.{EntryTableView}
 use Rattle.qcow2_metadata.specs.Header.{cluster_size, HeaderView}
@@ -6,7 +6,7 @@ use Rattle.qcow2_laws.specs.Caches.{AreClean}
 use Rattle.qcow2_alloc.specs.declared.cache.MetadataCaches.{MetadataCaches}
 use Rattle.qcow2_alloc.specs.Allocation.{run_at, NamesLacking, StandAt}
 use Rattle.qcow2_alloc.specs.GrownTables.{with_run, NamesReftable, StandsGrown}
-use Rattle.qcow2_alloc.specs.ImageFile.{contents_in, AllocatorInvariant, view_in}
+use Rattle.qcow2_alloc.specs.ImageFile.{contents_in, AllocatorInvariant}
 use Rattle.qcow2_alloc.specs.LowestRuns.{KeepsUsed}
 use Rattle.qcow2_alloc.specs.MetadataCaches.{order_of, l2_tables, refblocks, rb_at}
 use Rattle.qcow2_alloc.specs.Rooms.{room_length, placed_at}
@@ -17,17 +17,12 @@ use Rattle.qcow2_alloc.proofs.PlacedRooms.{Counting}
 use Rattle.qcow2_alloc.proofs.RoomSteps.{may_go}
 use Rattle.qcow2_alloc.proofs.RoomTables.{counting_beside, table_err, table_ok, stands_ready, names_then, uses_after}
 use Rattle.qcow2_alloc.proofs.Hints.{ok_as, uses_refused}
-use Rattle.qcow2_alloc.proofs.ListedAfter.{header_then, header_same}
-use Rattle.qcow2_alloc.proofs.Faults.{told_on, told_since}
-use Rattle.qcow2_alloc.proofs.Outcomes.{told_after, on_no_ok, handed_cause, on_err, on_ok}
+use Rattle.qcow2_alloc.proofs.Outcomes.{on_no_ok, on_err, on_ok}
 use Rattle.std.proofs.lemmas.Bool.{or_left}
 use Rattle.qcow2_alloc.specs.ImageStorage.{is_changed_of}
-use Rattle.std.proofs.Math.Nat.{le_trans}
-use Rattle.qcow2_alloc.proofs.SparedHeaders.{spares_cached, spares_then, spares_parts, spares_less}
-use Rattle.qcow2_alloc.specs.SparedHeaders.{AreBehindHeader}
-use Rattle.qcow2_alloc.specs.HeaderClusters.{KeepsHeaderCluster}
 use Rattle.std.specs.Prelude.{IfSome}
-use Rattle.qcow2_alloc.proofs.KeptMarks.{kept_marks_then, marks_of_storage, marks_of_both}
+use Rattle.qcow2_alloc.proofs.KeptMarks.{marks_of_both}
+use Rattle.qcow2_alloc.proofs.Steps.{fails_of, fails_on, fails_since, pointer_step_on, pointer_step_then, table_step_cached, table_step_then, table_step_part}
 use Rattle.qcow2_alloc.proofs.allocation.Allocator.write_reftable.Goals as goal
 
 pub returns-in_err-flush_rb-clause-sound : goal.returns-in_err-flush_rb-clause-sound
@@ -36,8 +31,6 @@ returns-in_err-flush_rb-clause-sound g c = λ p sound longer.
     let old = c.args.file.now in
     let a = c.args.self.now in
     let h = c.args.file.now.header.fields in
-    let first = c.args.room.first in
-    let n = room_length c.args.room in
     let q = with_run p c.args.file.now.header.fields c.args.self.now.reftable c.args.room.first (room_length c.args.room) in
     let one = allocator_step_cached view q old a c.flush_rb.new.storage c.flush_rb.new.self sound (c.flush_rb.ensures.keeps h q sound.sound.honest sound.sound.caches) c.flush_rb.ensures.marks in
     let f1 = record old { storage = c.flush_rb.new.storage; caches = c.flush_rb.new.self } in
@@ -49,11 +42,8 @@ returns-in_err-flush_rb-clause-uses g c = λ p sound longer.
     let view = g.S.Storage.view in
     let old = c.args.file.now in
     let a = c.args.self.now in
-    let h = c.args.file.now.header.fields in
-    let first = c.args.room.first in
-    let n = room_length c.args.room in
     let q = with_run p c.args.file.now.header.fields c.args.self.now.reftable c.args.room.first (room_length c.args.room) in
-    let one = allocator_step_cached view q old a c.flush_rb.new.storage c.flush_rb.new.self sound (c.flush_rb.ensures.keeps h q sound.sound.honest sound.sound.caches) c.flush_rb.ensures.marks in
+    let one = allocator_step_cached view q old a c.flush_rb.new.storage c.flush_rb.new.self sound (c.flush_rb.ensures.keeps c.args.file.now.header.fields q sound.sound.honest sound.sound.caches) c.flush_rb.ensures.marks in
     let f1 = record old { storage = c.flush_rb.new.storage; caches = c.flush_rb.new.self } in
     handed_on (KeepsUsed view old f1) c.from_residual.result c.in_err-flush_rb.field-0.0 c.from_residual.ensures
     (uses_refused view q old f1 a c.in_err-flush_rb.field-0.0 (inl (one.file_step, one.reftable)))
@@ -63,11 +53,8 @@ returns-in_err-place_blocks-clause-sound g c = λ p sound longer.
     let view = g.S.Storage.view in
     let old = c.args.file.now in
     let a = c.args.self.now in
-    let h = c.args.file.now.header.fields in
-    let first = c.args.room.first in
-    let n = room_length c.args.room in
     let q = with_run p c.args.file.now.header.fields c.args.self.now.reftable c.args.room.first (room_length c.args.room) in
-    let one = allocator_step_cached view q old a c.flush_rb.new.storage c.flush_rb.new.self sound (c.flush_rb.ensures.keeps h q sound.sound.honest sound.sound.caches) c.flush_rb.ensures.marks in
+    let one = allocator_step_cached view q old a c.flush_rb.new.storage c.flush_rb.new.self sound (c.flush_rb.ensures.keeps c.args.file.now.header.fields q sound.sound.honest sound.sound.caches) c.flush_rb.ensures.marks in
     let f1 = record old { storage = c.flush_rb.new.storage; caches = c.flush_rb.new.self } in
     let refused = c.in_err-place_blocks.ensures.sound p (is_sound_now view q q old f1 a one) c.in_ok-flush_rb.ensures.first longer in
     handed_on (NamesReftable view q p old a c.place_blocks.new.file) c.from_residual-in_err-place_blocks.result c.in_err-place_blocks.field-0.0 c.from_residual-in_err-place_blocks.ensures
@@ -78,11 +65,8 @@ returns-in_err-place_blocks-clause-uses g c = λ p sound longer.
     let view = g.S.Storage.view in
     let old = c.args.file.now in
     let a = c.args.self.now in
-    let h = c.args.file.now.header.fields in
-    let first = c.args.room.first in
-    let n = room_length c.args.room in
     let q = with_run p c.args.file.now.header.fields c.args.self.now.reftable c.args.room.first (room_length c.args.room) in
-    let one = allocator_step_cached view q old a c.flush_rb.new.storage c.flush_rb.new.self sound (c.flush_rb.ensures.keeps h q sound.sound.honest sound.sound.caches) c.flush_rb.ensures.marks in
+    let one = allocator_step_cached view q old a c.flush_rb.new.storage c.flush_rb.new.self sound (c.flush_rb.ensures.keeps c.args.file.now.header.fields q sound.sound.honest sound.sound.caches) c.flush_rb.ensures.marks in
     let f1 = record old { storage = c.flush_rb.new.storage; caches = c.flush_rb.new.self } in
     let refused = c.in_err-place_blocks.ensures.sound p (is_sound_now view q q old f1 a one) c.in_ok-flush_rb.ensures.first longer in
     handed_on (KeepsUsed view old c.place_blocks.new.file) c.from_residual-in_err-place_blocks.result c.in_err-place_blocks.field-0.0 c.from_residual-in_err-place_blocks.ensures
@@ -102,8 +86,8 @@ returns-in_err-place_table-clause-sound g c = λ p sound longer.
     let placed = c.in_ok-place_blocks.ensures.sound p (is_sound_now view q q old f1 a one) c.in_ok-flush_rb.ensures.first longer in
     let f2 = c.place_blocks.new.file in
     let two = allocator_step_then view q q old f1 f2 a a one placed.allocator_step in
-    let header_two = ap (λ x. x.fields) c.place_blocks.ensures.header in
-    let may_two = may_go f1 f2 c.place_blocks.ensures.marks.order c.place_blocks.ensures.tables c.in_ok-flush_rb.ensures.first in
+    let header_two = ap (λ x. x.fields) c.place_blocks.ensures.step.header in
+    let may_two = may_go f1 f2 c.place_blocks.ensures.step.marks.order c.place_blocks.ensures.tables c.in_ok-flush_rb.ensures.first in
     let at_is = c.new.ensures in
     let low : c.args.room.first ≤ c.new.result = omega (arith, at_is) in
     let high : c.new.result + c.args.room.clusters ≤ c.args.room.first + room_length c.args.room = omega (arith, at_is) in
@@ -128,8 +112,8 @@ returns-in_err-place_table-clause-uses g c = λ p sound longer.
     let placed = c.in_ok-place_blocks.ensures.sound p (is_sound_now view q q old f1 a one) c.in_ok-flush_rb.ensures.first longer in
     let f2 = c.place_blocks.new.file in
     let two = allocator_step_then view q q old f1 f2 a a one placed.allocator_step in
-    let header_two = ap (λ x. x.fields) c.place_blocks.ensures.header in
-    let may_two = may_go f1 f2 c.place_blocks.ensures.marks.order c.place_blocks.ensures.tables c.in_ok-flush_rb.ensures.first in
+    let header_two = ap (λ x. x.fields) c.place_blocks.ensures.step.header in
+    let may_two = may_go f1 f2 c.place_blocks.ensures.step.marks.order c.place_blocks.ensures.tables c.in_ok-flush_rb.ensures.first in
     let at_is = c.new.ensures in
     let low : c.args.room.first ≤ c.new.result = omega (arith, at_is) in
     let high : c.new.result + c.args.room.clusters ≤ c.args.room.first + room_length c.args.room = omega (arith, at_is) in
@@ -154,8 +138,8 @@ returns-clause-sound g c = λ p sound longer.
     let placed = c.in_ok-place_blocks.ensures.sound p (is_sound_now view q q old f1 a one) c.in_ok-flush_rb.ensures.first longer in
     let f2 = c.place_blocks.new.file in
     let two = allocator_step_then view q q old f1 f2 a a one placed.allocator_step in
-    let header_two = ap (λ x. x.fields) c.place_blocks.ensures.header in
-    let may_two = may_go f1 f2 c.place_blocks.ensures.marks.order c.place_blocks.ensures.tables c.in_ok-flush_rb.ensures.first in
+    let header_two = ap (λ x. x.fields) c.place_blocks.ensures.step.header in
+    let may_two = may_go f1 f2 c.place_blocks.ensures.step.marks.order c.place_blocks.ensures.tables c.in_ok-flush_rb.ensures.first in
     let at_is = c.new.ensures in
     let low : c.args.room.first ≤ c.new.result = omega (arith, at_is) in
     let high : c.new.result + c.args.room.clusters ≤ c.args.room.first + room_length c.args.room = omega (arith, at_is) in
@@ -165,7 +149,7 @@ returns-clause-sound g c = λ p sound longer.
     (λ s. c.in_ok-place_table.ensures.sound p first n c.args.room.clusters a s may_two low high bits long) (is_sound_now view q q old f2 a two) in
     let f3 = c.place_table.new.file in
     let three = allocator_step_then view q q old f2 f3 a a two wrote.0 in
-    let header_three = ap (λ x. x.fields) c.place_table.ensures.header ∙ header_two in
+    let header_three = ap (λ x. x.fields) c.place_table.ensures.step.header ∙ header_two in
     let sizes = file_sizes view q old sound.sound in
     let t' = placed_at c.place_blocks.new.table (c.args.room.first + c.args.room.blocks) in
     let outside = λ (k : ℕ) (none : run_at (c.args.room.first + c.args.room.blocks) c.args.room.clusters k ≡ 0). wrote.2 k (ap (λ m. run_at m c.args.room.clusters k) at_is ∙ none) in
@@ -196,8 +180,8 @@ returns-clause-uses g c = λ p sound longer.
     let placed = c.in_ok-place_blocks.ensures.sound p (is_sound_now view q q old f1 a one) c.in_ok-flush_rb.ensures.first longer in
     let f2 = c.place_blocks.new.file in
     let two = allocator_step_then view q q old f1 f2 a a one placed.allocator_step in
-    let header_two = ap (λ x. x.fields) c.place_blocks.ensures.header in
-    let may_two = may_go f1 f2 c.place_blocks.ensures.marks.order c.place_blocks.ensures.tables c.in_ok-flush_rb.ensures.first in
+    let header_two = ap (λ x. x.fields) c.place_blocks.ensures.step.header in
+    let may_two = may_go f1 f2 c.place_blocks.ensures.step.marks.order c.place_blocks.ensures.tables c.in_ok-flush_rb.ensures.first in
     let at_is = c.new.ensures in
     let low : c.args.room.first ≤ c.new.result = omega (arith, at_is) in
     let high : c.new.result + c.args.room.clusters ≤ c.args.room.first + room_length c.args.room = omega (arith, at_is) in
@@ -207,7 +191,7 @@ returns-clause-uses g c = λ p sound longer.
     (λ s. c.in_ok-place_table.ensures.sound p first n c.args.room.clusters a s may_two low high bits long) (is_sound_now view q q old f2 a two) in
     let f3 = c.place_table.new.file in
     let three = allocator_step_then view q q old f2 f3 a a two wrote.0 in
-    let header_three = ap (λ x. x.fields) c.place_table.ensures.header ∙ header_two in
+    let header_three = ap (λ x. x.fields) c.place_table.ensures.step.header ∙ header_two in
     let sizes = file_sizes view q old sound.sound in
     let t' = placed_at c.place_blocks.new.table (c.args.room.first + c.args.room.blocks) in
     let outside = λ (k : ℕ) (none : run_at (c.args.room.first + c.args.room.blocks) c.args.room.clusters k ≡ 0). wrote.2 k (ap (λ m. run_at m c.args.room.clusters k) at_is ∙ none) in
@@ -228,20 +212,14 @@ returns-clause-place g c =
     ok_as (c.name_reftable.new.self.reftable ≡ c.place_table.new.table) (c.name_reftable.new.self.reftable.cluster ≡ Some (c.args.room.first + c.args.room.blocks)) c.name_reftable.result
     (λ is. ap (λ (x : EntryTableView). x.cluster) (is ∙ c.place_table.ensures.table) ∙ ap Some c.new.ensures) c.name_reftable.ensures.table
 
-pub returns-in_err-flush_rb-clause-marks : goal.returns-in_err-flush_rb-clause-marks
-returns-in_err-flush_rb-clause-marks g c = marks_of_both c.flush_rb.ensures.marks c.flush_rb.ensures.order c.flush_rb.ensures.notes
+pub returns-in_err-flush_rb-clause-step : goal.returns-in_err-flush_rb-clause-step
+returns-in_err-flush_rb-clause-step g c = pointer_step_on (table_step_cached (marks_of_both c.flush_rb.ensures.marks c.flush_rb.ensures.order c.flush_rb.ensures.notes) c.flush_rb.ensures.header_cluster)
 
-pub returns-in_err-flush_rb-clause-cause : goal.returns-in_err-flush_rb-clause-cause
-returns-in_err-flush_rb-clause-cause g c = handed_cause c.from_residual.result c.in_err-flush_rb.field-0.0 c.from_residual.ensures c.in_err-flush_rb.ensures.cause
-
-pub returns-in_err-flush_rb-clause-storage_faults : goal.returns-in_err-flush_rb-clause-storage_faults
-returns-in_err-flush_rb-clause-storage_faults g c = told_on _ _ c.flush_rb.result c.in_err-flush_rb.field-0.0 c.from_residual.result c.flush_rb.ensures.storage_faults c.in_err-flush_rb.was c.from_residual.ensures
+pub returns-in_err-flush_rb-clause-fails : goal.returns-in_err-flush_rb-clause-fails
+returns-in_err-flush_rb-clause-fails g c = fails_on c.from_residual.result c.in_err-flush_rb.field-0.0 c.from_residual.ensures (fails_of (Err c.in_err-flush_rb.field-0.0) c.in_err-flush_rb.ensures.storage_faults c.in_err-flush_rb.ensures.cause)
 
 pub returns-in_err-flush_rb-clause-table : goal.returns-in_err-flush_rb-clause-table
 returns-in_err-flush_rb-clause-table g c = on_no_ok _ c.from_residual.result c.in_err-flush_rb.field-0.0 c.from_residual.ensures
-
-pub returns-in_err-flush_rb-clause-header : goal.returns-in_err-flush_rb-clause-header
-returns-in_err-flush_rb-clause-header g c = header_same c.args.file.now.header c.args.file.now.header refl
 
 pub returns-in_err-flush_rb-clause-list : goal.returns-in_err-flush_rb-clause-list
 returns-in_err-flush_rb-clause-list g c = refl
@@ -255,14 +233,12 @@ returns-in_err-flush_rb-clause-kept g c = on_err _ c.from_residual.result refl
 pub returns-in_err-flush_rb-clause-place : goal.returns-in_err-flush_rb-clause-place
 returns-in_err-flush_rb-clause-place g c = on_no_ok _ c.from_residual.result c.in_err-flush_rb.field-0.0 c.from_residual.ensures
 
-pub returns-in_err-place_blocks-clause-marks : goal.returns-in_err-place_blocks-clause-marks
-returns-in_err-place_blocks-clause-marks g c = kept_marks_then (marks_of_both c.flush_rb.ensures.marks c.flush_rb.ensures.order c.flush_rb.ensures.notes) c.place_blocks.ensures.marks
+pub returns-in_err-place_blocks-clause-step : goal.returns-in_err-place_blocks-clause-step
+returns-in_err-place_blocks-clause-step g c = pointer_step_on (table_step_then (table_step_cached (marks_of_both c.flush_rb.ensures.marks c.flush_rb.ensures.order c.flush_rb.ensures.notes) c.flush_rb.ensures.header_cluster)
+    (table_step_part refl c.place_blocks.ensures.step))
 
-pub returns-in_err-place_blocks-clause-cause : goal.returns-in_err-place_blocks-clause-cause
-returns-in_err-place_blocks-clause-cause g c = handed_cause c.from_residual-in_err-place_blocks.result c.in_err-place_blocks.field-0.0 c.from_residual-in_err-place_blocks.ensures c.in_err-place_blocks.ensures.cause
-
-pub returns-in_err-place_blocks-clause-storage_faults : goal.returns-in_err-place_blocks-clause-storage_faults
-returns-in_err-place_blocks-clause-storage_faults g c = told_after _ _ _ c.place_blocks.result c.in_err-place_blocks.field-0.0 c.from_residual-in_err-place_blocks.result c.in_ok-flush_rb.ensures.storage_faults.told c.place_blocks.ensures.storage_faults c.in_err-place_blocks.was c.from_residual-in_err-place_blocks.ensures
+pub returns-in_err-place_blocks-clause-fails : goal.returns-in_err-place_blocks-clause-fails
+returns-in_err-place_blocks-clause-fails g c = fails_on c.from_residual-in_err-place_blocks.result c.in_err-place_blocks.field-0.0 c.from_residual-in_err-place_blocks.ensures (fails_since c.in_ok-flush_rb.ensures.storage_faults.told c.in_err-place_blocks.ensures.fails)
 
 pub returns-in_err-place_blocks-clause-table : goal.returns-in_err-place_blocks-clause-table
 returns-in_err-place_blocks-clause-table g c = on_no_ok _ c.from_residual-in_err-place_blocks.result c.in_err-place_blocks.field-0.0 c.from_residual-in_err-place_blocks.ensures
@@ -270,11 +246,8 @@ returns-in_err-place_blocks-clause-table g c = on_no_ok _ c.from_residual-in_err
 pub returns-in_err-place_blocks-clause-place : goal.returns-in_err-place_blocks-clause-place
 returns-in_err-place_blocks-clause-place g c = on_no_ok _ c.from_residual-in_err-place_blocks.result c.in_err-place_blocks.field-0.0 c.from_residual-in_err-place_blocks.ensures
 
-pub returns-in_err-place_blocks-clause-header : goal.returns-in_err-place_blocks-clause-header
-returns-in_err-place_blocks-clause-header g c = header_same c.args.file.now.header c.place_blocks.new.file.header c.place_blocks.ensures.header
-
 pub returns-in_err-place_blocks-clause-list : goal.returns-in_err-place_blocks-clause-list
-returns-in_err-place_blocks-clause-list g c = c.place_blocks.ensures.list
+returns-in_err-place_blocks-clause-list g c = c.place_blocks.ensures.step.list
 
 pub returns-in_err-place_blocks-clause-first : goal.returns-in_err-place_blocks-clause-first
 returns-in_err-place_blocks-clause-first g c = refl
@@ -282,21 +255,16 @@ returns-in_err-place_blocks-clause-first g c = refl
 pub returns-in_err-place_blocks-clause-kept : goal.returns-in_err-place_blocks-clause-kept
 returns-in_err-place_blocks-clause-kept g c = on_err _ c.from_residual-in_err-place_blocks.result refl
 
-pub returns-in_err-place_table-clause-marks : goal.returns-in_err-place_table-clause-marks
-returns-in_err-place_table-clause-marks g c =
-    kept_marks_then (kept_marks_then (marks_of_both c.flush_rb.ensures.marks c.flush_rb.ensures.order c.flush_rb.ensures.notes) c.place_blocks.ensures.marks) (marks_of_storage c.place_table.ensures.caches c.place_table.ensures.notes)
+pub returns-in_err-place_table-clause-step : goal.returns-in_err-place_table-clause-step
+returns-in_err-place_table-clause-step g c = pointer_step_on (table_step_then (table_step_then (table_step_cached (marks_of_both c.flush_rb.ensures.marks c.flush_rb.ensures.order c.flush_rb.ensures.notes) c.flush_rb.ensures.header_cluster)
+    (table_step_part refl c.place_blocks.ensures.step))
+    (table_step_part (ap (λ (x : EntryTableView). x.cluster_bits) c.place_blocks.ensures.rest ∙ c.requires.bits ∙ sym (ap (λ (x : HeaderView). x.fields.cluster_bits) c.place_blocks.ensures.step.header)) c.place_table.ensures.step))
 
-pub returns-in_err-place_table-clause-cause : goal.returns-in_err-place_table-clause-cause
-returns-in_err-place_table-clause-cause g c = handed_cause c.from_residual-in_err-place_table.result c.in_err-place_table.field-0.0 c.from_residual-in_err-place_table.ensures c.in_err-place_table.ensures.cause
-
-pub returns-in_err-place_table-clause-storage_faults : goal.returns-in_err-place_table-clause-storage_faults
-returns-in_err-place_table-clause-storage_faults g c = told_after _ _ _ c.place_table.result c.in_err-place_table.field-0.0 c.from_residual-in_err-place_table.result (c.in_ok-place_blocks.ensures.storage_faults.told ∙ c.in_ok-flush_rb.ensures.storage_faults.told) c.place_table.ensures.storage_faults c.in_err-place_table.was c.from_residual-in_err-place_table.ensures
-
-pub returns-in_err-place_table-clause-header : goal.returns-in_err-place_table-clause-header
-returns-in_err-place_table-clause-header g c = header_same c.args.file.now.header c.place_table.new.file.header (c.place_table.ensures.header ∙ c.place_blocks.ensures.header)
+pub returns-in_err-place_table-clause-fails : goal.returns-in_err-place_table-clause-fails
+returns-in_err-place_table-clause-fails g c = fails_on c.from_residual-in_err-place_table.result c.in_err-place_table.field-0.0 c.from_residual-in_err-place_table.ensures (fails_since (c.in_ok-place_blocks.ensures.fails.told ∙ c.in_ok-flush_rb.ensures.storage_faults.told) c.in_err-place_table.ensures.fails)
 
 pub returns-in_err-place_table-clause-list : goal.returns-in_err-place_table-clause-list
-returns-in_err-place_table-clause-list g c = c.place_table.ensures.list ∙ c.place_blocks.ensures.list
+returns-in_err-place_table-clause-list g c = c.place_table.ensures.step.list ∙ c.place_blocks.ensures.step.list
 
 pub returns-in_err-place_table-clause-first : goal.returns-in_err-place_table-clause-first
 returns-in_err-place_table-clause-first g c = refl
@@ -310,27 +278,26 @@ returns-in_err-place_table-clause-table g c = on_no_ok _ c.from_residual-in_err-
 pub returns-in_err-place_table-clause-place : goal.returns-in_err-place_table-clause-place
 returns-in_err-place_table-clause-place g c = on_no_ok _ c.from_residual-in_err-place_table.result c.in_err-place_table.field-0.0 c.from_residual-in_err-place_table.ensures
 
-pub returns-clause-marks : goal.returns-clause-marks
-returns-clause-marks g c =
-    kept_marks_then (kept_marks_then (kept_marks_then (marks_of_both c.flush_rb.ensures.marks c.flush_rb.ensures.order c.flush_rb.ensures.notes) c.place_blocks.ensures.marks) (marks_of_storage c.place_table.ensures.caches c.place_table.ensures.notes)) c.name_reftable.ensures.marks
+pub returns-clause-step : goal.returns-clause-step
+returns-clause-step g c = pointer_step_then (pointer_step_on (table_step_then (table_step_then (table_step_cached (marks_of_both c.flush_rb.ensures.marks c.flush_rb.ensures.order c.flush_rb.ensures.notes) c.flush_rb.ensures.header_cluster)
+    (table_step_part refl c.place_blocks.ensures.step))
+    (table_step_part (ap (λ (x : EntryTableView). x.cluster_bits) c.place_blocks.ensures.rest ∙ c.requires.bits ∙ sym (ap (λ (x : HeaderView). x.fields.cluster_bits) c.place_blocks.ensures.step.header)) c.place_table.ensures.step))) (record {
+      header = c.name_reftable.ensures.header;
+      marks = c.name_reftable.ensures.marks;
+      header_cluster = c.name_reftable.ensures.header_cluster (subst (λ (t : EntryTableView). IfSome t.cluster (λ k. 0 < k)) (sym c.place_table.ensures.table) (let above = c.requires.above in let at = c.new.ensures in omega (arith, above, at))) (ap (λ (x : EntryTableView). x.cluster_bits) c.place_table.ensures.table ∙ (ap (λ (x : EntryTableView). x.cluster_bits) c.place_blocks.ensures.rest ∙ c.requires.bits ∙ sym (ap (λ (x : HeaderView). x.fields.cluster_bits) c.place_blocks.ensures.step.header)) ∙ sym (ap (λ (x : HeaderView). x.fields.cluster_bits) c.place_table.ensures.step.header));
+    })
 
-pub returns-clause-header : goal.returns-clause-header
-returns-clause-header g c = header_then c.args.file.now.header c.place_table.new.file.header c.name_reftable.new.file.header (header_same c.args.file.now.header c.place_table.new.file.header (c.place_table.ensures.header ∙ c.place_blocks.ensures.header)) c.name_reftable.ensures.header
+pub returns-clause-fails : goal.returns-clause-fails
+returns-clause-fails g c = fails_since (c.in_ok-place_table.ensures.fails.told ∙ (c.in_ok-place_blocks.ensures.fails.told ∙ c.in_ok-flush_rb.ensures.storage_faults.told)) c.name_reftable.ensures.fails
 
 pub returns-clause-list : goal.returns-clause-list
-returns-clause-list g c = c.name_reftable.ensures.list ∙ c.place_table.ensures.list ∙ c.place_blocks.ensures.list
+returns-clause-list g c = c.name_reftable.ensures.list ∙ c.place_table.ensures.step.list ∙ c.place_blocks.ensures.step.list
 
 pub returns-clause-first : goal.returns-clause-first
 returns-clause-first g c = c.name_reftable.ensures.first
 
-pub returns-clause-cause : goal.returns-clause-cause
-returns-clause-cause g c = c.name_reftable.ensures.cause
-
 pub returns-clause-kept : goal.returns-clause-kept
 returns-clause-kept g c = c.name_reftable.ensures.kept
-
-pub returns-clause-storage_faults : goal.returns-clause-storage_faults
-returns-clause-storage_faults g c = told_since _ _ _ (c.in_ok-place_table.ensures.storage_faults.told ∙ (c.in_ok-place_blocks.ensures.storage_faults.told ∙ c.in_ok-flush_rb.ensures.storage_faults.told)) c.name_reftable.ensures.storage_faults
 
 pub returns-clause-lacking : goal.returns-clause-lacking
 returns-clause-lacking g c =
@@ -347,18 +314,6 @@ returns-in_err-place_blocks-clause-lacking g c = on_no_ok _ c.from_residual-in_e
 
 pub returns-in_err-place_table-clause-lacking : goal.returns-in_err-place_table-clause-lacking
 returns-in_err-place_table-clause-lacking g c = on_no_ok _ c.from_residual-in_err-place_table.result c.in_err-place_table.field-0.0 c.from_residual-in_err-place_table.ensures
-
-pub returns-in_err-flush_rb-clause-header_cluster : goal.returns-in_err-flush_rb-clause-header_cluster
-returns-in_err-flush_rb-clause-header_cluster g c = spares_less (spares_cached c.args.self.now.reftable c.args.file.now c.flush_rb.new.storage c.flush_rb.new.self c.flush_rb.ensures.header_cluster)
-
-pub returns-in_err-place_blocks-clause-header_cluster : goal.returns-in_err-place_blocks-clause-header_cluster
-returns-in_err-place_blocks-clause-header_cluster g c = spares_less (spares_then (spares_cached c.args.self.now.reftable c.args.file.now c.flush_rb.new.storage c.flush_rb.new.self c.flush_rb.ensures.header_cluster) (spares_parts c.args.self.now.reftable c.args.self.now.reftable (record c.args.file.now { storage = c.flush_rb.new.storage; caches = c.flush_rb.new.self }) c.place_blocks.new.file (ap (λ (x : HeaderView). x.fields.cluster_bits) c.place_blocks.ensures.header) refl refl (λ has. has) c.place_blocks.ensures.behind_header (λ n stands. subst (λ m. KeepsHeaderCluster m (view_in g.S.Storage.view (record c.args.file.now { storage = c.flush_rb.new.storage; caches = c.flush_rb.new.self })) (view_in g.S.Storage.view c.place_blocks.new.file)) stands.header c.place_blocks.ensures.header_cluster)))
-
-pub returns-in_err-place_table-clause-header_cluster : goal.returns-in_err-place_table-clause-header_cluster
-returns-in_err-place_table-clause-header_cluster g c = spares_less (spares_then (spares_then (spares_cached c.args.self.now.reftable c.args.file.now c.flush_rb.new.storage c.flush_rb.new.self c.flush_rb.ensures.header_cluster) (spares_parts c.args.self.now.reftable c.args.self.now.reftable (record c.args.file.now { storage = c.flush_rb.new.storage; caches = c.flush_rb.new.self }) c.place_blocks.new.file (ap (λ (x : HeaderView). x.fields.cluster_bits) c.place_blocks.ensures.header) refl refl (λ has. has) c.place_blocks.ensures.behind_header (λ n stands. subst (λ m. KeepsHeaderCluster m (view_in g.S.Storage.view (record c.args.file.now { storage = c.flush_rb.new.storage; caches = c.flush_rb.new.self })) (view_in g.S.Storage.view c.place_blocks.new.file)) stands.header c.place_blocks.ensures.header_cluster))) (spares_parts c.args.self.now.reftable c.args.self.now.reftable c.place_blocks.new.file c.place_table.new.file (ap (λ (x : HeaderView). x.fields.cluster_bits) c.place_table.ensures.header) refl refl (λ has. has) (λ n are. subst (AreBehindHeader n) (sym c.place_table.ensures.caches) are) (λ n stands. subst (λ m. KeepsHeaderCluster m (view_in g.S.Storage.view c.place_blocks.new.file) (view_in g.S.Storage.view c.place_table.new.file)) ((ap (λ (x : EntryTableView). x.cluster_bits) c.place_blocks.ensures.rest ∙ c.requires.bits ∙ sym (ap (λ (x : HeaderView). x.fields.cluster_bits) c.place_blocks.ensures.header)) ∙ stands.header) c.place_table.ensures.header_cluster)))
-
-pub returns-clause-header_cluster : goal.returns-clause-header_cluster
-returns-clause-header_cluster g c = spares_then (spares_less (spares_then (spares_then (spares_cached c.args.self.now.reftable c.args.file.now c.flush_rb.new.storage c.flush_rb.new.self c.flush_rb.ensures.header_cluster) (spares_parts c.args.self.now.reftable c.args.self.now.reftable (record c.args.file.now { storage = c.flush_rb.new.storage; caches = c.flush_rb.new.self }) c.place_blocks.new.file (ap (λ (x : HeaderView). x.fields.cluster_bits) c.place_blocks.ensures.header) refl refl (λ has. has) c.place_blocks.ensures.behind_header (λ n stands. subst (λ m. KeepsHeaderCluster m (view_in g.S.Storage.view (record c.args.file.now { storage = c.flush_rb.new.storage; caches = c.flush_rb.new.self })) (view_in g.S.Storage.view c.place_blocks.new.file)) stands.header c.place_blocks.ensures.header_cluster))) (spares_parts c.args.self.now.reftable c.args.self.now.reftable c.place_blocks.new.file c.place_table.new.file (ap (λ (x : HeaderView). x.fields.cluster_bits) c.place_table.ensures.header) refl refl (λ has. has) (λ n are. subst (AreBehindHeader n) (sym c.place_table.ensures.caches) are) (λ n stands. subst (λ m. KeepsHeaderCluster m (view_in g.S.Storage.view c.place_blocks.new.file) (view_in g.S.Storage.view c.place_table.new.file)) ((ap (λ (x : EntryTableView). x.cluster_bits) c.place_blocks.ensures.rest ∙ c.requires.bits ∙ sym (ap (λ (x : HeaderView). x.fields.cluster_bits) c.place_blocks.ensures.header)) ∙ stands.header) c.place_table.ensures.header_cluster)))) (c.name_reftable.ensures.header_cluster (subst (λ (t : EntryTableView). IfSome t.cluster (λ k. 0 < k)) (sym c.place_table.ensures.table) (let above = c.requires.above in let at = c.new.ensures in omega (arith, above, at))) (ap (λ (x : EntryTableView). x.cluster_bits) c.place_table.ensures.table ∙ (ap (λ (x : EntryTableView). x.cluster_bits) c.place_blocks.ensures.rest ∙ c.requires.bits ∙ sym (ap (λ (x : HeaderView). x.fields.cluster_bits) c.place_blocks.ensures.header)) ∙ sym (ap (λ (x : HeaderView). x.fields.cluster_bits) c.place_table.ensures.header)))
 
 pub returns-clause-noted : goal.returns-clause-noted
 returns-clause-noted g c = on_ok _ c.name_reftable.result (or_left (is_changed_of c.name_reftable.new.file.storage) c.name_reftable.new.file.caches.is_changed (c.name_reftable.ensures.marks.notes.changes.noted c.in_ok-place_table.ensures.noted))

@@ -1,13 +1,11 @@
-use Rattle.std.proofs.Common.{inr, rules, ap, ◌∙◌}
+use Rattle.std.proofs.Common.{inr, rules, ap, ◌∙◌, subst}
 use Rattle.qcow2_alloc.proofs.KeptTables.Turning.{tables_free, blocks_free, blocks_clean, blocks_still, always_ok, keep_then}
 use Rattle.qcow2_alloc.specs.ImageError.{IsFault}
 use Rattle.qcow2_alloc.proofs.KeptTables.Causes.{given_err}
-use Rattle.qcow2_alloc.specs.MetadataCaches.{order}
+use Rattle.qcow2_alloc.specs.MetadataCaches.{order, l2_tables}
 use Rattle.qcow2_alloc.proofs.KeptTables.InOrder.{order_then}
-use Rattle.std.proofs.Common.{subst}
 use Rattle.qcow2_laws.specs.Clusters.{Direction}
 use Rattle.qcow2_laws.specs.Caches.{BlocksMayGo}
-use Rattle.qcow2_alloc.specs.MetadataCaches.{l2_tables}
 use Rattle.qcow2_alloc.specs.ImageStorage.{storage_of}
 use Rattle.qcow2_alloc.proofs.KeptTables.Clean.{blocks_as}
 use Rattle.qcow2_alloc.proofs.KeptTables.Quiet.{quiet_then}

@@ -1,22 +1,17 @@
-use Rattle.std.proofs.Common.{eqb, refl, sym, ap, ◌∙◌, arith}
-use Rattle.std.specs.Option.{option_copied_mut}
-use Rattle.qcow2_metadata.specs.L2Table.{L2TableView}
+use Rattle.std.proofs.Common.{eqb, refl, sym, ap, ◌∙◌, arith, ◌≡◌, ℕ, ◌≤◌, List, Option, subst, true}
+use Rattle.std.specs.Option.{option_copied_mut, IfSome}
+use Rattle.qcow2_metadata.specs.L2Table.{L2TableView, cover_at, entries_of}
 use Rattle.qcow2_alloc.proofs.KeptTables.Mapping.{index_fits, entry_made}
 use Rattle.qcow2_alloc.proofs.CachePins.{marks_tables, marks_noted, set_keeps_pins}
 use Rattle.qcow2_alloc.proofs.KeptTables.BehindHeader.{set_table_behind, noted_behind}
-use Rattle.qcow2_alloc.specs.AsyncLruCache.{with_entries, set_at}
-use Rattle.std.proofs.Common.{◌≡◌, ℕ, ◌≤◌, List, Option, subst}
-use Rattle.std.specs.Option.{IfSome}
+use Rattle.qcow2_alloc.specs.AsyncLruCache.{with_entries, set_at, value_at}
 use Rattle.qcow2_metadata.specs.L2Mapping.{old_data_run}
-use Rattle.qcow2_metadata.specs.L2Table.{cover_at, entries_of}
 use Rattle.qcow2_metadata.specs.TableBytes.{ChangesEntry}
 use Rattle.qcow2_alloc.specs.declared.async_lru_cache.slot.Slot.{Slot}
-use Rattle.qcow2_alloc.specs.AsyncLruCache.{value_at}
 use Rattle.qcow2_alloc.specs.TableChanges.{changed_table}
 use Rattle.qcow2_alloc.proofs.KeptTables.Inserting.{if_some}
 use Rattle.qcow2_alloc.proofs.KeptTables.Changing.{set_same}
 use Rattle.qcow2_alloc.proofs.KeptTables.OneChanged.{one_changed}
-use Rattle.std.proofs.Common.{true}
 use Rattle.qcow2_alloc.proofs.KeptTables.ApartChanges.{table_changed_apart}
 use Rattle.qcow2_alloc.proofs.cache.MetadataCaches.l2_discard_cluster.Goals as goal
 

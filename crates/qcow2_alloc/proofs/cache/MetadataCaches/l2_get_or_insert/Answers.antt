@@ -1,4 +1,4 @@
-use Rattle.std.proofs.Common.{arith, refl, true, false, inr, Ok, ap, ◌∙◌}
+use Rattle.std.proofs.Common.{refl, true, false, inr, Ok, ap, ◌∙◌, eqb}
 use Rattle.qcow2_alloc.proofs.KeptTables.Fetching.{table_got}
 use Rattle.qcow2_alloc.proofs.KeptTables.Turning.{keep_then}
 use Rattle.qcow2_alloc.proofs.CachePins.{marks_tables, marks_then}
@@ -11,7 +11,6 @@ use Rattle.qcow2_alloc.specs.AsyncLruCache.{with_entries}
 use Rattle.qcow2_alloc.specs.TableCaches.{l2_steps}
 use Rattle.qcow2_alloc.proofs.KeptTables.InOrder.{order_then, table_got_in_order}
 use Rattle.qcow2_alloc.proofs.KeptTables.Quiet.{quiet_then, next_table, table_got_quietly, table_waits, table_got_same}
-use Rattle.std.proofs.Common.{eqb}
 use Rattle.qcow2_alloc.proofs.CachedEntries.Staying.{stays_same, stays_then, values_stay}
 use Rattle.qcow2_alloc.specs.Faults.{faults_of}
 use Rattle.qcow2_alloc.proofs.Faults.{told_ok, told_on, told_since, cache_told, l2_get_tells}

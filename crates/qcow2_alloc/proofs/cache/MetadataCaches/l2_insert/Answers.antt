@@ -1,4 +1,4 @@
-use Rattle.std.proofs.Common.{arith, ◌≡◌, Bool, true, false, inr, Some, Result, Ok, Err, refl, sym, ap, ◌∙◌, subst, ◌+◌, ◌*◌}
+use Rattle.std.proofs.Common.{◌≡◌, Bool, true, false, inr, Some, Result, Ok, Err, refl, sym, ap, ◌∙◌, subst, ◌+◌, ◌*◌, eqb}
 use Rattle.qcow2_alloc.proofs.KeptTables.Inserting.{table_put, l2_taken, taken_at_last, if_some}
 use Rattle.qcow2_metadata.specs.Header.{cluster_size}
 use Rattle.qcow2_alloc.proofs.KeptTables.Turning.{stay_then, keep_then}
@@ -17,7 +17,6 @@ use Rattle.qcow2_alloc.proofs.KeptTables.Putting.{on_err, put_at_last, laid_then
 use Rattle.qcow2_alloc.proofs.KeptTables.Clean.{blocks_go, tables_as, table_put_clean}
 use Rattle.qcow2_alloc.proofs.KeptTables.InOrder.{order_then, table_put_in_order}
 use Rattle.qcow2_alloc.proofs.KeptTables.Quiet.{quiet_then, table_eviction, table_put_quietly, table_put_waits, table_put_same}
-use Rattle.std.proofs.Common.{eqb}
 use Rattle.qcow2_alloc.proofs.CachedEntries.Staying.{stays_same, stays_then, values_stay}
 use Rattle.qcow2_alloc.specs.Faults.{faults_of}
 use Rattle.qcow2_alloc.proofs.Faults.{told_ok, told_on, told_since, cache_told, l2_put_tells}

@@ -1,18 +1,13 @@
-use Rattle.std.proofs.Common.{◌≡◌, ◌*◌, ◌^◌, Bool, true, false, eqb, IsTrue, ◌↔◌, refl, sym, ap, ◌∙◌, subst, arith}
-use Rattle.std.specs.Option.{option_copied_mut}
-use Rattle.qcow2_metadata.specs.L2Mapping.{IsHostCluster}
-use Rattle.qcow2_metadata.specs.L2Table.{L2TableView, copied_entry}
+use Rattle.std.proofs.Common.{◌≡◌, ◌*◌, ◌^◌, Bool, true, false, eqb, IsTrue, ◌↔◌, refl, sym, ap, ◌∙◌, subst, arith, ℕ, ◌<◌, List, Option}
+use Rattle.std.specs.Option.{option_copied_mut, IfSome}
+use Rattle.qcow2_metadata.specs.L2Mapping.{IsHostCluster, old_data_run}
+use Rattle.qcow2_metadata.specs.L2Table.{L2TableView, copied_entry, cover_at, entries_of}
 use Rattle.qcow2_metadata.specs.TableBytes.{ChangesEntry}
 use Rattle.qcow2_alloc.proofs.KeptTables.Mapping.{bits_is, index_fits, entry_made}
 use Rattle.qcow2_alloc.proofs.CachePins.{marks_tables, marks_noted, set_keeps_pins}
 use Rattle.qcow2_alloc.proofs.KeptTables.BehindHeader.{set_table_behind, noted_behind}
-use Rattle.qcow2_alloc.specs.AsyncLruCache.{with_entries, set_at}
-use Rattle.std.proofs.Common.{ℕ, ◌<◌, List, Option}
-use Rattle.std.specs.Option.{IfSome}
-use Rattle.qcow2_metadata.specs.L2Mapping.{old_data_run}
-use Rattle.qcow2_metadata.specs.L2Table.{cover_at, entries_of}
+use Rattle.qcow2_alloc.specs.AsyncLruCache.{with_entries, set_at, value_at}
 use Rattle.qcow2_alloc.specs.declared.async_lru_cache.slot.Slot.{Slot}
-use Rattle.qcow2_alloc.specs.AsyncLruCache.{value_at}
 use Rattle.qcow2_alloc.specs.TableChanges.{changed_table}
 use Rattle.qcow2_alloc.proofs.KeptTables.Inserting.{if_some}
 use Rattle.qcow2_alloc.proofs.KeptTables.Changing.{set_same}
@@ -41,7 +36,6 @@ returns-then-index-entries-clause-mapped g c = λ h p on_storage i sound at own 
 pub returns-clause-mapped : goal.returns-clause-mapped
 returns-clause-mapped g c = λ h p on_storage i sound at own there host.
     let found = sym c.peek_mut.ensures.value ∙ ap option_copied_mut c.in_ok-table.was in
-    let v : L2TableView = c.in_ok-table.table.now in
     let same = c.map_cluster.ensures.same in
     let bits = bits_is h p on_storage c.args.self.now sound c.args.cluster c.args.index c.in_ok-table.table.now found i at in
     entry_made h p on_storage c.args.self.now sound c.args.cluster c.args.index c.in_ok-table.table.now found i at own c.map_cluster.new.self

@@ -1,18 +1,15 @@
-use Rattle.std.proofs.Common.{ℕ, List, eqb, refl, sym, ap, ◌∙◌, arith}
+use Rattle.std.proofs.Common.{ℕ, List, eqb, refl, sym, ap, ◌∙◌, arith, true}
 use Rattle.std.specs.Option.{option_copied_mut}
-use Rattle.qcow2_metadata.specs.RefBlock.{RefBlockView}
+use Rattle.qcow2_metadata.specs.RefBlock.{RefBlockView, ChangesCount}
 use Rattle.qcow2_alloc.specs.declared.async_lru_cache.slot.Slot.{Slot}
-use Rattle.qcow2_alloc.specs.AsyncLruCache.{with_entries, set_at}
+use Rattle.qcow2_alloc.specs.AsyncLruCache.{with_entries, set_at, value_at}
 use Rattle.qcow2_alloc.proofs.KeptTables.Changing.{set_same, still_new_data}
 use Rattle.qcow2_alloc.proofs.KeptTables.Counting.{index_fits, count_is, lowered}
 use Rattle.qcow2_alloc.proofs.CachePins.{marks_blocks, marks_noted, set_keeps_pins}
-use Rattle.qcow2_metadata.specs.RefBlock.{ChangesCount}
-use Rattle.qcow2_alloc.specs.AsyncLruCache.{value_at}
 use Rattle.qcow2_alloc.specs.TableChanges.{changed_block}
 use Rattle.qcow2_alloc.proofs.KeptTables.Inserting.{if_some}
 use Rattle.qcow2_alloc.proofs.KeptTables.OneChanged.{one_changed}
 use Rattle.qcow2_alloc.proofs.KeptTables.BehindHeader.{set_behind, noted_behind}
-use Rattle.std.proofs.Common.{true}
 use Rattle.qcow2_alloc.proofs.KeptTables.ApartChanges.{block_changed_apart}
 use Rattle.qcow2_alloc.proofs.cache.MetadataCaches.rb_decrement.Goals as goal
 use Rattle.qcow2_alloc.proofs.cache.MetadataCaches.rb_decrement.Goals.{then-index-counts-via-then-index-counts, then-index-counts-via-else-index-counts+then-not-decrement}

@@ -1,4 +1,4 @@
-use Rattle.std.proofs.Common.{arith, refl, true, false, Ok, ap, sym, ◌∙◌}
+use Rattle.std.proofs.Common.{refl, true, false, Ok, ap, sym, ◌∙◌, eqb}
 use Rattle.qcow2_alloc.proofs.KeptTables.Fetching.{block_got}
 use Rattle.qcow2_alloc.proofs.KeptTables.Turning.{keep_then}
 use Rattle.qcow2_alloc.proofs.CachePins.{marks_blocks, marks_then}
@@ -8,7 +8,6 @@ use Rattle.qcow2_metadata.specs.Bytes.{byte_at}
 use Rattle.qcow2_alloc.specs.ImageStorage.{storage_of}
 use Rattle.qcow2_alloc.proofs.KeptTables.InOrder.{order_then, block_got_in_order}
 use Rattle.qcow2_alloc.proofs.KeptTables.Quiet.{quiet_then, next_block, block_got_quietly, block_waits, block_got_same}
-use Rattle.std.proofs.Common.{eqb}
 use Rattle.qcow2_alloc.proofs.CachedEntries.Hits.{got_there}
 use Rattle.qcow2_alloc.proofs.CachedEntries.Staying.{stays_same, stays_then, values_stay}
 use Rattle.qcow2_alloc.specs.Faults.{faults_of}

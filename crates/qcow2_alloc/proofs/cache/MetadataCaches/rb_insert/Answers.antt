@@ -1,4 +1,4 @@
-use Rattle.std.proofs.Common.{arith, ◌≡◌, ℕ, Bool, true, false, Some, Result, Ok, Err, refl, sym, ap, ◌∙◌, subst, ◌+◌, ◌*◌}
+use Rattle.std.proofs.Common.{◌≡◌, ℕ, Bool, true, false, Some, Result, Ok, Err, refl, sym, ap, ◌∙◌, subst, ◌+◌, ◌*◌, eqb}
 use Rattle.qcow2_alloc.proofs.KeptTables.Inserting.{block_put, rb_taken, taken_at_last, if_some}
 use Rattle.qcow2_metadata.specs.Header.{cluster_size}
 use Rattle.qcow2_alloc.proofs.KeptTables.Turning.{stay_then, keep_then}
@@ -19,7 +19,6 @@ use Rattle.qcow2_alloc.proofs.KeptTables.Putting.{on_err, put_at_last, laid_then
 use Rattle.qcow2_alloc.proofs.KeptTables.PuttingBlocks.{block_kept, block_laid}
 use Rattle.qcow2_alloc.proofs.KeptTables.InOrder.{order_then, block_put_in_order}
 use Rattle.qcow2_alloc.proofs.KeptTables.Quiet.{quiet_then, block_eviction, block_put_quietly, block_put_waits, block_put_same}
-use Rattle.std.proofs.Common.{eqb}
 use Rattle.qcow2_alloc.proofs.CachedEntries.Staying.{stays_same, stays_then, values_stay}
 use Rattle.qcow2_alloc.specs.Faults.{faults_of}
 use Rattle.qcow2_alloc.proofs.Faults.{told_ok, told_on, told_since, cache_told, rb_put_tells}

@@ -1,4 +1,4 @@
-use Rattle.std.proofs.Common.{◌≡◌, List, ℕ, ◌+◌, ◌-◌, ◌≤◌, arith, sym, ap, subst, ◌∙◌}
+use Rattle.std.proofs.Common.{◌≡◌, List, ℕ, ◌+◌, ◌-◌, arith, sym, ap, subst, ◌∙◌, eqb}
 use Rattle.std.specs.Option.{option_copied_mut}
 use Rattle.qcow2_metadata.specs.FirstZero.{IsFirstZero}
 use Rattle.qcow2_metadata.specs.RefBlock.{RefBlockView}
@@ -7,7 +7,6 @@ use Rattle.qcow2_alloc.specs.AsyncLruCache.{value_at, with_entries, set_at}
 use Rattle.qcow2_alloc.proofs.KeptTables.Changing.{set_same}
 use Rattle.qcow2_alloc.proofs.KeptTables.Counting.{count_is}
 use Rattle.qcow2_alloc.proofs.KeptTables.Inserting.{if_some}
-use Rattle.std.proofs.Common.{eqb}
 use Rattle.qcow2_alloc.proofs.cache.MetadataCaches.rb_used_from.Goals as goal
 
 pub returns-clause-used : goal.returns-clause-used

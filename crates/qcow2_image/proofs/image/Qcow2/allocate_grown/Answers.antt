@@ -1,4 +1,3 @@
-use Rattle.qcow2_alloc.proofs.KeptMarks.{notes_none}
 use Rattle.std.proofs.Common.{◌≡◌, ◌≤◌, ◌%◌, ◌∙◌, ap, arith, refl, subst, sym}
 use Rattle.std.proofs.lemmas.Nat.{pow_pos}
 use Rattle.qcow2_metadata.specs.Header.{cluster_size, rounded_up}
@@ -6,13 +5,13 @@ use Rattle.qcow2_alloc.specs.declared.error.ImageError.TheVariants.{Overflow}
 use Rattle.qcow2_image.specs.Preallocation.{FillsOrRefuses}
 use Rattle.qcow2_image.proofs.Preallocate.Filled.{refused_here}
 use Rattle.qcow2_image.proofs.Preallocate.Grown.{up_to_end, up_whole}
-use Rattle.qcow2_image.proofs.Call.BehindHeader.{behind_none}
 use Rattle.std.specs.Prelude.{IfErr}
 use Rattle.qcow2_alloc.specs.ImageFile.{known_in}
 use Rattle.qcow2_image.specs.ImageInvariant.{pending_in}
 use Rattle.qcow2_image.specs.MetAlone.{HasCompressedIn, HasNearEntries, IsMetTaking}
 use Rattle.qcow2_image.proofs.Preallocate.Met.{never_past}
 use Rattle.qcow2_image.specs.Backings.{HasPrepared}
+use Rattle.qcow2_image.proofs.Call.ImageSteps.{step_none}
 use Rattle.qcow2_image.proofs.image.Qcow2.allocate_grown.Goals as goal
 
 pub returns-in_default-clause-fills : goal.returns-in_default-clause-fills
@@ -22,26 +21,12 @@ returns-in_default-clause-fills g c = λ out sound le.
 
 pub returns-clause-fills : goal.returns-clause-fills
 returns-clause-fills g c = λ out sound le.
-    let view = g.S.Storage.view in
-    let below = g.F.BackingDisk.backing in
     let old = c.args.self.now in
     let cs = cluster_size old.file.header.fields in
     let some = pow_pos old.file.header.fields.cluster_bits in
     let end : c.in-Some.end ≡ rounded_up (cluster_size c.args.self.now.file.header.fields) c.args.size = c.in-Some.ensures.some ∙ ap (λ s. rounded_up s c.args.size) c.cluster_size.ensures.value in
-    subst (λ n. FillsOrRefuses view below n c.args.old n old c.fill_range.new.self out c.fill_range.result) end
-    (c.fill_range.ensures.fills out sound (subst (λ n. c.args.old ≤ n) (sym end) (up_to_end cs c.args.old c.args.size some le)) (subst (λ n. n % cs ≡ 0) (sym end) (up_whole cs c.args.size some)))
-
-pub returns-in_default-clause-header_cluster : goal.returns-in_default-clause-header_cluster
-returns-in_default-clause-header_cluster g c = behind_none
-
-pub returns-clause-header_cluster : goal.returns-clause-header_cluster
-returns-clause-header_cluster g c = c.fill_range.ensures.header_cluster
-
-pub returns-in_default-clause-notes : goal.returns-in_default-clause-notes
-returns-in_default-clause-notes g c = notes_none
-
-pub returns-clause-notes : goal.returns-clause-notes
-returns-clause-notes g c = c.fill_range.ensures.notes
+    subst (λ n. FillsOrRefuses g.S.Storage.view g.F.BackingDisk.backing n c.args.old n old c.fill_range.new.self out c.fill_range.result) end
+    ((c.fill_range.ensures.sound out sound (subst (λ n. c.args.old ≤ n) (sym end) (up_to_end cs c.args.old c.args.size some le)) (subst (λ n. n % cs ≡ 0) (sym end) (up_whole cs c.args.size some))).fills)
 
 pub returns-in_default-clause-met : goal.returns-in_default-clause-met
 returns-in_default-clause-met g c = λ out sound le near.
@@ -50,11 +35,16 @@ returns-in_default-clause-met g c = λ out sound le near.
 
 pub returns-clause-met : goal.returns-clause-met
 returns-clause-met g c = λ out sound le near.
-    let view = g.S.Storage.view in
     let old = c.args.self.now in
     let h = old.file.header.fields in
     let cs = cluster_size h in
     let some = pow_pos h.cluster_bits in
     let end : c.in-Some.end ≡ rounded_up (cluster_size c.args.self.now.file.header.fields) c.args.size = c.in-Some.ensures.some ∙ ap (λ s. rounded_up s c.args.size) c.cluster_size.ensures.value in
-    subst (λ n. IfErr c.fill_range.result (IsMetTaking (HasPrepared out) (HasPrepared out) (HasCompressedIn c.args.old n h (known_in view old.file)) ⊥)) end
-    (c.fill_range.ensures.met out sound (subst (λ n. c.args.old ≤ n) (sym end) (up_to_end cs c.args.old c.args.size some le)) (subst (λ n. n % cs ≡ 0) (sym end) (up_whole cs c.args.size some)) (subst (λ n. HasNearEntries n h) (sym end) near))
+    subst (λ n. IfErr c.fill_range.result (IsMetTaking (HasPrepared out) (HasPrepared out) (HasCompressedIn c.args.old n h (known_in g.S.Storage.view old.file)) ⊥)) end
+    ((c.fill_range.ensures.sound out sound (subst (λ n. c.args.old ≤ n) (sym end) (up_to_end cs c.args.old c.args.size some le)) (subst (λ n. n % cs ≡ 0) (sym end) (up_whole cs c.args.size some))).met (subst (λ n. HasNearEntries n h) (sym end) near))
+
+pub returns-in_default-clause-step : goal.returns-in_default-clause-step
+returns-in_default-clause-step g c = step_none
+
+pub returns-clause-step : goal.returns-clause-step
+returns-clause-step g c = c.fill_range.ensures.step

@@ -6,10 +6,9 @@ use Rattle.qcow2_image.proofs.image.Qcow2.begin.Goals as goal
 
 pub returns-clause-keeps : goal.returns-clause-keeps
 returns-clause-keeps g c = λ p out sound.
-    let h = c.args.self.now.file.header.fields in
     let tables = c.begin-2.ensures.tables in
     caches_moved g.S.Storage.view g.F.BackingDisk.backing c.args.self.now out p sound c.begin.new.self c.begin-2.new.self
-    (stays h p c.args.self.now.file.caches c.begin-2.new.self tables (view_in g.S.Storage.view c.args.self.now.file) (g.S.Storage.view c.begin.new.self.storage) (ap g.S.Storage.view c.begin.ensures.storage) sound.file.honest sound.file.caches)
+    (stays c.args.self.now.file.header.fields p c.args.self.now.file.caches c.begin-2.new.self tables (view_in g.S.Storage.view c.args.self.now.file) (g.S.Storage.view c.begin.new.self.storage) (ap g.S.Storage.view c.begin.ensures.storage) sound.file.honest sound.file.caches)
     tables.room (λ table. ap (λ caches. l2_pins caches table) c.begin-2.ensures.same)
 
 pub returns-clause-known : goal.returns-clause-known

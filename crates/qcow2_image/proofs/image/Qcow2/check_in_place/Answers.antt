@@ -1,4 +1,4 @@
-use Rattle.std.proofs.Common.{◌≡◌, ◌∙◌, inr, None, true, sym, subst, arith}
+use Rattle.std.proofs.Common.{◌≡◌, ◌∙◌, inr, None, true, sym, subst, arith, ◌+◌}
 use Rattle.qcow2_image.specs.declared.mapping.MappingKind.TheVariants.{Raw}
 use Rattle.qcow2_image.specs.declared.mapping.Place.TheVariants.{Image}
 use Rattle.qcow2_image.specs.Found.{IsFoundWhole, IsMappedAs}
@@ -11,7 +11,6 @@ use Rattle.qcow2_image.specs.HeldMappings.{HeedsHeld}
 use Rattle.qcow2_image.specs.MetAlone.{IsCacheHeld, IsMetLookingAgain}
 use Rattle.qcow2_image.specs.Prepared.{table_of}
 use Rattle.qcow2_image.proofs.Prepare.Met.{hands_met, met_as}
-use Rattle.std.proofs.Common.{◌+◌}
 use Rattle.qcow2_image.proofs.image.Qcow2.check_in_place.Goals as goal
 
 pub returns-in_err-guest-clause-outdated : goal.returns-in_err-guest-clause-outdated

@@ -1,15 +1,13 @@
-use Rattle.std.proofs.Common.{◌≡◌, ◌≤◌, IsTrue, true, false, sym, subst, arith}
+use Rattle.std.proofs.Common.{◌≡◌, ◌≤◌, IsTrue, true, false, sym, subst, arith, ◌<◌, ⊎_elim, inl, inr, refl}
 use Rattle.qcow2_image.specs.Found.{IsFoundInImage, IsFoundWhole, IsMappedAs}
 use Rattle.qcow2_image.proofs.Map.Looked.{found_after, found_before, found_whole, mapped_as}
 use Rattle.qcow2_image.proofs.image.Qcow2.check_mapped.Goals.{else-found-length-via-then-found-length+else-is, else-found-length-via-else-found-length}
 use Rattle.qcow2_alloc.proofs.AllocationSteps.{handed_on}
 use Rattle.qcow2_image.specs.MetAlone.{IsCacheHeld, IsMetLookingAgain}
 use Rattle.qcow2_image.proofs.Prepare.Met.{hands_met}
-use Rattle.std.specs.Prelude.{Result}
+use Rattle.std.specs.Prelude.{Result, is_some}
 use Rattle.qcow2_image.proofs.Map.Held.{held_whole, heeds_else, same_found}
-use Rattle.std.proofs.Common.{◌<◌, ⊎_elim, inl, inr, refl}
 use Rattle.std.proofs.lemmas.Bool.{cases_lt}
-use Rattle.std.specs.Prelude.{is_some}
 use Rattle.qcow2_alloc.specs.ImageError.{IsOfTables}
 use Rattle.qcow2_image.specs.HeldMappings.{HeedsHeld, IsHeldAs}
 use Rattle.qcow2_image.specs.Image.{size_of}
@@ -60,7 +58,7 @@ returns-then-is-clause-held g c = λ some.
 pub returns-clause-held : goal.returns-clause-held
 returns-clause-held g c = λ some outdated whole.
     let new = c.look_up.new.self in
-    let below : c.args.offset < size_of c.args.self.now = let b = whole.below in let s = c.look_up.ensures.stays.image.size in omega (arith, b, s, some) in
+    let below : c.args.offset < size_of c.args.self.now = let b = whole.below in let s = c.look_up.ensures.step.part.stays.image.size in omega (arith, b, s, some) in
     let both = held_whole new.file.header.fields (is_some new.backing) new.l1_table new.file.caches c.args.offset c.args.length c.in_ok-kind.found c.in_ok-kind.kind c.args.wanted.now (c.in_ok-kind.ensures.held below) whole in
     elim c.else-found-length.branch [
       | else-found-length-via-then-found-length+else-is w ↦ absurd (let no : false ≡ true = subst IsTrue w.if-is.false (w.is.ensures.1 both.0) in cc)
@@ -70,4 +68,4 @@ returns-clause-held g c = λ some outdated whole.
 pub returns-in_err-kind-clause-held : goal.returns-in_err-kind-clause-held
 returns-in_err-kind-clause-held g c = λ some.
     handed_on (λ (r : Result _ _). HeedsHeld c.look_up.new.self c.args.offset c.args.wanted.now c.args.length r) c.from_residual.result c.in_err-kind.field-0.0 c.from_residual.ensures
-    (heeds_else c.look_up.new.self c.args.offset c.args.wanted.now c.args.length IsOfTables c.in_err-kind.field-0.0 (λ no. no) c.in_err-kind.ensures.cause)
+    (heeds_else c.look_up.new.self c.args.offset c.args.wanted.now c.args.length IsOfTables c.in_err-kind.field-0.0 (λ no. no) c.in_err-kind.ensures.fails.cause)

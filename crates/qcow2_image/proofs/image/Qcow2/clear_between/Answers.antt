@@ -46,10 +46,9 @@ returns-in-Err-clause-pinned g c = λ own is. c.in-Err.ensures.pinned own (c.fre
 pub returns-in-Err-clause-limit : goal.returns-in-Err-clause-limit
 returns-in-Err-clause-limit g c = λ out sound whole is.
     let view = g.S.Storage.view in
-    let below = g.F.BackingDisk.backing in
     let old = c.args.self.now in
     let mid = c.clear_in_table.new.self in
-    let freed = limited_frees view below out old mid c.free_after.new.self c.in-Err.refusal c.free_after.result (c.in-Err.ensures.clears out sound whole) c.free_after.ensures.fault (c.free_after.ensures.limit out) is in
+    let freed = limited_frees view g.F.BackingDisk.backing out old mid c.free_after.new.self c.in-Err.refusal c.free_after.result (c.in-Err.ensures.clears out sound whole) c.free_after.ensures.fault (c.free_after.ensures.limit out) is in
     lacks_freed view c.args.from old mid c.free_after.new.self c.free_after.ensures.keeps_rest.header freed.1 (c.in-Err.ensures.limit out sound whole freed.0)
 
 pub returns-in-Err-clause-met : goal.returns-in-Err-clause-met
@@ -70,9 +69,9 @@ returns-in-Err-clause-step g c =
     let below = g.F.BackingDisk.backing in
     let old = c.args.self.now in
     record {
-      stays = record { image = same_image_then c.clear_in_table.ensures.step.stays.image c.free_after.ensures.stays.image; failed = c.free_after.ensures.stays.failed ∙ c.clear_in_table.ensures.step.stays.failed };
-      notes = notes_then c.clear_in_table.ensures.step.notes c.free_after.ensures.notes;
-      header_cluster = behind_then c.clear_in_table.ensures.step.header_cluster c.free_after.ensures.header_cluster;
+      stays = record { image = same_image_then c.clear_in_table.ensures.step.stays.image c.free_after.ensures.step.stays.image; failed = c.free_after.ensures.step.stays.failed ∙ c.clear_in_table.ensures.step.stays.failed };
+      notes = notes_then c.clear_in_table.ensures.step.notes c.free_after.ensures.step.notes;
+      header_cluster = behind_then c.clear_in_table.ensures.step.header_cluster c.free_after.ensures.step.header_cluster;
       faults = counted_of view below old c.free_after.new.self c.free_after.result
           (c.free_after.ensures.faults old (counted_as view below old old c.clear_in_table.new.self c.clear_in_table.result c.in-Err.refusal (untouched view below old old refl refl) c.clear_in_table.ensures.step.faults c.in-Err.is));
     }

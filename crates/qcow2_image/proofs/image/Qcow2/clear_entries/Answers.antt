@@ -13,10 +13,9 @@ loop-i-preserved g c =
     let old = c.args.self.now in
     let now = c.loop-i.self in
     let new = c.clear_entry.new.self in
-    let i = c.loop-i.i in
     let one : suc c.loop-i.i ≡ c.loop-i.i + 1 = omega arith in
     subst (λ n. ClearsTable view below c.args.how c.args.table c.args.index n old new) one
-    (first_next view below c.args.how c.args.table c.args.index i old now new c.loop-i.invariant
+    (first_next view below c.args.how c.args.table c.args.index c.loop-i.i old now new c.loop-i.invariant
     (subst (λ k. ClearsEntry c.args.how c.args.table k now new) c.saturating_add.ensures c.clear_entry.ensures))
 
 pub returns-clause-clears : goal.returns-clause-clears

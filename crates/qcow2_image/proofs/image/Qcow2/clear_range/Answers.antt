@@ -3,22 +3,21 @@ use Rattle.qcow2_alloc.specs.ImageStorage.{is_changed_of}
 use Rattle.std.proofs.lemmas.Bool.{or_right}
 use Rattle.qcow2_image.proofs.Call.OnceWritten.{answered_counts, counts_begun, fails_marked, fails_once, kept_noted, notes_begun, notes_part, notes_since}
 use Rattle.std.proofs.Common.{◌≡◌, ◌<◌, ◌+◌, ◌-◌, ℕ, min, sym, ap, ◌∙◌, subst, arith, inl, refl}
-use Rattle.std.specs.Prelude.{None, Some, Ok, Err, IfErr, IfOk, IsTrue, Result}
+use Rattle.std.specs.Prelude.{Ok, Err, IfErr, IfOk, IsTrue, Result}
 use Rattle.qcow2_alloc.specs.declared.error.ImageError.TheVariants.{Memory, TablePrepared, Limit}
 use Rattle.qcow2_image.specs.Backings.{HasPrepared}
 use Rattle.qcow2_image.specs.NewTables.{IsFaultOrLacksTable}
 use Rattle.qcow2_image.specs.CallParts.{RefusedCall, EndsFreeing, UnseenCall}
-use Rattle.qcow2_image.specs.Clearing.{Clears, ClearsOrRefuses, ClearsPart, IsUnderMapping, IsClearable, RefusesClearing, from_in, refuses_to_clear, to_in}
+use Rattle.qcow2_image.specs.Clearing.{Clears, ClearsOrRefuses, IsUnderMapping, RefusesClearing, from_in, to_in}
 use Rattle.qcow2_image.specs.declared.image.Qcow2.{Qcow2}
 use Rattle.qcow2_image.specs.Image.{is_failed, has_noted_change}
 use Rattle.qcow2_image.specs.ImageInvariant.{ImageInvariant, pending_in}
 use Rattle.qcow2_image.specs.L1Entries.{NeedsFarEntry, HasOwnTable}
 use Rattle.qcow2_image.specs.Refusals.{IsMetPreparing, MarksFailed, FreesRefused}
 use Rattle.qcow2_image.proofs.Call.Marked.{refused_since, MayMarkBy, marks_memory, may_mark, may_mark_refused}
-use Rattle.qcow2_image.proofs.Call.Called.{Quietly}
 use Rattle.qcow2_image.proofs.Call.CallOutcomes.{is_fault, outcome}
 use Rattle.qcow2_image.proofs.Sizing.Shrinking.{fault_of}
-use Rattle.qcow2_image.proofs.Clear.ClearCalls.{begins, clear_interruption, clear_covers, clear_done, clear_refused, clear_works, err_is, fault_interruption, not_refused, refused_for, under_after, under_before, ungiven_interruption, ungiven_refused, whole_in}
+use Rattle.qcow2_image.proofs.Clear.ClearCalls.{clear_interruption, clear_covers, clear_done, clear_refused, fault_interruption, under_after, under_before, ungiven_interruption, ungiven_refused}
 use Rattle.qcow2_image.proofs.Call.FaultCounts.{counted_as, same_of, counted_marked, counted_ok, faults_then, untouched}
 use Rattle.qcow2_alloc.proofs.KeptMarks.{notes_then}
 use Rattle.qcow2_image.proofs.Call.Notes.{same_kept}
@@ -29,7 +28,7 @@ use Rattle.qcow2_image.proofs.Call.BehindHeader.{behind_call, behind_then}
 use Rattle.qcow2_image.proofs.Prepare.Pinned.{begun_own, heeds_begun, of_tables_untaken}
 use Rattle.qcow2_image.specs.PinnedTables.{HeedsPins}
 use Rattle.qcow2_alloc.specs.declared.error.ImageError.{ImageError}
-use Rattle.qcow2_image.proofs.Prepare.Lacked.{hands_limit, lacks_ended, other_limit}
+use Rattle.qcow2_image.proofs.Prepare.Lacked.{lacks_ended, other_limit}
 use Rattle.qcow2_image.specs.LackedPlaces.{LacksTableFor}
 use Rattle.qcow2_image.proofs.Call.Unlimited.{fault_unlimited}
 use Rattle.qcow2_image.specs.MetAlone.{IsMetTaking}
@@ -39,64 +38,6 @@ use Rattle.qcow2_image.proofs.Clear.ClearedCalls.{begins_clearing, early_fails, 
 use Rattle.qcow2_image.specs.ClearingCalls.{ClearsSoundly, ClearsStep, FailsToClear}
 use Rattle.qcow2_image.proofs.Call.MetErrors.{tables_met}
 use Rattle.qcow2_alloc.specs.ImageError.{IsFault}
-
-pub returns-in_err-from-clause-limit : goal.returns-in_err-from-clause-limit
-returns-in_err-from-clause-limit g c = λ none some out sound.
-    let old = c.args.self.now in
-    let refused = refused_for c.check_clear.result _ (refuses_to_clear old c.args.offset c.args.length c.args.how) c.in_err-from.field-0.0 c.check_clear.ensures.refusal c.in_err-from.was in
-    absurd (let no : None ≡ Some c.in_err-from.field-0.0 = sym none ∙ refused in cc)
-
-pub returns-in_err-mark_failure-clause-limit : goal.returns-in_err-mark_failure-clause-limit
-returns-in_err-mark_failure-clause-limit g c = λ none some out sound.
-    let view = g.S.Storage.view in
-    let below = g.F.BackingDisk.backing in
-    let old = c.args.self.now in
-    let begun = c.begin.new.self in
-    let entries = c.clear_between-cleared.new.self in
-    let at = from_in old c.args.offset c.args.length in
-    let range = not_refused c.check_clear.result _ (refuses_to_clear old c.args.offset c.args.length c.args.how) (c.in_ok-from.from, c.in_ok-from.to) c.check_clear.ensures.refusal c.in_ok-from.was in
-    let from : c.in_ok-from.from ≡ from_in c.args.self.now c.args.offset c.args.length = ap (λ (r : ℕ × ℕ). r.0) range.1 in
-    let to : c.in_ok-from.to ≡ to_in c.args.self.now c.args.offset c.args.length = ap (λ (r : ℕ × ℕ). r.1) range.1 in
-    let works = clear_works old c.args.offset c.args.length c.args.how range.0 in
-    let quiet : (out : _) → _ → Quietly view below out old begun = λ out sound. record { keeps = c.begin.ensures.keeps (pending_in view below old out) out sound; list = c.begin.ensures.list } in
-    let done : c.clear_between-cleared.result ≡ Err c.in_err-mark_failure.field-0.0 = sym c.mark_failure.ensures.answer ∙ c.in_err-mark_failure.was in
-    let whole : (out : _) → UnseenCall view below old begun out → IsClearable begun.file.header.fields c.args.how c.in_ok-from.from c.in_ok-from.to = λ out call.
-    subst (λ n. IsClearable begun.file.header.fields c.args.how n c.in_ok-from.to) (sym from) (subst (λ n. IsClearable begun.file.header.fields c.args.how (from_in old c.args.offset c.args.length) n) (sym to)
-    (whole_in view below old c.args.how c.args.offset c.args.length works begun entries quiet out call c.in_ok-from.ensures.version)) in
-    let call = begins view below old c.args.how c.args.offset c.args.length works begun entries quiet out sound in
-    let why = subst (λ (r : Result _ _). IfErr r (λ x. x ≡ Limit → LacksTableFor view c.in_ok-from.from begun entries)) done (c.clear_between-cleared.ensures.limit out call.sound (whole out call)) in
-    subst (λ (r : Result _ _). IfErr r (λ x. x ≡ Limit → LacksTableFor view at old c.mark_failure.new.self)) (sym (err_is c.from_residual-in_err-mark_failure.result c.from_residual-in_err-mark_failure.ensures))
-    (λ is. subst (λ (image : Qcow2 _ _). LacksTableFor view at old image) (sym c.mark_failure.ensures.rest)
-    (lacks_ended view at old begun entries (is_failed c.mark_failure.new.self) c.begin.ensures.rest (subst (λ n. LacksTableFor view n begun entries) from (why is))))
-
-pub returns-in_err-end_freeing-clause-limit : goal.returns-in_err-end_freeing-clause-limit
-returns-in_err-end_freeing-clause-limit g c = λ none some out sound.
-    let view = g.S.Storage.view in
-    let below = g.F.BackingDisk.backing in
-    let old = c.args.self.now in
-    let begun = c.begin.new.self in
-    let entries = c.clear_between-cleared.new.self in
-    let freed = c.end_freeing.new.self in
-    let how = c.args.how in
-    let offset = c.args.offset in
-    let n = c.args.length in
-    let range = not_refused c.check_clear.result _ (refuses_to_clear old c.args.offset c.args.length c.args.how) (c.in_ok-from.from, c.in_ok-from.to) c.check_clear.ensures.refusal c.in_ok-from.was in
-    let from : c.in_ok-from.from ≡ from_in c.args.self.now c.args.offset c.args.length = ap (λ (r : ℕ × ℕ). r.0) range.1 in
-    let to : c.in_ok-from.to ≡ to_in c.args.self.now c.args.offset c.args.length = ap (λ (r : ℕ × ℕ). r.1) range.1 in
-    let works = clear_works old c.args.offset c.args.length c.args.how range.0 in
-    let quiet : (out : _) → _ → Quietly view below out old begun = λ out sound. record { keeps = c.begin.ensures.keeps (pending_in view below old out) out sound; list = c.begin.ensures.list } in
-    let done : c.clear_between-cleared.result ≡ Ok c.in_ok-mark_failure.field-0 = sym c.mark_failure.ensures.answer ∙ c.in_ok-mark_failure.was in
-    let marks = subst (λ (r : Result _ _). MayMarkBy r (is_failed entries) (is_failed c.mark_failure.new.self)) done (may_mark c.clear_between-cleared.new.self c.mark_failure.new.self c.clear_between-cleared.result c.mark_failure.ensures.marks) in
-    let same : c.mark_failure.new.self ≡ c.clear_between-cleared.new.self = c.mark_failure.ensures.rest ∙ ap (λ f. record entries { is_failed = f }) marks in
-    let parts : (out : _) → UnseenCall view below old begun out → ClearsPart view below how (from_in old offset n) (to_in old offset n) begun entries out = λ out call. subst (λ k. ClearsPart view below how k (to_in old offset n) begun entries out) from (subst (λ k. ClearsPart view below how c.in_ok-from.from k begun entries out) to
-    (subst (ClearsOrRefuses view below how c.in_ok-from.from c.in_ok-from.to begun entries out) done (c.clear_between-cleared.ensures.clears out call.sound
-    (subst (λ k. IsClearable begun.file.header.fields how k c.in_ok-from.to) (sym from) (subst (λ k. IsClearable begun.file.header.fields how (from_in old offset n) k) (sym to)
-    (whole_in view below old how offset n works begun entries quiet out call c.in_ok-from.ensures.version)))))) in
-    let ends = subst (λ (image : Qcow2 _ _). (out : _) → ImageInvariant view below (pending_in view below image out) image out → EndsFreeing view below image freed out c.end_freeing.result) same c.end_freeing.ensures.frees in
-    let number = c.end_freeing.ensures.image.number ∙ c.mark_failure.ensures.image.number ∙ c.clear_between-cleared.ensures.step.stays.image.number ∙ c.begin.ensures.stays.image.number in
-    let x = c.in_err-end_freeing.field-0.0 in
-    hands_limit (λ e. LacksTableFor view (from_in old offset n) old freed) c.from_residual-in_err-end_freeing.result x c.from_residual-in_err-end_freeing.ensures
-    (other_limit _ x (fault_unlimited x (fault_of x (fault_interruption view below old how offset n works begun entries quiet parts freed c.end_freeing.result ends number x c.in_err-end_freeing.was out sound))))
 
 pub returns-in_err-from-clause-step : goal.returns-in_err-from-clause-step
 returns-in_err-from-clause-step g c = early_step g.S.Storage.view g.F.BackingDisk.backing c.args.self.now c.args.how c.args.offset c.args.length c.check_clear.result c.check_clear.ensures.refusal c.in_err-from.field-0.0 c.in_err-from.was c.from_residual.result c.from_residual.ensures c.in_err-from.ensures.faults
@@ -184,6 +125,10 @@ returns-in_err-mark_failure-clause-fails g c =
       freed = λ none some out sound.
           let call = b.seen out sound in
           subst (λ (image : Qcow2 _ _). FreesRefused image e) (sym c.mark_failure.ensures.rest) (subst (λ (r : Result _ _). IfErr r (FreesRefused entries)) done (c.clear_between-cleared.ensures.freed out call.sound (b.whole out call)));
+      limit = λ none some out sound is.
+          let why = subst (λ (r : Result _ _). IfErr r (λ x. x ≡ Limit → LacksTableFor view c.in_ok-from.from begun entries)) done (c.clear_between-cleared.ensures.limit out (b.seen out sound).sound (b.whole out (b.seen out sound))) in
+          subst (λ (image : Qcow2 _ _). LacksTableFor view first old image) (sym c.mark_failure.ensures.rest)
+          (lacks_ended view first old begun entries marked c.begin.ensures.rest (subst (λ k. LacksTableFor view k begun entries) b.first_is (why is)));
     })
 
 pub returns-in_err-mark_failure-clause-sound : goal.returns-in_err-mark_failure-clause-sound
@@ -196,7 +141,6 @@ returns-in_err-mark_failure-clause-sound g c =
     let n = c.args.length in
     let begun = c.begin.new.self in
     let entries = c.clear_between-cleared.new.self in
-    let new = c.mark_failure.new.self in
     let e = c.in_err-mark_failure.field-0.0 in
     let b = begins_clearing view below old how offset n c.check_clear.result c.check_clear.ensures.refusal c.in_ok-from.from c.in_ok-from.to c.in_ok-from.was begun c.begin.ensures.keeps c.begin.ensures.list c.in_ok-from.ensures.version in
     let done : c.clear_between-cleared.result ≡ Err c.in_err-mark_failure.field-0.0 = sym c.mark_failure.ensures.answer ∙ c.in_err-mark_failure.was in
@@ -206,7 +150,7 @@ returns-in_err-mark_failure-clause-sound g c =
     let memory = subst (λ (r : Result _ _). IfErr r (λ x. x ≡ Memory → IsTrue (has_noted_change entries) → IsTrue marked)) done (marks_memory c.clear_between-cleared.new.self c.mark_failure.new.self c.clear_between-cleared.new.self c.clear_between-cleared.result c.mark_failure.ensures.marks (ap (λ (i : Qcow2 _ _). i.file) c.mark_failure.ensures.rest)) in
     let refuses : (out : _) → UnseenCall view below old begun out → RefusedCall view below begun entries out e = λ out call. subst (ClearsOrRefuses view below how c.in_ok-from.from c.in_ok-from.to begun entries out) done (c.clear_between-cleared.ensures.clears out call.sound (b.whole out call)) in
     let some : from_in c.args.self.now c.args.offset c.args.length < to_in c.args.self.now c.args.offset c.args.length = let is = b.first_is in let ends = b.last_is in omega (arith, c.if-to-from.false, is, ends) in
-    handed_on (λ (r : Result (ℕ × ℕ) ImageError). ClearsSoundly view below how old new offset n r) c.from_residual-in_err-mark_failure.result e c.from_residual-in_err-mark_failure.ensures (record {
+    handed_on (λ (r : Result (ℕ × ℕ) ImageError). ClearsSoundly view below how old c.mark_failure.new.self offset n r) c.from_residual-in_err-mark_failure.result e c.from_residual-in_err-mark_failure.ensures (record {
       range = tt;
       nothing = λ none least. absurd (omega (arith, some, least));
       sees = subst (λ (image : Qcow2 _ _). Clears view below how old image offset n (Err e)) (sym c.mark_failure.ensures.rest) (clear_refused view below old how offset n b.works begun entries b.quiet e marked number may memory refuses);
@@ -221,12 +165,11 @@ returns-in_err-end_freeing-clause-step g c =
     let below = g.F.BackingDisk.backing in
     let old = c.args.self.now in
     let begun = c.begin.new.self in
-    let entries = c.clear_between-cleared.new.self in
     let freed = c.end_freeing.new.self in
     let x = c.in_err-end_freeing.field-0.0 in
     let done : c.clear_between-cleared.result ≡ Ok c.in_ok-mark_failure.field-0 = sym c.mark_failure.ensures.answer ∙ c.in_ok-mark_failure.was in
     let failed : is_failed c.clear_between-cleared.new.self ≡ is_failed c.args.self.now = c.clear_between-cleared.ensures.step.stays.failed ∙ c.begin.ensures.stays.failed in
-    let marks = subst (λ (r : Result _ _). MayMarkBy r (is_failed entries) (is_failed c.mark_failure.new.self)) done (may_mark c.clear_between-cleared.new.self c.mark_failure.new.self c.clear_between-cleared.result c.mark_failure.ensures.marks) in
+    let marks = subst (λ (r : Result _ _). MayMarkBy r (is_failed c.clear_between-cleared.new.self) (is_failed c.mark_failure.new.self)) done (may_mark c.clear_between-cleared.new.self c.mark_failure.new.self c.clear_between-cleared.result c.mark_failure.ensures.marks) in
     let kept = notes_then c.clear_between-cleared.ensures.step.notes (same_kept c.clear_between-cleared.new.self c.mark_failure.new.self (ap (λ (i : Qcow2 _ _). i.file.storage) c.mark_failure.ensures.rest) (ap (λ (i : Qcow2 _ _). i.file.caches) c.mark_failure.ensures.rest)) in
     let cleared = counted_marked view below old c.begin.new.self c.clear_between-cleared.new.self c.mark_failure.new.self c.clear_between-cleared.result c.mark_failure.result c.begin.ensures.faults c.clear_between-cleared.ensures.step.faults c.mark_failure.ensures.answer c.mark_failure.ensures.rest in
     let image = same_image_then (same_image_then c.begin.ensures.stays.image c.clear_between-cleared.ensures.step.stays.image) c.mark_failure.ensures.image in
@@ -236,7 +179,7 @@ returns-in_err-end_freeing-clause-step g c =
       since = notes_since view old begun c.begin.ensures.begun freed (notes_then kept c.end_freeing.ensures.notes);
       once_written = fails_marked view old begun c.begin.ensures.begun c.mark_failure.new.self freed c.end_freeing.result (notes_then kept c.end_freeing.ensures.notes) (marks ∙ failed) c.end_freeing.ensures.marks (Err x) (λ memory. c.in_err-end_freeing.was ∙ err_as x Memory memory);
       header_cluster = behind_then (behind_call view c.begin.ensures.begun c.clear_between-cleared.ensures.step.header_cluster c.mark_failure.ensures.rest) c.end_freeing.ensures.header_cluster;
-      faults = counted_as view below old c.mark_failure.new.self freed c.end_freeing.result x (same_of view below old c.mark_failure.new.self c.mark_failure.result _ cleared c.in_ok-mark_failure.was) c.end_freeing.ensures.faults c.in_err-end_freeing.was;
+      faults = counted_as view below old c.mark_failure.new.self freed c.end_freeing.result x (same_of view below old c.mark_failure.new.self c.mark_failure.result _ cleared c.in_ok-mark_failure.was) c.end_freeing.ensures.fails.faults c.in_err-end_freeing.was;
     })
 
 pub returns-in_err-end_freeing-clause-fails : goal.returns-in_err-end_freeing-clause-fails
@@ -261,15 +204,16 @@ returns-in_err-end_freeing-clause-fails g c =
     let fault : (out : _) → ImageInvariant view below (pending_in view below old out) old out → IsFault c.in_err-end_freeing.field-0.0 = λ out sound. fault_of x (fault_interruption view below old how offset n b.works begun entries b.quiet parts freed c.end_freeing.result ends number x c.in_err-end_freeing.was out sound) in
     handed_on (λ (r : Result (ℕ × ℕ) ImageError). FailsToClear view below how old freed offset n r) c.from_residual-in_err-end_freeing.result x c.from_residual-in_err-end_freeing.ensures (record {
       early = not_early view below old how offset n c.check_clear.result c.check_clear.ensures.refusal c.in_ok-from.from c.in_ok-from.to c.in_ok-from.was freed (Err x);
-      late = λ none. inl (tables_met x c.in_err-end_freeing.ensures.cause);
+      late = λ none. inl (tables_met x c.in_err-end_freeing.ensures.fails.cause);
       refused = record {
         ungiven = ungiven_interruption view below old how offset n b.works begun entries b.quiet parts freed c.end_freeing.result ends number x c.in_err-end_freeing.was;
         lacks = λ none out sound unprepared. inl (fault out sound);
         met = λ none out sound. inl (inl (inl (fault out sound)));
       };
-      pinned = λ some none own is. absurd (of_tables_untaken x c.in_err-end_freeing.ensures.cause is);
-      under = λ none some out sound. ((λ is. absurd (of_tables_untaken x c.in_err-end_freeing.ensures.cause is)), tt);
+      pinned = λ some none own is. absurd (of_tables_untaken x c.in_err-end_freeing.ensures.fails.cause is);
+      under = λ none some out sound. ((λ is. absurd (of_tables_untaken x c.in_err-end_freeing.ensures.fails.cause is)), tt);
       freed = λ none some out sound. inl (fault out sound);
+      limit = λ none some out sound. other_limit _ x (fault_unlimited x (fault out sound));
     })
 
 pub returns-in_err-end_freeing-clause-sound : goal.returns-in_err-end_freeing-clause-sound
@@ -308,11 +252,10 @@ returns-clause-step g c =
     let below = g.F.BackingDisk.backing in
     let old = c.args.self.now in
     let begun = c.begin.new.self in
-    let entries = c.clear_between-cleared.new.self in
     let freed = c.end_freeing.new.self in
     let done : c.clear_between-cleared.result ≡ Ok c.in_ok-mark_failure.field-0 = sym c.mark_failure.ensures.answer ∙ c.in_ok-mark_failure.was in
     let failed : is_failed c.clear_between-cleared.new.self ≡ is_failed c.args.self.now = c.clear_between-cleared.ensures.step.stays.failed ∙ c.begin.ensures.stays.failed in
-    let marks = subst (λ (r : Result _ _). MayMarkBy r (is_failed entries) (is_failed c.mark_failure.new.self)) done (may_mark c.clear_between-cleared.new.self c.mark_failure.new.self c.clear_between-cleared.result c.mark_failure.ensures.marks) in
+    let marks = subst (λ (r : Result _ _). MayMarkBy r (is_failed c.clear_between-cleared.new.self) (is_failed c.mark_failure.new.self)) done (may_mark c.clear_between-cleared.new.self c.mark_failure.new.self c.clear_between-cleared.result c.mark_failure.ensures.marks) in
     let kept = notes_then c.clear_between-cleared.ensures.step.notes (same_kept c.clear_between-cleared.new.self c.mark_failure.new.self (ap (λ (i : Qcow2 _ _). i.file.storage) c.mark_failure.ensures.rest) (ap (λ (i : Qcow2 _ _). i.file.caches) c.mark_failure.ensures.rest)) in
     let cleared = counted_marked view below old c.begin.new.self c.clear_between-cleared.new.self c.mark_failure.new.self c.clear_between-cleared.result c.mark_failure.result c.begin.ensures.faults c.clear_between-cleared.ensures.step.faults c.mark_failure.ensures.answer c.mark_failure.ensures.rest in
     let image = same_image_then (same_image_then c.begin.ensures.stays.image c.clear_between-cleared.ensures.step.stays.image) c.mark_failure.ensures.image in
@@ -322,7 +265,7 @@ returns-clause-step g c =
       since = notes_since view old begun c.begin.ensures.begun freed (notes_then kept c.end_freeing.ensures.notes);
       once_written = answered_counts view old freed _ (counts_begun view old begun c.begin.ensures.begun freed (notes_then kept c.end_freeing.ensures.notes));
       header_cluster = behind_then (behind_call view c.begin.ensures.begun c.clear_between-cleared.ensures.step.header_cluster c.mark_failure.ensures.rest) c.end_freeing.ensures.header_cluster;
-      faults = counted_ok view below old freed _ (faults_then view below old c.mark_failure.new.self freed (same_of view below old c.mark_failure.new.self c.mark_failure.result _ cleared c.in_ok-mark_failure.was) c.in_ok-end_freeing.ensures.faults.told);
+      faults = counted_ok view below old freed _ (faults_then view below old c.mark_failure.new.self freed (same_of view below old c.mark_failure.new.self c.mark_failure.result _ cleared c.in_ok-mark_failure.was) c.in_ok-end_freeing.ensures.fails.faults.told);
     }
 
 pub returns-clause-fails : goal.returns-clause-fails
@@ -349,6 +292,7 @@ returns-clause-fails g c =
           let free = subst (λ (r : Result _ _). IfOk r (λ x. IsUnderMapping begun.file.header.fields c.in_ok-from.from out → ⊥)) done (c.clear_between-cleared.ensures.free out call.sound) in
           (tt, λ under. free (subst (λ k. IsUnderMapping begun.file.header.fields k out) (sym b.first_is) (under_after old.file.header.fields begun.file.header.fields first out call.header under)));
       freed = λ none some out sound. tt;
+      limit = λ none some out sound. tt;
     }
 
 pub returns-clause-sound : goal.returns-clause-sound

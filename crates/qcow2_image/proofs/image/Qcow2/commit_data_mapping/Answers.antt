@@ -39,11 +39,11 @@ returns-in-Ok-clause-sees g c = λ out k placed.
     let some : IsSome c.args.prepared.table = search rules in
     commit_done g.S.Storage.view g.F.BackingDisk.backing c.args.self.now c.args.prepared c.begin.new.self c.enter_shares-entered.new.self c.end_freeing.new.self c.enter_shares-entered.new.prepared c.enter_shares-entered.result c.if-self.false some c.end_freeing.result
     (λ out sound. record { keeps = c.begin.ensures.keeps (pending_in g.S.Storage.view g.F.BackingDisk.backing c.args.self.now out) out sound; list = c.begin.ensures.list }) c.enter_shares-entered.ensures.enters c.end_freeing.ensures.frees out k placed c.in-Ok.is c.release_prepared-in-Ok.new.self c.release_prepared-in-Ok.ensures.sees
-    (c.release_prepared-in-Ok.ensures.stays.image.number ∙ c.end_freeing.ensures.image.number ∙ c.enter_shares-entered.ensures.stays.image.number ∙ c.begin.ensures.stays.image.number)
+    (c.release_prepared-in-Ok.ensures.step.stays.image.number ∙ c.end_freeing.ensures.image.number ∙ c.enter_shares-entered.ensures.step.stays.image.number ∙ c.begin.ensures.stays.image.number)
 
 pub returns-in-Ok-clause-emptied : goal.returns-in-Ok-clause-emptied
 returns-in-Ok-clause-emptied g c = λ own some writable.
-    let freed : c.end_freeing.new.self.file.free_list ≡ [] = c.in-Ok.ensures.emptied (c.enter_shares-entered.ensures.stays.image.writable ∙ c.begin.ensures.stays.image.writable ∙ writable) in
+    let freed : c.end_freeing.new.self.file.free_list ≡ [] = c.in-Ok.ensures.emptied (c.enter_shares-entered.ensures.step.stays.image.writable ∙ c.begin.ensures.stays.image.writable ∙ writable) in
     c.release_prepared-in-Ok.ensures.list ∙ ap (λ l. c.end_freeing.new.self.file.free_list ++ l) c.enter_shares-entered.ensures.left ∙ ap (λ l. l ++ []) freed
 
 pub returns-after-entered-clause-sees : goal.returns-after-entered-clause-sees
@@ -58,7 +58,7 @@ returns-after-entered-clause-sees g c =
     let q = c.enter_shares-entered.new.prepared in
     let x = c.in-Err.refusal in
     let some : IsSome c.args.prepared.table = search rules in
-    let number = c.end_freeing.ensures.image.number ∙ c.enter_shares-entered.ensures.stays.image.number ∙ c.begin.ensures.stays.image.number in
+    let number = c.end_freeing.ensures.image.number ∙ c.enter_shares-entered.ensures.step.stays.image.number ∙ c.begin.ensures.stays.image.number in
     let marked : refusal_of c.in-Err.refusal ≡ storage → IsTrue (is_failed c.end_freeing.new.self) =
     is_fault x (is_failed entered) (is_failed freed) (outcome x (is_failed entered) (is_failed freed) (may_mark_refused entered freed x c.in-Err.ensures.marks)) in
     elim c.if-entered.branch [
@@ -101,7 +101,7 @@ returns-in-Ok-clause-faults g c =
     let entered = c.enter_shares-entered.new.self in
     let freed = c.end_freeing.new.self in
     let first = faults_then view below old c.begin.new.self entered c.begin.ensures.faults c.enter_shares-entered.ensures.faults in
-    let all = faults_then view below old freed c.release_prepared-in-Ok.new.self (faults_then view below old entered freed first c.in-Ok.ensures.faults.told) c.release_prepared-in-Ok.ensures.faults in
+    let all = faults_then view below old freed c.release_prepared-in-Ok.new.self (faults_then view below old entered freed first c.in-Ok.ensures.fails.faults.told) c.release_prepared-in-Ok.ensures.faults in
     (fewer_of view below old c.release_prepared-in-Ok.new.self all, tt, all)
 
 pub returns-after-entered-clause-faults : goal.returns-after-entered-clause-faults
@@ -111,7 +111,7 @@ returns-after-entered-clause-faults g c =
     let old = c.args.self.now in
     let entered = c.enter_shares-entered.new.self in
     let first = faults_then view below old c.begin.new.self entered c.begin.ensures.faults c.enter_shares-entered.ensures.faults in
-    let told : CountsImageFaults view below {T = Unit {0}} old c.end_freeing.new.self (Err c.in-Err.refusal) = counted_as view below old entered c.end_freeing.new.self c.end_freeing.result c.in-Err.refusal first c.end_freeing.ensures.faults c.in-Err.is in
+    let told : CountsImageFaults view below {T = Unit {0}} old c.end_freeing.new.self (Err c.in-Err.refusal) = counted_as view below old entered c.end_freeing.new.self c.end_freeing.result c.in-Err.refusal first c.end_freeing.ensures.fails.faults c.in-Err.is in
     (told.no_fewer, λ is. told.rose (sym c.refused_commit.ensures.reason ∙ is), λ other. told.told (λ is. other (c.refused_commit.ensures.reason ∙ is)))
 
 pub returns-then-prepared-self-clause-once_written : goal.returns-then-prepared-self-clause-once_written
@@ -128,24 +128,24 @@ returns-in-Ok-clause-once_written g c =
     let view = g.S.Storage.view in
     let freed = c.end_freeing.new.self in
     let new = c.release_prepared-in-Ok.new.self in
-    let first = counts_begun view c.args.self.now c.begin.new.self c.begin.ensures.begun freed (notes_then c.enter_shares-entered.ensures.notes c.end_freeing.ensures.notes) in
+    let first = counts_begun view c.args.self.now c.begin.new.self c.begin.ensures.begun freed (notes_then c.enter_shares-entered.ensures.step.notes c.end_freeing.ensures.notes) in
     record { counts = counts_on view c.args.self.now freed new first (counts_released view freed new c.release_prepared-in-Ok.ensures.rest); memory = tt }
 
 pub returns-after-entered-clause-once_written : goal.returns-after-entered-clause-once_written
 returns-after-entered-clause-once_written g c = record {
-  counts = counts_begun g.S.Storage.view c.args.self.now c.begin.new.self c.begin.ensures.begun c.end_freeing.new.self (notes_then c.enter_shares-entered.ensures.notes c.end_freeing.ensures.notes);
-  memory = λ memory. once_marked g.S.Storage.view c.args.self.now c.begin.new.self c.begin.ensures.begun c.enter_shares-entered.new.self c.end_freeing.new.self c.end_freeing.result (notes_then c.enter_shares-entered.ensures.notes c.end_freeing.ensures.notes)
-      (c.enter_shares-entered.ensures.stays.failed ∙ c.begin.ensures.stays.failed) c.end_freeing.ensures.marks (c.in-Err.is ∙ ap Err (sym c.refused_commit.ensures.reason ∙ memory));
+  counts = counts_begun g.S.Storage.view c.args.self.now c.begin.new.self c.begin.ensures.begun c.end_freeing.new.self (notes_then c.enter_shares-entered.ensures.step.notes c.end_freeing.ensures.notes);
+  memory = λ memory. once_marked g.S.Storage.view c.args.self.now c.begin.new.self c.begin.ensures.begun c.enter_shares-entered.new.self c.end_freeing.new.self c.end_freeing.result (notes_then c.enter_shares-entered.ensures.step.notes c.end_freeing.ensures.notes)
+      (c.enter_shares-entered.ensures.step.stays.failed ∙ c.begin.ensures.stays.failed) c.end_freeing.ensures.marks (c.in-Err.is ∙ ap Err (sym c.refused_commit.ensures.reason ∙ memory));
 }
 
 pub returns-then-is_none-clause-header_cluster : goal.returns-then-is_none-clause-header_cluster
-returns-then-is_none-clause-header_cluster g c = c.release_prepared.ensures.header_cluster
+returns-then-is_none-clause-header_cluster g c = c.release_prepared.ensures.step.header_cluster
 
 pub returns-in-Ok-clause-header_cluster : goal.returns-in-Ok-clause-header_cluster
-returns-in-Ok-clause-header_cluster g c = behind_then (behind_then (behind_then (behind_begun g.S.Storage.view c.begin.ensures.begun) c.enter_shares-entered.ensures.header_cluster) c.end_freeing.ensures.header_cluster) c.release_prepared-in-Ok.ensures.header_cluster
+returns-in-Ok-clause-header_cluster g c = behind_then (behind_then (behind_then (behind_begun g.S.Storage.view c.begin.ensures.begun) c.enter_shares-entered.ensures.step.header_cluster) c.end_freeing.ensures.header_cluster) c.release_prepared-in-Ok.ensures.step.header_cluster
 
 pub returns-after-entered-clause-header_cluster : goal.returns-after-entered-clause-header_cluster
-returns-after-entered-clause-header_cluster g c = behind_then (behind_then (behind_begun g.S.Storage.view c.begin.ensures.begun) c.enter_shares-entered.ensures.header_cluster) c.end_freeing.ensures.header_cluster
+returns-after-entered-clause-header_cluster g c = behind_then (behind_then (behind_begun g.S.Storage.view c.begin.ensures.begun) c.enter_shares-entered.ensures.step.header_cluster) c.end_freeing.ensures.header_cluster
 
 pub returns-then-is_none-clause-copied : goal.returns-then-is_none-clause-copied
 returns-then-is_none-clause-copied g c = λ out k placed sound some.

@@ -1,9 +1,8 @@
-use Rattle.qcow2_alloc.proofs.KeptMarks.{notes_then}
 use Rattle.std.proofs.Common.{◌≡◌, None, ap, ◌∙◌, rules}
 use Rattle.std.specs.Prelude.{IsSome}
 use Rattle.qcow2_image.specs.declared.image.Qcow2.{Qcow2}
 use Rattle.qcow2_image.proofs.Preallocate.Piece.{commits_entered, commits_existing}
-use Rattle.qcow2_image.proofs.Call.BehindHeader.{behind_then}
+use Rattle.qcow2_image.proofs.Call.ImageSteps.{step_then}
 use Rattle.qcow2_image.proofs.image.Qcow2.commit_filled.Goals as goal
 
 pub returns-then-is_none-clause-commits : goal.returns-then-is_none-clause-commits
@@ -29,14 +28,8 @@ returns-then-is_none-clause-table g c = ap (λ (image : Qcow2 _ _). image.l1_tab
 pub returns-clause-table : goal.returns-clause-table
 returns-clause-table g c = ap (λ (image : Qcow2 _ _). image.l1_table) c.release_prepared-2.ensures.rest.rest ∙ ap (λ (image : Qcow2 _ _). image.l1_table) c.enter_shares-entered.ensures.rest
 
-pub returns-then-is_none-clause-header_cluster : goal.returns-then-is_none-clause-header_cluster
-returns-then-is_none-clause-header_cluster g c = c.release_prepared.ensures.header_cluster
+pub returns-then-is_none-clause-step : goal.returns-then-is_none-clause-step
+returns-then-is_none-clause-step g c = c.release_prepared.ensures.step
 
-pub returns-clause-header_cluster : goal.returns-clause-header_cluster
-returns-clause-header_cluster g c = behind_then c.enter_shares-entered.ensures.header_cluster c.release_prepared-2.ensures.header_cluster
-
-pub returns-then-is_none-clause-notes : goal.returns-then-is_none-clause-notes
-returns-then-is_none-clause-notes g c = c.release_prepared.ensures.notes
-
-pub returns-clause-notes : goal.returns-clause-notes
-returns-clause-notes g c = notes_then c.enter_shares-entered.ensures.notes c.release_prepared-2.ensures.notes
+pub returns-clause-step : goal.returns-clause-step
+returns-clause-step g c = step_then c.enter_shares-entered.ensures.step c.release_prepared-2.ensures.step

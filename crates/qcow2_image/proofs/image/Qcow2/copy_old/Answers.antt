@@ -10,12 +10,11 @@ use Rattle.qcow2_image.specs.ImageInvariant.{backing_bytes}
 use Rattle.qcow2_image.proofs.Map.Loading.{if_ok}
 use Rattle.qcow2_image.proofs.Map.Reading.{none_below, zero_shown}
 use Rattle.qcow2_image.proofs.Prepare.Filling.{disk_kept, image_step_data, image_step_kept, image_step_then, own_of, there_written}
-use Rattle.qcow2_alloc.proofs.KeptMarks.{notes_then}
-use Rattle.qcow2_image.proofs.Call.BehindHeader.{behind_then}
 use Rattle.qcow2_image.proofs.Prepare.Lacked.{hands_unlimited}
 use Rattle.qcow2_image.proofs.Prepare.Met.{hands_met, met_as}
 use Rattle.qcow2_image.specs.MetAlone.{IsMetReading}
 use Rattle.qcow2_alloc.specs.ImageError.{IsFault}
+use Rattle.qcow2_image.proofs.Call.ImageSteps.{step_then}
 use Rattle.qcow2_image.proofs.image.Qcow2.copy_old.Goals as goal
 
 pub returns-in-Zero-clause-image_step : goal.returns-in-Zero-clause-image_step
@@ -55,7 +54,7 @@ returns-clause-image_step g c = λ p out cluster sound holds own.
     let long : length bytes ≡ c.args.length = search rules in
     let first = c.read_as.ensures.keeps p out sound in
     image_step_then view below out old mid c.write_data.new.self p p p (image_step_kept view below out old mid p p sound holds holds first)
-    (image_step_data view below out mid c.write_data.new.self p first.sound cluster c.args.at bytes (own_of view below p old mid out cluster c.args.at c.args.length (length bytes) long c.read_as.ensures.header own) holds c.write_data.result
+    (image_step_data view below out mid c.write_data.new.self p first.sound cluster c.args.at bytes (own_of view below p old mid out cluster c.args.at c.args.length (length bytes) long c.read_as.ensures.step.header own) holds c.write_data.result
     c.write_data.ensures.written)
 
 pub returns-clause-copies : goal.returns-clause-copies
@@ -73,27 +72,6 @@ returns-clause-copies g c = λ p out sound mapped.
     (λ done there i lt. ap known_byte (there i (omega (arith, still, lt))) ∙ sym (read i (omega (arith, still, lt))) ∙ ap (λ (d : Disk). d.value (c.args.guest + i)) (disk_kept view below old mid out p sound first))
     (there_written view mid c.write_data.new.self c.args.at bytes c.write_data.result c.write_data.ensures.written first.sound.file.honest)
 
-pub returns-in-Zero-clause-notes : goal.returns-in-Zero-clause-notes
-returns-in-Zero-clause-notes g c = c.write_zeros.ensures.notes
-
-pub returns-in_err-read_as-clause-notes : goal.returns-in_err-read_as-clause-notes
-returns-in_err-read_as-clause-notes g c = c.read_as.ensures.notes
-
-pub returns-clause-notes : goal.returns-clause-notes
-returns-clause-notes g c = notes_then c.read_as.ensures.notes c.write_data.ensures.notes
-
-pub returns-in-Zero-clause-header_cluster : goal.returns-in-Zero-clause-header_cluster
-returns-in-Zero-clause-header_cluster g c = c.write_zeros.ensures.header_cluster
-
-pub returns-in_err-read_as-clause-header_cluster : goal.returns-in_err-read_as-clause-header_cluster
-returns-in_err-read_as-clause-header_cluster g c = c.read_as.ensures.header_cluster
-
-pub returns-clause-header_cluster : goal.returns-clause-header_cluster
-returns-clause-header_cluster g c = behind_then c.read_as.ensures.header_cluster c.write_data.ensures.header_cluster
-
-pub returns-in_err-read_as-clause-limited : goal.returns-in_err-read_as-clause-limited
-returns-in_err-read_as-clause-limited g c = hands_unlimited c.from_residual-in_err-read_as.result c.in_err-read_as.field-0.0 c.from_residual-in_err-read_as.ensures c.in_err-read_as.ensures.limited
-
 pub returns-in-Zero-clause-met : goal.returns-in-Zero-clause-met
 returns-in-Zero-clause-met g c = λ behind. met_as IsFault (IsMetReading c.args.kind.now) c.write_zeros.result (λ e fault. inl fault) (c.write_zeros.ensures.fault behind)
 
@@ -102,4 +80,20 @@ returns-in_err-read_as-clause-met g c = λ behind. hands_met (IsMetReading c.arg
 
 pub returns-clause-met : goal.returns-clause-met
 returns-clause-met g c = λ behind.
-    met_as IsFault (IsMetReading c.args.kind.now) c.write_data.result (λ e fault. inl fault) (c.write_data.ensures.fault (subst (λ (v : HeaderView). cluster_size v.fields ≤ c.args.at) (sym c.read_as.ensures.header) behind))
+    met_as IsFault (IsMetReading c.args.kind.now) c.write_data.result (λ e fault. inl fault) (c.write_data.ensures.fault (subst (λ (v : HeaderView). cluster_size v.fields ≤ c.args.at) (sym c.read_as.ensures.step.header) behind))
+
+pub returns-in-Zero-clause-step : goal.returns-in-Zero-clause-step
+returns-in-Zero-clause-step g c = c.write_zeros.ensures.step
+
+pub returns-in_err-read_as-clause-step : goal.returns-in_err-read_as-clause-step
+returns-in_err-read_as-clause-step g c = c.read_as.ensures.step.part
+
+pub returns-in_err-read_as-clause-fails : goal.returns-in_err-read_as-clause-fails
+returns-in_err-read_as-clause-fails g c = record {
+  faults = search rules;
+  cause = search rules;
+  limited = hands_unlimited c.from_residual-in_err-read_as.result c.in_err-read_as.field-0.0 c.from_residual-in_err-read_as.ensures c.in_err-read_as.ensures.fails.limited;
+}
+
+pub returns-clause-step : goal.returns-clause-step
+returns-clause-step g c = step_then c.read_as.ensures.step.part c.write_data.ensures.step

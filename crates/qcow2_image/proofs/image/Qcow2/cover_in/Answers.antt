@@ -12,8 +12,7 @@ use Rattle.qcow2_image.proofs.image.Qcow2.cover_in.Goals as goal
 
 pub returns-clause-says : goal.returns-clause-says
 returns-clause-says g c = λ p i sound at here.
-    let is = cached_says g.S.Storage.view c.args.self.now.file p c.in-Some.held.now c.args.table i c.args.cluster sound c.in-Some.ensures.shows at here in
-    sym is ∙ sym c.in_ok-mapping.ensures.ok
+    sym (cached_says g.S.Storage.view c.args.self.now.file p c.in-Some.held.now c.args.table i c.args.cluster sound c.in-Some.ensures.shows at here) ∙ sym c.in_ok-mapping.ensures.ok
 
 pub returns-clause-behind : goal.returns-clause-behind
 returns-clause-behind g c = subst (λ n. MarkedIsBehind n c.in_ok-mapping.mapping) c.cluster_size.ensures.value (c.is_behind_header.ensures.0 c.if-not-is_behind_header.false)

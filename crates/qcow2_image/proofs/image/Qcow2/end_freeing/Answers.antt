@@ -1,4 +1,4 @@
-use Rattle.std.proofs.Common.{refl, sym, ap, ◌∙◌, subst}
+use Rattle.std.proofs.Common.{refl, sym, ap, ◌∙◌, subst, rules}
 use Rattle.std.specs.Prelude.{Result}
 use Rattle.qcow2_laws.specs.CrashInvariant.{Pending}
 use Rattle.qcow2_image.specs.declared.image.Qcow2.{Qcow2}
@@ -20,25 +20,18 @@ returns-clause-frees g c = λ out sound.
     let below = g.F.BackingDisk.backing in
     let old = c.args.self.now in
     let new = c.free_listed-freed.new.self in
-    let r = c.free_listed-freed.result in
     let p : Pending = beside view below old out in
     let listed = subst (λ (x : Pending). ImageInvariant view below x old out) (all_listed view below old out) sound in
     subst (λ (image : Qcow2 _ _). EndsFreeing view below old image out c.mark_failure.result) (sym c.mark_failure.ensures.rest)
     (subst (λ (x : Result _ _). EndsFreeing view below old (record new { is_failed = is_failed c.mark_failure.new.self }) out x) (sym c.mark_failure.ensures.answer)
-    (ends_freeing view below old sound.works new (is_failed c.mark_failure.new.self) c.free_listed-freed.ensures.stays.image.number out sound r (may_mark c.free_listed-freed.new.self c.mark_failure.new.self c.free_listed-freed.result c.mark_failure.ensures.marks) (marks_memory c.free_listed-freed.new.self c.mark_failure.new.self c.free_listed-freed.new.self c.free_listed-freed.result c.mark_failure.ensures.marks (ap (λ (i : Qcow2 _ _). i.file) c.mark_failure.ensures.rest)) c.free_listed-freed.ensures.noted
+    (ends_freeing view below old sound.works new (is_failed c.mark_failure.new.self) c.free_listed-freed.ensures.step.stays.image.number out sound c.free_listed-freed.result (may_mark c.free_listed-freed.new.self c.mark_failure.new.self c.free_listed-freed.result c.mark_failure.ensures.marks) (marks_memory c.free_listed-freed.new.self c.mark_failure.new.self c.free_listed-freed.new.self c.free_listed-freed.result c.mark_failure.ensures.marks (ap (λ (i : Qcow2 _ _). i.file) c.mark_failure.ensures.rest)) c.free_listed-freed.ensures.noted
     (c.free_listed-freed.ensures.faults p out listed) (c.free_listed-freed.ensures.frees p out listed)))
 
 pub returns-clause-idle : goal.returns-clause-idle
 returns-clause-idle g c = λ none.
     let new = c.free_listed-freed.new.self in
-    let last = c.mark_failure.new.self in
     let kept = c.free_listed-freed.ensures.idle none in
-    (c.mark_failure.ensures.answer ∙ kept.0, c.mark_failure.ensures.rest ∙ ap (λ f. record new { is_failed = f }) (subst (λ (r : Result _ _). MarksFailed new last r) kept.0 c.mark_failure.ensures.marks) ∙ kept.1)
-
-pub returns-clause-faults : goal.returns-clause-faults
-returns-clause-faults g c =
-    counted_marked g.S.Storage.view g.F.BackingDisk.backing c.args.self.now c.args.self.now c.free_listed-freed.new.self c.mark_failure.new.self c.free_listed-freed.result c.mark_failure.result (untouched g.S.Storage.view g.F.BackingDisk.backing c.args.self.now c.args.self.now refl refl)
-    c.free_listed-freed.ensures.counts c.mark_failure.ensures.answer c.mark_failure.ensures.rest
+    (c.mark_failure.ensures.answer ∙ kept.0, c.mark_failure.ensures.rest ∙ ap (λ f. record new { is_failed = f }) (subst (λ (r : Result _ _). MarksFailed new c.mark_failure.new.self r) kept.0 c.mark_failure.ensures.marks) ∙ kept.1)
 
 pub returns-clause-header : goal.returns-clause-header
 returns-clause-header g c = ap (λ (i : Qcow2 _ _). i.file.header) c.mark_failure.ensures.rest ∙ c.free_listed-freed.ensures.keeps_rest.header
@@ -47,7 +40,14 @@ pub returns-clause-table : goal.returns-clause-table
 returns-clause-table g c = ap (λ (i : Qcow2 _ _). i.l1_table) c.mark_failure.ensures.rest ∙ c.free_listed-freed.ensures.table
 
 pub returns-clause-notes : goal.returns-clause-notes
-returns-clause-notes g c = notes_then c.free_listed-freed.ensures.notes (same_kept c.free_listed-freed.new.self c.mark_failure.new.self (ap (λ (i : Qcow2 _ _). i.file.storage) c.mark_failure.ensures.rest) (ap (λ (i : Qcow2 _ _). i.file.caches) c.mark_failure.ensures.rest))
+returns-clause-notes g c = notes_then c.free_listed-freed.ensures.step.notes (same_kept c.free_listed-freed.new.self c.mark_failure.new.self (ap (λ (i : Qcow2 _ _). i.file.storage) c.mark_failure.ensures.rest) (ap (λ (i : Qcow2 _ _). i.file.caches) c.mark_failure.ensures.rest))
 
 pub returns-clause-header_cluster : goal.returns-clause-header_cluster
-returns-clause-header_cluster g c = behind_then c.free_listed-freed.ensures.header_cluster (behind_by g.S.Storage.view c.mark_failure.ensures.rest behind_none)
+returns-clause-header_cluster g c = behind_then c.free_listed-freed.ensures.step.header_cluster (behind_by g.S.Storage.view c.mark_failure.ensures.rest behind_none)
+
+pub returns-clause-fails : goal.returns-clause-fails
+returns-clause-fails g c = record {
+  cause = search rules;
+  faults = counted_marked g.S.Storage.view g.F.BackingDisk.backing c.args.self.now c.args.self.now c.free_listed-freed.new.self c.mark_failure.new.self c.free_listed-freed.result c.mark_failure.result (untouched g.S.Storage.view g.F.BackingDisk.backing c.args.self.now c.args.self.now refl refl)
+      c.free_listed-freed.ensures.counts c.mark_failure.ensures.answer c.mark_failure.ensures.rest;
+}

@@ -1,5 +1,5 @@
 use Rattle.qcow2_image.proofs.image.Qcow2.ensure_l2.Goals as goal
-use Rattle.std.proofs.Common.{ap, inl, ◌∙◌, sym}
+use Rattle.std.proofs.Common.{ap, inl, ◌∙◌, sym, rules}
 use Rattle.qcow2_alloc.proofs.AllocationSteps.{handed_on}
 use Rattle.qcow2_image.specs.declared.image.Qcow2.{Qcow2}
 use Rattle.qcow2_image.specs.UnseenSteps.{Ensures, pending_with_listed}
@@ -21,51 +21,6 @@ use Rattle.qcow2_image.specs.MetAlone.{IsMetTaking}
 use Rattle.qcow2_image.proofs.Prepare.Met.{hands_met}
 use Rattle.qcow2_image.proofs.Prepare.MetTaking.{looking_taking}
 
-pub returns-in_err-cluster-clause-ready : goal.returns-in_err-cluster-clause-ready
-returns-in_err-cluster-clause-ready g c = λ p out sound.
-    handed_on (Ensures g.S.Storage.view g.F.BackingDisk.backing p c.args.self.now c.own_l2.new.self out c.args.offset) c.from_residual.result c.in_err-cluster.field-0.0 c.from_residual.ensures
-    (c.in_err-cluster.ensures.owns p out sound)
-
-pub returns-in_err-l2_get_or_insert-clause-ready : goal.returns-in_err-l2_get_or_insert-clause-ready
-returns-in_err-l2_get_or_insert-clause-ready g c = λ p out sound.
-    let old = c.args.self.now in
-    let mid = c.own_l2.new.self in
-    let owned = c.in_ok-cluster.ensures.owns p out sound in
-    let loaded = with_caches g.S.Storage.view g.F.BackingDisk.backing mid out (pending_with_listed p old mid) owned.0.sound c.l2_get_or_insert.new.storage c.l2_get_or_insert.new.self in
-    refused (Ensures g.S.Storage.view g.F.BackingDisk.backing p old loaded out c.args.offset) c.from_residual-in_err-l2_get_or_insert.result c.from_residual-in_err-l2_get_or_insert.ensures.0
-    (λ e. inl (keeps_loaded g.S.Storage.view g.F.BackingDisk.backing out p old mid c.args.offset c.in_ok-cluster.cluster owned.0 c.l2_get_or_insert.new.storage c.l2_get_or_insert.new.self
-    (c.l2_get_or_insert.ensures.keeps mid.file.header.fields (pending_with_listed p old mid) owned.0.sound.file.honest owned.0.sound.file.caches) c.l2_get_or_insert.ensures.marks.room c.l2_get_or_insert.ensures.marks.pins))
-
-pub returns-clause-ready : goal.returns-clause-ready
-returns-clause-ready g c = λ p out sound.
-    let old = c.args.self.now in
-    let mid = c.own_l2.new.self in
-    let owned = c.in_ok-cluster.ensures.owns p out sound in
-    let stay = c.l2_get_or_insert.ensures.keeps mid.file.header.fields (pending_with_listed p old mid) owned.0.sound.file.honest owned.0.sound.file.caches in (
-      keeps_loaded g.S.Storage.view g.F.BackingDisk.backing out p old mid c.args.offset c.in_ok-cluster.cluster owned.0 c.l2_get_or_insert.new.storage c.l2_get_or_insert.new.self stay c.l2_get_or_insert.ensures.marks.room c.l2_get_or_insert.ensures.marks.pins,
-      holds_table g.S.Storage.view g.F.BackingDisk.backing out p old mid c.args.offset c.in_ok-cluster.cluster owned.0 c.l2_get_or_insert.new.storage c.l2_get_or_insert.new.self stay c.l2_get_or_insert.ensures.marks.room c.l2_get_or_insert.ensures.marks.pins owned.1
-          c.in_ok-l2_get_or_insert.ensures.cached,
-    )
-
-pub returns-in_err-cluster-clause-lacks : goal.returns-in_err-cluster-clause-lacks
-returns-in_err-cluster-clause-lacks g c = λ p out sound none.
-    handed_on (λ r. IfErr r (IsFaultOrLacksTable g.S.Storage.view c.own_l2.new.self c.args.offset)) c.from_residual.result c.in_err-cluster.field-0.0 c.from_residual.ensures (c.in_err-cluster.ensures.lacks p out sound)
-
-pub returns-in_err-l2_get_or_insert-clause-lacks : goal.returns-in_err-l2_get_or_insert-clause-lacks
-returns-in_err-l2_get_or_insert-clause-lacks g c = λ p out sound none.
-    let view = g.S.Storage.view in
-    let below = g.F.BackingDisk.backing in
-    let old = c.args.self.now in
-    let mid = c.own_l2.new.self in
-    let q = pending_with_listed p old mid in
-    let owned = c.in_ok-cluster.ensures.owns p out sound in
-    let loaded = with_caches view below mid out q owned.0.sound c.l2_get_or_insert.new.storage c.l2_get_or_insert.new.self in
-    let file = owned.0.sound.file in
-    let e = c.in_err-l2_get_or_insert.field-0.0 in
-    handed_on (λ r. IfErr r (IsFaultOrLacksTable view loaded c.args.offset)) c.from_residual-in_err-l2_get_or_insert.result e c.from_residual-in_err-l2_get_or_insert.ensures
-    (inl (fault_alone view below out q mid owned.0.sound none e
-    (c.in_err-l2_get_or_insert.ensures.refusals mid.file.header.fields (named_place mid.file.header.fields (contents_in view mid.file) (l1_index_of old.file.header.fields c.args.offset) c.in_ok-cluster.cluster owned.1.place) q file.honest file.caches file.named_blocks)))
-
 pub returns-in_err-cluster-clause-quiet : goal.returns-in_err-cluster-clause-quiet
 returns-in_err-cluster-clause-quiet g c = λ own. let same = c.own_l2.ensures.quiet own in record { allocator = ap (λ (i : Qcow2 _ _). i.allocator) same; list = ap (λ (i : Qcow2 _ _). i.file.free_list) same }
 
@@ -75,77 +30,23 @@ returns-in_err-l2_get_or_insert-clause-quiet g c = λ own. let same = c.own_l2.e
 pub returns-clause-quiet : goal.returns-clause-quiet
 returns-clause-quiet g c = λ own. let same = c.own_l2.ensures.quiet own in record { allocator = ap (λ (i : Qcow2 _ _). i.allocator) same; list = ap (λ (i : Qcow2 _ _). i.file.free_list) same }
 
-pub returns-in_err-cluster-clause-notes : goal.returns-in_err-cluster-clause-notes
-returns-in_err-cluster-clause-notes g c = c.own_l2.ensures.notes
-
-pub returns-in_err-l2_get_or_insert-clause-notes : goal.returns-in_err-l2_get_or_insert-clause-notes
-returns-in_err-l2_get_or_insert-clause-notes g c = notes_then c.own_l2.ensures.notes (notes_of_both c.l2_get_or_insert.ensures.marks c.l2_get_or_insert.ensures.notes)
-
-pub returns-clause-notes : goal.returns-clause-notes
-returns-clause-notes g c = notes_then c.own_l2.ensures.notes (notes_of_both c.l2_get_or_insert.ensures.marks c.l2_get_or_insert.ensures.notes)
-
-pub returns-in_err-cluster-clause-header_cluster : goal.returns-in_err-cluster-clause-header_cluster
-returns-in_err-cluster-clause-header_cluster g c = c.own_l2.ensures.header_cluster
-
-pub returns-in_err-l2_get_or_insert-clause-header_cluster : goal.returns-in_err-l2_get_or_insert-clause-header_cluster
-returns-in_err-l2_get_or_insert-clause-header_cluster g c = behind_then c.own_l2.ensures.header_cluster (behind_caches (c.l2_get_or_insert.ensures.header_cluster c.in_ok-cluster.ensures.elsewhere))
-
-pub returns-clause-header_cluster : goal.returns-clause-header_cluster
-returns-clause-header_cluster g c = behind_then c.own_l2.ensures.header_cluster (behind_caches (c.l2_get_or_insert.ensures.header_cluster c.in_ok-cluster.ensures.elsewhere))
-
 pub returns-clause-elsewhere : goal.returns-clause-elsewhere
 returns-clause-elsewhere g c = c.in_ok-cluster.ensures.elsewhere
 
 pub returns-in_err-cluster-clause-own : goal.returns-in_err-cluster-clause-own
 returns-in_err-cluster-clause-own g c = λ own.
-    let same = c.own_l2.ensures.quiet own in
     handed_on (λ r. FindsOwn c.args.self.now c.own_l2.new.self c.args.offset r) c.from_residual.result c.in_err-cluster.field-0.0 c.from_residual.ensures
-    (record { table = tt; pins = λ t. ap (λ (i : Qcow2 _ _). l2_pins i.file.caches t) same })
+    (record { table = tt; pins = λ t. ap (λ (i : Qcow2 _ _). l2_pins i.file.caches t) (c.own_l2.ensures.quiet own) })
 
 pub returns-in_err-l2_get_or_insert-clause-own : goal.returns-in_err-l2_get_or_insert-clause-own
 returns-in_err-l2_get_or_insert-clause-own g c = λ own.
     let mid = c.own_l2.new.self in
-    let same = c.own_l2.ensures.quiet own in
     handed_on (λ r. FindsOwn c.args.self.now (record mid { file = record mid.file { storage = c.l2_get_or_insert.new.storage; caches = c.l2_get_or_insert.new.self } }) c.args.offset r) c.from_residual-in_err-l2_get_or_insert.result c.in_err-l2_get_or_insert.field-0.0 c.from_residual-in_err-l2_get_or_insert.ensures
-    (record { table = tt; pins = λ t. c.l2_get_or_insert.ensures.marks.pins t ∙ ap (λ (i : Qcow2 _ _). l2_pins i.file.caches t) same })
+    (record { table = tt; pins = λ t. c.l2_get_or_insert.ensures.marks.pins t ∙ ap (λ (i : Qcow2 _ _). l2_pins i.file.caches t) (c.own_l2.ensures.quiet own) })
 
 pub returns-clause-own : goal.returns-clause-own
 returns-clause-own g c = λ own.
-    let same = c.own_l2.ensures.quiet own in
-    record { table = c.in_ok-cluster.ensures.own own; pins = λ t. c.l2_get_or_insert.ensures.marks.pins t ∙ ap (λ (i : Qcow2 _ _). l2_pins i.file.caches t) same }
-
-pub returns-in_err-cluster-clause-limited : goal.returns-in_err-cluster-clause-limited
-returns-in_err-cluster-clause-limited g c = λ p out sound own. hands_unlimited c.from_residual.result c.in_err-cluster.field-0.0 c.from_residual.ensures (c.in_err-cluster.ensures.limited p out sound own)
-
-pub returns-in_err-l2_get_or_insert-clause-limited : goal.returns-in_err-l2_get_or_insert-clause-limited
-returns-in_err-l2_get_or_insert-clause-limited g c = λ p out sound own.
-    let view = g.S.Storage.view in
-    let old = c.args.self.now in
-    let mid = c.own_l2.new.self in
-    let q = pending_with_listed p old mid in
-    let owned = c.in_ok-cluster.ensures.owns p out sound in
-    let file = owned.0.sound.file in
-    let e = c.in_err-l2_get_or_insert.field-0.0 in
-    hands_unlimited c.from_residual-in_err-l2_get_or_insert.result e c.from_residual-in_err-l2_get_or_insert.ensures
-    (in_use_unlimited mid.file.caches e
-    (c.in_err-l2_get_or_insert.ensures.refusals mid.file.header.fields (named_place mid.file.header.fields (contents_in view mid.file) (l1_index_of old.file.header.fields c.args.offset) c.in_ok-cluster.cluster owned.1.place) q file.honest file.caches file.named_blocks))
-
-pub returns-in_err-cluster-clause-met : goal.returns-in_err-cluster-clause-met
-returns-in_err-cluster-clause-met g c = λ p out sound cause. hands_met (IsMetTaking (HasPrepared out) ⊥ ⊥ ⊥) c.from_residual.result c.in_err-cluster.field-0.0 c.from_residual.ensures (c.in_err-cluster.ensures.met p out sound cause)
-
-pub returns-in_err-l2_get_or_insert-clause-met : goal.returns-in_err-l2_get_or_insert-clause-met
-returns-in_err-l2_get_or_insert-clause-met g c = λ p out sound cause.
-    let view = g.S.Storage.view in
-    let below = g.F.BackingDisk.backing in
-    let old = c.args.self.now in
-    let mid = c.own_l2.new.self in
-    let q = pending_with_listed p old mid in
-    let owned = c.in_ok-cluster.ensures.owns p out sound in
-    let file = owned.0.sound.file in
-    let e = c.in_err-l2_get_or_insert.field-0.0 in
-    hands_met (IsMetTaking (HasPrepared out) ⊥ ⊥ ⊥) c.from_residual-in_err-l2_get_or_insert.result e c.from_residual-in_err-l2_get_or_insert.ensures
-    (looking_taking ⊥ ⊥ ⊥ e (loads_looking view below out q mid owned.0.sound e
-    (c.in_err-l2_get_or_insert.ensures.refusals mid.file.header.fields (named_place mid.file.header.fields (contents_in view mid.file) (l1_index_of old.file.header.fields c.args.offset) c.in_ok-cluster.cluster owned.1.place) q file.honest file.caches file.named_blocks)))
+    record { table = c.in_ok-cluster.ensures.own own; pins = λ t. c.l2_get_or_insert.ensures.marks.pins t ∙ ap (λ (i : Qcow2 _ _). l2_pins i.file.caches t) (c.own_l2.ensures.quiet own) }
 
 pub returns-in_err-cluster-clause-rest : goal.returns-in_err-cluster-clause-rest
 returns-in_err-cluster-clause-rest g c = λ own. c.own_l2.ensures.quiet own ∙ ap (λ (i : Qcow2 _ _). record c.args.self.now { file = record c.args.self.now.file { storage = i.file.storage; caches = i.file.caches } }) (sym (c.own_l2.ensures.quiet own))
@@ -155,3 +56,73 @@ returns-in_err-l2_get_or_insert-clause-rest g c = λ own. ap (λ (i : Qcow2 _ _)
 
 pub returns-clause-rest : goal.returns-clause-rest
 returns-clause-rest g c = λ own. ap (λ (i : Qcow2 _ _). record i { file = record i.file { storage = c.l2_get_or_insert.new.storage; caches = c.l2_get_or_insert.new.self } }) (c.own_l2.ensures.quiet own)
+
+pub returns-in_err-cluster-clause-step : goal.returns-in_err-cluster-clause-step
+returns-in_err-cluster-clause-step g c = c.own_l2.ensures.step
+
+pub returns-in_err-l2_get_or_insert-clause-step : goal.returns-in_err-l2_get_or_insert-clause-step
+returns-in_err-l2_get_or_insert-clause-step g c = record {
+  stays = search rules;
+  notes = notes_then c.own_l2.ensures.step.notes (notes_of_both c.l2_get_or_insert.ensures.marks c.l2_get_or_insert.ensures.notes);
+  header_cluster = behind_then c.own_l2.ensures.step.header_cluster (behind_caches (c.l2_get_or_insert.ensures.header_cluster c.in_ok-cluster.ensures.elsewhere));
+}
+
+pub returns-clause-step : goal.returns-clause-step
+returns-clause-step g c = record {
+  stays = search rules;
+  notes = notes_then c.own_l2.ensures.step.notes (notes_of_both c.l2_get_or_insert.ensures.marks c.l2_get_or_insert.ensures.notes);
+  header_cluster = behind_then c.own_l2.ensures.step.header_cluster (behind_caches (c.l2_get_or_insert.ensures.header_cluster c.in_ok-cluster.ensures.elsewhere));
+}
+
+pub returns-in_err-cluster-clause-sound : goal.returns-in_err-cluster-clause-sound
+returns-in_err-cluster-clause-sound g c = λ p out sound.
+    record {
+      ready = handed_on (Ensures g.S.Storage.view g.F.BackingDisk.backing p c.args.self.now c.own_l2.new.self out c.args.offset) c.from_residual.result c.in_err-cluster.field-0.0 c.from_residual.ensures
+          ((c.in_err-cluster.ensures.sound p out sound).does);
+      met = λ cause. hands_met (IsMetTaking (HasPrepared out) ⊥ ⊥ ⊥) c.from_residual.result c.in_err-cluster.field-0.0 c.from_residual.ensures ((c.in_err-cluster.ensures.sound p out sound).met cause);
+      limited = λ own. hands_unlimited c.from_residual.result c.in_err-cluster.field-0.0 c.from_residual.ensures ((c.in_err-cluster.ensures.sound p out sound).limited own);
+      lacks = λ none. handed_on (λ r. IfErr r (IsFaultOrLacksTable g.S.Storage.view c.own_l2.new.self c.args.offset)) c.from_residual.result c.in_err-cluster.field-0.0 c.from_residual.ensures ((c.in_err-cluster.ensures.sound p out sound).lacks);
+    }
+
+pub returns-in_err-l2_get_or_insert-clause-sound : goal.returns-in_err-l2_get_or_insert-clause-sound
+returns-in_err-l2_get_or_insert-clause-sound g c = λ p out sound.
+    let old = c.args.self.now in
+    let view = g.S.Storage.view in
+    let mid = c.own_l2.new.self in
+    let below = g.F.BackingDisk.backing in
+    let owned = (c.in_ok-cluster.ensures.sound p out sound).does in
+    let loaded = with_caches g.S.Storage.view g.F.BackingDisk.backing mid out (pending_with_listed p old mid) owned.0.sound c.l2_get_or_insert.new.storage c.l2_get_or_insert.new.self in
+    let q = pending_with_listed p old mid in
+    let file = owned.0.sound.file in
+    let e = c.in_err-l2_get_or_insert.field-0.0 in
+    record {
+      ready = refused (Ensures g.S.Storage.view g.F.BackingDisk.backing p old loaded out c.args.offset) c.from_residual-in_err-l2_get_or_insert.result c.from_residual-in_err-l2_get_or_insert.ensures.0
+          (λ e. inl (keeps_loaded g.S.Storage.view g.F.BackingDisk.backing out p old mid c.args.offset c.in_ok-cluster.cluster owned.0 c.l2_get_or_insert.new.storage c.l2_get_or_insert.new.self
+          (c.l2_get_or_insert.ensures.keeps mid.file.header.fields (pending_with_listed p old mid) owned.0.sound.file.honest owned.0.sound.file.caches) c.l2_get_or_insert.ensures.marks.room c.l2_get_or_insert.ensures.marks.pins));
+      met = λ cause. hands_met (IsMetTaking (HasPrepared out) ⊥ ⊥ ⊥) c.from_residual-in_err-l2_get_or_insert.result e c.from_residual-in_err-l2_get_or_insert.ensures
+          (looking_taking ⊥ ⊥ ⊥ e (loads_looking view below out q mid owned.0.sound e
+          (c.in_err-l2_get_or_insert.ensures.refusals mid.file.header.fields (named_place mid.file.header.fields (contents_in view mid.file) (l1_index_of old.file.header.fields c.args.offset) c.in_ok-cluster.cluster owned.1.place) q file.honest file.caches file.named_blocks)));
+      limited = λ own. hands_unlimited c.from_residual-in_err-l2_get_or_insert.result e c.from_residual-in_err-l2_get_or_insert.ensures
+          (in_use_unlimited mid.file.caches e
+          (c.in_err-l2_get_or_insert.ensures.refusals mid.file.header.fields (named_place mid.file.header.fields (contents_in view mid.file) (l1_index_of old.file.header.fields c.args.offset) c.in_ok-cluster.cluster owned.1.place) q file.honest file.caches file.named_blocks));
+      lacks = λ none. let loaded = with_caches view below mid out q owned.0.sound c.l2_get_or_insert.new.storage c.l2_get_or_insert.new.self in
+          handed_on (λ r. IfErr r (IsFaultOrLacksTable view loaded c.args.offset)) c.from_residual-in_err-l2_get_or_insert.result e c.from_residual-in_err-l2_get_or_insert.ensures
+          (inl (fault_alone view below out q mid owned.0.sound none e
+          (c.in_err-l2_get_or_insert.ensures.refusals mid.file.header.fields (named_place mid.file.header.fields (contents_in view mid.file) (l1_index_of old.file.header.fields c.args.offset) c.in_ok-cluster.cluster owned.1.place) q file.honest file.caches file.named_blocks)));
+    }
+
+pub returns-clause-sound : goal.returns-clause-sound
+returns-clause-sound g c = λ p out sound.
+    let old = c.args.self.now in
+    let mid = c.own_l2.new.self in
+    let owned = (c.in_ok-cluster.ensures.sound p out sound).does in
+    record {
+      met = search rules;
+      limited = search rules;
+      lacks = search rules;
+      ready = let stay = c.l2_get_or_insert.ensures.keeps mid.file.header.fields (pending_with_listed p old mid) owned.0.sound.file.honest owned.0.sound.file.caches in (
+        keeps_loaded g.S.Storage.view g.F.BackingDisk.backing out p old mid c.args.offset c.in_ok-cluster.cluster owned.0 c.l2_get_or_insert.new.storage c.l2_get_or_insert.new.self stay c.l2_get_or_insert.ensures.marks.room c.l2_get_or_insert.ensures.marks.pins,
+        holds_table g.S.Storage.view g.F.BackingDisk.backing out p old mid c.args.offset c.in_ok-cluster.cluster owned.0 c.l2_get_or_insert.new.storage c.l2_get_or_insert.new.self stay c.l2_get_or_insert.ensures.marks.room c.l2_get_or_insert.ensures.marks.pins owned.1
+            c.in_ok-l2_get_or_insert.ensures.cached,
+      );
+    }

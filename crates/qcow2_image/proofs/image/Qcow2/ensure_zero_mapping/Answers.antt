@@ -1,8 +1,5 @@
 use Rattle.qcow2_image.proofs.image.Qcow2.ensure_zero_mapping.Goals as goal
 
-pub returns-clause-limit : goal.returns-clause-limit
-returns-clause-limit g c = c.clear_range.ensures.limit
-
 pub returns-clause-step : goal.returns-clause-step
 returns-clause-step g c = c.clear_range.ensures.step
 

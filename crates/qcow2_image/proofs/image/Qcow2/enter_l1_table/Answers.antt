@@ -1,3 +1,4 @@
+use Rattle.qcow2_alloc.proofs.Steps.{told_of}
 use Rattle.qcow2_image.proofs.image.Qcow2.enter_l1_table.Goals as goal
 use Rattle.qcow2_alloc.proofs.Outcomes.{on_no_ok, on_ok}
 use Rattle.std.proofs.Common.{refl, ◌∙◌, subst, ◌≡◌, ap, inl, inr}
@@ -29,44 +30,44 @@ returns-in_err-pending-clause-takes g c = λ p out sound longer.
     let own = subst (λ o. IfSome o (IsAllocatorOf g.S.Storage.view old.file)) c.in-Some.is sound.reftable in
     handed_on (TakesTable g.S.Storage.view g.F.BackingDisk.backing p old (record old { file = c.allocate_meta.new.file; allocator = Some c.allocate_meta.new.self }) out)
     c.from_residual.result c.in_err-pending.field-0.0 c.from_residual.ensures
-    (none_taken_for_table g.S.Storage.view g.F.BackingDisk.backing out p old sound c.allocate_meta.new.file c.allocate_meta.new.self c.allocate_meta.ensures.marks.pins c.allocate_meta.ensures.list c.allocate_meta.ensures.header
-    (leaked_still old c.in-Some.allocator c.allocate_meta.new.self c.in-Some.is (c.allocate_meta.ensures.leaks p (record { sound = sound.file; reftable = own.reftable }))) c.in_err-pending.field-0.0
-    (c.in_err-pending.ensures.sound p (record { sound = sound.file; reftable = own.reftable })) (c.in_err-pending.ensures.hint p (record { sound = record { sound = sound.file; reftable = own.reftable }; hint = own.hint })))
+    (none_taken_for_table g.S.Storage.view g.F.BackingDisk.backing out p old sound c.allocate_meta.new.file c.allocate_meta.new.self c.allocate_meta.ensures.step.marks.pins c.allocate_meta.ensures.step.list c.allocate_meta.ensures.step.header
+    (leaked_still old c.in-Some.allocator c.allocate_meta.new.self c.in-Some.is ((c.allocate_meta.ensures.sound p (record { sound = sound.file; reftable = own.reftable })).leaks)) c.in_err-pending.field-0.0
+    ((c.in_err-pending.ensures.sound p (record { sound = sound.file; reftable = own.reftable })).found.takes) (((c.in_err-pending.ensures.sound p (record { sound = sound.file; reftable = own.reftable })).found.hint own.hint)))
 
 pub returns-clause-takes : goal.returns-clause-takes
 returns-clause-takes g c = λ p out sound longer.
     let old = c.args.self.now in
     let own = subst (λ o. IfSome o (IsAllocatorOf g.S.Storage.view old.file)) c.in-Some.is sound.reftable in
-    let took = c.in_ok-pending.ensures.sound p (record { sound = sound.file; reftable = own.reftable }) in
-    table_named_blocks g.S.Storage.view g.F.BackingDisk.backing out p old sound c.allocate_meta.new.file c.allocate_meta.new.self c.allocate_meta.ensures.marks.pins c.allocate_meta.ensures.list c.allocate_meta.ensures.header
-    (leaked_still old c.in-Some.allocator c.allocate_meta.new.self c.in-Some.is (c.allocate_meta.ensures.leaks p (record { sound = sound.file; reftable = own.reftable })))
+    let took = (c.in_ok-pending.ensures.sound p (record { sound = sound.file; reftable = own.reftable })).found.takes in
+    table_named_blocks g.S.Storage.view g.F.BackingDisk.backing out p old sound c.allocate_meta.new.file c.allocate_meta.new.self c.allocate_meta.ensures.step.marks.pins c.allocate_meta.ensures.step.list c.allocate_meta.ensures.step.header
+    (leaked_still old c.in-Some.allocator c.allocate_meta.new.self c.in-Some.is ((c.allocate_meta.ensures.sound p (record { sound = sound.file; reftable = own.reftable })).leaks))
     c.args.table c.in_ok-pending.pending.first_cluster c.cluster_count.result c.cluster_count.ensures took.2
-    (c.in_ok-pending.ensures.hint p (record { sound = record { sound = sound.file; reftable = own.reftable }; hint = own.hint })) longer c.in_ok-pending.pending c.write_taken.new.self c.write_taken.result refl (took.0 ∙ c.cluster_count.ensures) took.1
+    (((c.in_ok-pending.ensures.sound p (record { sound = sound.file; reftable = own.reftable })).found.hint own.hint)) longer c.in_ok-pending.pending c.write_taken.new.self c.write_taken.result refl (took.0 ∙ c.cluster_count.ensures) took.1
     (λ placed. c.write_taken.ensures.names (pending_then p old.file.free_list c.allocate_meta.new.file.free_list) out placed c.in_ok-pending.ensures.noted) c.write_taken.ensures.kept c.write_taken.ensures.listed
 
 pub returns-in_default-clause-notes : goal.returns-in_default-clause-notes
 returns-in_default-clause-notes g c = notes_none
 
 pub returns-in_err-pending-clause-notes : goal.returns-in_err-pending-clause-notes
-returns-in_err-pending-clause-notes g c = (notes_of_marks c.allocate_meta.ensures.marks)
+returns-in_err-pending-clause-notes g c = (notes_of_marks c.allocate_meta.ensures.step.marks)
 
 pub returns-clause-notes : goal.returns-clause-notes
-returns-clause-notes g c = notes_then (notes_of_marks c.allocate_meta.ensures.marks) c.write_taken.ensures.notes
+returns-clause-notes g c = notes_then (notes_of_marks c.allocate_meta.ensures.step.marks) c.write_taken.ensures.notes
 
 pub returns-in_default-clause-header_cluster : goal.returns-in_default-clause-header_cluster
 returns-in_default-clause-header_cluster g c = λ as_wide. behind_none
 
 pub returns-in_err-pending-clause-header_cluster : goal.returns-in_err-pending-clause-header_cluster
-returns-in_err-pending-clause-header_cluster g c = λ as_wide. behind_allocated c.in-Some.is c.allocate_meta.ensures.header_cluster
+returns-in_err-pending-clause-header_cluster g c = λ as_wide. behind_allocated c.in-Some.is c.allocate_meta.ensures.step.header_cluster
 
 pub returns-clause-header_cluster : goal.returns-clause-header_cluster
-returns-clause-header_cluster g c = λ as_wide. behind_then (behind_allocated c.in-Some.is c.allocate_meta.ensures.header_cluster) (c.write_taken.ensures.header_cluster as_wide c.in_ok-pending.ensures.elsewhere)
+returns-clause-header_cluster g c = λ as_wide. behind_then (behind_allocated c.in-Some.is c.allocate_meta.ensures.step.header_cluster) (c.write_taken.ensures.header_cluster as_wide c.in_ok-pending.ensures.elsewhere)
 
 pub returns-clause-former : goal.returns-clause-former
 returns-clause-former g c =
     let old = c.args.self.now in
     let mid = record c.args.self.now { file = c.allocate_meta.new.file; allocator = Some c.allocate_meta.new.self } in
-    let took = gave_former old mid (record { before = c.in-Some.allocator; after = c.allocate_meta.new.self; was = c.in-Some.is; is = refl; behind = c.allocate_meta.ensures.former }) in
+    let took = gave_former old mid (record { before = c.in-Some.allocator; after = c.allocate_meta.new.self; was = c.in-Some.is; is = refl; behind = c.allocate_meta.ensures.step.former }) in
     always_ok c.write_taken.result (_, gave_still _ old mid c.write_taken.new.self took c.write_taken.ensures.allocator)
 
 pub returns-in_err-pending-clause-noted : goal.returns-in_err-pending-clause-noted
@@ -84,11 +85,11 @@ returns-in_err-pending-clause-limit g c = λ p out sound longer some.
     let new = record old { file = file; allocator = Some c.allocate_meta.new.self } in
     let entries = entry_count c.args.table in
     let e = c.in_err-pending.field-0.0 in
-    let many = table_clusters view g.F.BackingDisk.backing out p old sound c.args.table longer file.header c.allocate_meta.ensures.header c.cluster_count.result c.cluster_count.ensures in
+    let many = table_clusters view g.F.BackingDisk.backing out p old sound c.args.table longer file.header c.allocate_meta.ensures.step.header c.cluster_count.result c.cluster_count.ensures in
     hands_limit (λ x. StandsInWay view (HasNoTablePlace entries) old.file.free_list old new) c.from_residual.result e c.from_residual.ensures
-    (λ is. stands_untaken view (HasNoTablePlace entries) (table_more entries) old file c.in-Some.allocator c.allocate_meta.new.self c.in-Some.is c.allocate_meta.ensures.former
+    (λ is. stands_untaken view (HasNoTablePlace entries) (table_more entries) old file c.in-Some.allocator c.allocate_meta.new.self c.in-Some.is c.allocate_meta.ensures.step.former
     (cause_of _ e (subst (λ n. IsFaultOr (HasNoPlace (IsUsed view file) file.header.fields c.allocate_meta.new.self n) e) many.0
-    (c.in_err-pending.ensures.limit p (record { sound = record { sound = sound.file; reftable = own.reftable }; hint = own.hint }) (many.1 some))) is))
+    (((c.in_err-pending.ensures.sound p (record { sound = sound.file; reftable = own.reftable })).found.limit own.hint) (many.1 some))) is))
 
 pub returns-clause-limit : goal.returns-clause-limit
 returns-clause-limit g c = λ p out sound longer some.
@@ -97,11 +98,11 @@ returns-clause-limit g c = λ p out sound longer some.
     let old = c.args.self.now in
     let file = c.allocate_meta.new.file in
     let own = subst (λ o. IfSome o (IsAllocatorOf view old.file)) c.in-Some.is sound.reftable in
-    let took = c.in_ok-pending.ensures.sound p (record { sound = sound.file; reftable = own.reftable }) in
+    let took = (c.in_ok-pending.ensures.sound p (record { sound = sound.file; reftable = own.reftable })).found.takes in
     let since = pending_then p old.file.free_list file.free_list in
-    let hint = c.in_ok-pending.ensures.hint p (record { sound = record { sound = sound.file; reftable = own.reftable }; hint = own.hint }) in
-    let keeps = keeps_taken view below out p old sound file c.allocate_meta.new.self c.allocate_meta.ensures.marks.pins c.allocate_meta.ensures.list c.allocate_meta.ensures.header (leaked_still old c.in-Some.allocator c.allocate_meta.new.self c.in-Some.is (c.allocate_meta.ensures.leaks p (record { sound = sound.file; reftable = own.reftable }))) c.args.table c.in_ok-pending.pending.first_cluster c.cluster_count.result c.cluster_count.ensures took.2 hint longer in
-    let there = longer_taken view below out p old sound file c.allocate_meta.new.self c.allocate_meta.ensures.marks.pins c.allocate_meta.ensures.list c.allocate_meta.ensures.header (leaked_still old c.in-Some.allocator c.allocate_meta.new.self c.in-Some.is (c.allocate_meta.ensures.leaks p (record { sound = sound.file; reftable = own.reftable }))) c.args.table c.in_ok-pending.pending.first_cluster c.cluster_count.result c.cluster_count.ensures took.2 hint longer in
+    let hint = ((c.in_ok-pending.ensures.sound p (record { sound = sound.file; reftable = own.reftable })).found.hint own.hint) in
+    let keeps = keeps_taken view below out p old sound file c.allocate_meta.new.self c.allocate_meta.ensures.step.marks.pins c.allocate_meta.ensures.step.list c.allocate_meta.ensures.step.header (leaked_still old c.in-Some.allocator c.allocate_meta.new.self c.in-Some.is ((c.allocate_meta.ensures.sound p (record { sound = sound.file; reftable = own.reftable })).leaks)) c.args.table c.in_ok-pending.pending.first_cluster c.cluster_count.result c.cluster_count.ensures took.2 hint longer in
+    let there = longer_taken view below out p old sound file c.allocate_meta.new.self c.allocate_meta.ensures.step.marks.pins c.allocate_meta.ensures.step.list c.allocate_meta.ensures.step.header (leaked_still old c.in-Some.allocator c.allocate_meta.new.self c.in-Some.is ((c.allocate_meta.ensures.sound p (record { sound = sound.file; reftable = own.reftable })).leaks)) c.args.table c.in_ok-pending.pending.first_cluster c.cluster_count.result c.cluster_count.ensures took.2 hint longer in
     unlimited_all c.write_taken.result (λ e. StandsInWay view (HasNoTablePlace (entry_count c.args.table)) old.file.free_list old c.write_taken.new.self) (faults_unlimited c.write_taken.result (c.write_taken.ensures.fault since out keeps.sound there))
 
 pub returns-in_err-pending-clause-fault : goal.returns-in_err-pending-clause-fault
@@ -110,10 +111,9 @@ returns-in_err-pending-clause-fault g c = λ writable p out sound longer some.
     let old = c.args.self.now in
     let file = c.allocate_meta.new.file in
     let own = subst (λ o. IfSome o (IsAllocatorOf view old.file)) c.in-Some.is sound.reftable in
-    let e = c.in_err-pending.field-0.0 in
-    let many = table_clusters view g.F.BackingDisk.backing out p old sound c.args.table longer file.header c.allocate_meta.ensures.header c.cluster_count.result c.cluster_count.ensures in
-    hands_either c.from_residual.result e c.from_residual.ensures
-    (elim (c.in_err-pending.ensures.limit p (record { sound = record { sound = sound.file; reftable = own.reftable }; hint = own.hint }) (many.1 some)) [ inl fault ↦ inl fault | inr cause ↦ inr cause.0 ])
+    let many = table_clusters view g.F.BackingDisk.backing out p old sound c.args.table longer file.header c.allocate_meta.ensures.step.header c.cluster_count.result c.cluster_count.ensures in
+    hands_either c.from_residual.result c.in_err-pending.field-0.0 c.from_residual.ensures
+    (elim (((c.in_err-pending.ensures.sound p (record { sound = sound.file; reftable = own.reftable })).found.limit own.hint) (many.1 some)) [ inl fault ↦ inl fault | inr cause ↦ inr cause.0 ])
 
 pub returns-clause-fault : goal.returns-clause-fault
 returns-clause-fault g c = λ writable p out sound longer some.
@@ -122,12 +122,11 @@ returns-clause-fault g c = λ writable p out sound longer some.
     let old = c.args.self.now in
     let file = c.allocate_meta.new.file in
     let own = subst (λ o. IfSome o (IsAllocatorOf view old.file)) c.in-Some.is sound.reftable in
-    let took = c.in_ok-pending.ensures.sound p (record { sound = sound.file; reftable = own.reftable }) in
-    let since = pending_then p old.file.free_list file.free_list in
-    let hint = c.in_ok-pending.ensures.hint p (record { sound = record { sound = sound.file; reftable = own.reftable }; hint = own.hint }) in
-    let keeps = keeps_taken view below out p old sound file c.allocate_meta.new.self c.allocate_meta.ensures.marks.pins c.allocate_meta.ensures.list c.allocate_meta.ensures.header (leaked_still old c.in-Some.allocator c.allocate_meta.new.self c.in-Some.is (c.allocate_meta.ensures.leaks p (record { sound = sound.file; reftable = own.reftable }))) c.args.table c.in_ok-pending.pending.first_cluster c.cluster_count.result c.cluster_count.ensures took.2 hint longer in
-    let there = longer_taken view below out p old sound file c.allocate_meta.new.self c.allocate_meta.ensures.marks.pins c.allocate_meta.ensures.list c.allocate_meta.ensures.header (leaked_still old c.in-Some.allocator c.allocate_meta.new.self c.in-Some.is (c.allocate_meta.ensures.leaks p (record { sound = sound.file; reftable = own.reftable }))) c.args.table c.in_ok-pending.pending.first_cluster c.cluster_count.result c.cluster_count.ensures took.2 hint longer in
-    faults_or_limit c.write_taken.result (c.write_taken.ensures.fault since out keeps.sound there)
+    let took = (c.in_ok-pending.ensures.sound p (record { sound = sound.file; reftable = own.reftable })).found.takes in
+    let hint = ((c.in_ok-pending.ensures.sound p (record { sound = sound.file; reftable = own.reftable })).found.hint own.hint) in
+    let keeps = keeps_taken view below out p old sound file c.allocate_meta.new.self c.allocate_meta.ensures.step.marks.pins c.allocate_meta.ensures.step.list c.allocate_meta.ensures.step.header (leaked_still old c.in-Some.allocator c.allocate_meta.new.self c.in-Some.is ((c.allocate_meta.ensures.sound p (record { sound = sound.file; reftable = own.reftable })).leaks)) c.args.table c.in_ok-pending.pending.first_cluster c.cluster_count.result c.cluster_count.ensures took.2 hint longer in
+    let there = longer_taken view below out p old sound file c.allocate_meta.new.self c.allocate_meta.ensures.step.marks.pins c.allocate_meta.ensures.step.list c.allocate_meta.ensures.step.header (leaked_still old c.in-Some.allocator c.allocate_meta.new.self c.in-Some.is ((c.allocate_meta.ensures.sound p (record { sound = sound.file; reftable = own.reftable })).leaks)) c.args.table c.in_ok-pending.pending.first_cluster c.cluster_count.result c.cluster_count.ensures took.2 hint longer in
+    faults_or_limit c.write_taken.result (c.write_taken.ensures.fault (pending_then p old.file.free_list file.free_list) out keeps.sound there)
 
 pub returns-clause-placed : goal.returns-clause-placed
 returns-clause-placed g c = λ few bits. placed_near c.args.table c.in_ok-pending.pending.first_cluster c.args.self.now.file.header.fields.cluster_bits few bits c.in_ok-pending.ensures.nameable c.write_taken.new.self.l1_table c.write_taken.result c.write_taken.ensures.placed
@@ -138,8 +137,8 @@ returns-clause-faults g c =
     let below = g.F.BackingDisk.backing in
     let old = c.args.self.now in
     let taken = record old { file = c.allocate_meta.new.file; allocator = Some c.allocate_meta.new.self } in
-    let same = same_told view below old taken c.allocate_meta.result c.in_ok-pending.pending c.allocate_meta.ensures.storage_faults c.in_ok-pending.was refl in
-    counted_since view below old taken c.write_taken.new.self c.write_taken.result same c.write_taken.ensures.faults
+    let same = same_told view below old taken c.allocate_meta.result c.in_ok-pending.pending (told_of c.allocate_meta.result c.allocate_meta.ensures.fails) c.in_ok-pending.was refl in
+    counted_since view below old taken c.write_taken.new.self c.write_taken.result same c.write_taken.ensures.fails.faults
 
 pub returns-clause-bytes : goal.returns-clause-bytes
 returns-clause-bytes g c = ok_as (c.write_taken.new.self.l1_table ≡ record c.args.table { cluster = Some c.in_ok-pending.pending.first_cluster }) (c.write_taken.new.self.l1_table.bytes ≡ c.args.table.bytes) c.write_taken.result (λ is. ap (λ (t : EntryTableView). t.bytes) is) c.write_taken.ensures.placed

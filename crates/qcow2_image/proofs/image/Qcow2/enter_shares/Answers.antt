@@ -56,8 +56,5 @@ returns-clause-in_place g c =
 pub returns-clause-faults : goal.returns-clause-faults
 returns-clause-faults g c = untouched g.S.Storage.view g.F.BackingDisk.backing c.args.self.now c.loop-i.self (ap (λ (image : Qcow2 _ _). image.file.storage) c.loop-i.invariant.rest) (ap (λ (image : Qcow2 _ _). image.backing) c.loop-i.invariant.rest)
 
-pub returns-clause-header_cluster : goal.returns-clause-header_cluster
-returns-clause-header_cluster g c = c.loop-i.invariant.behind
-
-pub returns-clause-notes : goal.returns-clause-notes
-returns-clause-notes g c = c.loop-i.invariant.notes
+pub returns-clause-step : goal.returns-clause-step
+returns-clause-step g c = record { stays = search rules; notes = c.loop-i.invariant.notes; header_cluster = c.loop-i.invariant.behind }

@@ -2,17 +2,15 @@ use Rattle.std.proofs.Common.{◌<◌, inl, inr, ap, refl, subst, sym, arith}
 use Rattle.qcow2_disk.specs.Calls.{shows_old}
 use Rattle.qcow2_alloc.proofs.AllocationSteps.{handed_on}
 use Rattle.qcow2_metadata.specs.Header.{cluster_size, rounded_up}
-use Rattle.image_access.specs.declared.storage.PreallocateMode.TheVariants.{Zero}
 use Rattle.qcow2_image.specs.Preallocation.{first_zeros, FillsGrownOrRefuses}
 use Rattle.qcow2_image.proofs.Preallocate.Grown.{early_refused, grown_none, grown_or_refused}
-use Rattle.qcow2_image.proofs.Call.BehindHeader.{behind_none}
-use Rattle.qcow2_alloc.proofs.KeptMarks.{notes_none}
 use Rattle.std.specs.Prelude.{IfErr, Result}
 use Rattle.std.proofs.lemmas.Bool.{cases_lt}
 use Rattle.qcow2_alloc.specs.ImageFile.{known_in}
 use Rattle.qcow2_image.proofs.Preallocate.Met.{hands_met}
 use Rattle.qcow2_image.proofs.Prepare.Taken.{if_err}
 use Rattle.qcow2_image.specs.MetAlone.{IsMetGrowing}
+use Rattle.qcow2_image.proofs.Call.ImageSteps.{step_none}
 use Rattle.qcow2_image.proofs.image.Qcow2.fill_behind.Goals as goal
 use Rattle.image_access.specs.declared.storage.PreallocateMode.{PreallocateMode}
 
@@ -53,30 +51,6 @@ returns-in_err-writes-in-WriteData-clause-fills g c = λ out sound.
     handed_on (λ r. FillsGrownOrRefuses view below c.args.size c.args.mode old old out r) c.from_residual.result e c.from_residual.ensures
     (early_refused view below out old sound c.args.size c.args.mode (subst (λ n. n < c.args.size) c.requires.end c.requires.larger) (ap shows_old c.in-WriteData.is) e c.in_err-writes-in-WriteData.ensures.cause c.in_err-writes-in-WriteData.ensures.limited)
 
-pub returns-in-None-clause-header_cluster : goal.returns-in-None-clause-header_cluster
-returns-in-None-clause-header_cluster g c = behind_none
-
-pub returns-in-Zero-clause-header_cluster : goal.returns-in-Zero-clause-header_cluster
-returns-in-Zero-clause-header_cluster g c = c.zero_grown.ensures.header_cluster
-
-pub returns-in-FormatAllocate-clause-header_cluster : goal.returns-in-FormatAllocate-clause-header_cluster
-returns-in-FormatAllocate-clause-header_cluster g c = c.allocate_grown.ensures.header_cluster
-
-pub returns-in_err-writes-in-WriteData-clause-header_cluster : goal.returns-in_err-writes-in-WriteData-clause-header_cluster
-returns-in_err-writes-in-WriteData-clause-header_cluster g c = behind_none
-
-pub returns-in-None-clause-notes : goal.returns-in-None-clause-notes
-returns-in-None-clause-notes g c = notes_none
-
-pub returns-in-Zero-clause-notes : goal.returns-in-Zero-clause-notes
-returns-in-Zero-clause-notes g c = c.zero_grown.ensures.notes
-
-pub returns-in-FormatAllocate-clause-notes : goal.returns-in-FormatAllocate-clause-notes
-returns-in-FormatAllocate-clause-notes g c = c.allocate_grown.ensures.notes
-
-pub returns-in_err-writes-in-WriteData-clause-notes : goal.returns-in_err-writes-in-WriteData-clause-notes
-returns-in_err-writes-in-WriteData-clause-notes g c = notes_none
-
 pub returns-in-Zero-clause-met : goal.returns-in-Zero-clause-met
 returns-in-Zero-clause-met g c = λ out sound near.
     let old = c.args.self.now in
@@ -113,3 +87,15 @@ returns-in_err-writes-in-WriteData-clause-met g c = λ out sound near.
     let h = c.args.self.now.file.header.fields in
     hands_met (IsMetGrowing out c.args.mode c.args.old (rounded_up (cluster_size h) c.args.size) h (known_in g.S.Storage.view c.args.self.now.file)) c.from_residual.result c.in_err-writes-in-WriteData.field-0.0 c.from_residual.ensures
     (inl (inl (inl (inl c.in_err-writes-in-WriteData.ensures.fault))))
+
+pub returns-in-None-clause-step : goal.returns-in-None-clause-step
+returns-in-None-clause-step g c = step_none
+
+pub returns-in-Zero-clause-step : goal.returns-in-Zero-clause-step
+returns-in-Zero-clause-step g c = c.zero_grown.ensures.step
+
+pub returns-in-FormatAllocate-clause-step : goal.returns-in-FormatAllocate-clause-step
+returns-in-FormatAllocate-clause-step g c = c.allocate_grown.ensures.step
+
+pub returns-in_err-writes-in-WriteData-clause-step : goal.returns-in_err-writes-in-WriteData-clause-step
+returns-in_err-writes-in-WriteData-clause-step g c = step_none

@@ -10,12 +10,11 @@ use Rattle.qcow2_disk.specs.Found.{kind_at}
 use Rattle.qcow2_image.proofs.Prepare.Copied.{none_has, some_has}
 use Rattle.qcow2_image.proofs.Prepare.Filling.{alike_within, image_step_none}
 use Rattle.qcow2_image.proofs.Map.Loading.{if_ok}
-use Rattle.qcow2_alloc.proofs.KeptMarks.{notes_none}
-use Rattle.qcow2_image.proofs.Call.BehindHeader.{behind_none}
 use Rattle.qcow2_image.proofs.Prepare.Met.{behind_start, met_as, reading_met, told_sum, within_cluster}
 use Rattle.qcow2_alloc.specs.ImageError.{IsFault}
 use Rattle.qcow2_alloc.specs.declared.error.ImageError.TheVariants as I
 use Rattle.qcow2_image.specs.MetAlone.{IsCopiedCompressed, IsMetReading}
+use Rattle.qcow2_image.proofs.Call.ImageSteps.{step_none}
 use Rattle.qcow2_image.proofs.image.Qcow2.fill_cluster.Goals as goal
 
 pub returns-in_default-checked_add-clause-image_step : goal.returns-in_default-checked_add-clause-image_step
@@ -67,24 +66,6 @@ returns-clause-fills g c = λ p out sound holds some none covered.
     ∙ ap (disk_of g.S.Storage.view g.F.BackingDisk.backing c.args.self.now).value guest)
     (c.copy_old.ensures.copies p out sound mapped)
 
-pub returns-in_default-clause-notes : goal.returns-in_default-clause-notes
-returns-in_default-clause-notes g c = notes_none
-
-pub returns-in_default-checked_add-clause-notes : goal.returns-in_default-checked_add-clause-notes
-returns-in_default-checked_add-clause-notes g c = notes_none
-
-pub returns-clause-notes : goal.returns-clause-notes
-returns-clause-notes g c = c.copy_old.ensures.notes
-
-pub returns-in_default-clause-header_cluster : goal.returns-in_default-clause-header_cluster
-returns-in_default-clause-header_cluster g c = behind_none
-
-pub returns-in_default-checked_add-clause-header_cluster : goal.returns-in_default-checked_add-clause-header_cluster
-returns-in_default-checked_add-clause-header_cluster g c = behind_none
-
-pub returns-clause-header_cluster : goal.returns-clause-header_cluster
-returns-clause-header_cluster g c = c.copy_old.ensures.header_cluster
-
 pub returns-in_default-checked_add-clause-met : goal.returns-in_default-checked_add-clause-met
 returns-in_default-checked_add-clause-met g c = λ some.
     let offset = c.args.offset in
@@ -107,3 +88,12 @@ returns-clause-met g c = λ some.
       | inr compressed ↦ inr (compressed.0, (compressed.1, c.in-Some.ensures.left))
     ])
     (c.copy_old.ensures.met (behind_start size c.args.cluster (c.value.result + c.in-Some.range.start) some (omega (arith, at))))
+
+pub returns-in_default-clause-step : goal.returns-in_default-clause-step
+returns-in_default-clause-step g c = step_none
+
+pub returns-in_default-checked_add-clause-step : goal.returns-in_default-checked_add-clause-step
+returns-in_default-checked_add-clause-step g c = step_none
+
+pub returns-clause-step : goal.returns-clause-step
+returns-clause-step g c = c.copy_old.ensures.step

@@ -1,13 +1,12 @@
+use Rattle.qcow2_image.proofs.Call.ImageSteps.{step_then}
 use Rattle.qcow2_image.proofs.image.Qcow2.fill_grown.Goals as goal
-use Rattle.qcow2_alloc.proofs.KeptMarks.{notes_then}
-use Rattle.std.proofs.Common.{◌≡◌, ◌∙◌, ap, subst, sym, refl, Ok, Err}
+use Rattle.std.proofs.Common.{◌≡◌, ◌∙◌, ap, subst, sym, refl, Ok, Err, rules}
 use Rattle.std.specs.Prelude.{IsTrue}
 use Rattle.qcow2_alloc.specs.declared.error.ImageError.TheVariants.{Version}
 use Rattle.qcow2_metadata.specs.Header.{cluster_size, rounded_up}
 use Rattle.qcow2_image.specs.declared.image.Qcow2.{Qcow2}
 use Rattle.qcow2_image.specs.Image.{size_of}
 use Rattle.qcow2_image.specs.Preallocation.{LacksPlaceOnWay, first_zeros}
-use Rattle.qcow2_image.proofs.Call.BehindHeader.{behind_then}
 use Rattle.qcow2_image.proofs.Call.FaultCounts.{counted_as, counted_of, untouched}
 use Rattle.qcow2_image.proofs.Preallocate.FreedBehind.{grown_freed, grown_left, grown_told, limit_before, same_refusal}
 use Rattle.qcow2_alloc.specs.ImageFile.{known_in}
@@ -39,7 +38,7 @@ returns-in-Err-clause-fills g c = λ out sound.
     let refused = c.in-Err.ensures.fills out sound in
     record {
       left = grown_freed view below out old mid new size c.args.mode c.in-Err.refusal c.free_after.result refused.left c.free_after.ensures.fault (c.free_after.ensures.frees out);
-      taken = λ is. refused.taken (c.free_after.ensures.taken c.in-Err.ensures.cause is);
+      taken = λ is. refused.taken (c.free_after.ensures.taken c.in-Err.ensures.fails.cause is);
       limit = λ is.
           let before = limit_before view below out old mid new size c.args.mode c.in-Err.refusal c.free_after.result refused.left c.free_after.ensures.fault (λ still now. (c.free_after.ensures.limit out still now).0) is in
           let lacks = refused.limit before in
@@ -51,7 +50,7 @@ pub returns-in-Err-clause-freed : goal.returns-in-Err-clause-freed
 returns-in-Err-clause-freed g c = λ out sound.
     let refused = c.in-Err.ensures.fills out sound in
     grown_left g.S.Storage.view g.F.BackingDisk.backing out c.args.self.now c.fill_behind.new.self c.free_after.new.self c.args.size c.args.mode c.in-Err.refusal c.free_after.result refused.left c.free_after.ensures.fault
-    (c.free_after.ensures.emptied (subst IsTrue (sym c.fill_behind.ensures.stays.image.writable) c.requires.writable) out)
+    (c.free_after.ensures.emptied (subst IsTrue (sym c.fill_behind.ensures.step.stays.image.writable) c.requires.writable) out)
 
 pub returns-in-Err-clause-unfilled : goal.returns-in-Err-clause-unfilled
 returns-in-Err-clause-unfilled g c = λ none. absurd (let no : Ok tt ≡ Err c.in-Err.refusal = sym (c.fill_behind.ensures.unfilled none).0 ∙ c.in-Err.is in cc)
@@ -59,32 +58,27 @@ returns-in-Err-clause-unfilled g c = λ none. absurd (let no : Ok tt ≡ Err c.i
 pub returns-in-Ok-clause-unfilled : goal.returns-in-Ok-clause-unfilled
 returns-in-Ok-clause-unfilled g c = λ none. (refl, (c.fill_behind.ensures.unfilled none).1)
 
-pub returns-in-Err-clause-faults : goal.returns-in-Err-clause-faults
-returns-in-Err-clause-faults g c =
-    let view = g.S.Storage.view in
-    let below = g.F.BackingDisk.backing in
-    let old = c.args.self.now in
-    counted_of view below old c.free_after.new.self c.free_after.result
-    (c.free_after.ensures.faults old (counted_as view below old old c.fill_behind.new.self c.fill_behind.result c.in-Err.refusal (untouched view below old old refl refl) c.fill_behind.ensures.faults c.in-Err.is))
-
-pub returns-in-Ok-clause-header_cluster : goal.returns-in-Ok-clause-header_cluster
-returns-in-Ok-clause-header_cluster g c = c.fill_behind.ensures.header_cluster
-
-pub returns-in-Err-clause-header_cluster : goal.returns-in-Err-clause-header_cluster
-returns-in-Err-clause-header_cluster g c = behind_then c.fill_behind.ensures.header_cluster c.free_after.ensures.header_cluster
-
-pub returns-in-Ok-clause-notes : goal.returns-in-Ok-clause-notes
-returns-in-Ok-clause-notes g c = c.fill_behind.ensures.notes
-
-pub returns-in-Err-clause-notes : goal.returns-in-Err-clause-notes
-returns-in-Err-clause-notes g c = notes_then c.fill_behind.ensures.notes c.free_after.ensures.notes
-
 pub returns-in-Err-clause-met : goal.returns-in-Err-clause-met
 returns-in-Err-clause-met g c = λ out sound near.
     let view = g.S.Storage.view in
-    let below = g.F.BackingDisk.backing in
     let old = c.args.self.now in
     let h = old.file.header.fields in
     let refused = c.in-Err.ensures.fills out sound in
     met_filling_freed out c.args.mode c.args.old (rounded_up (cluster_size h) c.args.size) h (known_in view old.file) c.in-Err.refusal c.free_after.result
-    (grown_told view below out old c.fill_behind.new.self c.free_after.new.self c.args.size c.args.mode c.in-Err.refusal c.free_after.result refused.left c.free_after.ensures.fault (c.free_after.ensures.told out)) (c.in-Err.ensures.met out sound near)
+    (grown_told view g.F.BackingDisk.backing out old c.fill_behind.new.self c.free_after.new.self c.args.size c.args.mode c.in-Err.refusal c.free_after.result refused.left c.free_after.ensures.fault (c.free_after.ensures.told out)) (c.in-Err.ensures.met out sound near)
+
+pub returns-in-Err-clause-step : goal.returns-in-Err-clause-step
+returns-in-Err-clause-step g c = step_then c.fill_behind.ensures.step c.free_after.ensures.step
+
+pub returns-in-Err-clause-fails : goal.returns-in-Err-clause-fails
+returns-in-Err-clause-fails g c = record {
+  cause = search rules;
+  faults = let view = g.S.Storage.view in
+      let below = g.F.BackingDisk.backing in
+      let old = c.args.self.now in
+      counted_of view below old c.free_after.new.self c.free_after.result
+      (c.free_after.ensures.faults old (counted_as view below old old c.fill_behind.new.self c.fill_behind.result c.in-Err.refusal (untouched view below old old refl refl) c.fill_behind.ensures.fails.faults c.in-Err.is));
+}
+
+pub returns-in-Ok-clause-step : goal.returns-in-Ok-clause-step
+returns-in-Ok-clause-step g c = c.fill_behind.ensures.step

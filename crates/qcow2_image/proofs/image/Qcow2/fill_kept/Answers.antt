@@ -2,8 +2,7 @@ use Rattle.std.proofs.Common.{◌-◌, arith}
 use Rattle.qcow2_image.proofs.Prepare.Copied.{none_has, some_has}
 use Rattle.qcow2_image.proofs.Prepare.Filling.{image_step_none}
 use Rattle.qcow2_image.proofs.Prepare.Keeping.{filled_by_none, filled_with_zeros, image_step_filled}
-use Rattle.qcow2_alloc.proofs.KeptMarks.{notes_none}
-use Rattle.qcow2_image.proofs.Call.BehindHeader.{behind_none}
+use Rattle.qcow2_image.proofs.Call.ImageSteps.{step_none}
 use Rattle.qcow2_image.proofs.image.Qcow2.fill_kept.Goals as goal
 
 pub returns-in-None-clause-image_step : goal.returns-in-None-clause-image_step
@@ -25,17 +24,11 @@ returns-in-Some-clause-fills g c = λ p out sound kept.
     filled_with_zeros g.S.Storage.view g.F.BackingDisk.backing out c.args.self.now c.write_zeros.new.self p sound c.args.offset c.args.host c.args.length c.args.overwrite kept c.in-Some.range
     (λ i lt none. some_has c.part_to_fill.result c.in-Some.range i c.in-Some.is (c.part_to_fill.ensures.all i lt none)) c.write_zeros.result c.write_zeros.ensures.written
 
-pub returns-in-None-clause-notes : goal.returns-in-None-clause-notes
-returns-in-None-clause-notes g c = notes_none
-
-pub returns-in-Some-clause-notes : goal.returns-in-Some-clause-notes
-returns-in-Some-clause-notes g c = c.write_zeros.ensures.notes
-
-pub returns-in-None-clause-header_cluster : goal.returns-in-None-clause-header_cluster
-returns-in-None-clause-header_cluster g c = behind_none
-
-pub returns-in-Some-clause-header_cluster : goal.returns-in-Some-clause-header_cluster
-returns-in-Some-clause-header_cluster g c = c.write_zeros.ensures.header_cluster
-
 pub returns-in-Some-clause-fault : goal.returns-in-Some-clause-fault
 returns-in-Some-clause-fault g c = λ behind. c.write_zeros.ensures.fault (omega (arith, behind))
+
+pub returns-in-None-clause-step : goal.returns-in-None-clause-step
+returns-in-None-clause-step g c = step_none
+
+pub returns-in-Some-clause-step : goal.returns-in-Some-clause-step
+returns-in-Some-clause-step g c = c.write_zeros.ensures.step

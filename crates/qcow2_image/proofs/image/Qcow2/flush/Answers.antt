@@ -1,5 +1,5 @@
-use Rattle.std.proofs.Common.{◌≡◌, true, false, [], sym, ◌∙◌, subst, ap}
-use Rattle.std.specs.Prelude.{Result}
+use Rattle.std.proofs.Common.{◌≡◌, true, false, [], sym, ◌∙◌, subst, ap, rules}
+use Rattle.std.specs.Prelude.{Result, IfErr}
 use Rattle.qcow2_laws.specs.CrashInvariant.{Pending}
 use Rattle.qcow2_alloc.specs.FreeList.{with_listed}
 use Rattle.qcow2_image.specs.Calls.{FlushesImage}
@@ -12,7 +12,6 @@ use Rattle.qcow2_image.proofs.Call.FaultCounts.{counted_marked}
 use Rattle.qcow2_image.proofs.Call.Marked.{marks_memory, may_mark}
 use Rattle.qcow2_image.proofs.Call.OnceWritten.{fails_none, fails_once}
 use Rattle.qcow2_image.proofs.Call.BehindHeader.{behind_call}
-use Rattle.std.specs.Prelude.{IfErr}
 use Rattle.qcow2_alloc.specs.ImageError.{IsFault}
 use Rattle.qcow2_image.proofs.Call.Called.{quiet_sound}
 use Rattle.qcow2_image.proofs.Map.Quiet.{reads_call}
@@ -28,7 +27,7 @@ returns-clause-sees g c =
     let r = c.write_back-done.result in
     subst (λ (image : Qcow2 _ _). FlushesImage view below old image c.mark_failure.result) (sym c.mark_failure.ensures.rest)
     (subst (λ (x : Result _ _). FlushesImage view below old (record new { is_failed = is_failed c.mark_failure.new.self }) x) (sym c.mark_failure.ensures.answer)
-    (flushes_with_outcome view below old c.if-self.false new (is_failed c.mark_failure.new.self) (c.write_back-done.ensures.stays.image.number ∙ c.begin.ensures.stays.image.number) r (may_mark c.write_back-done.new.self c.mark_failure.new.self c.write_back-done.result c.mark_failure.ensures.marks) (marks_memory c.write_back-done.new.self c.mark_failure.new.self c.write_back-done.new.self c.write_back-done.result c.mark_failure.ensures.marks (ap (λ (i : Qcow2 _ _). i.file) c.mark_failure.ensures.rest))
+    (flushes_with_outcome view below old c.if-self.false new (is_failed c.mark_failure.new.self) (c.write_back-done.ensures.step.stays.image.number ∙ c.begin.ensures.stays.image.number) r (may_mark c.write_back-done.new.self c.mark_failure.new.self c.write_back-done.result c.mark_failure.ensures.marks) (marks_memory c.write_back-done.new.self c.mark_failure.new.self c.write_back-done.new.self c.write_back-done.result c.mark_failure.ensures.marks (ap (λ (i : Qcow2 _ _). i.file) c.mark_failure.ensures.rest))
     (λ out sound.
     let p : Pending = beside view below old out in
     let q : Pending = with_listed p old.file.free_list in
@@ -49,19 +48,6 @@ returns-clause-writes g c = λ p sound.
     (frees_on view below [] old mid new p c.write_back-done.result c.begin.ensures.list first (c.write_back-done.ensures.frees p [] (subst (λ l. ImageInvariant view below (with_listed p l) mid []) (sym c.begin.ensures.list) first.sound)))
     c.mark_failure.ensures.answer c.mark_failure.ensures.rest (may_mark c.write_back-done.new.self c.mark_failure.new.self c.write_back-done.result c.mark_failure.ensures.marks)
 
-pub returns-clause-faults : goal.returns-clause-faults
-returns-clause-faults g c =
-    counted_marked g.S.Storage.view g.F.BackingDisk.backing c.args.self.now c.begin.new.self c.write_back-done.new.self c.mark_failure.new.self c.write_back-done.result c.mark_failure.result c.begin.ensures.faults c.write_back-done.ensures.faults c.mark_failure.ensures.answer c.mark_failure.ensures.rest
-
-pub returns-then-self-clause-once_written : goal.returns-then-self-clause-once_written
-returns-then-self-clause-once_written g c = fails_none g.S.Storage.view c.args.self.now _
-
-pub returns-clause-once_written : goal.returns-clause-once_written
-returns-clause-once_written g c = fails_once g.S.Storage.view c.args.self.now c.begin.new.self c.begin.ensures.begun c.write_back-done.new.self c.mark_failure.new.self c.write_back-done.result c.write_back-done.ensures.notes (c.write_back-done.ensures.stays.failed ∙ c.begin.ensures.stays.failed) c.mark_failure.ensures.marks c.mark_failure.ensures.rest c.mark_failure.result (λ memory. sym c.mark_failure.ensures.answer ∙ memory)
-
-pub returns-clause-header_cluster : goal.returns-clause-header_cluster
-returns-clause-header_cluster g c = behind_call g.S.Storage.view c.begin.ensures.begun c.write_back-done.ensures.header_cluster c.mark_failure.ensures.rest
-
 pub returns-clause-fault : goal.returns-clause-fault
 returns-clause-fault g c = λ out sound.
     let view = g.S.Storage.view in
@@ -77,3 +63,15 @@ returns-then-self-clause-fault g c = λ out sound. absurd (let no : true ≡ fal
 pub returns-clause-quiet : goal.returns-clause-quiet
 returns-clause-quiet g c = λ reading.
     reads_call g.S.Storage.view c.args.self.now c.begin.new.self c.write_back-done.new.self c.mark_failure.new.self _ c.begin.ensures.begun (c.write_back-done.ensures.quiet (c.begin.ensures.stays.image.writable ∙ reading)) c.mark_failure.ensures.rest
+
+pub returns-clause-step : goal.returns-clause-step
+returns-clause-step g c = record {
+  image = search rules;
+  marks = search rules;
+  once_written = fails_once g.S.Storage.view c.args.self.now c.begin.new.self c.begin.ensures.begun c.write_back-done.new.self c.mark_failure.new.self c.write_back-done.result c.write_back-done.ensures.step.notes (c.write_back-done.ensures.step.stays.failed ∙ c.begin.ensures.stays.failed) c.mark_failure.ensures.marks c.mark_failure.ensures.rest c.mark_failure.result (λ memory. sym c.mark_failure.ensures.answer ∙ memory);
+  header_cluster = behind_call g.S.Storage.view c.begin.ensures.begun c.write_back-done.ensures.step.header_cluster c.mark_failure.ensures.rest;
+  faults = counted_marked g.S.Storage.view g.F.BackingDisk.backing c.args.self.now c.begin.new.self c.write_back-done.new.self c.mark_failure.new.self c.write_back-done.result c.mark_failure.result c.begin.ensures.faults c.write_back-done.ensures.fails.faults c.mark_failure.ensures.answer c.mark_failure.ensures.rest;
+}
+
+pub returns-then-self-clause-step : goal.returns-then-self-clause-step
+returns-then-self-clause-step g c = record { image = search rules; marks = search rules; once_written = fails_none g.S.Storage.view c.args.self.now _; header_cluster = search rules; faults = search rules }

@@ -4,10 +4,9 @@ use Rattle.qcow2_laws.specs.CrashInvariant.{Pending}
 use Rattle.qcow2_image.specs.ImageInvariant.{ImageInvariant}
 use Rattle.qcow2_image.proofs.Flush.Freeing.{all_listed, beside, freed_refused, tidy_stays}
 use Rattle.qcow2_image.proofs.Call.FaultCounts.{counted_as, counted_still}
-use Rattle.qcow2_alloc.proofs.KeptMarks.{notes_none}
-use Rattle.qcow2_image.proofs.Call.BehindHeader.{behind_none}
 use Rattle.qcow2_image.proofs.Prepare.Lacked.{just_none, limited_not}
 use Rattle.qcow2_image.proofs.Call.Unlimited.{fault_unlimited}
+use Rattle.qcow2_image.proofs.Call.ImageSteps.{step_none}
 use Rattle.qcow2_image.proofs.image.Qcow2.free_after.Goals as goal
 
 pub returns-in-Ok-clause-frees : goal.returns-in-Ok-clause-frees
@@ -64,24 +63,6 @@ returns-in-Err-clause-told g c = λ out sound.
     let old = c.args.self.now in
     inr (c.in-Err.ensures.faults (beside view below old out) out (subst (λ (x : Pending). ImageInvariant view below x old out) (all_listed view below old out) sound))
 
-pub returns-then-is_last-clause-notes : goal.returns-then-is_last-clause-notes
-returns-then-is_last-clause-notes g c = notes_none
-
-pub returns-in-Ok-clause-notes : goal.returns-in-Ok-clause-notes
-returns-in-Ok-clause-notes g c = c.free_listed.ensures.notes
-
-pub returns-in-Err-clause-notes : goal.returns-in-Err-clause-notes
-returns-in-Err-clause-notes g c = c.free_listed.ensures.notes
-
-pub returns-then-is_last-clause-header_cluster : goal.returns-then-is_last-clause-header_cluster
-returns-then-is_last-clause-header_cluster g c = behind_none
-
-pub returns-in-Ok-clause-header_cluster : goal.returns-in-Ok-clause-header_cluster
-returns-in-Ok-clause-header_cluster g c = c.free_listed.ensures.header_cluster
-
-pub returns-in-Err-clause-header_cluster : goal.returns-in-Err-clause-header_cluster
-returns-in-Err-clause-header_cluster g c = c.free_listed.ensures.header_cluster
-
 pub returns-then-is_last-clause-keeps_rest : goal.returns-then-is_last-clause-keeps_rest
 returns-then-is_last-clause-keeps_rest g c = record { header = refl; backing = refl }
 
@@ -125,3 +106,12 @@ returns-in-Err-clause-limit g c = λ out sound is.
     let below = g.F.BackingDisk.backing in
     let old = c.args.self.now in
     absurd (limited_not c.in-Err.fault (fault_unlimited c.in-Err.fault (c.in-Err.ensures.faults (beside view below old out) out (subst (λ (x : Pending). ImageInvariant view below x old out) (all_listed view below old out) sound))) is)
+
+pub returns-then-is_last-clause-step : goal.returns-then-is_last-clause-step
+returns-then-is_last-clause-step g c = step_none
+
+pub returns-in-Ok-clause-step : goal.returns-in-Ok-clause-step
+returns-in-Ok-clause-step g c = c.free_listed.ensures.step
+
+pub returns-in-Err-clause-step : goal.returns-in-Err-clause-step
+returns-in-Err-clause-step g c = c.free_listed.ensures.step

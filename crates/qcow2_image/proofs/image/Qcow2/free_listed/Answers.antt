@@ -1,4 +1,4 @@
-use Rattle.std.proofs.Common.{◌∙◌, ap, refl, subst, sym}
+use Rattle.std.proofs.Common.{◌∙◌, ap, refl, subst, sym, rules, Some}
 use Rattle.std.specs.Prelude.{IfSome}
 use Rattle.qcow2_alloc.specs.FreeList.{with_listed}
 use Rattle.qcow2_alloc.specs.KeptAllocators.{IsAllocatorOf}
@@ -6,12 +6,12 @@ use Rattle.qcow2_image.proofs.Call.Answered.{freeing_step_kept}
 use Rattle.qcow2_image.proofs.Flush.Freeing.{frees_listed, frees_fault}
 use Rattle.qcow2_image.proofs.Moving.{leaked_still}
 use Rattle.qcow2_image.proofs.Prepare.Entering.{keeps_none}
-use Rattle.qcow2_alloc.proofs.KeptMarks.{notes_none, notes_of_both}
-use Rattle.qcow2_image.proofs.Call.BehindHeader.{behind_none, behind_freed}
+use Rattle.qcow2_alloc.proofs.KeptMarks.{notes_of_both}
+use Rattle.qcow2_image.proofs.Call.BehindHeader.{behind_freed}
 use Rattle.qcow2_image.proofs.Prepare.Listing.{same_value}
 use Rattle.qcow2_alloc.specs.declared.allocation.Allocator.{Allocator}
 use Rattle.qcow2_image.proofs.Prepare.Lacked.{frees_just, just_none}
-use Rattle.std.proofs.Common.{Some}
+use Rattle.qcow2_image.proofs.Call.ImageSteps.{step_none}
 use Rattle.qcow2_image.proofs.image.Qcow2.free_listed.Goals as goal
 
 pub returns-then-is_empty-clause-frees : goal.returns-then-is_empty-clause-frees
@@ -25,35 +25,17 @@ pub returns-clause-frees : goal.returns-clause-frees
 returns-clause-frees g c = λ p out sound.
     let view = g.S.Storage.view in
     let own = subst (λ x. IfSome x (IsAllocatorOf view c.args.self.now.file)) c.in-Some.is sound.reftable in
-    frees_listed view g.F.BackingDisk.backing out p c.args.self.now sound c.free.new.file c.free.new.self c.free.ensures.marks.pins c.free.ensures.header
-    (leaked_still c.args.self.now c.in-Some.allocator c.free.new.self c.in-Some.is (c.free.ensures.leaks p (record { sound = sound.file; reftable = own.reftable }))) c.free.result
-    (c.free.ensures.sound p (record { sound = sound.file; reftable = own.reftable }))
-    (c.free.ensures.hint p (record { sound = record { sound = sound.file; reftable = own.reftable }; hint = own.hint }))
+    frees_listed view g.F.BackingDisk.backing out p c.args.self.now sound c.free.new.file c.free.new.self c.free.ensures.step.marks.pins.pins c.free.ensures.step.header
+    (leaked_still c.args.self.now c.in-Some.allocator c.free.new.self c.in-Some.is ((c.free.ensures.sound p (record { sound = sound.file; reftable = own.reftable })).leaks)) c.free.result
+    ((c.free.ensures.sound p (record { sound = sound.file; reftable = own.reftable })).gives)
+    (((c.free.ensures.sound p (record { sound = sound.file; reftable = own.reftable })).hint own.hint))
 
 pub returns-clause-faults : goal.returns-clause-faults
 returns-clause-faults g c = λ p out sound.
     let view = g.S.Storage.view in
     let own = subst (λ x. IfSome x (IsAllocatorOf view c.args.self.now.file)) c.in-Some.is sound.reftable in
     frees_fault view g.F.BackingDisk.backing out (with_listed p c.args.self.now.file.free_list) (with_listed p c.free.new.file.free_list) c.args.self.now.file c.free.new.file c.free.new.self c.free.result
-    (c.free.ensures.sound p (record { sound = sound.file; reftable = own.reftable }))
-
-pub returns-then-is_empty-clause-notes : goal.returns-then-is_empty-clause-notes
-returns-then-is_empty-clause-notes g c = notes_none
-
-pub returns-in_default-clause-notes : goal.returns-in_default-clause-notes
-returns-in_default-clause-notes g c = notes_none
-
-pub returns-clause-notes : goal.returns-clause-notes
-returns-clause-notes g c = (notes_of_both c.free.ensures.marks c.free.ensures.notes)
-
-pub returns-then-is_empty-clause-header_cluster : goal.returns-then-is_empty-clause-header_cluster
-returns-then-is_empty-clause-header_cluster g c = behind_none
-
-pub returns-in_default-clause-header_cluster : goal.returns-in_default-clause-header_cluster
-returns-in_default-clause-header_cluster g c = behind_none
-
-pub returns-clause-header_cluster : goal.returns-clause-header_cluster
-returns-clause-header_cluster g c = behind_freed c.in-Some.is c.free.ensures.header_cluster
+    ((c.free.ensures.sound p (record { sound = sound.file; reftable = own.reftable })).gives)
 
 pub returns-then-is_empty-clause-former : goal.returns-then-is_empty-clause-former
 returns-then-is_empty-clause-former g c = λ before is. (before, is, refl)
@@ -62,7 +44,7 @@ pub returns-in_default-clause-former : goal.returns-in_default-clause-former
 returns-in_default-clause-former g c = λ before is. (before, is, refl)
 
 pub returns-clause-former : goal.returns-clause-former
-returns-clause-former g c = λ before is. (c.free.new.self, refl, c.free.ensures.reftable ∙ ap (λ (a : Allocator). a.reftable) (same_value c.in-Some.allocator before (sym c.in-Some.is ∙ is)))
+returns-clause-former g c = λ before is. (c.free.new.self, refl, c.free.ensures.step.reftable ∙ ap (λ (a : Allocator). a.reftable) (same_value c.in-Some.allocator before (sym c.in-Some.is ∙ is)))
 
 pub returns-then-is_empty-clause-uses : goal.returns-then-is_empty-clause-uses
 returns-then-is_empty-clause-uses g c = λ p out sound. just_none g.S.Storage.view g.F.BackingDisk.backing out c.args.self.now
@@ -74,4 +56,13 @@ pub returns-clause-uses : goal.returns-clause-uses
 returns-clause-uses g c = λ p out sound.
     let old = c.args.self.now in
     let new = record old { file = c.free.new.file; allocator = Some c.free.new.self } in
-    frees_just g.S.Storage.view g.F.BackingDisk.backing out p c.in-Some.allocator old new c.free.result sound (returns-clause-frees g c p out sound) c.free.ensures.header c.in-Some.is (returns-clause-former g c) refl c.free.ensures.emptied
+    frees_just g.S.Storage.view g.F.BackingDisk.backing out p c.in-Some.allocator old new c.free.result sound (returns-clause-frees g c p out sound) c.free.ensures.step.header c.in-Some.is (returns-clause-former g c) refl c.free.ensures.emptied
+
+pub returns-then-is_empty-clause-step : goal.returns-then-is_empty-clause-step
+returns-then-is_empty-clause-step g c = step_none
+
+pub returns-in_default-clause-step : goal.returns-in_default-clause-step
+returns-in_default-clause-step g c = step_none
+
+pub returns-clause-step : goal.returns-clause-step
+returns-clause-step g c = record { stays = search rules; notes = (notes_of_both c.free.ensures.step.marks.pins c.free.ensures.step.marks.notes); header_cluster = behind_freed c.in-Some.is c.free.ensures.step.header_cluster }

@@ -1,4 +1,4 @@
-use Rattle.std.proofs.Common.{◌≡◌, [], sym, ap, ◌∙◌, subst, IfOk, is_some}
+use Rattle.std.proofs.Common.{◌≡◌, [], sym, ap, ◌∙◌, subst, IfOk, is_some, rules, ◌<◌}
 use Rattle.qcow2_disk.specs.Calls.{AnsweredEffect, RefusedEffect, IsSame}
 use Rattle.qcow2_disk.specs.AbstractImages.{guest_of}
 use Rattle.qcow2_image.specs.declared.image.Qcow2.{Qcow2}
@@ -6,7 +6,7 @@ use Rattle.qcow2_disk.specs.Found.{IsFoundIn, IsFound as IsFoundOf}
 use Rattle.qcow2_laws.proofs.Unseen.{known_header}
 use Rattle.qcow2_alloc.specs.ImageFile.{known_in, state_in}
 use Rattle.qcow2_image.specs.Found.{IsFoundInImage, found_kind}
-use Rattle.qcow2_image.specs.Image.{is_failed}
+use Rattle.qcow2_image.specs.Image.{is_failed, size_of}
 use Rattle.qcow2_image.proofs.Call.Marked.{MayMarkBy, may_mark}
 use Rattle.qcow2_image.specs.ImageInvariant.{abstract_of, pending_in}
 use Rattle.qcow2_image.specs.Calls.{refusal_of}
@@ -18,18 +18,15 @@ use Rattle.qcow2_alloc.proofs.AllocationSteps.{handed_on}
 use Rattle.qcow2_alloc.proofs.Outcomes.{err_as}
 use Rattle.qcow2_alloc.specs.declared.error.ImageError.TheVariants.{Memory}
 use Rattle.qcow2_image.proofs.Call.BehindHeader.{behind_call}
-use Rattle.std.specs.Prelude.{Err, IfErr}
+use Rattle.std.specs.Prelude.{Err, IfErr, None, Some}
 use Rattle.qcow2_image.proofs.Map.MetLooking.{held_since}
 use Rattle.qcow2_image.specs.MetAlone.{IsCacheHeld, IsMetLooking}
 use Rattle.qcow2_image.proofs.Prepare.Met.{hands_met}
 use Rattle.qcow2_image.proofs.Sizes.{sound_is_usable}
 use Rattle.qcow2_image.proofs.Clear.ClearCalls.{refused_for}
 use Rattle.qcow2_image.specs.Refusals.{unusable}
-use Rattle.std.specs.Prelude.{None, Some}
 use Rattle.qcow2_image.proofs.Map.Quiet.{reads_call}
 use Rattle.qcow2_image.specs.HeldMappings.{IsHeldRun}
-use Rattle.qcow2_image.specs.Image.{size_of}
-use Rattle.std.proofs.Common.{◌<◌}
 use Rattle.qcow2_image.proofs.image.Qcow2.get_mapping.Goals as goal
 
 pub returns-in_err-kind-clause-sees : goal.returns-in_err-kind-clause-sees
@@ -42,9 +39,9 @@ returns-in_err-kind-clause-sees g c =
     let marks = subst (λ r. MayMarkBy r (is_failed new) (is_failed c.mark_failure.new.self)) (sym c.mark_failure.ensures.answer ∙ c.in_err-kind.was) (may_mark c.look_up-found.new.self c.mark_failure.new.self c.look_up-found.result c.mark_failure.ensures.marks) in
     answers_err view below old c.mark_failure.new.self [] (λ found was is. is ≡ was) c.from_residual-in_err-kind.result e c.from_residual-in_err-kind.ensures
     (λ out.
-    let quiet = quietly_then view below out old c.begin.new.self new c.begin.ensures.keeps c.begin.ensures.list c.look_up-found.ensures.keeps c.look_up-found.ensures.list in
+    let quiet = quietly_then view below out old c.begin.new.self new c.begin.ensures.keeps c.begin.ensures.list c.look_up-found.ensures.keeps c.look_up-found.ensures.step.list in
     subst (λ (image : Qcow2 _ _). RefusedEffect (abstract_of view below old out) (abstract_of view below image out) [] [] (refusal_of e) (IsSame (abstract_of view below old out) (abstract_of view below image out))) (sym c.mark_failure.ensures.rest)
-    (quiet_refuses view below out old new quiet (is_failed c.mark_failure.new.self) e marks (c.look_up-found.ensures.stays.image.number ∙ c.begin.ensures.stays.image.number)
+    (quiet_refuses view below out old new quiet (is_failed c.mark_failure.new.self) e marks (c.look_up-found.ensures.step.part.stays.image.number ∙ c.begin.ensures.stays.image.number)
     (usable_works old c.check_usable.result c.in_ok-check_usable.was c.check_usable.ensures)))
 
 pub returns-clause-sees : goal.returns-clause-sees
@@ -53,18 +50,17 @@ returns-clause-sees g c = λ out.
     let below = g.F.BackingDisk.backing in
     let old = c.args.self.now in
     let new = c.look_up-found.new.self in
-    let quiet = quietly_then view below out old c.begin.new.self new c.begin.ensures.keeps c.begin.ensures.list c.look_up-found.ensures.keeps c.look_up-found.ensures.list in
+    let quiet = quietly_then view below out old c.begin.new.self new c.begin.ensures.keeps c.begin.ensures.list c.look_up-found.ensures.keeps c.look_up-found.ensures.step.list in
     let marks = subst (λ r. MayMarkBy r (is_failed new) (is_failed c.mark_failure.new.self)) (sym c.mark_failure.ensures.answer ∙ c.in_ok-kind.was) (may_mark c.look_up-found.new.self c.mark_failure.new.self c.look_up-found.result c.mark_failure.ensures.marks) in
     let same : c.mark_failure.new.self ≡ new = c.mark_failure.ensures.rest ∙ ap (λ f. record new { is_failed = f }) marks in
     subst (λ (image : Qcow2 _ _). AnsweredEffect (abstract_of view below old out) (abstract_of view below image out) [] [] (guest_of (abstract_of view below image out) ≡ guest_of (abstract_of view below old out))) (sym same)
-    (quiet_does view below out old new quiet (c.look_up-found.ensures.stays.image.number ∙ c.begin.ensures.stays.image.number) (usable_works old c.check_usable.result c.in_ok-check_usable.was c.check_usable.ensures))
+    (quiet_does view below out old new quiet (c.look_up-found.ensures.step.part.stays.image.number ∙ c.begin.ensures.stays.image.number) (usable_works old c.check_usable.result c.in_ok-check_usable.was c.check_usable.ensures))
 
 pub returns-clause-run : goal.returns-clause-run
 returns-clause-run g c = λ out sound.
     let view = g.S.Storage.view in
-    let below = g.F.BackingDisk.backing in
     let new = c.look_up-found.new.self in
-    let p = pending_in view below c.args.self.now out in
+    let p = pending_in view g.F.BackingDisk.backing c.args.self.now out in
     let marks = subst (λ r. MayMarkBy r (is_failed new) (is_failed c.mark_failure.new.self)) (sym c.mark_failure.ensures.answer ∙ c.in_ok-kind.was) (may_mark c.look_up-found.new.self c.mark_failure.new.self c.look_up-found.result c.mark_failure.ensures.marks) in
     let same : c.mark_failure.new.self ≡ new = c.mark_failure.ensures.rest ∙ ap (λ f. record new { is_failed = f }) marks in
     let begun = (c.begin.ensures.keeps p out sound).sound in
@@ -86,23 +82,6 @@ returns-clause-known g c = λ out sound.
     let p = pending_in view g.F.BackingDisk.backing c.args.self.now out in
     ap (λ (image : Qcow2 _ _). known_in view image.file) c.mark_failure.ensures.rest ∙ c.look_up-found.ensures.known p out (c.begin.ensures.keeps p out sound).sound ∙ c.begin.ensures.known p out sound
 
-pub returns-in_err-kind-clause-once_written : goal.returns-in_err-kind-clause-once_written
-returns-in_err-kind-clause-once_written g c =
-    handed_on (λ r. FailsOnceWritten g.S.Storage.view c.args.self.now c.mark_failure.new.self r) c.from_residual-in_err-kind.result c.in_err-kind.field-0.0 c.from_residual-in_err-kind.ensures
-    (fails_once g.S.Storage.view c.args.self.now c.begin.new.self c.begin.ensures.begun c.look_up-found.new.self c.mark_failure.new.self c.look_up-found.result c.look_up-found.ensures.notes (c.look_up-found.ensures.stays.failed ∙ c.begin.ensures.stays.failed) c.mark_failure.ensures.marks c.mark_failure.ensures.rest (Err c.in_err-kind.field-0.0) (λ memory. sym c.mark_failure.ensures.answer ∙ c.in_err-kind.was ∙ err_as c.in_err-kind.field-0.0 Memory memory))
-
-pub returns-in_err-check_usable-clause-once_written : goal.returns-in_err-check_usable-clause-once_written
-returns-in_err-check_usable-clause-once_written g c = fails_none g.S.Storage.view c.args.self.now _
-
-pub returns-clause-once_written : goal.returns-clause-once_written
-returns-clause-once_written g c = answered_once g.S.Storage.view c.args.self.now c.begin.new.self c.begin.ensures.begun c.look_up-found.new.self c.mark_failure.new.self c.look_up-found.ensures.notes c.mark_failure.ensures.rest _
-
-pub returns-in_err-kind-clause-header_cluster : goal.returns-in_err-kind-clause-header_cluster
-returns-in_err-kind-clause-header_cluster g c = behind_call g.S.Storage.view c.begin.ensures.begun c.look_up-found.ensures.header_cluster c.mark_failure.ensures.rest
-
-pub returns-clause-header_cluster : goal.returns-clause-header_cluster
-returns-clause-header_cluster g c = behind_call g.S.Storage.view c.begin.ensures.begun c.look_up-found.ensures.header_cluster c.mark_failure.ensures.rest
-
 pub returns-in_err-kind-clause-met : goal.returns-in_err-kind-clause-met
 returns-in_err-kind-clause-met g c = λ out sound.
     let p = pending_in g.S.Storage.view g.F.BackingDisk.backing c.args.self.now out in
@@ -112,15 +91,8 @@ returns-in_err-kind-clause-met g c = λ out sound.
 pub returns-in_err-check_usable-clause-met : goal.returns-in_err-check_usable-clause-met
 returns-in_err-check_usable-clause-met g c = λ out sound.
     let old = c.args.self.now in
-    let e = c.in_err-check_usable.field-0.0 in
-    let refused = refused_for c.check_usable.result tt (unusable old) e c.check_usable.ensures c.in_err-check_usable.was in
+    let refused = refused_for c.check_usable.result tt (unusable old) c.in_err-check_usable.field-0.0 c.check_usable.ensures c.in_err-check_usable.was in
     absurd (let no : None ≡ Some c.in_err-check_usable.field-0.0 = sym (sound_is_usable g.S.Storage.view g.F.BackingDisk.backing old out sound) ∙ refused in cc)
-
-pub returns-in_err-kind-clause-quiet : goal.returns-in_err-kind-clause-quiet
-returns-in_err-kind-clause-quiet g c = reads_call g.S.Storage.view c.args.self.now c.begin.new.self c.look_up-found.new.self c.mark_failure.new.self _ c.begin.ensures.begun c.look_up-found.ensures.quiet c.mark_failure.ensures.rest
-
-pub returns-clause-quiet : goal.returns-clause-quiet
-returns-clause-quiet g c = reads_call g.S.Storage.view c.args.self.now c.begin.new.self c.look_up-found.new.self c.mark_failure.new.self _ c.begin.ensures.begun c.look_up-found.ensures.quiet c.mark_failure.ensures.rest
 
 pub returns-clause-held : goal.returns-clause-held
 returns-clause-held g c = λ lt.
@@ -128,3 +100,29 @@ returns-clause-held g c = λ lt.
     let held : IsHeldRun c.look_up-found.new.self c.args.offset c.args.max c.in_ok-kind.kind c.in_ok-kind.length =
     rw (sym c.mark_failure.ensures.answer ∙ c.in_ok-kind.was) at (c.look_up-found.ensures.held below) in
     subst (λ (image : Qcow2 _ _). IsHeldRun image c.args.offset c.args.max c.in_ok-kind.kind c.in_ok-kind.length) (sym c.mark_failure.ensures.rest) held
+
+pub returns-in_err-kind-clause-step : goal.returns-in_err-kind-clause-step
+returns-in_err-kind-clause-step g c = record {
+  image = search rules;
+  header = search rules;
+  marks = search rules;
+  faults = search rules;
+  once_written = handed_on (λ r. FailsOnceWritten g.S.Storage.view c.args.self.now c.mark_failure.new.self r) c.from_residual-in_err-kind.result c.in_err-kind.field-0.0 c.from_residual-in_err-kind.ensures
+      (fails_once g.S.Storage.view c.args.self.now c.begin.new.self c.begin.ensures.begun c.look_up-found.new.self c.mark_failure.new.self c.look_up-found.result c.look_up-found.ensures.step.part.notes (c.look_up-found.ensures.step.part.stays.failed ∙ c.begin.ensures.stays.failed) c.mark_failure.ensures.marks c.mark_failure.ensures.rest (Err c.in_err-kind.field-0.0) (λ memory. sym c.mark_failure.ensures.answer ∙ c.in_err-kind.was ∙ err_as c.in_err-kind.field-0.0 Memory memory));
+  header_cluster = behind_call g.S.Storage.view c.begin.ensures.begun c.look_up-found.ensures.step.part.header_cluster c.mark_failure.ensures.rest;
+  quiet = reads_call g.S.Storage.view c.args.self.now c.begin.new.self c.look_up-found.new.self c.mark_failure.new.self _ c.begin.ensures.begun c.look_up-found.ensures.step.quiet c.mark_failure.ensures.rest;
+}
+
+pub returns-in_err-check_usable-clause-step : goal.returns-in_err-check_usable-clause-step
+returns-in_err-check_usable-clause-step g c = record { image = search rules; header = search rules; marks = search rules; once_written = fails_none g.S.Storage.view c.args.self.now _; header_cluster = search rules; faults = search rules; quiet = search rules }
+
+pub returns-clause-step : goal.returns-clause-step
+returns-clause-step g c = record {
+  image = search rules;
+  header = search rules;
+  marks = search rules;
+  faults = search rules;
+  once_written = answered_once g.S.Storage.view c.args.self.now c.begin.new.self c.begin.ensures.begun c.look_up-found.new.self c.mark_failure.new.self c.look_up-found.ensures.step.part.notes c.mark_failure.ensures.rest _;
+  header_cluster = behind_call g.S.Storage.view c.begin.ensures.begun c.look_up-found.ensures.step.part.header_cluster c.mark_failure.ensures.rest;
+  quiet = reads_call g.S.Storage.view c.args.self.now c.begin.new.self c.look_up-found.new.self c.mark_failure.new.self _ c.begin.ensures.begun c.look_up-found.ensures.step.quiet c.mark_failure.ensures.rest;
+}

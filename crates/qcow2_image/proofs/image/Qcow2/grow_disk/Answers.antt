@@ -4,7 +4,7 @@ use Rattle.qcow2_alloc.specs.declared.image_file.ImageFile.{ImageFile}
 use Rattle.qcow2_alloc.specs.ImageFile.{has_noted, known_in}
 use Rattle.qcow2_image.proofs.Call.Notes.{same_kept}
 use Rattle.qcow2_alloc.proofs.KeptMarks.{notes_then}
-use Rattle.std.proofs.Common.{inl, inr, ◌≡◌, ◌∙◌, ◌+◌, ◌-◌, ◌<◌, max, sym, ap, subst, arith, refl}
+use Rattle.std.proofs.Common.{inl, inr, ◌≡◌, ◌∙◌, ◌+◌, ◌-◌, ◌<◌, max, sym, ap, subst, arith, refl, rules}
 use Rattle.std.specs.Prelude.{Err, IfErr, IsTrue, Ok, OnOk, Result}
 use Rattle.qcow2_metadata.specs.declared.header.HeaderFields.{HeaderFields}
 use Rattle.qcow2_metadata.specs.EntryTable.{entry_count}
@@ -65,23 +65,9 @@ returns-in_err-mark_failure-clause-sees g c =
     (subst (λ (image : Qcow2 _ _). GrowsTo view below old image c.args.size c.args.mode (Err e)) (sym c.mark_failure.ensures.rest)
     (grows_not view below old c.args.size c.args.mode c.requires.usable c.requires.larger begun mid e marked first
     (λ out sound. subst (MakesEntry view below begun mid out) done (c.renew_l1_table-longer.ensures.makes out sound))
-    (c.renew_l1_table-longer.ensures.stays.image.number ∙ c.begin.ensures.stays.image.number)
+    (c.renew_l1_table-longer.ensures.step.stays.image.number ∙ c.begin.ensures.stays.image.number)
     (subst (λ (r : Result _ _). MayMarkBy r (is_failed mid) marked) done (may_mark c.renew_l1_table-longer.new.self c.mark_failure.new.self c.renew_l1_table-longer.result c.mark_failure.ensures.marks))
     (subst (λ (r : Result _ _). IfErr r (λ x. x ≡ Memory → IsTrue (has_noted_change mid) → IsTrue marked)) done (marks_memory c.renew_l1_table-longer.new.self c.mark_failure.new.self c.renew_l1_table-longer.new.self c.renew_l1_table-longer.result c.mark_failure.ensures.marks (ap (λ (i : Qcow2 _ _). i.file) c.mark_failure.ensures.rest)))))
-
-pub returns-in_err-mark_failure-clause-last : goal.returns-in_err-mark_failure-clause-last
-returns-in_err-mark_failure-clause-last g c = λ out sound.
-    let view = g.S.Storage.view in
-    let below = g.F.BackingDisk.backing in
-    let old = c.args.self.now in
-    let begun = c.begin.new.self in
-    let mid = c.renew_l1_table-longer.new.self in
-    let first = begun_call view below old begun (λ out sound. record { keeps = c.begin.ensures.keeps (pending_in view below old out) out sound; list = c.begin.ensures.list }) in
-    let e = c.in_err-mark_failure.field-0.0 in
-    let done : c.renew_l1_table-longer.result ≡ Err c.in_err-mark_failure.field-0.0 = sym c.mark_failure.ensures.answer ∙ c.in_err-mark_failure.was in
-    subst (λ (image : Qcow2 _ _). WritesSizeLast view below old image) (sym c.mark_failure.ensures.rest)
-    (last_not view below old c.args.size c.args.mode c.requires.usable c.requires.larger begun mid e (is_failed c.mark_failure.new.self) first
-    (λ out sound. subst (MakesEntry view below begun mid out) done (c.renew_l1_table-longer.ensures.makes out sound)) out sound)
 
 pub returns-in_err-mark_fault-clause-sees : goal.returns-in_err-mark_fault-clause-sees
 returns-in_err-mark_fault-clause-sees g c =
@@ -98,7 +84,6 @@ returns-in_err-mark_fault-clause-sees g c =
     let longer : (out : _) → ImageInvariant view below (pending_in view below old out) old out → UnseenCall view below old c.mark_failure.new.self out = λ out sound.
     let call = first out sound in
     subst (λ (image : Qcow2 _ _). UnseenCall view below old image out) (sym same) (stays_then view below out old begun mid call (subst (MakesEntry view below begun mid out) made (c.renew_l1_table-longer.ensures.makes out call.sound))) in
-    let numbered = c.mark_failure.ensures.image.number ∙ c.renew_l1_table-longer.ensures.stays.image.number ∙ c.begin.ensures.stays.image.number in
     let filled = c.fill_grown-filled.new.self in
     let e = c.in_err-mark_fault.field-0.0 in
     let marked = is_failed c.mark_fault.new.self in
@@ -109,33 +94,7 @@ returns-in_err-mark_fault-clause-sees g c =
     (subst (λ (r : Result _ _). MayMarkBy r (is_failed filled) marked) done (may_mark c.fill_grown-filled.new.self c.mark_fault.new.self c.fill_grown-filled.result c.mark_fault.ensures.marks))
     (subst (λ (r : Result _ _). IfErr r (λ x. IsFault x → IsTrue marked)) done c.mark_fault.ensures.fault)
     (λ out sound. subst (FillsGrownOrRefuses view below c.args.size c.args.mode long filled out) done (c.fill_grown-filled.ensures.fills out sound))
-    (c.fill_grown-filled.ensures.stays.image.number ∙ numbered))))
-
-pub returns-in_err-mark_fault-clause-last : goal.returns-in_err-mark_fault-clause-last
-returns-in_err-mark_fault-clause-last g c = λ out sound.
-    let view = g.S.Storage.view in
-    let below = g.F.BackingDisk.backing in
-    let old = c.args.self.now in
-    let begun = c.begin.new.self in
-    let mid = c.renew_l1_table-longer.new.self in
-    let first = begun_call view below old begun (λ out sound. record { keeps = c.begin.ensures.keeps (pending_in view below old out) out sound; list = c.begin.ensures.list }) in
-    let long = c.mark_failure.new.self in
-    let made : c.renew_l1_table-longer.result ≡ Ok c.in_ok-mark_failure.field-0 = sym c.mark_failure.ensures.answer ∙ c.in_ok-mark_failure.was in
-    let kept = subst (λ (r : Result _ _). MayMarkBy r (is_failed mid) (is_failed long)) made (may_mark c.renew_l1_table-longer.new.self c.mark_failure.new.self c.renew_l1_table-longer.result c.mark_failure.ensures.marks) in
-    let same : c.mark_failure.new.self ≡ c.renew_l1_table-longer.new.self = c.mark_failure.ensures.rest ∙ ap (λ f. record mid { is_failed = f }) kept in
-    let longer : (out : _) → ImageInvariant view below (pending_in view below old out) old out → UnseenCall view below old c.mark_failure.new.self out = λ out sound.
-    let call = first out sound in
-    subst (λ (image : Qcow2 _ _). UnseenCall view below old image out) (sym same) (stays_then view below out old begun mid call (subst (MakesEntry view below begun mid out) made (c.renew_l1_table-longer.ensures.makes out call.sound))) in
-    let numbered = c.mark_failure.ensures.image.number ∙ c.renew_l1_table-longer.ensures.stays.image.number ∙ c.begin.ensures.stays.image.number in
-    let filled = c.fill_grown-filled.new.self in
-    let e = c.in_err-mark_fault.field-0.0 in
-    let marked = is_failed c.mark_fault.new.self in
-    let done : c.fill_grown-filled.result ≡ Err c.in_err-mark_fault.field-0.0 = sym c.mark_fault.ensures.answer ∙ c.in_err-mark_fault.was in
-    subst (λ (image : Qcow2 _ _). WritesSizeLast view below old image) (sym c.mark_fault.ensures.rest)
-    (last_in_part view below old c.args.size c.args.mode c.requires.usable c.requires.larger long longer filled e marked
-    (subst (λ (r : Result _ _). MayMarkBy r (is_failed filled) marked) done (may_mark c.fill_grown-filled.new.self c.mark_fault.new.self c.fill_grown-filled.result c.mark_fault.ensures.marks))
-    (subst (λ (r : Result _ _). IfErr r (λ x. IsFault x → IsTrue marked)) done c.mark_fault.ensures.fault)
-    (λ out sound. subst (FillsGrownOrRefuses view below c.args.size c.args.mode long filled out) done (c.fill_grown-filled.ensures.fills out sound)) out sound)
+    (c.fill_grown-filled.ensures.step.stays.image.number ∙ (c.mark_failure.ensures.image.number ∙ c.renew_l1_table-longer.ensures.step.stays.image.number ∙ c.begin.ensures.stays.image.number)))))
 
 pub returns-clause-sees : goal.returns-clause-sees
 returns-clause-sees g c =
@@ -152,80 +111,128 @@ returns-clause-sees g c =
     let longer : (out : _) → ImageInvariant view below (pending_in view below old out) old out → UnseenCall view below old c.mark_failure.new.self out = λ out sound.
     let call = first out sound in
     subst (λ (image : Qcow2 _ _). UnseenCall view below old image out) (sym same) (stays_then view below out old begun mid call (subst (MakesEntry view below begun mid out) made (c.renew_l1_table-longer.ensures.makes out call.sound))) in
-    let numbered = c.mark_failure.ensures.image.number ∙ c.renew_l1_table-longer.ensures.stays.image.number ∙ c.begin.ensures.stays.image.number in
-    let filled = c.fill_grown-filled.new.self in
+    let numbered = c.mark_failure.ensures.image.number ∙ c.renew_l1_table-longer.ensures.step.stays.image.number ∙ c.begin.ensures.stays.image.number in
     let put : c.fill_grown-filled.result ≡ Ok c.in_ok-mark_fault.field-0 = sym c.mark_fault.ensures.answer ∙ c.in_ok-mark_fault.was in
     let whole : c.mark_fault.new.self ≡ c.fill_grown-filled.new.self = subst (λ (r : Result _ _). OnOk r (c.mark_fault.new.self ≡ c.fill_grown-filled.new.self)) put c.mark_fault.ensures.same in
     let fills : (out : _) → ImageInvariant view below (pending_in view below long out) long out → FillsGrown view below c.args.size c.args.mode long c.mark_fault.new.self out = λ out sound.
     subst (λ (image : Qcow2 _ _). FillsGrown view below c.args.size c.args.mode long image out) (sym whole)
-    (subst (FillsGrownOrRefuses view below c.args.size c.args.mode long filled out) put (c.fill_grown-filled.ensures.fills out sound)) in
+    (subst (FillsGrownOrRefuses view below c.args.size c.args.mode long c.fill_grown-filled.new.self out) put (c.fill_grown-filled.ensures.fills out sound)) in
     let new = c.write_size-written.new.self in
     subst (λ (image : Qcow2 _ _). GrowsTo view below old image c.args.size c.args.mode c.mark_fault-2.result) (sym c.mark_fault-2.ensures.rest)
     (subst (λ (r : Result _ _). GrowsTo view below old (with_marks new (is_changed_of c.mark_fault-2.new.self.file.storage) (is_failed c.mark_fault-2.new.self)) c.args.size c.args.mode r) (sym c.mark_fault-2.ensures.answer)
     (grows_noted view below old (record new { is_failed = is_failed c.mark_fault-2.new.self }) (is_changed_of c.mark_fault-2.new.self.file.storage) c.args.size c.args.mode c.write_size-written.result (grows_sized view below old c.args.size c.args.mode c.requires.usable c.requires.larger long longer c.mark_fault.new.self fills new
-    (ap (λ (i : Qcow2 _ _). i.number) c.write_size-written.ensures.rest ∙ c.mark_fault.ensures.image.number ∙ c.fill_grown-filled.ensures.stays.image.number ∙ numbered)
-    c.write_size-written.result (is_failed c.mark_fault-2.new.self) (may_mark c.write_size-written.new.self c.mark_fault-2.new.self c.write_size-written.result c.mark_fault-2.ensures.marks) c.write_size-written.ensures.cause c.mark_fault-2.ensures.fault c.write_size-written.ensures.writes)))
+    (ap (λ (i : Qcow2 _ _). i.number) c.write_size-written.ensures.rest ∙ c.mark_fault.ensures.image.number ∙ c.fill_grown-filled.ensures.step.stays.image.number ∙ numbered)
+    c.write_size-written.result (is_failed c.mark_fault-2.new.self) (may_mark c.write_size-written.new.self c.mark_fault-2.new.self c.write_size-written.result c.mark_fault-2.ensures.marks) c.write_size-written.ensures.fails.cause c.mark_fault-2.ensures.fault c.write_size-written.ensures.writes)))
 
-pub returns-clause-last : goal.returns-clause-last
-returns-clause-last g c = λ out sound.
-    let view = g.S.Storage.view in
-    let below = g.F.BackingDisk.backing in
-    let old = c.args.self.now in
-    let begun = c.begin.new.self in
-    let mid = c.renew_l1_table-longer.new.self in
-    let first = begun_call view below old begun (λ out sound. record { keeps = c.begin.ensures.keeps (pending_in view below old out) out sound; list = c.begin.ensures.list }) in
-    let long = c.mark_failure.new.self in
+pub mark_fault-requires : goal.mark_fault-requires
+mark_fault-requires g c =
     let made : c.renew_l1_table-longer.result ≡ Ok c.in_ok-mark_failure.field-0 = sym c.mark_failure.ensures.answer ∙ c.in_ok-mark_failure.was in
-    let kept = subst (λ (r : Result _ _). MayMarkBy r (is_failed mid) (is_failed long)) made (may_mark c.renew_l1_table-longer.new.self c.mark_failure.new.self c.renew_l1_table-longer.result c.mark_failure.ensures.marks) in
-    let same : c.mark_failure.new.self ≡ c.renew_l1_table-longer.new.self = c.mark_failure.ensures.rest ∙ ap (λ f. record mid { is_failed = f }) kept in
-    let longer : (out : _) → ImageInvariant view below (pending_in view below old out) old out → UnseenCall view below old c.mark_failure.new.self out = λ out sound.
-    let call = first out sound in
-    subst (λ (image : Qcow2 _ _). UnseenCall view below old image out) (sym same) (stays_then view below out old begun mid call (subst (MakesEntry view below begun mid out) made (c.renew_l1_table-longer.ensures.makes out call.sound))) in
-    let numbered = c.mark_failure.ensures.image.number ∙ c.renew_l1_table-longer.ensures.stays.image.number ∙ c.begin.ensures.stays.image.number in
-    let filled = c.fill_grown-filled.new.self in
-    let put : c.fill_grown-filled.result ≡ Ok c.in_ok-mark_fault.field-0 = sym c.mark_fault.ensures.answer ∙ c.in_ok-mark_fault.was in
-    let whole : c.mark_fault.new.self ≡ c.fill_grown-filled.new.self = subst (λ (r : Result _ _). OnOk r (c.mark_fault.new.self ≡ c.fill_grown-filled.new.self)) put c.mark_fault.ensures.same in
-    let fills : (out : _) → ImageInvariant view below (pending_in view below long out) long out → FillsGrown view below c.args.size c.args.mode long c.mark_fault.new.self out = λ out sound.
-    subst (λ (image : Qcow2 _ _). FillsGrown view below c.args.size c.args.mode long image out) (sym whole)
-    (subst (FillsGrownOrRefuses view below c.args.size c.args.mode long filled out) put (c.fill_grown-filled.ensures.fills out sound)) in
-    let new = c.write_size-written.new.self in
-    subst (λ (image : Qcow2 _ _). WritesSizeLast view below old image) (sym c.mark_fault-2.ensures.rest)
-    (last_sized view below old c.args.size c.args.mode c.requires.usable c.requires.larger long longer c.mark_fault.new.self fills new
-    (ap (λ (i : Qcow2 _ _). i.number) c.write_size-written.ensures.rest ∙ c.mark_fault.ensures.image.number ∙ c.fill_grown-filled.ensures.stays.image.number ∙ numbered)
-    (is_failed c.mark_fault-2.new.self) c.write_size-written.ensures.time out sound)
+    record { noted = kept_noted g.S.Storage.view c.mark_failure.new.self c.fill_grown-filled.new.self c.fill_grown-filled.ensures.step.notes (subst (λ (f : ImageFile _). IsTrue (has_noted f)) (sym (ap (λ (i : Qcow2 _ _). i.file) c.mark_failure.ensures.rest)) (or_right (is_changed_of c.renew_l1_table-longer.new.self.file.storage) c.renew_l1_table-longer.new.self.file.caches.is_changed (subst (λ (r : Result _ _). OnOk r (IsTrue c.renew_l1_table-longer.new.self.file.caches.is_changed)) made c.renew_l1_table-longer.ensures.noted))) }
 
-pub returns-in_err-mark_failure-clause-tables : goal.returns-in_err-mark_failure-clause-tables
-returns-in_err-mark_failure-clause-tables g c = λ out sound.
+pub mark_fault-requires-2 : goal.mark_fault-requires-2
+mark_fault-requires-2 g c =
+    let made : c.renew_l1_table-longer.result ≡ Ok c.in_ok-mark_failure.field-0 = sym c.mark_failure.ensures.answer ∙ c.in_ok-mark_failure.was in
+    record {
+      noted = kept_noted g.S.Storage.view c.mark_fault.new.self c.write_size-written.new.self c.write_size-written.ensures.notes
+          (subst (λ (f : ImageFile _). IsTrue (has_noted f)) (sym c.mark_fault.ensures.file) (kept_noted g.S.Storage.view c.mark_failure.new.self c.fill_grown-filled.new.self c.fill_grown-filled.ensures.step.notes (subst (λ (f : ImageFile _). IsTrue (has_noted f)) (sym (ap (λ (i : Qcow2 _ _). i.file) c.mark_failure.ensures.rest)) (or_right (is_changed_of c.renew_l1_table-longer.new.self.file.storage) c.renew_l1_table-longer.new.self.file.caches.is_changed (subst (λ (r : Result _ _). OnOk r (IsTrue c.renew_l1_table-longer.new.self.file.caches.is_changed)) made c.renew_l1_table-longer.ensures.noted)))));
+    }
+
+pub returns-in_err-mark_failure-clause-step : goal.returns-in_err-mark_failure-clause-step
+returns-in_err-mark_failure-clause-step g c = record {
+  marks = search rules;
+  once_written = handed_on (λ r. FailsOnceWritten g.S.Storage.view c.args.self.now c.mark_failure.new.self r) c.from_residual.result c.in_err-mark_failure.field-0.0 c.from_residual.ensures
+      (fails_once g.S.Storage.view c.args.self.now c.begin.new.self c.begin.ensures.begun c.renew_l1_table-longer.new.self c.mark_failure.new.self c.renew_l1_table-longer.result c.renew_l1_table-longer.ensures.step.notes (c.renew_l1_table-longer.ensures.step.stays.failed ∙ c.begin.ensures.stays.failed) c.mark_failure.ensures.marks c.mark_failure.ensures.rest (Err c.in_err-mark_failure.field-0.0) (λ memory. sym c.mark_failure.ensures.answer ∙ c.in_err-mark_failure.was ∙ err_as c.in_err-mark_failure.field-0.0 Memory memory));
+  header_cluster = behind_call g.S.Storage.view c.begin.ensures.begun c.renew_l1_table-longer.ensures.step.header_cluster c.mark_failure.ensures.rest;
+  faults = let view = g.S.Storage.view in
+      let below = g.F.BackingDisk.backing in
+      let old = c.args.self.now in
+      let longer = counted_marked view below old c.begin.new.self c.renew_l1_table-longer.new.self c.mark_failure.new.self c.renew_l1_table-longer.result c.mark_failure.result c.begin.ensures.faults c.renew_l1_table-longer.ensures.fails.faults c.mark_failure.ensures.answer c.mark_failure.ensures.rest in
+      counted_on view below old old c.mark_failure.new.self c.mark_failure.result c.in_err-mark_failure.field-0.0 c.from_residual.result (untouched view below old old refl refl) longer c.in_err-mark_failure.was c.from_residual.ensures;
+}
+
+pub returns-in_err-mark_fault-clause-step : goal.returns-in_err-mark_fault-clause-step
+returns-in_err-mark_fault-clause-step g c = record {
+  marks = search rules;
+  once_written = let made : c.renew_l1_table-longer.result ≡ Ok c.in_ok-mark_failure.field-0 = sym c.mark_failure.ensures.answer ∙ c.in_ok-mark_failure.was in
+      let long : is_failed c.mark_failure.new.self ≡ is_failed c.args.self.now = subst (λ (r : Result _ _). MayMarkBy r (is_failed c.renew_l1_table-longer.new.self) (is_failed c.mark_failure.new.self)) made (may_mark c.renew_l1_table-longer.new.self c.mark_failure.new.self c.renew_l1_table-longer.result c.mark_failure.ensures.marks)
+      ∙ c.renew_l1_table-longer.ensures.step.stays.failed ∙ c.begin.ensures.stays.failed in
+      handed_on (λ r. FailsOnceWritten g.S.Storage.view c.args.self.now c.mark_fault.new.self r) c.from_residual-in_err-mark_fault.result c.in_err-mark_fault.field-0.0 c.from_residual-in_err-mark_fault.ensures
+      (fails_marked g.S.Storage.view c.args.self.now c.begin.new.self c.begin.ensures.begun c.fill_grown-filled.new.self c.mark_fault.new.self c.fill_grown-filled.result (notes_then (notes_then (notes_then c.renew_l1_table-longer.ensures.step.notes (same_kept c.renew_l1_table-longer.new.self c.mark_failure.new.self (ap (λ (i : Qcow2 _ _). i.file.storage) c.mark_failure.ensures.rest) (ap (λ (i : Qcow2 _ _). i.file.caches) c.mark_failure.ensures.rest))) c.fill_grown-filled.ensures.step.notes) (same_kept c.fill_grown-filled.new.self c.mark_fault.new.self (ap (λ (f : ImageFile _). f.storage) c.mark_fault.ensures.file) (ap (λ (f : ImageFile _). f.caches) c.mark_fault.ensures.file)))
+      (c.fill_grown-filled.ensures.step.stays.failed ∙ long) c.mark_fault.ensures.marks (Err c.in_err-mark_fault.field-0.0) (λ memory. sym c.mark_fault.ensures.answer ∙ c.in_err-mark_fault.was ∙ err_as c.in_err-mark_fault.field-0.0 Memory memory));
+  header_cluster = behind_then (behind_then (behind_call g.S.Storage.view c.begin.ensures.begun c.renew_l1_table-longer.ensures.step.header_cluster c.mark_failure.ensures.rest) c.fill_grown-filled.ensures.step.header_cluster) (behind_by g.S.Storage.view c.mark_fault.ensures.rest behind_none);
+  faults = let view = g.S.Storage.view in
+      let below = g.F.BackingDisk.backing in
+      let old = c.args.self.now in
+      let longer = counted_marked view below old c.begin.new.self c.renew_l1_table-longer.new.self c.mark_failure.new.self c.renew_l1_table-longer.result c.mark_failure.result c.begin.ensures.faults c.renew_l1_table-longer.ensures.fails.faults c.mark_failure.ensures.answer c.mark_failure.ensures.rest in
+      let filled = counted_noted view below old c.mark_failure.new.self c.fill_grown-filled.new.self c.mark_fault.new.self c.fill_grown-filled.result c.mark_fault.result (same_of view below old c.mark_failure.new.self c.mark_failure.result _ longer c.in_ok-mark_failure.was) c.fill_grown-filled.ensures.fails.faults c.mark_fault.ensures.answer c.mark_fault.ensures.rest in
+      counted_on view below old old c.mark_fault.new.self c.mark_fault.result c.in_err-mark_fault.field-0.0 c.from_residual-in_err-mark_fault.result (untouched view below old old refl refl) filled c.in_err-mark_fault.was c.from_residual-in_err-mark_fault.ensures;
+}
+
+pub returns-clause-step : goal.returns-clause-step
+returns-clause-step g c = record {
+  marks = search rules;
+  once_written = let made : c.renew_l1_table-longer.result ≡ Ok c.in_ok-mark_failure.field-0 = sym c.mark_failure.ensures.answer ∙ c.in_ok-mark_failure.was in
+      let long : is_failed c.mark_failure.new.self ≡ is_failed c.args.self.now = subst (λ (r : Result _ _). MayMarkBy r (is_failed c.renew_l1_table-longer.new.self) (is_failed c.mark_failure.new.self)) made (may_mark c.renew_l1_table-longer.new.self c.mark_failure.new.self c.renew_l1_table-longer.result c.mark_failure.ensures.marks)
+      ∙ c.renew_l1_table-longer.ensures.step.stays.failed ∙ c.begin.ensures.stays.failed in
+      let put : c.fill_grown-filled.result ≡ Ok c.in_ok-mark_fault.field-0 = sym c.mark_fault.ensures.answer ∙ c.in_ok-mark_fault.was in
+      let whole : c.mark_fault.new.self ≡ c.fill_grown-filled.new.self = subst (λ (r : Result _ _). OnOk r (c.mark_fault.new.self ≡ c.fill_grown-filled.new.self)) put c.mark_fault.ensures.same in
+      fails_marked g.S.Storage.view c.args.self.now c.begin.new.self c.begin.ensures.begun c.write_size-written.new.self c.mark_fault-2.new.self c.write_size-written.result (notes_then (notes_then (notes_then (notes_then (notes_then c.renew_l1_table-longer.ensures.step.notes (same_kept c.renew_l1_table-longer.new.self c.mark_failure.new.self (ap (λ (i : Qcow2 _ _). i.file.storage) c.mark_failure.ensures.rest) (ap (λ (i : Qcow2 _ _). i.file.caches) c.mark_failure.ensures.rest))) c.fill_grown-filled.ensures.step.notes) (same_kept c.fill_grown-filled.new.self c.mark_fault.new.self (ap (λ (f : ImageFile _). f.storage) c.mark_fault.ensures.file) (ap (λ (f : ImageFile _). f.caches) c.mark_fault.ensures.file))) c.write_size-written.ensures.notes) (same_kept c.write_size-written.new.self c.mark_fault-2.new.self (ap (λ (f : ImageFile _). f.storage) c.mark_fault-2.ensures.file) (ap (λ (f : ImageFile _). f.caches) c.mark_fault-2.ensures.file)))
+      (ap (λ (i : Qcow2 _ _). i.is_failed) c.write_size-written.ensures.rest ∙ ap (λ (i : Qcow2 _ _). i.is_failed) whole ∙ c.fill_grown-filled.ensures.step.stays.failed ∙ long) c.mark_fault-2.ensures.marks c.mark_fault-2.result (λ memory. sym c.mark_fault-2.ensures.answer ∙ memory);
+  header_cluster = behind_then (behind_then (behind_then (behind_then (behind_call g.S.Storage.view c.begin.ensures.begun c.renew_l1_table-longer.ensures.step.header_cluster c.mark_failure.ensures.rest) c.fill_grown-filled.ensures.step.header_cluster) (behind_by g.S.Storage.view c.mark_fault.ensures.rest behind_none)) c.write_size-written.ensures.header_cluster) (behind_by g.S.Storage.view c.mark_fault-2.ensures.rest behind_none);
+  faults = let view = g.S.Storage.view in
+      let below = g.F.BackingDisk.backing in
+      let old = c.args.self.now in
+      let longer = counted_marked view below old c.begin.new.self c.renew_l1_table-longer.new.self c.mark_failure.new.self c.renew_l1_table-longer.result c.mark_failure.result c.begin.ensures.faults c.renew_l1_table-longer.ensures.fails.faults c.mark_failure.ensures.answer c.mark_failure.ensures.rest in
+      let filled = counted_noted view below old c.mark_failure.new.self c.fill_grown-filled.new.self c.mark_fault.new.self c.fill_grown-filled.result c.mark_fault.result (same_of view below old c.mark_failure.new.self c.mark_failure.result _ longer c.in_ok-mark_failure.was) c.fill_grown-filled.ensures.fails.faults c.mark_fault.ensures.answer c.mark_fault.ensures.rest in
+      counted_noted view below old c.mark_fault.new.self c.write_size-written.new.self c.mark_fault-2.new.self c.write_size-written.result c.mark_fault-2.result (same_of view below old c.mark_fault.new.self c.mark_fault.result _ filled c.in_ok-mark_fault.was) c.write_size-written.ensures.fails.faults c.mark_fault-2.ensures.answer c.mark_fault-2.ensures.rest;
+}
+
+pub returns-in_err-mark_failure-clause-sound : goal.returns-in_err-mark_failure-clause-sound
+returns-in_err-mark_failure-clause-sound g c = λ out sound.
     let view = g.S.Storage.view in
     let below = g.F.BackingDisk.backing in
     let old = c.args.self.now in
     let begun = c.begin.new.self in
     let mid = c.renew_l1_table-longer.new.self in
     let first = begun_call view below old begun (λ out sound. record { keeps = c.begin.ensures.keeps (pending_in view below old out) out sound; list = c.begin.ensures.list }) in
-    let e = c.in_err-mark_failure.field-0.0 in
-    let marked = is_failed c.mark_failure.new.self in
+    let h = old.file.header.fields in
     let done : c.renew_l1_table-longer.result ≡ Err c.in_err-mark_failure.field-0.0 = sym c.mark_failure.ensures.answer ∙ c.in_err-mark_failure.was in
-    subst (λ (r : Result _ _). GrowsTables view below old c.mark_failure.new.self c.args.size c.args.mode out r) (sym (err_is c.from_residual.result c.from_residual.ensures))
-    (record {
-      taken = λ is. met_taken e (subst (λ (r : Result _ _). IfErr r IsMet) done c.renew_l1_table-longer.ensures.cause) is;
-      zeros = λ zero lacks. subst (λ (image : Qcow2 _ _). RefusesUnchanged view below old image out e) (sym c.mark_failure.ensures.rest)
-          (unchanged_not view below old c.args.size c.args.mode c.requires.usable c.requires.larger begun mid e marked first
-          (λ list still. subst (MakesEntry view below begun mid list) done (c.renew_l1_table-longer.ensures.makes list still))
-          (c.renew_l1_table-longer.ensures.stays.image.number ∙ c.begin.ensures.stays.image.number)
-          (subst (λ (r : Result _ _). MayMarkBy r (is_failed mid) marked) done (may_mark c.renew_l1_table-longer.new.self c.mark_failure.new.self c.renew_l1_table-longer.result c.mark_failure.ensures.marks))
-          (subst (λ (r : Result _ _). IfErr r (λ x. x ≡ Memory → IsTrue (has_noted_change mid) → IsTrue marked)) done (marks_memory c.renew_l1_table-longer.new.self c.mark_failure.new.self c.renew_l1_table-longer.new.self c.renew_l1_table-longer.result c.mark_failure.ensures.marks (ap (λ (i : Qcow2 _ _). i.file) c.mark_failure.ensures.rest))) out);
-      version = λ zero lacks.
-          let offset = c.args.size - 1 in
-          let why = subst (λ (r : Result _ _). IfErr r IsFaultOrLimit) done (c.renew_l1_table-longer.ensures.fault out (first out sound).sound) in
-          let limit = subst (λ (r : Result _ _). IfErr r (λ x. x ≡ Limit → LacksTableReaching view offset begun mid)) done (c.renew_l1_table-longer.ensures.limit out (first out sound).sound) in
-          elim why [
-            | inl fault ↦ inr (inl fault)
-            | inr is ↦ inr (inr (is, subst (λ (image : Qcow2 _ _). LacksTableReaching view offset old image) (sym c.mark_failure.ensures.rest) (longer_ended view offset old begun mid marked c.begin.ensures.rest (limit is))))
-          ];
-    })
+    let e = c.in_err-mark_failure.field-0.0 in
+    let offset = c.args.size - 1 in
+    let marked = is_failed c.mark_failure.new.self in
+    let why = subst (λ (r : Result _ _). IfErr r (λ x. x ≡ Limit → LacksTableReaching view offset begun mid)) done (c.renew_l1_table-longer.ensures.limit out (first out sound).sound) in
+    let freed = subst (λ (r : Result _ _). IfErr r (FreesRefused mid)) done (c.renew_l1_table-longer.ensures.freed out (first out sound).sound) in
+    record {
+      met = hands_met (IsMetGrowing out c.args.mode (size_of old) (rounded_up (cluster_size h) c.args.size) h (known_in view old.file)) c.from_residual.result e c.from_residual.ensures
+          (inl (inl (inl (subst (λ (r : Result _ _). IfErr r IsFaultOrLimit) done (c.renew_l1_table-longer.ensures.fault out (first out sound).sound)))));
+      limit = subst (λ (r : Result _ _). IfErr r (λ x. x ≡ Limit → CantGrowDisk view below c.args.mode c.args.size old c.mark_failure.new.self out)) (sym (err_is c.from_residual.result c.from_residual.ensures))
+          (λ is. inl (subst (λ (image : Qcow2 _ _). LacksTableReaching view offset old image) (sym c.mark_failure.ensures.rest) (longer_ended view offset old begun mid (is_failed c.mark_failure.new.self) c.begin.ensures.rest (why is))));
+      last = subst (λ (image : Qcow2 _ _). WritesSizeLast view below old image) (sym c.mark_failure.ensures.rest)
+          (last_not view below old c.args.size c.args.mode c.requires.usable c.requires.larger begun mid e (is_failed c.mark_failure.new.self) first
+          (λ out sound. subst (MakesEntry view below begun mid out) done (c.renew_l1_table-longer.ensures.makes out sound)) out sound);
+      tables = subst (λ (r : Result _ _). GrowsTables view below old c.mark_failure.new.self c.args.size c.args.mode out r) (sym (err_is c.from_residual.result c.from_residual.ensures))
+          (record {
+            taken = λ is. met_taken e (subst (λ (r : Result _ _). IfErr r IsMet) done c.renew_l1_table-longer.ensures.fails.cause) is;
+            zeros = λ zero lacks. subst (λ (image : Qcow2 _ _). RefusesUnchanged view below old image out e) (sym c.mark_failure.ensures.rest)
+                (unchanged_not view below old c.args.size c.args.mode c.requires.usable c.requires.larger begun mid e marked first
+                (λ list still. subst (MakesEntry view below begun mid list) done (c.renew_l1_table-longer.ensures.makes list still))
+                (c.renew_l1_table-longer.ensures.step.stays.image.number ∙ c.begin.ensures.stays.image.number)
+                (subst (λ (r : Result _ _). MayMarkBy r (is_failed mid) marked) done (may_mark c.renew_l1_table-longer.new.self c.mark_failure.new.self c.renew_l1_table-longer.result c.mark_failure.ensures.marks))
+                (subst (λ (r : Result _ _). IfErr r (λ x. x ≡ Memory → IsTrue (has_noted_change mid) → IsTrue marked)) done (marks_memory c.renew_l1_table-longer.new.self c.mark_failure.new.self c.renew_l1_table-longer.new.self c.renew_l1_table-longer.result c.mark_failure.ensures.marks (ap (λ (i : Qcow2 _ _). i.file) c.mark_failure.ensures.rest))) out);
+            version = λ zero lacks.
+                let why = subst (λ (r : Result _ _). IfErr r IsFaultOrLimit) done (c.renew_l1_table-longer.ensures.fault out (first out sound).sound) in
+                let limit = subst (λ (r : Result _ _). IfErr r (λ x. x ≡ Limit → LacksTableReaching view offset begun mid)) done (c.renew_l1_table-longer.ensures.limit out (first out sound).sound) in
+                elim why [
+                  | inl fault ↦ inr (inl fault)
+                  | inr is ↦ inr (inr (is, subst (λ (image : Qcow2 _ _). LacksTableReaching view offset old image) (sym c.mark_failure.ensures.rest) (longer_ended view offset old begun mid marked c.begin.ensures.rest (limit is))))
+                ];
+          });
+      freed = subst (λ (r : Result _ _). IfErr r (FreesRefused c.mark_failure.new.self)) (sym (err_is c.from_residual.result c.from_residual.ensures))
+          (subst (λ (image : Qcow2 _ _). FreesRefused image e) (sym c.mark_failure.ensures.rest) freed);
+    }
 
-pub returns-in_err-mark_fault-clause-tables : goal.returns-in_err-mark_fault-clause-tables
-returns-in_err-mark_fault-clause-tables g c = λ out sound.
+pub returns-in_err-mark_fault-clause-sound : goal.returns-in_err-mark_fault-clause-sound
+returns-in_err-mark_fault-clause-sound g c = λ out sound.
     let view = g.S.Storage.view in
     let below = g.F.BackingDisk.backing in
     let old = c.args.self.now in
@@ -239,32 +246,69 @@ returns-in_err-mark_fault-clause-tables g c = λ out sound.
     let begins = first out sound in
     let lengthens = subst (MakesEntry view below begun mid out) made (c.renew_l1_table-longer.ensures.makes out begins.sound) in
     let call : UnseenCall view below old c.mark_failure.new.self out = subst (λ (image : Qcow2 _ _). UnseenCall view below old image out) (sym same) (stays_then view below out old begun mid begins lengthens) in
+    let length = subst (λ (r : Result _ _). OnOk r (entry_count mid.l1_table ≡ max (entry_count begun.l1_table) (l1_index_of begun.file.header.fields (c.args.size - 1) + 1))) made c.renew_l1_table-longer.ensures.length in
+    let empty : HasNothingToFree c.mark_failure.new.self = subst (λ (i : Qcow2 _ _). HasNothingToFree i) (sym same) (subst (λ (r : Result _ _). OnOk r (HasNothingToFree mid)) made c.renew_l1_table-longer.ensures.emptied) in
     let filled = c.fill_grown-filled.new.self in
+    let step = c.begin.ensures.keeps (pending_in view below old out) out sound in
     let e = c.in_err-mark_fault.field-0.0 in
     let marked = is_failed c.mark_fault.new.self in
     let done : c.fill_grown-filled.result ≡ Err c.in_err-mark_fault.field-0.0 = sym c.mark_fault.ensures.answer ∙ c.in_err-mark_fault.was in
-    let empty : HasNothingToFree c.mark_failure.new.self = subst (λ (i : Qcow2 _ _). HasNothingToFree i) (sym same) (subst (λ (r : Result _ _). OnOk r (HasNothingToFree mid)) made c.renew_l1_table-longer.ensures.emptied) in
-    let none : c.args.mode ≡ Zero → LacksZeros old → (c.fill_grown-filled.result ≡ Err Version) × (filled ≡ long) = λ zero lacks.
-    c.fill_grown-filled.ensures.version empty zero (subst (λ n. n < 3) (sym (same_version old.file.header.fields long.file.header.fields call.header)) lacks) in
-    subst (λ (r : Result _ _). GrowsTables view below old c.mark_fault.new.self c.args.size c.args.mode out r) (sym (err_is c.from_residual-in_err-mark_fault.result c.from_residual-in_err-mark_fault.ensures))
-    (record {
-      taken = taken_behind view below out old long filled c.args.size c.args.mode e call
-          (subst (FillsGrownOrRefuses view below c.args.size c.args.mode long filled out) done (c.fill_grown-filled.ensures.fills out call.sound));
-      zeros = λ zero lacks.
-          let refused = none zero lacks in
-          let fault : Err e ≡ Err Version = sym done ∙ refused.0 in
-          subst (λ (image : Qcow2 _ _). RefusesUnchanged view below old image out e) (sym c.mark_fault.ensures.rest)
-          (unchanged_noted view below old (record filled { is_failed = marked }) (is_changed_of c.mark_fault.new.self.file.storage) c.args.size out e (refuses_version view below out old long filled e marked c.requires.usable call refused.1 (let is : e ≡ Version = cc in is)
-          (c.fill_grown-filled.ensures.stays.image.number ∙ c.mark_failure.ensures.image.number ∙ c.renew_l1_table-longer.ensures.stays.image.number ∙ c.begin.ensures.stays.image.number)
-          (subst (λ (r : Result _ _). MayMarkBy r (is_failed filled) marked) done (may_mark c.fill_grown-filled.new.self c.mark_fault.new.self c.fill_grown-filled.result c.mark_fault.ensures.marks))));
-      version = λ zero lacks. inl (let fault : Err e ≡ Err Version = sym done ∙ (none zero lacks).0 in let is : e ≡ Version = cc in is);
-    })
+    let freed = subst (λ (r : Result _ _). IfErr r (FreesRefused filled)) done (c.fill_grown-filled.ensures.freed out call.sound) in
+    record {
+      met = let told = reaches_begun old.file.header.fields begun.file.header.fields mid.file.header.fields (c.args.size - 1) step.unseen.header
+          (reaches_told view below out (pending_in view below begun out) (pending_in view below mid out) begun mid (c.args.size - 1) begins.sound lengthens.sound length) in
+          let longer = subst (λ (image : Qcow2 _ _). ReachesOffset (c.args.size - 1) old.file.header.fields image.file.header.fields) (sym same) told in
+          let placed = subst (λ (image : Qcow2 _ _). IsPlacedNear image.l1_table) (sym same) (subst (λ (r : Result _ _). OnOk r (IsPlacedNear mid.l1_table)) made (c.renew_l1_table-longer.ensures.placed begins.sound.l1_table.bits)) in
+          let near = near_longer_ends view below out old.file.header.fields (pending_in view below long out) long c.args.size (let l = c.requires.larger in omega (arith, l)) call.header longer call.sound placed in
+          let h = old.file.header.fields in
+          let from : c.size-end.result ≡ size_of c.args.self.now = c.size-end.ensures ∙ ap (λ (x : HeaderFields). x.size) call.header in
+          let why = subst (λ (r : Result _ _). IfErr r (IsMetGrowing out c.args.mode c.size-end.result (rounded_up (cluster_size long.file.header.fields) c.args.size) long.file.header.fields (known_in view long.file))) done (c.fill_grown-filled.ensures.met out call.sound near) in
+          hands_met (IsMetGrowing out c.args.mode (size_of old) (rounded_up (cluster_size h) c.args.size) h (known_in view old.file)) c.from_residual-in_err-mark_fault.result e c.from_residual-in_err-mark_fault.ensures
+          (met_behind view below out old long c.args.mode c.args.size (size_of old) e call
+          (subst (λ n. IsMetGrowing out c.args.mode n (rounded_up (cluster_size long.file.header.fields) c.args.size) long.file.header.fields (known_in view long.file) e) from why));
+      limit = let told = reaches_begun old.file.header.fields begun.file.header.fields mid.file.header.fields (c.args.size - 1) step.unseen.header
+          (reaches_told view below out (pending_in view below begun out) (pending_in view below mid out) begun mid (c.args.size - 1) begins.sound lengthens.sound length) in
+          let longer = subst (λ (image : Qcow2 _ _). ReachesOffset (c.args.size - 1) old.file.header.fields image.file.header.fields) (sym same) told in
+          let refused = subst (FillsGrownOrRefuses view below c.args.size c.args.mode long filled out) done (c.fill_grown-filled.ensures.fills out call.sound) in
+          let fails : c.args.mode ≡ PreallocateNone → ⊥ = λ none. absurd (let no : Err e ≡ Ok tt = sym done ∙ (c.fill_grown-filled.ensures.unfilled none).0 in cc) in
+          subst (λ (r : Result _ _). IfErr r (λ x. x ≡ Limit → CantGrowDisk view below c.args.mode c.args.size old c.mark_fault.new.self out)) (sym (err_is c.from_residual-in_err-mark_fault.result c.from_residual-in_err-mark_fault.ensures))
+          (λ is. inr (subst (λ (image : Qcow2 _ _). LacksPlaceBehind view below c.args.mode c.args.size old image out) (sym c.mark_fault.ensures.rest)
+          (behind_lacked view below out old long filled (is_changed_of c.mark_fault.new.self.file.storage) (is_failed c.mark_fault.new.self) c.args.size c.args.mode fails call longer empty (refused.limit is))));
+      last = let longer : (out : _) → ImageInvariant view below (pending_in view below old out) old out → UnseenCall view below old c.mark_failure.new.self out = λ out sound.
+          let call = first out sound in
+          subst (λ (image : Qcow2 _ _). UnseenCall view below old image out) (sym same) (stays_then view below out old begun mid call (subst (MakesEntry view below begun mid out) made (c.renew_l1_table-longer.ensures.makes out call.sound))) in
+          let numbered = c.mark_failure.ensures.image.number ∙ c.renew_l1_table-longer.ensures.step.stays.image.number ∙ c.begin.ensures.stays.image.number in
+          subst (λ (image : Qcow2 _ _). WritesSizeLast view below old image) (sym c.mark_fault.ensures.rest)
+          (last_in_part view below old c.args.size c.args.mode c.requires.usable c.requires.larger long longer filled e marked
+          (subst (λ (r : Result _ _). MayMarkBy r (is_failed filled) marked) done (may_mark c.fill_grown-filled.new.self c.mark_fault.new.self c.fill_grown-filled.result c.mark_fault.ensures.marks))
+          (subst (λ (r : Result _ _). IfErr r (λ x. IsFault x → IsTrue marked)) done c.mark_fault.ensures.fault)
+          (λ out sound. subst (FillsGrownOrRefuses view below c.args.size c.args.mode long filled out) done (c.fill_grown-filled.ensures.fills out sound)) out sound);
+      tables = let none : c.args.mode ≡ Zero → LacksZeros old → (c.fill_grown-filled.result ≡ Err Version) × (filled ≡ long) = λ zero lacks.
+          c.fill_grown-filled.ensures.version empty zero (subst (λ n. n < 3) (sym (same_version old.file.header.fields long.file.header.fields call.header)) lacks) in
+          subst (λ (r : Result _ _). GrowsTables view below old c.mark_fault.new.self c.args.size c.args.mode out r) (sym (err_is c.from_residual-in_err-mark_fault.result c.from_residual-in_err-mark_fault.ensures))
+          (record {
+            taken = taken_behind view below out old long filled c.args.size c.args.mode e call
+                (subst (FillsGrownOrRefuses view below c.args.size c.args.mode long filled out) done (c.fill_grown-filled.ensures.fills out call.sound));
+            zeros = λ zero lacks.
+                let refused = none zero lacks in
+                let fault : Err e ≡ Err Version = sym done ∙ refused.0 in
+                subst (λ (image : Qcow2 _ _). RefusesUnchanged view below old image out e) (sym c.mark_fault.ensures.rest)
+                (unchanged_noted view below old (record filled { is_failed = marked }) (is_changed_of c.mark_fault.new.self.file.storage) c.args.size out e (refuses_version view below out old long filled e marked c.requires.usable call refused.1 (let is : e ≡ Version = cc in is)
+                (c.fill_grown-filled.ensures.step.stays.image.number ∙ c.mark_failure.ensures.image.number ∙ c.renew_l1_table-longer.ensures.step.stays.image.number ∙ c.begin.ensures.stays.image.number)
+                (subst (λ (r : Result _ _). MayMarkBy r (is_failed filled) marked) done (may_mark c.fill_grown-filled.new.self c.mark_fault.new.self c.fill_grown-filled.result c.mark_fault.ensures.marks))));
+            version = λ zero lacks. inl (let fault : Err e ≡ Err Version = sym done ∙ (none zero lacks).0 in let is : e ≡ Version = cc in is);
+          });
+      freed = subst (λ (r : Result _ _). IfErr r (FreesRefused c.mark_fault.new.self)) (sym (err_is c.from_residual-in_err-mark_fault.result c.from_residual-in_err-mark_fault.ensures))
+          (subst (λ (image : Qcow2 _ _). FreesRefused image e) (sym c.mark_fault.ensures.rest) freed);
+    }
 
-pub returns-clause-tables : goal.returns-clause-tables
-returns-clause-tables g c = λ out sound.
-    let view = g.S.Storage.view in
-    let below = g.F.BackingDisk.backing in
+pub returns-clause-sound : goal.returns-clause-sound
+returns-clause-sound g c = λ out sound.
     let old = c.args.self.now in
+    let new = c.mark_fault-2.new.self in
+    let view = g.S.Storage.view in
+    let h = old.file.header.fields in
+    let below = g.F.BackingDisk.backing in
     let begun = c.begin.new.self in
     let mid = c.renew_l1_table-longer.new.self in
     let first = begun_call view below old begun (λ out sound. record { keeps = c.begin.ensures.keeps (pending_in view below old out) out sound; list = c.begin.ensures.list }) in
@@ -285,238 +329,40 @@ returns-clause-tables g c = λ out sound.
     let reached = reaches_filled view below out long filled c.args.size call.sound (let l = c.requires.larger in let s = ap (λ (h : HeaderFields). h.size) call.header in omega (arith, l, s)) c.args.mode (λ none. (c.fill_grown-filled.ensures.unfilled none).1) lengthened fills in
     let grown = subst (λ (image : Qcow2 _ _). FillsGrown view below c.args.size c.args.mode long image out) (sym whole) fills in
     let step = c.begin.ensures.keeps (pending_in view below old out) out sound in
-    let told = reaches_begun old.file.header.fields begun.file.header.fields mid.file.header.fields (c.args.size - 1) step.unseen.header
-    (reaches_told view below out (pending_in view below begun out) (pending_in view below mid out) begun mid (c.args.size - 1) begins.sound lengthens.sound length) in
-    let longer = subst (λ (image : Qcow2 _ _). ReachesOffset (c.args.size - 1) old.file.header.fields image.file.header.fields) (sym same) told in
-    let as_long = reaches_on old.file.header.fields long.file.header.fields c.mark_fault.new.self.file.header.fields c.args.size (let l = c.requires.larger in omega (arith, l)) call.header longer grown.l1_table in
-    let never : c.args.mode ≡ Zero → LacksZeros old → ⊥ = λ zero lacks.
-    let empty : HasNothingToFree c.mark_failure.new.self = subst (λ (i : Qcow2 _ _). HasNothingToFree i) (sym same) (subst (λ (r : Result _ _). OnOk r (HasNothingToFree mid)) made c.renew_l1_table-longer.ensures.emptied) in
-    let refused = c.fill_grown-filled.ensures.version empty zero (subst (λ n. n < 3) (sym (same_version old.file.header.fields long.file.header.fields call.header)) lacks) in
-    absurd (let no : Ok c.in_ok-mark_fault.field-0 ≡ Err Version = sym put ∙ refused.0 in cc) in
-    let new = c.write_size-written.new.self in
-    let none : HasNothingToFree mid = subst (λ (r : Result _ _). OnOk r (HasNothingToFree mid)) made c.renew_l1_table-longer.ensures.emptied in
-    let still : HasNothingToFree filled = subst (λ (r : Result _ _). OnOk r (HasNothingToFree filled)) put (c.fill_grown-filled.ensures.emptied (subst (λ (image : Qcow2 _ _). HasNothingToFree image) (sym same) none)) in
-    let emptied : HasNothingToFree new = ap (λ (i : Qcow2 _ _). i.file.free_list) c.write_size-written.ensures.rest ∙ subst (λ (image : Qcow2 _ _). HasNothingToFree image) (sym whole) still in
-    subst (λ (image : Qcow2 _ _). GrowsTables view below old image c.args.size c.args.mode out c.mark_fault-2.result) (sym c.mark_fault-2.ensures.rest)
-    (subst (λ (r : Result _ _). GrowsTables view below old (with_marks new (is_changed_of c.mark_fault-2.new.self.file.storage) (is_failed c.mark_fault-2.new.self)) c.args.size c.args.mode out r) (sym c.mark_fault-2.ensures.answer)
-    (tables_noted view below old (record new { is_failed = is_failed c.mark_fault-2.new.self }) (is_changed_of c.mark_fault-2.new.self.file.storage) c.args.size c.args.mode out c.write_size-written.result (tables_sized view below out old c.mark_fault.new.self new (is_failed c.mark_fault-2.new.self) c.args.size c.args.mode c.write_size-written.result (file_step_then old.file.header.fields long.file.header.fields c.mark_fault.new.self.file.header.fields call.header grown.header) c.write_size-written.ensures.cause c.write_size-written.ensures.header
-    (subst (λ (image : Qcow2 _ _). ReachesSize (with_size image.file.header.fields c.args.size)) (sym whole) reached) as_long
-    (leaves_sized view below out old long c.mark_fault.new.self new c.args.size c.args.mode c.write_size-written.result call grown (c.write_size-written.ensures.writes out grown.sound)) emptied never
-    (untaken_grown view below out old long c.args.size c.args.mode call grown.free))))
-
-pub returns-in_err-mark_failure-clause-faults : goal.returns-in_err-mark_failure-clause-faults
-returns-in_err-mark_failure-clause-faults g c =
-    let view = g.S.Storage.view in
-    let below = g.F.BackingDisk.backing in
-    let old = c.args.self.now in
-    let longer = counted_marked view below old c.begin.new.self c.renew_l1_table-longer.new.self c.mark_failure.new.self c.renew_l1_table-longer.result c.mark_failure.result c.begin.ensures.faults c.renew_l1_table-longer.ensures.faults c.mark_failure.ensures.answer c.mark_failure.ensures.rest in
-    counted_on view below old old c.mark_failure.new.self c.mark_failure.result c.in_err-mark_failure.field-0.0 c.from_residual.result (untouched view below old old refl refl) longer c.in_err-mark_failure.was c.from_residual.ensures
-
-pub returns-in_err-mark_fault-clause-faults : goal.returns-in_err-mark_fault-clause-faults
-returns-in_err-mark_fault-clause-faults g c =
-    let view = g.S.Storage.view in
-    let below = g.F.BackingDisk.backing in
-    let old = c.args.self.now in
-    let longer = counted_marked view below old c.begin.new.self c.renew_l1_table-longer.new.self c.mark_failure.new.self c.renew_l1_table-longer.result c.mark_failure.result c.begin.ensures.faults c.renew_l1_table-longer.ensures.faults c.mark_failure.ensures.answer c.mark_failure.ensures.rest in
-    let filled = counted_noted view below old c.mark_failure.new.self c.fill_grown-filled.new.self c.mark_fault.new.self c.fill_grown-filled.result c.mark_fault.result (same_of view below old c.mark_failure.new.self c.mark_failure.result _ longer c.in_ok-mark_failure.was) c.fill_grown-filled.ensures.faults c.mark_fault.ensures.answer c.mark_fault.ensures.rest in
-    counted_on view below old old c.mark_fault.new.self c.mark_fault.result c.in_err-mark_fault.field-0.0 c.from_residual-in_err-mark_fault.result (untouched view below old old refl refl) filled c.in_err-mark_fault.was c.from_residual-in_err-mark_fault.ensures
-
-pub returns-clause-faults : goal.returns-clause-faults
-returns-clause-faults g c =
-    let view = g.S.Storage.view in
-    let below = g.F.BackingDisk.backing in
-    let old = c.args.self.now in
-    let longer = counted_marked view below old c.begin.new.self c.renew_l1_table-longer.new.self c.mark_failure.new.self c.renew_l1_table-longer.result c.mark_failure.result c.begin.ensures.faults c.renew_l1_table-longer.ensures.faults c.mark_failure.ensures.answer c.mark_failure.ensures.rest in
-    let filled = counted_noted view below old c.mark_failure.new.self c.fill_grown-filled.new.self c.mark_fault.new.self c.fill_grown-filled.result c.mark_fault.result (same_of view below old c.mark_failure.new.self c.mark_failure.result _ longer c.in_ok-mark_failure.was) c.fill_grown-filled.ensures.faults c.mark_fault.ensures.answer c.mark_fault.ensures.rest in
-    counted_noted view below old c.mark_fault.new.self c.write_size-written.new.self c.mark_fault-2.new.self c.write_size-written.result c.mark_fault-2.result (same_of view below old c.mark_fault.new.self c.mark_fault.result _ filled c.in_ok-mark_fault.was) c.write_size-written.ensures.faults c.mark_fault-2.ensures.answer c.mark_fault-2.ensures.rest
-
-pub returns-in_err-mark_failure-clause-once_written : goal.returns-in_err-mark_failure-clause-once_written
-returns-in_err-mark_failure-clause-once_written g c =
-    handed_on (λ r. FailsOnceWritten g.S.Storage.view c.args.self.now c.mark_failure.new.self r) c.from_residual.result c.in_err-mark_failure.field-0.0 c.from_residual.ensures
-    (fails_once g.S.Storage.view c.args.self.now c.begin.new.self c.begin.ensures.begun c.renew_l1_table-longer.new.self c.mark_failure.new.self c.renew_l1_table-longer.result c.renew_l1_table-longer.ensures.notes (c.renew_l1_table-longer.ensures.stays.failed ∙ c.begin.ensures.stays.failed) c.mark_failure.ensures.marks c.mark_failure.ensures.rest (Err c.in_err-mark_failure.field-0.0) (λ memory. sym c.mark_failure.ensures.answer ∙ c.in_err-mark_failure.was ∙ err_as c.in_err-mark_failure.field-0.0 Memory memory))
-
-pub returns-in_err-mark_fault-clause-once_written : goal.returns-in_err-mark_fault-clause-once_written
-returns-in_err-mark_fault-clause-once_written g c =
-    let made : c.renew_l1_table-longer.result ≡ Ok c.in_ok-mark_failure.field-0 = sym c.mark_failure.ensures.answer ∙ c.in_ok-mark_failure.was in
-    let long : is_failed c.mark_failure.new.self ≡ is_failed c.args.self.now = subst (λ (r : Result _ _). MayMarkBy r (is_failed c.renew_l1_table-longer.new.self) (is_failed c.mark_failure.new.self)) made (may_mark c.renew_l1_table-longer.new.self c.mark_failure.new.self c.renew_l1_table-longer.result c.mark_failure.ensures.marks)
-    ∙ c.renew_l1_table-longer.ensures.stays.failed ∙ c.begin.ensures.stays.failed in
-    handed_on (λ r. FailsOnceWritten g.S.Storage.view c.args.self.now c.mark_fault.new.self r) c.from_residual-in_err-mark_fault.result c.in_err-mark_fault.field-0.0 c.from_residual-in_err-mark_fault.ensures
-    (fails_marked g.S.Storage.view c.args.self.now c.begin.new.self c.begin.ensures.begun c.fill_grown-filled.new.self c.mark_fault.new.self c.fill_grown-filled.result (notes_then (notes_then (notes_then c.renew_l1_table-longer.ensures.notes (same_kept c.renew_l1_table-longer.new.self c.mark_failure.new.self (ap (λ (i : Qcow2 _ _). i.file.storage) c.mark_failure.ensures.rest) (ap (λ (i : Qcow2 _ _). i.file.caches) c.mark_failure.ensures.rest))) c.fill_grown-filled.ensures.notes) (same_kept c.fill_grown-filled.new.self c.mark_fault.new.self (ap (λ (f : ImageFile _). f.storage) c.mark_fault.ensures.file) (ap (λ (f : ImageFile _). f.caches) c.mark_fault.ensures.file)))
-    (c.fill_grown-filled.ensures.stays.failed ∙ long) c.mark_fault.ensures.marks (Err c.in_err-mark_fault.field-0.0) (λ memory. sym c.mark_fault.ensures.answer ∙ c.in_err-mark_fault.was ∙ err_as c.in_err-mark_fault.field-0.0 Memory memory))
-
-pub returns-clause-once_written : goal.returns-clause-once_written
-returns-clause-once_written g c =
-    let made : c.renew_l1_table-longer.result ≡ Ok c.in_ok-mark_failure.field-0 = sym c.mark_failure.ensures.answer ∙ c.in_ok-mark_failure.was in
-    let long : is_failed c.mark_failure.new.self ≡ is_failed c.args.self.now = subst (λ (r : Result _ _). MayMarkBy r (is_failed c.renew_l1_table-longer.new.self) (is_failed c.mark_failure.new.self)) made (may_mark c.renew_l1_table-longer.new.self c.mark_failure.new.self c.renew_l1_table-longer.result c.mark_failure.ensures.marks)
-    ∙ c.renew_l1_table-longer.ensures.stays.failed ∙ c.begin.ensures.stays.failed in
-    let put : c.fill_grown-filled.result ≡ Ok c.in_ok-mark_fault.field-0 = sym c.mark_fault.ensures.answer ∙ c.in_ok-mark_fault.was in
-    let whole : c.mark_fault.new.self ≡ c.fill_grown-filled.new.self = subst (λ (r : Result _ _). OnOk r (c.mark_fault.new.self ≡ c.fill_grown-filled.new.self)) put c.mark_fault.ensures.same in
-    fails_marked g.S.Storage.view c.args.self.now c.begin.new.self c.begin.ensures.begun c.write_size-written.new.self c.mark_fault-2.new.self c.write_size-written.result (notes_then (notes_then (notes_then (notes_then (notes_then c.renew_l1_table-longer.ensures.notes (same_kept c.renew_l1_table-longer.new.self c.mark_failure.new.self (ap (λ (i : Qcow2 _ _). i.file.storage) c.mark_failure.ensures.rest) (ap (λ (i : Qcow2 _ _). i.file.caches) c.mark_failure.ensures.rest))) c.fill_grown-filled.ensures.notes) (same_kept c.fill_grown-filled.new.self c.mark_fault.new.self (ap (λ (f : ImageFile _). f.storage) c.mark_fault.ensures.file) (ap (λ (f : ImageFile _). f.caches) c.mark_fault.ensures.file))) c.write_size-written.ensures.notes) (same_kept c.write_size-written.new.self c.mark_fault-2.new.self (ap (λ (f : ImageFile _). f.storage) c.mark_fault-2.ensures.file) (ap (λ (f : ImageFile _). f.caches) c.mark_fault-2.ensures.file)))
-    (ap (λ (i : Qcow2 _ _). i.is_failed) c.write_size-written.ensures.rest ∙ ap (λ (i : Qcow2 _ _). i.is_failed) whole ∙ c.fill_grown-filled.ensures.stays.failed ∙ long) c.mark_fault-2.ensures.marks c.mark_fault-2.result (λ memory. sym c.mark_fault-2.ensures.answer ∙ memory)
-
-pub returns-in_err-mark_failure-clause-header_cluster : goal.returns-in_err-mark_failure-clause-header_cluster
-returns-in_err-mark_failure-clause-header_cluster g c = behind_call g.S.Storage.view c.begin.ensures.begun c.renew_l1_table-longer.ensures.header_cluster c.mark_failure.ensures.rest
-
-pub returns-in_err-mark_fault-clause-header_cluster : goal.returns-in_err-mark_fault-clause-header_cluster
-returns-in_err-mark_fault-clause-header_cluster g c = behind_then (behind_then (behind_call g.S.Storage.view c.begin.ensures.begun c.renew_l1_table-longer.ensures.header_cluster c.mark_failure.ensures.rest) c.fill_grown-filled.ensures.header_cluster) (behind_by g.S.Storage.view c.mark_fault.ensures.rest behind_none)
-
-pub returns-clause-header_cluster : goal.returns-clause-header_cluster
-returns-clause-header_cluster g c = behind_then (behind_then (behind_then (behind_then (behind_call g.S.Storage.view c.begin.ensures.begun c.renew_l1_table-longer.ensures.header_cluster c.mark_failure.ensures.rest) c.fill_grown-filled.ensures.header_cluster) (behind_by g.S.Storage.view c.mark_fault.ensures.rest behind_none)) c.write_size-written.ensures.header_cluster) (behind_by g.S.Storage.view c.mark_fault-2.ensures.rest behind_none)
-
-pub mark_fault-requires : goal.mark_fault-requires
-mark_fault-requires g c =
-    let made : c.renew_l1_table-longer.result ≡ Ok c.in_ok-mark_failure.field-0 = sym c.mark_failure.ensures.answer ∙ c.in_ok-mark_failure.was in
-    record { noted = kept_noted g.S.Storage.view c.mark_failure.new.self c.fill_grown-filled.new.self c.fill_grown-filled.ensures.notes (subst (λ (f : ImageFile _). IsTrue (has_noted f)) (sym (ap (λ (i : Qcow2 _ _). i.file) c.mark_failure.ensures.rest)) (or_right (is_changed_of c.renew_l1_table-longer.new.self.file.storage) c.renew_l1_table-longer.new.self.file.caches.is_changed (subst (λ (r : Result _ _). OnOk r (IsTrue c.renew_l1_table-longer.new.self.file.caches.is_changed)) made c.renew_l1_table-longer.ensures.noted))) }
-
-pub mark_fault-requires-2 : goal.mark_fault-requires-2
-mark_fault-requires-2 g c =
-    let made : c.renew_l1_table-longer.result ≡ Ok c.in_ok-mark_failure.field-0 = sym c.mark_failure.ensures.answer ∙ c.in_ok-mark_failure.was in
     record {
-      noted = kept_noted g.S.Storage.view c.mark_fault.new.self c.write_size-written.new.self c.write_size-written.ensures.notes
-          (subst (λ (f : ImageFile _). IsTrue (has_noted f)) (sym c.mark_fault.ensures.file) (kept_noted g.S.Storage.view c.mark_failure.new.self c.fill_grown-filled.new.self c.fill_grown-filled.ensures.notes (subst (λ (f : ImageFile _). IsTrue (has_noted f)) (sym (ap (λ (i : Qcow2 _ _). i.file) c.mark_failure.ensures.rest)) (or_right (is_changed_of c.renew_l1_table-longer.new.self.file.storage) c.renew_l1_table-longer.new.self.file.caches.is_changed (subst (λ (r : Result _ _). OnOk r (IsTrue c.renew_l1_table-longer.new.self.file.caches.is_changed)) made c.renew_l1_table-longer.ensures.noted)))));
+      met = subst (λ (r : Result _ _). IfErr r (IsMetGrowing out c.args.mode (size_of old) (rounded_up (cluster_size h) c.args.size) h (known_in g.S.Storage.view old.file))) (sym c.mark_fault-2.ensures.answer)
+          (if_err c.write_size-written.result (λ e fault. inl (inl (inl (inl fault)))) c.write_size-written.ensures.fails.cause);
+      limit = unlimited_all c.mark_fault-2.result (λ x. CantGrowDisk g.S.Storage.view g.F.BackingDisk.backing c.args.mode c.args.size c.args.self.now new out)
+          (subst (λ (r : Result _ _). IfErr r IsUnlimited) (sym c.mark_fault-2.ensures.answer) (faults_unlimited c.write_size-written.result c.write_size-written.ensures.fails.cause));
+      last = let longer : (out : _) → ImageInvariant view below (pending_in view below old out) old out → UnseenCall view below old c.mark_failure.new.self out = λ out sound.
+          let call = first out sound in
+          subst (λ (image : Qcow2 _ _). UnseenCall view below old image out) (sym same) (stays_then view below out old begun mid call (subst (MakesEntry view below begun mid out) made (c.renew_l1_table-longer.ensures.makes out call.sound))) in
+          let numbered = c.mark_failure.ensures.image.number ∙ c.renew_l1_table-longer.ensures.step.stays.image.number ∙ c.begin.ensures.stays.image.number in
+          let fills : (out : _) → ImageInvariant view below (pending_in view below long out) long out → FillsGrown view below c.args.size c.args.mode long c.mark_fault.new.self out = λ out sound.
+          subst (λ (image : Qcow2 _ _). FillsGrown view below c.args.size c.args.mode long image out) (sym whole)
+          (subst (FillsGrownOrRefuses view below c.args.size c.args.mode long filled out) put (c.fill_grown-filled.ensures.fills out sound)) in
+          let new = c.write_size-written.new.self in
+          subst (λ (image : Qcow2 _ _). WritesSizeLast view below old image) (sym c.mark_fault-2.ensures.rest)
+          (last_sized view below old c.args.size c.args.mode c.requires.usable c.requires.larger long longer c.mark_fault.new.self fills new
+          (ap (λ (i : Qcow2 _ _). i.number) c.write_size-written.ensures.rest ∙ c.mark_fault.ensures.image.number ∙ c.fill_grown-filled.ensures.step.stays.image.number ∙ numbered)
+          (is_failed c.mark_fault-2.new.self) c.write_size-written.ensures.time out sound);
+      tables = let told = reaches_begun old.file.header.fields begun.file.header.fields mid.file.header.fields (c.args.size - 1) step.unseen.header
+          (reaches_told view below out (pending_in view below begun out) (pending_in view below mid out) begun mid (c.args.size - 1) begins.sound lengthens.sound length) in
+          let longer = subst (λ (image : Qcow2 _ _). ReachesOffset (c.args.size - 1) old.file.header.fields image.file.header.fields) (sym same) told in
+          let as_long = reaches_on old.file.header.fields long.file.header.fields c.mark_fault.new.self.file.header.fields c.args.size (let l = c.requires.larger in omega (arith, l)) call.header longer grown.l1_table in
+          let never : c.args.mode ≡ Zero → LacksZeros old → ⊥ = λ zero lacks.
+          let empty : HasNothingToFree c.mark_failure.new.self = subst (λ (i : Qcow2 _ _). HasNothingToFree i) (sym same) (subst (λ (r : Result _ _). OnOk r (HasNothingToFree mid)) made c.renew_l1_table-longer.ensures.emptied) in
+          let refused = c.fill_grown-filled.ensures.version empty zero (subst (λ n. n < 3) (sym (same_version old.file.header.fields long.file.header.fields call.header)) lacks) in
+          absurd (let no : Ok c.in_ok-mark_fault.field-0 ≡ Err Version = sym put ∙ refused.0 in cc) in
+          let new = c.write_size-written.new.self in
+          let none : HasNothingToFree mid = subst (λ (r : Result _ _). OnOk r (HasNothingToFree mid)) made c.renew_l1_table-longer.ensures.emptied in
+          let still : HasNothingToFree filled = subst (λ (r : Result _ _). OnOk r (HasNothingToFree filled)) put (c.fill_grown-filled.ensures.emptied (subst (λ (image : Qcow2 _ _). HasNothingToFree image) (sym same) none)) in
+          let emptied : HasNothingToFree new = ap (λ (i : Qcow2 _ _). i.file.free_list) c.write_size-written.ensures.rest ∙ subst (λ (image : Qcow2 _ _). HasNothingToFree image) (sym whole) still in
+          subst (λ (image : Qcow2 _ _). GrowsTables view below old image c.args.size c.args.mode out c.mark_fault-2.result) (sym c.mark_fault-2.ensures.rest)
+          (subst (λ (r : Result _ _). GrowsTables view below old (with_marks new (is_changed_of c.mark_fault-2.new.self.file.storage) (is_failed c.mark_fault-2.new.self)) c.args.size c.args.mode out r) (sym c.mark_fault-2.ensures.answer)
+          (tables_noted view below old (record new { is_failed = is_failed c.mark_fault-2.new.self }) (is_changed_of c.mark_fault-2.new.self.file.storage) c.args.size c.args.mode out c.write_size-written.result (tables_sized view below out old c.mark_fault.new.self new (is_failed c.mark_fault-2.new.self) c.args.size c.args.mode c.write_size-written.result (file_step_then old.file.header.fields long.file.header.fields c.mark_fault.new.self.file.header.fields call.header grown.header) c.write_size-written.ensures.fails.cause c.write_size-written.ensures.header
+          (subst (λ (image : Qcow2 _ _). ReachesSize (with_size image.file.header.fields c.args.size)) (sym whole) reached) as_long
+          (leaves_sized view below out old long c.mark_fault.new.self new c.args.size c.args.mode c.write_size-written.result call grown (c.write_size-written.ensures.writes out grown.sound)) emptied never
+          (untaken_grown view below out old long c.args.size c.args.mode call grown.free))));
+      freed = subst (λ (r : Result _ _). IfErr r (FreesRefused new)) (sym c.mark_fault-2.ensures.answer) (if_err c.write_size-written.result (λ e fault. inl fault) c.write_size-written.ensures.fails.cause);
     }
-
-pub returns-in_err-mark_failure-clause-freed : goal.returns-in_err-mark_failure-clause-freed
-returns-in_err-mark_failure-clause-freed g c = λ out sound.
-    let view = g.S.Storage.view in
-    let below = g.F.BackingDisk.backing in
-    let old = c.args.self.now in
-    let begun = c.begin.new.self in
-    let mid = c.renew_l1_table-longer.new.self in
-    let first = begun_call view below old begun (λ out sound. record { keeps = c.begin.ensures.keeps (pending_in view below old out) out sound; list = c.begin.ensures.list }) in
-    let e = c.in_err-mark_failure.field-0.0 in
-    let marked = is_failed c.mark_failure.new.self in
-    let done : c.renew_l1_table-longer.result ≡ Err c.in_err-mark_failure.field-0.0 = sym c.mark_failure.ensures.answer ∙ c.in_err-mark_failure.was in
-    let freed = subst (λ (r : Result _ _). IfErr r (FreesRefused mid)) done (c.renew_l1_table-longer.ensures.freed out (first out sound).sound) in
-    subst (λ (r : Result _ _). IfErr r (FreesRefused c.mark_failure.new.self)) (sym (err_is c.from_residual.result c.from_residual.ensures))
-    (subst (λ (image : Qcow2 _ _). FreesRefused image e) (sym c.mark_failure.ensures.rest) freed)
-
-pub returns-in_err-mark_fault-clause-freed : goal.returns-in_err-mark_fault-clause-freed
-returns-in_err-mark_fault-clause-freed g c = λ out sound.
-    let view = g.S.Storage.view in
-    let below = g.F.BackingDisk.backing in
-    let old = c.args.self.now in
-    let begun = c.begin.new.self in
-    let mid = c.renew_l1_table-longer.new.self in
-    let first = begun_call view below old begun (λ out sound. record { keeps = c.begin.ensures.keeps (pending_in view below old out) out sound; list = c.begin.ensures.list }) in
-    let long = c.mark_failure.new.self in
-    let made : c.renew_l1_table-longer.result ≡ Ok c.in_ok-mark_failure.field-0 = sym c.mark_failure.ensures.answer ∙ c.in_ok-mark_failure.was in
-    let kept = subst (λ (r : Result _ _). MayMarkBy r (is_failed mid) (is_failed long)) made (may_mark c.renew_l1_table-longer.new.self c.mark_failure.new.self c.renew_l1_table-longer.result c.mark_failure.ensures.marks) in
-    let same : c.mark_failure.new.self ≡ c.renew_l1_table-longer.new.self = c.mark_failure.ensures.rest ∙ ap (λ f. record mid { is_failed = f }) kept in
-    let begins = first out sound in
-    let lengthens = subst (MakesEntry view below begun mid out) made (c.renew_l1_table-longer.ensures.makes out begins.sound) in
-    let call : UnseenCall view below old c.mark_failure.new.self out = subst (λ (image : Qcow2 _ _). UnseenCall view below old image out) (sym same) (stays_then view below out old begun mid begins lengthens) in
-    let filled = c.fill_grown-filled.new.self in
-    let e = c.in_err-mark_fault.field-0.0 in
-    let marked = is_failed c.mark_fault.new.self in
-    let done : c.fill_grown-filled.result ≡ Err c.in_err-mark_fault.field-0.0 = sym c.mark_fault.ensures.answer ∙ c.in_err-mark_fault.was in
-    let freed = subst (λ (r : Result _ _). IfErr r (FreesRefused filled)) done (c.fill_grown-filled.ensures.freed out call.sound) in
-    subst (λ (r : Result _ _). IfErr r (FreesRefused c.mark_fault.new.self)) (sym (err_is c.from_residual-in_err-mark_fault.result c.from_residual-in_err-mark_fault.ensures))
-    (subst (λ (image : Qcow2 _ _). FreesRefused image e) (sym c.mark_fault.ensures.rest) freed)
-
-pub returns-clause-freed : goal.returns-clause-freed
-returns-clause-freed g c = λ out sound.
-    let new = c.mark_fault-2.new.self in
-    subst (λ (r : Result _ _). IfErr r (FreesRefused new)) (sym c.mark_fault-2.ensures.answer) (if_err c.write_size-written.result (λ e fault. inl fault) c.write_size-written.ensures.cause)
-
-pub returns-in_err-mark_failure-clause-limit : goal.returns-in_err-mark_failure-clause-limit
-returns-in_err-mark_failure-clause-limit g c = λ out sound.
-    let view = g.S.Storage.view in
-    let below = g.F.BackingDisk.backing in
-    let old = c.args.self.now in
-    let begun = c.begin.new.self in
-    let mid = c.renew_l1_table-longer.new.self in
-    let first = begun_call view below old begun (λ out sound. record { keeps = c.begin.ensures.keeps (pending_in view below old out) out sound; list = c.begin.ensures.list }) in
-    let done : c.renew_l1_table-longer.result ≡ Err c.in_err-mark_failure.field-0.0 = sym c.mark_failure.ensures.answer ∙ c.in_err-mark_failure.was in
-    let offset = c.args.size - 1 in
-    let why = subst (λ (r : Result _ _). IfErr r (λ x. x ≡ Limit → LacksTableReaching view offset begun mid)) done (c.renew_l1_table-longer.ensures.limit out (first out sound).sound) in
-    subst (λ (r : Result _ _). IfErr r (λ x. x ≡ Limit → CantGrowDisk view below c.args.mode c.args.size old c.mark_failure.new.self out)) (sym (err_is c.from_residual.result c.from_residual.ensures))
-    (λ is. inl (subst (λ (image : Qcow2 _ _). LacksTableReaching view offset old image) (sym c.mark_failure.ensures.rest) (longer_ended view offset old begun mid (is_failed c.mark_failure.new.self) c.begin.ensures.rest (why is))))
-
-pub returns-in_err-mark_fault-clause-limit : goal.returns-in_err-mark_fault-clause-limit
-returns-in_err-mark_fault-clause-limit g c = λ out sound.
-    let view = g.S.Storage.view in
-    let below = g.F.BackingDisk.backing in
-    let old = c.args.self.now in
-    let begun = c.begin.new.self in
-    let mid = c.renew_l1_table-longer.new.self in
-    let first = begun_call view below old begun (λ out sound. record { keeps = c.begin.ensures.keeps (pending_in view below old out) out sound; list = c.begin.ensures.list }) in
-    let long = c.mark_failure.new.self in
-    let made : c.renew_l1_table-longer.result ≡ Ok c.in_ok-mark_failure.field-0 = sym c.mark_failure.ensures.answer ∙ c.in_ok-mark_failure.was in
-    let kept = subst (λ (r : Result _ _). MayMarkBy r (is_failed mid) (is_failed long)) made (may_mark c.renew_l1_table-longer.new.self c.mark_failure.new.self c.renew_l1_table-longer.result c.mark_failure.ensures.marks) in
-    let same : c.mark_failure.new.self ≡ c.renew_l1_table-longer.new.self = c.mark_failure.ensures.rest ∙ ap (λ f. record mid { is_failed = f }) kept in
-    let begins = first out sound in
-    let lengthens = subst (MakesEntry view below begun mid out) made (c.renew_l1_table-longer.ensures.makes out begins.sound) in
-    let call : UnseenCall view below old c.mark_failure.new.self out = subst (λ (image : Qcow2 _ _). UnseenCall view below old image out) (sym same) (stays_then view below out old begun mid begins lengthens) in
-    let empty : HasNothingToFree c.mark_failure.new.self = subst (λ (i : Qcow2 _ _). HasNothingToFree i) (sym same) (subst (λ (r : Result _ _). OnOk r (HasNothingToFree mid)) made c.renew_l1_table-longer.ensures.emptied) in
-    let length = subst (λ (r : Result _ _). OnOk r (entry_count mid.l1_table ≡ max (entry_count begun.l1_table) (l1_index_of begun.file.header.fields (c.args.size - 1) + 1))) made c.renew_l1_table-longer.ensures.length in
-    let step = c.begin.ensures.keeps (pending_in view below old out) out sound in
-    let told = reaches_begun old.file.header.fields begun.file.header.fields mid.file.header.fields (c.args.size - 1) step.unseen.header
-    (reaches_told view below out (pending_in view below begun out) (pending_in view below mid out) begun mid (c.args.size - 1) begins.sound lengthens.sound length) in
-    let longer = subst (λ (image : Qcow2 _ _). ReachesOffset (c.args.size - 1) old.file.header.fields image.file.header.fields) (sym same) told in
-    let filled = c.fill_grown-filled.new.self in
-    let e = c.in_err-mark_fault.field-0.0 in
-    let done : c.fill_grown-filled.result ≡ Err c.in_err-mark_fault.field-0.0 = sym c.mark_fault.ensures.answer ∙ c.in_err-mark_fault.was in
-    let refused = subst (FillsGrownOrRefuses view below c.args.size c.args.mode long filled out) done (c.fill_grown-filled.ensures.fills out call.sound) in
-    let fails : c.args.mode ≡ PreallocateNone → ⊥ = λ none. absurd (let no : Err e ≡ Ok tt = sym done ∙ (c.fill_grown-filled.ensures.unfilled none).0 in cc) in
-    subst (λ (r : Result _ _). IfErr r (λ x. x ≡ Limit → CantGrowDisk view below c.args.mode c.args.size old c.mark_fault.new.self out)) (sym (err_is c.from_residual-in_err-mark_fault.result c.from_residual-in_err-mark_fault.ensures))
-    (λ is. inr (subst (λ (image : Qcow2 _ _). LacksPlaceBehind view below c.args.mode c.args.size old image out) (sym c.mark_fault.ensures.rest)
-    (behind_lacked view below out old long filled (is_changed_of c.mark_fault.new.self.file.storage) (is_failed c.mark_fault.new.self) c.args.size c.args.mode fails call longer empty (refused.limit is))))
-
-pub returns-clause-limit : goal.returns-clause-limit
-returns-clause-limit g c = λ out sound.
-    let new = c.mark_fault-2.new.self in
-    unlimited_all c.mark_fault-2.result (λ x. CantGrowDisk g.S.Storage.view g.F.BackingDisk.backing c.args.mode c.args.size c.args.self.now new out)
-    (subst (λ (r : Result _ _). IfErr r IsUnlimited) (sym c.mark_fault-2.ensures.answer) (faults_unlimited c.write_size-written.result c.write_size-written.ensures.cause))
-
-pub returns-in_err-mark_failure-clause-met : goal.returns-in_err-mark_failure-clause-met
-returns-in_err-mark_failure-clause-met g c = λ out sound.
-    let view = g.S.Storage.view in
-    let below = g.F.BackingDisk.backing in
-    let old = c.args.self.now in
-    let begun = c.begin.new.self in
-    let mid = c.renew_l1_table-longer.new.self in
-    let first = begun_call view below old begun (λ out sound. record { keeps = c.begin.ensures.keeps (pending_in view below old out) out sound; list = c.begin.ensures.list }) in
-    let h = old.file.header.fields in
-    let e = c.in_err-mark_failure.field-0.0 in
-    let done : c.renew_l1_table-longer.result ≡ Err c.in_err-mark_failure.field-0.0 = sym c.mark_failure.ensures.answer ∙ c.in_err-mark_failure.was in
-    hands_met (IsMetGrowing out c.args.mode (size_of old) (rounded_up (cluster_size h) c.args.size) h (known_in view old.file)) c.from_residual.result e c.from_residual.ensures
-    (inl (inl (inl (subst (λ (r : Result _ _). IfErr r IsFaultOrLimit) done (c.renew_l1_table-longer.ensures.fault out (first out sound).sound)))))
-
-pub returns-in_err-mark_fault-clause-met : goal.returns-in_err-mark_fault-clause-met
-returns-in_err-mark_fault-clause-met g c = λ out sound.
-    let view = g.S.Storage.view in
-    let below = g.F.BackingDisk.backing in
-    let old = c.args.self.now in
-    let begun = c.begin.new.self in
-    let mid = c.renew_l1_table-longer.new.self in
-    let first = begun_call view below old begun (λ out sound. record { keeps = c.begin.ensures.keeps (pending_in view below old out) out sound; list = c.begin.ensures.list }) in
-    let long = c.mark_failure.new.self in
-    let made : c.renew_l1_table-longer.result ≡ Ok c.in_ok-mark_failure.field-0 = sym c.mark_failure.ensures.answer ∙ c.in_ok-mark_failure.was in
-    let kept = subst (λ (r : Result _ _). MayMarkBy r (is_failed mid) (is_failed long)) made (may_mark c.renew_l1_table-longer.new.self c.mark_failure.new.self c.renew_l1_table-longer.result c.mark_failure.ensures.marks) in
-    let same : c.mark_failure.new.self ≡ c.renew_l1_table-longer.new.self = c.mark_failure.ensures.rest ∙ ap (λ f. record mid { is_failed = f }) kept in
-    let begins = first out sound in
-    let lengthens = subst (MakesEntry view below begun mid out) made (c.renew_l1_table-longer.ensures.makes out begins.sound) in
-    let call : UnseenCall view below old c.mark_failure.new.self out = subst (λ (image : Qcow2 _ _). UnseenCall view below old image out) (sym same) (stays_then view below out old begun mid begins lengthens) in
-    let length = subst (λ (r : Result _ _). OnOk r (entry_count mid.l1_table ≡ max (entry_count begun.l1_table) (l1_index_of begun.file.header.fields (c.args.size - 1) + 1))) made c.renew_l1_table-longer.ensures.length in
-    let step = c.begin.ensures.keeps (pending_in view below old out) out sound in
-    let told = reaches_begun old.file.header.fields begun.file.header.fields mid.file.header.fields (c.args.size - 1) step.unseen.header
-    (reaches_told view below out (pending_in view below begun out) (pending_in view below mid out) begun mid (c.args.size - 1) begins.sound lengthens.sound length) in
-    let longer = subst (λ (image : Qcow2 _ _). ReachesOffset (c.args.size - 1) old.file.header.fields image.file.header.fields) (sym same) told in
-    let placed = subst (λ (image : Qcow2 _ _). IsPlacedNear image.l1_table) (sym same) (subst (λ (r : Result _ _). OnOk r (IsPlacedNear mid.l1_table)) made (c.renew_l1_table-longer.ensures.placed begins.sound.l1_table.bits)) in
-    let near = near_longer_ends view below out old.file.header.fields (pending_in view below long out) long c.args.size (let l = c.requires.larger in omega (arith, l)) call.header longer call.sound placed in
-    let h = old.file.header.fields in
-    let e = c.in_err-mark_fault.field-0.0 in
-    let done : c.fill_grown-filled.result ≡ Err c.in_err-mark_fault.field-0.0 = sym c.mark_fault.ensures.answer ∙ c.in_err-mark_fault.was in
-    let from : c.size-end.result ≡ size_of c.args.self.now = c.size-end.ensures ∙ ap (λ (x : HeaderFields). x.size) call.header in
-    let why = subst (λ (r : Result _ _). IfErr r (IsMetGrowing out c.args.mode c.size-end.result (rounded_up (cluster_size long.file.header.fields) c.args.size) long.file.header.fields (known_in view long.file))) done (c.fill_grown-filled.ensures.met out call.sound near) in
-    hands_met (IsMetGrowing out c.args.mode (size_of old) (rounded_up (cluster_size h) c.args.size) h (known_in view old.file)) c.from_residual-in_err-mark_fault.result e c.from_residual-in_err-mark_fault.ensures
-    (met_behind view below out old long c.args.mode c.args.size (size_of old) e call
-    (subst (λ n. IsMetGrowing out c.args.mode n (rounded_up (cluster_size long.file.header.fields) c.args.size) long.file.header.fields (known_in view long.file) e) from why))
-
-pub returns-clause-met : goal.returns-clause-met
-returns-clause-met g c = λ out sound.
-    let old = c.args.self.now in
-    let h = old.file.header.fields in
-    subst (λ (r : Result _ _). IfErr r (IsMetGrowing out c.args.mode (size_of old) (rounded_up (cluster_size h) c.args.size) h (known_in g.S.Storage.view old.file))) (sym c.mark_fault-2.ensures.answer)
-    (if_err c.write_size-written.result (λ e fault. inl (inl (inl (inl fault)))) c.write_size-written.ensures.cause)

@@ -1,12 +1,11 @@
+use Rattle.qcow2_image.proofs.Call.ImageSteps.{step_none}
 use Rattle.qcow2_image.proofs.image.Qcow2.grow_l1_table.Goals as goal
-use Rattle.std.proofs.Common.{◌≤◌, arith, refl, ap, ◌≡◌, ◌<◌, ◌+◌, max, inl, inr, ◌∙◌, subst}
+use Rattle.std.proofs.Common.{◌≤◌, arith, refl, ap, ◌≡◌, ◌<◌, ◌+◌, max, inl, inr, ◌∙◌, subst, rules}
 use Rattle.qcow2_metadata.specs.EntryTable.{entry_count, EntryTableView}
 use Rattle.qcow2_alloc.proofs.AllocationSteps.{handed_on}
 use Rattle.qcow2_image.specs.LongerTables.{Lengthens}
 use Rattle.qcow2_image.proofs.Grow.Lengthened.{is_longer, lengthened, refused_none}
 use Rattle.qcow2_image.proofs.Prepare.Owning.{refused}
-use Rattle.qcow2_alloc.proofs.KeptMarks.{notes_none}
-use Rattle.qcow2_image.proofs.Call.BehindHeader.{behind_none}
 use Rattle.qcow2_image.proofs.Prepare.Listing.{some_still}
 use Rattle.qcow2_image.proofs.Prepare.Lacked.{hands_either, hands_limit, other_limit}
 use Rattle.qcow2_image.proofs.Call.Unlimited.{fault_unlimited, short_fault, short_unlimited}
@@ -30,9 +29,8 @@ returns-in_err-old-clause-lengthens g c = λ p out sound.
 pub returns-in-Ok-clause-lengthens : goal.returns-in-Ok-clause-lengthens
 returns-in-Ok-clause-lengthens g c = λ p out sound.
     let old = c.args.self.now in
-    let t = c.in_ok-table.table in
     let enough : entry_count old.l1_table ≤ c.max-entries.result = omega (arith, c.max-entries.ensures, c.len.ensures.value) in
-    let longer = is_longer g.S.Storage.view g.F.BackingDisk.backing out p old sound t _ c.max-entries.result c.in_ok-table.ensures.table c.in_ok-table.ensures.length enough c.in_ok-table.ensures.entries in
+    let longer = is_longer g.S.Storage.view g.F.BackingDisk.backing out p old sound c.in_ok-table.table _ c.max-entries.result c.in_ok-table.ensures.table c.in_ok-table.ensures.length enough c.in_ok-table.ensures.entries in
     lengthened g.S.Storage.view g.F.BackingDisk.backing out p old sound c.len.ensures.is_table.table.whole c.enter_l1_table.new.self (c.in-Ok.ensures.takes p out sound longer) c.hand_back.new.list c.in_ok-old.old c.in-Ok.ensures.list
     c.in_ok-old.ensures.run c.hand_back.ensures
 
@@ -45,36 +43,6 @@ returns-in-Err-clause-lengthens g c = λ p out sound.
 
 pub returns-in-Ok-clause-length : goal.returns-in-Ok-clause-length
 returns-in-Ok-clause-length g c = omega (arith, c.in-Ok.ensures.entries, c.in_ok-table.ensures.length, c.max-entries.ensures, c.len.ensures.value)
-
-pub returns-then-index-ge-MAX_L1_ENTRIES-clause-notes : goal.returns-then-index-ge-MAX_L1_ENTRIES-clause-notes
-returns-then-index-ge-MAX_L1_ENTRIES-clause-notes g c = notes_none
-
-pub returns-in_err-table-clause-notes : goal.returns-in_err-table-clause-notes
-returns-in_err-table-clause-notes g c = notes_none
-
-pub returns-in_err-old-clause-notes : goal.returns-in_err-old-clause-notes
-returns-in_err-old-clause-notes g c = notes_none
-
-pub returns-in-Ok-clause-notes : goal.returns-in-Ok-clause-notes
-returns-in-Ok-clause-notes g c = c.enter_l1_table.ensures.notes
-
-pub returns-in-Err-clause-notes : goal.returns-in-Err-clause-notes
-returns-in-Err-clause-notes g c = c.enter_l1_table.ensures.notes
-
-pub returns-then-index-ge-MAX_L1_ENTRIES-clause-header_cluster : goal.returns-then-index-ge-MAX_L1_ENTRIES-clause-header_cluster
-returns-then-index-ge-MAX_L1_ENTRIES-clause-header_cluster g c = behind_none
-
-pub returns-in_err-table-clause-header_cluster : goal.returns-in_err-table-clause-header_cluster
-returns-in_err-table-clause-header_cluster g c = behind_none
-
-pub returns-in_err-old-clause-header_cluster : goal.returns-in_err-old-clause-header_cluster
-returns-in_err-old-clause-header_cluster g c = behind_none
-
-pub returns-in-Ok-clause-header_cluster : goal.returns-in-Ok-clause-header_cluster
-returns-in-Ok-clause-header_cluster g c = c.enter_l1_table.ensures.header_cluster (ap (λ (t : EntryTableView). t.cluster_bits) c.in_ok-table.ensures.table)
-
-pub returns-in-Err-clause-header_cluster : goal.returns-in-Err-clause-header_cluster
-returns-in-Err-clause-header_cluster g c = c.enter_l1_table.ensures.header_cluster (ap (λ (t : EntryTableView). t.cluster_bits) c.in_ok-table.ensures.table)
 
 pub returns-in-Ok-clause-former : goal.returns-in-Ok-clause-former
 returns-in-Ok-clause-former g c = some_still c.args.self.now c.enter_l1_table.new.self (record c.enter_l1_table.new.self { file = record c.enter_l1_table.new.self.file { free_list = c.hand_back.new.list } }) c.in-Ok.ensures.former refl
@@ -126,13 +94,27 @@ returns-in_err-old-clause-fault g c = λ writable p out sound. hands_either c.fr
 
 pub returns-in-Err-clause-fault : goal.returns-in-Err-clause-fault
 returns-in-Err-clause-fault g c = λ writable p out sound.
-    let view = g.S.Storage.view in
     let old = c.args.self.now in
     let t = c.in_ok-table.table in
     let enough : entry_count old.l1_table ≤ c.max-entries.result = omega (arith, c.max-entries.ensures, c.len.ensures.value) in
-    let longer = is_longer view g.F.BackingDisk.backing out p old sound t _ c.max-entries.result c.in_ok-table.ensures.table c.in_ok-table.ensures.length enough c.in_ok-table.ensures.entries in
+    let longer = is_longer g.S.Storage.view g.F.BackingDisk.backing out p old sound t _ c.max-entries.result c.in_ok-table.ensures.table c.in_ok-table.ensures.length enough c.in_ok-table.ensures.entries in
     let many : entry_count t ≡ max (entry_count old.l1_table) (c.args.index + 1) = omega (arith, c.in_ok-table.ensures.length, c.max-entries.ensures, c.len.ensures.value) in
     c.in-Err.ensures.fault writable p out sound longer (omega (arith, many))
 
 pub returns-in-Ok-clause-kept : goal.returns-in-Ok-clause-kept
 returns-in-Ok-clause-kept g c = λ i. ap (λ l. entry_at l i) c.in-Ok.ensures.bytes ∙ c.in_ok-table.ensures.entries i
+
+pub returns-then-index-ge-MAX_L1_ENTRIES-clause-step : goal.returns-then-index-ge-MAX_L1_ENTRIES-clause-step
+returns-then-index-ge-MAX_L1_ENTRIES-clause-step g c = step_none
+
+pub returns-in_err-table-clause-step : goal.returns-in_err-table-clause-step
+returns-in_err-table-clause-step g c = step_none
+
+pub returns-in_err-old-clause-step : goal.returns-in_err-old-clause-step
+returns-in_err-old-clause-step g c = step_none
+
+pub returns-in-Ok-clause-step : goal.returns-in-Ok-clause-step
+returns-in-Ok-clause-step g c = record { stays = search rules; notes = c.enter_l1_table.ensures.notes; header_cluster = c.enter_l1_table.ensures.header_cluster (ap (λ (t : EntryTableView). t.cluster_bits) c.in_ok-table.ensures.table) }
+
+pub returns-in-Err-clause-step : goal.returns-in-Err-clause-step
+returns-in-Err-clause-step g c = record { stays = search rules; notes = c.enter_l1_table.ensures.notes; header_cluster = c.enter_l1_table.ensures.header_cluster (ap (λ (t : EntryTableView). t.cluster_bits) c.in_ok-table.ensures.table) }

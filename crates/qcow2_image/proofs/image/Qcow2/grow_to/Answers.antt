@@ -43,16 +43,16 @@ returns-in_err-grow_l1_table-clause-faults g c =
     c.grow_l1_table.ensures.faults c.in_err-grow_l1_table.was c.from_residual.ensures
 
 pub returns-clause-faults : goal.returns-clause-faults
-returns-clause-faults g c = counted_since g.S.Storage.view g.F.BackingDisk.backing c.args.self.now c.grow_l1_table.new.self c.write_size.new.self c.write_size.result c.in_ok-grow_l1_table.ensures.faults.told c.write_size.ensures.faults
+returns-clause-faults g c = counted_since g.S.Storage.view g.F.BackingDisk.backing c.args.self.now c.grow_l1_table.new.self c.write_size.new.self c.write_size.result c.in_ok-grow_l1_table.ensures.faults.told c.write_size.ensures.fails.faults
 
 pub returns-clause-cause : goal.returns-clause-cause
-returns-clause-cause g c = λ writable. faults_met c.write_size.result c.write_size.ensures.cause
+returns-clause-cause g c = λ writable. faults_met c.write_size.result c.write_size.ensures.fails.cause
 
 pub returns-clause-failed : goal.returns-clause-failed
-returns-clause-failed g c = ap is_failed c.write_size.ensures.rest ∙ c.grow_l1_table.ensures.stays.failed
+returns-clause-failed g c = ap is_failed c.write_size.ensures.rest ∙ c.grow_l1_table.ensures.step.stays.failed
 
 pub returns-clause-writable : goal.returns-clause-writable
-returns-clause-writable g c = ap is_writable c.write_size.ensures.rest ∙ c.grow_l1_table.ensures.stays.image.writable
+returns-clause-writable g c = ap is_writable c.write_size.ensures.rest ∙ c.grow_l1_table.ensures.step.stays.image.writable
 
 pub returns-clause-length : goal.returns-clause-length
 returns-clause-length g c = λ p sound.
@@ -84,10 +84,10 @@ returns-clause-limit g c = λ p sound.
     let view = g.S.Storage.view in
     let old = c.args.self.now in
     let new = c.write_size.new.self in
-    unlimited_all c.write_size.result (λ e. LacksTableReaching view (c.args.size - 1) old new × UnseenStep view g.F.BackingDisk.backing p (pending_with_listed p old new) old new []) (faults_unlimited c.write_size.result c.write_size.ensures.cause)
+    unlimited_all c.write_size.result (λ e. LacksTableReaching view (c.args.size - 1) old new × UnseenStep view g.F.BackingDisk.backing p (pending_with_listed p old new) old new []) (faults_unlimited c.write_size.result c.write_size.ensures.fails.cause)
 
 pub returns-in_err-grow_l1_table-clause-fault : goal.returns-in_err-grow_l1_table-clause-fault
 returns-in_err-grow_l1_table-clause-fault g c = λ writable p sound. hands_either c.from_residual.result c.in_err-grow_l1_table.field-0.0 c.from_residual.ensures (c.in_err-grow_l1_table.ensures.fault writable p [] sound)
 
 pub returns-clause-fault : goal.returns-clause-fault
-returns-clause-fault g c = λ writable p sound. faults_or_limit c.write_size.result c.write_size.ensures.cause
+returns-clause-fault g c = λ writable p sound. faults_or_limit c.write_size.result c.write_size.ensures.fails.cause

@@ -10,12 +10,11 @@ use Rattle.qcow2_image.specs.ImageInvariant.{ImageInvariant, pending_in}
 use Rattle.qcow2_image.specs.LongerTables.{MakesEntry}
 use Rattle.qcow2_image.proofs.Flush.Freeing.{all_listed, beside}
 use Rattle.qcow2_image.proofs.Grow.Lengthened.{freed_then, refused_moved, stays_moved}
-use Rattle.qcow2_alloc.proofs.KeptMarks.{notes_then}
 use Rattle.qcow2_alloc.proofs.Outcomes.{on_no_ok, on_ok}
-use Rattle.qcow2_image.proofs.Call.BehindHeader.{behind_then}
 use Rattle.qcow2_image.proofs.Prepare.Lacked.{faults_or_limit, faults_unlimited, hands_either, hands_limit, unlimited_all}
 use Rattle.qcow2_image.specs.LackedPlaces.{IsPlacedNear, LacksLongerTable}
 use Rattle.qcow2_image.specs.LackedTables.{LacksTableReaching}
+use Rattle.qcow2_image.proofs.Call.ImageSteps.{step_then}
 use Rattle.qcow2_image.proofs.image.Qcow2.lengthen_l1_table.Goals as goal
 
 pub returns-in_err-grow_l1_table-clause-makes : goal.returns-in_err-grow_l1_table-clause-makes
@@ -46,25 +45,13 @@ returns-clause-length g c =
     (ap entry_count c.free_listed.ensures.table ∙ c.in_ok-grow_l1_table.ensures.length ∙ ap (λ i. max (entry_count old.l1_table) (i + 1)) idx)
 
 pub returns-clause-emptied : goal.returns-clause-emptied
-returns-clause-emptied g c = c.free_listed.ensures.emptied (subst IsTrue (sym c.grow_l1_table.ensures.stays.image.writable) c.requires.writable)
-
-pub returns-in_err-grow_l1_table-clause-notes : goal.returns-in_err-grow_l1_table-clause-notes
-returns-in_err-grow_l1_table-clause-notes g c = c.grow_l1_table.ensures.notes
-
-pub returns-clause-notes : goal.returns-clause-notes
-returns-clause-notes g c = notes_then c.grow_l1_table.ensures.notes c.free_listed.ensures.notes
-
-pub returns-in_err-grow_l1_table-clause-header_cluster : goal.returns-in_err-grow_l1_table-clause-header_cluster
-returns-in_err-grow_l1_table-clause-header_cluster g c = c.grow_l1_table.ensures.header_cluster
-
-pub returns-clause-header_cluster : goal.returns-clause-header_cluster
-returns-clause-header_cluster g c = behind_then c.grow_l1_table.ensures.header_cluster c.free_listed.ensures.header_cluster
+returns-clause-emptied g c = c.free_listed.ensures.emptied (subst IsTrue (sym c.grow_l1_table.ensures.step.stays.image.writable) c.requires.writable)
 
 pub returns-in_err-grow_l1_table-clause-noted : goal.returns-in_err-grow_l1_table-clause-noted
 returns-in_err-grow_l1_table-clause-noted g c = on_no_ok _ c.from_residual.result c.in_err-grow_l1_table.field-0.0 c.from_residual.ensures
 
 pub returns-clause-noted : goal.returns-clause-noted
-returns-clause-noted g c = on_ok _ c.free_listed.result (c.free_listed.ensures.notes.tables.noted c.in_ok-grow_l1_table.ensures.noted)
+returns-clause-noted g c = on_ok _ c.free_listed.result (c.free_listed.ensures.step.notes.tables.noted c.in_ok-grow_l1_table.ensures.noted)
 
 pub returns-in_err-grow_l1_table-clause-limit : goal.returns-in_err-grow_l1_table-clause-limit
 returns-in_err-grow_l1_table-clause-limit g c = λ out sound.
@@ -82,10 +69,9 @@ returns-clause-limit g c = λ out sound.
     let below = g.F.BackingDisk.backing in
     let old = c.args.self.now in
     let mid = c.grow_l1_table.new.self in
-    let new = c.free_listed.new.self in
     let first = stays_moved view below out old mid sound (c.in_ok-grow_l1_table.ensures.lengthens (pending_in view below old out) out sound) in
     let listed = subst (λ (x : Pending). ImageInvariant view below x mid out) (all_listed view below mid out) first.sound in
-    unlimited_all c.free_listed.result (λ e. LacksTableReaching view c.args.offset old new) (faults_unlimited c.free_listed.result (c.free_listed.ensures.faults (beside view below mid out) out listed))
+    unlimited_all c.free_listed.result (λ e. LacksTableReaching view c.args.offset old c.free_listed.new.self) (faults_unlimited c.free_listed.result (c.free_listed.ensures.faults (beside view below mid out) out listed))
 
 pub returns-in_err-grow_l1_table-clause-fault : goal.returns-in_err-grow_l1_table-clause-fault
 returns-in_err-grow_l1_table-clause-fault g c = λ out sound.
@@ -112,3 +98,9 @@ returns-in_err-grow_l1_table-clause-kept g c = on_no_ok _ c.from_residual.result
 
 pub returns-clause-kept : goal.returns-clause-kept
 returns-clause-kept g c = always_ok c.free_listed.result (λ i. ap (λ (t : EntryTableView). entry_at t.bytes i) c.free_listed.ensures.table ∙ c.in_ok-grow_l1_table.ensures.kept i)
+
+pub returns-in_err-grow_l1_table-clause-step : goal.returns-in_err-grow_l1_table-clause-step
+returns-in_err-grow_l1_table-clause-step g c = c.grow_l1_table.ensures.step
+
+pub returns-clause-step : goal.returns-clause-step
+returns-clause-step g c = step_then c.grow_l1_table.ensures.step c.free_listed.ensures.step

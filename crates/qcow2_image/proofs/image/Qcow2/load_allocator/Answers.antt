@@ -90,19 +90,18 @@ returns-in_err-clear_autoclear-clause-storage g c =
     let e = c.in_err-clear_autoclear.field-0.0 in
     let new = record file { storage = c.clear_autoclear.new.self; header = c.clear_autoclear.new.header } in
     handed_on (λ (r : Result _ ImageError). LeavesFile view true old new r) c.from_residual-in_err-clear_autoclear.result (of_storage e) c.from_residual-in_err-clear_autoclear.ensures
-    (file_then_refused view true old file read.rest read.honest read.same read.time {T = Unit {0}} new (of_storage e) read.storage_faults.no_fewer
+    (file_then_refused view true old file read.rest read.honest read.same read.time {T = Unit {0}} new (of_storage e) read.fails.no_fewer
     (file_not_cleared view file c.will_write.new.self c.clear_autoclear.new.self c.will_write.ensures.storage c.clear_autoclear.result cleared.calls cleared.written cleared.idle c.clear_autoclear.new.header e c.in_err-clear_autoclear.was))
 
 pub returns-clause-storage : goal.returns-clause-storage
 returns-clause-storage g c =
     let view = g.S.Storage.view in
-    let old = c.args.file.now in
     let file = c.new.new.file in
     let read = c.new.ensures in
     let cleared = c.clear_autoclear.ensures in
     let new = record file { storage = c.clear_autoclear.new.self; header = c.clear_autoclear.new.header } in
     let x = c.in_ok-allocator.allocator in
-    file_then view true old file read.rest read.honest read.same read.time new x x
+    file_then view true c.args.file.now file read.rest read.honest read.same read.time new x x
     (file_cleared view file c.will_write.new.self c.clear_autoclear.new.self c.will_write.ensures.storage c.clear_autoclear.result cleared.calls cleared.written cleared.idle c.clear_autoclear.new.header c.in_ok-clear_autoclear.ensures.ok x _ c.in_ok-clear_autoclear.was)
 
 pub returns-clause-header_cluster : goal.returns-clause-header_cluster

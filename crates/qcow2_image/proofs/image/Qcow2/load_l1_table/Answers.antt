@@ -35,8 +35,7 @@ returns-clause-why g c = λ honest.
     let n = c.l1_table_entries-entries.result in
     let entries : n ≡ h.l1_entries = c.l1_table_entries-entries.ensures.value in
     let at : c.in-Some.cluster * 2 ^ h.cluster_bits ≡ h.l1_offset = ap (λ n. c.in-Some.cluster * 2 ^ n) (sym c.cluster_bits-bits.ensures.value) ∙ c.in-Some.ensures.cluster ∙ c.l1_table_offset.ensures in
-    let t = c.in_ok-table.table in
-    entries_read h.l1_entries t.bytes (l1_entry h b) L1EntryReads c.in_ok-table.ensures.is_table.reads (c.in_ok-table.ensures.of_image honest (sym at, sym entries))
+    entries_read h.l1_entries c.in_ok-table.table.bytes (l1_entry h b) L1EntryReads c.in_ok-table.ensures.is_table.reads (c.in_ok-table.ensures.of_image honest (sym at, sym entries))
 
 pub returns-in_err-table-clause-why : goal.returns-in_err-table-clause-why
 returns-in_err-table-clause-why g c = λ honest.

@@ -1,3 +1,4 @@
+use Rattle.std.proofs.Common.{rules}
 use Rattle.qcow2_alloc.proofs.KeptMarks.{notes_of_both}
 use Rattle.qcow2_image.proofs.Prepare.Filling.{same_new_data}
 use Rattle.qcow2_image.proofs.Map.Loading.{caches_moved}
@@ -17,12 +18,6 @@ returns-clause-contents g c = λ p out sound.
     (caches_moved g.S.Storage.view g.F.BackingDisk.backing c.args.self.now out p sound c.l2_get_or_insert.new.storage c.l2_get_or_insert.new.self
     (c.l2_get_or_insert.ensures.keeps c.args.self.now.file.header.fields p sound.file.honest sound.file.caches) c.l2_get_or_insert.ensures.marks.room c.l2_get_or_insert.ensures.marks.pins)
 
-pub returns-clause-notes : goal.returns-clause-notes
-returns-clause-notes g c = (notes_of_both c.l2_get_or_insert.ensures.marks c.l2_get_or_insert.ensures.notes)
-
-pub returns-clause-header_cluster : goal.returns-clause-header_cluster
-returns-clause-header_cluster g c = λ some. behind_caches (c.l2_get_or_insert.ensures.header_cluster some)
-
 pub returns-clause-limited : goal.returns-clause-limited
 returns-clause-limited g c = λ p out sound place.
     let old = c.args.self.now in
@@ -32,3 +27,6 @@ pub returns-clause-met : goal.returns-clause-met
 returns-clause-met g c = λ p out sound place.
     let old = c.args.self.now in
     faults_looking g.S.Storage.view g.F.BackingDisk.backing out p old sound c.l2_get_or_insert.result (c.l2_get_or_insert.ensures.refusals old.file.header.fields place p sound.file.honest sound.file.caches sound.file.named_blocks)
+
+pub returns-clause-step : goal.returns-clause-step
+returns-clause-step g c = record { stays = search rules; notes = (notes_of_both c.l2_get_or_insert.ensures.marks c.l2_get_or_insert.ensures.notes); header_cluster = λ some. behind_caches (c.l2_get_or_insert.ensures.header_cluster some) }

@@ -33,22 +33,20 @@ returns-clause-loaded g c = λ p new_tables.
 pub returns-clause-since : goal.returns-clause-since
 returns-clause-since g c = λ p new_tables.
     let view = g.S.Storage.view in
-    let below = g.F.BackingDisk.backing in
     let l1 = c.load_l1_table.ensures in
     let old = c.args.file.now in
     let mid = c.load_l1_table.new.file in
-    let read = new_tables_then view below p old mid new_tables l1.rest l1.honest l1.same in
+    let read = new_tables_then view g.F.BackingDisk.backing p old mid new_tables l1.rest l1.honest l1.same in
     kept_then (view old.storage.storage) (view mid.storage.storage) (view c.load_allocator.new.file.storage.storage)
     (kept_read (view old.storage.storage) (view mid.storage.storage) l1.time (l1.same new_tables.sound.honest)) (c.load_allocator.ensures.since p read.new_tables)
 
 pub returns-in_err-allocator-clause-since : goal.returns-in_err-allocator-clause-since
 returns-in_err-allocator-clause-since g c = λ p new_tables.
     let view = g.S.Storage.view in
-    let below = g.F.BackingDisk.backing in
     let l1 = c.load_l1_table.ensures in
     let old = c.args.file.now in
     let mid = c.load_l1_table.new.file in
-    let read = new_tables_then view below p old mid new_tables l1.rest l1.honest l1.same in
+    let read = new_tables_then view g.F.BackingDisk.backing p old mid new_tables l1.rest l1.honest l1.same in
     kept_then (view old.storage.storage) (view mid.storage.storage) (view c.load_allocator.new.file.storage.storage)
     (kept_read (view old.storage.storage) (view mid.storage.storage) l1.time (l1.same new_tables.sound.honest)) (c.load_allocator.ensures.since p read.new_tables)
 
@@ -64,8 +62,6 @@ returns-then-not-writable-clause-why g c = λ honest. record { l1_table = c.in_o
 
 pub returns-in_err-allocator-clause-why : goal.returns-in_err-allocator-clause-why
 returns-in_err-allocator-clause-why g c = λ honest.
-    let view = g.S.Storage.view in
-    let old = c.args.file.now in
     let h = c.args.file.now.header.fields in
     let b = contents_in g.S.Storage.view c.args.file.now in
     let l1 = c.load_l1_table.ensures in
@@ -74,7 +70,7 @@ returns-in_err-allocator-clause-why g c = λ honest.
     (inr (
       c.if-not-writable.false,
       c.in_ok-l1_table.ensures.why honest,
-      so_before view (λ h b. IsReasonAgainstReftable h b e) old c.load_l1_table.new.file l1.rest (l1.same honest) (c.in_err-allocator.ensures.why (l1.honest honest)),
+      so_before g.S.Storage.view (λ h b. IsReasonAgainstReftable h b e) c.args.file.now c.load_l1_table.new.file l1.rest (l1.same honest) (c.in_err-allocator.ensures.why (l1.honest honest)),
     ))
 
 pub returns-clause-why : goal.returns-clause-why
@@ -116,12 +112,11 @@ returns-in_err-allocator-clause-storage g c =
 pub returns-clause-storage : goal.returns-clause-storage
 returns-clause-storage g c =
     let view = g.S.Storage.view in
-    let old = c.args.file.now in
     let mid = c.load_l1_table.new.file in
     let new = c.load_allocator.new.file in
     let l1 = c.load_l1_table.ensures in
     let x = c.in_ok-allocator.allocator in
-    file_then view c.args.writable old mid l1.rest l1.honest l1.same l1.time new x _
+    file_then view c.args.writable c.args.file.now mid l1.rest l1.honest l1.same l1.time new x _
     (subst (λ (w : Bool). LeavesFile view w mid new (Ok x)) (sym c.if-not-writable.false) c.in_ok-allocator.ensures.storage)
 
 pub returns-then-not-writable-clause-header_cluster : goal.returns-then-not-writable-clause-header_cluster

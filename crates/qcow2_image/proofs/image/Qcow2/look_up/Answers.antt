@@ -1,4 +1,4 @@
-use Rattle.std.proofs.Common.{◌≡◌, ◌-◌, ◌/◌, sym, ap, ◌∙◌, subst, arith, min, is_some, Some, None, false, true, ◌<◌, ◌≤◌}
+use Rattle.std.proofs.Common.{◌≡◌, ◌-◌, ◌/◌, sym, ap, ◌∙◌, subst, arith, min, is_some, Some, None, false, true, ◌<◌, ◌≤◌, rules}
 use Rattle.qcow2_metadata.specs.Header.{cluster_size}
 use Rattle.qcow2_metadata.specs.Entries.{host_offset}
 use Rattle.qcow2_disk.specs.Alike.{IsLongestRun}
@@ -11,7 +11,7 @@ use Rattle.qcow2_image.specs.Found.{l1_index_of, l2_index_of, NamesL2Table, IsRu
 use Rattle.qcow2_image.proofs.Map.Loading.{caches_moved, with_caches, if_ok}
 use Rattle.qcow2_image.proofs.Map.Looked.{none_found}
 use Rattle.qcow2_image.proofs.Call.BehindHeader.{behind_caches}
-use Rattle.std.specs.Prelude.{IfSome}
+use Rattle.std.specs.Prelude.{IfSome, MatchOption}
 use Rattle.qcow2_alloc.specs.MetadataCaches.{IsEntryAt}
 use Rattle.qcow2_image.specs.MetAlone.{IsCacheHeld, IsMetLooking}
 use Rattle.qcow2_image.proofs.Map.MetLooking.{answers_met, cache_looking, named_entry}
@@ -19,7 +19,6 @@ use Rattle.qcow2_image.proofs.Prepare.Met.{hands_met}
 use Rattle.qcow2_image.proofs.Prepare.Lacking.{named_place}
 use Rattle.qcow2_image.proofs.Map.Quiet.{reads_none}
 use Rattle.qcow2_image.proofs.Map.Held.{uncovered_held}
-use Rattle.std.specs.Prelude.{MatchOption}
 use Rattle.qcow2_image.specs.HeldMappings.{named_place as place_named}
 use Rattle.qcow2_image.specs.PinnedTables.{own_table}
 use Rattle.qcow2_image.proofs.image.Qcow2.look_up.Goals as goal
@@ -83,12 +82,6 @@ returns-in_ok-l2_get_or_insert-in-Some-clause-found g c = λ p out sound.
     })
     (c.run_in_table.ensures.run p kept.sound.file entry (omega (arith, limit)))
 
-pub returns-in_err-l2_get_or_insert-in-Some-clause-header_cluster : goal.returns-in_err-l2_get_or_insert-in-Some-clause-header_cluster
-returns-in_err-l2_get_or_insert-in-Some-clause-header_cluster g c = behind_caches (c.l2_get_or_insert.ensures.header_cluster (subst (λ t. IfSome t (λ n. 0 < n)) c.in-Some.is c.in_ok-l2_cluster.ensures.elsewhere))
-
-pub returns-in_ok-l2_get_or_insert-in-Some-clause-header_cluster : goal.returns-in_ok-l2_get_or_insert-in-Some-clause-header_cluster
-returns-in_ok-l2_get_or_insert-in-Some-clause-header_cluster g c = behind_caches (c.l2_get_or_insert.ensures.header_cluster (subst (λ t. IfSome t (λ n. 0 < n)) c.in-Some.is c.in_ok-l2_cluster.ensures.elsewhere))
-
 pub returns-in_err-l2_cluster-clause-met : goal.returns-in_err-l2_cluster-clause-met
 returns-in_err-l2_cluster-clause-met g c = λ p out sound. absurd (let no : false ≡ true = c.in_err-l2_cluster.ensures.reads p out sound in cc)
 
@@ -117,15 +110,6 @@ returns-in_ok-l2_get_or_insert-in-Some-clause-met g c = λ p out sound.
     let limit : c.min-max.result ≤ rest_of_table h c.args.offset = let b = c.min-max.ensures in let r = c.rest_of_table.ensures.value in omega arith in
     answers_met (IsMetLooking (IsCacheHeld c.args.self.now out)) c.run_in_table.result (c.run_in_table.ensures.reads p kept.sound.file entry limit)
 
-pub returns-in_err-l2_get_or_insert-in-Some-clause-quiet : goal.returns-in_err-l2_get_or_insert-in-Some-clause-quiet
-returns-in_err-l2_get_or_insert-in-Some-clause-quiet g c = c.l2_get_or_insert.ensures.all_written
-
-pub returns-in_ok-l2_get_or_insert-in-Some-clause-quiet : goal.returns-in_ok-l2_get_or_insert-in-Some-clause-quiet
-returns-in_ok-l2_get_or_insert-in-Some-clause-quiet g c = c.l2_get_or_insert.ensures.all_written
-
-pub returns-in-None-clause-quiet : goal.returns-in-None-clause-quiet
-returns-in-None-clause-quiet g c = reads_none g.S.Storage.view c.args.self.now
-
 pub returns-in-None-clause-held : goal.returns-in-None-clause-held
 returns-in-None-clause-held g c = λ lt.
     let h = c.args.self.now.file.header.fields in
@@ -144,5 +128,24 @@ returns-in_ok-l2_get_or_insert-in-Some-clause-held g c = λ lt.
     let own = subst (λ t. MatchOption t (place_named h image.l1_table c.args.offset ≡ 0) (λ cluster. (cluster ≡ own_table image c.args.offset) × ¬ (place_named h image.l1_table c.args.offset ≡ 0))) c.in-Some.is c.in_ok-l2_cluster.ensures.own in
     c.run_in_table.ensures.held c.args.max limit lt own.0 own.1
 
-pub returns-in_err-l2_cluster-clause-quiet : goal.returns-in_err-l2_cluster-clause-quiet
-returns-in_err-l2_cluster-clause-quiet g c = reads_none g.S.Storage.view c.args.self.now
+pub returns-in_err-l2_get_or_insert-in-Some-clause-step : goal.returns-in_err-l2_get_or_insert-in-Some-clause-step
+returns-in_err-l2_get_or_insert-in-Some-clause-step g c = record {
+  header = search rules;
+  list = search rules;
+  part = record { stays = search rules; notes = search rules; header_cluster = behind_caches (c.l2_get_or_insert.ensures.header_cluster (subst (λ t. IfSome t (λ n. 0 < n)) c.in-Some.is c.in_ok-l2_cluster.ensures.elsewhere)) };
+  quiet = c.l2_get_or_insert.ensures.all_written;
+}
+
+pub returns-in_ok-l2_get_or_insert-in-Some-clause-step : goal.returns-in_ok-l2_get_or_insert-in-Some-clause-step
+returns-in_ok-l2_get_or_insert-in-Some-clause-step g c = record {
+  header = search rules;
+  list = search rules;
+  part = record { stays = search rules; notes = search rules; header_cluster = behind_caches (c.l2_get_or_insert.ensures.header_cluster (subst (λ t. IfSome t (λ n. 0 < n)) c.in-Some.is c.in_ok-l2_cluster.ensures.elsewhere)) };
+  quiet = c.l2_get_or_insert.ensures.all_written;
+}
+
+pub returns-in-None-clause-step : goal.returns-in-None-clause-step
+returns-in-None-clause-step g c = record { part = search rules; header = search rules; list = search rules; quiet = reads_none g.S.Storage.view c.args.self.now }
+
+pub returns-in_err-l2_cluster-clause-step : goal.returns-in_err-l2_cluster-clause-step
+returns-in_err-l2_cluster-clause-step g c = record { part = search rules; header = search rules; list = search rules; quiet = reads_none g.S.Storage.view c.args.self.now }

@@ -26,12 +26,9 @@ returns-in_err-write_l1_table_pointer-clause-names g c = λ p out sound noted re
 
 pub returns-clause-names : goal.returns-clause-names
 returns-clause-names g c = λ p out sound noted ready.
-    let view = g.S.Storage.view in
-    let old = c.args.self.now in
-    let t = c.args.table in
     let few : entry_count c.args.table ≤ 4194304 = omega (arith, c.len.ensures.value, c.len.ensures.limit) in
     let at = c.offset-offset.ensures ∙ ap (λ n. c.args.cluster * 2 ^ n) c.cluster_bits.ensures.value in
-    named_so view g.F.BackingDisk.backing out p old t c.args.cluster sound ready c.requires few c.offset-offset.result c.len.result c.set_l1_table.new.self at c.len.ensures.value c.in_ok-set_l1_table.ensures.ok c.write_l1_table_pointer.result
+    named_so g.S.Storage.view g.F.BackingDisk.backing out p c.args.self.now c.args.table c.args.cluster sound ready c.requires few c.offset-offset.result c.len.result c.set_l1_table.new.self at c.len.ensures.value c.in_ok-set_l1_table.ensures.ok c.write_l1_table_pointer.result
     c.write_l1_table_pointer.new.self (storage_of c.will_write.new.self) c.will_write.ensures.storage c.write_l1_table_pointer.ensures.written c.write_l1_table_pointer.ensures.calls c.in_ok-write_l1_table_pointer.field-0 c.in_ok-write_l1_table_pointer.was
 
 pub returns-in_err-set_l1_table-clause-notes : goal.returns-in_err-set_l1_table-clause-notes

@@ -6,7 +6,7 @@ use Rattle.qcow2_alloc.proofs.AllocationSteps.{handed_on, fault_of_storage}
 use Rattle.qcow2_image.specs.NewTables.{NamesNew}
 use Rattle.qcow2_image.proofs.Prepare.Naming.{safe_throughout_named, named_so}
 use Rattle.qcow2_alloc.proofs.KeptMarks.{placed_kept, notes_of_storage}
-use Rattle.std.proofs.Common.{refl, subst, sym, IsSome, ap, ◌+◌, ◌*◌, ◌^◌}
+use Rattle.std.proofs.Common.{refl, subst, sym, IsSome, ap, ◌+◌, ◌*◌, ◌^◌, rules}
 use Rattle.qcow2_metadata.specs.EntryTable.{EntryTableView}
 use Rattle.qcow2_image.proofs.Call.BehindHeader.{behind_l1, behind_placed, behind_then, entry_behind, l1_entered}
 
@@ -31,22 +31,22 @@ returns-clause-names g c = λ p out table sound may noted says whole ready.
     c.enter_l2_table.ensures.entry c.enter_l2_table.ensures.offset c.enter_l2_table.ensures.copied c.write_l1_entry.ensures.fits c.write_l1_entry.new.self (storage_of c.will_write.new.self) c.write_l1_entry.result c.will_write.ensures.storage
     c.write_l1_entry.ensures.written c.write_l1_entry.ensures.calls c.in_ok-write_l1_entry.field-0 c.in_ok-write_l1_entry.was
 
-pub returns-in_err-write_l1_entry-clause-notes : goal.returns-in_err-write_l1_entry-clause-notes
-returns-in_err-write_l1_entry-clause-notes g c = notes_of_storage (placed_kept c.args.self.now.file.storage c.will_write.new.self c.write_l1_entry.new.self c.write_l1_entry.result c.will_write.ensures.storage c.will_write.ensures.changed c.enter_l2_table.new.self.cluster _ (subst (λ (x : EntryTableView). IsSome x.cluster) (sym c.enter_l2_table.ensures.rest) c.requires.placed) c.write_l1_entry.ensures.written c.write_l1_entry.ensures.calls c.write_l1_entry.ensures.noted)
+pub returns-in_err-write_l1_entry-clause-step : goal.returns-in_err-write_l1_entry-clause-step
+returns-in_err-write_l1_entry-clause-step g c = record {
+  stays = search rules;
+  notes = notes_of_storage (placed_kept c.args.self.now.file.storage c.will_write.new.self c.write_l1_entry.new.self c.write_l1_entry.result c.will_write.ensures.storage c.will_write.ensures.changed c.enter_l2_table.new.self.cluster _ (subst (λ (x : EntryTableView). IsSome x.cluster) (sym c.enter_l2_table.ensures.rest) c.requires.placed) c.write_l1_entry.ensures.written c.write_l1_entry.ensures.calls c.write_l1_entry.ensures.noted);
+  header_cluster = behind_then
+      (behind_placed c.write_l1_entry.result c.enter_l2_table.new.self.cluster (λ k. k * 2 ^ c.enter_l2_table.new.self.cluster_bits + 8 * c.args.index) _ (ap g.S.Storage.view c.will_write.ensures.storage) (subst (λ (x : EntryTableView). IsSome x.cluster) (sym c.enter_l2_table.ensures.rest) c.requires.placed)
+      (λ bits lies. entry_behind c.args.self.now.l1_table c.enter_l2_table.new.self c.args.index c.enter_l2_table.ensures.rest bits lies.l1) c.write_l1_entry.ensures.written c.write_l1_entry.ensures.calls)
+      (behind_l1 (l1_entered c.args.self.now.l1_table c.enter_l2_table.new.self c.enter_l2_table.ensures.rest));
+}
 
-pub returns-clause-notes : goal.returns-clause-notes
-returns-clause-notes g c = notes_of_storage (placed_kept c.args.self.now.file.storage c.will_write.new.self c.write_l1_entry.new.self c.write_l1_entry.result c.will_write.ensures.storage c.will_write.ensures.changed c.enter_l2_table.new.self.cluster _ (subst (λ (x : EntryTableView). IsSome x.cluster) (sym c.enter_l2_table.ensures.rest) c.requires.placed) c.write_l1_entry.ensures.written c.write_l1_entry.ensures.calls c.write_l1_entry.ensures.noted)
-
-pub returns-in_err-write_l1_entry-clause-header_cluster : goal.returns-in_err-write_l1_entry-clause-header_cluster
-returns-in_err-write_l1_entry-clause-header_cluster g c =
-    behind_then
-    (behind_placed c.write_l1_entry.result c.enter_l2_table.new.self.cluster (λ k. k * 2 ^ c.enter_l2_table.new.self.cluster_bits + 8 * c.args.index) _ (ap g.S.Storage.view c.will_write.ensures.storage) (subst (λ (x : EntryTableView). IsSome x.cluster) (sym c.enter_l2_table.ensures.rest) c.requires.placed)
-    (λ bits lies. entry_behind c.args.self.now.l1_table c.enter_l2_table.new.self c.args.index c.enter_l2_table.ensures.rest bits lies.l1) c.write_l1_entry.ensures.written c.write_l1_entry.ensures.calls)
-    (behind_l1 (l1_entered c.args.self.now.l1_table c.enter_l2_table.new.self c.enter_l2_table.ensures.rest))
-
-pub returns-clause-header_cluster : goal.returns-clause-header_cluster
-returns-clause-header_cluster g c =
-    behind_then
-    (behind_placed c.write_l1_entry.result c.enter_l2_table.new.self.cluster (λ k. k * 2 ^ c.enter_l2_table.new.self.cluster_bits + 8 * c.args.index) _ (ap g.S.Storage.view c.will_write.ensures.storage) (subst (λ (x : EntryTableView). IsSome x.cluster) (sym c.enter_l2_table.ensures.rest) c.requires.placed)
-    (λ bits lies. entry_behind c.args.self.now.l1_table c.enter_l2_table.new.self c.args.index c.enter_l2_table.ensures.rest bits lies.l1) c.write_l1_entry.ensures.written c.write_l1_entry.ensures.calls)
-    (behind_l1 (l1_entered c.args.self.now.l1_table c.enter_l2_table.new.self c.enter_l2_table.ensures.rest))
+pub returns-clause-step : goal.returns-clause-step
+returns-clause-step g c = record {
+  stays = search rules;
+  notes = notes_of_storage (placed_kept c.args.self.now.file.storage c.will_write.new.self c.write_l1_entry.new.self c.write_l1_entry.result c.will_write.ensures.storage c.will_write.ensures.changed c.enter_l2_table.new.self.cluster _ (subst (λ (x : EntryTableView). IsSome x.cluster) (sym c.enter_l2_table.ensures.rest) c.requires.placed) c.write_l1_entry.ensures.written c.write_l1_entry.ensures.calls c.write_l1_entry.ensures.noted);
+  header_cluster = behind_then
+      (behind_placed c.write_l1_entry.result c.enter_l2_table.new.self.cluster (λ k. k * 2 ^ c.enter_l2_table.new.self.cluster_bits + 8 * c.args.index) _ (ap g.S.Storage.view c.will_write.ensures.storage) (subst (λ (x : EntryTableView). IsSome x.cluster) (sym c.enter_l2_table.ensures.rest) c.requires.placed)
+      (λ bits lies. entry_behind c.args.self.now.l1_table c.enter_l2_table.new.self c.args.index c.enter_l2_table.ensures.rest bits lies.l1) c.write_l1_entry.ensures.written c.write_l1_entry.ensures.calls)
+      (behind_l1 (l1_entered c.args.self.now.l1_table c.enter_l2_table.new.self c.enter_l2_table.ensures.rest));
+}

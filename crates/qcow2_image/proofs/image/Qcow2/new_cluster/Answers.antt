@@ -1,5 +1,6 @@
+use Rattle.qcow2_image.proofs.Call.ImageSteps.{step_then}
 use Rattle.qcow2_image.proofs.image.Qcow2.new_cluster.Goals as goal
-use Rattle.std.proofs.Common.{◌≡◌, ◌/◌, ◌<◌, inl, sym, ap, ◌∙◌, subst}
+use Rattle.std.proofs.Common.{◌≡◌, ◌/◌, ◌<◌, inl, sym, ap, ◌∙◌, subst, rules}
 use Rattle.qcow2_metadata.specs.Cover.{cover}
 use Rattle.qcow2_metadata.specs.Header.{cluster_size}
 use Rattle.qcow2_disk.specs.AbstractImages.{Guest}
@@ -70,31 +71,12 @@ returns-in-Err-clause-gains g c = λ p out sound holds.
 pub returns-in-Ok-clause-former : goal.returns-in-Ok-clause-former
 returns-in-Ok-clause-former g c = lists_still c.args.self.now c.take_data.new.self c.fill_cluster.new.self c.take_data.ensures.former (record { allocator = c.fill_cluster.ensures.allocator; list = c.fill_cluster.ensures.list })
 
-pub returns-in_err-pending-clause-notes : goal.returns-in_err-pending-clause-notes
-returns-in_err-pending-clause-notes g c = c.take_data.ensures.notes
-
-pub returns-in-Ok-clause-notes : goal.returns-in-Ok-clause-notes
-returns-in-Ok-clause-notes g c = notes_then c.take_data.ensures.notes c.fill_cluster.ensures.notes
-
-pub returns-in-Err-clause-notes : goal.returns-in-Err-clause-notes
-returns-in-Err-clause-notes g c = notes_then (notes_then c.take_data.ensures.notes c.fill_cluster.ensures.notes) (same_kept c.fill_cluster.new.self c.hand_back.new.self (ap (λ (i : Qcow2 _ _). i.file.storage) c.hand_back.ensures) (ap (λ (i : Qcow2 _ _). i.file.caches) c.hand_back.ensures))
-
-pub returns-in_err-pending-clause-header_cluster : goal.returns-in_err-pending-clause-header_cluster
-returns-in_err-pending-clause-header_cluster g c = c.take_data.ensures.header_cluster
-
-pub returns-in-Ok-clause-header_cluster : goal.returns-in-Ok-clause-header_cluster
-returns-in-Ok-clause-header_cluster g c = behind_then c.take_data.ensures.header_cluster c.fill_cluster.ensures.header_cluster
-
-pub returns-in-Err-clause-header_cluster : goal.returns-in-Err-clause-header_cluster
-returns-in-Err-clause-header_cluster g c = behind_then (behind_then c.take_data.ensures.header_cluster c.fill_cluster.ensures.header_cluster) (behind_by g.S.Storage.view c.hand_back.ensures behind_none)
-
 pub returns-in-Ok-clause-lowest : goal.returns-in-Ok-clause-lowest
 returns-in-Ok-clause-lowest g c = λ p out sound holds k lt.
     let view = g.S.Storage.view in
     let below = g.F.BackingDisk.backing in
     let old = c.args.self.now in
     let mid = c.take_data.new.self in
-    let new = c.fill_cluster.new.self in
     let n = c.in_ok-pending.pending in
     let took = c.in_ok-pending.ensures.takes p out sound holds in
     let new_data = with_new_data (pending_with_listed p old mid) (run_of n) in
@@ -102,14 +84,14 @@ returns-in-Ok-clause-lowest g c = λ p out sound holds k lt.
     let free : over_all new_data_by out c.cluster.result ≡ 0 = ap (over_all new_data_by out) c.cluster.ensures ∙ taken_unused view below out old mid p n took.0 holds took.2 in
     let filled = c.fill_cluster.ensures.image_step new_data out took.2.sound (still_holds view below out old mid p n took.0 holds took.2) some free in
     let former = c.take_data.ensures.former in
-    used_stays view below out new_data former.after mid new took.2.sound filled.sound c.fill_cluster.ensures.value former.is c.fill_cluster.ensures.allocator c.fill_cluster.ensures.table filled.covers k (c.in_ok-pending.ensures.lowest p out sound k lt)
+    used_stays view below out new_data former.after mid c.fill_cluster.new.self took.2.sound filled.sound c.fill_cluster.ensures.value former.is c.fill_cluster.ensures.allocator c.fill_cluster.ensures.table filled.covers k (c.in_ok-pending.ensures.lowest p out sound k lt)
 
 pub returns-in_err-pending-clause-limit : goal.returns-in_err-pending-clause-limit
 returns-in_err-pending-clause-limit g c = λ p out sound.
     hands_limit (λ x. StandsInWay g.S.Storage.view HasNoCluster c.args.self.now.file.free_list c.args.self.now c.take_data.new.self) c.from_residual.result c.in_err-pending.field-0.0 c.from_residual.ensures (c.in_err-pending.ensures.limit p out sound)
 
 pub returns-in-Err-clause-limit : goal.returns-in-Err-clause-limit
-returns-in-Err-clause-limit g c = λ p out sound. other_limit _ c.in-Err.refusal c.in-Err.ensures.limited
+returns-in-Err-clause-limit g c = λ p out sound. other_limit _ c.in-Err.refusal c.in-Err.ensures.fails.limited
 
 pub returns-in_err-pending-clause-met : goal.returns-in_err-pending-clause-met
 returns-in_err-pending-clause-met g c = λ p out sound holds.
@@ -139,7 +121,6 @@ returns-in-Ok-clause-uses g c = λ p out sound holds k used.
     let below = g.F.BackingDisk.backing in
     let old = c.args.self.now in
     let mid = c.take_data.new.self in
-    let new = c.fill_cluster.new.self in
     let n = c.in_ok-pending.pending in
     let took = c.in_ok-pending.ensures.takes p out sound holds in
     let new_data = with_new_data (pending_with_listed p old mid) (run_of n) in
@@ -147,4 +128,17 @@ returns-in-Ok-clause-uses g c = λ p out sound holds k used.
     let free : over_all new_data_by out c.cluster.result ≡ 0 = ap (over_all new_data_by out) c.cluster.ensures ∙ taken_unused view below out old mid p n took.0 holds took.2 in
     let filled = c.fill_cluster.ensures.image_step new_data out took.2.sound (still_holds view below out old mid p n took.0 holds took.2) some free in
     let former = c.take_data.ensures.former in
-    used_stays view below out new_data former.after mid new took.2.sound filled.sound c.fill_cluster.ensures.value former.is c.fill_cluster.ensures.allocator c.fill_cluster.ensures.table filled.covers k (c.in_ok-pending.ensures.uses p out sound k used)
+    used_stays view below out new_data former.after mid c.fill_cluster.new.self took.2.sound filled.sound c.fill_cluster.ensures.value former.is c.fill_cluster.ensures.allocator c.fill_cluster.ensures.table filled.covers k (c.in_ok-pending.ensures.uses p out sound k used)
+
+pub returns-in_err-pending-clause-step : goal.returns-in_err-pending-clause-step
+returns-in_err-pending-clause-step g c = c.take_data.ensures.step
+
+pub returns-in-Ok-clause-step : goal.returns-in-Ok-clause-step
+returns-in-Ok-clause-step g c = step_then c.take_data.ensures.step c.fill_cluster.ensures.step
+
+pub returns-in-Err-clause-step : goal.returns-in-Err-clause-step
+returns-in-Err-clause-step g c = record {
+  stays = search rules;
+  notes = notes_then (notes_then c.take_data.ensures.step.notes c.fill_cluster.ensures.step.notes) (same_kept c.fill_cluster.new.self c.hand_back.new.self (ap (λ (i : Qcow2 _ _). i.file.storage) c.hand_back.ensures) (ap (λ (i : Qcow2 _ _). i.file.caches) c.hand_back.ensures));
+  header_cluster = behind_then (behind_then c.take_data.ensures.step.header_cluster c.fill_cluster.ensures.step.header_cluster) (behind_by g.S.Storage.view c.hand_back.ensures behind_none);
+}

@@ -1,4 +1,4 @@
-use Rattle.std.proofs.Common.{◌≡◌, ◌/◌, ◌<◌, inl, sym, ap, ◌∙◌, subst}
+use Rattle.std.proofs.Common.{◌≡◌, ◌/◌, ◌<◌, inl, sym, ap, ◌∙◌, subst, rules}
 use Rattle.std.specs.Prelude.{Ok}
 use Rattle.qcow2_metadata.specs.Cover.{cover}
 use Rattle.qcow2_metadata.specs.Header.{cluster_size}
@@ -23,56 +23,8 @@ use Rattle.qcow2_image.specs.MetAlone.{IsCopiedCompressed}
 use Rattle.qcow2_image.proofs.Prepare.Unannounced.{copied_as}
 use Rattle.qcow2_image.proofs.Prepare.Met.{filling_met, new_behind}
 use Rattle.qcow2_image.proofs.Prepare.MetTables.{hands_alone}
+use Rattle.qcow2_image.proofs.Call.ImageSteps.{step_then}
 use Rattle.qcow2_image.proofs.image.Qcow2.new_cluster_at.Goals as goal
-
-pub returns-in_default-clause-gains : goal.returns-in_default-clause-gains
-returns-in_default-clause-gains g c = λ p out sound holds.
-    subst (λ v. TakesDataAt g.S.Storage.view g.F.BackingDisk.backing p c.args.self.now c.take_data_at.new.self out c.args.cluster (Ok v)) c.in_default.is (c.in_ok-pending.ensures.takes p out sound holds)
-
-pub returns-in-Ok-clause-gains : goal.returns-in-Ok-clause-gains
-returns-in-Ok-clause-gains g c = λ p out sound holds.
-    let view = g.S.Storage.view in
-    let below = g.F.BackingDisk.backing in
-    let old = c.args.self.now in
-    let mid = c.take_data_at.new.self in
-    let new = c.fill_cluster.new.self in
-    let n = c.in-Some.pending in
-    let took = subst (λ v. TakesDataAt view below p old mid out c.args.cluster (Ok v)) c.in-Some.is (c.in_ok-pending.ensures.takes p out sound holds) in
-    let unused = taken_unused view below out old mid p n took.1 holds took.3 in
-    let new_data = with_new_data (pending_with_listed p old mid) (run_of n) in
-    let some : 0 < new_data.new_data c.args.cluster = subst (λ k. 0 < new_data.new_data k) took.0 (taken_new_data view below out old mid p n took.1 holds took.3) in
-    let free : over_all new_data_by out c.args.cluster ≡ 0 = ap (over_all new_data_by out) (sym took.0) ∙ unused in
-    let gained : IsGained view below p old new out c.args.offset c.args.length c.args.overwrite c.args.old.now n = record {
-      one = took.1;
-      kind = took.2;
-      unused = unused;
-      image_step = subst (λ q. UnseenFillingStep view below p (with_new_data q (run_of n)) old new out) (listed_after_on view below out p old mid new c.fill_cluster.ensures.list)
-          (image_step_then view below out old mid new p new_data new_data took.3 (c.fill_cluster.ensures.image_step new_data out took.3.sound (still_holds view below out old mid p n took.1 holds took.3) some free));
-      filled = λ covered.
-          let h = old.file.header.fields in
-          let hm = mid.file.header.fields in
-          let still : cover hm (known_in view mid.file) (c.args.offset / cluster_size hm) ≡ c.args.old.now =
-          ap (λ size. cover hm (known_in view mid.file) (c.args.offset / size)) (size_format h hm took.3.header) ∙ cover_format h hm took.3.header (known_in view mid.file) (c.args.offset / cluster_size h) ∙ sym (took.3.covers (c.args.offset / cluster_size h)) ∙ covered in
-          filled_as view below mid old new c.args.cluster n.first_cluster c.args.offset c.args.length c.args.overwrite took.3.header (ap (λ (x : Guest). x.disk) took.3.seen) (sym took.0)
-          (c.in-Ok.ensures.fills new_data out took.3.sound (still_holds view below out old mid p n took.1 holds took.3) some free still);
-    } in (took.0, gained)
-
-pub returns-in-Err-clause-gains : goal.returns-in-Err-clause-gains
-returns-in-Err-clause-gains g c = λ p out sound holds.
-    let view = g.S.Storage.view in
-    let below = g.F.BackingDisk.backing in
-    let old = c.args.self.now in
-    let mid = c.take_data_at.new.self in
-    let new = c.fill_cluster.new.self in
-    let n = c.in-Some.pending in
-    let took = subst (λ v. TakesDataAt view below p old mid out c.args.cluster (Ok v)) c.in-Some.is (c.in_ok-pending.ensures.takes p out sound holds) in
-    let new_data = with_new_data (pending_with_listed p old mid) (run_of n) in
-    let some : 0 < new_data.new_data c.args.cluster = subst (λ k. 0 < new_data.new_data k) took.0 (taken_new_data view below out old mid p n took.1 holds took.3) in
-    let free : over_all new_data_by out c.args.cluster ≡ 0 = ap (over_all new_data_by out) (sym took.0) ∙ taken_unused view below out old mid p n took.1 holds took.3 in
-    let filled = image_step_then view below out old mid new p new_data new_data took.3 (c.fill_cluster.ensures.image_step new_data out took.3.sound (still_holds view below out old mid p n took.1 holds took.3) some free) in
-    let gone = subst (λ q. UnseenFillingStep view below p (with_new_data q (run_of n)) old new out) (listed_after_on view below out p old mid new c.fill_cluster.ensures.list) filled in
-    subst (λ (image : Qcow2 _ _). RefusedFillingStep view below p old image out c.in-Err.refusal) (sym c.hand_back.ensures)
-    (inl (image_step_left view below out old new p n took.1 took.2 gone))
 
 pub returns-in_default-clause-former : goal.returns-in_default-clause-former
 returns-in_default-clause-former g c = c.take_data_at.ensures.former
@@ -80,29 +32,30 @@ returns-in_default-clause-former g c = c.take_data_at.ensures.former
 pub returns-in-Ok-clause-former : goal.returns-in-Ok-clause-former
 returns-in-Ok-clause-former g c = lists_still c.args.self.now c.take_data_at.new.self c.fill_cluster.new.self c.take_data_at.ensures.former (record { allocator = c.fill_cluster.ensures.allocator; list = c.fill_cluster.ensures.list })
 
-pub returns-in_default-clause-notes : goal.returns-in_default-clause-notes
-returns-in_default-clause-notes g c = c.take_data_at.ensures.notes
+pub returns-in_default-clause-step : goal.returns-in_default-clause-step
+returns-in_default-clause-step g c = c.take_data_at.ensures.step
 
-pub returns-in-Ok-clause-notes : goal.returns-in-Ok-clause-notes
-returns-in-Ok-clause-notes g c = notes_then c.take_data_at.ensures.notes c.fill_cluster.ensures.notes
+pub returns-in-Ok-clause-step : goal.returns-in-Ok-clause-step
+returns-in-Ok-clause-step g c = step_then c.take_data_at.ensures.step c.fill_cluster.ensures.step
 
-pub returns-in-Err-clause-notes : goal.returns-in-Err-clause-notes
-returns-in-Err-clause-notes g c = notes_then (notes_then c.take_data_at.ensures.notes c.fill_cluster.ensures.notes) (same_kept c.fill_cluster.new.self c.hand_back.new.self (ap (λ (i : Qcow2 _ _). i.file.storage) c.hand_back.ensures) (ap (λ (i : Qcow2 _ _). i.file.caches) c.hand_back.ensures))
+pub returns-in-Err-clause-step : goal.returns-in-Err-clause-step
+returns-in-Err-clause-step g c = record {
+  stays = search rules;
+  notes = notes_then (notes_then c.take_data_at.ensures.step.notes c.fill_cluster.ensures.step.notes) (same_kept c.fill_cluster.new.self c.hand_back.new.self (ap (λ (i : Qcow2 _ _). i.file.storage) c.hand_back.ensures) (ap (λ (i : Qcow2 _ _). i.file.caches) c.hand_back.ensures));
+  header_cluster = behind_then (behind_then c.take_data_at.ensures.step.header_cluster c.fill_cluster.ensures.step.header_cluster) (behind_by g.S.Storage.view c.hand_back.ensures behind_none);
+}
 
-pub returns-in_default-clause-header_cluster : goal.returns-in_default-clause-header_cluster
-returns-in_default-clause-header_cluster g c = c.take_data_at.ensures.header_cluster
+pub returns-in_default-clause-sound : goal.returns-in_default-clause-sound
+returns-in_default-clause-sound g c = λ p out sound holds.
+    record {
+      met = search rules;
+      limit = search rules;
+      does = subst (λ v. TakesDataAt g.S.Storage.view g.F.BackingDisk.backing p c.args.self.now c.take_data_at.new.self out c.args.cluster (Ok v)) c.in_default.is (c.in_ok-pending.ensures.takes p out sound holds);
+      uses = c.in_ok-pending.ensures.uses p out sound holds;
+    }
 
-pub returns-in-Ok-clause-header_cluster : goal.returns-in-Ok-clause-header_cluster
-returns-in-Ok-clause-header_cluster g c = behind_then c.take_data_at.ensures.header_cluster c.fill_cluster.ensures.header_cluster
-
-pub returns-in-Err-clause-header_cluster : goal.returns-in-Err-clause-header_cluster
-returns-in-Err-clause-header_cluster g c = behind_then (behind_then c.take_data_at.ensures.header_cluster c.fill_cluster.ensures.header_cluster) (behind_by g.S.Storage.view c.hand_back.ensures behind_none)
-
-pub returns-in_default-clause-uses : goal.returns-in_default-clause-uses
-returns-in_default-clause-uses g c = λ p out sound holds. c.in_ok-pending.ensures.uses p out sound holds
-
-pub returns-in-Ok-clause-uses : goal.returns-in-Ok-clause-uses
-returns-in-Ok-clause-uses g c = λ p out sound holds k used.
+pub returns-in-Ok-clause-sound : goal.returns-in-Ok-clause-sound
+returns-in-Ok-clause-sound g c = λ p out sound holds.
     let view = g.S.Storage.view in
     let below = g.F.BackingDisk.backing in
     let old = c.args.self.now in
@@ -114,35 +67,61 @@ returns-in-Ok-clause-uses g c = λ p out sound holds k used.
     let new_data = with_new_data (pending_with_listed p old mid) (run_of n) in
     let some : 0 < new_data.new_data c.args.cluster = subst (λ k. 0 < new_data.new_data k) took.0 (taken_new_data view below out old mid p n took.1 holds took.3) in
     let free : over_all new_data_by out c.args.cluster ≡ 0 = ap (over_all new_data_by out) (sym took.0) ∙ unused in
-    let filled = c.fill_cluster.ensures.image_step new_data out took.3.sound (still_holds view below out old mid p n took.1 holds took.3) some free in
-    let former = c.take_data_at.ensures.former in
-    used_stays view below out new_data former.after mid new took.3.sound filled.sound c.fill_cluster.ensures.value former.is c.fill_cluster.ensures.allocator c.fill_cluster.ensures.table filled.covers k (c.in_ok-pending.ensures.uses p out sound holds k used)
+    record {
+      met = search rules;
+      limit = search rules;
+      does = let gained : IsGained view below p old new out c.args.offset c.args.length c.args.overwrite c.args.old.now n = record {
+        one = took.1;
+        kind = took.2;
+        unused = unused;
+        image_step = subst (λ q. UnseenFillingStep view below p (with_new_data q (run_of n)) old new out) (listed_after_on view below out p old mid new c.fill_cluster.ensures.list)
+            (image_step_then view below out old mid new p new_data new_data took.3 (c.fill_cluster.ensures.image_step new_data out took.3.sound (still_holds view below out old mid p n took.1 holds took.3) some free));
+        filled = λ covered.
+            let h = old.file.header.fields in
+            let hm = mid.file.header.fields in
+            let still : cover hm (known_in view mid.file) (c.args.offset / cluster_size hm) ≡ c.args.old.now =
+            ap (λ size. cover hm (known_in view mid.file) (c.args.offset / size)) (size_format h hm took.3.header) ∙ cover_format h hm took.3.header (known_in view mid.file) (c.args.offset / cluster_size h) ∙ sym (took.3.covers (c.args.offset / cluster_size h)) ∙ covered in
+            filled_as view below mid old new c.args.cluster n.first_cluster c.args.offset c.args.length c.args.overwrite took.3.header (ap (λ (x : Guest). x.disk) took.3.seen) (sym took.0)
+            (c.in-Ok.ensures.fills new_data out took.3.sound (still_holds view below out old mid p n took.1 holds took.3) some free still);
+      } in (took.0, gained);
+      uses = λ k used. let filled = c.fill_cluster.ensures.image_step new_data out took.3.sound (still_holds view below out old mid p n took.1 holds took.3) some free in
+          let former = c.take_data_at.ensures.former in
+          used_stays view below out new_data former.after mid new took.3.sound filled.sound c.fill_cluster.ensures.value former.is c.fill_cluster.ensures.allocator c.fill_cluster.ensures.table filled.covers k (c.in_ok-pending.ensures.uses p out sound holds k used);
+    }
 
-pub returns-in_err-pending-clause-limit : goal.returns-in_err-pending-clause-limit
-returns-in_err-pending-clause-limit g c = λ p out sound holds.
-    hands_limit (λ x. CantTake g.S.Storage.view c.args.cluster c.args.self.now c.take_data_at.new.self) c.from_residual.result c.in_err-pending.field-0.0 c.from_residual.ensures (c.in_err-pending.ensures.limit p out sound)
-
-pub returns-in-Err-clause-limit : goal.returns-in-Err-clause-limit
-returns-in-Err-clause-limit g c = λ p out sound holds. other_limit _ c.in-Err.refusal c.in-Err.ensures.limited
-
-pub returns-in_err-pending-clause-met : goal.returns-in_err-pending-clause-met
-returns-in_err-pending-clause-met g c = λ p out sound holds.
-    hands_alone (IsCopiedCompressed c.args.self.now.file.header.fields c.args.old.now c.args.offset c.args.length c.args.overwrite) ⊥ c.from_residual.result c.in_err-pending.field-0.0 c.from_residual.ensures (inl (c.in_err-pending.ensures.fault p out sound))
-
-pub returns-in-Err-clause-met : goal.returns-in-Err-clause-met
-returns-in-Err-clause-met g c = λ p out sound holds.
+pub returns-in-Err-clause-sound : goal.returns-in-Err-clause-sound
+returns-in-Err-clause-sound g c = λ p out sound holds.
     let view = g.S.Storage.view in
     let below = g.F.BackingDisk.backing in
     let old = c.args.self.now in
     let mid = c.take_data_at.new.self in
+    let new = c.fill_cluster.new.self in
     let n = c.in-Some.pending in
     let took = subst (λ v. TakesDataAt view below p old mid out c.args.cluster (Ok v)) c.in-Some.is (c.in_ok-pending.ensures.takes p out sound holds) in
     let new_data = with_new_data (pending_with_listed p old mid) (run_of n) in
     let some : 0 < new_data.new_data c.args.cluster = subst (λ k. 0 < new_data.new_data k) took.0 (taken_new_data view below out old mid p n took.1 holds took.3) in
     let h = old.file.header.fields in
+    let free : over_all new_data_by out c.args.cluster ≡ 0 = ap (over_all new_data_by out) (sym took.0) ∙ taken_unused view below out old mid p n took.1 holds took.3 in
     let hm = mid.file.header.fields in
+    let filled = image_step_then view below out old mid new p new_data new_data took.3 (c.fill_cluster.ensures.image_step new_data out took.3.sound (still_holds view below out old mid p n took.1 holds took.3) some free) in
     let offset = c.args.offset in
-    let n = c.args.length in
-    let overwrite = c.args.overwrite in
-    filling_met (IsCopiedCompressed hm c.args.old.now offset n overwrite) (IsCopiedCompressed h c.args.old.now offset n overwrite) ⊥ c.in-Err.refusal (copied_as h hm c.args.old.now offset n overwrite (size_format h hm took.3.header))
-    (c.in-Err.ensures.met (new_behind view below out new_data mid took.3.sound c.args.cluster some))
+    let gone = subst (λ q. UnseenFillingStep view below p (with_new_data q (run_of n)) old new out) (listed_after_on view below out p old mid new c.fill_cluster.ensures.list) filled in
+    record {
+      uses = search rules;
+      does = subst (λ (image : Qcow2 _ _). RefusedFillingStep view below p old image out c.in-Err.refusal) (sym c.hand_back.ensures)
+          (inl (image_step_left view below out old new p n took.1 took.2 gone));
+      met = let n = c.args.length in
+          let overwrite = c.args.overwrite in
+          filling_met (IsCopiedCompressed hm c.args.old.now offset n overwrite) (IsCopiedCompressed h c.args.old.now offset n overwrite) ⊥ c.in-Err.refusal (copied_as h hm c.args.old.now offset n overwrite (size_format h hm took.3.header))
+          (c.in-Err.ensures.met (new_behind view below out new_data mid took.3.sound c.args.cluster some));
+      limit = other_limit _ c.in-Err.refusal c.in-Err.ensures.fails.limited;
+    }
+
+pub returns-in_err-pending-clause-sound : goal.returns-in_err-pending-clause-sound
+returns-in_err-pending-clause-sound g c = λ p out sound holds.
+    record {
+      does = search rules;
+      uses = search rules;
+      met = hands_alone (IsCopiedCompressed c.args.self.now.file.header.fields c.args.old.now c.args.offset c.args.length c.args.overwrite) ⊥ c.from_residual.result c.in_err-pending.field-0.0 c.from_residual.ensures (inl (c.in_err-pending.ensures.fault p out sound));
+      limit = hands_limit (λ x. CantTake g.S.Storage.view c.args.cluster c.args.self.now c.take_data_at.new.self) c.from_residual.result c.in_err-pending.field-0.0 c.from_residual.ensures (c.in_err-pending.ensures.limit p out sound);
+    }

@@ -14,11 +14,10 @@ loop-i-preserved g c =
     let view = g.S.Storage.view in
     let below = g.F.BackingDisk.backing in
     let image = c.args.self.now in
-    let k = c.loop-i.i in
     let here : c.new-cluster.result ≡ c.args.first + c.loop-i.i = c.new-cluster.ensures ∙ ap (λ n. n + c.loop-i.i) c.value.ensures in
     let one : suc c.loop-i.i ≡ c.loop-i.i + 1 = omega arith in
     subst (λ n. ReadsAll view below c.args.how c.args.table c.args.first n image c.list_old_data.new.list) one
-    (reads_next view below c.args.how c.args.table c.args.first k image c.loop-i.old_data c.list_old_data.new.list c.loop-i.invariant
+    (reads_next view below c.args.how c.args.table c.args.first c.loop-i.i image c.loop-i.old_data c.list_old_data.new.list c.loop-i.invariant
     (subst (λ n. ReadsDropped view below c.args.how c.args.table n image c.loop-i.old_data c.list_old_data.new.list) here c.in_ok-list_old_data.ensures.reads))
 
 pub returns-clause-reads : goal.returns-clause-reads
@@ -30,8 +29,7 @@ pub returns-in_err-list_old_data-clause-only_faults : goal.returns-in_err-list_o
 returns-in_err-list_old_data-clause-only_faults g c = λ p i sound at here fits some.
     let image = c.args.self.now in
     let behind : c.new-cluster.result ≡ c.args.first + c.loop-i.i = c.new-cluster.ensures ∙ ap (λ n. n + c.loop-i.i) c.value.ensures in
-    let e = c.in_err-list_old_data.field-0.0 in
     let there = entry_behind image.file.header.fields (known_in g.S.Storage.view image.file) c.args.table c.args.first c.args.count c.loop-i.i i at here fits (omega (arith, c.loop-i-test.true)) in
-    handed_on (λ r. IfErr r IsFault) c.from_residual.result e c.from_residual.ensures
+    handed_on (λ r. IfErr r IsFault) c.from_residual.result c.in_err-list_old_data.field-0.0 c.from_residual.ensures
     (c.in_err-list_old_data.ensures.only_faults p i sound (subst (λ n. IsEntryAt image.file.header.fields (known_in g.S.Storage.view image.file) i c.args.table (n % entries_per_cluster image.file.header.fields)) (sym behind) there.0)
     (ap (λ n. n / entries_per_cluster image.file.header.fields) behind ∙ there.1) some)

@@ -40,13 +40,12 @@ returns-in-Ok-load_tables-clause-opens g c =
 pub returns-in-Ok-load_tables-clause-list : goal.returns-in-Ok-load_tables-clause-list
 returns-in-Ok-load_tables-clause-list g c =
     let view = g.S.Storage.view in
-    let below = g.F.BackingDisk.backing in
     let contents = (view c.args.storage.storage).contents in
     let read = c.load.ensures.reads in
     let new = c.in-Ok-new.ensures in
     λ honest consistent.
     (c.in-Ok-load_tables.ensures.loaded (nothing_pending (surplus_of c.in-Ok.header.fields (byte_at contents)))
-    (new_tables_new view below contents (record { alloc = c.args.alloc; storage = c.load.new.storage; header = c.in-Ok.header; caches = c.in-Ok-new.caches; free_list = c.new-2.result }) consistent
+    (new_tables_new view g.F.BackingDisk.backing contents (record { alloc = c.args.alloc; storage = c.load.new.storage; header = c.in-Ok.header; caches = c.in-Ok-new.caches; free_list = c.new-2.result }) consistent
     (read.honest honest) (read.same honest) (c.in-Ok.ensures.ok honest) new.sound new.known new.named_blocks (new.room (omega arith) (omega arith)) new.pins c.new-2.ensures)).new_tables.list
 
 pub returns-in-Err-clause-since : goal.returns-in-Err-clause-since
@@ -87,8 +86,7 @@ returns-in-Err-load_tables-clause-since g c =
 
 pub returns-in-Ok-load_tables-clause-names : goal.returns-in-Ok-load_tables-clause-names
 returns-in-Ok-load_tables-clause-names g c =
-    let view = g.S.Storage.view in
-    λ honest. named_still c.in-Ok.header c.load_tables.new.file.header (view c.args.storage.storage).contents (c.in-Ok.ensures.ok honest) c.in-Ok-load_tables.ensures.names
+    λ honest. named_still c.in-Ok.header c.load_tables.new.file.header (g.S.Storage.view c.args.storage.storage).contents (c.in-Ok.ensures.ok honest) c.in-Ok-load_tables.ensures.names
 
 pub returns-in-Err-clause-another : goal.returns-in-Err-clause-another
 returns-in-Err-clause-another g c = λ honest needs.
@@ -105,26 +103,19 @@ returns-then-lacks_another-clause-since g c = λ honest consistent.
 
 pub returns-then-lacks_another-clause-another : goal.returns-then-lacks_another-clause-another
 returns-then-lacks_another-clause-another g c = λ honest needs.
-    let view = g.S.Storage.view in
-    (inl refl, stays_so view c.args.storage.storage c.args.storage.storage c.load.new.storage.storage _ c.load.result refl c.into_inner-then-lacks_another.ensures c.load.ensures.reads honest)
+    (inl refl, stays_so g.S.Storage.view c.args.storage.storage c.args.storage.storage c.load.new.storage.storage _ c.load.result refl c.into_inner-then-lacks_another.ensures c.load.ensures.reads honest)
 
 pub returns-in-Err-new-clause-another : goal.returns-in-Err-new-clause-another
 returns-in-Err-new-clause-another g c = λ honest needs.
-    let view = g.S.Storage.view in
-    let stands = c.in-Ok.ensures.ok honest in
-    absurd (not_needed c.args.missing c.in-Ok.header (view c.args.storage.storage).contents stands (sym c.lacks_another.ensures ∙ c.if-lacks_another.false) needs)
+    absurd (not_needed c.args.missing c.in-Ok.header (g.S.Storage.view c.args.storage.storage).contents (c.in-Ok.ensures.ok honest) (sym c.lacks_another.ensures ∙ c.if-lacks_another.false) needs)
 
 pub returns-in-Ok-load_tables-clause-another : goal.returns-in-Ok-load_tables-clause-another
 returns-in-Ok-load_tables-clause-another g c = λ honest needs.
-    let view = g.S.Storage.view in
-    let stands = c.in-Ok.ensures.ok honest in
-    absurd (not_needed c.args.missing c.in-Ok.header (view c.args.storage.storage).contents stands (sym c.lacks_another.ensures ∙ c.if-lacks_another.false) needs)
+    absurd (not_needed c.args.missing c.in-Ok.header (g.S.Storage.view c.args.storage.storage).contents (c.in-Ok.ensures.ok honest) (sym c.lacks_another.ensures ∙ c.if-lacks_another.false) needs)
 
 pub returns-in-Err-load_tables-clause-another : goal.returns-in-Err-load_tables-clause-another
 returns-in-Err-load_tables-clause-another g c = λ honest needs.
-    let view = g.S.Storage.view in
-    let stands = c.in-Ok.ensures.ok honest in
-    absurd (not_needed c.args.missing c.in-Ok.header (view c.args.storage.storage).contents stands (sym c.lacks_another.ensures ∙ c.if-lacks_another.false) needs)
+    absurd (not_needed c.args.missing c.in-Ok.header (g.S.Storage.view c.args.storage.storage).contents (c.in-Ok.ensures.ok honest) (sym c.lacks_another.ensures ∙ c.if-lacks_another.false) needs)
 
 pub returns-in-Err-clause-cause : goal.returns-in-Err-clause-cause
 returns-in-Err-clause-cause g c = (

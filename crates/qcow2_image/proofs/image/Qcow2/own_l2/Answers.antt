@@ -1,5 +1,6 @@
+use Rattle.qcow2_image.proofs.Call.ImageSteps.{step_none}
 use Rattle.qcow2_image.proofs.image.Qcow2.own_l2.Goals as goal
-use Rattle.std.proofs.Common.{◌≡◌, ◌*◌, ◌/◌, ◌^◌, Ok, arith, sym, ap, ◌∙◌, subst, ◌≤◌, inr, inl}
+use Rattle.std.proofs.Common.{◌≡◌, ◌*◌, ◌/◌, ◌^◌, Ok, arith, sym, ap, ◌∙◌, subst, ◌≤◌, inr, inl, rules}
 use Rattle.qcow2_metadata.specs.Entries.{host_offset, is_copied}
 use Rattle.qcow2_image.specs.Found.{l1_index_of}
 use Rattle.qcow2_image.specs.NewTables.{OwnsTable, MayName}
@@ -7,86 +8,11 @@ use Rattle.qcow2_image.proofs.Prepare.Owning.{refused, left_alone, may_none, say
 use Rattle.qcow2_metadata.specs.EntryTable.{entry_count}
 use Rattle.qcow2_metadata.specs.TableBytes.{entry_at}
 use Rattle.qcow2_image.proofs.Prepare.Lacking.{lacks_past, not_within, owns_or_lacks}
-use Rattle.qcow2_alloc.proofs.KeptMarks.{notes_none}
-use Rattle.qcow2_image.proofs.Call.BehindHeader.{behind_first, behind_none}
+use Rattle.qcow2_image.proofs.Call.BehindHeader.{behind_first}
 use Rattle.qcow2_image.proofs.Prepare.Listing.{some_none}
 use Rattle.qcow2_image.proofs.Prepare.Pinned.{whole_quotient}
 use Rattle.qcow2_image.specs.LackedPlaces.{HasNearEntry}
 use Rattle.qcow2_image.specs.UnseenSteps.{NamesOwn}
-
-pub returns-then-not-in_bounds-clause-owns : goal.returns-then-not-in_bounds-clause-owns
-returns-then-not-in_bounds-clause-owns g c = λ p out sound. left_alone g.S.Storage.view g.F.BackingDisk.backing out p c.args.self.now sound c.l1_index-index.result _
-
-pub returns-in_err-table-clause-owns : goal.returns-in_err-table-clause-owns
-returns-in_err-table-clause-owns g c = λ p out sound.
-    refused (OwnsTable g.S.Storage.view g.F.BackingDisk.backing p c.args.self.now c.args.self.now out (l1_index_of c.args.self.now.file.header.fields c.args.offset)) c.from_residual.result c.from_residual.ensures.0
-    (left_alone g.S.Storage.view g.F.BackingDisk.backing out p c.args.self.now sound c.l1_index-index.result)
-
-pub returns-in_default-clause-owns : goal.returns-in_default-clause-owns
-returns-in_default-clause-owns g c = λ p out sound.
-    let old = c.args.self.now in
-    let idx : c.l1_index-index.result ≡ l1_index_of old.file.header.fields c.args.offset =
-    c.l1_index-index.ensures ∙ ap (λ n. n / 2 ^ c.cluster_bits-bits.result / (2 ^ c.cluster_bits-bits.result / 8)) c.new.ensures ∙ ap (λ b. c.args.offset / 2 ^ b / (2 ^ b / 8)) c.cluster_bits-bits.ensures.value in
-    let none = ap host_offset (sym (sound.l1_table.entries c.l1_index-index.result)) ∙ c.in_default.ensures.none in
-    subst (λ i. OwnsTable g.S.Storage.view g.F.BackingDisk.backing p old c.enter_l2.new.self out i c.enter_l2.result) idx
-    (entered_owns g.S.Storage.view g.F.BackingDisk.backing out p old sound c.l1_index-index.result none c.enter_l2.new.self c.enter_l2.result
-    (c.enter_l2.ensures.enters p out sound (may_none g.S.Storage.view g.F.BackingDisk.backing out p old sound c.l1_index-index.result none)
-    (says_none g.S.Storage.view g.F.BackingDisk.backing out p old sound c.l1_index-index.result none c.in_ok-table.table _ c.in_ok-table.ensures.table c.in_ok-table.ensures.zeros)))
-
-pub returns-then-entry-clause-owns : goal.returns-then-entry-clause-owns
-returns-then-entry-clause-owns g c = λ p out sound.
-    let old = c.args.self.now in
-    let idx : c.l1_index-index.result ≡ l1_index_of old.file.header.fields c.args.offset =
-    c.l1_index-index.ensures ∙ ap (λ n. n / 2 ^ c.cluster_bits-bits.result / (2 ^ c.cluster_bits-bits.result / 8)) c.new.ensures ∙ ap (λ b. c.args.offset / 2 ^ b / (2 ^ b / 8)) c.cluster_bits-bits.ensures.value in
-    let offset = ap host_offset (sym (sound.l1_table.entries c.l1_index-index.result)) ∙ sym c.in-Some.ensures.offset in
-    subst (λ i. OwnsTable g.S.Storage.view g.F.BackingDisk.backing p old old out i (Ok c.in-Some-checked_cluster.cluster)) idx
-    (owns_already g.S.Storage.view g.F.BackingDisk.backing out p old sound c.l1_index-index.result c.in-Some-checked_cluster.cluster (record {
-      place = offset ∙ sym c.in-Some-checked_cluster.ensures.cluster ∙ ap (λ b. c.in-Some-checked_cluster.cluster * 2 ^ b) c.cluster_bits-bits.ensures.value;
-      own = ((λ none. absurd (let some = c.in-Some.ensures.some in omega (arith, some, none, offset))), ap is_copied (sym (sound.l1_table.entries c.l1_index-index.result)) ∙ sym c.in-Some.ensures.copied ∙ c.if-entry.true);
-    }))
-
-pub returns-clause-owns : goal.returns-clause-owns
-returns-clause-owns g c = λ p out sound.
-    let old = c.args.self.now in
-    let idx : c.l1_index-index.result ≡ l1_index_of old.file.header.fields c.args.offset =
-    c.l1_index-index.ensures ∙ ap (λ n. n / 2 ^ c.cluster_bits-bits.result / (2 ^ c.cluster_bits-bits.result / 8)) c.new.ensures ∙ ap (λ b. c.args.offset / 2 ^ b / (2 ^ b / 8)) c.cluster_bits-bits.ensures.value in
-    let offset = ap host_offset (sym (sound.l1_table.entries c.l1_index-index.result)) ∙ sym c.in-Some.ensures.offset in
-    subst (λ i. OwnsTable g.S.Storage.view g.F.BackingDisk.backing p old c.replace_l2.new.self out i c.replace_l2.result) idx
-    (c.replace_l2.ensures.owns p out sound (record {
-      place = offset ∙ sym c.in-Some-checked_cluster.ensures.cluster ∙ ap (λ b. c.in-Some-checked_cluster.cluster * 2 ^ b) c.cluster_bits-bits.ensures.value;
-      real = λ none. absurd (let some = c.in-Some.ensures.some in omega (arith, some, none, offset));
-      may = λ own. absurd (let is = sym own.1 ∙ ap is_copied (sym (sound.l1_table.entries c.l1_index-index.result)) ∙ sym c.in-Some.ensures.copied ∙ c.if-entry.false in cc);
-    }))
-
-pub returns-then-not-in_bounds-clause-lacks : goal.returns-then-not-in_bounds-clause-lacks
-returns-then-not-in_bounds-clause-lacks g c = λ p out sound.
-    let view = g.S.Storage.view in
-    let below = g.F.BackingDisk.backing in
-    let old = c.args.self.now in
-    let idx : c.l1_index-index.result ≡ l1_index_of old.file.header.fields c.args.offset =
-    c.l1_index-index.ensures ∙ ap (λ n. n / 2 ^ c.cluster_bits-bits.result / (2 ^ c.cluster_bits-bits.result / 8)) c.new.ensures ∙ ap (λ b. c.args.offset / 2 ^ b / (2 ^ b / 8)) c.cluster_bits-bits.ensures.value in
-    inr (lacks_past view below out p old old sound c.args.offset (subst (λ i. entry_count old.l1_table ≤ i) idx (not_within c.in_bounds.result c.l1_index-index.result (entry_count old.l1_table) c.in_bounds.ensures c.if-not-in_bounds.true)))
-
-pub returns-in_default-clause-lacks : goal.returns-in_default-clause-lacks
-returns-in_default-clause-lacks g c = λ p out sound.
-    let view = g.S.Storage.view in
-    let below = g.F.BackingDisk.backing in
-    let old = c.args.self.now in
-    let idx : c.l1_index-index.result ≡ l1_index_of old.file.header.fields c.args.offset =
-    c.l1_index-index.ensures ∙ ap (λ n. n / 2 ^ c.cluster_bits-bits.result / (2 ^ c.cluster_bits-bits.result / 8)) c.new.ensures ∙ ap (λ b. c.args.offset / 2 ^ b / (2 ^ b / 8)) c.cluster_bits-bits.ensures.value in
-    let none = ap host_offset (sym (sound.l1_table.entries c.l1_index-index.result)) ∙ c.in_default.ensures.none in
-    owns_or_lacks view below out p old c.enter_l2.new.self sound c.args.offset (subst (MayName view old) idx (may_none view below out p old sound c.l1_index-index.result none)) c.enter_l2.result
-    (returns-in_default-clause-owns g c p out sound) c.enter_l2.ensures.l1_table
-
-pub returns-clause-lacks : goal.returns-clause-lacks
-returns-clause-lacks g c = λ p out sound.
-    let view = g.S.Storage.view in
-    let below = g.F.BackingDisk.backing in
-    let old = c.args.self.now in
-    let idx : c.l1_index-index.result ≡ l1_index_of old.file.header.fields c.args.offset =
-    c.l1_index-index.ensures ∙ ap (λ n. n / 2 ^ c.cluster_bits-bits.result / (2 ^ c.cluster_bits-bits.result / 8)) c.new.ensures ∙ ap (λ b. c.args.offset / 2 ^ b / (2 ^ b / 8)) c.cluster_bits-bits.ensures.value in
-    let may : MayName view old c.l1_index-index.result = λ own. absurd (let is = sym own.1 ∙ ap is_copied (sym (sound.l1_table.entries c.l1_index-index.result)) ∙ sym c.in-Some.ensures.copied ∙ c.if-entry.false in cc) in
-    owns_or_lacks view below out p old c.replace_l2.new.self sound c.args.offset (subst (MayName view old) idx may) c.replace_l2.result (returns-clause-owns g c p out sound) c.replace_l2.ensures.l1_table
 
 pub returns-in_default-clause-quiet : goal.returns-in_default-clause-quiet
 returns-in_default-clause-quiet g c = λ own.
@@ -101,36 +27,6 @@ returns-clause-quiet g c = λ own.
     let idx : c.l1_index-index.result ≡ l1_index_of old.file.header.fields c.args.offset =
     c.l1_index-index.ensures ∙ ap (λ n. n / 2 ^ c.cluster_bits-bits.result / (2 ^ c.cluster_bits-bits.result / 8)) c.new.ensures ∙ ap (λ b. c.args.offset / 2 ^ b / (2 ^ b / 8)) c.cluster_bits-bits.ensures.value in
     absurd (let is = sym own.1 ∙ ap (λ i. is_copied (entry_at old.l1_table.bytes i)) (sym idx) ∙ sym c.in-Some.ensures.copied ∙ c.if-entry.false in cc)
-
-pub returns-then-not-in_bounds-clause-notes : goal.returns-then-not-in_bounds-clause-notes
-returns-then-not-in_bounds-clause-notes g c = notes_none
-
-pub returns-in_err-table-clause-notes : goal.returns-in_err-table-clause-notes
-returns-in_err-table-clause-notes g c = notes_none
-
-pub returns-then-entry-clause-notes : goal.returns-then-entry-clause-notes
-returns-then-entry-clause-notes g c = notes_none
-
-pub returns-in_default-clause-notes : goal.returns-in_default-clause-notes
-returns-in_default-clause-notes g c = c.enter_l2.ensures.notes
-
-pub returns-clause-notes : goal.returns-clause-notes
-returns-clause-notes g c = c.replace_l2.ensures.notes
-
-pub returns-then-not-in_bounds-clause-header_cluster : goal.returns-then-not-in_bounds-clause-header_cluster
-returns-then-not-in_bounds-clause-header_cluster g c = behind_none
-
-pub returns-in_err-table-clause-header_cluster : goal.returns-in_err-table-clause-header_cluster
-returns-in_err-table-clause-header_cluster g c = behind_none
-
-pub returns-then-entry-clause-header_cluster : goal.returns-then-entry-clause-header_cluster
-returns-then-entry-clause-header_cluster g c = behind_none
-
-pub returns-in_default-clause-header_cluster : goal.returns-in_default-clause-header_cluster
-returns-in_default-clause-header_cluster g c = c.enter_l2.ensures.header_cluster
-
-pub returns-clause-header_cluster : goal.returns-clause-header_cluster
-returns-clause-header_cluster g c = c.replace_l2.ensures.header_cluster (behind_first c.cluster_bits-bits.result c.in-Some-checked_cluster.cluster c.in-Some.entry.offset c.in-Some-checked_cluster.ensures.cluster c.in-Some.ensures.some)
 
 pub returns-then-entry-clause-elsewhere : goal.returns-then-entry-clause-elsewhere
 returns-then-entry-clause-elsewhere g c = behind_first c.cluster_bits-bits.result c.in-Some-checked_cluster.cluster c.in-Some.entry.offset c.in-Some-checked_cluster.ensures.cluster c.in-Some.ensures.some
@@ -172,87 +68,154 @@ returns-clause-own g c = λ own.
     c.l1_index-index.ensures ∙ ap (λ n. n / 2 ^ c.cluster_bits-bits.result / (2 ^ c.cluster_bits-bits.result / 8)) c.new.ensures ∙ ap (λ b. c.args.offset / 2 ^ b / (2 ^ b / 8)) c.cluster_bits-bits.ensures.value in
     absurd (let is = sym own.1 ∙ ap (λ i. is_copied (entry_at old.l1_table.bytes i)) (sym idx) ∙ sym c.in-Some.ensures.copied ∙ c.if-entry.false in cc)
 
-pub returns-then-not-in_bounds-clause-limited : goal.returns-then-not-in_bounds-clause-limited
-returns-then-not-in_bounds-clause-limited g c = λ p out sound own.
+pub returns-then-not-in_bounds-clause-step : goal.returns-then-not-in_bounds-clause-step
+returns-then-not-in_bounds-clause-step g c = step_none
+
+pub returns-in_err-table-clause-step : goal.returns-in_err-table-clause-step
+returns-in_err-table-clause-step g c = step_none
+
+pub returns-then-entry-clause-step : goal.returns-then-entry-clause-step
+returns-then-entry-clause-step g c = step_none
+
+pub returns-in_default-clause-step : goal.returns-in_default-clause-step
+returns-in_default-clause-step g c = c.enter_l2.ensures.step
+
+pub returns-clause-step : goal.returns-clause-step
+returns-clause-step g c = record {
+  stays = search rules;
+  notes = c.replace_l2.ensures.step.notes;
+  header_cluster = c.replace_l2.ensures.step.header_cluster (behind_first c.cluster_bits-bits.result c.in-Some-checked_cluster.cluster c.in-Some.entry.offset c.in-Some-checked_cluster.ensures.cluster c.in-Some.ensures.some);
+}
+
+pub returns-then-not-in_bounds-clause-sound : goal.returns-then-not-in_bounds-clause-sound
+returns-then-not-in_bounds-clause-sound g c = λ p out sound.
     let view = g.S.Storage.view in
     let old = c.args.self.now in
-    let idx : c.l1_index-index.result ≡ l1_index_of old.file.header.fields c.args.offset =
-    c.l1_index-index.ensures ∙ ap (λ n. n / 2 ^ c.cluster_bits-bits.result / (2 ^ c.cluster_bits-bits.result / 8)) c.new.ensures ∙ ap (λ b. c.args.offset / 2 ^ b / (2 ^ b / 8)) c.cluster_bits-bits.ensures.value in
-    let past : entry_count old.l1_table ≤ l1_index_of old.file.header.fields c.args.offset = subst (λ i. entry_count old.l1_table ≤ i) idx (not_within c.in_bounds.result c.l1_index-index.result (entry_count old.l1_table) c.in_bounds.ensures c.if-not-in_bounds.true) in
-    absurd (lacks_past view g.F.BackingDisk.backing out p old old sound c.args.offset past (subst NamesOwn (sound.l1_table.entries (l1_index_of old.file.header.fields c.args.offset)) own))
+    record {
+      met = search rules;
+      does = left_alone g.S.Storage.view g.F.BackingDisk.backing out p c.args.self.now sound c.l1_index-index.result _;
+      limited = λ own. let idx : c.l1_index-index.result ≡ l1_index_of old.file.header.fields c.args.offset =
+          c.l1_index-index.ensures ∙ ap (λ n. n / 2 ^ c.cluster_bits-bits.result / (2 ^ c.cluster_bits-bits.result / 8)) c.new.ensures ∙ ap (λ b. c.args.offset / 2 ^ b / (2 ^ b / 8)) c.cluster_bits-bits.ensures.value in
+          let past : entry_count old.l1_table ≤ l1_index_of old.file.header.fields c.args.offset = subst (λ i. entry_count old.l1_table ≤ i) idx (not_within c.in_bounds.result c.l1_index-index.result (entry_count old.l1_table) c.in_bounds.ensures c.if-not-in_bounds.true) in
+          absurd (lacks_past view g.F.BackingDisk.backing out p old old sound c.args.offset past (subst NamesOwn (sound.l1_table.entries (l1_index_of old.file.header.fields c.args.offset)) own));
+      limit = λ near. let idx : c.l1_index-index.result ≡ l1_index_of old.file.header.fields c.args.offset =
+          c.l1_index-index.ensures ∙ ap (λ n. n / 2 ^ c.cluster_bits-bits.result / (2 ^ c.cluster_bits-bits.result / 8)) c.new.ensures ∙ ap (λ b. c.args.offset / 2 ^ b / (2 ^ b / 8)) c.cluster_bits-bits.ensures.value in
+          let past : entry_count old.l1_table ≤ l1_index_of old.file.header.fields c.args.offset = subst (λ i. entry_count old.l1_table ≤ i) idx (not_within c.in_bounds.result c.l1_index-index.result (entry_count old.l1_table) c.in_bounds.ensures c.if-not-in_bounds.true) in
+          absurd (let within = near.within in omega (arith, past, within));
+      lacks = let idx : c.l1_index-index.result ≡ l1_index_of old.file.header.fields c.args.offset =
+          c.l1_index-index.ensures ∙ ap (λ n. n / 2 ^ c.cluster_bits-bits.result / (2 ^ c.cluster_bits-bits.result / 8)) c.new.ensures ∙ ap (λ b. c.args.offset / 2 ^ b / (2 ^ b / 8)) c.cluster_bits-bits.ensures.value in
+          inr (lacks_past view g.F.BackingDisk.backing out p old old sound c.args.offset (subst (λ i. entry_count old.l1_table ≤ i) idx (not_within c.in_bounds.result c.l1_index-index.result (entry_count old.l1_table) c.in_bounds.ensures c.if-not-in_bounds.true)));
+    }
 
-pub returns-then-not-in_bounds-clause-limit : goal.returns-then-not-in_bounds-clause-limit
-returns-then-not-in_bounds-clause-limit g c = λ p out sound near.
+pub returns-in_err-table-clause-sound : goal.returns-in_err-table-clause-sound
+returns-in_err-table-clause-sound g c = λ p out sound.
+    record {
+      met = search rules;
+      limited = search rules;
+      limit = search rules;
+      lacks = search rules;
+      does = refused (OwnsTable g.S.Storage.view g.F.BackingDisk.backing p c.args.self.now c.args.self.now out (l1_index_of c.args.self.now.file.header.fields c.args.offset)) c.from_residual.result c.from_residual.ensures.0
+          (left_alone g.S.Storage.view g.F.BackingDisk.backing out p c.args.self.now sound c.l1_index-index.result);
+    }
+
+pub returns-in_default-clause-sound : goal.returns-in_default-clause-sound
+returns-in_default-clause-sound g c = λ p out sound.
     let old = c.args.self.now in
-    let idx : c.l1_index-index.result ≡ l1_index_of old.file.header.fields c.args.offset =
-    c.l1_index-index.ensures ∙ ap (λ n. n / 2 ^ c.cluster_bits-bits.result / (2 ^ c.cluster_bits-bits.result / 8)) c.new.ensures ∙ ap (λ b. c.args.offset / 2 ^ b / (2 ^ b / 8)) c.cluster_bits-bits.ensures.value in
-    let past : entry_count old.l1_table ≤ l1_index_of old.file.header.fields c.args.offset = subst (λ i. entry_count old.l1_table ≤ i) idx (not_within c.in_bounds.result c.l1_index-index.result (entry_count old.l1_table) c.in_bounds.ensures c.if-not-in_bounds.true) in
-    absurd (let within = near.within in omega (arith, past, within))
-
-pub returns-in_default-clause-limited : goal.returns-in_default-clause-limited
-returns-in_default-clause-limited g c = λ p out sound own.
-    let old = c.args.self.now in
-    let idx : c.l1_index-index.result ≡ l1_index_of old.file.header.fields c.args.offset =
-    c.l1_index-index.ensures ∙ ap (λ n. n / 2 ^ c.cluster_bits-bits.result / (2 ^ c.cluster_bits-bits.result / 8)) c.new.ensures ∙ ap (λ b. c.args.offset / 2 ^ b / (2 ^ b / 8)) c.cluster_bits-bits.ensures.value in
-    absurd (own.0 (ap (λ i. host_offset (entry_at old.l1_table.bytes i)) (sym idx) ∙ c.in_default.ensures.none))
-
-pub returns-clause-limited : goal.returns-clause-limited
-returns-clause-limited g c = λ p out sound own.
-    let old = c.args.self.now in
-    let idx : c.l1_index-index.result ≡ l1_index_of old.file.header.fields c.args.offset =
-    c.l1_index-index.ensures ∙ ap (λ n. n / 2 ^ c.cluster_bits-bits.result / (2 ^ c.cluster_bits-bits.result / 8)) c.new.ensures ∙ ap (λ b. c.args.offset / 2 ^ b / (2 ^ b / 8)) c.cluster_bits-bits.ensures.value in
-    absurd (let is = sym own.1 ∙ ap (λ i. is_copied (entry_at old.l1_table.bytes i)) (sym idx) ∙ sym c.in-Some.ensures.copied ∙ c.if-entry.false in cc)
-
-pub returns-in_default-clause-limit : goal.returns-in_default-clause-limit
-returns-in_default-clause-limit g c = λ p out sound near.
     let view = g.S.Storage.view in
     let below = g.F.BackingDisk.backing in
-    let old = c.args.self.now in
+    let owns =
     let idx : c.l1_index-index.result ≡ l1_index_of old.file.header.fields c.args.offset =
     c.l1_index-index.ensures ∙ ap (λ n. n / 2 ^ c.cluster_bits-bits.result / (2 ^ c.cluster_bits-bits.result / 8)) c.new.ensures ∙ ap (λ b. c.args.offset / 2 ^ b / (2 ^ b / 8)) c.cluster_bits-bits.ensures.value in
     let none = ap host_offset (sym (sound.l1_table.entries c.l1_index-index.result)) ∙ c.in_default.ensures.none in
-    c.enter_l2.ensures.limit p out sound (may_none view below out p old sound c.l1_index-index.result none)
-    (says_none view below out p old sound c.l1_index-index.result none c.in_ok-table.table _ c.in_ok-table.ensures.table c.in_ok-table.ensures.zeros) (subst (HasNearEntry old) (sym idx) near)
+    subst (λ i. OwnsTable g.S.Storage.view g.F.BackingDisk.backing p old c.enter_l2.new.self out i c.enter_l2.result) idx
+    (entered_owns g.S.Storage.view g.F.BackingDisk.backing out p old sound c.l1_index-index.result none c.enter_l2.new.self c.enter_l2.result
+    (c.enter_l2.ensures.enters p out sound (may_none g.S.Storage.view g.F.BackingDisk.backing out p old sound c.l1_index-index.result none)
+    (says_none g.S.Storage.view g.F.BackingDisk.backing out p old sound c.l1_index-index.result none c.in_ok-table.table _ c.in_ok-table.ensures.table c.in_ok-table.ensures.zeros))) in
+    record {
+      does = owns;
+      met = λ cause. let idx : c.l1_index-index.result ≡ l1_index_of old.file.header.fields c.args.offset =
+          c.l1_index-index.ensures ∙ ap (λ n. n / 2 ^ c.cluster_bits-bits.result / (2 ^ c.cluster_bits-bits.result / 8)) c.new.ensures ∙ ap (λ b. c.args.offset / 2 ^ b / (2 ^ b / 8)) c.cluster_bits-bits.ensures.value in
+          let empty = ap host_offset (sym (sound.l1_table.entries c.l1_index-index.result)) ∙ c.in_default.ensures.none in
+          elim cause [
+            | inl own ↦ absurd (own.0 (ap (λ i. host_offset (entry_at old.l1_table.bytes i)) (sym idx) ∙ c.in_default.ensures.none))
+            | inr near ↦
+                c.enter_l2.ensures.met p out sound (may_none view below out p old sound c.l1_index-index.result empty)
+                (says_none view below out p old sound c.l1_index-index.result empty c.in_ok-table.table _ c.in_ok-table.ensures.table c.in_ok-table.ensures.zeros) (subst (HasNearEntry old) (sym idx) near)
+          ];
+      limited = λ own. let idx : c.l1_index-index.result ≡ l1_index_of old.file.header.fields c.args.offset =
+          c.l1_index-index.ensures ∙ ap (λ n. n / 2 ^ c.cluster_bits-bits.result / (2 ^ c.cluster_bits-bits.result / 8)) c.new.ensures ∙ ap (λ b. c.args.offset / 2 ^ b / (2 ^ b / 8)) c.cluster_bits-bits.ensures.value in
+          absurd (own.0 (ap (λ i. host_offset (entry_at old.l1_table.bytes i)) (sym idx) ∙ c.in_default.ensures.none));
+      limit = λ near. let idx : c.l1_index-index.result ≡ l1_index_of old.file.header.fields c.args.offset =
+          c.l1_index-index.ensures ∙ ap (λ n. n / 2 ^ c.cluster_bits-bits.result / (2 ^ c.cluster_bits-bits.result / 8)) c.new.ensures ∙ ap (λ b. c.args.offset / 2 ^ b / (2 ^ b / 8)) c.cluster_bits-bits.ensures.value in
+          let none = ap host_offset (sym (sound.l1_table.entries c.l1_index-index.result)) ∙ c.in_default.ensures.none in
+          c.enter_l2.ensures.limit p out sound (may_none view below out p old sound c.l1_index-index.result none)
+          (says_none view below out p old sound c.l1_index-index.result none c.in_ok-table.table _ c.in_ok-table.ensures.table c.in_ok-table.ensures.zeros) (subst (HasNearEntry old) (sym idx) near);
+      lacks = let idx : c.l1_index-index.result ≡ l1_index_of old.file.header.fields c.args.offset =
+          c.l1_index-index.ensures ∙ ap (λ n. n / 2 ^ c.cluster_bits-bits.result / (2 ^ c.cluster_bits-bits.result / 8)) c.new.ensures ∙ ap (λ b. c.args.offset / 2 ^ b / (2 ^ b / 8)) c.cluster_bits-bits.ensures.value in
+          let none = ap host_offset (sym (sound.l1_table.entries c.l1_index-index.result)) ∙ c.in_default.ensures.none in
+          owns_or_lacks view below out p old c.enter_l2.new.self sound c.args.offset (subst (MayName view old) idx (may_none view below out p old sound c.l1_index-index.result none)) c.enter_l2.result
+          owns c.enter_l2.ensures.l1_table;
+    }
 
-pub returns-clause-limit : goal.returns-clause-limit
-returns-clause-limit g c = λ p out sound near.
+pub returns-then-entry-clause-sound : goal.returns-then-entry-clause-sound
+returns-then-entry-clause-sound g c = λ p out sound.
     let old = c.args.self.now in
+    record {
+      met = search rules;
+      limited = search rules;
+      limit = search rules;
+      lacks = search rules;
+      does = let idx : c.l1_index-index.result ≡ l1_index_of old.file.header.fields c.args.offset =
+          c.l1_index-index.ensures ∙ ap (λ n. n / 2 ^ c.cluster_bits-bits.result / (2 ^ c.cluster_bits-bits.result / 8)) c.new.ensures ∙ ap (λ b. c.args.offset / 2 ^ b / (2 ^ b / 8)) c.cluster_bits-bits.ensures.value in
+          let offset = ap host_offset (sym (sound.l1_table.entries c.l1_index-index.result)) ∙ sym c.in-Some.ensures.offset in
+          subst (λ i. OwnsTable g.S.Storage.view g.F.BackingDisk.backing p old old out i (Ok c.in-Some-checked_cluster.cluster)) idx
+          (owns_already g.S.Storage.view g.F.BackingDisk.backing out p old sound c.l1_index-index.result c.in-Some-checked_cluster.cluster (record {
+            place = offset ∙ sym c.in-Some-checked_cluster.ensures.cluster ∙ ap (λ b. c.in-Some-checked_cluster.cluster * 2 ^ b) c.cluster_bits-bits.ensures.value;
+            own = ((λ none. absurd (let some = c.in-Some.ensures.some in omega (arith, some, none, offset))), ap is_copied (sym (sound.l1_table.entries c.l1_index-index.result)) ∙ sym c.in-Some.ensures.copied ∙ c.if-entry.true);
+          }));
+    }
+
+pub returns-clause-sound : goal.returns-clause-sound
+returns-clause-sound g c = λ p out sound.
+    let old = c.args.self.now in
+    let view = g.S.Storage.view in
+    let owns =
     let idx : c.l1_index-index.result ≡ l1_index_of old.file.header.fields c.args.offset =
     c.l1_index-index.ensures ∙ ap (λ n. n / 2 ^ c.cluster_bits-bits.result / (2 ^ c.cluster_bits-bits.result / 8)) c.new.ensures ∙ ap (λ b. c.args.offset / 2 ^ b / (2 ^ b / 8)) c.cluster_bits-bits.ensures.value in
     let offset = ap host_offset (sym (sound.l1_table.entries c.l1_index-index.result)) ∙ sym c.in-Some.ensures.offset in
-    c.replace_l2.ensures.limit p out sound (record {
+    subst (λ i. OwnsTable g.S.Storage.view g.F.BackingDisk.backing p old c.replace_l2.new.self out i c.replace_l2.result) idx
+    (c.replace_l2.ensures.owns p out sound (record {
       place = offset ∙ sym c.in-Some-checked_cluster.ensures.cluster ∙ ap (λ b. c.in-Some-checked_cluster.cluster * 2 ^ b) c.cluster_bits-bits.ensures.value;
       real = λ none. absurd (let some = c.in-Some.ensures.some in omega (arith, some, none, offset));
       may = λ own. absurd (let is = sym own.1 ∙ ap is_copied (sym (sound.l1_table.entries c.l1_index-index.result)) ∙ sym c.in-Some.ensures.copied ∙ c.if-entry.false in cc);
-    }) (subst (HasNearEntry old) (sym idx) near)
-
-pub returns-in_default-clause-met : goal.returns-in_default-clause-met
-returns-in_default-clause-met g c = λ p out sound cause.
-    let view = g.S.Storage.view in
-    let below = g.F.BackingDisk.backing in
-    let old = c.args.self.now in
-    let idx : c.l1_index-index.result ≡ l1_index_of old.file.header.fields c.args.offset =
-    c.l1_index-index.ensures ∙ ap (λ n. n / 2 ^ c.cluster_bits-bits.result / (2 ^ c.cluster_bits-bits.result / 8)) c.new.ensures ∙ ap (λ b. c.args.offset / 2 ^ b / (2 ^ b / 8)) c.cluster_bits-bits.ensures.value in
-    let empty = ap host_offset (sym (sound.l1_table.entries c.l1_index-index.result)) ∙ c.in_default.ensures.none in
-    elim cause [
-      | inl own ↦ absurd (own.0 (ap (λ i. host_offset (entry_at old.l1_table.bytes i)) (sym idx) ∙ c.in_default.ensures.none))
-      | inr near ↦
-          c.enter_l2.ensures.met p out sound (may_none view below out p old sound c.l1_index-index.result empty)
-          (says_none view below out p old sound c.l1_index-index.result empty c.in_ok-table.table _ c.in_ok-table.ensures.table c.in_ok-table.ensures.zeros) (subst (HasNearEntry old) (sym idx) near)
-    ]
-
-pub returns-clause-met : goal.returns-clause-met
-returns-clause-met g c = λ p out sound cause.
-    let old = c.args.self.now in
-    let idx : c.l1_index-index.result ≡ l1_index_of old.file.header.fields c.args.offset =
-    c.l1_index-index.ensures ∙ ap (λ n. n / 2 ^ c.cluster_bits-bits.result / (2 ^ c.cluster_bits-bits.result / 8)) c.new.ensures ∙ ap (λ b. c.args.offset / 2 ^ b / (2 ^ b / 8)) c.cluster_bits-bits.ensures.value in
-    let offset = ap host_offset (sym (sound.l1_table.entries c.l1_index-index.result)) ∙ sym c.in-Some.ensures.offset in
-    elim cause [
-      | inl own ↦ absurd (let is = sym own.1 ∙ ap (λ i. is_copied (entry_at old.l1_table.bytes i)) (sym idx) ∙ sym c.in-Some.ensures.copied ∙ c.if-entry.false in cc)
-      | inr near ↦
-          c.replace_l2.ensures.met p out sound (record {
+    })) in
+    record {
+      does = owns;
+      met = λ cause. let idx : c.l1_index-index.result ≡ l1_index_of old.file.header.fields c.args.offset =
+          c.l1_index-index.ensures ∙ ap (λ n. n / 2 ^ c.cluster_bits-bits.result / (2 ^ c.cluster_bits-bits.result / 8)) c.new.ensures ∙ ap (λ b. c.args.offset / 2 ^ b / (2 ^ b / 8)) c.cluster_bits-bits.ensures.value in
+          let offset = ap host_offset (sym (sound.l1_table.entries c.l1_index-index.result)) ∙ sym c.in-Some.ensures.offset in
+          elim cause [
+            | inl own ↦ absurd (let is = sym own.1 ∙ ap (λ i. is_copied (entry_at old.l1_table.bytes i)) (sym idx) ∙ sym c.in-Some.ensures.copied ∙ c.if-entry.false in cc)
+            | inr near ↦
+                c.replace_l2.ensures.met p out sound (record {
+                  place = offset ∙ sym c.in-Some-checked_cluster.ensures.cluster ∙ ap (λ b. c.in-Some-checked_cluster.cluster * 2 ^ b) c.cluster_bits-bits.ensures.value;
+                  real = λ zero. absurd (let some = c.in-Some.ensures.some in omega (arith, some, zero, offset));
+                  may = λ own. absurd (let is = sym own.1 ∙ ap is_copied (sym (sound.l1_table.entries c.l1_index-index.result)) ∙ sym c.in-Some.ensures.copied ∙ c.if-entry.false in cc);
+                }) (subst (HasNearEntry old) (sym idx) near)
+          ];
+      limited = λ own. let idx : c.l1_index-index.result ≡ l1_index_of old.file.header.fields c.args.offset =
+          c.l1_index-index.ensures ∙ ap (λ n. n / 2 ^ c.cluster_bits-bits.result / (2 ^ c.cluster_bits-bits.result / 8)) c.new.ensures ∙ ap (λ b. c.args.offset / 2 ^ b / (2 ^ b / 8)) c.cluster_bits-bits.ensures.value in
+          absurd (let is = sym own.1 ∙ ap (λ i. is_copied (entry_at old.l1_table.bytes i)) (sym idx) ∙ sym c.in-Some.ensures.copied ∙ c.if-entry.false in cc);
+      limit = λ near. let idx : c.l1_index-index.result ≡ l1_index_of old.file.header.fields c.args.offset =
+          c.l1_index-index.ensures ∙ ap (λ n. n / 2 ^ c.cluster_bits-bits.result / (2 ^ c.cluster_bits-bits.result / 8)) c.new.ensures ∙ ap (λ b. c.args.offset / 2 ^ b / (2 ^ b / 8)) c.cluster_bits-bits.ensures.value in
+          let offset = ap host_offset (sym (sound.l1_table.entries c.l1_index-index.result)) ∙ sym c.in-Some.ensures.offset in
+          c.replace_l2.ensures.limit p out sound (record {
             place = offset ∙ sym c.in-Some-checked_cluster.ensures.cluster ∙ ap (λ b. c.in-Some-checked_cluster.cluster * 2 ^ b) c.cluster_bits-bits.ensures.value;
-            real = λ zero. absurd (let some = c.in-Some.ensures.some in omega (arith, some, zero, offset));
+            real = λ none. absurd (let some = c.in-Some.ensures.some in omega (arith, some, none, offset));
             may = λ own. absurd (let is = sym own.1 ∙ ap is_copied (sym (sound.l1_table.entries c.l1_index-index.result)) ∙ sym c.in-Some.ensures.copied ∙ c.if-entry.false in cc);
-          }) (subst (HasNearEntry old) (sym idx) near)
-    ]
+          }) (subst (HasNearEntry old) (sym idx) near);
+      lacks = let idx : c.l1_index-index.result ≡ l1_index_of old.file.header.fields c.args.offset =
+          c.l1_index-index.ensures ∙ ap (λ n. n / 2 ^ c.cluster_bits-bits.result / (2 ^ c.cluster_bits-bits.result / 8)) c.new.ensures ∙ ap (λ b. c.args.offset / 2 ^ b / (2 ^ b / 8)) c.cluster_bits-bits.ensures.value in
+          let may : MayName view old c.l1_index-index.result = λ own. absurd (let is = sym own.1 ∙ ap is_copied (sym (sound.l1_table.entries c.l1_index-index.result)) ∙ sym c.in-Some.ensures.copied ∙ c.if-entry.false in cc) in
+          owns_or_lacks view g.F.BackingDisk.backing out p old c.replace_l2.new.self sound c.args.offset (subst (MayName view old) idx may) c.replace_l2.result owns c.replace_l2.ensures.l1_table;
+    }

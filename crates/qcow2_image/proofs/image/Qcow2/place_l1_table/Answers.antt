@@ -7,8 +7,7 @@ use Rattle.qcow2_image.proofs.Call.Called.{keeps_then}
 use Rattle.qcow2_image.proofs.Map.Loading.{caches_moved, with_caches}
 use Rattle.qcow2_image.proofs.Prepare.Entering.{keeps_none}
 use Rattle.qcow2_image.proofs.Grow.LongerTables.{table_write_as, keeps_placed, stands_whole}
-use Rattle.qcow2_alloc.proofs.KeptMarks.{notes_none, notes_then, notes_of_both, notes_of_storage}
-use Rattle.qcow2_alloc.proofs.KeptMarks.{placed_kept}
+use Rattle.qcow2_alloc.proofs.KeptMarks.{notes_none, notes_then, notes_of_both, notes_of_storage, placed_kept}
 use Rattle.qcow2_metadata.specs.EntryTable.{EntryTableView}
 use Rattle.qcow2_image.proofs.Call.BehindHeader.{behind_caches, behind_none, begins_behind, behind_placed, behind_then, l1_placed}
 use Rattle.qcow2_image.proofs.Prepare.Lacked.{hands_fault}
@@ -104,9 +103,8 @@ returns-then-not-is_nameable-clause-fault g c = λ p out sound near. absurd (not
 
 pub returns-in_err-flush_rb-clause-fault : goal.returns-in_err-flush_rb-clause-fault
 returns-in_err-flush_rb-clause-fault g c = λ p out sound near.
-    let old = c.args.self.now in
     hands_fault c.from_residual.result c.in_err-flush_rb.field-0.0 c.from_residual.ensures
-    (c.in_err-flush_rb.ensures.faults old.file.header.fields (with_table p c.args.table.now c.args.cluster) sound.file.honest sound.file.caches sound.file.named_blocks)
+    (c.in_err-flush_rb.ensures.faults c.args.self.now.file.header.fields (with_table p c.args.table.now c.args.cluster) sound.file.honest sound.file.caches sound.file.named_blocks)
 
 pub returns-in_err-write_l1_table-clause-fault : goal.returns-in_err-write_l1_table-clause-fault
 returns-in_err-write_l1_table-clause-fault g c = λ p out sound near.

@@ -1,5 +1,5 @@
 use Rattle.qcow2_image.proofs.image.Qcow2.place_l2.Goals as goal
-use Rattle.std.proofs.Common.{inl, arith, ◌≡◌, ◌^◌, false, length, refl, ap, ◌∙◌, subst, sym, IsSome, ◌<◌, ◌*◌}
+use Rattle.std.proofs.Common.{inl, arith, ◌≡◌, ◌^◌, false, length, refl, ap, ◌∙◌, subst, sym, IsSome, ◌<◌, ◌*◌, rules}
 use Rattle.std.specs.Prelude.{Some, IfSome, OnOk}
 use Rattle.qcow2_metadata.specs.L2Table.{L2TableView}
 use Rattle.qcow2_alloc.specs.ImageError.{of_storage}
@@ -62,34 +62,6 @@ returns-clause-places g c = λ p out sound some format stored.
     (λ x found. stands_ready view below mid out p wrote.sound still at some c.args.table.bytes long there c.l2_insert.new.storage c.l2_insert.new.self stays c.l2_insert.ensures.marks.room c.l2_insert.ensures.marks.pins c.l2_insert.ensures.blocks
     (λ may. c.l2_insert.ensures.first may unmodified) (record c.args.table { cluster = Some at; is_modified = false }) found refl) new_data)
 
-pub returns-then-not-is_nameable-clause-notes : goal.returns-then-not-is_nameable-clause-notes
-returns-then-not-is_nameable-clause-notes g c = notes_none
-
-pub returns-in_err-write_new_l2_table-clause-notes : goal.returns-in_err-write_new_l2_table-clause-notes
-returns-in_err-write_new_l2_table-clause-notes g c = notes_of_storage (placed_kept c.args.self.now.file.storage c.will_write.new.self c.write_new_l2_table.new.self c.write_new_l2_table.result c.will_write.ensures.storage c.will_write.ensures.changed c.set_cluster.new.self.cluster _ (subst (λ (x : L2TableView). IsSome x.cluster) (sym c.set_cluster.ensures) refl) c.write_new_l2_table.ensures.written c.write_new_l2_table.ensures.calls c.write_new_l2_table.ensures.noted)
-
-pub returns-clause-notes : goal.returns-clause-notes
-returns-clause-notes g c = notes_then (notes_of_storage (placed_kept c.args.self.now.file.storage c.will_write.new.self c.write_new_l2_table.new.self c.write_new_l2_table.result c.will_write.ensures.storage c.will_write.ensures.changed c.set_cluster.new.self.cluster _ (subst (λ (x : L2TableView). IsSome x.cluster) (sym c.set_cluster.ensures) refl) c.write_new_l2_table.ensures.written c.write_new_l2_table.ensures.calls c.write_new_l2_table.ensures.noted)) (notes_of_both c.l2_insert.ensures.marks c.l2_insert.ensures.notes)
-
-pub returns-then-not-is_nameable-clause-header_cluster : goal.returns-then-not-is_nameable-clause-header_cluster
-returns-then-not-is_nameable-clause-header_cluster g c = λ some. behind_none
-
-pub returns-in_err-write_new_l2_table-clause-header_cluster : goal.returns-in_err-write_new_l2_table-clause-header_cluster
-returns-in_err-write_new_l2_table-clause-header_cluster g c = λ some.
-    let as_wide : c.args.table.cluster_bits ≡ c.args.self.now.file.header.fields.cluster_bits = omega arith in
-    (behind_placed c.write_new_l2_table.result c.set_cluster.new.self.cluster (λ k. k * 2 ^ c.set_cluster.new.self.cluster_bits) c.set_cluster.new.self.bytes (ap g.S.Storage.view c.will_write.ensures.storage) (subst (λ (x : L2TableView). IsSome x.cluster) (sym c.set_cluster.ensures) refl)
-    (λ bits lies. table_behind c.args.table c.set_cluster.new.self c.args.cluster c.set_cluster.ensures bits (as_wide ∙ lies.header) some) c.write_new_l2_table.ensures.written c.write_new_l2_table.ensures.calls)
-
-pub returns-clause-header_cluster : goal.returns-clause-header_cluster
-returns-clause-header_cluster g c = λ some.
-    let as_wide : c.args.table.cluster_bits ≡ c.args.self.now.file.header.fields.cluster_bits = omega arith in
-    let is : c.clear_modified.new.self ≡ record c.args.table { cluster = Some c.args.cluster; is_modified = false } = c.clear_modified.ensures ∙ ap (λ (t : L2TableView). record t { is_modified = false }) c.set_cluster.ensures in
-    let spares = subst (λ (t : L2TableView). IfSome t.cluster (λ cluster. 0 < cluster → CachesSpareHeader g.S.Storage.view c.write_new_l2_table.new.self c.args.self.now.file.caches c.l2_insert.new.storage c.l2_insert.new.self)) is c.l2_insert.ensures.header_cluster in
-    behind_then
-    (behind_placed c.write_new_l2_table.result c.set_cluster.new.self.cluster (λ k. k * 2 ^ c.set_cluster.new.self.cluster_bits) c.set_cluster.new.self.bytes (ap g.S.Storage.view c.will_write.ensures.storage) (subst (λ (x : L2TableView). IsSome x.cluster) (sym c.set_cluster.ensures) refl)
-    (λ bits lies. table_behind c.args.table c.set_cluster.new.self c.args.cluster c.set_cluster.ensures bits (as_wide ∙ lies.header) some) c.write_new_l2_table.ensures.written c.write_new_l2_table.ensures.calls)
-    (behind_caches (spares some))
-
 pub returns-then-not-is_nameable-clause-limited : goal.returns-then-not-is_nameable-clause-limited
 returns-then-not-is_nameable-clause-limited g c = λ p out sound some format stored near. not_both c.is_nameable.result (c.is_nameable.ensures.1 (subst (λ n. IsHostCluster n c.args.cluster) (sym c.cluster_bits.ensures.value) near)) c.if-not-is_nameable.true
 
@@ -113,3 +85,30 @@ returns-then-not-is_nameable-clause-met g c = λ p out sound some format stored 
 
 pub returns-in_err-write_new_l2_table-clause-met : goal.returns-in_err-write_new_l2_table-clause-met
 returns-in_err-write_new_l2_table-clause-met g c = λ p out sound some format stored near. hands_met (IsMetLooking (HasPrepared out)) c.from_residual.result (of_storage c.in_err-write_new_l2_table.field-0.0) c.from_residual.ensures (inl (storage_fault c.in_err-write_new_l2_table.field-0.0))
+
+pub returns-then-not-is_nameable-clause-step : goal.returns-then-not-is_nameable-clause-step
+returns-then-not-is_nameable-clause-step g c = record { stays = search rules; notes = notes_none; header_cluster = λ some. behind_none }
+
+pub returns-in_err-write_new_l2_table-clause-step : goal.returns-in_err-write_new_l2_table-clause-step
+returns-in_err-write_new_l2_table-clause-step g c = record {
+  stays = search rules;
+  notes = notes_of_storage (placed_kept c.args.self.now.file.storage c.will_write.new.self c.write_new_l2_table.new.self c.write_new_l2_table.result c.will_write.ensures.storage c.will_write.ensures.changed c.set_cluster.new.self.cluster _ (subst (λ (x : L2TableView). IsSome x.cluster) (sym c.set_cluster.ensures) refl) c.write_new_l2_table.ensures.written c.write_new_l2_table.ensures.calls c.write_new_l2_table.ensures.noted);
+  header_cluster = λ some.
+      let as_wide : c.args.table.cluster_bits ≡ c.args.self.now.file.header.fields.cluster_bits = omega arith in
+      (behind_placed c.write_new_l2_table.result c.set_cluster.new.self.cluster (λ k. k * 2 ^ c.set_cluster.new.self.cluster_bits) c.set_cluster.new.self.bytes (ap g.S.Storage.view c.will_write.ensures.storage) (subst (λ (x : L2TableView). IsSome x.cluster) (sym c.set_cluster.ensures) refl)
+      (λ bits lies. table_behind c.args.table c.set_cluster.new.self c.args.cluster c.set_cluster.ensures bits (as_wide ∙ lies.header) some) c.write_new_l2_table.ensures.written c.write_new_l2_table.ensures.calls);
+}
+
+pub returns-clause-step : goal.returns-clause-step
+returns-clause-step g c = record {
+  stays = search rules;
+  notes = notes_then (notes_of_storage (placed_kept c.args.self.now.file.storage c.will_write.new.self c.write_new_l2_table.new.self c.write_new_l2_table.result c.will_write.ensures.storage c.will_write.ensures.changed c.set_cluster.new.self.cluster _ (subst (λ (x : L2TableView). IsSome x.cluster) (sym c.set_cluster.ensures) refl) c.write_new_l2_table.ensures.written c.write_new_l2_table.ensures.calls c.write_new_l2_table.ensures.noted)) (notes_of_both c.l2_insert.ensures.marks c.l2_insert.ensures.notes);
+  header_cluster = λ some.
+      let as_wide : c.args.table.cluster_bits ≡ c.args.self.now.file.header.fields.cluster_bits = omega arith in
+      let is : c.clear_modified.new.self ≡ record c.args.table { cluster = Some c.args.cluster; is_modified = false } = c.clear_modified.ensures ∙ ap (λ (t : L2TableView). record t { is_modified = false }) c.set_cluster.ensures in
+      let spares = subst (λ (t : L2TableView). IfSome t.cluster (λ cluster. 0 < cluster → CachesSpareHeader g.S.Storage.view c.write_new_l2_table.new.self c.args.self.now.file.caches c.l2_insert.new.storage c.l2_insert.new.self)) is c.l2_insert.ensures.header_cluster in
+      behind_then
+      (behind_placed c.write_new_l2_table.result c.set_cluster.new.self.cluster (λ k. k * 2 ^ c.set_cluster.new.self.cluster_bits) c.set_cluster.new.self.bytes (ap g.S.Storage.view c.will_write.ensures.storage) (subst (λ (x : L2TableView). IsSome x.cluster) (sym c.set_cluster.ensures) refl)
+      (λ bits lies. table_behind c.args.table c.set_cluster.new.self c.args.cluster c.set_cluster.ensures bits (as_wide ∙ lies.header) some) c.write_new_l2_table.ensures.written c.write_new_l2_table.ensures.calls)
+      (behind_caches (spares some));
+}

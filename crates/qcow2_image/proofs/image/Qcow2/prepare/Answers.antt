@@ -1,11 +1,10 @@
+use Rattle.qcow2_image.proofs.Call.ImageSteps.{step_then}
 use Rattle.qcow2_image.proofs.image.Qcow2.prepare.Goals as goal
-use Rattle.std.proofs.Common.{⊎_elim, inl, refl, sym, subst}
+use Rattle.std.proofs.Common.{⊎_elim, inl, refl, sym, subst, rules}
 use Rattle.std.specs.Prelude.{IsTrue}
 use Rattle.qcow2_alloc.specs.ImageError.{IsFault}
 use Rattle.qcow2_image.proofs.Call.Refused.{back_then_freed}
 use Rattle.qcow2_image.proofs.Call.FaultCounts.{counted_as, counted_of, untouched}
-use Rattle.qcow2_alloc.proofs.KeptMarks.{notes_then}
-use Rattle.qcow2_image.proofs.Call.BehindHeader.{behind_then}
 use Rattle.qcow2_image.proofs.Prepare.Lacked.{emptied_by_limit, limited_frees}
 use Rattle.qcow2_image.proofs.Prepare.LackedBehind.{range_freed}
 use Rattle.qcow2_image.specs.Image.{HasNothingToFree}
@@ -16,72 +15,67 @@ use Rattle.qcow2_image.proofs.Prepare.MetTables.{met_freed}
 use Rattle.qcow2_image.specs.Backings.{HasPrepared}
 use Rattle.qcow2_image.specs.Preparing.{IsTaken}
 
-pub returns-in-Ok-clause-readies : goal.returns-in-Ok-clause-readies
-returns-in-Ok-clause-readies g c = λ some out sound. c.in-Ok.ensures.readies some out sound
-
-pub returns-in-Err-clause-readies : goal.returns-in-Err-clause-readies
-returns-in-Err-clause-readies g c = λ some out sound.
-    back_then_freed g.S.Storage.view g.F.BackingDisk.backing out c.args.self.now c.prepare_range.new.self c.free_after.new.self c.in-Err.refusal c.free_after.result (c.in-Err.ensures.readies some out sound) c.free_after.ensures.fault (c.free_after.ensures.frees out)
-
 pub returns-in-Err-clause-listed : goal.returns-in-Err-clause-listed
 returns-in-Err-clause-listed g c = λ some out sound. ⊎_elim
-    (λ unseen. c.free_after.ensures.emptied (subst IsTrue (sym c.prepare_range.ensures.stays.image.writable) c.requires.writable) out unseen.sound)
+    (λ unseen. c.free_after.ensures.emptied (subst IsTrue (sym c.prepare_range.ensures.step.stays.image.writable) c.requires.writable) out unseen.sound)
     (λ interruption. inl (subst IsFault (sym (c.free_after.ensures.fault interruption.fault).0) interruption.fault))
-    (c.in-Err.ensures.readies some out sound)
-
-pub returns-in-Err-clause-taken : goal.returns-in-Err-clause-taken
-returns-in-Err-clause-taken g c = λ some out sound is. c.in-Err.ensures.taken some out sound (c.free_after.ensures.taken c.in-Err.ensures.cause is)
-
-pub returns-in-Err-clause-faults : goal.returns-in-Err-clause-faults
-returns-in-Err-clause-faults g c =
-    let view = g.S.Storage.view in
-    let below = g.F.BackingDisk.backing in
-    let old = c.args.self.now in
-    counted_of view below old c.free_after.new.self c.free_after.result
-    (c.free_after.ensures.faults old (counted_as view below old old c.prepare_range.new.self c.prepare_range.result c.in-Err.refusal (untouched view below old old refl refl) c.prepare_range.ensures.faults c.in-Err.is))
+    ((c.in-Err.ensures.sound some out sound).readies)
 
 pub returns-in-Ok-clause-listed : goal.returns-in-Ok-clause-listed
 returns-in-Ok-clause-listed g c = λ some out sound. c.in-Ok.ensures.tables out sound
-
-pub returns-in-Ok-clause-notes : goal.returns-in-Ok-clause-notes
-returns-in-Ok-clause-notes g c = c.in-Ok.ensures.notes
-
-pub returns-in-Err-clause-notes : goal.returns-in-Err-clause-notes
-returns-in-Err-clause-notes g c = notes_then c.in-Err.ensures.notes c.free_after.ensures.notes
-
-pub returns-in-Ok-clause-header_cluster : goal.returns-in-Ok-clause-header_cluster
-returns-in-Ok-clause-header_cluster g c = c.prepare_range.ensures.header_cluster
-
-pub returns-in-Err-clause-header_cluster : goal.returns-in-Err-clause-header_cluster
-returns-in-Err-clause-header_cluster g c = behind_then c.prepare_range.ensures.header_cluster c.free_after.ensures.header_cluster
 
 pub returns-in-Ok-clause-pinned : goal.returns-in-Ok-clause-pinned
 returns-in-Ok-clause-pinned g c = c.in-Ok.ensures.pinned
 
 pub returns-in-Err-clause-pinned : goal.returns-in-Err-clause-pinned
-returns-in-Err-clause-pinned g c = λ own is. c.in-Err.ensures.pinned own (c.free_after.ensures.taken c.in-Err.ensures.cause is)
-
-pub returns-in-Err-clause-limit : goal.returns-in-Err-clause-limit
-returns-in-Err-clause-limit g c = λ some out sound is.
-    let view = g.S.Storage.view in
-    let below = g.F.BackingDisk.backing in
-    let old = c.args.self.now in
-    let mid = c.prepare_range.new.self in
-    let new = c.free_after.new.self in
-    let freed = limited_frees view below out old mid new c.in-Err.refusal c.free_after.result (c.in-Err.ensures.readies some out sound) c.free_after.ensures.fault (c.free_after.ensures.limit out) is in
-    let empty : HasNothingToFree new = emptied_by_limit new c.free_after.result (returns-in-Err-clause-listed g c some out sound) is in
-    range_freed view c.args.offset c.args.length old mid new c.free_after.ensures.keeps_rest.header freed.1 empty (c.in-Err.ensures.limit some out sound freed.0)
+returns-in-Err-clause-pinned g c = λ own is. c.in-Err.ensures.pinned own (c.free_after.ensures.taken c.in-Err.ensures.fails.cause is)
 
 pub returns-in-Ok-clause-l1_place : goal.returns-in-Ok-clause-l1_place
 returns-in-Ok-clause-l1_place g c = c.in-Ok.ensures.l1_place
 
-pub returns-in-Err-clause-met : goal.returns-in-Err-clause-met
-returns-in-Err-clause-met g c = λ some out sound.
+pub returns-in-Err-clause-step : goal.returns-in-Err-clause-step
+returns-in-Err-clause-step g c = step_then c.prepare_range.ensures.step c.free_after.ensures.step
+
+pub returns-in-Err-clause-fails : goal.returns-in-Err-clause-fails
+returns-in-Err-clause-fails g c = record {
+  cause = search rules;
+  faults = let view = g.S.Storage.view in
+      let below = g.F.BackingDisk.backing in
+      let old = c.args.self.now in
+      counted_of view below old c.free_after.new.self c.free_after.result
+      (c.free_after.ensures.faults old (counted_as view below old old c.prepare_range.new.self c.prepare_range.result c.in-Err.refusal (untouched view below old old refl refl) c.prepare_range.ensures.fails.faults c.in-Err.is));
+}
+
+pub returns-in-Ok-clause-step : goal.returns-in-Ok-clause-step
+returns-in-Ok-clause-step g c = c.prepare_range.ensures.step
+
+pub returns-in-Ok-clause-sound : goal.returns-in-Ok-clause-sound
+returns-in-Ok-clause-sound g c = λ some out sound.
+    record {
+      met = tt;
+      taken = tt;
+      limit = tt;
+      readies = (c.in-Ok.ensures.sound some out sound).readies;
+      answers = (c.in-Ok.ensures.sound some out sound).answers;
+      freeing = (c.in-Ok.ensures.sound some out sound).freeing;
+    }
+
+pub returns-in-Err-clause-sound : goal.returns-in-Err-clause-sound
+returns-in-Err-clause-sound g c = λ some out sound.
     let old = c.args.self.now in
+    let view = g.S.Storage.view in
     let h = old.file.header.fields in
     let known = known_in g.S.Storage.view old.file in
-    met_freed g.S.Storage.view g.F.BackingDisk.backing out (IsMetTaking (HasPrepared out) (IsTaken h known c.args.offset c.args.length out) (CopiesCompressed c.args.offset c.args.length c.args.overwrite h known) (NeedsFarEntry old c.args.offset)) (λ e fault. inl (inl (inl fault))) old c.prepare_range.new.self c.free_after.new.self c.in-Err.refusal c.free_after.result
-    (c.in-Err.ensures.readies some out sound) c.free_after.ensures.fault (c.free_after.ensures.told out) (c.in-Err.ensures.met some out sound)
-
-pub returns-in-Ok-clause-freeing : goal.returns-in-Ok-clause-freeing
-returns-in-Ok-clause-freeing g c = λ some out sound. c.in-Ok.ensures.freeing some out sound
+    let mid = c.prepare_range.new.self in
+    let new = c.free_after.new.self in
+    record {
+      answers = tt;
+      freeing = tt;
+      readies = back_then_freed g.S.Storage.view g.F.BackingDisk.backing out c.args.self.now c.prepare_range.new.self c.free_after.new.self c.in-Err.refusal c.free_after.result ((c.in-Err.ensures.sound some out sound).readies) c.free_after.ensures.fault (c.free_after.ensures.frees out);
+      met = met_freed g.S.Storage.view g.F.BackingDisk.backing out (IsMetTaking (HasPrepared out) (IsTaken h known c.args.offset c.args.length out) (CopiesCompressed c.args.offset c.args.length c.args.overwrite h known) (NeedsFarEntry old c.args.offset)) (λ e fault. inl (inl (inl fault))) old c.prepare_range.new.self c.free_after.new.self c.in-Err.refusal c.free_after.result
+          ((c.in-Err.ensures.sound some out sound).readies) c.free_after.ensures.fault (c.free_after.ensures.told out) ((c.in-Err.ensures.sound some out sound).met);
+      taken = λ is. (c.in-Err.ensures.sound some out sound).taken (c.free_after.ensures.taken c.in-Err.ensures.fails.cause is);
+      limit = λ is. let freed = limited_frees view g.F.BackingDisk.backing out old mid new c.in-Err.refusal c.free_after.result ((c.in-Err.ensures.sound some out sound).readies) c.free_after.ensures.fault (c.free_after.ensures.limit out) is in
+          let empty : HasNothingToFree new = emptied_by_limit new c.free_after.result (returns-in-Err-clause-listed g c some out sound) is in
+          range_freed view c.args.offset c.args.length old mid new c.free_after.ensures.keeps_rest.header freed.1 empty ((c.in-Err.ensures.sound some out sound).limit freed.0);
+    }

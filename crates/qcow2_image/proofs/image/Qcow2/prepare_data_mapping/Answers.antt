@@ -1,5 +1,5 @@
 use Rattle.qcow2_image.proofs.image.Qcow2.prepare_data_mapping.Goals as goal
-use Rattle.std.proofs.Common.{◌≡◌, ◌⊎◌, ◌<◌, sym, ◌∙◌, subst, arith, ap, refl, ⊎_elim, inl, inr, ◌≤◌}
+use Rattle.std.proofs.Common.{◌≡◌, ◌⊎◌, ◌<◌, sym, ◌∙◌, subst, arith, ap, refl, ⊎_elim, inl, inr, ◌≤◌, rules}
 use Rattle.std.specs.Prelude.{IfErr, IfOk, None, Result, Some, IsNone}
 use Rattle.qcow2_alloc.specs.declared.error.ImageError.TheVariants.{TablePrepared, Limit}
 use Rattle.qcow2_alloc.specs.ImageFile.{known_in}
@@ -37,8 +37,6 @@ use Rattle.qcow2_image.proofs.Prepare.MetTables.{far_before}
 use Rattle.qcow2_image.specs.Prepared.{length_of, offset_of, table_of}
 use Rattle.qcow2_image.specs.Backings.{HasPrepared}
 use Rattle.qcow2_image.proofs.Prepare.MetTaking.{taking_as}
-use Rattle.std.specs.Prelude.{IfOk, None}
-use Rattle.qcow2_image.specs.Prepared.{table_of}
 
 pub returns-then-length-eq0-clause-sees : goal.returns-then-length-eq0-clause-sees
 returns-then-length-eq0-clause-sees g c =
@@ -59,15 +57,14 @@ returns-clause-sees g c =
     subst (λ (image : Qcow2 _ _). Prepares view below old image c.args.offset c.args.length c.args.overwrite c.mark_failure.result) (sym c.mark_failure.ensures.rest)
     (subst (λ (x : Result _ _). Prepares view below old (record new { is_failed = is_failed c.mark_failure.new.self }) c.args.offset c.args.length c.args.overwrite x) (sym c.mark_failure.ensures.answer)
     (prepares_with_outcome view below old (prepare_usable old c.args.offset c.args.length c.check_prepare.result c.in_ok-check_prepare.was c.check_prepare.ensures.refusal) new (is_failed c.mark_failure.new.self)
-    (c.prepare-prepared.ensures.stays.image.number ∙ c.begin.ensures.stays.image.number) c.args.offset c.args.length c.args.overwrite r (may_mark c.prepare-prepared.new.self c.mark_failure.new.self c.prepare-prepared.result c.mark_failure.ensures.marks) (marks_memory c.prepare-prepared.new.self c.mark_failure.new.self c.prepare-prepared.new.self c.prepare-prepared.result c.mark_failure.ensures.marks (ap (λ (i : Qcow2 _ _). i.file) c.mark_failure.ensures.rest))
+    (c.prepare-prepared.ensures.step.stays.image.number ∙ c.begin.ensures.stays.image.number) c.args.offset c.args.length c.args.overwrite r (may_mark c.prepare-prepared.new.self c.mark_failure.new.self c.prepare-prepared.result c.mark_failure.ensures.marks) (marks_memory c.prepare-prepared.new.self c.mark_failure.new.self c.prepare-prepared.new.self c.prepare-prepared.result c.mark_failure.ensures.marks (ap (λ (i : Qcow2 _ _). i.file) c.mark_failure.ensures.rest))
     (λ out sound.
     let kept = stays_kept view below out old mid sound (listed view below out old mid (λ s. record { keeps = c.begin.ensures.keeps (pending_in view below old out) out s; list = c.begin.ensures.list }) sound) in
-    prepares_after view below out old mid new kept c.args.offset c.args.length c.args.overwrite r (c.prepare-prepared.ensures.readies some out kept.sound))))
+    prepares_after view below out old mid new kept c.args.offset c.args.length c.args.overwrite r ((c.prepare-prepared.ensures.sound some out kept.sound).readies))))
 
 pub returns-clause-some : goal.returns-clause-some
 returns-clause-some g c =
-    let n = c.args.length in
-    subst (λ (r : Result _ _). IfOk r (λ p. 0 < n → 0 < length_of p)) (sym c.mark_failure.ensures.answer) (if_ok c.prepare-prepared.result (λ p has some. (has some).some) c.prepare-prepared.ensures.some)
+    subst (λ (r : Result _ _). IfOk r (λ p. 0 < c.args.length → 0 < length_of p)) (sym c.mark_failure.ensures.answer) (if_ok c.prepare-prepared.result (λ p has some. (has some).some) c.prepare-prepared.ensures.some)
 
 pub returns-clause-behind : goal.returns-clause-behind
 returns-clause-behind g c =
@@ -88,7 +85,7 @@ returns-clause-maps g c = λ some out sound.
     (subst (λ r. IfOk r (λ p. IsAnswered old.file.header.fields (known_in view old.file) c.args.offset c.args.length new.file.header.fields now p (meaning view below new p))) (sym c.mark_failure.ensures.answer)
     (if_ok c.prepare-prepared.result
     (λ p is. answered_before view old mid c.args.offset c.args.length stays.header stays.covers new.file.header.fields now p (meaning view below new p) is)
-    (c.prepare-prepared.ensures.answers some out stays.sound)))
+    ((c.prepare-prepared.ensures.sound some out stays.sound).answers)))
 
 pub returns-clause-taken : goal.returns-clause-taken
 returns-clause-taken g c = λ may out sound.
@@ -101,7 +98,7 @@ returns-clause-taken g c = λ may out sound.
     subst (λ r. IfErr r (λ e. e ≡ TablePrepared → IsTaken old.file.header.fields (known_in view old.file) c.args.offset c.args.length out)) (sym c.mark_failure.ensures.answer)
     (if_err c.prepare-prepared.result
     (λ e taken is. taken_before view old mid c.args.offset c.args.length stays.header stays.covers out (taken is))
-    (c.prepare-prepared.ensures.taken some out stays.sound))
+    ((c.prepare-prepared.ensures.sound some out stays.sound).taken))
 
 pub returns-then-length-eq0-clause-listed : goal.returns-then-length-eq0-clause-listed
 returns-then-length-eq0-clause-listed g c = λ may some out sound. absurd (let none = c.if-length-eq0.true in omega (arith, none, some))
@@ -117,28 +114,6 @@ returns-clause-listed g c = λ may some out sound.
     subst (λ (image : Qcow2 _ _). PreparesList c.args.offset old image c.mark_failure.result) (sym c.mark_failure.ensures.rest)
     (subst (λ (r : Result _ _). PreparesList c.args.offset old (record new { is_failed = is_failed c.mark_failure.new.self }) r) (sym c.mark_failure.ensures.answer)
     (lists_begun old mid new (is_failed c.mark_failure.new.self) c.args.offset c.prepare-prepared.result c.begin.ensures.rest (c.prepare-prepared.ensures.listed some out stays.sound)))
-
-pub returns-clause-faults : goal.returns-clause-faults
-returns-clause-faults g c =
-    counted_marked g.S.Storage.view g.F.BackingDisk.backing c.args.self.now c.begin.new.self c.prepare-prepared.new.self c.mark_failure.new.self c.prepare-prepared.result c.mark_failure.result c.begin.ensures.faults c.prepare-prepared.ensures.faults c.mark_failure.ensures.answer c.mark_failure.ensures.rest
-
-pub returns-in_err-check_prepare-clause-once_written : goal.returns-in_err-check_prepare-clause-once_written
-returns-in_err-check_prepare-clause-once_written g c = fails_none g.S.Storage.view c.args.self.now _
-
-pub returns-then-length-eq0-clause-once_written : goal.returns-then-length-eq0-clause-once_written
-returns-then-length-eq0-clause-once_written g c = fails_none g.S.Storage.view c.args.self.now _
-
-pub returns-clause-once_written : goal.returns-clause-once_written
-returns-clause-once_written g c = fails_once g.S.Storage.view c.args.self.now c.begin.new.self c.begin.ensures.begun c.prepare-prepared.new.self c.mark_failure.new.self c.prepare-prepared.result c.prepare-prepared.ensures.notes (c.prepare-prepared.ensures.stays.failed ∙ c.begin.ensures.stays.failed) c.mark_failure.ensures.marks c.mark_failure.ensures.rest c.mark_failure.result (λ memory. sym c.mark_failure.ensures.answer ∙ memory)
-
-pub returns-in_err-check_prepare-clause-header_cluster : goal.returns-in_err-check_prepare-clause-header_cluster
-returns-in_err-check_prepare-clause-header_cluster g c = behind_none
-
-pub returns-then-length-eq0-clause-header_cluster : goal.returns-then-length-eq0-clause-header_cluster
-returns-then-length-eq0-clause-header_cluster g c = behind_none
-
-pub returns-clause-header_cluster : goal.returns-clause-header_cluster
-returns-clause-header_cluster g c = behind_call g.S.Storage.view c.begin.ensures.begun c.prepare-prepared.ensures.header_cluster c.mark_failure.ensures.rest
 
 pub returns-in_err-check_prepare-clause-pinned : goal.returns-in_err-check_prepare-clause-pinned
 returns-in_err-check_prepare-clause-pinned g c = λ some none own.
@@ -172,7 +147,7 @@ returns-clause-limit g c = λ may some out sound.
     subst (λ (r : Result _ _). IfErr r (λ x. x ≡ Limit → LacksPlaceFor view c.args.offset c.args.length old c.mark_failure.new.self)) (sym c.mark_failure.ensures.answer)
     (subst (λ (image : Qcow2 _ _). IfErr c.prepare-prepared.result (λ x. x ≡ Limit → LacksPlaceFor view c.args.offset c.args.length old image)) (sym c.mark_failure.ensures.rest)
     (limits_as (λ x. LacksPlaceFor view c.args.offset c.args.length mid new) (λ x. LacksPlaceFor view c.args.offset c.args.length old (record new { is_failed = failed })) c.prepare-prepared.result
-    (λ e lacks. place_ended view c.args.offset c.args.length old mid new failed c.begin.ensures.rest same (behind_begun view c.args.offset old mid stays.header stays.covers) (nowhere_before view old mid c.args.offset c.args.length stays.header stays.covers) lacks) (c.prepare-prepared.ensures.limit some out stays.sound)))
+    (λ e lacks. place_ended view c.args.offset c.args.length old mid new failed c.begin.ensures.rest same (behind_begun view c.args.offset old mid stays.header stays.covers) (nowhere_before view old mid c.args.offset c.args.length stays.header stays.covers) lacks) ((c.prepare-prepared.ensures.sound some out stays.sound).limit)))
 
 pub returns-in_err-check_prepare-clause-met : goal.returns-in_err-check_prepare-clause-met
 returns-in_err-check_prepare-clause-met g c = λ none some out sound.
@@ -195,7 +170,7 @@ returns-clause-met g c = λ may some out sound.
     subst (λ (r : Result _ _). IfErr r (IsMetTaking (HasPrepared out) (IsTaken h known from n out) (CopiesCompressed from n overwrite h known) (NeedsFarEntry old from))) (sym c.mark_failure.ensures.answer)
     (if_err c.prepare-prepared.result
     (taking_as (λ held. held) (λ taken. taken_before view old mid from n stays.header stays.covers out taken) (compressed_as h mid.file.header.fields known (known_in view mid.file) from n overwrite size stays.covers) (far_before old mid from c.begin.ensures.begun.rest))
-    (c.prepare-prepared.ensures.met some out stays.sound))
+    ((c.prepare-prepared.ensures.sound some out stays.sound).met))
 
 pub returns-then-length-eq0-clause-freeing : goal.returns-then-length-eq0-clause-freeing
 returns-then-length-eq0-clause-freeing g c = λ out sound none. inl refl
@@ -206,9 +181,23 @@ returns-clause-freeing g c = λ out sound.
     let below = g.F.BackingDisk.backing in
     let old = c.args.self.now in
     let mid = c.begin.new.self in
-    let new = c.prepare-prepared.new.self in
     let some : 0 < c.args.length = let isnt = c.if-length-eq0.false in omega arith in
     let stays = stays_kept view below out old mid sound (listed view below out old mid (λ s. record { keeps = c.begin.ensures.keeps (pending_in view below old out) out s; list = c.begin.ensures.list }) sound) in
     subst (λ (image : Qcow2 _ _). IfOk c.mark_failure.result (λ p. IsNone (table_of p) → ListsNoMore old image)) (sym c.mark_failure.ensures.rest)
-    (subst (λ r. IfOk r (λ p. IsNone (table_of p) → ListsNoMore old new)) (sym c.mark_failure.ensures.answer)
-    (if_ok c.prepare-prepared.result (λ p less none. ⊎_elim (λ same. inl (same ∙ c.begin.ensures.list)) (λ empty. inr empty) (less none)) (c.prepare-prepared.ensures.freeing some out stays.sound)))
+    (subst (λ r. IfOk r (λ p. IsNone (table_of p) → ListsNoMore old c.prepare-prepared.new.self)) (sym c.mark_failure.ensures.answer)
+    (if_ok c.prepare-prepared.result (λ p less none. ⊎_elim (λ same. inl (same ∙ c.begin.ensures.list)) (λ empty. inr empty) (less none)) ((c.prepare-prepared.ensures.sound some out stays.sound).freeing)))
+
+pub returns-clause-step : goal.returns-clause-step
+returns-clause-step g c = record {
+  image = search rules;
+  marks = search rules;
+  once_written = fails_once g.S.Storage.view c.args.self.now c.begin.new.self c.begin.ensures.begun c.prepare-prepared.new.self c.mark_failure.new.self c.prepare-prepared.result c.prepare-prepared.ensures.step.notes (c.prepare-prepared.ensures.step.stays.failed ∙ c.begin.ensures.stays.failed) c.mark_failure.ensures.marks c.mark_failure.ensures.rest c.mark_failure.result (λ memory. sym c.mark_failure.ensures.answer ∙ memory);
+  header_cluster = behind_call g.S.Storage.view c.begin.ensures.begun c.prepare-prepared.ensures.step.header_cluster c.mark_failure.ensures.rest;
+  faults = counted_marked g.S.Storage.view g.F.BackingDisk.backing c.args.self.now c.begin.new.self c.prepare-prepared.new.self c.mark_failure.new.self c.prepare-prepared.result c.mark_failure.result c.begin.ensures.faults c.prepare-prepared.ensures.fails.faults c.mark_failure.ensures.answer c.mark_failure.ensures.rest;
+}
+
+pub returns-in_err-check_prepare-clause-step : goal.returns-in_err-check_prepare-clause-step
+returns-in_err-check_prepare-clause-step g c = record { image = search rules; marks = search rules; once_written = fails_none g.S.Storage.view c.args.self.now _; header_cluster = behind_none; faults = search rules }
+
+pub returns-then-length-eq0-clause-step : goal.returns-then-length-eq0-clause-step
+returns-then-length-eq0-clause-step g c = record { image = search rules; marks = search rules; once_written = fails_none g.S.Storage.view c.args.self.now _; header_cluster = behind_none; faults = search rules }

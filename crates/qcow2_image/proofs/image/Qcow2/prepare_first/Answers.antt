@@ -115,36 +115,6 @@ returns-in-Some-clause-former g c =
     lists_still c.args.self.now c.args.self.now c.prepare_at.new.self (lists_none c.args.self.now c.requires.writable)
     (record { allocator = ap (λ (image : Qcow2 _ _). image.allocator) then; list = ap (λ (image : Qcow2 _ _). image.file.free_list) then })
 
-pub returns-then-l2_is_pinned-clause-notes : goal.returns-then-l2_is_pinned-clause-notes
-returns-then-l2_is_pinned-clause-notes g c = notes_none
-
-pub returns-in_err-room-clause-notes : goal.returns-in_err-room-clause-notes
-returns-in_err-room-clause-notes g c = notes_none
-
-pub returns-in_err-old-clause-notes : goal.returns-in_err-old-clause-notes
-returns-in_err-old-clause-notes g c = notes_none
-
-pub returns-in-Some-clause-notes : goal.returns-in-Some-clause-notes
-returns-in-Some-clause-notes g c = pins_kept c.args.self.now c.prepare_at.new.self (ap (λ (i : Qcow2 _ _). i.file.storage) c.prepare_at.ensures.pins.rest) c.prepare_at.ensures.pins.changed c.prepare_at.ensures.pins.counted
-
-pub returns-in-None-clause-notes : goal.returns-in-None-clause-notes
-returns-in-None-clause-notes g c = c.prepare_private.ensures.notes
-
-pub returns-then-l2_is_pinned-clause-header_cluster : goal.returns-then-l2_is_pinned-clause-header_cluster
-returns-then-l2_is_pinned-clause-header_cluster g c = λ some. behind_none
-
-pub returns-in_err-room-clause-header_cluster : goal.returns-in_err-room-clause-header_cluster
-returns-in_err-room-clause-header_cluster g c = λ some. behind_none
-
-pub returns-in_err-old-clause-header_cluster : goal.returns-in_err-old-clause-header_cluster
-returns-in_err-old-clause-header_cluster g c = λ some. behind_none
-
-pub returns-in-Some-clause-header_cluster : goal.returns-in-Some-clause-header_cluster
-returns-in-Some-clause-header_cluster g c = λ some. behind_by g.S.Storage.view c.prepare_at.ensures.pins.rest (behind_tables c.prepare_at.ensures.pins.tables.behind)
-
-pub returns-in-None-clause-header_cluster : goal.returns-in-None-clause-header_cluster
-returns-in-None-clause-header_cluster g c = c.prepare_private.ensures.header_cluster
-
 pub returns-in-Some-clause-lowest : goal.returns-in-Some-clause-lowest
 returns-in-Some-clause-lowest g c = λ out sound. in_place_lowest g.S.Storage.view g.F.BackingDisk.backing c.prepare_at.new.self c.prepare_at.result c.prepare_at.ensures.share
 
@@ -175,10 +145,9 @@ returns-then-l2_is_pinned-clause-met g c = λ out sound holds. inr (inr (refl, c
 pub returns-in_err-old-clause-met : goal.returns-in_err-old-clause-met
 returns-in_err-old-clause-met g c = λ out sound holds.
     let view = g.S.Storage.view in
-    let below = g.F.BackingDisk.backing in
     let old = c.args.self.now in
     let entry = first_entry view g.F.BackingDisk.backing old c.args.offset c.args.table c.new.result c.cluster_bits.result c.cluster-cluster.result c.cluster-cluster.ensures c.new.ensures c.cluster_bits.ensures.value holds in
-    let read = c.in_err-old.ensures.reads (pending_in view below old out) (l1_index_of old.file.header.fields c.args.offset) sound.file entry.0 entry.1 holds.new_data in
+    let read = c.in_err-old.ensures.reads (pending_in view g.F.BackingDisk.backing old out) (l1_index_of old.file.header.fields c.args.offset) sound.file entry.0 entry.1 holds.new_data in
     absurd (let e : false ≡ true = read in cc)
 
 pub returns-in-None-clause-met : goal.returns-in-None-clause-met
@@ -202,3 +171,22 @@ returns-in-None-clause-uses g c = λ out sound holds.
     let p = pending_in view below old out in
     c.prepare_private.ensures.uses out sound holds (not_pinned _ c.l2_is_pinned.result c.l2_is_pinned.ensures c.if-l2_is_pinned.false)
     (first_stands view below old p c.args.offset c.args.table c.new.result c.cluster_bits.result c.cluster-cluster.result c.in_ok-old.old c.cluster-cluster.ensures c.new.ensures c.cluster_bits.ensures.value holds (c.in_ok-old.ensures.says p (l1_index_of old.file.header.fields c.args.offset) sound.file))
+
+pub returns-then-l2_is_pinned-clause-step : goal.returns-then-l2_is_pinned-clause-step
+returns-then-l2_is_pinned-clause-step g c = record { stays = search rules; notes = notes_none; header_cluster = λ some. behind_none }
+
+pub returns-in_err-room-clause-step : goal.returns-in_err-room-clause-step
+returns-in_err-room-clause-step g c = record { stays = search rules; notes = notes_none; header_cluster = λ some. behind_none }
+
+pub returns-in_err-old-clause-step : goal.returns-in_err-old-clause-step
+returns-in_err-old-clause-step g c = record { stays = search rules; notes = notes_none; header_cluster = λ some. behind_none }
+
+pub returns-in-Some-clause-step : goal.returns-in-Some-clause-step
+returns-in-Some-clause-step g c = record {
+  stays = search rules;
+  notes = pins_kept c.args.self.now c.prepare_at.new.self (ap (λ (i : Qcow2 _ _). i.file.storage) c.prepare_at.ensures.pins.rest) c.prepare_at.ensures.pins.changed c.prepare_at.ensures.pins.counted;
+  header_cluster = λ some. behind_by g.S.Storage.view c.prepare_at.ensures.pins.rest (behind_tables c.prepare_at.ensures.pins.tables.behind);
+}
+
+pub returns-in-None-clause-step : goal.returns-in-None-clause-step
+returns-in-None-clause-step g c = record { stays = search rules; notes = c.prepare_private.ensures.step.notes; header_cluster = c.prepare_private.ensures.step.header_cluster }

@@ -1,5 +1,5 @@
 use Rattle.qcow2_image.proofs.image.Qcow2.prepare_in.Goals as goal
-use Rattle.std.proofs.Common.{◌≡◌, ◌+◌, ◌-◌, ◌/◌, ◌%◌, [], ◌∷◌, refl, sym, ap, ◌∙◌, subst, arith, inl, inr, length, ◌<◌, ◌*◌, Some, min, ◌≢◌}
+use Rattle.std.proofs.Common.{◌≡◌, ◌+◌, ◌-◌, ◌/◌, ◌%◌, [], ◌∷◌, refl, sym, ap, ◌∙◌, subst, arith, inl, inr, length, ◌<◌, ◌*◌, Some, min, ◌≢◌, rules}
 use Rattle.std.specs.Prelude.{None, Err, slice_set}
 use Rattle.qcow2_metadata.specs.Cover.{cover}
 use Rattle.qcow2_metadata.specs.Header.{cluster_size, HeaderView}
@@ -40,58 +40,17 @@ use Rattle.qcow2_image.proofs.Prepare.Met.{hands_met}
 use Rattle.qcow2_image.proofs.Prepare.MetTaking.{taking_as}
 use Rattle.qcow2_alloc.specs.CachePins.{l2_pins}
 
-pub returns-in_err-prepared-clause-readies : goal.returns-in_err-prepared-clause-readies
-returns-in_err-prepared-clause-readies g c = λ out sound holds.
-    let view = g.S.Storage.view in
-    let below = g.F.BackingDisk.backing in
-    let old = c.args.self.now in
-    let mid = c.prepare_first.new.self in
-    handed_on (λ r. PreparesRange view below old mid out c.args.offset c.args.length c.args.overwrite r) c.from_residual.result c.in_err-prepared.field-0.0 c.from_residual.ensures
-    (back_refused view below out old mid c.in_err-prepared.field-0.0 sound (c.in_err-prepared.ensures.readies out sound holds))
-
-pub returns-in-Ok-clause-readies : goal.returns-in-Ok-clause-readies
-returns-in-Ok-clause-readies g c = λ out sound holds k free.
-    let view = g.S.Storage.view in
-    let below = g.F.BackingDisk.backing in
-    let old = c.args.self.now in
-    let mid = c.prepare_first.new.self in
-    let new = c.prepare_rest.new.self in
-    let p = c.in_ok-prepared.prepared in
-    let q = c.prepare_rest.new.prepared in
-    let first = c.in_ok-prepared.ensures.first in
-    let ready = subst (λ o. IsReadied view below old mid out k o c.args.length c.args.overwrite p) (sym first.guest) (c.in_ok-prepared.ensures.readies out sound holds k free) in
-    let on = c.in-Ok.ensures.image_step old out k free first.under ready in
-    subst (λ o. IsReadied view below old new out k o c.args.length c.args.overwrite q) (c.in-Ok.ensures.longer.guest ∙ first.guest) on.0
-
-pub returns-in-Err-clause-readies : goal.returns-in-Err-clause-readies
-returns-in-Err-clause-readies g c = λ out sound holds.
-    let view = g.S.Storage.view in
-    let below = g.F.BackingDisk.backing in
-    let old = c.args.self.now in
-    let mid = c.prepare_first.new.self in
-    let new = c.prepare_rest.new.self in
-    let p = c.in_ok-prepared.prepared in
-    let q = c.prepare_rest.new.prepared in
-    let first = c.in_ok-prepared.ensures.first in
-    let placed = (free_places view below).free old [] out sound in
-    let ready = subst (λ o. IsReadied view below old mid (None ∷ out) 0 o c.args.length c.args.overwrite p) (sym first.guest) (c.in_ok-prepared.ensures.readies (None ∷ out) placed holds 0 refl) in
-    let broken = c.in-Err.ensures.image_step old (None ∷ out) 0 refl first.under ready in
-    refused_free view below out old c.release_prepared.new.self c.in-Err.refusal
-    (release_prepared_broken view below old new c.release_prepared.new.self (None ∷ out) 0 c.args.length c.args.overwrite q c.in-Err.refusal refl c.release_prepared.ensures.rest c.release_prepared.ensures.sees broken)
-
 pub returns-in-Ok-clause-reaches : goal.returns-in-Ok-clause-reaches
 returns-in-Ok-clause-reaches g c = λ out k free sound holds.
     let view = g.S.Storage.view in
-    let below = g.F.BackingDisk.backing in
     let old = c.args.self.now in
     let mid = c.prepare_first.new.self in
     let new = c.prepare_rest.new.self in
     let p = c.in_ok-prepared.prepared in
-    let q = c.prepare_rest.new.prepared in
     let first = c.in_ok-prepared.ensures.first in
     let longer = c.in-Ok.ensures.longer in
-    let ready = subst (λ o. IsReadied view below old mid out k o c.args.length c.args.overwrite p) (sym first.guest) (c.in_ok-prepared.ensures.readies out sound holds k free) in
-    let on = c.in-Ok.ensures.image_step old out k free first.under ready in
+    let ready = subst (λ o. IsReadied view g.F.BackingDisk.backing old mid out k o c.args.length c.args.overwrite p) (sym first.guest) (c.in_ok-prepared.ensures.readies out sound holds k free) in
+    let on = (c.in-Ok.ensures.sound old out k free first.under ready).does in
     let size : cluster_size new.file.header.fields ≡ cluster_size old.file.header.fields = ap (λ (x : HeaderFields). cluster_size x) (header_format old.file.header new.file.header (header_then old.file.header mid.file.header new.file.header c.in_ok-prepared.ensures.header c.in-Ok.ensures.header)) in
     let rest : cluster_size new.file.header.fields - c.args.offset % cluster_size new.file.header.fields ≡ p.length = ap (λ s. s - c.args.offset % s) size ∙ sym first.rest in
     let same = ap (λ s. cover new.file.header.fields (known_in view new.file) (c.args.offset / s)) size ∙ sym (on.0.covers (c.args.offset / cluster_size old.file.header.fields)) in
@@ -115,15 +74,6 @@ returns-in-Ok-clause-some g c =
     let within = mod_below c.args.offset (cluster_size h) (pow_pos h.cluster_bits) in
     record { some = (let rest = first.rest in let more = longer.more in omega (arith, within)); behind = (let begins = c.in_ok-prepared.ensures.behind in let place = longer.place in omega (arith, size)) }
 
-pub returns-in-Err-clause-faults : goal.returns-in-Err-clause-faults
-returns-in-Err-clause-faults g c =
-    let view = g.S.Storage.view in
-    let below = g.F.BackingDisk.backing in
-    let old = c.args.self.now in
-    let e = c.in-Err.refusal in
-    counted_still view below old c.prepare_rest.new.self c.release_prepared.new.self (Err e)
-    (counted_as view below old c.prepare_first.new.self c.prepare_rest.new.self c.prepare_rest.result e c.in_ok-prepared.ensures.faults.told c.prepare_rest.ensures.faults c.in-Err.is) c.release_prepared.ensures.faults
-
 pub returns-in-Ok-clause-header : goal.returns-in-Ok-clause-header
 returns-in-Ok-clause-header g c = header_then c.args.self.now.file.header c.prepare_first.new.self.file.header c.prepare_rest.new.self.file.header c.prepare_first.ensures.header c.prepare_rest.ensures.header
 
@@ -136,99 +86,123 @@ returns-in-Err-clause-header g c =
 pub returns-in-Ok-clause-former : goal.returns-in-Ok-clause-former
 returns-in-Ok-clause-former g c = lists_then c.args.self.now c.prepare_first.new.self c.prepare_rest.new.self c.in_ok-prepared.ensures.former c.in-Ok.ensures.former
 
-pub returns-in_err-prepared-clause-notes : goal.returns-in_err-prepared-clause-notes
-returns-in_err-prepared-clause-notes g c = c.prepare_first.ensures.notes
-
-pub returns-in-Ok-clause-notes : goal.returns-in-Ok-clause-notes
-returns-in-Ok-clause-notes g c = notes_then c.prepare_first.ensures.notes c.prepare_rest.ensures.notes
-
-pub returns-in-Err-clause-notes : goal.returns-in-Err-clause-notes
-returns-in-Err-clause-notes g c = notes_then (notes_then c.prepare_first.ensures.notes c.prepare_rest.ensures.notes) c.release_prepared.ensures.notes
-
-pub returns-in_err-prepared-clause-header_cluster : goal.returns-in_err-prepared-clause-header_cluster
-returns-in_err-prepared-clause-header_cluster g c = c.prepare_first.ensures.header_cluster
-
-pub returns-in-Ok-clause-header_cluster : goal.returns-in-Ok-clause-header_cluster
-returns-in-Ok-clause-header_cluster g c = λ some. behind_then (c.prepare_first.ensures.header_cluster some) c.prepare_rest.ensures.header_cluster
-
-pub returns-in-Err-clause-header_cluster : goal.returns-in-Err-clause-header_cluster
-returns-in-Err-clause-header_cluster g c = λ some. behind_then (behind_then (c.prepare_first.ensures.header_cluster some) c.prepare_rest.ensures.header_cluster) c.release_prepared.ensures.header_cluster
-
 pub returns-in-Ok-clause-unpinned : goal.returns-in-Ok-clause-unpinned
 returns-in-Ok-clause-unpinned g c = c.in_ok-prepared.ensures.unpinned
 
-pub returns-in_err-prepared-clause-limit : goal.returns-in_err-prepared-clause-limit
-returns-in_err-prepared-clause-limit g c = λ out sound holds some.
-    hands_limit (λ x. LacksData g.S.Storage.view c.args.offset c.args.length c.args.self.now.file.free_list c.args.self.now c.prepare_first.new.self) c.from_residual.result c.in_err-prepared.field-0.0 c.from_residual.ensures
-    (λ is. inl (c.in_err-prepared.ensures.limit out sound holds is))
+pub returns-in-Err-clause-step : goal.returns-in-Err-clause-step
+returns-in-Err-clause-step g c = record {
+  stays = search rules;
+  notes = notes_then (notes_then c.prepare_first.ensures.step.notes c.prepare_rest.ensures.step.notes) c.release_prepared.ensures.step.notes;
+  header_cluster = λ some. behind_then (behind_then (c.prepare_first.ensures.step.header_cluster some) c.prepare_rest.ensures.step.header_cluster) c.release_prepared.ensures.step.header_cluster;
+}
 
-pub returns-in-Err-clause-limit : goal.returns-in-Err-clause-limit
-returns-in-Err-clause-limit g c = λ out sound holds some is.
+pub returns-in-Err-clause-fails : goal.returns-in-Err-clause-fails
+returns-in-Err-clause-fails g c = record {
+  cause = search rules;
+  faults = let view = g.S.Storage.view in
+      let below = g.F.BackingDisk.backing in
+      let old = c.args.self.now in
+      let e = c.in-Err.refusal in
+      counted_still view below old c.prepare_rest.new.self c.release_prepared.new.self (Err e)
+      (counted_as view below old c.prepare_first.new.self c.prepare_rest.new.self c.prepare_rest.result e c.in_ok-prepared.ensures.fails.faults.told c.prepare_rest.ensures.fails.faults c.in-Err.is) c.release_prepared.ensures.faults;
+}
+
+pub returns-in_err-prepared-clause-step : goal.returns-in_err-prepared-clause-step
+returns-in_err-prepared-clause-step g c = record { stays = search rules; notes = c.prepare_first.ensures.step.notes; header_cluster = c.prepare_first.ensures.step.header_cluster }
+
+pub returns-in-Ok-clause-step : goal.returns-in-Ok-clause-step
+returns-in-Ok-clause-step g c = record {
+  stays = search rules;
+  notes = notes_then c.prepare_first.ensures.step.notes c.prepare_rest.ensures.step.notes;
+  header_cluster = λ some. behind_then (c.prepare_first.ensures.step.header_cluster some) c.prepare_rest.ensures.step.header_cluster;
+}
+
+pub returns-in_err-prepared-clause-sound : goal.returns-in_err-prepared-clause-sound
+returns-in_err-prepared-clause-sound g c = λ out sound holds.
+    let view = g.S.Storage.view in
+    let h = c.args.self.now.file.header.fields in
+    let below = g.F.BackingDisk.backing in
+    let known = known_in g.S.Storage.view c.args.self.now.file in
+    let old = c.args.self.now in
+    let offset = c.args.offset in
+    let mid = c.prepare_first.new.self in
+    let n = c.args.length in
+    record {
+      readies = handed_on (λ r. PreparesRange view below old mid out c.args.offset c.args.length c.args.overwrite r) c.from_residual.result c.in_err-prepared.field-0.0 c.from_residual.ensures
+          (back_refused view below out old mid c.in_err-prepared.field-0.0 sound (c.in_err-prepared.ensures.readies out sound holds));
+      met = λ some. hands_met (IsMetTaking (HasPrepared out) (0 < l2_pins c.args.self.now.file.caches c.args.table) (CopiesCompressed offset n c.args.overwrite h known) ⊥) c.from_residual.result c.in_err-prepared.field-0.0 c.from_residual.ensures
+          (taking_as (λ held. held) (λ kept. kept) (λ copied. compressed_at h known offset n offset n c.args.overwrite (omega arith) some refl (inl refl) copied) (λ no. no) c.in_err-prepared.field-0.0 (c.in_err-prepared.ensures.met out sound holds));
+      limit = λ some. hands_limit (λ x. LacksData g.S.Storage.view c.args.offset c.args.length c.args.self.now.file.free_list c.args.self.now c.prepare_first.new.self) c.from_residual.result c.in_err-prepared.field-0.0 c.from_residual.ensures
+          (λ is. inl (c.in_err-prepared.ensures.limit out sound holds is));
+    }
+
+pub returns-in-Ok-clause-sound : goal.returns-in-Ok-clause-sound
+returns-in-Ok-clause-sound g c = λ out sound holds.
+    let view = g.S.Storage.view in
+    let below = g.F.BackingDisk.backing in
+    let old = c.args.self.now in
+    let first = c.in_ok-prepared.ensures.first in
+    record {
+      met = search rules;
+      limit = search rules;
+      readies = λ k free. let ready = subst (λ o. IsReadied view below old c.prepare_first.new.self out k o c.args.length c.args.overwrite c.in_ok-prepared.prepared) (sym first.guest) (c.in_ok-prepared.ensures.readies out sound holds k free) in
+          let on = (c.in-Ok.ensures.sound old out k free first.under ready).does in
+          subst (λ o. IsReadied view below old c.prepare_rest.new.self out k o c.args.length c.args.overwrite c.prepare_rest.new.prepared) (c.in-Ok.ensures.longer.guest ∙ first.guest) on.0;
+    }
+
+pub returns-in-Err-clause-sound : goal.returns-in-Err-clause-sound
+returns-in-Err-clause-sound g c = λ out sound holds.
     let view = g.S.Storage.view in
     let below = g.F.BackingDisk.backing in
     let old = c.args.self.now in
     let mid = c.prepare_first.new.self in
-    let rest = c.prepare_rest.new.self in
-    let new = c.release_prepared.new.self in
+    let new = c.prepare_rest.new.self in
     let p = c.in_ok-prepared.prepared in
+    let rest = c.prepare_rest.new.self in
+    let n = c.args.length in
     let q = c.prepare_rest.new.prepared in
     let first = c.in_ok-prepared.ensures.first in
-    let longer = c.prepare_rest.ensures.longer in
-    let placed = (free_places view below).free old [] out sound in
-    let ready = subst (λ o. IsReadied view below old mid (None ∷ out) 0 o c.args.length c.args.overwrite p) (sym first.guest) (c.in_ok-prepared.ensures.readies (None ∷ out) placed holds 0 refl) in
-    let broken = c.in-Err.ensures.image_step old (None ∷ out) 0 refl first.under ready in
-    let why = c.in-Err.ensures.limit old (None ∷ out) 0 refl first.under ready is in
-    let bounded : bytes_in_table view c.args.offset c.args.length mid ≡ bytes_in_table view c.args.offset c.args.length old = ap (λ (x : HeaderFields). min c.args.length (rest_of_table x c.args.offset)) (header_format old.file.header mid.file.header c.in_ok-prepared.ensures.header) in
-    let short : q.length < bytes_in_table view c.args.offset c.args.length old = subst (λ m. q.length < m) (ap (λ o. min c.args.length (rest_of_table mid.file.header.fields o)) first.guest ∙ bounded) why.0 in
-    let cant = why.1.0 in
-    let new_there = subst (λ (x : L2Mapping). IsNewThere x (q.offset + q.length)) (first_begun view (q.guest + q.length) old mid ready.header ready.covers) why.1.1 in
-    let m = broken.mid in
-    let h = m.file.header.fields in
-    let size_old : cluster_size old.file.header.fields ≡ cluster_size h = sym (ap (λ (x : HeaderFields). cluster_size x) broken.readied.header) in
-    let size_mid : cluster_size mid.file.header.fields ≡ cluster_size h = ap (λ (x : HeaderFields). cluster_size x) (header_format old.file.header mid.file.header c.in_ok-prepared.ensures.header) ∙ size_old in
-    let size_rest : cluster_size rest.file.header.fields ≡ cluster_size h = ap (λ (x : HeaderFields). cluster_size x) (header_format mid.file.header rest.file.header c.prepare_rest.ensures.header) ∙ size_mid in
-    let pending : IsPending h (known_in view m.file) (contents_in view m.file) q c.args.table =
-    subst (IsReadyWith h (known_in view m.file) (contents_in view m.file) q) (longer.under ∙ first.under) (broken.readied.sound.ready 0 q (get_set_same (None ∷ out) 0 (Some q) None refl)).mapped in
-    let at : cant.0 * cluster_size h ≡ q.offset + q.length = subst (λ s. cant.0 * s ≡ q.offset + q.length) size_mid cant.1 in
-    let whole : EndsWithCluster h q = subst (λ s. q.guest % s + q.length ≡ length q.shares.items * s) size_mid (longer.whole (omega (arith, short))) in
-    let positive = pow_pos h.cluster_bits in
-    let cluster = first_cluster h (known_in view m.file) (contents_in view m.file) q c.args.table positive pending cant.0 at whole in
-    let share = first_of p.shares.items first.one in
-    let it = cant.2 in
-    let h_new = ap (λ (i : Qcow2 _ _). i.file.header) c.release_prepared.ensures.rest.rest in
-    inr (lacks_uncounted view (first_of_range view c.args.offset old) (behind_first view c.args.offset old) (c.args.offset % cluster_size old.file.header.fields) (bytes_in_table view c.args.offset c.args.length old) cluster (length q.shares.items) old mid rest new (freed_by q.shares.items) c.in_ok-prepared.ensures.former it.former
-    (ap (λ (i : Qcow2 _ _). i.allocator) c.release_prepared.ensures.rest.rest) h_new
-    (λ k used. subst (λ (v : HeaderView). count v.fields (known_in view new.file) k ≢ 0) (sym h_new) (subst (λ (b : Bytes). count rest.file.header.fields b k ≢ 0) (sym c.release_prepared.ensures.rest.known) used)) c.release_prepared.ensures.list
-    (own_released h (known_in view m.file) (contents_in view m.file) q c.args.table positive pending cant.0 at whole)
-    it.allocator it.is (cant_go_on view old m rest q c.args.table positive pending cant.0 at whole c.args.offset (bytes_in_table view c.args.offset c.args.length old) it.allocator share.0 size_old size_rest (longer.guest ∙ first.guest) short broken.readied.covers (longer.first share.0 share.1) new_there
-    (λ taken old_data new_share k lt. it.uses k (c.in_ok-prepared.ensures.lowest out sound taken old_data (share.1 ∙ sym (longer.first share.0 share.1) ∙ new_share) k (subst (λ n. k < n) (ap (λ o. o / cluster_size h) longer.place ∙ ap (λ s. p.offset / s) (sym size_mid)) lt)))
-    it.uncounted))
-
-pub returns-in_err-prepared-clause-met : goal.returns-in_err-prepared-clause-met
-returns-in_err-prepared-clause-met g c = λ out sound holds some.
-    let h = c.args.self.now.file.header.fields in
-    let known = known_in g.S.Storage.view c.args.self.now.file in
-    let offset = c.args.offset in
-    let n = c.args.length in
-    hands_met (IsMetTaking (HasPrepared out) (0 < l2_pins c.args.self.now.file.caches c.args.table) (CopiesCompressed offset n c.args.overwrite h known) ⊥) c.from_residual.result c.in_err-prepared.field-0.0 c.from_residual.ensures
-    (taking_as (λ held. held) (λ kept. kept) (λ copied. compressed_at h known offset n offset n c.args.overwrite (omega arith) some refl (inl refl) copied) (λ no. no) c.in_err-prepared.field-0.0 (c.in_err-prepared.ensures.met out sound holds))
-
-pub returns-in-Err-clause-met : goal.returns-in-Err-clause-met
-returns-in-Err-clause-met g c = λ out sound holds some.
-    let view = g.S.Storage.view in
-    let below = g.F.BackingDisk.backing in
-    let old = c.args.self.now in
-    let mid = c.prepare_first.new.self in
-    let p = c.in_ok-prepared.prepared in
-    let n = c.args.length in
-    let first = c.in_ok-prepared.ensures.first in
     let h = old.file.header.fields in
-    let hm = mid.file.header.fields in
     let placed = (free_places view below).free old [] out sound in
-    let ready = subst (λ o. IsReadied view below old mid (None ∷ out) 0 o n c.args.overwrite p) (sym first.guest) (c.in_ok-prepared.ensures.readies (None ∷ out) placed holds 0 refl) in
-    let size : cluster_size hm ≡ cluster_size h = ap (λ (x : HeaderFields). cluster_size x) (header_format old.file.header mid.file.header c.in_ok-prepared.ensures.header) in
-    inl (alone_as (λ found. compressed_as h hm (known_in view old.file) (known_in view mid.file) c.args.offset n c.args.overwrite size ready.covers (subst (λ o. CopiesCompressed o n c.args.overwrite hm (known_in view mid.file)) first.guest found)) (λ no. no)
-    c.in-Err.refusal (c.in-Err.ensures.met old (None ∷ out) 0 refl first.under ready))
+    let hm = mid.file.header.fields in
+    let ready = subst (λ o. IsReadied view below old mid (None ∷ out) 0 o c.args.length c.args.overwrite p) (sym first.guest) (c.in_ok-prepared.ensures.readies (None ∷ out) placed holds 0 refl) in
+    let broken = (c.in-Err.ensures.sound old (None ∷ out) 0 refl first.under ready).does in
+    record {
+      readies = refused_free view below out old c.release_prepared.new.self c.in-Err.refusal
+          (release_prepared_broken view below old new c.release_prepared.new.self (None ∷ out) 0 c.args.length c.args.overwrite q c.in-Err.refusal refl c.release_prepared.ensures.rest c.release_prepared.ensures.sees broken);
+      met = λ some. let ready = subst (λ o. IsReadied view below old mid (None ∷ out) 0 o n c.args.overwrite p) (sym first.guest) (c.in_ok-prepared.ensures.readies (None ∷ out) placed holds 0 refl) in
+          let size : cluster_size hm ≡ cluster_size h = ap (λ (x : HeaderFields). cluster_size x) (header_format old.file.header mid.file.header c.in_ok-prepared.ensures.header) in
+          inl (alone_as (λ found. compressed_as h hm (known_in view old.file) (known_in view mid.file) c.args.offset n c.args.overwrite size ready.covers (subst (λ o. CopiesCompressed o n c.args.overwrite hm (known_in view mid.file)) first.guest found)) (λ no. no)
+          c.in-Err.refusal ((c.in-Err.ensures.sound old (None ∷ out) 0 refl first.under ready).met));
+      limit = λ some is. let new = c.release_prepared.new.self in
+          let longer = c.prepare_rest.ensures.longer in
+          let why = (c.in-Err.ensures.sound old (None ∷ out) 0 refl first.under ready).limit is in
+          let bounded : bytes_in_table view c.args.offset c.args.length mid ≡ bytes_in_table view c.args.offset c.args.length old = ap (λ (x : HeaderFields). min c.args.length (rest_of_table x c.args.offset)) (header_format old.file.header mid.file.header c.in_ok-prepared.ensures.header) in
+          let short : q.length < bytes_in_table view c.args.offset c.args.length old = subst (λ m. q.length < m) (ap (λ o. min c.args.length (rest_of_table mid.file.header.fields o)) first.guest ∙ bounded) why.0 in
+          let cant = why.1.0 in
+          let new_there = subst (λ (x : L2Mapping). IsNewThere x (q.offset + q.length)) (first_begun view (q.guest + q.length) old mid ready.header ready.covers) why.1.1 in
+          let m = broken.mid in
+          let h = m.file.header.fields in
+          let size_old : cluster_size old.file.header.fields ≡ cluster_size h = sym (ap (λ (x : HeaderFields). cluster_size x) broken.readied.header) in
+          let size_mid : cluster_size mid.file.header.fields ≡ cluster_size h = ap (λ (x : HeaderFields). cluster_size x) (header_format old.file.header mid.file.header c.in_ok-prepared.ensures.header) ∙ size_old in
+          let size_rest : cluster_size rest.file.header.fields ≡ cluster_size h = ap (λ (x : HeaderFields). cluster_size x) (header_format mid.file.header rest.file.header c.prepare_rest.ensures.header) ∙ size_mid in
+          let pending : IsPending h (known_in view m.file) (contents_in view m.file) q c.args.table =
+          subst (IsReadyWith h (known_in view m.file) (contents_in view m.file) q) (longer.under ∙ first.under) (broken.readied.sound.ready 0 q (get_set_same (None ∷ out) 0 (Some q) None refl)).mapped in
+          let at : cant.0 * cluster_size h ≡ q.offset + q.length = subst (λ s. cant.0 * s ≡ q.offset + q.length) size_mid cant.1 in
+          let whole : EndsWithCluster h q = subst (λ s. q.guest % s + q.length ≡ length q.shares.items * s) size_mid (longer.whole (omega (arith, short))) in
+          let positive = pow_pos h.cluster_bits in
+          let cluster = first_cluster h (known_in view m.file) (contents_in view m.file) q c.args.table positive pending cant.0 at whole in
+          let share = first_of p.shares.items first.one in
+          let it = cant.2 in
+          let h_new = ap (λ (i : Qcow2 _ _). i.file.header) c.release_prepared.ensures.rest.rest in
+          inr (lacks_uncounted view (first_of_range view c.args.offset old) (behind_first view c.args.offset old) (c.args.offset % cluster_size old.file.header.fields) (bytes_in_table view c.args.offset c.args.length old) cluster (length q.shares.items) old mid rest new (freed_by q.shares.items) c.in_ok-prepared.ensures.former it.former
+          (ap (λ (i : Qcow2 _ _). i.allocator) c.release_prepared.ensures.rest.rest) h_new
+          (λ k used. subst (λ (v : HeaderView). count v.fields (known_in view new.file) k ≢ 0) (sym h_new) (subst (λ (b : Bytes). count rest.file.header.fields b k ≢ 0) (sym c.release_prepared.ensures.rest.known) used)) c.release_prepared.ensures.list
+          (own_released h (known_in view m.file) (contents_in view m.file) q c.args.table positive pending cant.0 at whole)
+          it.allocator it.is (cant_go_on view old m rest q c.args.table positive pending cant.0 at whole c.args.offset (bytes_in_table view c.args.offset c.args.length old) it.allocator share.0 size_old size_rest (longer.guest ∙ first.guest) short broken.readied.covers (longer.first share.0 share.1) new_there
+          (λ taken old_data new_share k lt. it.uses k (c.in_ok-prepared.ensures.lowest out sound taken old_data (share.1 ∙ sym (longer.first share.0 share.1) ∙ new_share) k (subst (λ n. k < n) (ap (λ o. o / cluster_size h) longer.place ∙ ap (λ s. p.offset / s) (sym size_mid)) lt)))
+          it.uncounted));
+    }
 
 pub returns-in-Ok-clause-under : goal.returns-in-Ok-clause-under
 returns-in-Ok-clause-under g c = λ out k free sound holds.
@@ -239,7 +213,7 @@ returns-in-Ok-clause-under g c = λ out k free sound holds.
     let q = c.prepare_rest.new.prepared in
     let first = c.in_ok-prepared.ensures.first in
     let longer = c.in-Ok.ensures.longer in
-    let readied = returns-in-Ok-clause-readies g c out sound holds k free in
+    let readied = (returns-in-Ok-clause-sound g c out sound holds).readies k free in
     let mapped = (readied.sound.ready k q (get_set_same out k (Some q) None free)).mapped in
     let pending : IsPending h (known_in view new.file) (contents_in view new.file) q c.args.table = subst (λ t. IsReadyWith h (known_in view new.file) (contents_in view new.file) q t) (longer.under ∙ first.under) mapped in
     own_table_known view below (slice_set out k (Some q)) (pending_in view below new (slice_set out k (Some q))) new c.args.offset c.args.table readied.sound

@@ -1,4 +1,4 @@
-use Rattle.std.proofs.Common.{◌≤◌, ◌+◌, ◌-◌, ◌%◌, ◌∙◌, List, length, inl, refl, sym, ap, subst, arith, ◌/◌}
+use Rattle.std.proofs.Common.{◌≤◌, ◌+◌, ◌-◌, ◌%◌, ◌∙◌, List, length, inl, refl, sym, ap, subst, arith, ◌/◌, rules}
 use Rattle.qcow2_metadata.specs.Header.{cluster_size}
 use Rattle.qcow2_alloc.proofs.AllocationSteps.{handed_on}
 use Rattle.qcow2_image.specs.declared.image.Qcow2.{Qcow2}
@@ -36,12 +36,11 @@ returns-clause-readies g c = λ out sound holds unpinned covered k free.
     let view = g.S.Storage.view in
     let below = g.F.BackingDisk.backing in
     let old = c.args.self.now in
-    let mid = c.fill_kept.new.self in
     let p = pending_in view below old out in
     let rest = c.fill_kept.ensures.rest in
     let image_step = c.fill_kept.ensures.image_step p out sound (λ x. omega arith) (first_alone view below out old sound c.args.offset c.args.table c.args.host holds unpinned covered) in
     subst (λ (x : Prepared). IsReadied view below old c.prepare_at.new.self out k c.args.offset c.args.length c.args.overwrite x) (sym c.prepare_at.ensures.value)
-    (readied_kept view below out old sound c.args.offset c.args.table c.args.host holds unpinned covered mid image_step (ap (λ (image : Qcow2 _ _). image.file.caches) rest) (ap (λ (image : Qcow2 _ _). image.file.free_list) rest)
+    (readied_kept view below out old sound c.args.offset c.args.table c.args.host holds unpinned covered c.fill_kept.new.self image_step (ap (λ (image : Qcow2 _ _). image.file.caches) rest) (ap (λ (image : Qcow2 _ _). image.file.free_list) rest)
     c.prepare_at.result c.prepare_at.ensures.share c.requires.reach k c.args.length c.args.overwrite free (c.in_ok-fill_kept.ensures.fills p out sound covered) c.prepare_at.new.self c.prepare_at.ensures.pins)
 
 pub returns-clause-first : goal.returns-clause-first
@@ -67,23 +66,8 @@ returns-clause-list g c =
     let then = c.prepare_at.ensures.pins.rest in
     record { allocator = ap (λ (image : Qcow2 _ _). image.allocator) then ∙ ap (λ (image : Qcow2 _ _). image.allocator) first; list = ap (λ (image : Qcow2 _ _). image.file.free_list) then ∙ ap (λ (image : Qcow2 _ _). image.file.free_list) first }
 
-pub returns-in_err-fill_kept-clause-notes : goal.returns-in_err-fill_kept-clause-notes
-returns-in_err-fill_kept-clause-notes g c = c.fill_kept.ensures.notes
-
-pub returns-clause-notes : goal.returns-clause-notes
-returns-clause-notes g c = notes_then c.fill_kept.ensures.notes (pins_kept c.fill_kept.new.self c.prepare_at.new.self (ap (λ (i : Qcow2 _ _). i.file.storage) c.prepare_at.ensures.pins.rest) c.prepare_at.ensures.pins.changed c.prepare_at.ensures.pins.counted)
-
-pub returns-in_err-fill_kept-clause-header_cluster : goal.returns-in_err-fill_kept-clause-header_cluster
-returns-in_err-fill_kept-clause-header_cluster g c = c.fill_kept.ensures.header_cluster
-
-pub returns-clause-header_cluster : goal.returns-clause-header_cluster
-returns-clause-header_cluster g c = behind_then c.fill_kept.ensures.header_cluster (behind_by g.S.Storage.view c.prepare_at.ensures.pins.rest (behind_tables c.prepare_at.ensures.pins.tables.behind))
-
 pub returns-clause-lowest : goal.returns-clause-lowest
 returns-clause-lowest g c = kept_lowest g.S.Storage.view g.F.BackingDisk.backing c.prepare_at.new.self c.prepare_at.result c.prepare_at.ensures.share
-
-pub returns-in_err-fill_kept-clause-limited : goal.returns-in_err-fill_kept-clause-limited
-returns-in_err-fill_kept-clause-limited g c = hands_unlimited c.from_residual.result c.in_err-fill_kept.field-0.0 c.from_residual.ensures c.in_err-fill_kept.ensures.limited
 
 pub returns-in_err-fill_kept-clause-fault : goal.returns-in_err-fill_kept-clause-fault
 returns-in_err-fill_kept-clause-fault g c = λ out sound covered.
@@ -105,3 +89,16 @@ returns-clause-uses g c = λ writable out sound holds unpinned covered j used.
     let image_step = c.fill_kept.ensures.image_step p out sound (λ x. omega arith) (first_alone view below out old sound c.args.offset c.args.table c.args.host holds unpinned covered) in
     used_pinned view below c.args.table mid c.prepare_at.new.self c.prepare_at.ensures.pins j
     (used_stays view below out p own.before old mid sound image_step.sound (ap (λ (i : Qcow2 _ _). i.file.header) rest) own.was (ap (λ (i : Qcow2 _ _). i.allocator) rest) (ap (λ (i : Qcow2 _ _). i.l1_table) rest) image_step.covers j used)
+
+pub returns-in_err-fill_kept-clause-step : goal.returns-in_err-fill_kept-clause-step
+returns-in_err-fill_kept-clause-step g c = c.fill_kept.ensures.step
+
+pub returns-in_err-fill_kept-clause-fails : goal.returns-in_err-fill_kept-clause-fails
+returns-in_err-fill_kept-clause-fails g c = record { faults = search rules; cause = search rules; limited = hands_unlimited c.from_residual.result c.in_err-fill_kept.field-0.0 c.from_residual.ensures c.in_err-fill_kept.ensures.fails.limited }
+
+pub returns-clause-step : goal.returns-clause-step
+returns-clause-step g c = record {
+  stays = search rules;
+  notes = notes_then c.fill_kept.ensures.step.notes (pins_kept c.fill_kept.new.self c.prepare_at.new.self (ap (λ (i : Qcow2 _ _). i.file.storage) c.prepare_at.ensures.pins.rest) c.prepare_at.ensures.pins.changed c.prepare_at.ensures.pins.counted);
+  header_cluster = behind_then c.fill_kept.ensures.step.header_cluster (behind_by g.S.Storage.view c.prepare_at.ensures.pins.rest (behind_tables c.prepare_at.ensures.pins.tables.behind));
+}

@@ -34,65 +34,13 @@ use Rattle.qcow2_image.specs.MetAlone.{IsCopiedCompressed, IsMetTaking}
 use Rattle.qcow2_image.specs.Backings.{HasPrepared}
 use Rattle.qcow2_image.proofs.Prepare.MetTaking.{looking_taking}
 
-pub returns-in_err-old_data-clause-readies : goal.returns-in_err-old_data-clause-readies
-returns-in_err-old_data-clause-readies g c = λ out sound holds unpinned covered.
-    let view = g.S.Storage.view in
-    let below = g.F.BackingDisk.backing in
-    let old = c.args.self.now in
-    any_refusal (λ r. Readies view below old old out c.args.offset c.args.length c.args.overwrite r) c.from_residual.result (search rules) (back_none view below out old (pending_in view below old out) sound)
-
-pub returns-in_err-pending-clause-readies : goal.returns-in_err-pending-clause-readies
-returns-in_err-pending-clause-readies g c = λ out sound holds unpinned covered.
-    let view = g.S.Storage.view in
-    let below = g.F.BackingDisk.backing in
-    let old = c.args.self.now in
-    handed_on (λ r. Readies view below old c.new_cluster.new.self out c.args.offset c.args.length c.args.overwrite r) c.from_residual-in_err-pending.result c.in_err-pending.field-0.0 c.from_residual-in_err-pending.ensures
-    (c.in_err-pending.ensures.gains (pending_in view below old out) out sound (λ n. omega arith))
-
-pub returns-in-Ok-clause-readies : goal.returns-in-Ok-clause-readies
-returns-in-Ok-clause-readies g c = λ out sound holds unpinned covered k free.
-    let view = g.S.Storage.view in
-    let below = g.F.BackingDisk.backing in
-    let old = c.args.self.now in
-    let p = pending_in view below old out in
-    let filled = c.new_cluster.new.self in
-    let mid = c.load_l2.new.self in
-    let n = c.in_ok-pending.pending in
-    let taken_is = c.hand_back.ensures ∙ ap (λ l. l ++ n ∷ []) c.new-taken.ensures in
-    let gained = c.in_ok-pending.ensures.gains p out sound (λ x. omega arith) in
-    let bits = c.cluster_bits-bits.ensures.value in
-    let host_is = c.value-host.ensures ∙ c.offset.ensures ∙ ap (λ x. x * 2 ^ c.cluster_bits-bits.result) c.cluster.ensures ∙ ap (λ b. c.in_ok-pending.pending.first_cluster * 2 ^ b) bits in
-    subst (λ (x : Prepared). IsReadied view below old c.prepare_at.new.self out k c.args.offset c.args.length c.args.overwrite x) (sym c.prepare_at.ensures.value)
-    (readied_new view below out old filled mid n c.args.old.now c.requires.reach c.requires.other c.hand_back.new.list c.in_ok-old_data.old_data taken_is c.in_ok-old_data.ensures.list c.prepare_at.result c.prepare_at.ensures.share k c.args.offset c.args.length c.args.table c.value-host.result c.args.overwrite free sound holds unpinned covered gained c.in_ok-pending.ensures.nameable
-    (c.in-Ok.ensures.keeps (with_new_data (pending_with_listed p old filled) (run_of c.in_ok-pending.pending)) out gained.image_step.sound) c.in-Ok.ensures.list c.in-Ok.ensures.cached host_is
-    (c.in-Ok.ensures.contents (with_new_data (pending_with_listed p old filled) (run_of c.in_ok-pending.pending)) out gained.image_step.sound) c.prepare_at.new.self c.prepare_at.ensures.pins)
-
-pub returns-in-Err-clause-readies : goal.returns-in-Err-clause-readies
-returns-in-Err-clause-readies g c = λ out sound holds unpinned covered.
-    let view = g.S.Storage.view in
-    let below = g.F.BackingDisk.backing in
-    let old = c.args.self.now in
-    let p = pending_in view below old out in
-    let filled = c.new_cluster.new.self in
-    let mid = c.load_l2.new.self in
-    let n = c.in_ok-pending.pending in
-    let new_data = with_new_data (pending_with_listed p old filled) (run_of n) in
-    let all_new_data : HoldsAll view below p out = λ x. omega arith in
-    let gained = c.in_ok-pending.ensures.gains p out sound all_new_data in
-    let still = still_holds view below out old filled p n gained.one all_new_data gained.image_step in
-    let loaded = image_step_then view below out old filled mid p new_data new_data gained.image_step (image_step_kept view below out filled mid new_data new_data gained.image_step.sound still still (c.in-Err.ensures.keeps new_data out gained.image_step.sound)) in
-    let gone = subst (λ q. UnseenFillingStep view below p (with_new_data q (run_of n)) old mid out) (listed_after_on view below out p old filled mid c.in-Err.ensures.list) loaded in
-    subst (λ (image : Qcow2 _ _). RefusedFillingStep view below p old image out c.in-Err.refusal) (sym c.hand_back-in-Err.ensures)
-    (inl (image_step_left view below out old mid p n gained.one gained.kind gone))
-
 pub returns-in-Ok-clause-first : goal.returns-in-Ok-clause-first
 returns-in-Ok-clause-first g c =
     let old = c.args.self.now in
     let filled = c.new_cluster.new.self in
-    let mid = c.load_l2.new.self in
     let h = old.file.header.fields in
     let format : KeepsFormat h filled.file.header.fields = header_format old.file.header filled.file.header c.in_ok-pending.ensures.header in
-    let size : cluster_size mid.file.header.fields ≡ cluster_size h = ap (λ (x : HeaderFields). cluster_size x) (ap (λ x. x.fields) c.in-Ok.ensures.header ∙ format) in
+    let size : cluster_size c.load_l2.new.self.file.header.fields ≡ cluster_size h = ap (λ (x : HeaderFields). cluster_size x) (ap (λ x. x.fields) c.in-Ok.ensures.header ∙ format) in
     subst (λ (x : Prepared). IsFirst h c.args.offset c.args.table x) (sym c.prepare_at.ensures.value)
     (record { guest = refl; under = refl; rest = ap (λ s. s - c.args.offset % s) size; one = ap (λ (l : List Share). length l) c.prepare_at.ensures.share })
 
@@ -115,30 +63,6 @@ returns-in-Ok-clause-former g c =
     lists_still c.args.self.now c.new_cluster.new.self c.prepare_at.new.self c.in_ok-pending.ensures.former
     (record { allocator = ap (λ (image : Qcow2 _ _). image.allocator) then ∙ c.load_l2.ensures.allocator; list = ap (λ (image : Qcow2 _ _). image.file.free_list) then ∙ c.load_l2.ensures.list })
 
-pub returns-in_err-old_data-clause-notes : goal.returns-in_err-old_data-clause-notes
-returns-in_err-old_data-clause-notes g c = notes_none
-
-pub returns-in_err-pending-clause-notes : goal.returns-in_err-pending-clause-notes
-returns-in_err-pending-clause-notes g c = c.new_cluster.ensures.notes
-
-pub returns-in-Ok-clause-notes : goal.returns-in-Ok-clause-notes
-returns-in-Ok-clause-notes g c = notes_then (notes_then c.new_cluster.ensures.notes c.load_l2.ensures.notes) (pins_kept c.load_l2.new.self c.prepare_at.new.self (ap (λ (i : Qcow2 _ _). i.file.storage) c.prepare_at.ensures.pins.rest) c.prepare_at.ensures.pins.changed c.prepare_at.ensures.pins.counted)
-
-pub returns-in-Err-clause-notes : goal.returns-in-Err-clause-notes
-returns-in-Err-clause-notes g c = notes_then (notes_then c.new_cluster.ensures.notes c.load_l2.ensures.notes) (same_kept c.load_l2.new.self c.hand_back-in-Err.new.self (ap (λ (i : Qcow2 _ _). i.file.storage) c.hand_back-in-Err.ensures) (ap (λ (i : Qcow2 _ _). i.file.caches) c.hand_back-in-Err.ensures))
-
-pub returns-in_err-old_data-clause-header_cluster : goal.returns-in_err-old_data-clause-header_cluster
-returns-in_err-old_data-clause-header_cluster g c = λ some. behind_none
-
-pub returns-in_err-pending-clause-header_cluster : goal.returns-in_err-pending-clause-header_cluster
-returns-in_err-pending-clause-header_cluster g c = λ some. c.new_cluster.ensures.header_cluster
-
-pub returns-in-Ok-clause-header_cluster : goal.returns-in-Ok-clause-header_cluster
-returns-in-Ok-clause-header_cluster g c = λ some. behind_then (behind_then c.new_cluster.ensures.header_cluster (c.load_l2.ensures.header_cluster some)) (behind_by g.S.Storage.view c.prepare_at.ensures.pins.rest (behind_tables c.prepare_at.ensures.pins.tables.behind))
-
-pub returns-in-Err-clause-header_cluster : goal.returns-in-Err-clause-header_cluster
-returns-in-Err-clause-header_cluster g c = λ some. behind_then (behind_then c.new_cluster.ensures.header_cluster (c.load_l2.ensures.header_cluster some)) (behind_by g.S.Storage.view c.hand_back-in-Err.ensures behind_none)
-
 pub returns-in-Ok-clause-lowest : goal.returns-in-Ok-clause-lowest
 returns-in-Ok-clause-lowest g c = λ out sound taken old_data begins j lt.
     let view = g.S.Storage.view in
@@ -152,63 +76,13 @@ returns-in-Ok-clause-lowest g c = λ out sound taken old_data begins j lt.
     let new_data = with_new_data (pending_with_listed p old filled) (run_of n) in
     let kept = c.in-Ok.ensures.keeps new_data out gained.image_step.sound in
     let former = c.in_ok-pending.ensures.former in
-    let bits = c.cluster_bits-bits.ensures.value in
     let cs = cluster_size mid.file.header.fields in
-    let host_is : c.value-host.result ≡ n.first_cluster * cs = c.value-host.ensures ∙ c.offset.ensures ∙ ap (λ x. x * 2 ^ c.cluster_bits-bits.result) c.cluster.ensures ∙ ap (λ b. c.in_ok-pending.pending.first_cluster * 2 ^ b) bits in
+    let host_is : c.value-host.result ≡ n.first_cluster * cs = c.value-host.ensures ∙ c.offset.ensures ∙ ap (λ x. x * 2 ^ c.cluster_bits-bits.result) c.cluster.ensures ∙ ap (λ b. c.in_ok-pending.pending.first_cluster * 2 ^ b) c.cluster_bits-bits.ensures.value in
     let off : c.prepare_at.result.offset ≡ n.first_cluster * cs + c.args.offset % cs = ap (λ (x : Prepared). x.offset) c.prepare_at.ensures.value ∙ ap (λ m. m + c.args.offset % cs) host_is in
     let place : c.prepare_at.result.offset / cluster_size c.prepare_at.new.self.file.header.fields ≡ n.first_cluster = ap (λ m. c.prepare_at.result.offset / m) (ap (λ (i : Qcow2 _ _). cluster_size i.file.header.fields) c.prepare_at.ensures.pins.rest) ∙ ap (λ m. m / cs) off ∙ div-mul-add n.first_cluster cs (c.args.offset % cs) (mod_below c.args.offset cs (pow_pos mid.file.header.fields.cluster_bits)) in
     used_pinned view below c.args.table mid c.prepare_at.new.self c.prepare_at.ensures.pins j
     (used_stays view below out new_data former.after filled mid gained.image_step.sound kept.sound c.load_l2.ensures.header former.is c.load_l2.ensures.allocator c.load_l2.ensures.table kept.unseen.covers j
     (c.in_ok-pending.ensures.lowest p out sound (λ x. omega arith) j (subst (λ m. j < m) place lt)))
-
-pub returns-in_err-old_data-clause-limit : goal.returns-in_err-old_data-clause-limit
-returns-in_err-old_data-clause-limit g c = λ out sound holds.
-    hands_limit (λ x. StandsInWay g.S.Storage.view HasNoCluster c.args.self.now.file.free_list c.args.self.now c.args.self.now) c.from_residual.result c.in_err-old_data.field-0.0 c.from_residual.ensures (other_limit _ c.in_err-old_data.field-0.0 c.in_err-old_data.ensures.limited)
-
-pub returns-in_err-pending-clause-limit : goal.returns-in_err-pending-clause-limit
-returns-in_err-pending-clause-limit g c = λ out sound holds.
-    let view = g.S.Storage.view in
-    let old = c.args.self.now in
-    hands_limit (λ x. StandsInWay view HasNoCluster old.file.free_list old c.new_cluster.new.self) c.from_residual-in_err-pending.result c.in_err-pending.field-0.0 c.from_residual-in_err-pending.ensures
-    (c.in_err-pending.ensures.limit (pending_in view g.F.BackingDisk.backing old out) out sound)
-
-pub returns-in-Err-clause-limit : goal.returns-in-Err-clause-limit
-returns-in-Err-clause-limit g c = λ out sound holds.
-    let view = g.S.Storage.view in
-    let below = g.F.BackingDisk.backing in
-    let old = c.args.self.now in
-    let p = pending_in view below old out in
-    let filled = c.new_cluster.new.self in
-    let n = c.in_ok-pending.pending in
-    let new_data = with_new_data (pending_with_listed p old filled) (run_of n) in
-    let all_new_data : HoldsAll view below p out = λ x. omega arith in
-    let gained = c.in_ok-pending.ensures.gains p out sound all_new_data in
-    let place = subst (λ b. HasPlace b c.args.table) (sym (ap (λ (v : HeaderView). v.fields.cluster_bits) c.new_cluster.ensures.header))
-    (named_place old.file.header.fields (known_in view old.file) (l1_index_of old.file.header.fields c.args.offset) c.args.table holds.entry.place) in
-    other_limit _ c.in-Err.refusal (c.in-Err.ensures.limited new_data out gained.image_step.sound place)
-
-pub returns-in_err-old_data-clause-met : goal.returns-in_err-old_data-clause-met
-returns-in_err-old_data-clause-met g c = λ out sound holds.
-    hands_met (IsMetTaking (HasPrepared out) ⊥ (IsCopiedCompressed c.args.self.now.file.header.fields c.args.old.now c.args.offset c.args.length c.args.overwrite) ⊥) c.from_residual.result c.in_err-old_data.field-0.0 c.from_residual.ensures (inl (inl (inl c.in_err-old_data.ensures.fault)))
-
-pub returns-in_err-pending-clause-met : goal.returns-in_err-pending-clause-met
-returns-in_err-pending-clause-met g c = λ out sound holds.
-    let p = pending_in g.S.Storage.view g.F.BackingDisk.backing c.args.self.now out in
-    hands_met (IsMetTaking (HasPrepared out) ⊥ (IsCopiedCompressed c.args.self.now.file.header.fields c.args.old.now c.args.offset c.args.length c.args.overwrite) ⊥) c.from_residual-in_err-pending.result c.in_err-pending.field-0.0 c.from_residual-in_err-pending.ensures (inl (c.in_err-pending.ensures.met p out sound (λ k. omega arith)))
-
-pub returns-in-Err-clause-met : goal.returns-in-Err-clause-met
-returns-in-Err-clause-met g c = λ out sound holds.
-    let view = g.S.Storage.view in
-    let below = g.F.BackingDisk.backing in
-    let old = c.args.self.now in
-    let p = pending_in view below old out in
-    let filled = c.new_cluster.new.self in
-    let new_data = with_new_data (pending_with_listed p old filled) (run_of c.in_ok-pending.pending) in
-    let all_new_data : HoldsAll view below p out = λ x. omega arith in
-    let gained = c.in_ok-pending.ensures.gains p out sound all_new_data in
-    let place = subst (λ b. HasPlace b c.args.table) (sym (ap (λ (v : HeaderView). v.fields.cluster_bits) c.new_cluster.ensures.header))
-    (named_place old.file.header.fields (known_in view old.file) (l1_index_of old.file.header.fields c.args.offset) c.args.table holds.entry.place) in
-    looking_taking ⊥ (IsCopiedCompressed old.file.header.fields c.args.old.now c.args.offset c.args.length c.args.overwrite) ⊥ c.in-Err.refusal (c.in-Err.ensures.met new_data out gained.image_step.sound place)
 
 pub returns-in-Ok-clause-uses : goal.returns-in-Ok-clause-uses
 returns-in-Ok-clause-uses g c = λ out sound j used.
@@ -218,11 +92,103 @@ returns-in-Ok-clause-uses g c = λ out sound j used.
     let p = pending_in view below old out in
     let filled = c.new_cluster.new.self in
     let mid = c.load_l2.new.self in
-    let n = c.in_ok-pending.pending in
     let gained = c.in_ok-pending.ensures.gains p out sound (λ x. omega arith) in
-    let new_data = with_new_data (pending_with_listed p old filled) (run_of n) in
+    let new_data = with_new_data (pending_with_listed p old filled) (run_of c.in_ok-pending.pending) in
     let kept = c.in-Ok.ensures.keeps new_data out gained.image_step.sound in
     let former = c.in_ok-pending.ensures.former in
     used_pinned view below c.args.table mid c.prepare_at.new.self c.prepare_at.ensures.pins j
     (used_stays view below out new_data former.after filled mid gained.image_step.sound kept.sound c.load_l2.ensures.header former.is c.load_l2.ensures.allocator c.load_l2.ensures.table kept.unseen.covers j
     (c.in_ok-pending.ensures.uses p out sound (λ x. omega arith) j used))
+
+pub returns-in_err-old_data-clause-step : goal.returns-in_err-old_data-clause-step
+returns-in_err-old_data-clause-step g c = record { stays = search rules; notes = notes_none; header_cluster = λ some. behind_none }
+
+pub returns-in_err-pending-clause-step : goal.returns-in_err-pending-clause-step
+returns-in_err-pending-clause-step g c = record { stays = search rules; notes = c.new_cluster.ensures.step.notes; header_cluster = λ some. c.new_cluster.ensures.step.header_cluster }
+
+pub returns-in-Ok-clause-step : goal.returns-in-Ok-clause-step
+returns-in-Ok-clause-step g c = record {
+  stays = search rules;
+  notes = notes_then (notes_then c.new_cluster.ensures.step.notes c.load_l2.ensures.step.notes) (pins_kept c.load_l2.new.self c.prepare_at.new.self (ap (λ (i : Qcow2 _ _). i.file.storage) c.prepare_at.ensures.pins.rest) c.prepare_at.ensures.pins.changed c.prepare_at.ensures.pins.counted);
+  header_cluster = λ some. behind_then (behind_then c.new_cluster.ensures.step.header_cluster (c.load_l2.ensures.step.header_cluster some)) (behind_by g.S.Storage.view c.prepare_at.ensures.pins.rest (behind_tables c.prepare_at.ensures.pins.tables.behind));
+}
+
+pub returns-in-Err-clause-step : goal.returns-in-Err-clause-step
+returns-in-Err-clause-step g c = record {
+  stays = search rules;
+  notes = notes_then (notes_then c.new_cluster.ensures.step.notes c.load_l2.ensures.step.notes) (same_kept c.load_l2.new.self c.hand_back-in-Err.new.self (ap (λ (i : Qcow2 _ _). i.file.storage) c.hand_back-in-Err.ensures) (ap (λ (i : Qcow2 _ _). i.file.caches) c.hand_back-in-Err.ensures));
+  header_cluster = λ some. behind_then (behind_then c.new_cluster.ensures.step.header_cluster (c.load_l2.ensures.step.header_cluster some)) (behind_by g.S.Storage.view c.hand_back-in-Err.ensures behind_none);
+}
+
+pub returns-in_err-old_data-clause-sound : goal.returns-in_err-old_data-clause-sound
+returns-in_err-old_data-clause-sound g c = λ out sound holds.
+    let view = g.S.Storage.view in
+    let below = g.F.BackingDisk.backing in
+    let old = c.args.self.now in
+    record {
+      readies = λ unpinned covered. any_refusal (λ r. Readies view below old old out c.args.offset c.args.length c.args.overwrite r) c.from_residual.result (search rules) (back_none view below out old (pending_in view below old out) sound);
+      met = hands_met (IsMetTaking (HasPrepared out) ⊥ (IsCopiedCompressed c.args.self.now.file.header.fields c.args.old.now c.args.offset c.args.length c.args.overwrite) ⊥) c.from_residual.result c.in_err-old_data.field-0.0 c.from_residual.ensures (inl (inl (inl c.in_err-old_data.ensures.fault)));
+      limit = hands_limit (λ x. StandsInWay g.S.Storage.view HasNoCluster c.args.self.now.file.free_list c.args.self.now c.args.self.now) c.from_residual.result c.in_err-old_data.field-0.0 c.from_residual.ensures (other_limit _ c.in_err-old_data.field-0.0 c.in_err-old_data.ensures.limited);
+    }
+
+pub returns-in_err-pending-clause-sound : goal.returns-in_err-pending-clause-sound
+returns-in_err-pending-clause-sound g c = λ out sound holds.
+    let view = g.S.Storage.view in
+    let p = pending_in g.S.Storage.view g.F.BackingDisk.backing c.args.self.now out in
+    let below = g.F.BackingDisk.backing in
+    let old = c.args.self.now in
+    record {
+      readies = λ unpinned covered. handed_on (λ r. Readies view below old c.new_cluster.new.self out c.args.offset c.args.length c.args.overwrite r) c.from_residual-in_err-pending.result c.in_err-pending.field-0.0 c.from_residual-in_err-pending.ensures
+          (c.in_err-pending.ensures.gains (pending_in view below old out) out sound (λ n. omega arith));
+      met = hands_met (IsMetTaking (HasPrepared out) ⊥ (IsCopiedCompressed c.args.self.now.file.header.fields c.args.old.now c.args.offset c.args.length c.args.overwrite) ⊥) c.from_residual-in_err-pending.result c.in_err-pending.field-0.0 c.from_residual-in_err-pending.ensures (inl (c.in_err-pending.ensures.met p out sound (λ k. omega arith)));
+      limit = hands_limit (λ x. StandsInWay view HasNoCluster old.file.free_list old c.new_cluster.new.self) c.from_residual-in_err-pending.result c.in_err-pending.field-0.0 c.from_residual-in_err-pending.ensures
+          (c.in_err-pending.ensures.limit (pending_in view g.F.BackingDisk.backing old out) out sound);
+    }
+
+pub returns-in-Ok-clause-sound : goal.returns-in-Ok-clause-sound
+returns-in-Ok-clause-sound g c = λ out sound holds.
+    let view = g.S.Storage.view in
+    let below = g.F.BackingDisk.backing in
+    let old = c.args.self.now in
+    let p = pending_in view below old out in
+    let filled = c.new_cluster.new.self in
+    let n = c.in_ok-pending.pending in
+    let taken_is = c.hand_back.ensures ∙ ap (λ l. l ++ n ∷ []) c.new-taken.ensures in
+    let gained = c.in_ok-pending.ensures.gains p out sound (λ x. omega arith) in
+    let host_is = c.value-host.ensures ∙ c.offset.ensures ∙ ap (λ x. x * 2 ^ c.cluster_bits-bits.result) c.cluster.ensures ∙ ap (λ b. c.in_ok-pending.pending.first_cluster * 2 ^ b) c.cluster_bits-bits.ensures.value in
+    record {
+      met = search rules;
+      limit = search rules;
+      readies = λ unpinned covered k free. subst (λ (x : Prepared). IsReadied view below old c.prepare_at.new.self out k c.args.offset c.args.length c.args.overwrite x) (sym c.prepare_at.ensures.value)
+          (readied_new view below out old filled c.load_l2.new.self n c.args.old.now c.requires.reach c.requires.other c.hand_back.new.list c.in_ok-old_data.old_data taken_is c.in_ok-old_data.ensures.list c.prepare_at.result c.prepare_at.ensures.share k c.args.offset c.args.length c.args.table c.value-host.result c.args.overwrite free sound holds unpinned covered gained c.in_ok-pending.ensures.nameable
+          (c.in-Ok.ensures.keeps (with_new_data (pending_with_listed p old filled) (run_of c.in_ok-pending.pending)) out gained.image_step.sound) c.in-Ok.ensures.list c.in-Ok.ensures.cached host_is
+          (c.in-Ok.ensures.contents (with_new_data (pending_with_listed p old filled) (run_of c.in_ok-pending.pending)) out gained.image_step.sound) c.prepare_at.new.self c.prepare_at.ensures.pins);
+    }
+
+pub returns-in-Err-clause-sound : goal.returns-in-Err-clause-sound
+returns-in-Err-clause-sound g c = λ out sound holds.
+    let view = g.S.Storage.view in
+    let below = g.F.BackingDisk.backing in
+    let old = c.args.self.now in
+    let p = pending_in view below old out in
+    let filled = c.new_cluster.new.self in
+    let mid = c.load_l2.new.self in
+    let new_data = with_new_data (pending_with_listed p old filled) (run_of c.in_ok-pending.pending) in
+    let n = c.in_ok-pending.pending in
+    let all_new_data : HoldsAll view below p out = λ x. omega arith in
+    let gained = c.in_ok-pending.ensures.gains p out sound all_new_data in
+    record {
+      readies = λ unpinned covered. let new_data = with_new_data (pending_with_listed p old filled) (run_of n) in
+          let still = still_holds view below out old filled p n gained.one all_new_data gained.image_step in
+          let loaded = image_step_then view below out old filled mid p new_data new_data gained.image_step (image_step_kept view below out filled mid new_data new_data gained.image_step.sound still still (c.in-Err.ensures.keeps new_data out gained.image_step.sound)) in
+          let gone = subst (λ q. UnseenFillingStep view below p (with_new_data q (run_of n)) old mid out) (listed_after_on view below out p old filled mid c.in-Err.ensures.list) loaded in
+          subst (λ (image : Qcow2 _ _). RefusedFillingStep view below p old image out c.in-Err.refusal) (sym c.hand_back-in-Err.ensures)
+          (inl (image_step_left view below out old mid p n gained.one gained.kind gone));
+      met = let place = subst (λ b. HasPlace b c.args.table) (sym (ap (λ (v : HeaderView). v.fields.cluster_bits) c.new_cluster.ensures.header))
+          (named_place old.file.header.fields (known_in view old.file) (l1_index_of old.file.header.fields c.args.offset) c.args.table holds.entry.place) in
+          looking_taking ⊥ (IsCopiedCompressed old.file.header.fields c.args.old.now c.args.offset c.args.length c.args.overwrite) ⊥ c.in-Err.refusal (c.in-Err.ensures.met new_data out gained.image_step.sound place);
+      limit = let new_data = with_new_data (pending_with_listed p old filled) (run_of n) in
+          let place = subst (λ b. HasPlace b c.args.table) (sym (ap (λ (v : HeaderView). v.fields.cluster_bits) c.new_cluster.ensures.header))
+          (named_place old.file.header.fields (known_in view old.file) (l1_index_of old.file.header.fields c.args.offset) c.args.table holds.entry.place) in
+          other_limit _ c.in-Err.refusal (c.in-Err.ensures.limited new_data out gained.image_step.sound place);
+    }

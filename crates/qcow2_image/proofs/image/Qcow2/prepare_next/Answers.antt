@@ -1,4 +1,4 @@
-use Rattle.std.proofs.Common.{◌≡◌, ◌+◌, ◌-◌, min, sym, ap, ◌∙◌, subst, arith, ◌/◌}
+use Rattle.std.proofs.Common.{◌≡◌, ◌+◌, ◌-◌, min, sym, ap, ◌∙◌, subst, arith, ◌/◌, rules}
 use Rattle.std.specs.Prelude.{Ok}
 use Rattle.qcow2_metadata.specs.Header.{cluster_size}
 use Rattle.qcow2_metadata.specs.declared.header.HeaderFields.{HeaderFields}
@@ -14,51 +14,49 @@ use Rattle.qcow2_image.proofs.Prepare.MetTables.{hands_alone}
 use Rattle.qcow2_alloc.specs.ImageFile.{known_in}
 use Rattle.qcow2_image.proofs.image.Qcow2.prepare_next.Goals as goal
 
-pub returns-in_default-clause-image_step : goal.returns-in_default-clause-image_step
-returns-in_default-clause-image_step g c = λ out k at may sound.
-    subst (λ v. FindsBehind g.S.Storage.view g.F.BackingDisk.backing c.args.self.now c.share_behind.new.self out c.args.length c.args.overwrite c.args.prepared.now (Ok v)) c.in_default.is (c.in_ok-share.ensures.finds out k at may sound)
+pub returns-in_default-clause-step : goal.returns-in_default-clause-step
+returns-in_default-clause-step g c = c.share_behind.ensures.step
 
-pub returns-clause-image_step : goal.returns-clause-image_step
-returns-clause-image_step g c = λ out k at may sound.
+pub returns-clause-step : goal.returns-clause-step
+returns-clause-step g c = c.share_behind.ensures.step
+
+pub returns-in_default-clause-sound : goal.returns-in_default-clause-sound
+returns-in_default-clause-sound g c = λ out k at may sound.
+    record {
+      met = search rules;
+      limit = search rules;
+      does = subst (λ v. FindsBehind g.S.Storage.view g.F.BackingDisk.backing c.args.self.now c.share_behind.new.self out c.args.length c.args.overwrite c.args.prepared.now (Ok v)) c.in_default.is ((c.in_ok-share.ensures.sound out k at may sound).does);
+      uses = (c.in_ok-share.ensures.sound out k at may sound).uses;
+    }
+
+pub returns-clause-sound : goal.returns-clause-sound
+returns-clause-sound g c = λ out k at may sound.
     let view = g.S.Storage.view in
     let below = g.F.BackingDisk.backing in
     let old = c.args.self.now in
     let mid = c.share_behind.new.self in
     let p = c.args.prepared.now in
-    let n = c.args.length in
-    let found = subst (λ v. FindsBehind view below old mid out c.args.length c.args.overwrite c.args.prepared.now (Ok v)) c.in-Some.is (c.in_ok-share.ensures.finds out k at may sound) in
+    let found = subst (λ v. FindsBehind view below old mid out c.args.length c.args.overwrite c.args.prepared.now (Ok v)) c.in-Some.is ((c.in_ok-share.ensures.sound out k at may sound).does) in
     let size : c.cluster_size-size.result ≡ cluster_size old.file.header.fields = c.cluster_size-size.ensures.value ∙ ap (λ (x : HeaderFields). cluster_size x) (header_format old.file.header mid.file.header c.share_behind.ensures.header) in
-    let longer : c.min-prepared.result ≡ min c.args.length (p.length + cluster_size old.file.header.fields) =
-    let a = c.min-prepared.ensures in let b = c.saturating_add.ensures in let few = c.ranges.length.fits in omega arith in
-    let like : Prepared = record p { shares = c.push_reserved.new.self } in
-    subst (λ l. IsExtended view below old mid out k c.args.length c.args.overwrite p (record p { length = l; shares = c.push_reserved.new.self })) (sym longer)
-    (extended view below old mid out k p at n c.args.table c.args.overwrite may c.in-Some.share found like c.push_reserved.ensures.items sound.file.caches.kept.kept.crash_invariant)
+    record {
+      met = search rules;
+      limit = search rules;
+      does = let longer : c.min-prepared.result ≡ min c.args.length (p.length + cluster_size old.file.header.fields) =
+          let a = c.min-prepared.ensures in let b = c.saturating_add.ensures in let few = c.ranges.length.fits in omega arith in
+          let like : Prepared = record p { shares = c.push_reserved.new.self } in
+          subst (λ l. IsExtended view below old mid out k c.args.length c.args.overwrite p (record p { length = l; shares = c.push_reserved.new.self })) (sym longer)
+          (extended view below old mid out k p at c.args.length c.args.table c.args.overwrite may c.in-Some.share found like c.push_reserved.ensures.items sound.file.caches.kept.kept.crash_invariant);
+      uses = (c.in_ok-share.ensures.sound out k at may sound).uses;
+    }
 
-pub returns-in_default-clause-notes : goal.returns-in_default-clause-notes
-returns-in_default-clause-notes g c = c.share_behind.ensures.notes
-
-pub returns-clause-notes : goal.returns-clause-notes
-returns-clause-notes g c = c.share_behind.ensures.notes
-
-pub returns-in_default-clause-header_cluster : goal.returns-in_default-clause-header_cluster
-returns-in_default-clause-header_cluster g c = c.share_behind.ensures.header_cluster
-
-pub returns-clause-header_cluster : goal.returns-clause-header_cluster
-returns-clause-header_cluster g c = c.share_behind.ensures.header_cluster
-
-pub returns-in_default-clause-uses : goal.returns-in_default-clause-uses
-returns-in_default-clause-uses g c = λ out k at may sound. c.in_ok-share.ensures.uses out k at may sound
-
-pub returns-clause-uses : goal.returns-clause-uses
-returns-clause-uses g c = λ out k at may sound. c.in_ok-share.ensures.uses out k at may sound
-
-pub returns-in_err-share-clause-limit : goal.returns-in_err-share-clause-limit
-returns-in_err-share-clause-limit g c = λ out k at may sound.
-    hands_limit (λ x. CantGoBehind g.S.Storage.view c.args.prepared.now c.args.self.now c.share_behind.new.self) c.from_residual.result c.in_err-share.field-0.0 c.from_residual.ensures (c.in_err-share.ensures.limit out k at may sound)
-
-pub returns-in_err-share-clause-met : goal.returns-in_err-share-clause-met
-returns-in_err-share-clause-met g c = λ out k at may sound.
+pub returns-in_err-share-clause-sound : goal.returns-in_err-share-clause-sound
+returns-in_err-share-clause-sound g c = λ out k at may sound.
     let old = c.args.self.now in
     let p = c.args.prepared.now in
     let h = old.file.header.fields in
-    hands_alone (IsCopiedCompressed h (cover h (known_in g.S.Storage.view old.file) ((p.guest + p.length) / cluster_size h)) (p.guest + p.length) (c.args.length - p.length) c.args.overwrite) ⊥ c.from_residual.result c.in_err-share.field-0.0 c.from_residual.ensures (c.in_err-share.ensures.met out k at may sound)
+    record {
+      does = search rules;
+      uses = search rules;
+      met = hands_alone (IsCopiedCompressed h (cover h (known_in g.S.Storage.view old.file) ((p.guest + p.length) / cluster_size h)) (p.guest + p.length) (c.args.length - p.length) c.args.overwrite) ⊥ c.from_residual.result c.in_err-share.field-0.0 c.from_residual.ensures ((c.in_err-share.ensures.sound out k at may sound).met);
+      limit = hands_limit (λ x. CantGoBehind g.S.Storage.view c.args.prepared.now c.args.self.now c.share_behind.new.self) c.from_residual.result c.in_err-share.field-0.0 c.from_residual.ensures ((c.in_err-share.ensures.sound out k at may sound).limit);
+    }

@@ -1,5 +1,5 @@
 use Rattle.qcow2_image.proofs.image.Qcow2.prepare_private.Goals as goal
-use Rattle.std.proofs.Common.{refl, ◌∙◌, inl, subst}
+use Rattle.std.proofs.Common.{refl, ◌∙◌, inl, subst, rules}
 use Rattle.qcow2_metadata.specs.Header.{cluster_size}
 use Rattle.qcow2_image.specs.PreparedPlaces.{MarkedIsBehind}
 use Rattle.qcow2_image.proofs.Map.Loading.{if_ok, if_ok_any}
@@ -28,18 +28,6 @@ returns-in-None-clause-kept g c = if_ok_any c.prepare_new.result (λ p host at. 
 pub returns-in-Some-clause-former : goal.returns-in-Some-clause-former
 returns-in-Some-clause-former g c = always_ok c.prepare_kept.result (lists_still c.args.self.now c.args.self.now c.prepare_kept.new.self (lists_none c.args.self.now c.requires.writable) c.prepare_kept.ensures.list)
 
-pub returns-in-Some-clause-notes : goal.returns-in-Some-clause-notes
-returns-in-Some-clause-notes g c = c.prepare_kept.ensures.notes
-
-pub returns-in-None-clause-notes : goal.returns-in-None-clause-notes
-returns-in-None-clause-notes g c = c.prepare_new.ensures.notes
-
-pub returns-in-Some-clause-header_cluster : goal.returns-in-Some-clause-header_cluster
-returns-in-Some-clause-header_cluster g c = λ some. c.prepare_kept.ensures.header_cluster
-
-pub returns-in-None-clause-header_cluster : goal.returns-in-None-clause-header_cluster
-returns-in-None-clause-header_cluster g c = c.prepare_new.ensures.header_cluster
-
 pub returns-in-Some-clause-lowest : goal.returns-in-Some-clause-lowest
 returns-in-Some-clause-lowest g c = λ out sound. c.prepare_kept.ensures.lowest
 
@@ -48,7 +36,7 @@ returns-in-None-clause-lowest g c = λ out sound. c.prepare_new.ensures.lowest o
 
 pub returns-in-Some-clause-limit : goal.returns-in-Some-clause-limit
 returns-in-Some-clause-limit g c = λ out sound holds.
-    unlimited_all c.prepare_kept.result (λ e. LacksFirstCluster g.S.Storage.view c.args.old.now c.args.self.now.file.free_list c.args.self.now c.prepare_kept.new.self) c.prepare_kept.ensures.limited
+    unlimited_all c.prepare_kept.result (λ e. LacksFirstCluster g.S.Storage.view c.args.old.now c.args.self.now.file.free_list c.args.self.now c.prepare_kept.new.self) c.prepare_kept.ensures.fails.limited
 
 pub returns-in-None-clause-limit : goal.returns-in-None-clause-limit
 returns-in-None-clause-limit g c = λ out sound holds.
@@ -56,17 +44,26 @@ returns-in-None-clause-limit g c = λ out sound holds.
     let old = c.args.self.now in
     let new = c.prepare_new.new.self in
     limits_as (λ x. StandsInWay view HasNoCluster old.file.free_list old new) (λ x. LacksFirstCluster view c.args.old.now old.file.free_list old new) c.prepare_new.result
-    (λ e full. (needs_new c.args.old.now c.requires.other (c.in-None.ensures.none refl), full)) (c.prepare_new.ensures.limit out sound holds)
+    (λ e full. (needs_new c.args.old.now c.requires.other (c.in-None.ensures.none refl), full)) ((c.prepare_new.ensures.sound out sound holds).limit)
 
 pub returns-in-Some-clause-met : goal.returns-in-Some-clause-met
 returns-in-Some-clause-met g c = λ out sound holds covered.
     met_as IsFault (IsMetTaking (HasPrepared out) ⊥ (IsCopiedCompressed c.args.self.now.file.header.fields c.args.old.now c.args.offset c.args.length c.args.overwrite) ⊥) c.prepare_kept.result (λ e fault. inl (inl (inl fault))) (c.prepare_kept.ensures.fault out sound (covered ∙ c.in-Some.ensures.place.0))
 
 pub returns-in-None-clause-met : goal.returns-in-None-clause-met
-returns-in-None-clause-met g c = λ out sound holds covered. c.prepare_new.ensures.met out sound holds
+returns-in-None-clause-met g c = λ out sound holds covered. (c.prepare_new.ensures.sound out sound holds).met
 
 pub returns-in-Some-clause-uses : goal.returns-in-Some-clause-uses
 returns-in-Some-clause-uses g c = λ out sound holds unpinned covered. c.prepare_kept.ensures.uses c.requires.writable out sound holds unpinned (covered ∙ c.in-Some.ensures.place.0)
 
 pub returns-in-None-clause-uses : goal.returns-in-None-clause-uses
 returns-in-None-clause-uses g c = λ out sound holds unpinned covered. c.prepare_new.ensures.uses out sound
+
+pub returns-in-Some-clause-step : goal.returns-in-Some-clause-step
+returns-in-Some-clause-step g c = record { stays = search rules; notes = c.prepare_kept.ensures.step.notes; header_cluster = λ some. c.prepare_kept.ensures.step.header_cluster }
+
+pub returns-in-None-clause-step : goal.returns-in-None-clause-step
+returns-in-None-clause-step g c = record { stays = search rules; notes = c.prepare_new.ensures.step.notes; header_cluster = c.prepare_new.ensures.step.header_cluster }
+
+pub returns-in-None-clause-readies : goal.returns-in-None-clause-readies
+returns-in-None-clause-readies g c = λ out sound holds unpinned covered. (c.prepare_new.ensures.sound out sound holds).readies unpinned covered

@@ -1,5 +1,5 @@
 use Rattle.qcow2_image.proofs.image.Qcow2.prepare_range.Goals as goal
-use Rattle.std.proofs.Common.{◌≡◌, true, false, inl, inr, refl, sym, subst, None, Option, [], ◌∷◌, ap, ◌<◌, ◌≤◌, ℕ}
+use Rattle.std.proofs.Common.{◌≡◌, true, false, inl, inr, refl, sym, subst, None, Option, [], ◌∷◌, ap, ◌<◌, ◌≤◌, ℕ, rules}
 use Rattle.qcow2_alloc.specs.ImageFile.{known_in}
 use Rattle.qcow2_alloc.proofs.AllocationSteps.{handed_on}
 use Rattle.qcow2_image.specs.CallParts.{PreparesRange}
@@ -30,77 +30,6 @@ use Rattle.qcow2_image.specs.Backings.{HasPrepared}
 use Rattle.qcow2_image.proofs.Prepare.Met.{hands_met}
 use Rattle.qcow2_image.proofs.Prepare.MetTaking.{if_err_both, taking_as, taking_kept}
 
-pub returns-in_err-table-clause-readies : goal.returns-in_err-table-clause-readies
-returns-in_err-table-clause-readies g c = λ some out sound.
-    handed_on (λ r. PreparesRange g.S.Storage.view g.F.BackingDisk.backing c.args.self.now c.table_for.new.self out c.args.offset c.args.length c.args.overwrite r) c.from_residual.result c.in_err-table.field-0.0 c.from_residual.ensures
-    (c.in_err-table.ensures.finds out sound)
-
-pub returns-in_err-host-clause-readies : goal.returns-in_err-host-clause-readies
-returns-in_err-host-clause-readies g c = λ some out sound.
-    handed_on (λ r. PreparesRange g.S.Storage.view g.F.BackingDisk.backing c.args.self.now c.table_for.new.self out c.args.offset c.args.length c.args.overwrite r) c.from_residual-in_err-host.result c.in_err-host.field-0.0 c.from_residual-in_err-host.ensures
-    (inl (c.in_ok-table.ensures.finds out sound).0)
-
-pub returns-in-Some-clause-readies : goal.returns-in-Some-clause-readies
-returns-in-Some-clause-readies g c = λ some out sound k free.
-    let view = g.S.Storage.view in
-    let below = g.F.BackingDisk.backing in
-    let found = c.in_ok-table.ensures.finds out sound in
-    readied_after view below out c.args.self.now c.table_for.new.self c.table_for.new.self found.0 k c.args.offset c.args.length c.args.overwrite c.existing_at.result
-    (readied_existing view below out c.table_for.new.self found.0.sound c.existing_at.result c.args.offset c.args.length c.existing_at.ensures.existing k free c.args.overwrite)
-
-pub returns-in-None-clause-readies : goal.returns-in-None-clause-readies
-returns-in-None-clause-readies g c = λ some out sound.
-    let found = c.in_ok-table.ensures.finds out sound in
-    prepares_after g.S.Storage.view g.F.BackingDisk.backing out c.args.self.now c.table_for.new.self c.prepare_in.new.self found.0 c.args.offset c.args.length c.args.overwrite c.prepare_in.result
-    (c.prepare_in.ensures.readies out found.0.sound found.1)
-
-pub returns-in-Some-clause-answers : goal.returns-in-Some-clause-answers
-returns-in-Some-clause-answers g c = λ some out sound.
-    let view = g.S.Storage.view in
-    let below = g.F.BackingDisk.backing in
-    let old = c.args.self.now in
-    let mid = c.table_for.new.self in
-    let h = mid.file.header.fields in
-    let known = known_in view mid.file in
-    let q = c.existing_at.result in
-    let found = c.in_ok-table.ensures.finds out sound in
-    let p = pending_in view below mid out in
-    let place = subst (IsPlaceOf h known c.args.offset c.args.length) c.in-Some.is (c.in_ok-host.ensures.place p found.0.sound.file found.1.entry some) in
-    answered_before view old mid c.args.offset c.args.length found.0.header found.0.covers mid.file.header.fields known q (meaning view below mid q)
-    (answered_existing view below mid known c.args.offset c.args.length q mid.number some c.existing_at.ensures.existing (subst (IsWritableAt h known c.args.offset c.args.length) (sym c.existing_at.ensures.offset) place))
-
-pub returns-in-None-clause-answers : goal.returns-in-None-clause-answers
-returns-in-None-clause-answers g c = λ some out sound.
-    let view = g.S.Storage.view in
-    let below = g.F.BackingDisk.backing in
-    let old = c.args.self.now in
-    let mid = c.table_for.new.self in
-    let new = c.prepare_in.new.self in
-    let known = known_in view mid.file in
-    let now = known_in view new.file in
-    let found = c.in_ok-table.ensures.finds out sound in
-    let p = pending_in view below mid out in
-    let place = subst (IsPlaceOf mid.file.header.fields known c.args.offset c.args.length) c.in-None.is (c.in_ok-host.ensures.place p found.0.sound.file found.1.entry some) in
-    let placed = (free_places view below).free mid [] out found.0.sound in
-    if_ok c.prepare_in.result
-    (λ q is. answered_before view old mid c.args.offset c.args.length found.0.header found.0.covers new.file.header.fields now q (meaning view below new q) is)
-    (answered_range view below mid new (None ∷ out) 0 c.args.offset c.args.length c.args.overwrite refl place c.prepare_in.result
-    (c.prepare_in.ensures.readies (None ∷ out) placed found.1) (c.prepare_in.ensures.reaches (None ∷ out) 0 refl placed found.1))
-
-pub returns-in-None-clause-taken : goal.returns-in-None-clause-taken
-returns-in-None-clause-taken g c = λ some out sound.
-    let view = g.S.Storage.view in
-    let below = g.F.BackingDisk.backing in
-    let old = c.args.self.now in
-    let mid = c.table_for.new.self in
-    let found = c.in_ok-table.ensures.finds out sound in
-    let p = pending_in view below mid out in
-    let place = subst (IsPlaceOf mid.file.header.fields (known_in view mid.file) c.args.offset c.args.length) c.in-None.is (c.in_ok-host.ensures.place p found.0.sound.file found.1.entry some) in
-    if_err c.prepare_in.result
-    (λ e taken is.
-    taken_before view old mid c.args.offset c.args.length found.0.header found.0.covers out
-    (taken_by view below mid p out found.0.sound c.args.offset c.in_ok-table.table found.1 (known_in view mid.file) c.args.length (taken is) place)) c.prepare_in.ensures.taken
-
 pub returns-in-Some-clause-some : goal.returns-in-Some-clause-some
 returns-in-Some-clause-some g c = λ some.
     let h = c.table_for.new.self.file.header.fields in
@@ -113,42 +42,18 @@ returns-in-None-clause-some g c = if_ok c.prepare_in.result (λ p has some. has)
 pub returns-in-Some-clause-tables : goal.returns-in-Some-clause-tables
 returns-in-Some-clause-tables g c = λ out sound.
     record {
-      lists = c.in_ok-table.ensures.freed out sound;
+      lists = (c.in_ok-table.ensures.sound out sound).freed;
     }
 
 pub returns-in-None-clause-tables : goal.returns-in-None-clause-tables
 returns-in-None-clause-tables g c = λ out sound.
     on_ok c.prepare_in.result
     (λ former. record {
-      lists = lists_since c.args.offset c.args.self.now c.table_for.new.self c.prepare_in.new.self (c.in_ok-table.ensures.freed out sound) former;
+      lists = lists_since c.args.offset c.args.self.now c.table_for.new.self c.prepare_in.new.self ((c.in_ok-table.ensures.sound out sound).freed) former;
     }) c.prepare_in.ensures.former
 
-pub returns-in_err-table-clause-notes : goal.returns-in_err-table-clause-notes
-returns-in_err-table-clause-notes g c = c.table_for.ensures.notes
-
-pub returns-in_err-host-clause-notes : goal.returns-in_err-host-clause-notes
-returns-in_err-host-clause-notes g c = c.table_for.ensures.notes
-
-pub returns-in-Some-clause-notes : goal.returns-in-Some-clause-notes
-returns-in-Some-clause-notes g c = c.table_for.ensures.notes
-
-pub returns-in-None-clause-notes : goal.returns-in-None-clause-notes
-returns-in-None-clause-notes g c = notes_then c.table_for.ensures.notes c.prepare_in.ensures.notes
-
-pub returns-in_err-table-clause-header_cluster : goal.returns-in_err-table-clause-header_cluster
-returns-in_err-table-clause-header_cluster g c = c.table_for.ensures.header_cluster
-
-pub returns-in_err-host-clause-header_cluster : goal.returns-in_err-host-clause-header_cluster
-returns-in_err-host-clause-header_cluster g c = c.table_for.ensures.header_cluster
-
-pub returns-in-Some-clause-header_cluster : goal.returns-in-Some-clause-header_cluster
-returns-in-Some-clause-header_cluster g c = c.table_for.ensures.header_cluster
-
-pub returns-in-None-clause-header_cluster : goal.returns-in-None-clause-header_cluster
-returns-in-None-clause-header_cluster g c = behind_then c.table_for.ensures.header_cluster (c.prepare_in.ensures.header_cluster c.in_ok-table.ensures.elsewhere)
-
 pub returns-in_err-table-clause-pinned : goal.returns-in_err-table-clause-pinned
-returns-in_err-table-clause-pinned g c = λ own. unpinned_refused c.args.self.now c.args.offset c.from_residual.result c.in_err-table.field-0.0 c.from_residual.ensures (λ is. absurd (met_untaken c.in_err-table.field-0.0 c.in_err-table.ensures.cause is))
+returns-in_err-table-clause-pinned g c = λ own. unpinned_refused c.args.self.now c.args.offset c.from_residual.result c.in_err-table.field-0.0 c.from_residual.ensures (λ is. absurd (met_untaken c.in_err-table.field-0.0 c.in_err-table.ensures.fails.cause is))
 
 pub returns-in_err-host-clause-pinned : goal.returns-in_err-host-clause-pinned
 returns-in_err-host-clause-pinned g c = λ own. unpinned_refused c.args.self.now c.args.offset c.from_residual-in_err-host.result c.in_err-host.field-0.0 c.from_residual-in_err-host.ensures (λ is. absurd (met_untaken c.in_err-host.field-0.0 c.in_err-host.ensures.cause is))
@@ -160,51 +65,6 @@ pub returns-in-None-clause-pinned : goal.returns-in-None-clause-pinned
 returns-in-None-clause-pinned g c = λ own.
     prepared_unpinned c.args.self.now c.args.offset _ c.prepare_in.result (found_pins c.args.self.now c.table_for.new.self c.args.offset c.in_ok-table.table (c.in_ok-table.ensures.own own)) c.prepare_in.ensures.taken c.prepare_in.ensures.unpinned
 
-pub returns-in_err-table-clause-limit : goal.returns-in_err-table-clause-limit
-returns-in_err-table-clause-limit g c = λ some out sound.
-    hands_limit (λ x. LacksRange g.S.Storage.view c.args.offset c.args.length c.args.self.now c.table_for.new.self) c.from_residual.result c.in_err-table.field-0.0 c.from_residual.ensures (λ is. inl (c.in_err-table.ensures.limit out sound is))
-
-pub returns-in_err-host-clause-limit : goal.returns-in_err-host-clause-limit
-returns-in_err-host-clause-limit g c = λ some out sound.
-    hands_limit (λ x. LacksRange g.S.Storage.view c.args.offset c.args.length c.args.self.now c.table_for.new.self) c.from_residual-in_err-host.result c.in_err-host.field-0.0 c.from_residual-in_err-host.ensures (other_limit _ c.in_err-host.field-0.0 c.in_err-host.ensures.limited)
-
-pub returns-in-None-clause-limit : goal.returns-in-None-clause-limit
-returns-in-None-clause-limit g c = λ some out sound.
-    let view = g.S.Storage.view in
-    let old = c.args.self.now in
-    let mid = c.table_for.new.self in
-    let new = c.prepare_in.new.self in
-    let found = c.in_ok-table.ensures.finds out sound in
-    let p = pending_in view g.F.BackingDisk.backing mid out in
-    let nowhere = subst (IsPlaceOf mid.file.header.fields (known_in view mid.file) c.args.offset c.args.length) c.in-None.is (c.in_ok-host.ensures.place p found.0.sound.file found.1.entry some) in
-    limits_as (λ x. LacksData view c.args.offset c.args.length mid.file.free_list mid new) (λ x. LacksRange view c.args.offset c.args.length old new) c.prepare_in.result
-    (λ e lacks. inr (nowhere_before view old mid c.args.offset c.args.length found.0.header found.0.covers nowhere, data_after_table view c.args.offset c.args.length old mid new found.0.header found.0.covers (c.in_ok-table.ensures.freed out sound) lacks)) (c.prepare_in.ensures.limit out found.0.sound found.1 some)
-
-pub returns-in_err-table-clause-met : goal.returns-in_err-table-clause-met
-returns-in_err-table-clause-met g c = λ some out sound.
-    let old = c.args.self.now in
-    let h = old.file.header.fields in
-    let known = known_in g.S.Storage.view old.file in
-    hands_met (IsMetTaking (HasPrepared out) (IsTaken h known c.args.offset c.args.length out) (CopiesCompressed c.args.offset c.args.length c.args.overwrite h known) (NeedsFarEntry old c.args.offset)) c.from_residual.result c.in_err-table.field-0.0 c.from_residual.ensures
-    (taking_as (λ held. held) (λ no. absurd no) (λ no. absurd no) (λ far. far) c.in_err-table.field-0.0 (c.in_err-table.ensures.met out sound))
-
-pub returns-in_err-host-clause-met : goal.returns-in_err-host-clause-met
-returns-in_err-host-clause-met g c = λ some out sound.
-    let mid = c.table_for.new.self in
-    let found = c.in_ok-table.ensures.finds out sound in
-    absurd (let no : false ≡ true = c.in_err-host.ensures.reads (pending_in g.S.Storage.view g.F.BackingDisk.backing mid out) found.0.sound.file found.1.entry in cc)
-
-pub returns-in-None-clause-met : goal.returns-in-None-clause-met
-returns-in-None-clause-met g c = λ some out sound.
-    let view = g.S.Storage.view in
-    let old = c.args.self.now in
-    let mid = c.table_for.new.self in
-    let found = c.in_ok-table.ensures.finds out sound in
-    let size : cluster_size mid.file.header.fields ≡ cluster_size old.file.header.fields = ap (λ (x : HeaderFields). cluster_size x) found.0.header in
-    if_err_both
-    (λ e. taking_kept (compressed_as old.file.header.fields mid.file.header.fields (known_in view old.file) (known_in view mid.file) c.args.offset c.args.length c.args.overwrite size found.0.covers) (λ no. absurd no) e)
-    c.prepare_in.result (returns-in-None-clause-taken g c some out sound) (c.prepare_in.ensures.met out found.0.sound found.1 some)
-
 pub returns-in-Some-clause-l1_place : goal.returns-in-Some-clause-l1_place
 returns-in-Some-clause-l1_place g c = c.in_ok-table.ensures.l1_place
 
@@ -213,17 +73,110 @@ returns-in-None-clause-l1_place g c = λ within.
     on_ok c.prepare_in.result
     (λ former. place_then c.args.self.now.file.header.fields c.table_for.new.self.file.header.fields c.prepare_in.new.self.file.header.fields (c.in_ok-table.ensures.l1_place within) (place_kept c.table_for.new.self.file.header c.prepare_in.new.self.file.header c.prepare_in.ensures.header)) c.prepare_in.ensures.former
 
-pub returns-in-Some-clause-freeing : goal.returns-in-Some-clause-freeing
-returns-in-Some-clause-freeing g c = λ some out sound none. c.in_ok-table.ensures.freeing out sound
+pub returns-in_err-table-clause-step : goal.returns-in_err-table-clause-step
+returns-in_err-table-clause-step g c = c.table_for.ensures.step
 
-pub returns-in-None-clause-freeing : goal.returns-in-None-clause-freeing
-returns-in-None-clause-freeing g c = λ some out sound.
+pub returns-in_err-host-clause-step : goal.returns-in_err-host-clause-step
+returns-in_err-host-clause-step g c = c.table_for.ensures.step
+
+pub returns-in-Some-clause-step : goal.returns-in-Some-clause-step
+returns-in-Some-clause-step g c = c.table_for.ensures.step
+
+pub returns-in-None-clause-step : goal.returns-in-None-clause-step
+returns-in-None-clause-step g c = record {
+  stays = search rules;
+  notes = notes_then c.table_for.ensures.step.notes c.prepare_in.ensures.step.notes;
+  header_cluster = behind_then c.table_for.ensures.step.header_cluster (c.prepare_in.ensures.step.header_cluster c.in_ok-table.ensures.elsewhere);
+}
+
+pub returns-in_err-table-clause-sound : goal.returns-in_err-table-clause-sound
+returns-in_err-table-clause-sound g c = λ some out sound.
+    let old = c.args.self.now in
+    let h = old.file.header.fields in
+    let known = known_in g.S.Storage.view old.file in
+    record {
+      taken = search rules;
+      answers = search rules;
+      freeing = search rules;
+      readies = handed_on (λ r. PreparesRange g.S.Storage.view g.F.BackingDisk.backing c.args.self.now c.table_for.new.self out c.args.offset c.args.length c.args.overwrite r) c.from_residual.result c.in_err-table.field-0.0 c.from_residual.ensures
+          ((c.in_err-table.ensures.sound out sound).finds);
+      met = hands_met (IsMetTaking (HasPrepared out) (IsTaken h known c.args.offset c.args.length out) (CopiesCompressed c.args.offset c.args.length c.args.overwrite h known) (NeedsFarEntry old c.args.offset)) c.from_residual.result c.in_err-table.field-0.0 c.from_residual.ensures
+          (taking_as (λ held. held) (λ no. absurd no) (λ no. absurd no) (λ far. far) c.in_err-table.field-0.0 ((c.in_err-table.ensures.sound out sound).met));
+      limit = hands_limit (λ x. LacksRange g.S.Storage.view c.args.offset c.args.length c.args.self.now c.table_for.new.self) c.from_residual.result c.in_err-table.field-0.0 c.from_residual.ensures (λ is. inl ((c.in_err-table.ensures.sound out sound).limit is));
+    }
+
+pub returns-in_err-host-clause-sound : goal.returns-in_err-host-clause-sound
+returns-in_err-host-clause-sound g c = λ some out sound.
+    let mid = c.table_for.new.self in
+    let found = (c.in_ok-table.ensures.sound out sound).finds in
+    record {
+      taken = search rules;
+      answers = search rules;
+      freeing = search rules;
+      readies = handed_on (λ r. PreparesRange g.S.Storage.view g.F.BackingDisk.backing c.args.self.now c.table_for.new.self out c.args.offset c.args.length c.args.overwrite r) c.from_residual-in_err-host.result c.in_err-host.field-0.0 c.from_residual-in_err-host.ensures
+          (inl ((c.in_ok-table.ensures.sound out sound).finds).0);
+      met = absurd (let no : false ≡ true = c.in_err-host.ensures.reads (pending_in g.S.Storage.view g.F.BackingDisk.backing mid out) found.0.sound.file found.1.entry in cc);
+      limit = hands_limit (λ x. LacksRange g.S.Storage.view c.args.offset c.args.length c.args.self.now c.table_for.new.self) c.from_residual-in_err-host.result c.in_err-host.field-0.0 c.from_residual-in_err-host.ensures (other_limit _ c.in_err-host.field-0.0 c.in_err-host.ensures.limited);
+    }
+
+pub returns-in-Some-clause-sound : goal.returns-in-Some-clause-sound
+returns-in-Some-clause-sound g c = λ some out sound.
+    let view = g.S.Storage.view in
+    let below = g.F.BackingDisk.backing in
+    let found = (c.in_ok-table.ensures.sound out sound).finds in
+    let mid = c.table_for.new.self in
+    let h = mid.file.header.fields in
+    let known = known_in view mid.file in
+    let q = c.existing_at.result in
+    let p = pending_in view below mid out in
+    let place = subst (IsPlaceOf h known c.args.offset c.args.length) c.in-Some.is (c.in_ok-host.ensures.place p found.0.sound.file found.1.entry some) in
+    record {
+      met = search rules;
+      taken = search rules;
+      limit = search rules;
+      readies = λ k free. readied_after view below out c.args.self.now c.table_for.new.self c.table_for.new.self found.0 k c.args.offset c.args.length c.args.overwrite c.existing_at.result
+          (readied_existing view below out c.table_for.new.self found.0.sound c.existing_at.result c.args.offset c.args.length c.existing_at.ensures.existing k free c.args.overwrite);
+      answers = answered_before view c.args.self.now mid c.args.offset c.args.length found.0.header found.0.covers mid.file.header.fields known q (meaning view below mid q)
+          (answered_existing view below mid known c.args.offset c.args.length q mid.number some c.existing_at.ensures.existing (subst (IsWritableAt h known c.args.offset c.args.length) (sym c.existing_at.ensures.offset) place));
+      freeing = λ none. (c.in_ok-table.ensures.sound out sound).freeing;
+    }
+
+pub returns-in-None-clause-sound : goal.returns-in-None-clause-sound
+returns-in-None-clause-sound g c = λ some out sound.
+    let found = (c.in_ok-table.ensures.sound out sound).finds in
     let view = g.S.Storage.view in
     let old = c.args.self.now in
+    let below = g.F.BackingDisk.backing in
     let mid = c.table_for.new.self in
-    let found = c.in_ok-table.ensures.finds out sound in
+    let new = c.prepare_in.new.self in
+    let size : cluster_size mid.file.header.fields ≡ cluster_size old.file.header.fields = ap (λ (x : HeaderFields). cluster_size x) found.0.header in
     let p = pending_in view g.F.BackingDisk.backing mid out in
     let nowhere = subst (IsPlaceOf mid.file.header.fields (known_in view mid.file) c.args.offset c.args.length) c.in-None.is (c.in_ok-host.ensures.place p found.0.sound.file found.1.entry some) in
-    let never = nowhere_before view old mid c.args.offset c.args.length found.0.header found.0.covers nowhere in
+    let taken =
+    let p = pending_in view below mid out in
+    let place = subst (IsPlaceOf mid.file.header.fields (known_in view mid.file) c.args.offset c.args.length) c.in-None.is (c.in_ok-host.ensures.place p found.0.sound.file found.1.entry some) in
+    if_err c.prepare_in.result
+    (λ e taken is.
+    taken_before view old mid c.args.offset c.args.length found.0.header found.0.covers out
+    (taken_by view below mid p out found.0.sound c.args.offset c.in_ok-table.table found.1 (known_in view mid.file) c.args.length (taken is) place)) c.prepare_in.ensures.taken in
+    let answers =
+    let p = pending_in view below mid out in
+    let place = subst (IsPlaceOf mid.file.header.fields (known_in view mid.file) c.args.offset c.args.length) c.in-None.is (c.in_ok-host.ensures.place p found.0.sound.file found.1.entry some) in
+    let placed = (free_places view below).free mid [] out found.0.sound in
     if_ok c.prepare_in.result
-    (λ q is none. let place = is.existing.0 none in absurd (never place.0 place.1)) (returns-in-None-clause-answers g c some out sound)
+    (λ q is. answered_before view old mid c.args.offset c.args.length found.0.header found.0.covers new.file.header.fields (known_in view new.file) q (meaning view below new q) is)
+    (answered_range view below mid new (None ∷ out) 0 c.args.offset c.args.length c.args.overwrite refl place c.prepare_in.result
+    ((c.prepare_in.ensures.sound (None ∷ out) placed found.1).readies) (c.prepare_in.ensures.reaches (None ∷ out) 0 refl placed found.1)) in
+    record {
+      readies = prepares_after g.S.Storage.view g.F.BackingDisk.backing out c.args.self.now c.table_for.new.self c.prepare_in.new.self found.0 c.args.offset c.args.length c.args.overwrite c.prepare_in.result
+          ((c.prepare_in.ensures.sound out found.0.sound found.1).readies);
+      met = if_err_both
+          (λ e. taking_kept (compressed_as old.file.header.fields mid.file.header.fields (known_in view old.file) (known_in view mid.file) c.args.offset c.args.length c.args.overwrite size found.0.covers) (λ no. absurd no) e)
+          c.prepare_in.result taken ((c.prepare_in.ensures.sound out found.0.sound found.1).met some);
+      taken = taken;
+      answers = answers;
+      freeing = if_ok c.prepare_in.result
+          (λ q is none. let place = is.existing.0 none in absurd ((nowhere_before view old mid c.args.offset c.args.length found.0.header found.0.covers nowhere) place.0 place.1)) answers;
+      limit = limits_as (λ x. LacksData view c.args.offset c.args.length mid.file.free_list mid new) (λ x. LacksRange view c.args.offset c.args.length old new) c.prepare_in.result
+          (λ e lacks. inr (nowhere_before view old mid c.args.offset c.args.length found.0.header found.0.covers nowhere, data_after_table view c.args.offset c.args.length old mid new found.0.header found.0.covers ((c.in_ok-table.ensures.sound out sound).freed) lacks)) ((c.prepare_in.ensures.sound out found.0.sound found.1).limit some);
+    }

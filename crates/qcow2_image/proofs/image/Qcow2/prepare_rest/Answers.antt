@@ -1,4 +1,4 @@
-use Rattle.std.proofs.Common.{◌≡◌, ◌-◌, ◌*◌, ◌%◌, ◌<◌, true, false, inr, refl, sym, ap, ◌∙◌, subst, arith, min, ◌+◌}
+use Rattle.std.proofs.Common.{◌≡◌, ◌-◌, ◌*◌, ◌%◌, ◌<◌, true, false, inr, refl, sym, ap, ◌∙◌, subst, arith, min, ◌+◌, rules}
 use Rattle.std.specs.Prelude.{Ok, Err, Some, None, slice_set, vec_capacity}
 use Rattle.qcow2_metadata.specs.Header.{cluster_size}
 use Rattle.qcow2_alloc.proofs.AllocationSteps.{handed_on}
@@ -24,51 +24,6 @@ use Rattle.qcow2_image.proofs.Prepare.Behind.{next_begins}
 use Rattle.qcow2_image.proofs.Prepare.MetRanges.{alone_as}
 use Rattle.qcow2_image.proofs.Prepare.Unannounced.{compressed_as, compressed_at}
 use Rattle.qcow2_image.proofs.image.Qcow2.prepare_rest.Goals as goal
-
-pub returns-in_err-prepare_next-clause-image_step : goal.returns-in_err-prepare_next-clause-image_step
-returns-in_err-prepare_next-clause-image_step g c = λ start out k free under is.
-    let view = g.S.Storage.view in
-    let below = g.F.BackingDisk.backing in
-    let old = c.args.self.now in
-    let now = c.loop-prepared.self in
-    let new = c.prepare_next.new.self in
-    let p = c.args.prepared.now in
-    let q = c.loop-prepared.prepared in
-    let n = c.args.length in
-    let e = c.in_err-prepare_next.field-0.0 in
-    let so = c.loop-prepared.invariant.turns in
-    let bound = c.min-end.ensures ∙ ap (min c.args.length) c.rest_of_table.ensures.value in
-    let same : c.prepare_next.new.prepared ≡ q = c.prepare_next.ensures.same (λ ok. absurd (let f : Err e ≡ Ok true = sym c.in_err-prepare_next.was ∙ ok in cc)) in
-    let before = so.image_step start out k free under is in
-    handed_on (λ r. GoesOn view below start new out k n c.args.overwrite c.prepare_next.new.prepared r) c.from_residual.result e c.from_residual.ensures
-    (subst (λ (x : Prepared). BreaksOff view below start new out k n c.args.overwrite x e) (sym same)
-    (record {
-      mid = now;
-      readied = before;
-      refused = c.in_err-prepare_next.ensures.image_step (slice_set out k (Some q)) k (get_set_same out k (Some q) None free)
-          (may_go_on view below old now p q n c.min-end.result c.args.table c.args.overwrite so bound c.loop-prepared-test.true start out k under is) before.sound;
-    }))
-
-pub returns-then-not-branch-clause-image_step : goal.returns-then-not-branch-clause-image_step
-returns-then-not-branch-clause-image_step g c = λ start out k free under is.
-    let view = g.S.Storage.view in
-    let below = g.F.BackingDisk.backing in
-    let old = c.args.self.now in
-    let now = c.loop-prepared.self in
-    let new = c.prepare_next.new.self in
-    let p = c.args.prepared.now in
-    let q = c.loop-prepared.prepared in
-    let n = c.args.length in
-    let so = c.loop-prepared.invariant.turns in
-    let bound = c.min-end.ensures ∙ ap (min c.args.length) c.rest_of_table.ensures.value in
-    let answer = c.in_ok-prepare_next.field-0 in
-    let never : c.prepare_next.result ≡ Ok true → ⊥ = λ ok. (let f : Ok c.in_ok-prepare_next.field-0 ≡ Ok true = sym c.in_ok-prepare_next.was ∙ ok in let yes : c.in_ok-prepare_next.field-0 ≡ true = cc in absurd (let no : false ≡ true = sym c.if-not-branch.true ∙ yes in cc)) in
-    let same : c.prepare_next.new.prepared ≡ q = c.prepare_next.ensures.same never in
-    subst (λ (x : Prepared). IsReadied view below start new out k x.guest n c.args.overwrite x × (x.length < c.args.length → Ends view new x)) (sym same)
-    (so_far_ends view below old now p q n c.min-end.result c.args.table c.args.overwrite so bound c.loop-prepared-test.true new start out k free under is
-    (λ may sound.
-    subst (λ b. GoesNext view below now new (slice_set out k (Some q)) k n c.args.overwrite q c.prepare_next.new.prepared (Ok b)) c.if-not-branch.true
-    (c.in_ok-prepare_next.ensures.image_step (slice_set out k (Some q)) k (get_set_same out k (Some q) None free) may sound)))
 
 pub loop-prepared-init : goal.loop-prepared-init
 loop-prepared-init g c = record {
@@ -99,71 +54,55 @@ loop-prepared-preserved g c =
     let n = c.args.length in
     let bound = c.min-end.ensures ∙ ap (min c.args.length) c.rest_of_table.ensures.value in
     record {
-      turns = so_far_next view below c.args.self.now now c.args.prepared.now q n c.min-end.result c.args.table c.args.overwrite c.loop-prepared.invariant.turns bound c.loop-prepared-test.true new r c.prepare_next.ensures.stays c.prepare_next.ensures.header
+      turns = so_far_next view below c.args.self.now now c.args.prepared.now q n c.min-end.result c.args.table c.args.overwrite c.loop-prepared.invariant.turns bound c.loop-prepared-test.true new r c.prepare_next.ensures.step.stays c.prepare_next.ensures.header
           (c.prepare_next.ensures.next (c.in_ok-prepare_next.was ∙ ap Ok c.if-not-branch.false)) c.prepare_next.ensures.room
-          (λ out k at may sound. subst (λ b. GoesNext view below now new out k n c.args.overwrite q r (Ok b)) c.if-not-branch.false (c.in_ok-prepare_next.ensures.image_step out k at may sound));
-      faults = faults_then view below c.args.self.now now new c.loop-prepared.invariant.faults c.in_ok-prepare_next.ensures.faults.told;
+          (λ out k at may sound. subst (λ b. GoesNext view below now new out k n c.args.overwrite q r (Ok b)) c.if-not-branch.false ((c.in_ok-prepare_next.ensures.sound out k at may sound).does));
+      faults = faults_then view below c.args.self.now now new c.loop-prepared.invariant.faults c.in_ok-prepare_next.ensures.fails.faults.told;
       former = lists_then c.args.self.now now new c.loop-prepared.invariant.former c.in_ok-prepare_next.ensures.former;
-      uses = λ start out k free under is j used. c.in_ok-prepare_next.ensures.uses (slice_set out k (Some q)) k (get_set_same out k (Some q) None free) (may_go_on view below c.args.self.now now c.args.prepared.now q n c.min-end.result c.args.table c.args.overwrite c.loop-prepared.invariant.turns bound c.loop-prepared-test.true start out k under is) (c.loop-prepared.invariant.turns.image_step start out k free under is).sound j (c.loop-prepared.invariant.uses start out k free under is j used);
-      notes = notes_then c.loop-prepared.invariant.notes c.prepare_next.ensures.notes;
-      behind = behind_then c.loop-prepared.invariant.behind c.prepare_next.ensures.header_cluster;
+      uses = λ start out k free under is j used. (c.in_ok-prepare_next.ensures.sound (slice_set out k (Some q)) k (get_set_same out k (Some q) None free) (may_go_on view below c.args.self.now now c.args.prepared.now q n c.min-end.result c.args.table c.args.overwrite c.loop-prepared.invariant.turns bound c.loop-prepared-test.true start out k under is) (c.loop-prepared.invariant.turns.image_step start out k free under is).sound).uses j (c.loop-prepared.invariant.uses start out k free under is j used);
+      notes = notes_then c.loop-prepared.invariant.notes c.prepare_next.ensures.step.notes;
+      behind = behind_then c.loop-prepared.invariant.behind c.prepare_next.ensures.step.header_cluster;
     }
-
-pub returns-clause-image_step : goal.returns-clause-image_step
-returns-clause-image_step g c = λ start out k free under is.
-    let bound = c.min-end.ensures ∙ ap (min c.args.length) c.rest_of_table.ensures.value in
-    so_far_all g.S.Storage.view g.F.BackingDisk.backing c.args.self.now c.loop-prepared.self c.args.prepared.now c.loop-prepared.prepared c.args.length c.min-end.result c.args.table c.args.overwrite c.loop-prepared.invariant.turns bound start out k free under is
-    (omega (arith, c.loop-prepared-test.false))
-
-pub returns-in_err-prepare_next-clause-faults : goal.returns-in_err-prepare_next-clause-faults
-returns-in_err-prepare_next-clause-faults g c =
-    counted_on g.S.Storage.view g.F.BackingDisk.backing c.args.self.now c.loop-prepared.self c.prepare_next.new.self c.prepare_next.result c.in_err-prepare_next.field-0.0 c.from_residual.result c.loop-prepared.invariant.faults c.prepare_next.ensures.faults
-    c.in_err-prepare_next.was c.from_residual.ensures
-
-pub returns-then-not-branch-clause-faults : goal.returns-then-not-branch-clause-faults
-returns-then-not-branch-clause-faults g c =
-    counted_ok g.S.Storage.view g.F.BackingDisk.backing c.args.self.now c.prepare_next.new.self tt
-    (faults_then g.S.Storage.view g.F.BackingDisk.backing c.args.self.now c.loop-prepared.self c.prepare_next.new.self c.loop-prepared.invariant.faults c.in_ok-prepare_next.ensures.faults.told)
-
-pub returns-clause-faults : goal.returns-clause-faults
-returns-clause-faults g c = counted_ok g.S.Storage.view g.F.BackingDisk.backing c.args.self.now c.loop-prepared.self tt c.loop-prepared.invariant.faults
 
 pub returns-then-not-branch-clause-former : goal.returns-then-not-branch-clause-former
 returns-then-not-branch-clause-former g c = lists_then c.args.self.now c.loop-prepared.self c.prepare_next.new.self c.loop-prepared.invariant.former c.in_ok-prepare_next.ensures.former
 
-pub returns-in_err-prepare_next-clause-notes : goal.returns-in_err-prepare_next-clause-notes
-returns-in_err-prepare_next-clause-notes g c = notes_then c.loop-prepared.invariant.notes c.prepare_next.ensures.notes
+pub returns-in_err-prepare_next-clause-step : goal.returns-in_err-prepare_next-clause-step
+returns-in_err-prepare_next-clause-step g c = record {
+  stays = search rules;
+  notes = notes_then c.loop-prepared.invariant.notes c.prepare_next.ensures.step.notes;
+  header_cluster = behind_then c.loop-prepared.invariant.behind c.prepare_next.ensures.step.header_cluster;
+}
 
-pub returns-then-not-branch-clause-notes : goal.returns-then-not-branch-clause-notes
-returns-then-not-branch-clause-notes g c = notes_then c.loop-prepared.invariant.notes c.prepare_next.ensures.notes
+pub returns-in_err-prepare_next-clause-fails : goal.returns-in_err-prepare_next-clause-fails
+returns-in_err-prepare_next-clause-fails g c = record {
+  cause = search rules;
+  faults = counted_on g.S.Storage.view g.F.BackingDisk.backing c.args.self.now c.loop-prepared.self c.prepare_next.new.self c.prepare_next.result c.in_err-prepare_next.field-0.0 c.from_residual.result c.loop-prepared.invariant.faults c.prepare_next.ensures.fails.faults
+      c.in_err-prepare_next.was c.from_residual.ensures;
+}
 
-pub returns-clause-notes : goal.returns-clause-notes
-returns-clause-notes g c = c.loop-prepared.invariant.notes
+pub returns-then-not-branch-clause-step : goal.returns-then-not-branch-clause-step
+returns-then-not-branch-clause-step g c = record {
+  stays = search rules;
+  notes = notes_then c.loop-prepared.invariant.notes c.prepare_next.ensures.step.notes;
+  header_cluster = behind_then c.loop-prepared.invariant.behind c.prepare_next.ensures.step.header_cluster;
+}
 
-pub returns-in_err-prepare_next-clause-header_cluster : goal.returns-in_err-prepare_next-clause-header_cluster
-returns-in_err-prepare_next-clause-header_cluster g c = behind_then c.loop-prepared.invariant.behind c.prepare_next.ensures.header_cluster
+pub returns-then-not-branch-clause-fails : goal.returns-then-not-branch-clause-fails
+returns-then-not-branch-clause-fails g c = record {
+  cause = search rules;
+  faults = counted_ok g.S.Storage.view g.F.BackingDisk.backing c.args.self.now c.prepare_next.new.self tt
+      (faults_then g.S.Storage.view g.F.BackingDisk.backing c.args.self.now c.loop-prepared.self c.prepare_next.new.self c.loop-prepared.invariant.faults c.in_ok-prepare_next.ensures.fails.faults.told);
+}
 
-pub returns-then-not-branch-clause-header_cluster : goal.returns-then-not-branch-clause-header_cluster
-returns-then-not-branch-clause-header_cluster g c = behind_then c.loop-prepared.invariant.behind c.prepare_next.ensures.header_cluster
+pub returns-clause-step : goal.returns-clause-step
+returns-clause-step g c = record { stays = search rules; notes = c.loop-prepared.invariant.notes; header_cluster = c.loop-prepared.invariant.behind }
 
-pub returns-clause-header_cluster : goal.returns-clause-header_cluster
-returns-clause-header_cluster g c = c.loop-prepared.invariant.behind
+pub returns-clause-fails : goal.returns-clause-fails
+returns-clause-fails g c = record { faults = counted_ok g.S.Storage.view g.F.BackingDisk.backing c.args.self.now c.loop-prepared.self tt c.loop-prepared.invariant.faults; cause = search rules }
 
-pub returns-then-not-branch-clause-uses : goal.returns-then-not-branch-clause-uses
-returns-then-not-branch-clause-uses g c = λ start out k free under is j used.
-    let view = g.S.Storage.view in
-    let below = g.F.BackingDisk.backing in
-    let now = c.loop-prepared.self in
-    let q = c.loop-prepared.prepared in
-    let n = c.args.length in
-    let bound = c.min-end.ensures ∙ ap (min c.args.length) c.rest_of_table.ensures.value in
-    c.in_ok-prepare_next.ensures.uses (slice_set out k (Some q)) k (get_set_same out k (Some q) None free) (may_go_on view below c.args.self.now now c.args.prepared.now q n c.min-end.result c.args.table c.args.overwrite c.loop-prepared.invariant.turns bound c.loop-prepared-test.true start out k under is) (c.loop-prepared.invariant.turns.image_step start out k free under is).sound j (c.loop-prepared.invariant.uses start out k free under is j used)
-
-pub returns-clause-uses : goal.returns-clause-uses
-returns-clause-uses g c = λ start out k free under is. c.loop-prepared.invariant.uses start out k free under is
-
-pub returns-in_err-prepare_next-clause-limit : goal.returns-in_err-prepare_next-clause-limit
-returns-in_err-prepare_next-clause-limit g c = λ start out k free under is.
+pub returns-in_err-prepare_next-clause-sound : goal.returns-in_err-prepare_next-clause-sound
+returns-in_err-prepare_next-clause-sound g c = λ start out k free under is.
     let view = g.S.Storage.view in
     let below = g.F.BackingDisk.backing in
     let old = c.args.self.now in
@@ -173,42 +112,72 @@ returns-in_err-prepare_next-clause-limit g c = λ start out k free under is.
     let q = c.loop-prepared.prepared in
     let n = c.args.length in
     let e = c.in_err-prepare_next.field-0.0 in
-    let so = c.loop-prepared.invariant.turns in
-    let bound = c.min-end.ensures ∙ ap (min c.args.length) c.rest_of_table.ensures.value in
-    let same : c.prepare_next.new.prepared ≡ q = c.prepare_next.ensures.same (λ ok. absurd (let f : Err e ≡ Ok true = sym c.in_err-prepare_next.was ∙ ok in cc)) in
-    let may = may_go_on view below old now p q n c.min-end.result c.args.table c.args.overwrite so bound c.loop-prepared-test.true start out k under is in
-    let before = so.image_step start out k free under is in
-    let most = min n (rest_of_table old.file.header.fields p.guest) in
-    hands_limit (λ x. (c.prepare_next.new.prepared.length < most) × CantGoBehind view c.prepare_next.new.prepared old new) c.from_residual.result e c.from_residual.ensures
-    (λ limit.
-    subst (λ (x : Prepared). (x.length < most) × CantGoBehind view x old new) (sym same) (
-      subst (λ m. q.length < m) bound c.loop-prepared-test.true,
-      cant_go_behind view q start old now new is.header is.covers before.header before.covers so.header c.loop-prepared.invariant.former (c.loop-prepared.invariant.uses start out k free under is)
-          (c.in_err-prepare_next.ensures.limit (slice_set out k (Some q)) k (get_set_same out k (Some q) None free) may before.sound limit),
-    ))
-
-pub returns-in_err-prepare_next-clause-met : goal.returns-in_err-prepare_next-clause-met
-returns-in_err-prepare_next-clause-met g c = λ start out k free under is.
-    let view = g.S.Storage.view in
-    let below = g.F.BackingDisk.backing in
-    let old = c.args.self.now in
-    let now = c.loop-prepared.self in
-    let p = c.args.prepared.now in
-    let q = c.loop-prepared.prepared in
-    let n = c.args.length in
-    let e = c.in_err-prepare_next.field-0.0 in
     let h = old.file.header.fields in
     let so = c.loop-prepared.invariant.turns in
     let bound = c.min-end.ensures ∙ ap (min c.args.length) c.rest_of_table.ensures.value in
+    let same : c.prepare_next.new.prepared ≡ q = c.prepare_next.ensures.same (λ ok. absurd (let f : Err e ≡ Ok true = sym c.in_err-prepare_next.was ∙ ok in cc)) in
     let less = c.loop-prepared-test.true in
-    let may = may_go_on view below old now p q n c.min-end.result c.args.table c.args.overwrite so bound less start out k under is in
     let before = so.image_step start out k free under is in
+    let may = may_go_on view below old now p q n c.min-end.result c.args.table c.args.overwrite so bound less start out k under is in
     let size : cluster_size now.file.header.fields ≡ cluster_size h = ap (λ (x : HeaderFields). cluster_size x) (header_format old.file.header now.file.header so.header) in
     let guest = so.longer.guest in
-    hands_alone (CopiesCompressed p.guest n c.args.overwrite h (known_in view old.file)) ⊥ c.from_residual.result e c.from_residual.ensures
-    (alone_as
-    (λ copied.
-    compressed_as h now.file.header.fields (known_in view old.file) (known_in view now.file) p.guest n c.args.overwrite size (λ j. sym (is.covers j) ∙ before.covers j)
-    (compressed_at now.file.header.fields (known_in view now.file) p.guest n (q.guest + q.length) (n - q.length) c.args.overwrite (omega (arith, guest)) (omega (arith, bound, less)) (omega (arith, guest, bound, less))
-    (inr (next_begins view below now (slice_set out k (Some q)) k q (get_set_same out k (Some q) None free) n c.args.table c.args.overwrite may before.sound)) copied))
-    (λ no. no) e (c.in_err-prepare_next.ensures.met (slice_set out k (Some q)) k (get_set_same out k (Some q) None free) may before.sound))
+    record {
+      uses = search rules;
+      does = handed_on (λ r. GoesOn view below start new out k n c.args.overwrite c.prepare_next.new.prepared r) c.from_residual.result e c.from_residual.ensures
+          (subst (λ (x : Prepared). BreaksOff view below start new out k n c.args.overwrite x e) (sym same)
+          (record {
+            mid = now;
+            readied = before;
+            refused = (c.in_err-prepare_next.ensures.sound (slice_set out k (Some q)) k (get_set_same out k (Some q) None free)
+                (may_go_on view below old now p q n c.min-end.result c.args.table c.args.overwrite so bound c.loop-prepared-test.true start out k under is) before.sound).does;
+          }));
+      met = hands_alone (CopiesCompressed p.guest n c.args.overwrite h (known_in view old.file)) ⊥ c.from_residual.result e c.from_residual.ensures
+          (alone_as
+          (λ copied.
+          compressed_as h now.file.header.fields (known_in view old.file) (known_in view now.file) p.guest n c.args.overwrite size (λ j. sym (is.covers j) ∙ before.covers j)
+          (compressed_at now.file.header.fields (known_in view now.file) p.guest n (q.guest + q.length) (n - q.length) c.args.overwrite (omega (arith, guest)) (omega (arith, bound, less)) (omega (arith, guest, bound, less))
+          (inr (next_begins view below now (slice_set out k (Some q)) k q (get_set_same out k (Some q) None free) n c.args.table c.args.overwrite may before.sound)) copied))
+          (λ no. no) e ((c.in_err-prepare_next.ensures.sound (slice_set out k (Some q)) k (get_set_same out k (Some q) None free) may before.sound).met));
+      limit = let may = may_go_on view below old now p q n c.min-end.result c.args.table c.args.overwrite so bound c.loop-prepared-test.true start out k under is in
+          let most = min n (rest_of_table old.file.header.fields p.guest) in
+          hands_limit (λ x. (c.prepare_next.new.prepared.length < most) × CantGoBehind view c.prepare_next.new.prepared old new) c.from_residual.result e c.from_residual.ensures
+          (λ limit.
+          subst (λ (x : Prepared). (x.length < most) × CantGoBehind view x old new) (sym same) (
+            subst (λ m. q.length < m) bound c.loop-prepared-test.true,
+            cant_go_behind view q start old now new is.header is.covers before.header before.covers so.header c.loop-prepared.invariant.former (c.loop-prepared.invariant.uses start out k free under is)
+                ((c.in_err-prepare_next.ensures.sound (slice_set out k (Some q)) k (get_set_same out k (Some q) None free) may before.sound).limit limit),
+          ));
+    }
+
+pub returns-then-not-branch-clause-sound : goal.returns-then-not-branch-clause-sound
+returns-then-not-branch-clause-sound g c = λ start out k free under is.
+    let view = g.S.Storage.view in
+    let below = g.F.BackingDisk.backing in
+    let now = c.loop-prepared.self in
+    let q = c.loop-prepared.prepared in
+    let new = c.prepare_next.new.self in
+    let n = c.args.length in
+    let bound = c.min-end.ensures ∙ ap (min c.args.length) c.rest_of_table.ensures.value in
+    let never : c.prepare_next.result ≡ Ok true → ⊥ = λ ok. (let f : Ok c.in_ok-prepare_next.field-0 ≡ Ok true = sym c.in_ok-prepare_next.was ∙ ok in let yes : c.in_ok-prepare_next.field-0 ≡ true = cc in absurd (let no : false ≡ true = sym c.if-not-branch.true ∙ yes in cc)) in
+    let same : c.prepare_next.new.prepared ≡ q = c.prepare_next.ensures.same never in
+    record {
+      met = search rules;
+      limit = search rules;
+      does = subst (λ (x : Prepared). IsReadied view below start new out k x.guest n c.args.overwrite x × (x.length < c.args.length → Ends view new x)) (sym same)
+          (so_far_ends view below c.args.self.now now c.args.prepared.now q n c.min-end.result c.args.table c.args.overwrite c.loop-prepared.invariant.turns bound c.loop-prepared-test.true new start out k free under is
+          (λ may sound.
+          subst (λ b. GoesNext view below now new (slice_set out k (Some q)) k n c.args.overwrite q c.prepare_next.new.prepared (Ok b)) c.if-not-branch.true
+          ((c.in_ok-prepare_next.ensures.sound (slice_set out k (Some q)) k (get_set_same out k (Some q) None free) may sound).does)));
+      uses = λ j used. (c.in_ok-prepare_next.ensures.sound (slice_set out k (Some q)) k (get_set_same out k (Some q) None free) (may_go_on view below c.args.self.now now c.args.prepared.now q n c.min-end.result c.args.table c.args.overwrite c.loop-prepared.invariant.turns bound c.loop-prepared-test.true start out k under is) (c.loop-prepared.invariant.turns.image_step start out k free under is).sound).uses j (c.loop-prepared.invariant.uses start out k free under is j used);
+    }
+
+pub returns-clause-sound : goal.returns-clause-sound
+returns-clause-sound g c = λ start out k free under is.
+    let bound = c.min-end.ensures ∙ ap (min c.args.length) c.rest_of_table.ensures.value in
+    record {
+      met = search rules;
+      limit = search rules;
+      does = so_far_all g.S.Storage.view g.F.BackingDisk.backing c.args.self.now c.loop-prepared.self c.args.prepared.now c.loop-prepared.prepared c.args.length c.min-end.result c.args.table c.args.overwrite c.loop-prepared.invariant.turns bound start out k free under is
+          (omega (arith, c.loop-prepared-test.false));
+      uses = c.loop-prepared.invariant.uses start out k free under is;
+    }

@@ -1,31 +1,31 @@
-use Rattle.std.proofs.Common.{ap, replicate}
-use Rattle.qcow2_alloc.proofs.KeptMarks.{notes_none, notes_of_storage, told_kept}
-use Rattle.qcow2_image.proofs.Call.BehindHeader.{behind_guard, behind_none, behind_wrote}
+use Rattle.std.proofs.Common.{ap, replicate, rules}
+use Rattle.qcow2_alloc.proofs.KeptMarks.{notes_of_storage, told_kept}
+use Rattle.qcow2_image.proofs.Call.BehindHeader.{behind_guard, behind_wrote}
 use Rattle.qcow2_alloc.specs.ImageError.{of_storage}
 use Rattle.qcow2_image.proofs.Call.Unlimited.{storage_fault, storage_unlimited}
 use Rattle.qcow2_image.proofs.Prepare.Lacked.{hands_fault, hands_unlimited}
+use Rattle.qcow2_image.proofs.Call.ImageSteps.{step_none}
 use Rattle.qcow2_image.proofs.image.Qcow2.put_zeros.Goals as goal
-
-pub returns-in_err-write-clause-limited : goal.returns-in_err-write-clause-limited
-returns-in_err-write-clause-limited g c = hands_unlimited c.from_residual.result (of_storage c.in_err-write.field-0.0) c.from_residual.ensures (storage_unlimited c.in_err-write.field-0.0)
-
-pub returns-then-host-cluster_size-clause-notes : goal.returns-then-host-cluster_size-clause-notes
-returns-then-host-cluster_size-clause-notes g c = notes_none
-
-pub returns-in_err-write-clause-notes : goal.returns-in_err-write-clause-notes
-returns-in_err-write-clause-notes g c = notes_of_storage (told_kept c.args.self.now.file.storage c.will_write.new.self c.write.new.storage c.write.result c.will_write.ensures.storage c.will_write.ensures.changed _ c.write.ensures.written c.write.ensures.calls c.write.ensures.noted)
-
-pub returns-clause-notes : goal.returns-clause-notes
-returns-clause-notes g c = notes_of_storage (told_kept c.args.self.now.file.storage c.will_write.new.self c.write.new.storage c.write.result c.will_write.ensures.storage c.will_write.ensures.changed _ c.write.ensures.written c.write.ensures.calls c.write.ensures.noted)
-
-pub returns-then-host-cluster_size-clause-header_cluster : goal.returns-then-host-cluster_size-clause-header_cluster
-returns-then-host-cluster_size-clause-header_cluster g c = behind_none
-
-pub returns-in_err-write-clause-header_cluster : goal.returns-in_err-write-clause-header_cluster
-returns-in_err-write-clause-header_cluster g c = behind_wrote c.write.result c.args.host (replicate c.args.count 0) (ap g.S.Storage.view c.will_write.ensures.storage) (λ bits lies. behind_guard bits _ c.cluster_size.result c.args.host lies.header c.cluster_size.ensures.value c.if-host-cluster_size.false) c.write.ensures.written c.write.ensures.calls
-
-pub returns-clause-header_cluster : goal.returns-clause-header_cluster
-returns-clause-header_cluster g c = behind_wrote c.write.result c.args.host (replicate c.args.count 0) (ap g.S.Storage.view c.will_write.ensures.storage) (λ bits lies. behind_guard bits _ c.cluster_size.result c.args.host lies.header c.cluster_size.ensures.value c.if-host-cluster_size.false) c.write.ensures.written c.write.ensures.calls
 
 pub returns-in_err-write-clause-fault : goal.returns-in_err-write-clause-fault
 returns-in_err-write-clause-fault g c = λ behind. hands_fault c.from_residual.result (of_storage c.in_err-write.field-0.0) c.from_residual.ensures (storage_fault c.in_err-write.field-0.0)
+
+pub returns-in_err-write-clause-step : goal.returns-in_err-write-clause-step
+returns-in_err-write-clause-step g c = record {
+  stays = search rules;
+  notes = notes_of_storage (told_kept c.args.self.now.file.storage c.will_write.new.self c.write.new.storage c.write.result c.will_write.ensures.storage c.will_write.ensures.changed _ c.write.ensures.written c.write.ensures.calls c.write.ensures.noted);
+  header_cluster = behind_wrote c.write.result c.args.host (replicate c.args.count 0) (ap g.S.Storage.view c.will_write.ensures.storage) (λ bits lies. behind_guard bits _ c.cluster_size.result c.args.host lies.header c.cluster_size.ensures.value c.if-host-cluster_size.false) c.write.ensures.written c.write.ensures.calls;
+}
+
+pub returns-in_err-write-clause-fails : goal.returns-in_err-write-clause-fails
+returns-in_err-write-clause-fails g c = record { faults = search rules; cause = search rules; limited = hands_unlimited c.from_residual.result (of_storage c.in_err-write.field-0.0) c.from_residual.ensures (storage_unlimited c.in_err-write.field-0.0) }
+
+pub returns-then-host-cluster_size-clause-step : goal.returns-then-host-cluster_size-clause-step
+returns-then-host-cluster_size-clause-step g c = step_none
+
+pub returns-clause-step : goal.returns-clause-step
+returns-clause-step g c = record {
+  stays = search rules;
+  notes = notes_of_storage (told_kept c.args.self.now.file.storage c.will_write.new.self c.write.new.storage c.write.result c.will_write.ensures.storage c.will_write.ensures.changed _ c.write.ensures.written c.write.ensures.calls c.write.ensures.noted);
+  header_cluster = behind_wrote c.write.result c.args.host (replicate c.args.count 0) (ap g.S.Storage.view c.will_write.ensures.storage) (λ bits lies. behind_guard bits _ c.cluster_size.result c.args.host lies.header c.cluster_size.ensures.value c.if-host-cluster_size.false) c.write.ensures.written c.write.ensures.calls;
+}

@@ -1,5 +1,6 @@
+use Rattle.qcow2_image.proofs.Call.ImageSteps.{step_none, step_then}
 use Rattle.qcow2_image.proofs.image.Qcow2.reach_entry.Goals as goal
-use Rattle.std.proofs.Common.{◌≡◌, ◌+◌, ◌/◌, ◌^◌, max, sym, ap, ◌∙◌, subst, ◌≤◌, arith, refl}
+use Rattle.std.proofs.Common.{◌≡◌, ◌+◌, ◌/◌, ◌^◌, max, sym, ap, ◌∙◌, subst, ◌≤◌, arith, refl, rules}
 use Rattle.qcow2_metadata.specs.EntryTable.{entry_count, EntryTableView}
 use Rattle.qcow2_laws.specs.CrashInvariant.{Pending}
 use Rattle.qcow2_alloc.proofs.AllocationSteps.{handed_on}
@@ -12,39 +13,14 @@ use Rattle.qcow2_image.proofs.Grow.Lengthened.{freed_then, makes_none, refused_m
 use Rattle.std.specs.Prelude.{IfErr}
 use Rattle.qcow2_image.specs.NewTables.{IsFaultOrLacksTable}
 use Rattle.qcow2_image.proofs.Prepare.Lacking.{fault_or_lacking, not_within, short_lacking}
-use Rattle.qcow2_alloc.proofs.KeptMarks.{notes_none, notes_then}
-use Rattle.qcow2_image.proofs.Call.BehindHeader.{behind_none, behind_then}
 use Rattle.qcow2_image.proofs.Prepare.Listing.{some_kept, some_none}
 use Rattle.qcow2_image.proofs.Prepare.Lacked.{faults_unlimited, hands_limit, unlimited_all, faults_or_limit, hands_either}
 use Rattle.qcow2_image.specs.LackedPlaces.{EndsBefore, IsPlacedNear, LacksLongerTable}
 use Rattle.qcow2_metadata.specs.TableBytes.{entry_at}
 
-pub returns-then-in_bounds-clause-makes : goal.returns-then-in_bounds-clause-makes
-returns-then-in_bounds-clause-makes g c = λ out sound. makes_none g.S.Storage.view g.F.BackingDisk.backing out c.args.self.now sound
-
-pub returns-in_err-grow_l1_table-clause-makes : goal.returns-in_err-grow_l1_table-clause-makes
-returns-in_err-grow_l1_table-clause-makes g c = λ out sound.
-    let view = g.S.Storage.view in
-    let below = g.F.BackingDisk.backing in
-    let old = c.args.self.now in
-    let e = c.in_err-grow_l1_table.field-0.0 in
-    handed_on (MakesEntry view below old c.grow_l1_table.new.self out) c.from_residual.result e c.from_residual.ensures
-    (refused_moved view below out old c.grow_l1_table.new.self sound e (c.in_err-grow_l1_table.ensures.lengthens (pending_in view below old out) out sound))
-
-pub returns-clause-makes : goal.returns-clause-makes
-returns-clause-makes g c = λ out sound.
-    let view = g.S.Storage.view in
-    let below = g.F.BackingDisk.backing in
-    let old = c.args.self.now in
-    let mid = c.grow_l1_table.new.self in
-    let first = stays_moved view below out old mid sound (c.in_ok-grow_l1_table.ensures.lengthens (pending_in view below old out) out sound) in
-    let listed = subst (λ (x : Pending). ImageInvariant view below x mid out) (all_listed view below mid out) first.sound in
-    freed_then view below out old mid c.free_listed.new.self first c.free_listed.result (c.free_listed.ensures.frees (beside view below mid out) out listed)
-
 pub returns-then-in_bounds-clause-length : goal.returns-then-in_bounds-clause-length
 returns-then-in_bounds-clause-length g c =
-    let old = c.args.self.now in
-    let idx : c.l1_index-index.result ≡ l1_index_of old.file.header.fields c.args.offset =
+    let idx : c.l1_index-index.result ≡ l1_index_of c.args.self.now.file.header.fields c.args.offset =
     c.l1_index-index.ensures ∙ ap (λ n. n / 2 ^ c.cluster_bits.result / (2 ^ c.cluster_bits.result / 8)) c.new.ensures ∙ ap (λ b. c.args.offset / 2 ^ b / (2 ^ b / 8)) c.cluster_bits.ensures.value in
     let lt = c.in_bounds.ensures.0 c.if-in_bounds.true in
     omega (arith, lt, idx)
@@ -57,109 +33,88 @@ returns-clause-length g c =
     always_ok c.free_listed.result
     (ap entry_count c.free_listed.ensures.table ∙ c.in_ok-grow_l1_table.ensures.length ∙ ap (λ i. max (entry_count old.l1_table) (i + 1)) idx)
 
-pub returns-in_err-grow_l1_table-clause-lacks : goal.returns-in_err-grow_l1_table-clause-lacks
-returns-in_err-grow_l1_table-clause-lacks g c = λ out sound.
-    let view = g.S.Storage.view in
-    let below = g.F.BackingDisk.backing in
-    let old = c.args.self.now in
-    let idx : c.l1_index-index.result ≡ l1_index_of old.file.header.fields c.args.offset =
-    c.l1_index-index.ensures ∙ ap (λ n. n / 2 ^ c.cluster_bits.result / (2 ^ c.cluster_bits.result / 8)) c.new.ensures ∙ ap (λ b. c.args.offset / 2 ^ b / (2 ^ b / 8)) c.cluster_bits.ensures.value in
-    let p = pending_in view below old out in
-    let past = subst (λ i. entry_count old.l1_table ≤ i) idx (not_within c.in_bounds.result c.l1_index-index.result (entry_count old.l1_table) c.in_bounds.ensures c.if-in_bounds.false) in
-    let e = c.in_err-grow_l1_table.field-0.0 in
-    handed_on (λ r. IfErr r (IsFaultOrLacksTable view c.grow_l1_table.new.self c.args.offset)) c.from_residual.result e c.from_residual.ensures
-    (short_lacking view below out p old c.grow_l1_table.new.self sound c.args.offset past e (c.in_err-grow_l1_table.ensures.lengthens p out sound))
-
-pub returns-clause-lacks : goal.returns-clause-lacks
-returns-clause-lacks g c = λ out sound.
-    let view = g.S.Storage.view in
-    let below = g.F.BackingDisk.backing in
-    let old = c.args.self.now in
-    let mid = c.grow_l1_table.new.self in
-    let first = stays_moved view below out old mid sound (c.in_ok-grow_l1_table.ensures.lengthens (pending_in view below old out) out sound) in
-    let listed = subst (λ (x : Pending). ImageInvariant view below x mid out) (all_listed view below mid out) first.sound in
-    fault_or_lacking view below out c.free_listed.new.self c.args.offset c.free_listed.result (c.free_listed.ensures.faults (beside view below mid out) out listed)
-
-pub returns-then-in_bounds-clause-notes : goal.returns-then-in_bounds-clause-notes
-returns-then-in_bounds-clause-notes g c = notes_none
-
-pub returns-in_err-grow_l1_table-clause-notes : goal.returns-in_err-grow_l1_table-clause-notes
-returns-in_err-grow_l1_table-clause-notes g c = c.grow_l1_table.ensures.notes
-
-pub returns-clause-notes : goal.returns-clause-notes
-returns-clause-notes g c = notes_then c.grow_l1_table.ensures.notes c.free_listed.ensures.notes
-
-pub returns-then-in_bounds-clause-header_cluster : goal.returns-then-in_bounds-clause-header_cluster
-returns-then-in_bounds-clause-header_cluster g c = behind_none
-
-pub returns-in_err-grow_l1_table-clause-header_cluster : goal.returns-in_err-grow_l1_table-clause-header_cluster
-returns-in_err-grow_l1_table-clause-header_cluster g c = c.grow_l1_table.ensures.header_cluster
-
-pub returns-clause-header_cluster : goal.returns-clause-header_cluster
-returns-clause-header_cluster g c = behind_then c.grow_l1_table.ensures.header_cluster c.free_listed.ensures.header_cluster
-
 pub returns-then-in_bounds-clause-former : goal.returns-then-in_bounds-clause-former
 returns-then-in_bounds-clause-former g c = some_none c.args.self.now c.requires.writable
 
 pub returns-clause-former : goal.returns-clause-former
 returns-clause-former g c = always_ok c.free_listed.result (some_kept c.args.self.now c.grow_l1_table.new.self c.free_listed.new.self c.in_ok-grow_l1_table.ensures.former c.free_listed.ensures.former)
 
-pub returns-in_err-grow_l1_table-clause-limit : goal.returns-in_err-grow_l1_table-clause-limit
-returns-in_err-grow_l1_table-clause-limit g c = λ out sound.
-    let view = g.S.Storage.view in
-    let old = c.args.self.now in
-    let new = c.grow_l1_table.new.self in
-    let at = l1_index_of old.file.header.fields c.args.offset in
-    let idx : c.l1_index-index.result ≡ at =
-    c.l1_index-index.ensures ∙ ap (λ n. n / 2 ^ c.cluster_bits.result / (2 ^ c.cluster_bits.result / 8)) c.new.ensures ∙ ap (λ b. c.args.offset / 2 ^ b / (2 ^ b / 8)) c.cluster_bits.ensures.value in
-    let past : entry_count old.l1_table ≤ at = subst (λ i. entry_count old.l1_table ≤ i) idx (not_within c.in_bounds.result c.l1_index-index.result (entry_count old.l1_table) c.in_bounds.ensures c.if-in_bounds.false) in
-    let many : max (entry_count old.l1_table) (at + 1) ≡ at + 1 = omega (arith, past) in
-    hands_limit (λ x. EndsBefore c.args.offset old × LacksLongerTable view at (at + 1) old.file.free_list old new) c.from_residual.result c.in_err-grow_l1_table.field-0.0 c.from_residual.ensures
-    (λ is. (
-      past,
-      subst (λ n. LacksLongerTable view at n old.file.free_list old new) many
-          (subst (λ i. LacksLongerTable view i (max (entry_count old.l1_table) (i + 1)) old.file.free_list old new) idx (c.in_err-grow_l1_table.ensures.limit (pending_in view g.F.BackingDisk.backing old out) out sound is)),
-    ))
-
-pub returns-clause-limit : goal.returns-clause-limit
-returns-clause-limit g c = λ out sound.
-    let view = g.S.Storage.view in
-    let below = g.F.BackingDisk.backing in
-    let old = c.args.self.now in
-    let mid = c.grow_l1_table.new.self in
-    let new = c.free_listed.new.self in
-    let at = l1_index_of old.file.header.fields c.args.offset in
-    let first = stays_moved view below out old mid sound (c.in_ok-grow_l1_table.ensures.lengthens (pending_in view below old out) out sound) in
-    let listed = subst (λ (x : Pending). ImageInvariant view below x mid out) (all_listed view below mid out) first.sound in
-    unlimited_all c.free_listed.result (λ e. EndsBefore c.args.offset old × LacksLongerTable view at (at + 1) old.file.free_list old new)
-    (faults_unlimited c.free_listed.result (c.free_listed.ensures.faults (beside view below mid out) out listed))
-
 pub returns-then-in_bounds-clause-placed : goal.returns-then-in_bounds-clause-placed
 returns-then-in_bounds-clause-placed g c = λ past bits.
-    let old = c.args.self.now in
-    let idx : c.l1_index-index.result ≡ l1_index_of old.file.header.fields c.args.offset =
+    let idx : c.l1_index-index.result ≡ l1_index_of c.args.self.now.file.header.fields c.args.offset =
     c.l1_index-index.ensures ∙ ap (λ n. n / 2 ^ c.cluster_bits.result / (2 ^ c.cluster_bits.result / 8)) c.new.ensures ∙ ap (λ b. c.args.offset / 2 ^ b / (2 ^ b / 8)) c.cluster_bits.ensures.value in
     absurd (let lt = c.in_bounds.ensures.0 c.if-in_bounds.true in omega (arith, lt, idx, past))
 
 pub returns-clause-placed : goal.returns-clause-placed
 returns-clause-placed g c = λ past bits. always_ok c.free_listed.result (subst IsPlacedNear (sym c.free_listed.ensures.table) (c.in_ok-grow_l1_table.ensures.placed bits))
 
-pub returns-in_err-grow_l1_table-clause-fault : goal.returns-in_err-grow_l1_table-clause-fault
-returns-in_err-grow_l1_table-clause-fault g c = λ out sound.
-    hands_either c.from_residual.result c.in_err-grow_l1_table.field-0.0 c.from_residual.ensures (c.in_err-grow_l1_table.ensures.fault c.requires.writable (pending_in g.S.Storage.view g.F.BackingDisk.backing c.args.self.now out) out sound)
+pub returns-then-in_bounds-clause-kept : goal.returns-then-in_bounds-clause-kept
+returns-then-in_bounds-clause-kept g c = λ i. refl
 
-pub returns-clause-fault : goal.returns-clause-fault
-returns-clause-fault g c = λ out sound.
+pub returns-clause-kept : goal.returns-clause-kept
+returns-clause-kept g c = always_ok c.free_listed.result (λ i. ap (λ (t : EntryTableView). entry_at t.bytes i) c.free_listed.ensures.table ∙ c.in_ok-grow_l1_table.ensures.kept i)
+
+pub returns-then-in_bounds-clause-step : goal.returns-then-in_bounds-clause-step
+returns-then-in_bounds-clause-step g c = step_none
+
+pub returns-in_err-grow_l1_table-clause-step : goal.returns-in_err-grow_l1_table-clause-step
+returns-in_err-grow_l1_table-clause-step g c = c.grow_l1_table.ensures.step
+
+pub returns-clause-step : goal.returns-clause-step
+returns-clause-step g c = step_then c.grow_l1_table.ensures.step c.free_listed.ensures.step
+
+pub returns-then-in_bounds-clause-sound : goal.returns-then-in_bounds-clause-sound
+returns-then-in_bounds-clause-sound g c = λ out sound.
+    record {
+      fault = search rules;
+      limit = search rules;
+      lacks = search rules;
+      makes = makes_none g.S.Storage.view g.F.BackingDisk.backing out c.args.self.now sound;
+    }
+
+pub returns-in_err-grow_l1_table-clause-sound : goal.returns-in_err-grow_l1_table-clause-sound
+returns-in_err-grow_l1_table-clause-sound g c = λ out sound.
+    let view = g.S.Storage.view in
+    let below = g.F.BackingDisk.backing in
+    let old = c.args.self.now in
+    let new = c.grow_l1_table.new.self in
+    let e = c.in_err-grow_l1_table.field-0.0 in
+    let at = l1_index_of old.file.header.fields c.args.offset in
+    record {
+      makes = handed_on (MakesEntry view below old c.grow_l1_table.new.self out) c.from_residual.result e c.from_residual.ensures
+          (refused_moved view below out old c.grow_l1_table.new.self sound e (c.in_err-grow_l1_table.ensures.lengthens (pending_in view below old out) out sound));
+      fault = hands_either c.from_residual.result c.in_err-grow_l1_table.field-0.0 c.from_residual.ensures (c.in_err-grow_l1_table.ensures.fault c.requires.writable (pending_in g.S.Storage.view g.F.BackingDisk.backing c.args.self.now out) out sound);
+      limit = let idx : c.l1_index-index.result ≡ at =
+          c.l1_index-index.ensures ∙ ap (λ n. n / 2 ^ c.cluster_bits.result / (2 ^ c.cluster_bits.result / 8)) c.new.ensures ∙ ap (λ b. c.args.offset / 2 ^ b / (2 ^ b / 8)) c.cluster_bits.ensures.value in
+          let past : entry_count old.l1_table ≤ at = subst (λ i. entry_count old.l1_table ≤ i) idx (not_within c.in_bounds.result c.l1_index-index.result (entry_count old.l1_table) c.in_bounds.ensures c.if-in_bounds.false) in
+          let many : max (entry_count old.l1_table) (at + 1) ≡ at + 1 = omega (arith, past) in
+          hands_limit (λ x. EndsBefore c.args.offset old × LacksLongerTable view at (at + 1) old.file.free_list old new) c.from_residual.result c.in_err-grow_l1_table.field-0.0 c.from_residual.ensures
+          (λ is. (
+            past,
+            subst (λ n. LacksLongerTable view at n old.file.free_list old new) many
+                (subst (λ i. LacksLongerTable view i (max (entry_count old.l1_table) (i + 1)) old.file.free_list old new) idx (c.in_err-grow_l1_table.ensures.limit (pending_in view g.F.BackingDisk.backing old out) out sound is)),
+          ));
+      lacks = let idx : c.l1_index-index.result ≡ l1_index_of old.file.header.fields c.args.offset =
+          c.l1_index-index.ensures ∙ ap (λ n. n / 2 ^ c.cluster_bits.result / (2 ^ c.cluster_bits.result / 8)) c.new.ensures ∙ ap (λ b. c.args.offset / 2 ^ b / (2 ^ b / 8)) c.cluster_bits.ensures.value in
+          let p = pending_in view below old out in
+          let past = subst (λ i. entry_count old.l1_table ≤ i) idx (not_within c.in_bounds.result c.l1_index-index.result (entry_count old.l1_table) c.in_bounds.ensures c.if-in_bounds.false) in
+          handed_on (λ r. IfErr r (IsFaultOrLacksTable view c.grow_l1_table.new.self c.args.offset)) c.from_residual.result e c.from_residual.ensures
+          (short_lacking view below out p old c.grow_l1_table.new.self sound c.args.offset past e (c.in_err-grow_l1_table.ensures.lengthens p out sound));
+    }
+
+pub returns-clause-sound : goal.returns-clause-sound
+returns-clause-sound g c = λ out sound.
     let view = g.S.Storage.view in
     let below = g.F.BackingDisk.backing in
     let old = c.args.self.now in
     let mid = c.grow_l1_table.new.self in
     let first = stays_moved view below out old mid sound (c.in_ok-grow_l1_table.ensures.lengthens (pending_in view below old out) out sound) in
     let listed = subst (λ (x : Pending). ImageInvariant view below x mid out) (all_listed view below mid out) first.sound in
-    faults_or_limit c.free_listed.result (c.free_listed.ensures.faults (beside view below mid out) out listed)
-
-pub returns-then-in_bounds-clause-kept : goal.returns-then-in_bounds-clause-kept
-returns-then-in_bounds-clause-kept g c = λ i. refl
-
-pub returns-clause-kept : goal.returns-clause-kept
-returns-clause-kept g c = always_ok c.free_listed.result (λ i. ap (λ (t : EntryTableView). entry_at t.bytes i) c.free_listed.ensures.table ∙ c.in_ok-grow_l1_table.ensures.kept i)
+    let at = l1_index_of old.file.header.fields c.args.offset in
+    record {
+      makes = freed_then view below out old mid c.free_listed.new.self first c.free_listed.result (c.free_listed.ensures.frees (beside view below mid out) out listed);
+      fault = faults_or_limit c.free_listed.result (c.free_listed.ensures.faults (beside view below mid out) out listed);
+      limit = unlimited_all c.free_listed.result (λ e. EndsBefore c.args.offset old × LacksLongerTable view at (at + 1) old.file.free_list old c.free_listed.new.self)
+          (faults_unlimited c.free_listed.result (c.free_listed.ensures.faults (beside view below mid out) out listed));
+      lacks = fault_or_lacking view below out c.free_listed.new.self c.args.offset c.free_listed.result (c.free_listed.ensures.faults (beside view below mid out) out listed);
+    }

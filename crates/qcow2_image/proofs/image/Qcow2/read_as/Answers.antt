@@ -71,27 +71,6 @@ returns-in-Zero-clause-shows g c = λ p out sound mapped i lt.
     (cover h (known_in g.S.Storage.view file) (c.args.offset / cluster_size h)) refl (none_below g.S.Storage.view g.F.BackingDisk.backing image.backing) c.in-Zero.explicit (ap found_kind (sym c.in-Zero.is) ∙ mapped.kind_is) i within
     ∙ ap known_byte (sym (ap (λ (b : List ℕ). byte_at b i) filled ∙ get_or-replicate n i 0 0 within))
 
-pub returns-in_err-read-in-Raw-clause-notes : goal.returns-in_err-read-in-Raw-clause-notes
-returns-in_err-read-in-Raw-clause-notes g c = notes_of_storage (read_kept _ _ c.read.result c.read.ensures.calls c.read.ensures.same c.read.ensures.unnoted)
-
-pub returns-in_ok-read-in-Raw-clause-notes : goal.returns-in_ok-read-in-Raw-clause-notes
-returns-in_ok-read-in-Raw-clause-notes g c = notes_of_storage (read_kept _ _ c.read.result c.read.ensures.calls c.read.ensures.same c.read.ensures.unnoted)
-
-pub returns-in_err-read-in-Raw-clause-header_cluster : goal.returns-in_err-read-in-Raw-clause-header_cluster
-returns-in_err-read-in-Raw-clause-header_cluster g c = behind_read c.read.result c.read.ensures.calls c.read.ensures.same
-
-pub returns-in_ok-read-in-Raw-clause-header_cluster : goal.returns-in_ok-read-in-Raw-clause-header_cluster
-returns-in_ok-read-in-Raw-clause-header_cluster g c = behind_read c.read.result c.read.ensures.calls c.read.ensures.same
-
-pub returns-in_err-read-in-Raw-clause-quiet : goal.returns-in_err-read-in-Raw-clause-quiet
-returns-in_err-read-in-Raw-clause-quiet g c = reads_bytes g.S.Storage.view c.args.self.now c.read.new.self c.read.result c.read.ensures.calls c.read.ensures.same
-
-pub returns-in_ok-read-in-Raw-clause-quiet : goal.returns-in_ok-read-in-Raw-clause-quiet
-returns-in_ok-read-in-Raw-clause-quiet g c = reads_bytes g.S.Storage.view c.args.self.now c.read.new.self c.read.result c.read.ensures.calls c.read.ensures.same
-
-pub returns-in-Indirect-clause-quiet : goal.returns-in-Indirect-clause-quiet
-returns-in-Indirect-clause-quiet g c = reads_same g.S.Storage.view c.args.self.now c.read_backing.new.self c.read_backing.ensures.file
-
 pub returns-in_err-read-in-Raw-clause-met : goal.returns-in_err-read-in-Raw-clause-met
 returns-in_err-read-in-Raw-clause-met g c = hands_met (IsMetReading c.args.kind.now) c.from_residual.result (of_storage c.in_err-read-in-Raw.field-0.0) c.from_residual.ensures (inl (storage_fault c.in_err-read-in-Raw.field-0.0))
 
@@ -103,3 +82,22 @@ returns-in-Special-clause-met g c = inr (inl (refl, subst IsSpecial (sym c.in-Sp
 
 pub returns-in-Eof-clause-met : goal.returns-in-Eof-clause-met
 returns-in-Eof-clause-met g c = inr (inr (refl, c.in-Eof.is))
+
+pub returns-in_err-read-in-Raw-clause-step : goal.returns-in_err-read-in-Raw-clause-step
+returns-in_err-read-in-Raw-clause-step g c = record {
+  header = search rules;
+  list = search rules;
+  part = record { stays = search rules; notes = notes_of_storage (read_kept _ _ c.read.result c.read.ensures.calls c.read.ensures.same c.read.ensures.unnoted); header_cluster = behind_read c.read.result c.read.ensures.calls c.read.ensures.same };
+  quiet = reads_bytes g.S.Storage.view c.args.self.now c.read.new.self c.read.result c.read.ensures.calls c.read.ensures.same;
+}
+
+pub returns-in_ok-read-in-Raw-clause-step : goal.returns-in_ok-read-in-Raw-clause-step
+returns-in_ok-read-in-Raw-clause-step g c = record {
+  header = search rules;
+  list = search rules;
+  part = record { stays = search rules; notes = notes_of_storage (read_kept _ _ c.read.result c.read.ensures.calls c.read.ensures.same c.read.ensures.unnoted); header_cluster = behind_read c.read.result c.read.ensures.calls c.read.ensures.same };
+  quiet = reads_bytes g.S.Storage.view c.args.self.now c.read.new.self c.read.result c.read.ensures.calls c.read.ensures.same;
+}
+
+pub returns-in-Indirect-clause-step : goal.returns-in-Indirect-clause-step
+returns-in-Indirect-clause-step g c = record { part = search rules; header = search rules; list = search rules; quiet = reads_same g.S.Storage.view c.args.self.now c.read_backing.new.self c.read_backing.ensures.file }

@@ -1,4 +1,4 @@
-use Rattle.std.proofs.Common.{◌≡◌, ◌+◌, ◌∙◌, inl, inr, length, Err, subst, sym, arith, IfOk}
+use Rattle.std.proofs.Common.{◌≡◌, ◌+◌, ◌∙◌, inl, inr, length, Err, subst, sym, arith, IfOk, rules}
 use Rattle.qcow2_disk.specs.Calls.{Shows}
 use Rattle.qcow2_alloc.specs.declared.error.ImageError.TheVariants.{OutdatedMapping}
 use Rattle.qcow2_alloc.proofs.AllocationSteps.{handed_on}
@@ -7,15 +7,13 @@ use Rattle.qcow2_image.specs.Found.{IsFoundWhole, further_by}
 use Rattle.qcow2_image.specs.ImageInvariant.{disk_of}
 use Rattle.qcow2_image.proofs.Call.Called.{keeps_then}
 use Rattle.qcow2_image.proofs.Map.Looked.{none_past}
-use Rattle.qcow2_alloc.proofs.KeptMarks.{notes_then}
-use Rattle.qcow2_image.proofs.Call.BehindHeader.{behind_then}
 use Rattle.qcow2_image.specs.MetAlone.{IsCacheHeld, IsMetMapped, IsMetReading}
 use Rattle.qcow2_image.proofs.Prepare.Met.{hands_met, mapped_met, met_as}
-use Rattle.std.specs.Prelude.{IfErr, Result}
+use Rattle.std.specs.Prelude.{IfErr, Result, is_some}
 use Rattle.qcow2_alloc.proofs.KeptTables.AllWritten.{written_then}
 use Rattle.qcow2_image.proofs.Map.Held.{heeds_then, held_as, none_eof}
 use Rattle.qcow2_image.specs.HeldMappings.{HeedsHeld, IsHeldAs}
-use Rattle.std.specs.Prelude.{is_some}
+use Rattle.qcow2_image.proofs.Call.ImageSteps.{step_then}
 use Rattle.qcow2_image.proofs.image.Qcow2.read_current.Goals as goal
 
 pub returns-clause-keeps : goal.returns-clause-keeps
@@ -38,16 +36,12 @@ returns-in_err-check_mapped-clause-outdated g c = λ some p out sound is whole.
     let n = length c.args.bytes.now in
     let here = subst (λ k. IsFoundWhole view c.args.self.now c.in_ok-offset.offset k n) (sym c.further-kind.ensures)
     (subst (λ o. IsFoundWhole view c.args.self.now o (further_by c.args.at c.args.mapping.now.kind) n) (sym c.in_ok-offset.ensures.place) whole) in
-    let e = c.in_err-check_mapped.field-0.0 in
-    handed_on (λ r. r ≡ Err OutdatedMapping → ⊥) c.from_residual-in_err-check_mapped.result e c.from_residual-in_err-check_mapped.ensures (λ was. c.in_err-check_mapped.ensures.outdated p out sound was here) is
+    handed_on (λ r. r ≡ Err OutdatedMapping → ⊥) c.from_residual-in_err-check_mapped.result c.in_err-check_mapped.field-0.0 c.from_residual-in_err-check_mapped.ensures (λ was. c.in_err-check_mapped.ensures.outdated p out sound was here) is
 
 pub returns-clause-outdated : goal.returns-clause-outdated
 returns-clause-outdated g c = λ some p out sound is whole.
     none_past g.S.Storage.view c.args.self.now (c.args.mapping.now.offset + c.args.at) (length c.args.bytes.now) some
     (subst (λ k. IsFoundWhole g.S.Storage.view c.args.self.now (c.args.mapping.now.offset + c.args.at) k (length c.args.bytes.now)) (sym c.further-kind.ensures ∙ (c.read_as.ensures.outdated is).0) whole)
-
-pub returns-clause-notes : goal.returns-clause-notes
-returns-clause-notes g c = notes_then c.check_mapped.ensures.notes c.read_as.ensures.notes
 
 pub returns-clause-mapped : goal.returns-clause-mapped
 returns-clause-mapped g c = λ p out sound.
@@ -57,9 +51,6 @@ returns-clause-mapped g c = λ p out sound.
     always_ok c.read_as.result
     (subst (λ o. IsFoundWhole view old o (further_by c.args.at c.args.mapping.now.kind) n) c.in_ok-offset.ensures.place
     (subst (λ k. IsFoundWhole view old c.in_ok-offset.offset k n) c.further-kind.ensures (c.in_ok-check_mapped.ensures.found p out sound)))
-
-pub returns-clause-header_cluster : goal.returns-clause-header_cluster
-returns-clause-header_cluster g c = behind_then c.check_mapped.ensures.header_cluster c.read_as.ensures.header_cluster
 
 pub returns-in_err-offset-clause-met : goal.returns-in_err-offset-clause-met
 returns-in_err-offset-clause-met g c = λ p out sound.
@@ -78,9 +69,6 @@ returns-clause-met g c = λ p out sound.
     let kind = further_by c.args.at c.args.mapping.now.kind in
     let whole = subst (λ o. IsFoundWhole view old o kind n) c.in_ok-offset.ensures.place (subst (λ k. IsFoundWhole view old c.in_ok-offset.offset k n) c.further-kind.ensures (c.in_ok-check_mapped.ensures.found p out sound)) in
     met_as (IsMetReading kind) (IsMetMapped (IsCacheHeld c.args.self.now out) kind (IsFoundWhole view old (c.args.mapping.now.offset + c.args.at) kind n)) c.read_as.result (mapped_met (IsCacheHeld c.args.self.now out) kind whole) (subst (λ k. IfErr c.read_as.result (IsMetReading k)) c.further-kind.ensures c.read_as.ensures.met)
-
-pub returns-clause-quiet : goal.returns-clause-quiet
-returns-clause-quiet g c = written_then g.S.Storage.view c.in_ok-check_mapped.ensures.quiet c.read_as.ensures.quiet
 
 pub returns-in_err-offset-clause-held : goal.returns-in_err-offset-clause-held
 returns-in_err-offset-clause-held g c = λ some.
@@ -107,3 +95,11 @@ returns-clause-held g c = λ some.
     heeds_then at kind n new c.read_as.result
     (λ outdated. none_eof mid.file.header.fields (is_some mid.backing) mid.l1_table mid.file.caches at n (subst (λ k. IsHeldAs mid at k n) (sym c.further-kind.ensures ∙ (c.read_as.ensures.outdated outdated).0) held))
     (held_as mid new at kind n c.read_as.ensures.tables held)
+
+pub returns-clause-step : goal.returns-clause-step
+returns-clause-step g c = record {
+  header = search rules;
+  list = search rules;
+  part = step_then c.check_mapped.ensures.step.part c.read_as.ensures.step.part;
+  quiet = written_then g.S.Storage.view c.in_ok-check_mapped.ensures.step.quiet c.read_as.ensures.step.quiet;
+}

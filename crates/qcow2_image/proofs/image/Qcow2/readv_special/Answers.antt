@@ -1,9 +1,9 @@
-use Rattle.std.proofs.Common.{◌≡◌, ◌∙◌, ◌⊎◌, inl, inr, [], IfErr, length, subst, arith}
+use Rattle.std.proofs.Common.{◌≡◌, ◌∙◌, ◌⊎◌, inl, inr, [], IfErr, length, subst, arith, rules}
 use Rattle.std.proofs.lemmas.Bool.{cases_lt}
 use Rattle.qcow2_disk.specs.Calls.{not_compressed, storage}
 use Rattle.qcow2_alloc.specs.ImageFile.{known_in}
 use Rattle.qcow2_alloc.proofs.AllocationSteps.{handed_on}
-use Rattle.qcow2_alloc.specs.declared.error.ImageError.TheVariants.{Compressed, NotCompressed}
+use Rattle.qcow2_alloc.specs.declared.error.ImageError.TheVariants.{Compressed, NotCompressed, Memory}
 use Rattle.qcow2_image.specs.Refusals.{IsMet}
 use Rattle.qcow2_image.specs.SpecialReads.{TellsCompressed}
 use Rattle.qcow2_image.proofs.Call.Answers.{answers_err}
@@ -11,7 +11,6 @@ use Rattle.qcow2_image.proofs.Map.Special.{refuses_after}
 use Rattle.qcow2_image.proofs.Sizes.{sound_is_usable}
 use Rattle.qcow2_image.specs.Noted.{FailsOnceWritten}
 use Rattle.qcow2_alloc.proofs.Outcomes.{err_as}
-use Rattle.qcow2_alloc.specs.declared.error.ImageError.TheVariants.{Memory}
 use Rattle.qcow2_image.specs.MetAlone.{IsCacheHeld, IsMetLooking}
 use Rattle.qcow2_image.proofs.Prepare.Met.{hands_met}
 use Rattle.qcow2_image.proofs.image.Qcow2.readv_special.Goals as goal
@@ -39,17 +38,6 @@ returns-in-Some-clause-sees g c = λ out.
     let none : not_compressed c.in-Some.offset ≡ storage → ⊥ = λ is. cc in
     refuses_after (not_compressed c.in-Some.offset) none (c.in_ok-try_readv_special.ensures.sees out)
 
-pub returns-in_err-try_readv_special-clause-once_written : goal.returns-in_err-try_readv_special-clause-once_written
-returns-in_err-try_readv_special-clause-once_written g c =
-    handed_on (λ r. FailsOnceWritten g.S.Storage.view c.args.self.now c.try_readv_special.new.self r) c.from_residual.result c.in_err-try_readv_special.field-0.0 c.from_residual.ensures
-    (record { counts = c.try_readv_special.ensures.once_written.counts; memory = λ memory. c.try_readv_special.ensures.once_written.memory (c.in_err-try_readv_special.was ∙ err_as c.in_err-try_readv_special.field-0.0 Memory memory) })
-
-pub returns-in-None-clause-once_written : goal.returns-in-None-clause-once_written
-returns-in-None-clause-once_written g c = record { counts = c.try_readv_special.ensures.once_written.counts; memory = λ bad. absurd (cc) }
-
-pub returns-in-Some-clause-once_written : goal.returns-in-Some-clause-once_written
-returns-in-Some-clause-once_written g c = record { counts = c.try_readv_special.ensures.once_written.counts; memory = λ bad. absurd (cc) }
-
 pub returns-in_err-try_readv_special-clause-met : goal.returns-in_err-try_readv_special-clause-met
 returns-in_err-try_readv_special-clause-met g c = λ out sound.
     hands_met (λ e. IsMetLooking (IsCacheHeld c.args.self.now out) e ⊎ ((e ≡ Compressed) ⊎ (e ≡ NotCompressed c.args.offset))) c.from_residual.result c.in_err-try_readv_special.field-0.0 c.from_residual.ensures
@@ -62,3 +50,37 @@ returns-in-Some-clause-met g c = λ out sound.
       | inl some ↦ inr (inr (let is = c.in_ok-try_readv_special.ensures.some some in cc))
       | inr none ↦ absurd (let no = (c.in_ok-try_readv_special.ensures.nothing usable (omega (arith, none))).0 in cc)
     ]
+
+pub returns-in_err-try_readv_special-clause-step : goal.returns-in_err-try_readv_special-clause-step
+returns-in_err-try_readv_special-clause-step g c = record {
+  image = search rules;
+  header = search rules;
+  marks = search rules;
+  header_cluster = search rules;
+  faults = search rules;
+  quiet = search rules;
+  once_written = handed_on (λ r. FailsOnceWritten g.S.Storage.view c.args.self.now c.try_readv_special.new.self r) c.from_residual.result c.in_err-try_readv_special.field-0.0 c.from_residual.ensures
+      (record { counts = c.try_readv_special.ensures.step.once_written.counts; memory = λ memory. c.try_readv_special.ensures.step.once_written.memory (c.in_err-try_readv_special.was ∙ err_as c.in_err-try_readv_special.field-0.0 Memory memory) });
+}
+
+pub returns-in-None-clause-step : goal.returns-in-None-clause-step
+returns-in-None-clause-step g c = record {
+  image = search rules;
+  header = search rules;
+  marks = search rules;
+  header_cluster = search rules;
+  faults = search rules;
+  quiet = search rules;
+  once_written = record { counts = c.try_readv_special.ensures.step.once_written.counts; memory = λ bad. absurd (cc) };
+}
+
+pub returns-in-Some-clause-step : goal.returns-in-Some-clause-step
+returns-in-Some-clause-step g c = record {
+  image = search rules;
+  header = search rules;
+  marks = search rules;
+  header_cluster = search rules;
+  faults = search rules;
+  quiet = search rules;
+  once_written = record { counts = c.try_readv_special.ensures.step.once_written.counts; memory = λ bad. absurd (cc) };
+}

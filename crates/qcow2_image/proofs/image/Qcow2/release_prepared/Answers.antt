@@ -1,5 +1,5 @@
 use Rattle.qcow2_image.proofs.Call.Notes.{pins_kept}
-use Rattle.std.proofs.Common.{◌≡◌, ℕ, ◌-◌, refl, sym, ap, ◌∙◌, subst}
+use Rattle.std.proofs.Common.{◌≡◌, ℕ, ◌-◌, refl, sym, ap, ◌∙◌, subst, rules}
 use Rattle.qcow2_alloc.specs.CachePins.{SameTables, l2_pins}
 use Rattle.qcow2_image.specs.declared.image.Qcow2.{Qcow2}
 use Rattle.qcow2_alloc.specs.ImageFile.{contents_in}
@@ -18,7 +18,6 @@ returns-clause-sees g c =
     let below = g.F.BackingDisk.backing in
     let old = c.args.self.now in
     let p = c.args.prepared in
-    let mid = c.free_later.new.self in
     let caches = c.unpin.new.self.file.caches in
     let freed = c.free_later.ensures in
     let un = c.unpin.ensures in
@@ -46,10 +45,10 @@ returns-clause-faults g c =
     (ap (λ (m : Qcow2 _ _). m.file.storage) c.unpin.ensures.rest ∙ ap (λ (m : Qcow2 _ _). m.file.storage) c.free_later.ensures)
     (ap (λ (m : Qcow2 _ _). m.backing) c.unpin.ensures.rest ∙ ap (λ (m : Qcow2 _ _). m.backing) c.free_later.ensures)
 
-pub returns-clause-header_cluster : goal.returns-clause-header_cluster
-returns-clause-header_cluster g c = behind_then (behind_by g.S.Storage.view c.free_later.ensures behind_none) (behind_by g.S.Storage.view c.unpin.ensures.rest (behind_tables c.unpin.ensures.tables.behind))
-
-pub returns-clause-notes : goal.returns-clause-notes
-returns-clause-notes g c =
-    pins_kept c.args.self.now c.unpin.new.self (ap (λ (m : Qcow2 _ _). m.file.storage) c.unpin.ensures.rest ∙ ap (λ (m : Qcow2 _ _). m.file.storage) c.free_later.ensures)
-    (c.unpin.ensures.changed ∙ ap (λ (m : Qcow2 _ _). m.file.caches.is_changed) c.free_later.ensures) (c.unpin.ensures.counted ∙ ap (λ (m : Qcow2 _ _). m.file.caches.changes) c.free_later.ensures)
+pub returns-clause-step : goal.returns-clause-step
+returns-clause-step g c = record {
+  stays = search rules;
+  notes = pins_kept c.args.self.now c.unpin.new.self (ap (λ (m : Qcow2 _ _). m.file.storage) c.unpin.ensures.rest ∙ ap (λ (m : Qcow2 _ _). m.file.storage) c.free_later.ensures)
+      (c.unpin.ensures.changed ∙ ap (λ (m : Qcow2 _ _). m.file.caches.is_changed) c.free_later.ensures) (c.unpin.ensures.counted ∙ ap (λ (m : Qcow2 _ _). m.file.caches.changes) c.free_later.ensures);
+  header_cluster = behind_then (behind_by g.S.Storage.view c.free_later.ensures behind_none) (behind_by g.S.Storage.view c.unpin.ensures.rest (behind_tables c.unpin.ensures.tables.behind));
+}

@@ -1,16 +1,12 @@
 use Rattle.std.proofs.Common.{subst, sym, refl}
 use Rattle.std.specs.Prelude.{IsTrue}
-use Rattle.qcow2_alloc.proofs.KeptMarks.{notes_then}
-use Rattle.qcow2_image.proofs.Call.BehindHeader.{behind_then}
 use Rattle.qcow2_image.proofs.Call.FaultCounts.{counted_as, counted_of, untouched}
 use Rattle.qcow2_image.proofs.Call.FreedBehind.{met_freed, refused_freed}
 use Rattle.qcow2_image.proofs.Call.Refused.{back_then_freed}
 use Rattle.qcow2_image.proofs.Prepare.Lacked.{either_frees, limited_frees}
 use Rattle.qcow2_image.proofs.Sizing.LackedTables.{longer_freed}
+use Rattle.qcow2_image.proofs.Call.ImageSteps.{step_then}
 use Rattle.qcow2_image.proofs.image.Qcow2.renew_l1_table.Goals as goal
-
-pub returns-in-Err-clause-cause : goal.returns-in-Err-clause-cause
-returns-in-Err-clause-cause g c = met_freed c.in-Err.refusal c.free_after.result c.in-Err.ensures.cause c.free_after.ensures.cause c.free_after.ensures.taken
 
 pub returns-in-Ok-clause-makes : goal.returns-in-Ok-clause-makes
 returns-in-Ok-clause-makes g c = λ out sound. c.in-Ok.ensures.makes out sound
@@ -22,27 +18,7 @@ returns-in-Err-clause-makes g c = λ out sound.
 pub returns-in-Err-clause-freed : goal.returns-in-Err-clause-freed
 returns-in-Err-clause-freed g c = λ out sound.
     refused_freed g.S.Storage.view g.F.BackingDisk.backing out c.args.self.now c.lengthen_l1_table.new.self c.free_after.new.self c.in-Err.refusal c.free_after.result (c.in-Err.ensures.makes out sound) c.free_after.ensures.fault
-    (c.free_after.ensures.emptied (subst IsTrue (sym c.lengthen_l1_table.ensures.stays.image.writable) c.requires.writable) out)
-
-pub returns-in-Err-clause-faults : goal.returns-in-Err-clause-faults
-returns-in-Err-clause-faults g c =
-    let view = g.S.Storage.view in
-    let below = g.F.BackingDisk.backing in
-    let old = c.args.self.now in
-    counted_of view below old c.free_after.new.self c.free_after.result
-    (c.free_after.ensures.faults old (counted_as view below old old c.lengthen_l1_table.new.self c.lengthen_l1_table.result c.in-Err.refusal (untouched view below old old refl refl) c.lengthen_l1_table.ensures.faults c.in-Err.is))
-
-pub returns-in-Ok-clause-notes : goal.returns-in-Ok-clause-notes
-returns-in-Ok-clause-notes g c = c.lengthen_l1_table.ensures.notes
-
-pub returns-in-Err-clause-notes : goal.returns-in-Err-clause-notes
-returns-in-Err-clause-notes g c = notes_then c.lengthen_l1_table.ensures.notes c.free_after.ensures.notes
-
-pub returns-in-Ok-clause-header_cluster : goal.returns-in-Ok-clause-header_cluster
-returns-in-Ok-clause-header_cluster g c = c.lengthen_l1_table.ensures.header_cluster
-
-pub returns-in-Err-clause-header_cluster : goal.returns-in-Err-clause-header_cluster
-returns-in-Err-clause-header_cluster g c = behind_then c.lengthen_l1_table.ensures.header_cluster c.free_after.ensures.header_cluster
+    (c.free_after.ensures.emptied (subst IsTrue (sym c.lengthen_l1_table.ensures.step.stays.image.writable) c.requires.writable) out)
 
 pub returns-in-Ok-clause-noted : goal.returns-in-Ok-clause-noted
 returns-in-Ok-clause-noted g c = c.in-Ok.ensures.noted
@@ -50,10 +26,9 @@ returns-in-Ok-clause-noted g c = c.in-Ok.ensures.noted
 pub returns-in-Err-clause-limit : goal.returns-in-Err-clause-limit
 returns-in-Err-clause-limit g c = λ out sound is.
     let view = g.S.Storage.view in
-    let below = g.F.BackingDisk.backing in
     let old = c.args.self.now in
     let mid = c.lengthen_l1_table.new.self in
-    let freed = limited_frees view below out old mid c.free_after.new.self c.in-Err.refusal c.free_after.result (c.in-Err.ensures.makes out sound) c.free_after.ensures.fault (c.free_after.ensures.limit out) is in
+    let freed = limited_frees view g.F.BackingDisk.backing out old mid c.free_after.new.self c.in-Err.refusal c.free_after.result (c.in-Err.ensures.makes out sound) c.free_after.ensures.fault (c.free_after.ensures.limit out) is in
     longer_freed view _ _ old.file.free_list old mid c.free_after.new.self c.free_after.ensures.keeps_rest.header freed.1 (c.in-Err.ensures.limit out sound freed.0)
 
 pub returns-in-Err-clause-fault : goal.returns-in-Err-clause-fault
@@ -63,3 +38,19 @@ returns-in-Err-clause-fault g c = λ out sound.
 
 pub returns-in-Ok-clause-kept : goal.returns-in-Ok-clause-kept
 returns-in-Ok-clause-kept g c = c.in-Ok.ensures.kept
+
+pub returns-in-Err-clause-step : goal.returns-in-Err-clause-step
+returns-in-Err-clause-step g c = step_then c.lengthen_l1_table.ensures.step c.free_after.ensures.step
+
+pub returns-in-Err-clause-fails : goal.returns-in-Err-clause-fails
+returns-in-Err-clause-fails g c = record {
+  faults = let view = g.S.Storage.view in
+      let below = g.F.BackingDisk.backing in
+      let old = c.args.self.now in
+      counted_of view below old c.free_after.new.self c.free_after.result
+      (c.free_after.ensures.faults old (counted_as view below old old c.lengthen_l1_table.new.self c.lengthen_l1_table.result c.in-Err.refusal (untouched view below old old refl refl) c.lengthen_l1_table.ensures.fails.faults c.in-Err.is));
+  cause = met_freed c.in-Err.refusal c.free_after.result c.in-Err.ensures.fails.cause c.free_after.ensures.cause c.free_after.ensures.taken;
+}
+
+pub returns-in-Ok-clause-step : goal.returns-in-Ok-clause-step
+returns-in-Ok-clause-step g c = c.lengthen_l1_table.ensures.step

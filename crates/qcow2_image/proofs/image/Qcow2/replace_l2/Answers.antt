@@ -1,5 +1,5 @@
 use Rattle.qcow2_image.proofs.image.Qcow2.replace_l2.Goals as goal
-use Rattle.std.proofs.Common.{inl, refl}
+use Rattle.std.proofs.Common.{inl, refl, rules}
 use Rattle.qcow2_image.specs.NewTables.{OwnsTable}
 use Rattle.qcow2_image.proofs.Prepare.Entering.{as_listed_after}
 use Rattle.qcow2_image.proofs.Map.Loading.{caches_moved, with_caches}
@@ -45,24 +45,6 @@ returns-clause-owns g c = λ p out sound shared.
     owned_then g.S.Storage.view g.F.BackingDisk.backing out p old sound c.args.index mid kept refl c.swap_l2.new.self c.swap_l2.result
     (c.swap_l2.ensures.owns p out kept.sound still
     (says_copy g.S.Storage.view g.F.BackingDisk.backing out p mid kept.sound c.args.index c.args.old still c.in-Some.held.now c.in_ok-table.table c.in-Some.ensures.shows c.in_ok-table.ensures.ok))
-
-pub returns-in_err-l2_get_or_insert-clause-notes : goal.returns-in_err-l2_get_or_insert-clause-notes
-returns-in_err-l2_get_or_insert-clause-notes g c = (notes_of_both c.l2_get_or_insert.ensures.marks c.l2_get_or_insert.ensures.notes)
-
-pub returns-in_err-table-clause-notes : goal.returns-in_err-table-clause-notes
-returns-in_err-table-clause-notes g c = (notes_of_both c.l2_get_or_insert.ensures.marks c.l2_get_or_insert.ensures.notes)
-
-pub returns-clause-notes : goal.returns-clause-notes
-returns-clause-notes g c = notes_then (notes_of_both c.l2_get_or_insert.ensures.marks c.l2_get_or_insert.ensures.notes) c.swap_l2.ensures.notes
-
-pub returns-in_err-l2_get_or_insert-clause-header_cluster : goal.returns-in_err-l2_get_or_insert-clause-header_cluster
-returns-in_err-l2_get_or_insert-clause-header_cluster g c = λ some. behind_caches (c.l2_get_or_insert.ensures.header_cluster some)
-
-pub returns-in_err-table-clause-header_cluster : goal.returns-in_err-table-clause-header_cluster
-returns-in_err-table-clause-header_cluster g c = λ some. behind_caches (c.l2_get_or_insert.ensures.header_cluster some)
-
-pub returns-clause-header_cluster : goal.returns-clause-header_cluster
-returns-clause-header_cluster g c = λ some. behind_then (behind_caches (c.l2_get_or_insert.ensures.header_cluster some)) c.swap_l2.ensures.header_cluster
 
 pub returns-clause-elsewhere : goal.returns-clause-elsewhere
 returns-clause-elsewhere g c = c.swap_l2.ensures.elsewhere
@@ -115,3 +97,16 @@ returns-clause-met g c = λ p out sound shared near.
     let still = shared_still view below out p old sound c.args.index mid kept refl refl c.args.old shared in
     c.swap_l2.ensures.met p out kept.sound still
     (says_copy view below out p mid kept.sound c.args.index c.args.old still c.in-Some.held.now c.in_ok-table.table c.in-Some.ensures.shows c.in_ok-table.ensures.ok) (record { within = near.within; room = near.room })
+
+pub returns-in_err-l2_get_or_insert-clause-step : goal.returns-in_err-l2_get_or_insert-clause-step
+returns-in_err-l2_get_or_insert-clause-step g c = record { stays = search rules; notes = (notes_of_both c.l2_get_or_insert.ensures.marks c.l2_get_or_insert.ensures.notes); header_cluster = λ some. behind_caches (c.l2_get_or_insert.ensures.header_cluster some) }
+
+pub returns-in_err-table-clause-step : goal.returns-in_err-table-clause-step
+returns-in_err-table-clause-step g c = record { stays = search rules; notes = (notes_of_both c.l2_get_or_insert.ensures.marks c.l2_get_or_insert.ensures.notes); header_cluster = λ some. behind_caches (c.l2_get_or_insert.ensures.header_cluster some) }
+
+pub returns-clause-step : goal.returns-clause-step
+returns-clause-step g c = record {
+  stays = search rules;
+  notes = notes_then (notes_of_both c.l2_get_or_insert.ensures.marks c.l2_get_or_insert.ensures.notes) c.swap_l2.ensures.step.notes;
+  header_cluster = λ some. behind_then (behind_caches (c.l2_get_or_insert.ensures.header_cluster some)) c.swap_l2.ensures.step.header_cluster;
+}

@@ -1,6 +1,6 @@
 use Rattle.qcow2_image.proofs.image.Qcow2.resize_grow.Goals as goal
 use Rattle.qcow2_image.proofs.Call.OnceWritten.{fails_none}
-use Rattle.std.proofs.Common.{◌≡◌, ◌≤◌, ◌∙◌, inl, inr, None, Some, true, false, sym, ap, subst, refl, ◌-◌}
+use Rattle.std.proofs.Common.{◌≡◌, ◌≤◌, ◌∙◌, inl, inr, None, Some, true, false, sym, ap, subst, refl, ◌-◌, rules}
 use Rattle.std.specs.Prelude.{Result}
 use Rattle.qcow2_image.specs.Resizing.{GrowsTo, refuses_to_resize, takes_over}
 use Rattle.qcow2_image.proofs.Clear.ClearCalls.{err_is, not_refused, refused_for}
@@ -33,39 +33,41 @@ returns-then-takes_over-clause-tables g c = λ none larger out sound. record {
   version = λ zero lacks. absurd (let no : true ≡ false = sym c.if-takes_over.true ∙ c.takes_over.ensures ∙ ap (takes_over c.args.self.now) zero in cc);
 }
 
-pub returns-in_err-check_resize-clause-once_written : goal.returns-in_err-check_resize-clause-once_written
-returns-in_err-check_resize-clause-once_written g c = fails_none g.S.Storage.view c.args.self.now _
-
-pub returns-then-size-clause-once_written : goal.returns-then-size-clause-once_written
-returns-then-size-clause-once_written g c = fails_none g.S.Storage.view c.args.self.now _
-
-pub returns-then-takes_over-clause-once_written : goal.returns-then-takes_over-clause-once_written
-returns-then-takes_over-clause-once_written g c = fails_none g.S.Storage.view c.args.self.now _
-
-pub returns-clause-once_written : goal.returns-clause-once_written
-returns-clause-once_written g c = c.grow_disk.ensures.once_written
-
-pub returns-clause-header_cluster : goal.returns-clause-header_cluster
-returns-clause-header_cluster g c = c.grow_disk.ensures.header_cluster
-
 pub returns-then-takes_over-clause-freed : goal.returns-then-takes_over-clause-freed
 returns-then-takes_over-clause-freed g c = λ none larger isnt out sound. absurd (isnt (sym c.takes_over.ensures ∙ c.if-takes_over.true))
 
 pub returns-clause-freed : goal.returns-clause-freed
-returns-clause-freed g c = λ none larger isnt out sound. c.grow_disk.ensures.freed out sound
+returns-clause-freed g c = λ none larger isnt out sound. (c.grow_disk.ensures.sound out sound).freed
 
 pub returns-clause-limit : goal.returns-clause-limit
-returns-clause-limit g c = λ none larger out sound. c.grow_disk.ensures.limit out sound
+returns-clause-limit g c = λ none larger out sound. (c.grow_disk.ensures.sound out sound).limit
 
 pub returns-in_err-check_resize-clause-met : goal.returns-in_err-check_resize-clause-met
 returns-in_err-check_resize-clause-met g c = λ works larger out sound.
-    let old = c.args.self.now in
     let e = c.in_err-check_resize.field-0.0 in
-    let refuses = refused_for c.check_resize.result tt (refuses_to_resize old) e c.check_resize.ensures c.in_err-check_resize.was in
+    let refuses = refused_for c.check_resize.result tt (refuses_to_resize c.args.self.now) e c.check_resize.ensures c.in_err-check_resize.was in
     absurd (let no : Some e ≡ None = sym refuses ∙ works in cc)
 
 pub returns-then-takes_over-clause-met : goal.returns-then-takes_over-clause-met
 returns-then-takes_over-clause-met g c = λ works larger out sound. inr (refl, sym c.takes_over.ensures ∙ c.if-takes_over.true)
 
 pub returns-clause-met : goal.returns-clause-met
-returns-clause-met g c = λ works larger out sound. if_err c.grow_disk.result (λ e why. inl why) (c.grow_disk.ensures.met out sound)
+returns-clause-met g c = λ works larger out sound. if_err c.grow_disk.result (λ e why. inl why) ((c.grow_disk.ensures.sound out sound).met)
+
+pub returns-in_err-check_resize-clause-step : goal.returns-in_err-check_resize-clause-step
+returns-in_err-check_resize-clause-step g c = record { marks = search rules; once_written = fails_none g.S.Storage.view c.args.self.now _; header_cluster = search rules; faults = search rules }
+
+pub returns-then-size-clause-step : goal.returns-then-size-clause-step
+returns-then-size-clause-step g c = record { marks = search rules; once_written = fails_none g.S.Storage.view c.args.self.now _; header_cluster = search rules; faults = search rules }
+
+pub returns-then-takes_over-clause-step : goal.returns-then-takes_over-clause-step
+returns-then-takes_over-clause-step g c = record { marks = search rules; once_written = fails_none g.S.Storage.view c.args.self.now _; header_cluster = search rules; faults = search rules }
+
+pub returns-clause-step : goal.returns-clause-step
+returns-clause-step g c = record { marks = search rules; once_written = c.grow_disk.ensures.step.once_written; header_cluster = c.grow_disk.ensures.step.header_cluster; faults = search rules }
+
+pub returns-clause-last : goal.returns-clause-last
+returns-clause-last g c = λ out sound. (c.grow_disk.ensures.sound out sound).last
+
+pub returns-clause-tables : goal.returns-clause-tables
+returns-clause-tables g c = λ none larger out sound. (c.grow_disk.ensures.sound out sound).tables

@@ -1,5 +1,5 @@
 use Rattle.qcow2_image.proofs.Call.OnceWritten.{fails_none}
-use Rattle.std.proofs.Common.{◌≡◌, ◌-◌, ◌≤◌, ◌∙◌, refl, sym, subst, arith}
+use Rattle.std.proofs.Common.{◌≡◌, ◌-◌, ◌≤◌, ◌∙◌, refl, sym, subst, arith, rules}
 use Rattle.std.specs.Prelude.{None, Ok, Result, Some}
 use Rattle.qcow2_alloc.specs.ImageFile.{known_in, l2_pins}
 use Rattle.qcow2_image.specs.Image.{size_of}
@@ -45,11 +45,9 @@ returns-clause-prepared g c = λ none smaller out sound has.
 
 pub returns-clause-stops : goal.returns-clause-stops
 returns-clause-stops g c = λ out sound.
-    let view = g.S.Storage.view in
-    let below = g.F.BackingDisk.backing in
     let old = c.args.self.now in
     c.shrink.ensures.stops (not_refused c.check_resize.result tt (refuses_to_resize old) c.in_ok-check_resize.field-0 c.check_resize.ensures c.in_ok-check_resize.was).0 out sound
-    (none_prepared view below old out sound (c.first_pinned_l2.ensures.none (sym c.is_some.ensures ∙ c.if-is_some.false)))
+    (none_prepared g.S.Storage.view g.F.BackingDisk.backing old out sound (c.first_pinned_l2.ensures.none (sym c.is_some.ensures ∙ c.if-is_some.false)))
 
 pub returns-then-size-clause-stops : goal.returns-then-size-clause-stops
 returns-then-size-clause-stops g c = λ out sound.
@@ -71,21 +69,6 @@ returns-then-size-clause-covers g c = λ out sound.
 pub returns-clause-covers : goal.returns-clause-covers
 returns-clause-covers g c = c.shrink.ensures.covers
 
-pub returns-in_err-check_resize-clause-once_written : goal.returns-in_err-check_resize-clause-once_written
-returns-in_err-check_resize-clause-once_written g c = fails_none g.S.Storage.view c.args.self.now _
-
-pub returns-then-size-clause-once_written : goal.returns-then-size-clause-once_written
-returns-then-size-clause-once_written g c = fails_none g.S.Storage.view c.args.self.now _
-
-pub returns-then-is_some-clause-once_written : goal.returns-then-is_some-clause-once_written
-returns-then-is_some-clause-once_written g c = fails_none g.S.Storage.view c.args.self.now _
-
-pub returns-clause-once_written : goal.returns-clause-once_written
-returns-clause-once_written g c = c.shrink.ensures.once_written
-
-pub returns-clause-header_cluster : goal.returns-clause-header_cluster
-returns-clause-header_cluster g c = c.shrink.ensures.header_cluster
-
 pub returns-in_err-check_resize-clause-pinned : goal.returns-in_err-check_resize-clause-pinned
 returns-in_err-check_resize-clause-pinned g c = λ none smaller.
     let e = c.in_err-check_resize.field-0.0 in
@@ -105,3 +88,15 @@ returns-clause-pinned g c = λ none smaller. (
   λ is. absurd (fault_unprepared c.shrink.result c.shrink.ensures.cause is),
   λ has. absurd (let unpinned = c.first_pinned_l2.ensures.none (sym c.is_some.ensures ∙ c.if-is_some.false) has.cluster in let some = has.pins in omega arith),
 )
+
+pub returns-in_err-check_resize-clause-step : goal.returns-in_err-check_resize-clause-step
+returns-in_err-check_resize-clause-step g c = record { marks = search rules; once_written = fails_none g.S.Storage.view c.args.self.now _; header_cluster = search rules; faults = search rules }
+
+pub returns-then-size-clause-step : goal.returns-then-size-clause-step
+returns-then-size-clause-step g c = record { marks = search rules; once_written = fails_none g.S.Storage.view c.args.self.now _; header_cluster = search rules; faults = search rules }
+
+pub returns-then-is_some-clause-step : goal.returns-then-is_some-clause-step
+returns-then-is_some-clause-step g c = record { marks = search rules; once_written = fails_none g.S.Storage.view c.args.self.now _; header_cluster = search rules; faults = search rules }
+
+pub returns-clause-step : goal.returns-clause-step
+returns-clause-step g c = record { marks = search rules; once_written = c.shrink.ensures.step.once_written; header_cluster = c.shrink.ensures.step.header_cluster; faults = search rules }

@@ -10,12 +10,11 @@ use Rattle.qcow2_image.specs.declared.prepared.Share.TheVariants.{New}
 use Rattle.qcow2_image.specs.Ranges.{GainsAt, SharesAt}
 use Rattle.qcow2_image.proofs.Prepare.Owning.{refused as any_refusal}
 use Rattle.qcow2_image.proofs.Prepare.ReadyingNew.{back_none}
-use Rattle.qcow2_alloc.proofs.KeptMarks.{notes_none}
-use Rattle.qcow2_image.proofs.Call.BehindHeader.{behind_none}
 use Rattle.qcow2_image.proofs.Prepare.Lacked.{hands_limit, other_limit}
 use Rattle.qcow2_image.specs.LackedPlaces.{CantTakeAt}
 use Rattle.qcow2_image.specs.MetAlone.{IsCopiedCompressed}
 use Rattle.qcow2_image.proofs.Prepare.MetTables.{hands_alone}
+use Rattle.qcow2_image.proofs.Call.ImageSteps.{step_none}
 use Rattle.qcow2_image.proofs.image.Qcow2.share_at.Goals as goal
 
 pub returns-in_default-clause-shares : goal.returns-in_default-clause-shares
@@ -31,24 +30,20 @@ returns-in_err-old_data-clause-shares g c = λ p out sound holds.
 pub returns-in_default-2-clause-shares : goal.returns-in_default-2-clause-shares
 returns-in_default-2-clause-shares g c = λ p out sound holds.
     let view = g.S.Storage.view in
-    let below = g.F.BackingDisk.backing in
     let old = c.args.self.now in
     let new = c.new_cluster_at.new.self in
     let h = old.file.header.fields in
-    let took = subst (λ v. GainsAt view below p old new out c.args.offset c.args.length c.args.overwrite c.args.old.now c.in-Some.cluster (Ok v)) c.in_default-2.is (c.in_ok-pending.ensures.gains p out sound holds) in
+    let took = subst (λ v. GainsAt view g.F.BackingDisk.backing p old new out c.args.offset c.args.length c.args.overwrite c.args.old.now c.in-Some.cluster (Ok v)) c.in_default-2.is ((c.in_ok-pending.ensures.sound p out sound holds).does) in
     let host_is : c.in-Some.cluster * cluster_size h ≡ c.args.host = ap (λ b. c.in-Some.cluster * 2 ^ b) (sym c.cluster_bits-bits.ensures.value) ∙ c.in-Some.ensures.cluster ∙ c.new.ensures in
     let same : c.args.host / cluster_size h ≡ c.in-Some.cluster = ap (λ o. o / cluster_size h) (sym host_is) ∙ own_cluster h.cluster_bits c.in-Some.cluster in
     (took.0, subst (λ x. (IsHostCluster old.file.header.fields.cluster_bits x → ⊥) ⊎ (count new.file.header.fields (known_in view new.file) x ≢ 0)) (sym same) took.1)
 
 pub returns-clause-shares : goal.returns-clause-shares
 returns-clause-shares g c = λ p out sound holds.
-    let view = g.S.Storage.view in
-    let below = g.F.BackingDisk.backing in
     let old = c.args.self.now in
-    let new = c.new_cluster_at.new.self in
     let h = old.file.header.fields in
     let n = c.in-Some-2.pending in
-    let took = subst (λ v. GainsAt view below p old new out c.args.offset c.args.length c.args.overwrite c.args.old.now c.in-Some.cluster (Ok v)) c.in-Some-2.is (c.in_ok-pending.ensures.gains p out sound holds) in
+    let took = subst (λ v. GainsAt g.S.Storage.view g.F.BackingDisk.backing p old c.new_cluster_at.new.self out c.args.offset c.args.length c.args.overwrite c.args.old.now c.in-Some.cluster (Ok v)) c.in-Some-2.is ((c.in_ok-pending.ensures.sound p out sound holds).does) in
     let host_is : c.in-Some.cluster * cluster_size h ≡ c.args.host = ap (λ b. c.in-Some.cluster * 2 ^ b) (sym c.cluster_bits-bits.ensures.value) ∙ c.in-Some.ensures.cluster ∙ c.new.ensures in
     let taken_is = c.hand_back.ensures ∙ ap (λ l. l ++ n ∷ []) c.new-taken.ensures in
     record {
@@ -59,35 +54,11 @@ returns-clause-shares g c = λ p out sound holds.
       gained = took.1;
     }
 
-pub returns-in_default-clause-notes : goal.returns-in_default-clause-notes
-returns-in_default-clause-notes g c = notes_none
-
-pub returns-in_err-old_data-clause-notes : goal.returns-in_err-old_data-clause-notes
-returns-in_err-old_data-clause-notes g c = notes_none
-
-pub returns-in_default-2-clause-notes : goal.returns-in_default-2-clause-notes
-returns-in_default-2-clause-notes g c = c.new_cluster_at.ensures.notes
-
-pub returns-clause-notes : goal.returns-clause-notes
-returns-clause-notes g c = c.new_cluster_at.ensures.notes
-
-pub returns-in_default-clause-header_cluster : goal.returns-in_default-clause-header_cluster
-returns-in_default-clause-header_cluster g c = behind_none
-
-pub returns-in_err-old_data-clause-header_cluster : goal.returns-in_err-old_data-clause-header_cluster
-returns-in_err-old_data-clause-header_cluster g c = behind_none
-
-pub returns-in_default-2-clause-header_cluster : goal.returns-in_default-2-clause-header_cluster
-returns-in_default-2-clause-header_cluster g c = c.new_cluster_at.ensures.header_cluster
-
-pub returns-clause-header_cluster : goal.returns-clause-header_cluster
-returns-clause-header_cluster g c = c.new_cluster_at.ensures.header_cluster
-
 pub returns-in_default-2-clause-uses : goal.returns-in_default-2-clause-uses
-returns-in_default-2-clause-uses g c = λ p out sound holds. c.in_ok-pending.ensures.uses p out sound holds
+returns-in_default-2-clause-uses g c = λ p out sound holds. (c.in_ok-pending.ensures.sound p out sound holds).uses
 
 pub returns-clause-uses : goal.returns-clause-uses
-returns-clause-uses g c = λ p out sound holds. c.in_ok-pending.ensures.uses p out sound holds
+returns-clause-uses g c = λ p out sound holds. (c.in_ok-pending.ensures.sound p out sound holds).uses
 
 pub returns-in_err-old_data-clause-limit : goal.returns-in_err-old_data-clause-limit
 returns-in_err-old_data-clause-limit g c = λ p out sound holds.
@@ -95,10 +66,9 @@ returns-in_err-old_data-clause-limit g c = λ p out sound holds.
 
 pub returns-in_err-pending-clause-limit : goal.returns-in_err-pending-clause-limit
 returns-in_err-pending-clause-limit g c = λ p out sound holds.
-    let h = c.args.self.now.file.header.fields in
-    let host_is : c.in-Some.cluster * cluster_size h ≡ c.args.host = ap (λ b. c.in-Some.cluster * 2 ^ b) (sym c.cluster_bits-bits.ensures.value) ∙ c.in-Some.ensures.cluster ∙ c.new.ensures in
+    let host_is : c.in-Some.cluster * cluster_size c.args.self.now.file.header.fields ≡ c.args.host = ap (λ b. c.in-Some.cluster * 2 ^ b) (sym c.cluster_bits-bits.ensures.value) ∙ c.in-Some.ensures.cluster ∙ c.new.ensures in
     hands_limit (λ x. CantTakeAt g.S.Storage.view c.args.host c.args.self.now c.new_cluster_at.new.self) c.from_residual-in_err-pending.result c.in_err-pending.field-0.0 c.from_residual-in_err-pending.ensures
-    (λ is. (c.in-Some.cluster, host_is, c.in_err-pending.ensures.limit p out sound holds is))
+    (λ is. (c.in-Some.cluster, host_is, (c.in_err-pending.ensures.sound p out sound holds).limit is))
 
 pub returns-in_default-clause-met : goal.returns-in_default-clause-met
 returns-in_default-clause-met g c = λ p out sound holds aligned.
@@ -112,4 +82,16 @@ returns-in_err-old_data-clause-met g c = λ p out sound holds aligned.
 
 pub returns-in_err-pending-clause-met : goal.returns-in_err-pending-clause-met
 returns-in_err-pending-clause-met g c = λ p out sound holds aligned.
-    hands_alone (IsCopiedCompressed c.args.self.now.file.header.fields c.args.old.now c.args.offset c.args.length c.args.overwrite) ⊥ c.from_residual-in_err-pending.result c.in_err-pending.field-0.0 c.from_residual-in_err-pending.ensures (c.in_err-pending.ensures.met p out sound holds)
+    hands_alone (IsCopiedCompressed c.args.self.now.file.header.fields c.args.old.now c.args.offset c.args.length c.args.overwrite) ⊥ c.from_residual-in_err-pending.result c.in_err-pending.field-0.0 c.from_residual-in_err-pending.ensures ((c.in_err-pending.ensures.sound p out sound holds).met)
+
+pub returns-in_default-clause-step : goal.returns-in_default-clause-step
+returns-in_default-clause-step g c = step_none
+
+pub returns-in_err-old_data-clause-step : goal.returns-in_err-old_data-clause-step
+returns-in_err-old_data-clause-step g c = step_none
+
+pub returns-in_default-2-clause-step : goal.returns-in_default-2-clause-step
+returns-in_default-2-clause-step g c = c.new_cluster_at.ensures.step
+
+pub returns-clause-step : goal.returns-clause-step
+returns-clause-step g c = c.new_cluster_at.ensures.step

@@ -1,4 +1,4 @@
-use Rattle.std.proofs.Common.{◌≡◌, ◌≢◌, ◌+◌, ◌-◌, ◌/◌, ◌^◌, Some, true, false, arith, inl, refl, sym, ap, ◌∙◌, subst, ◌%◌}
+use Rattle.std.proofs.Common.{◌≡◌, ◌≢◌, ◌+◌, ◌-◌, ◌/◌, ◌^◌, Some, true, false, arith, inl, refl, sym, ap, ◌∙◌, subst, ◌%◌, rules}
 use Rattle.qcow2_metadata.specs.Header.{cluster_size}
 use Rattle.qcow2_metadata.specs.declared.l2_mapping.L2Mapping.{L2Mapping}
 use Rattle.qcow2_metadata.specs.declared.l2_mapping.L2Mapping.TheVariants.{Data, Zero}
@@ -15,8 +15,6 @@ use Rattle.qcow2_image.proofs.Prepare.Gaining.{listed_after_same}
 use Rattle.qcow2_image.proofs.Prepare.KeptShares.{behind_alone, behind_kept}
 use Rattle.qcow2_image.proofs.Prepare.Behind.{behind_in_place, ends_elsewhere, finds_shared, next_cluster, next_says}
 use Rattle.qcow2_image.proofs.Prepare.Listing.{lists_none, lists_still}
-use Rattle.qcow2_alloc.proofs.KeptMarks.{notes_none}
-use Rattle.qcow2_image.proofs.Call.BehindHeader.{behind_none}
 use Rattle.qcow2_image.proofs.Prepare.InUse.{used_stays}
 use Rattle.qcow2_image.proofs.Prepare.Lacked.{hands_limit, limits_as, not_copied, other_limit}
 use Rattle.qcow2_image.specs.LackedPlaces.{CantGoBehind, CantTakeAt, IsNewThere}
@@ -26,92 +24,8 @@ use Rattle.qcow2_image.proofs.Prepare.Taken.{if_err}
 use Rattle.qcow2_image.proofs.Prepare.Met.{kept_behind}
 use Rattle.qcow2_image.proofs.Prepare.MetTables.{hands_alone}
 use Rattle.qcow2_image.proofs.Prepare.MetRanges.{alone_as, guest_fits, next_reads, place_aligned, place_fits}
+use Rattle.qcow2_image.proofs.Call.ImageSteps.{step_none}
 use Rattle.qcow2_image.proofs.image.Qcow2.share_behind.Goals as goal
-
-pub returns-in-Some-copied_place-clause-finds : goal.returns-in-Some-copied_place-clause-finds
-returns-in-Some-copied_place-clause-finds g c = λ out k at may sound.
-    let view = g.S.Storage.view in
-    let below = g.F.BackingDisk.backing in
-    let old = c.args.self.now in
-    let p = c.args.prepared.now in
-    let h = old.file.header.fields in
-    let cluster : c.cluster-cluster.result ≡ (p.guest + p.length) / cluster_size h = c.cluster-cluster.ensures ∙ ap (λ o. o / 2 ^ c.cluster_bits.result) (c.new.ensures ∙ c.in-Some.ensures.1) ∙ ap (λ b. (p.guest + p.length) / 2 ^ b) c.cluster_bits.ensures.value in
-    let covered = next_says view below old out k p at c.args.length c.args.table c.args.overwrite may sound c.cluster-cluster.result c.in_ok-old.old cluster (c.in_ok-old.ensures.says (pending_in view below old out) (l1_index_of h p.guest) sound.file) in
-    behind_in_place view below old out k p at c.args.length c.args.table c.args.overwrite may sound
-    (covered ∙ c.in-Some-copied_place.ensures.place.0 ∙ ap (λ b. Data b true) (c.if-place-host.true ∙ c.in-Some-checked_add.ensures.1))
-
-pub returns-in-Some-2-clause-finds : goal.returns-in-Some-2-clause-finds
-returns-in-Some-2-clause-finds g c = λ out k at may sound.
-    let view = g.S.Storage.view in
-    let below = g.F.BackingDisk.backing in
-    let old = c.args.self.now in
-    let p = c.args.prepared.now in
-    let h = old.file.header.fields in
-    let cluster : c.cluster-cluster.result ≡ (p.guest + p.length) / cluster_size h = c.cluster-cluster.ensures ∙ ap (λ o. o / 2 ^ c.cluster_bits.result) (c.new.ensures ∙ c.in-Some.ensures.1) ∙ ap (λ b. (p.guest + p.length) / 2 ^ b) c.cluster_bits.ensures.value in
-    let covered = next_says view below old out k p at c.args.length c.args.table c.args.overwrite may sound c.cluster-cluster.result c.in_ok-old.old cluster (c.in_ok-old.ensures.says (pending_in view below old out) (l1_index_of h p.guest) sound.file) in
-    ends_elsewhere view below old out k p at c.args.length c.args.table c.args.overwrite may sound c.in-Some-copied_place.place (covered ∙ c.in-Some-copied_place.ensures.place.0) (λ is. c.if-place-host.false (is ∙ sym c.in-Some-checked_add.ensures.1))
-
-pub returns-in_err-fill_kept-in-None-clause-finds : goal.returns-in_err-fill_kept-in-None-clause-finds
-returns-in_err-fill_kept-in-None-clause-finds g c = λ out k at may sound.
-    let view = g.S.Storage.view in
-    let below = g.F.BackingDisk.backing in
-    let old = c.args.self.now in
-    let new = c.fill_kept.new.self in
-    let p = c.args.prepared.now in
-    let before = pending_in view below old out in
-    let h = old.file.header.fields in
-    let host = c.in-Some-checked_add.host in
-    let cluster : c.cluster-cluster.result ≡ (p.guest + p.length) / cluster_size h = c.cluster-cluster.ensures ∙ ap (λ o. o / 2 ^ c.cluster_bits.result) (c.new.ensures ∙ c.in-Some.ensures.1) ∙ ap (λ b. (p.guest + p.length) / 2 ^ b) c.cluster_bits.ensures.value in
-    let covered = next_says view below old out k p at c.args.length c.args.table c.args.overwrite may sound c.cluster-cluster.result c.in_ok-old.old cluster (c.in_ok-old.ensures.says (pending_in view below old out) (l1_index_of h p.guest) sound.file) in
-    let kept : cover h (known_in view old.file) ((p.guest + p.length) / cluster_size h) ≡ Zero (Some (c.in-Some-checked_add.host, true)) =
-    ap (cover h (known_in view old.file)) (next_cluster view below old out k p at c.args.length c.args.table c.args.overwrite may sound) ∙ covered ∙ c.keeps.ensures.answer.0 c.if-keeps.true in
-    let alone = behind_alone view below old out k p at c.args.length c.args.table c.args.overwrite may sound c.in-Some-checked_add.host c.in-Some-checked_add.ensures.1 kept (c.keeps.ensures.reach c.if-keeps.true) in
-    let image_step = c.fill_kept.ensures.image_step before out sound (λ m. omega arith) (subst (λ x. IsKeptAlone view below old out x host) (sym c.in-Some.ensures.1) alone) in
-    let list = ap (λ (image : Qcow2 _ _). image.file.free_list) c.fill_kept.ensures.rest in
-    handed_on (λ r. FindsBehind view below old new out c.args.length c.args.overwrite c.args.prepared.now r) c.from_residual-in_err-fill_kept-in-None.result c.in_err-fill_kept-in-None.field-0.0 c.from_residual-in_err-fill_kept-in-None.ensures
-    (back_refused view below out old new c.in_err-fill_kept-in-None.field-0.0 sound (inl (subst (λ q. UnseenFillingStep view below before q old new out) (sym (listed_after_same view below out before old new list)) image_step)))
-
-pub returns-in_ok-fill_kept-in-None-clause-finds : goal.returns-in_ok-fill_kept-in-None-clause-finds
-returns-in_ok-fill_kept-in-None-clause-finds g c = λ out k at may sound.
-    let view = g.S.Storage.view in
-    let below = g.F.BackingDisk.backing in
-    let old = c.args.self.now in
-    let new = c.fill_kept.new.self in
-    let p = c.args.prepared.now in
-    let before = pending_in view below old out in
-    let h = old.file.header.fields in
-    let host = c.in-Some-checked_add.host in
-    let cluster : c.cluster-cluster.result ≡ (p.guest + p.length) / cluster_size h = c.cluster-cluster.ensures ∙ ap (λ o. o / 2 ^ c.cluster_bits.result) (c.new.ensures ∙ c.in-Some.ensures.1) ∙ ap (λ b. (p.guest + p.length) / 2 ^ b) c.cluster_bits.ensures.value in
-    let covered = next_says view below old out k p at c.args.length c.args.table c.args.overwrite may sound c.cluster-cluster.result c.in_ok-old.old cluster (c.in_ok-old.ensures.says (pending_in view below old out) (l1_index_of h p.guest) sound.file) in
-    let kept : cover h (known_in view old.file) ((p.guest + p.length) / cluster_size h) ≡ Zero (Some (c.in-Some-checked_add.host, true)) =
-    ap (cover h (known_in view old.file)) (next_cluster view below old out k p at c.args.length c.args.table c.args.overwrite may sound) ∙ covered ∙ c.keeps.ensures.answer.0 c.if-keeps.true in
-    let alone = behind_alone view below old out k p at c.args.length c.args.table c.args.overwrite may sound c.in-Some-checked_add.host c.in-Some-checked_add.ensures.1 kept (c.keeps.ensures.reach c.if-keeps.true) in
-    let image_step = c.fill_kept.ensures.image_step before out sound (λ m. omega arith) (subst (λ x. IsKeptAlone view below old out x host) (sym c.in-Some.ensures.1) alone) in
-    let list = ap (λ (image : Qcow2 _ _). image.file.free_list) c.fill_kept.ensures.rest in
-    let covers = subst (λ x. cover h (known_in view old.file) (x / cluster_size h) ≡ Zero (Some (c.in-Some-checked_add.host, true))) (sym c.in-Some.ensures.1) kept in
-    let filled = subst (λ x. IsFilled view below old new (host / cluster_size h) x (c.args.length - p.length) c.args.overwrite) c.in-Some.ensures.1
-    (subst (λ x. IsFilled view below old new (host / cluster_size h) c.in-Some.next x c.args.overwrite) c.saturating_sub-left.ensures (c.in_ok-fill_kept-in-None.ensures.fills before out sound covers)) in
-    behind_kept view below old out k p at c.args.length c.args.table c.args.overwrite may sound c.in-Some-checked_add.host c.in-Some-checked_add.ensures.1 kept (c.keeps.ensures.reach c.if-keeps.true) new image_step list filled
-
-pub returns-in-None-2-clause-finds : goal.returns-in-None-2-clause-finds
-returns-in-None-2-clause-finds g c = λ out k at may sound.
-    let view = g.S.Storage.view in
-    let below = g.F.BackingDisk.backing in
-    let old = c.args.self.now in
-    let new = c.share_at.new.self in
-    let p = c.args.prepared.now in
-    let n = c.args.length in
-    let o = c.args.overwrite in
-    let before = pending_in view below old out in
-    let h = old.file.header.fields in
-    let mapping = c.in_ok-old.old in
-    let r = c.share_at.result in
-    let cluster : c.cluster-cluster.result ≡ (p.guest + p.length) / cluster_size h = c.cluster-cluster.ensures ∙ ap (λ o. o / 2 ^ c.cluster_bits.result) (c.new.ensures ∙ c.in-Some.ensures.1) ∙ ap (λ b. (p.guest + p.length) / 2 ^ b) c.cluster_bits.ensures.value in
-    let covered = next_says view below old out k p at c.args.length c.args.table c.args.overwrite may sound c.cluster-cluster.result c.in_ok-old.old cluster (c.in_ok-old.ensures.says (pending_in view below old out) (l1_index_of h p.guest) sound.file) in
-    finds_shared view below old out k p at c.args.length c.args.table c.args.overwrite may sound new mapping c.in_ok-old.ensures.reach (c.in-None-2.ensures.none refl) (λ own. let yes = c.keeps.ensures.answer.1 (own ∙ ap (λ b. Zero (Some (b, true))) (sym c.in-Some-checked_add.ensures.1)) in let e : true ≡ false = sym yes ∙ c.if-keeps.false in cc) covered r
-    (subst (λ x. SharesAt view below before old new out x (n - p.length) o mapping (p.offset + p.length) r) c.in-Some.ensures.1
-    (subst (λ x. SharesAt view below before old new out c.in-Some.next x o mapping (p.offset + p.length) r) c.saturating_sub-left.ensures
-    (subst (λ x. SharesAt view below before old new out c.in-Some.next c.saturating_sub-left.result o mapping x r) c.in-Some-checked_add.ensures.1 (c.share_at.ensures.shares before out sound (λ m. omega arith)))))
 
 pub returns-in-Some-copied_place-clause-former : goal.returns-in-Some-copied_place-clause-former
 returns-in-Some-copied_place-clause-former g c = lists_none c.args.self.now c.requires.writable
@@ -125,47 +39,85 @@ returns-in_ok-fill_kept-in-None-clause-former g c =
     lists_still c.args.self.now c.args.self.now c.fill_kept.new.self (lists_none c.args.self.now c.requires.writable)
     (record { allocator = ap (λ (image : Qcow2 _ _). image.allocator) rest; list = ap (λ (image : Qcow2 _ _). image.file.free_list) rest })
 
-pub returns-in-Some-copied_place-clause-notes : goal.returns-in-Some-copied_place-clause-notes
-returns-in-Some-copied_place-clause-notes g c = notes_none
+pub returns-in-Some-copied_place-clause-step : goal.returns-in-Some-copied_place-clause-step
+returns-in-Some-copied_place-clause-step g c = step_none
 
-pub returns-in-Some-2-clause-notes : goal.returns-in-Some-2-clause-notes
-returns-in-Some-2-clause-notes g c = notes_none
+pub returns-in-Some-2-clause-step : goal.returns-in-Some-2-clause-step
+returns-in-Some-2-clause-step g c = step_none
 
-pub returns-in_err-fill_kept-in-None-clause-notes : goal.returns-in_err-fill_kept-in-None-clause-notes
-returns-in_err-fill_kept-in-None-clause-notes g c = c.fill_kept.ensures.notes
+pub returns-in_err-fill_kept-in-None-clause-step : goal.returns-in_err-fill_kept-in-None-clause-step
+returns-in_err-fill_kept-in-None-clause-step g c = c.fill_kept.ensures.step
 
-pub returns-in_ok-fill_kept-in-None-clause-notes : goal.returns-in_ok-fill_kept-in-None-clause-notes
-returns-in_ok-fill_kept-in-None-clause-notes g c = c.fill_kept.ensures.notes
+pub returns-in_ok-fill_kept-in-None-clause-step : goal.returns-in_ok-fill_kept-in-None-clause-step
+returns-in_ok-fill_kept-in-None-clause-step g c = c.fill_kept.ensures.step
 
-pub returns-in-None-2-clause-notes : goal.returns-in-None-2-clause-notes
-returns-in-None-2-clause-notes g c = c.share_at.ensures.notes
+pub returns-in-None-2-clause-step : goal.returns-in-None-2-clause-step
+returns-in-None-2-clause-step g c = c.share_at.ensures.step
 
-pub returns-in-Some-copied_place-clause-header_cluster : goal.returns-in-Some-copied_place-clause-header_cluster
-returns-in-Some-copied_place-clause-header_cluster g c = behind_none
+pub returns-in-Some-copied_place-clause-sound : goal.returns-in-Some-copied_place-clause-sound
+returns-in-Some-copied_place-clause-sound g c = λ out k at may sound.
+    let view = g.S.Storage.view in
+    let below = g.F.BackingDisk.backing in
+    let old = c.args.self.now in
+    let p = c.args.prepared.now in
+    let h = old.file.header.fields in
+    let cluster : c.cluster-cluster.result ≡ (p.guest + p.length) / cluster_size h = c.cluster-cluster.ensures ∙ ap (λ o. o / 2 ^ c.cluster_bits.result) (c.new.ensures ∙ c.in-Some.ensures.1) ∙ ap (λ b. (p.guest + p.length) / 2 ^ b) c.cluster_bits.ensures.value in
+    let covered = next_says view below old out k p at c.args.length c.args.table c.args.overwrite may sound c.cluster-cluster.result c.in_ok-old.old cluster (c.in_ok-old.ensures.says (pending_in view below old out) (l1_index_of h p.guest) sound.file) in
+    record {
+      met = search rules;
+      limit = search rules;
+      does = behind_in_place view below old out k p at c.args.length c.args.table c.args.overwrite may sound
+          (covered ∙ c.in-Some-copied_place.ensures.place.0 ∙ ap (λ b. Data b true) (c.if-place-host.true ∙ c.in-Some-checked_add.ensures.1));
+      uses = λ j used. used;
+    }
 
-pub returns-in-Some-2-clause-header_cluster : goal.returns-in-Some-2-clause-header_cluster
-returns-in-Some-2-clause-header_cluster g c = behind_none
+pub returns-in-Some-2-clause-sound : goal.returns-in-Some-2-clause-sound
+returns-in-Some-2-clause-sound g c = λ out k at may sound.
+    let view = g.S.Storage.view in
+    let below = g.F.BackingDisk.backing in
+    let old = c.args.self.now in
+    let p = c.args.prepared.now in
+    let h = old.file.header.fields in
+    let cluster : c.cluster-cluster.result ≡ (p.guest + p.length) / cluster_size h = c.cluster-cluster.ensures ∙ ap (λ o. o / 2 ^ c.cluster_bits.result) (c.new.ensures ∙ c.in-Some.ensures.1) ∙ ap (λ b. (p.guest + p.length) / 2 ^ b) c.cluster_bits.ensures.value in
+    let covered = next_says view below old out k p at c.args.length c.args.table c.args.overwrite may sound c.cluster-cluster.result c.in_ok-old.old cluster (c.in_ok-old.ensures.says (pending_in view below old out) (l1_index_of h p.guest) sound.file) in
+    record {
+      met = search rules;
+      limit = search rules;
+      does = ends_elsewhere view below old out k p at c.args.length c.args.table c.args.overwrite may sound c.in-Some-copied_place.place (covered ∙ c.in-Some-copied_place.ensures.place.0) (λ is. c.if-place-host.false (is ∙ sym c.in-Some-checked_add.ensures.1));
+      uses = λ j used. used;
+    }
 
-pub returns-in_err-fill_kept-in-None-clause-header_cluster : goal.returns-in_err-fill_kept-in-None-clause-header_cluster
-returns-in_err-fill_kept-in-None-clause-header_cluster g c = c.fill_kept.ensures.header_cluster
+pub returns-in_err-fill_kept-in-None-clause-sound : goal.returns-in_err-fill_kept-in-None-clause-sound
+returns-in_err-fill_kept-in-None-clause-sound g c = λ out k at may sound.
+    let view = g.S.Storage.view in
+    let below = g.F.BackingDisk.backing in
+    let old = c.args.self.now in
+    let new = c.fill_kept.new.self in
+    let p = c.args.prepared.now in
+    let h = old.file.header.fields in
+    let before = pending_in view below old out in
+    let cluster : c.cluster-cluster.result ≡ (p.guest + p.length) / cluster_size h = c.cluster-cluster.ensures ∙ ap (λ o. o / 2 ^ c.cluster_bits.result) (c.new.ensures ∙ c.in-Some.ensures.1) ∙ ap (λ b. (p.guest + p.length) / 2 ^ b) c.cluster_bits.ensures.value in
+    let covered = next_says view below old out k p at c.args.length c.args.table c.args.overwrite may sound c.cluster-cluster.result c.in_ok-old.old cluster (c.in_ok-old.ensures.says (pending_in view below old out) (l1_index_of h p.guest) sound.file) in
+    let host = c.in-Some-checked_add.host in
+    record {
+      uses = search rules;
+      does = let kept : cover h (known_in view old.file) ((p.guest + p.length) / cluster_size h) ≡ Zero (Some (c.in-Some-checked_add.host, true)) =
+          ap (cover h (known_in view old.file)) (next_cluster view below old out k p at c.args.length c.args.table c.args.overwrite may sound) ∙ covered ∙ c.keeps.ensures.answer.0 c.if-keeps.true in
+          let alone = behind_alone view below old out k p at c.args.length c.args.table c.args.overwrite may sound c.in-Some-checked_add.host c.in-Some-checked_add.ensures.1 kept (c.keeps.ensures.reach c.if-keeps.true) in
+          let image_step = c.fill_kept.ensures.image_step before out sound (λ m. omega arith) (subst (λ x. IsKeptAlone view below old out x host) (sym c.in-Some.ensures.1) alone) in
+          let list = ap (λ (image : Qcow2 _ _). image.file.free_list) c.fill_kept.ensures.rest in
+          handed_on (λ r. FindsBehind view below old new out c.args.length c.args.overwrite c.args.prepared.now r) c.from_residual-in_err-fill_kept-in-None.result c.in_err-fill_kept-in-None.field-0.0 c.from_residual-in_err-fill_kept-in-None.ensures
+          (back_refused view below out old new c.in_err-fill_kept-in-None.field-0.0 sound (inl (subst (λ q. UnseenFillingStep view below before q old new out) (sym (listed_after_same view below out before old new list)) image_step)));
+      met = let kept : cover h (known_in view old.file) ((p.guest + p.length) / cluster_size h) ≡ Zero (Some (c.in-Some-checked_add.host, true)) =
+          ap (cover h (known_in view old.file)) (next_cluster view below old out k p at c.args.length c.args.table c.args.overwrite may sound) ∙ covered ∙ c.keeps.ensures.answer.0 c.if-keeps.true in
+          hands_alone (IsCopiedCompressed h (cover h (known_in view old.file) ((p.guest + p.length) / cluster_size h)) (p.guest + p.length) (c.args.length - p.length) c.args.overwrite) ⊥ c.from_residual-in_err-fill_kept-in-None.result c.in_err-fill_kept-in-None.field-0.0 c.from_residual-in_err-fill_kept-in-None.ensures
+          (inl (inl (c.in_err-fill_kept-in-None.ensures.fault (kept_behind view below out (pending_in view below old out) old sound _ c.in-Some-checked_add.host kept))));
+      limit = hands_limit (λ x. CantGoBehind g.S.Storage.view c.args.prepared.now c.args.self.now c.fill_kept.new.self) c.from_residual-in_err-fill_kept-in-None.result c.in_err-fill_kept-in-None.field-0.0 c.from_residual-in_err-fill_kept-in-None.ensures
+          (other_limit _ c.in_err-fill_kept-in-None.field-0.0 c.in_err-fill_kept-in-None.ensures.fails.limited);
+    }
 
-pub returns-in_ok-fill_kept-in-None-clause-header_cluster : goal.returns-in_ok-fill_kept-in-None-clause-header_cluster
-returns-in_ok-fill_kept-in-None-clause-header_cluster g c = c.fill_kept.ensures.header_cluster
-
-pub returns-in-None-2-clause-header_cluster : goal.returns-in-None-2-clause-header_cluster
-returns-in-None-2-clause-header_cluster g c = c.share_at.ensures.header_cluster
-
-pub returns-in-Some-copied_place-clause-uses : goal.returns-in-Some-copied_place-clause-uses
-returns-in-Some-copied_place-clause-uses g c = λ out k at may sound j used. used
-
-pub returns-in-Some-2-clause-uses : goal.returns-in-Some-2-clause-uses
-returns-in-Some-2-clause-uses g c = λ out k at may sound j used. used
-
-pub returns-in-None-2-clause-uses : goal.returns-in-None-2-clause-uses
-returns-in-None-2-clause-uses g c = λ out k at may sound. c.share_at.ensures.uses (pending_in g.S.Storage.view g.F.BackingDisk.backing c.args.self.now out) out sound (λ m. omega arith)
-
-pub returns-in_ok-fill_kept-in-None-clause-uses : goal.returns-in_ok-fill_kept-in-None-clause-uses
-returns-in_ok-fill_kept-in-None-clause-uses g c = λ out k at may sound.
+pub returns-in_ok-fill_kept-in-None-clause-sound : goal.returns-in_ok-fill_kept-in-None-clause-sound
+returns-in_ok-fill_kept-in-None-clause-sound g c = λ out k at may sound.
     let view = g.S.Storage.view in
     let below = g.F.BackingDisk.backing in
     let old = c.args.self.now in
@@ -176,89 +128,91 @@ returns-in_ok-fill_kept-in-None-clause-uses g c = λ out k at may sound.
     let host = c.in-Some-checked_add.host in
     let cluster : c.cluster-cluster.result ≡ (p.guest + p.length) / cluster_size h = c.cluster-cluster.ensures ∙ ap (λ o. o / 2 ^ c.cluster_bits.result) (c.new.ensures ∙ c.in-Some.ensures.1) ∙ ap (λ b. (p.guest + p.length) / 2 ^ b) c.cluster_bits.ensures.value in
     let covered = next_says view below old out k p at c.args.length c.args.table c.args.overwrite may sound c.cluster-cluster.result c.in_ok-old.old cluster (c.in_ok-old.ensures.says (pending_in view below old out) (l1_index_of h p.guest) sound.file) in
-    let kept : cover h (known_in view old.file) ((p.guest + p.length) / cluster_size h) ≡ Zero (Some (c.in-Some-checked_add.host, true)) =
-    ap (cover h (known_in view old.file)) (next_cluster view below old out k p at c.args.length c.args.table c.args.overwrite may sound) ∙ covered ∙ c.keeps.ensures.answer.0 c.if-keeps.true in
-    let alone = behind_alone view below old out k p at c.args.length c.args.table c.args.overwrite may sound c.in-Some-checked_add.host c.in-Some-checked_add.ensures.1 kept (c.keeps.ensures.reach c.if-keeps.true) in
-    let image_step = c.fill_kept.ensures.image_step before out sound (λ m. omega arith) (subst (λ x. IsKeptAlone view below old out x host) (sym c.in-Some.ensures.1) alone) in
-    let rest = c.fill_kept.ensures.rest in
-    let a = lists_none old c.requires.writable in
-    used_stays view below out before a.after old new sound image_step.sound (ap (λ (i : Qcow2 _ _). i.file.header) rest) a.is (ap (λ (i : Qcow2 _ _). i.allocator) rest) (ap (λ (i : Qcow2 _ _). i.l1_table) rest) image_step.covers
+    record {
+      met = search rules;
+      limit = search rules;
+      does = let kept : cover h (known_in view old.file) ((p.guest + p.length) / cluster_size h) ≡ Zero (Some (c.in-Some-checked_add.host, true)) =
+          ap (cover h (known_in view old.file)) (next_cluster view below old out k p at c.args.length c.args.table c.args.overwrite may sound) ∙ covered ∙ c.keeps.ensures.answer.0 c.if-keeps.true in
+          let alone = behind_alone view below old out k p at c.args.length c.args.table c.args.overwrite may sound c.in-Some-checked_add.host c.in-Some-checked_add.ensures.1 kept (c.keeps.ensures.reach c.if-keeps.true) in
+          let image_step = c.fill_kept.ensures.image_step before out sound (λ m. omega arith) (subst (λ x. IsKeptAlone view below old out x host) (sym c.in-Some.ensures.1) alone) in
+          let list = ap (λ (image : Qcow2 _ _). image.file.free_list) c.fill_kept.ensures.rest in
+          let covers = subst (λ x. cover h (known_in view old.file) (x / cluster_size h) ≡ Zero (Some (c.in-Some-checked_add.host, true))) (sym c.in-Some.ensures.1) kept in
+          let filled = subst (λ x. IsFilled view below old new (host / cluster_size h) x (c.args.length - p.length) c.args.overwrite) c.in-Some.ensures.1
+          (subst (λ x. IsFilled view below old new (host / cluster_size h) c.in-Some.next x c.args.overwrite) c.saturating_sub-left.ensures (c.in_ok-fill_kept-in-None.ensures.fills before out sound covers)) in
+          behind_kept view below old out k p at c.args.length c.args.table c.args.overwrite may sound c.in-Some-checked_add.host c.in-Some-checked_add.ensures.1 kept (c.keeps.ensures.reach c.if-keeps.true) new image_step list filled;
+      uses = let kept : cover h (known_in view old.file) ((p.guest + p.length) / cluster_size h) ≡ Zero (Some (c.in-Some-checked_add.host, true)) =
+          ap (cover h (known_in view old.file)) (next_cluster view below old out k p at c.args.length c.args.table c.args.overwrite may sound) ∙ covered ∙ c.keeps.ensures.answer.0 c.if-keeps.true in
+          let alone = behind_alone view below old out k p at c.args.length c.args.table c.args.overwrite may sound c.in-Some-checked_add.host c.in-Some-checked_add.ensures.1 kept (c.keeps.ensures.reach c.if-keeps.true) in
+          let image_step = c.fill_kept.ensures.image_step before out sound (λ m. omega arith) (subst (λ x. IsKeptAlone view below old out x host) (sym c.in-Some.ensures.1) alone) in
+          let rest = c.fill_kept.ensures.rest in
+          let a = lists_none old c.requires.writable in
+          used_stays view below out before a.after old new sound image_step.sound (ap (λ (i : Qcow2 _ _). i.file.header) rest) a.is (ap (λ (i : Qcow2 _ _). i.allocator) rest) (ap (λ (i : Qcow2 _ _). i.l1_table) rest) image_step.covers;
+    }
 
-pub returns-in_err-old-clause-limit : goal.returns-in_err-old-clause-limit
-returns-in_err-old-clause-limit g c = λ out k at may sound.
-    hands_limit (λ x. CantGoBehind g.S.Storage.view c.args.prepared.now c.args.self.now c.args.self.now) c.from_residual.result c.in_err-old.field-0.0 c.from_residual.ensures (other_limit _ c.in_err-old.field-0.0 c.in_err-old.ensures.limited)
-
-pub returns-in_err-fill_kept-in-None-clause-limit : goal.returns-in_err-fill_kept-in-None-clause-limit
-returns-in_err-fill_kept-in-None-clause-limit g c = λ out k at may sound.
-    hands_limit (λ x. CantGoBehind g.S.Storage.view c.args.prepared.now c.args.self.now c.fill_kept.new.self) c.from_residual-in_err-fill_kept-in-None.result c.in_err-fill_kept-in-None.field-0.0 c.from_residual-in_err-fill_kept-in-None.ensures
-    (other_limit _ c.in_err-fill_kept-in-None.field-0.0 c.in_err-fill_kept-in-None.ensures.limited)
-
-pub returns-in-None-2-clause-limit : goal.returns-in-None-2-clause-limit
-returns-in-None-2-clause-limit g c = λ out k at may sound.
+pub returns-in-None-2-clause-sound : goal.returns-in-None-2-clause-sound
+returns-in-None-2-clause-sound g c = λ out k at may sound.
     let view = g.S.Storage.view in
     let below = g.F.BackingDisk.backing in
     let old = c.args.self.now in
     let new = c.share_at.new.self in
     let p = c.args.prepared.now in
     let h = old.file.header.fields in
+    let n = c.args.length in
     let cluster : c.cluster-cluster.result ≡ (p.guest + p.length) / cluster_size h = c.cluster-cluster.ensures ∙ ap (λ o. o / 2 ^ c.cluster_bits.result) (c.new.ensures ∙ c.in-Some.ensures.1) ∙ ap (λ b. (p.guest + p.length) / 2 ^ b) c.cluster_bits.ensures.value in
+    let o = c.args.overwrite in
     let covered = next_says view below old out k p at c.args.length c.args.table c.args.overwrite may sound c.cluster-cluster.result c.in_ok-old.old cluster (c.in_ok-old.ensures.says (pending_in view below old out) (l1_index_of h p.guest) sound.file) in
-    let here : cover h (known_in view old.file) ((p.guest + p.length) / cluster_size h) ≡ c.in_ok-old.old = ap (cover h (known_in view old.file)) (next_cluster view below old out k p at c.args.length c.args.table c.args.overwrite may sound) ∙ covered in
-    let own_not : c.in_ok-old.old ≢ Zero (Some (p.offset + p.length, true)) =
-    λ own. let yes = c.keeps.ensures.answer.1 (own ∙ ap (λ b. Zero (Some (b, true))) (sym c.in-Some-checked_add.ensures.1)) in absurd (let e : true ≡ false = sym yes ∙ c.if-keeps.false in cc) in
-    limits_as (λ x. CantTakeAt view c.in-Some-checked_add.host old new) (λ x. CantGoBehind view p old new) c.share_at.result
-    (λ e cant. (
-      subst (λ n. CantTakeAt view n old new) c.in-Some-checked_add.ensures.1 cant,
-      subst (λ (x : L2Mapping). IsNewThere x (p.offset + p.length)) (sym here) (not_copied c.in_ok-old.old (c.in-None-2.ensures.none refl), own_not),
-    ))
-    (c.share_at.ensures.limit (pending_in view below old out) out sound (λ m. omega arith))
-
-pub returns-in_default-clause-met : goal.returns-in_default-clause-met
-returns-in_default-clause-met g c = λ out k at may sound.
-    absurd (c.in_default.ensures (guest_fits g.S.Storage.view g.F.BackingDisk.backing c.args.self.now out k c.args.prepared.now at c.args.length c.args.table c.args.overwrite may sound))
-
-pub returns-in_default-checked_add-clause-met : goal.returns-in_default-checked_add-clause-met
-returns-in_default-checked_add-clause-met g c = λ out k at may sound.
-    absurd (c.in_default-checked_add.ensures (place_fits g.S.Storage.view g.F.BackingDisk.backing c.args.self.now out k c.args.prepared.now at c.args.length c.args.table c.args.overwrite may sound))
-
-pub returns-in_err-old-clause-met : goal.returns-in_err-old-clause-met
-returns-in_err-old-clause-met g c = λ out k at may sound.
-    let view = g.S.Storage.view in
-    let below = g.F.BackingDisk.backing in
-    let old = c.args.self.now in
-    let p = c.args.prepared.now in
-    let h = old.file.header.fields in
-    let cluster : c.cluster-cluster.result ≡ (p.guest + p.length) / cluster_size h = c.cluster-cluster.ensures ∙ ap (λ o. o / 2 ^ c.cluster_bits.result) (c.new.ensures ∙ c.in-Some.ensures.1) ∙ ap (λ b. (p.guest + p.length) / 2 ^ b) c.cluster_bits.ensures.value in
-    absurd (let no : false ≡ true = next_reads view below old out k p at c.args.length c.args.table c.args.overwrite may sound c.cluster-cluster.result cluster (c.in_err-old.ensures.reads (pending_in view below old out) (l1_index_of h p.guest) sound.file) in cc)
-
-pub returns-in_err-fill_kept-in-None-clause-met : goal.returns-in_err-fill_kept-in-None-clause-met
-returns-in_err-fill_kept-in-None-clause-met g c = λ out k at may sound.
-    let view = g.S.Storage.view in
-    let below = g.F.BackingDisk.backing in
-    let old = c.args.self.now in
-    let p = c.args.prepared.now in
-    let h = old.file.header.fields in
-    let cluster : c.cluster-cluster.result ≡ (p.guest + p.length) / cluster_size h = c.cluster-cluster.ensures ∙ ap (λ o. o / 2 ^ c.cluster_bits.result) (c.new.ensures ∙ c.in-Some.ensures.1) ∙ ap (λ b. (p.guest + p.length) / 2 ^ b) c.cluster_bits.ensures.value in
-    let covered = next_says view below old out k p at c.args.length c.args.table c.args.overwrite may sound c.cluster-cluster.result c.in_ok-old.old cluster (c.in_ok-old.ensures.says (pending_in view below old out) (l1_index_of h p.guest) sound.file) in
-    let kept : cover h (known_in view old.file) ((p.guest + p.length) / cluster_size h) ≡ Zero (Some (c.in-Some-checked_add.host, true)) =
-    ap (cover h (known_in view old.file)) (next_cluster view below old out k p at c.args.length c.args.table c.args.overwrite may sound) ∙ covered ∙ c.keeps.ensures.answer.0 c.if-keeps.true in
-    hands_alone (IsCopiedCompressed h (cover h (known_in view old.file) ((p.guest + p.length) / cluster_size h)) (p.guest + p.length) (c.args.length - p.length) c.args.overwrite) ⊥ c.from_residual-in_err-fill_kept-in-None.result c.in_err-fill_kept-in-None.field-0.0 c.from_residual-in_err-fill_kept-in-None.ensures
-    (inl (inl (c.in_err-fill_kept-in-None.ensures.fault (kept_behind view below out (pending_in view below old out) old sound _ c.in-Some-checked_add.host kept))))
-
-pub returns-in-None-2-clause-met : goal.returns-in-None-2-clause-met
-returns-in-None-2-clause-met g c = λ out k at may sound.
-    let view = g.S.Storage.view in
-    let below = g.F.BackingDisk.backing in
-    let old = c.args.self.now in
-    let p = c.args.prepared.now in
-    let h = old.file.header.fields in
-    let cluster : c.cluster-cluster.result ≡ (p.guest + p.length) / cluster_size h = c.cluster-cluster.ensures ∙ ap (λ o. o / 2 ^ c.cluster_bits.result) (c.new.ensures ∙ c.in-Some.ensures.1) ∙ ap (λ b. (p.guest + p.length) / 2 ^ b) c.cluster_bits.ensures.value in
-    let covered = next_says view below old out k p at c.args.length c.args.table c.args.overwrite may sound c.cluster-cluster.result c.in_ok-old.old cluster (c.in_ok-old.ensures.says (pending_in view below old out) (l1_index_of h p.guest) sound.file) in
+    let before = pending_in view below old out in
     let here : cover h (known_in view old.file) ((p.guest + p.length) / cluster_size h) ≡ c.in_ok-old.old = ap (cover h (known_in view old.file)) (next_cluster view below old out k p at c.args.length c.args.table c.args.overwrite may sound) ∙ covered in
     let aligned : c.in-Some-checked_add.host % cluster_size h ≡ 0 = ap (λ b. b % cluster_size h) c.in-Some-checked_add.ensures.1 ∙ place_aligned view below old out k p at c.args.length c.args.table c.args.overwrite may sound in
-    if_err c.share_at.result
-    (alone_as (λ copied. (
-      subst IsCompressed (sym here) copied.0,
-      subst (λ x. HasUnannounced (cluster_size h) x (c.args.length - p.length) c.args.overwrite) c.in-Some.ensures.1 (subst (λ x. HasUnannounced (cluster_size h) c.in-Some.next x c.args.overwrite) c.saturating_sub-left.ensures copied.1),
-    )) (λ no. no))
-    (c.share_at.ensures.met (pending_in view below old out) out sound (λ m. omega arith) aligned)
+    let mapping = c.in_ok-old.old in
+    let r = c.share_at.result in
+    record {
+      does = finds_shared view below old out k p at c.args.length c.args.table c.args.overwrite may sound new mapping c.in_ok-old.ensures.reach (c.in-None-2.ensures.none refl) (λ own. let yes = c.keeps.ensures.answer.1 (own ∙ ap (λ b. Zero (Some (b, true))) (sym c.in-Some-checked_add.ensures.1)) in let e : true ≡ false = sym yes ∙ c.if-keeps.false in cc) covered r
+          (subst (λ x. SharesAt view below before old new out x (n - p.length) o mapping (p.offset + p.length) r) c.in-Some.ensures.1
+          (subst (λ x. SharesAt view below before old new out c.in-Some.next x o mapping (p.offset + p.length) r) c.saturating_sub-left.ensures
+          (subst (λ x. SharesAt view below before old new out c.in-Some.next c.saturating_sub-left.result o mapping x r) c.in-Some-checked_add.ensures.1 (c.share_at.ensures.shares before out sound (λ m. omega arith)))));
+      met = if_err c.share_at.result
+          (alone_as (λ copied. (
+            subst IsCompressed (sym here) copied.0,
+            subst (λ x. HasUnannounced (cluster_size h) x (c.args.length - p.length) c.args.overwrite) c.in-Some.ensures.1 (subst (λ x. HasUnannounced (cluster_size h) c.in-Some.next x c.args.overwrite) c.saturating_sub-left.ensures copied.1),
+          )) (λ no. no))
+          (c.share_at.ensures.met (pending_in view below old out) out sound (λ m. omega arith) aligned);
+      limit = let own_not : c.in_ok-old.old ≢ Zero (Some (p.offset + p.length, true)) =
+          λ own. let yes = c.keeps.ensures.answer.1 (own ∙ ap (λ b. Zero (Some (b, true))) (sym c.in-Some-checked_add.ensures.1)) in absurd (let e : true ≡ false = sym yes ∙ c.if-keeps.false in cc) in
+          limits_as (λ x. CantTakeAt view c.in-Some-checked_add.host old new) (λ x. CantGoBehind view p old new) c.share_at.result
+          (λ e cant. (
+            subst (λ n. CantTakeAt view n old new) c.in-Some-checked_add.ensures.1 cant,
+            subst (λ (x : L2Mapping). IsNewThere x (p.offset + p.length)) (sym here) (not_copied c.in_ok-old.old (c.in-None-2.ensures.none refl), own_not),
+          ))
+          (c.share_at.ensures.limit (pending_in view below old out) out sound (λ m. omega arith));
+      uses = c.share_at.ensures.uses (pending_in g.S.Storage.view g.F.BackingDisk.backing c.args.self.now out) out sound (λ m. omega arith);
+    }
+
+pub returns-in_err-old-clause-sound : goal.returns-in_err-old-clause-sound
+returns-in_err-old-clause-sound g c = λ out k at may sound.
+    let view = g.S.Storage.view in
+    let below = g.F.BackingDisk.backing in
+    let old = c.args.self.now in
+    let p = c.args.prepared.now in
+    let h = old.file.header.fields in
+    let cluster : c.cluster-cluster.result ≡ (p.guest + p.length) / cluster_size h = c.cluster-cluster.ensures ∙ ap (λ o. o / 2 ^ c.cluster_bits.result) (c.new.ensures ∙ c.in-Some.ensures.1) ∙ ap (λ b. (p.guest + p.length) / 2 ^ b) c.cluster_bits.ensures.value in
+    record {
+      does = search rules;
+      uses = search rules;
+      met = absurd (let no : false ≡ true = next_reads view below old out k p at c.args.length c.args.table c.args.overwrite may sound c.cluster-cluster.result cluster (c.in_err-old.ensures.reads (pending_in view below old out) (l1_index_of h p.guest) sound.file) in cc);
+      limit = hands_limit (λ x. CantGoBehind g.S.Storage.view c.args.prepared.now c.args.self.now c.args.self.now) c.from_residual.result c.in_err-old.field-0.0 c.from_residual.ensures (other_limit _ c.in_err-old.field-0.0 c.in_err-old.ensures.limited);
+    }
+
+pub returns-in_default-clause-sound : goal.returns-in_default-clause-sound
+returns-in_default-clause-sound g c = λ out k at may sound.
+    let never = c.in_default.ensures (guest_fits g.S.Storage.view g.F.BackingDisk.backing c.args.self.now out k c.args.prepared.now at c.args.length c.args.table c.args.overwrite may sound) in
+    record { does = absurd never; met = absurd never; limit = absurd never; uses = absurd never }
+
+pub returns-in_default-checked_add-clause-sound : goal.returns-in_default-checked_add-clause-sound
+returns-in_default-checked_add-clause-sound g c = λ out k at may sound.
+    record {
+      does = search rules;
+      limit = search rules;
+      uses = search rules;
+      met = absurd (c.in_default-checked_add.ensures (place_fits g.S.Storage.view g.F.BackingDisk.backing c.args.self.now out k c.args.prepared.now at c.args.length c.args.table c.args.overwrite may sound));
+    }

@@ -1,3 +1,4 @@
+use Rattle.std.proofs.Common.{rules}
 use Rattle.qcow2_alloc.proofs.KeptMarks.{notes_of_both}
 use Rattle.qcow2_image.proofs.Map.Loading.{caches_moved, with_caches}
 use Rattle.qcow2_image.proofs.Prepare.Storing.{stores_counts}
@@ -13,14 +14,11 @@ returns-clause-stores g c = λ p out sound.
     (caches_moved g.S.Storage.view g.F.BackingDisk.backing old out p sound c.flush_rb.new.storage c.flush_rb.new.self stay c.flush_rb.ensures.marks.room c.flush_rb.ensures.marks.pins)
     c.flush_rb.result c.flush_rb.ensures.written c.flush_rb.ensures.first
 
-pub returns-clause-notes : goal.returns-clause-notes
-returns-clause-notes g c = (notes_of_both c.flush_rb.ensures.marks c.flush_rb.ensures.notes)
-
-pub returns-clause-header_cluster : goal.returns-clause-header_cluster
-returns-clause-header_cluster g c = behind_caches c.flush_rb.ensures.header_cluster
-
 pub returns-clause-limited : goal.returns-clause-limited
 returns-clause-limited g c = λ p out sound. faults_unlimited c.flush_rb.result (c.flush_rb.ensures.faults c.args.self.now.file.header.fields p sound.file.honest sound.file.caches sound.file.named_blocks)
 
 pub returns-clause-fault : goal.returns-clause-fault
 returns-clause-fault g c = λ p out sound. c.flush_rb.ensures.faults c.args.self.now.file.header.fields p sound.file.honest sound.file.caches sound.file.named_blocks
+
+pub returns-clause-step : goal.returns-clause-step
+returns-clause-step g c = record { stays = search rules; notes = (notes_of_both c.flush_rb.ensures.marks c.flush_rb.ensures.notes); header_cluster = behind_caches c.flush_rb.ensures.header_cluster }

@@ -1,10 +1,9 @@
+use Rattle.qcow2_image.proofs.Call.ImageSteps.{step_none}
 use Rattle.qcow2_image.proofs.image.Qcow2.swap_l2.Goals as goal
-use Rattle.std.proofs.Common.{ap, refl, ◌∙◌}
+use Rattle.std.proofs.Common.{ap, refl, ◌∙◌, rules}
 use Rattle.qcow2_alloc.specs.ClustersToFree.{metadata_entry}
 use Rattle.qcow2_image.specs.NewTables.{OwnsTable}
 use Rattle.qcow2_image.proofs.Prepare.Owning.{refused, left_alone, swapped_owns}
-use Rattle.qcow2_alloc.proofs.KeptMarks.{notes_none}
-use Rattle.qcow2_image.proofs.Call.BehindHeader.{behind_none}
 use Rattle.qcow2_image.proofs.Prepare.Listing.{some_still}
 
 pub returns-in-Err-clause-owns : goal.returns-in-Err-clause-owns
@@ -19,24 +18,6 @@ pub returns-in_err-dropped-clause-owns : goal.returns-in_err-dropped-clause-owns
 returns-in_err-dropped-clause-owns g c = λ p out sound shared says.
     refused (OwnsTable g.S.Storage.view g.F.BackingDisk.backing p c.args.self.now c.args.self.now out c.args.index) c.from_residual.result c.from_residual.ensures.0 (left_alone g.S.Storage.view g.F.BackingDisk.backing out p c.args.self.now sound c.args.index)
 
-pub returns-in_err-dropped-clause-notes : goal.returns-in_err-dropped-clause-notes
-returns-in_err-dropped-clause-notes g c = notes_none
-
-pub returns-in-Ok-clause-notes : goal.returns-in-Ok-clause-notes
-returns-in-Ok-clause-notes g c = c.enter_l2.ensures.notes
-
-pub returns-in-Err-clause-notes : goal.returns-in-Err-clause-notes
-returns-in-Err-clause-notes g c = c.enter_l2.ensures.notes
-
-pub returns-in_err-dropped-clause-header_cluster : goal.returns-in_err-dropped-clause-header_cluster
-returns-in_err-dropped-clause-header_cluster g c = behind_none
-
-pub returns-in-Ok-clause-header_cluster : goal.returns-in-Ok-clause-header_cluster
-returns-in-Ok-clause-header_cluster g c = c.enter_l2.ensures.header_cluster
-
-pub returns-in-Err-clause-header_cluster : goal.returns-in-Err-clause-header_cluster
-returns-in-Err-clause-header_cluster g c = c.enter_l2.ensures.header_cluster
-
 pub returns-in-Ok-clause-elsewhere : goal.returns-in-Ok-clause-elsewhere
 returns-in-Ok-clause-elsewhere g c = c.in-Ok.ensures.elsewhere
 
@@ -48,3 +29,12 @@ returns-in-Err-clause-limit g c = λ p out sound shared says near. c.in-Err.ensu
 
 pub returns-in-Err-clause-met : goal.returns-in-Err-clause-met
 returns-in-Err-clause-met g c = λ p out sound shared says near. c.in-Err.ensures.met p out sound shared.may says near
+
+pub returns-in_err-dropped-clause-step : goal.returns-in_err-dropped-clause-step
+returns-in_err-dropped-clause-step g c = step_none
+
+pub returns-in-Ok-clause-step : goal.returns-in-Ok-clause-step
+returns-in-Ok-clause-step g c = record { stays = search rules; notes = c.enter_l2.ensures.step.notes; header_cluster = c.enter_l2.ensures.step.header_cluster }
+
+pub returns-in-Err-clause-step : goal.returns-in-Err-clause-step
+returns-in-Err-clause-step g c = c.enter_l2.ensures.step

@@ -1,6 +1,8 @@
 use Rattle.qcow2_alloc.specs.declared.error.ImageError.TheVariants as I
+use Rattle.qcow2_image.proofs.Call.ImageSteps.{step_none, step_then}
+use Rattle.qcow2_image.specs.ListedClusters.{ListsNoMore, ListsSinceTable}
 use Rattle.qcow2_image.proofs.image.Qcow2.table_for.Goals as goal
-use Rattle.std.proofs.Common.{◌≡◌, true, false, Err, ◌∙◌, refl, ap, sym, subst, inl, inr, ◌+◌}
+use Rattle.std.proofs.Common.{◌≡◌, true, false, Err, ◌∙◌, refl, ap, sym, subst, inl, inr, ◌+◌, rules}
 use Rattle.qcow2_metadata.specs.Header.{HeaderView}
 use Rattle.qcow2_laws.specs.CrashInvariant.{Pending}
 use Rattle.qcow2_alloc.proofs.AllocationSteps.{handed_on}
@@ -8,15 +10,13 @@ use Rattle.qcow2_image.specs.CallParts.{FindsTable}
 use Rattle.qcow2_image.specs.ImageInvariant.{ImageInvariant, pending_in}
 use Rattle.qcow2_image.proofs.Call.Refused.{finds, finds_after, left_refused, stays_kept}
 use Rattle.qcow2_image.proofs.Flush.Freeing.{all_listed, beside, freed_refused, tidy_stays}
-use Rattle.std.specs.Prelude.{IfErr, IsTrue}
+use Rattle.std.specs.Prelude.{IfErr, IsTrue, OnOk}
 use Rattle.qcow2_alloc.proofs.KeptTables.Turning.{always_ok}
 use Rattle.qcow2_image.specs.Found.{l1_index_of}
 use Rattle.qcow2_image.specs.UnseenSteps.{NamesOwn, pending_with_listed}
 use Rattle.qcow2_image.proofs.Prepare.Owning.{left_alone}
 use Rattle.qcow2_image.proofs.Grow.Lengths.{own_after}
 use Rattle.qcow2_image.specs.NewTables.{IsFaultOrLacksTable}
-use Rattle.qcow2_alloc.proofs.KeptMarks.{notes_none, notes_then}
-use Rattle.qcow2_image.proofs.Call.BehindHeader.{behind_none, behind_then}
 use Rattle.qcow2_image.proofs.Prepare.Listing.{lists_made, lists_own, some_kept, some_then}
 use Rattle.qcow2_image.proofs.Call.FaultCounts.{counted_on, counted_since, faults_then, same_of}
 use Rattle.qcow2_image.proofs.Prepare.Lacked.{cluster_more, hands_limit, longer_wider, near_reached, other_limit, reached_runs, stands_then, unlimited_all}
@@ -29,172 +29,6 @@ use Rattle.qcow2_image.specs.Backings.{HasPrepared}
 use Rattle.qcow2_image.specs.MetAlone.{IsMetTaking}
 use Rattle.qcow2_image.proofs.Prepare.Met.{hands_met, met_as}
 use Rattle.qcow2_image.proofs.Prepare.MetTaking.{taking_as}
-
-pub returns-then-has_own_l2-clause-finds : goal.returns-then-has_own_l2-clause-finds
-returns-then-has_own_l2-clause-finds g c = λ out sound.
-    let view = g.S.Storage.view in
-    let below = g.F.BackingDisk.backing in
-    finds view below out c.args.self.now c.ensure_l2.new.self sound c.ensure_l2.ensures.keeps_rest c.args.offset c.ensure_l2.result (c.ensure_l2.ensures.ready (pending_in view below c.args.self.now out) out sound)
-
-pub returns-then-has_far_entry-clause-finds : goal.returns-then-has_far_entry-clause-finds
-returns-then-has_far_entry-clause-finds g c = λ out sound.
-    let view = g.S.Storage.view in
-    let below = g.F.BackingDisk.backing in
-    let old = c.args.self.now in
-    left_refused view below out old old I.Overflow sound (record { header = refl; backing = refl }) (left_alone view below out (pending_in view below old out) old sound 0 I.Overflow)
-
-pub returns-in_err-reach_entry-clause-finds : goal.returns-in_err-reach_entry-clause-finds
-returns-in_err-reach_entry-clause-finds g c = λ out sound.
-    let view = g.S.Storage.view in
-    let below = g.F.BackingDisk.backing in
-    handed_on (FindsTable view below c.args.self.now c.reach_entry.new.self out c.args.offset) c.from_residual.result c.in_err-reach_entry.field-0.0 c.from_residual.ensures
-    (c.in_err-reach_entry.ensures.makes out sound)
-
-pub returns-in_err-own_l2-clause-finds : goal.returns-in_err-own_l2-clause-finds
-returns-in_err-own_l2-clause-finds g c = λ out sound.
-    let view = g.S.Storage.view in
-    let below = g.F.BackingDisk.backing in
-    let old = c.args.self.now in
-    let long = c.reach_entry.new.self in
-    let e = c.in_err-own_l2.field-0.0 in
-    let reached = c.in_ok-reach_entry.ensures.makes out sound in
-    handed_on (FindsTable view below old c.own_l2.new.self out c.args.offset) c.from_residual-in_err-own_l2.result e c.from_residual-in_err-own_l2.ensures
-    (finds_after view below out old long c.own_l2.new.self reached c.args.offset (Err e)
-    (left_refused view below out long c.own_l2.new.self e reached.sound c.own_l2.ensures.keeps_rest (c.in_err-own_l2.ensures.owns (pending_in view below long out) out reached.sound)))
-
-pub returns-in_err-free_listed-clause-finds : goal.returns-in_err-free_listed-clause-finds
-returns-in_err-free_listed-clause-finds g c = λ out sound.
-    let view = g.S.Storage.view in
-    let below = g.F.BackingDisk.backing in
-    let old = c.args.self.now in
-    let long = c.reach_entry.new.self in
-    let mid = c.own_l2.new.self in
-    let new = c.free_listed.new.self in
-    let e = c.in_err-free_listed.field-0.0 in
-    let reached = c.in_ok-reach_entry.ensures.makes out sound in
-    let first = stays_kept view below out long mid reached.sound (c.in_ok-own_l2.ensures.owns (pending_in view below long out) out reached.sound).0 in
-    let listed = subst (λ (x : Pending). ImageInvariant view below x mid out) (all_listed view below mid out) first.sound in
-    handed_on (FindsTable view below old new out c.args.offset) c.from_residual-in_err-free_listed.result e c.from_residual-in_err-free_listed.ensures
-    (finds_after view below out old long new reached c.args.offset (Err e)
-    (finds_after view below out long mid new first c.args.offset (Err e) (freed_refused view below mid out new e first.sound (c.in_err-free_listed.ensures.frees (beside view below mid out) out listed))))
-
-pub returns-clause-finds : goal.returns-clause-finds
-returns-clause-finds g c = λ out sound.
-    let view = g.S.Storage.view in
-    let below = g.F.BackingDisk.backing in
-    let old = c.args.self.now in
-    let long = c.reach_entry.new.self in
-    let mid = c.own_l2.new.self in
-    let freed = c.free_listed.new.self in
-    let new = c.ensure_l2-2.new.self in
-    let reached = c.in_ok-reach_entry.ensures.makes out sound in
-    let first = stays_kept view below out long mid reached.sound (c.in_ok-own_l2.ensures.owns (pending_in view below long out) out reached.sound).0 in
-    let listed = subst (λ (x : Pending). ImageInvariant view below x mid out) (all_listed view below mid out) first.sound in
-    let second = tidy_stays view below mid out freed first.sound (c.in_ok-free_listed.ensures.frees (beside view below mid out) out listed) in
-    finds_after view below out old long new reached c.args.offset c.ensure_l2-2.result
-    (finds_after view below out long mid new first c.args.offset c.ensure_l2-2.result
-    (finds_after view below out mid freed new second c.args.offset c.ensure_l2-2.result
-    (finds view below out freed new second.sound c.ensure_l2-2.ensures.keeps_rest c.args.offset c.ensure_l2-2.result (c.ensure_l2-2.ensures.ready (pending_in view below freed out) out second.sound))))
-
-pub returns-then-has_own_l2-clause-lacks : goal.returns-then-has_own_l2-clause-lacks
-returns-then-has_own_l2-clause-lacks g c = λ out sound none. c.ensure_l2.ensures.lacks (pending_in g.S.Storage.view g.F.BackingDisk.backing c.args.self.now out) out sound none
-
-pub returns-then-has_far_entry-clause-lacks : goal.returns-then-has_far_entry-clause-lacks
-returns-then-has_far_entry-clause-lacks g c = λ out sound none.
-    let old = c.args.self.now in
-    inr (λ own. absurd (let has = c.has_own_l2.ensures.1 (subst NamesOwn (sym (sound.l1_table.entries (l1_index_of old.file.header.fields c.args.offset))) own) in let is = sym c.if-has_own_l2.false ∙ has in cc))
-
-pub returns-in_err-reach_entry-clause-lacks : goal.returns-in_err-reach_entry-clause-lacks
-returns-in_err-reach_entry-clause-lacks g c = λ out sound none.
-    handed_on (λ r. IfErr r (IsFaultOrLacksTable g.S.Storage.view c.reach_entry.new.self c.args.offset)) c.from_residual.result c.in_err-reach_entry.field-0.0 c.from_residual.ensures (c.in_err-reach_entry.ensures.lacks out sound)
-
-pub returns-in_err-own_l2-clause-lacks : goal.returns-in_err-own_l2-clause-lacks
-returns-in_err-own_l2-clause-lacks g c = λ out sound none.
-    let view = g.S.Storage.view in
-    let below = g.F.BackingDisk.backing in
-    let long = c.reach_entry.new.self in
-    handed_on (λ r. IfErr r (IsFaultOrLacksTable view c.own_l2.new.self c.args.offset)) c.from_residual-in_err-own_l2.result c.in_err-own_l2.field-0.0 c.from_residual-in_err-own_l2.ensures
-    (c.in_err-own_l2.ensures.lacks (pending_in view below long out) out (c.in_ok-reach_entry.ensures.makes out sound).sound)
-
-pub returns-in_err-free_listed-clause-lacks : goal.returns-in_err-free_listed-clause-lacks
-returns-in_err-free_listed-clause-lacks g c = λ out sound none.
-    let view = g.S.Storage.view in
-    let below = g.F.BackingDisk.backing in
-    let long = c.reach_entry.new.self in
-    let mid = c.own_l2.new.self in
-    let reached = c.in_ok-reach_entry.ensures.makes out sound in
-    let first = stays_kept view below out long mid reached.sound (c.in_ok-own_l2.ensures.owns (pending_in view below long out) out reached.sound).0 in
-    let listed = subst (λ (x : Pending). ImageInvariant view below x mid out) (all_listed view below mid out) first.sound in
-    handed_on (λ r. IfErr r (IsFaultOrLacksTable view c.free_listed.new.self c.args.offset)) c.from_residual-in_err-free_listed.result c.in_err-free_listed.field-0.0 c.from_residual-in_err-free_listed.ensures
-    (inl (c.in_err-free_listed.ensures.faults (beside view below mid out) out listed))
-
-pub returns-clause-lacks : goal.returns-clause-lacks
-returns-clause-lacks g c = λ out sound none.
-    let view = g.S.Storage.view in
-    let below = g.F.BackingDisk.backing in
-    let long = c.reach_entry.new.self in
-    let mid = c.own_l2.new.self in
-    let freed = c.free_listed.new.self in
-    let reached = c.in_ok-reach_entry.ensures.makes out sound in
-    let first = stays_kept view below out long mid reached.sound (c.in_ok-own_l2.ensures.owns (pending_in view below long out) out reached.sound).0 in
-    let listed = subst (λ (x : Pending). ImageInvariant view below x mid out) (all_listed view below mid out) first.sound in
-    let second = tidy_stays view below mid out freed first.sound (c.in_ok-free_listed.ensures.frees (beside view below mid out) out listed) in
-    c.ensure_l2-2.ensures.lacks (pending_in view below freed out) out second.sound none
-
-pub returns-then-has_own_l2-clause-freed : goal.returns-then-has_own_l2-clause-freed
-returns-then-has_own_l2-clause-freed g c = λ out sound. let own = c.has_own_l2.ensures.0 c.if-has_own_l2.true in always_ok c.ensure_l2.result (lists_own c.args.offset c.args.self.now c.ensure_l2.new.self c.requires.writable own (c.ensure_l2.ensures.quiet own))
-
-pub returns-clause-freed : goal.returns-clause-freed
-returns-clause-freed g c = λ out sound.
-    let view = g.S.Storage.view in
-    let below = g.F.BackingDisk.backing in
-    let old = c.args.self.now in
-    let long = c.reach_entry.new.self in
-    let mid = c.own_l2.new.self in
-    let freed = c.free_listed.new.self in
-    let reached = c.in_ok-reach_entry.ensures.makes out sound in
-    let owned = c.in_ok-own_l2.ensures.owns (pending_in view below long out) out reached.sound in
-    let at = ap (λ (v : HeaderView). l1_index_of v.fields c.args.offset) c.own_l2.ensures.keeps_rest.header in
-    let own = own_after view below out (pending_with_listed (pending_in view below long out) long mid) mid freed owned.0.sound c.args.offset (l1_index_of long.file.header.fields c.args.offset) at owned.1.own c.free_listed.ensures.table c.free_listed.ensures.keeps_rest.header in
-    let writable = subst IsTrue (sym (c.own_l2.ensures.stays.image.writable ∙ c.reach_entry.ensures.stays.image.writable)) c.requires.writable in
-    let gave = some_kept old mid freed (some_then old long mid c.in_ok-reach_entry.ensures.former c.in_ok-own_l2.ensures.former) c.free_listed.ensures.former in
-    always_ok c.ensure_l2-2.result (lists_made c.args.offset old freed c.ensure_l2-2.new.self (λ has. let some = c.has_own_l2.ensures.1 has in let is = sym c.if-has_own_l2.false ∙ some in cc) gave (c.ensure_l2-2.ensures.quiet own).allocator ((c.ensure_l2-2.ensures.quiet own).list ∙ c.in_ok-free_listed.ensures.emptied writable))
-
-pub returns-then-has_own_l2-clause-notes : goal.returns-then-has_own_l2-clause-notes
-returns-then-has_own_l2-clause-notes g c = c.ensure_l2.ensures.notes
-
-pub returns-then-has_far_entry-clause-notes : goal.returns-then-has_far_entry-clause-notes
-returns-then-has_far_entry-clause-notes g c = notes_none
-
-pub returns-in_err-reach_entry-clause-notes : goal.returns-in_err-reach_entry-clause-notes
-returns-in_err-reach_entry-clause-notes g c = c.reach_entry.ensures.notes
-
-pub returns-in_err-own_l2-clause-notes : goal.returns-in_err-own_l2-clause-notes
-returns-in_err-own_l2-clause-notes g c = notes_then c.reach_entry.ensures.notes c.own_l2.ensures.notes
-
-pub returns-in_err-free_listed-clause-notes : goal.returns-in_err-free_listed-clause-notes
-returns-in_err-free_listed-clause-notes g c = notes_then (notes_then c.reach_entry.ensures.notes c.own_l2.ensures.notes) c.free_listed.ensures.notes
-
-pub returns-clause-notes : goal.returns-clause-notes
-returns-clause-notes g c = notes_then (notes_then (notes_then c.reach_entry.ensures.notes c.own_l2.ensures.notes) c.free_listed.ensures.notes) c.ensure_l2-2.ensures.notes
-
-pub returns-then-has_own_l2-clause-header_cluster : goal.returns-then-has_own_l2-clause-header_cluster
-returns-then-has_own_l2-clause-header_cluster g c = c.ensure_l2.ensures.header_cluster
-
-pub returns-then-has_far_entry-clause-header_cluster : goal.returns-then-has_far_entry-clause-header_cluster
-returns-then-has_far_entry-clause-header_cluster g c = behind_none
-
-pub returns-in_err-reach_entry-clause-header_cluster : goal.returns-in_err-reach_entry-clause-header_cluster
-returns-in_err-reach_entry-clause-header_cluster g c = c.reach_entry.ensures.header_cluster
-
-pub returns-in_err-own_l2-clause-header_cluster : goal.returns-in_err-own_l2-clause-header_cluster
-returns-in_err-own_l2-clause-header_cluster g c = behind_then c.reach_entry.ensures.header_cluster c.own_l2.ensures.header_cluster
-
-pub returns-in_err-free_listed-clause-header_cluster : goal.returns-in_err-free_listed-clause-header_cluster
-returns-in_err-free_listed-clause-header_cluster g c = behind_then (behind_then c.reach_entry.ensures.header_cluster c.own_l2.ensures.header_cluster) c.free_listed.ensures.header_cluster
-
-pub returns-clause-header_cluster : goal.returns-clause-header_cluster
-returns-clause-header_cluster g c = behind_then (behind_then (behind_then c.reach_entry.ensures.header_cluster c.own_l2.ensures.header_cluster) c.free_listed.ensures.header_cluster) c.ensure_l2-2.ensures.header_cluster
 
 pub returns-then-has_own_l2-clause-elsewhere : goal.returns-then-has_own_l2-clause-elsewhere
 returns-then-has_own_l2-clause-elsewhere g c = c.ensure_l2.ensures.elsewhere
@@ -220,166 +54,194 @@ returns-in_err-free_listed-clause-own g c = λ own. absurd (let no : false ≡ t
 pub returns-clause-own : goal.returns-clause-own
 returns-clause-own g c = λ own. absurd (let no : false ≡ true = sym c.if-has_own_l2.false ∙ c.has_own_l2.ensures.1 own in cc)
 
-pub returns-clause-faults : goal.returns-clause-faults
-returns-clause-faults g c =
+pub returns-then-has_own_l2-clause-step : goal.returns-then-has_own_l2-clause-step
+returns-then-has_own_l2-clause-step g c = c.ensure_l2.ensures.step
+
+pub returns-then-has_far_entry-clause-step : goal.returns-then-has_far_entry-clause-step
+returns-then-has_far_entry-clause-step g c = step_none
+
+pub returns-in_err-reach_entry-clause-step : goal.returns-in_err-reach_entry-clause-step
+returns-in_err-reach_entry-clause-step g c = c.reach_entry.ensures.step
+
+pub returns-in_err-own_l2-clause-step : goal.returns-in_err-own_l2-clause-step
+returns-in_err-own_l2-clause-step g c = step_then c.reach_entry.ensures.step c.own_l2.ensures.step
+
+pub returns-in_err-own_l2-clause-fails : goal.returns-in_err-own_l2-clause-fails
+returns-in_err-own_l2-clause-fails g c = record {
+  cause = search rules;
+  faults = let view = g.S.Storage.view in
+      let below = g.F.BackingDisk.backing in
+      let old = c.args.self.now in
+      let reached = same_of view below old c.reach_entry.new.self c.reach_entry.result c.in_ok-reach_entry.field-0 c.reach_entry.ensures.fails.faults c.in_ok-reach_entry.was in
+      counted_on view below old c.reach_entry.new.self c.own_l2.new.self c.own_l2.result c.in_err-own_l2.field-0.0 c.from_residual-in_err-own_l2.result reached c.own_l2.ensures.fails.faults c.in_err-own_l2.was c.from_residual-in_err-own_l2.ensures;
+}
+
+pub returns-in_err-free_listed-clause-step : goal.returns-in_err-free_listed-clause-step
+returns-in_err-free_listed-clause-step g c = step_then (step_then c.reach_entry.ensures.step c.own_l2.ensures.step) c.free_listed.ensures.step
+
+pub returns-in_err-free_listed-clause-fails : goal.returns-in_err-free_listed-clause-fails
+returns-in_err-free_listed-clause-fails g c = record {
+  cause = search rules;
+  faults = let view = g.S.Storage.view in
+      let below = g.F.BackingDisk.backing in
+      let old = c.args.self.now in
+      let reached = same_of view below old c.reach_entry.new.self c.reach_entry.result c.in_ok-reach_entry.field-0 c.reach_entry.ensures.fails.faults c.in_ok-reach_entry.was in
+      let owned = same_of view below c.reach_entry.new.self c.own_l2.new.self c.own_l2.result c.in_ok-own_l2.field-0 c.own_l2.ensures.fails.faults c.in_ok-own_l2.was in
+      counted_on view below old c.own_l2.new.self c.free_listed.new.self c.free_listed.result c.in_err-free_listed.field-0.0 c.from_residual-in_err-free_listed.result (faults_then view below old c.reach_entry.new.self c.own_l2.new.self reached owned) c.free_listed.ensures.counts c.in_err-free_listed.was
+      c.from_residual-in_err-free_listed.ensures;
+}
+
+pub returns-clause-step : goal.returns-clause-step
+returns-clause-step g c = step_then (step_then (step_then c.reach_entry.ensures.step c.own_l2.ensures.step) c.free_listed.ensures.step) c.ensure_l2-2.ensures.step
+
+pub returns-clause-fails : goal.returns-clause-fails
+returns-clause-fails g c = record {
+  cause = search rules;
+  faults = let view = g.S.Storage.view in
+      let below = g.F.BackingDisk.backing in
+      let old = c.args.self.now in
+      let reached = same_of view below old c.reach_entry.new.self c.reach_entry.result c.in_ok-reach_entry.field-0 c.reach_entry.ensures.fails.faults c.in_ok-reach_entry.was in
+      let owned = same_of view below c.reach_entry.new.self c.own_l2.new.self c.own_l2.result c.in_ok-own_l2.field-0 c.own_l2.ensures.fails.faults c.in_ok-own_l2.was in
+      let freed = same_of view below c.own_l2.new.self c.free_listed.new.self c.free_listed.result c.in_ok-free_listed.field-0 c.free_listed.ensures.counts c.in_ok-free_listed.was in
+      counted_since view below old c.reach_entry.new.self c.ensure_l2-2.new.self c.ensure_l2-2.result reached
+      (counted_since view below c.reach_entry.new.self c.own_l2.new.self c.ensure_l2-2.new.self c.ensure_l2-2.result owned
+      (counted_since view below c.own_l2.new.self c.free_listed.new.self c.ensure_l2-2.new.self c.ensure_l2-2.result freed c.ensure_l2-2.ensures.fails.faults));
+}
+
+pub returns-then-has_own_l2-clause-sound : goal.returns-then-has_own_l2-clause-sound
+returns-then-has_own_l2-clause-sound g c = λ out sound.
     let view = g.S.Storage.view in
     let below = g.F.BackingDisk.backing in
+    record {
+      finds = finds view below out c.args.self.now c.ensure_l2.new.self sound c.ensure_l2.ensures.keeps_rest c.args.offset c.ensure_l2.result ((c.ensure_l2.ensures.sound (pending_in view below c.args.self.now out) out sound).ready);
+      met = met_as (IsMetTaking (HasPrepared out) ⊥ ⊥ ⊥) (IsMetTaking (HasPrepared out) ⊥ ⊥ (NeedsFarEntry c.args.self.now c.args.offset)) c.ensure_l2.result (taking_as (λ held. held) (λ no. no) (λ no. no) (λ no. absurd no))
+          ((c.ensure_l2.ensures.sound (pending_in g.S.Storage.view g.F.BackingDisk.backing c.args.self.now out) out sound).met (inl (c.has_own_l2.ensures.0 c.if-has_own_l2.true)));
+      limit = unlimited_all c.ensure_l2.result (λ e. LacksTableFor g.S.Storage.view c.args.offset c.args.self.now c.ensure_l2.new.self)
+          ((c.ensure_l2.ensures.sound (pending_in g.S.Storage.view g.F.BackingDisk.backing c.args.self.now out) out sound).limited (c.has_own_l2.ensures.0 c.if-has_own_l2.true));
+      lacks = λ none. (c.ensure_l2.ensures.sound (pending_in g.S.Storage.view g.F.BackingDisk.backing c.args.self.now out) out sound).lacks none;
+      freed = let own = c.has_own_l2.ensures.0 c.if-has_own_l2.true in always_ok c.ensure_l2.result (lists_own c.args.offset c.args.self.now c.ensure_l2.new.self c.requires.writable own (c.ensure_l2.ensures.quiet own));
+      freeing = always_ok c.ensure_l2.result (inl (c.ensure_l2.ensures.quiet (c.has_own_l2.ensures.0 c.if-has_own_l2.true)).list);
+    }
+
+pub returns-then-has_far_entry-clause-sound : goal.returns-then-has_far_entry-clause-sound
+returns-then-has_far_entry-clause-sound g c = λ out sound.
+    let view = g.S.Storage.view in
     let old = c.args.self.now in
-    let reached = same_of view below old c.reach_entry.new.self c.reach_entry.result c.in_ok-reach_entry.field-0 c.reach_entry.ensures.faults c.in_ok-reach_entry.was in
-    let owned = same_of view below c.reach_entry.new.self c.own_l2.new.self c.own_l2.result c.in_ok-own_l2.field-0 c.own_l2.ensures.faults c.in_ok-own_l2.was in
-    let freed = same_of view below c.own_l2.new.self c.free_listed.new.self c.free_listed.result c.in_ok-free_listed.field-0 c.free_listed.ensures.counts c.in_ok-free_listed.was in
-    counted_since view below old c.reach_entry.new.self c.ensure_l2-2.new.self c.ensure_l2-2.result reached
-    (counted_since view below c.reach_entry.new.self c.own_l2.new.self c.ensure_l2-2.new.self c.ensure_l2-2.result owned
-    (counted_since view below c.own_l2.new.self c.free_listed.new.self c.ensure_l2-2.new.self c.ensure_l2-2.result freed c.ensure_l2-2.ensures.faults))
+    let below = g.F.BackingDisk.backing in
+    record {
+      met = search rules;
+      limit = search rules;
+      freed = search rules;
+      freeing = search rules;
+      finds = left_refused view below out old old I.Overflow sound (record { header = refl; backing = refl }) (left_alone view below out (pending_in view below old out) old sound 0 I.Overflow);
+      lacks = λ none. inr (λ own. absurd (let has = c.has_own_l2.ensures.1 (subst NamesOwn (sym (sound.l1_table.entries (l1_index_of old.file.header.fields c.args.offset))) own) in let is = sym c.if-has_own_l2.false ∙ has in cc));
+    }
 
-pub returns-then-has_own_l2-clause-limit : goal.returns-then-has_own_l2-clause-limit
-returns-then-has_own_l2-clause-limit g c = λ out sound.
-    unlimited_all c.ensure_l2.result (λ e. LacksTableFor g.S.Storage.view c.args.offset c.args.self.now c.ensure_l2.new.self)
-    (c.ensure_l2.ensures.limited (pending_in g.S.Storage.view g.F.BackingDisk.backing c.args.self.now out) out sound (c.has_own_l2.ensures.0 c.if-has_own_l2.true))
-
-pub returns-in_err-reach_entry-clause-limit : goal.returns-in_err-reach_entry-clause-limit
-returns-in_err-reach_entry-clause-limit g c = λ out sound.
+pub returns-in_err-reach_entry-clause-sound : goal.returns-in_err-reach_entry-clause-sound
+returns-in_err-reach_entry-clause-sound g c = λ out sound.
     let view = g.S.Storage.view in
     let old = c.args.self.now in
     let new = c.reach_entry.new.self in
-    hands_limit (λ x. LacksTableFor view c.args.offset old new) c.from_residual.result c.in_err-reach_entry.field-0.0 c.from_residual.ensures
-    (λ is.
-    let why = c.in_err-reach_entry.ensures.limit out sound is in
-    ((λ own. absurd (let no : false ≡ true = sym c.if-has_own_l2.false ∙ c.has_own_l2.ensures.1 own in cc)), inl (why.0, longer_wider view (l1_index_of old.file.header.fields c.args.offset) (l1_index_of old.file.header.fields c.args.offset + 1) old new why.1)))
+    record {
+      freed = search rules;
+      freeing = search rules;
+      finds = handed_on (FindsTable view g.F.BackingDisk.backing c.args.self.now c.reach_entry.new.self out c.args.offset) c.from_residual.result c.in_err-reach_entry.field-0.0 c.from_residual.ensures
+          ((c.in_err-reach_entry.ensures.sound out sound).makes);
+      met = hands_met (IsMetTaking (HasPrepared out) ⊥ ⊥ (NeedsFarEntry c.args.self.now c.args.offset)) c.from_residual.result c.in_err-reach_entry.field-0.0 c.from_residual.ensures (inl (inl ((c.in_err-reach_entry.ensures.sound out sound).fault)));
+      limit = hands_limit (λ x. LacksTableFor view c.args.offset old new) c.from_residual.result c.in_err-reach_entry.field-0.0 c.from_residual.ensures
+          (λ is.
+          let why = (c.in_err-reach_entry.ensures.sound out sound).limit is in
+          ((λ own. absurd (let no : false ≡ true = sym c.if-has_own_l2.false ∙ c.has_own_l2.ensures.1 own in cc)), inl (why.0, longer_wider view (l1_index_of old.file.header.fields c.args.offset) (l1_index_of old.file.header.fields c.args.offset + 1) old new why.1)));
+      lacks = λ none. handed_on (λ r. IfErr r (IsFaultOrLacksTable g.S.Storage.view c.reach_entry.new.self c.args.offset)) c.from_residual.result c.in_err-reach_entry.field-0.0 c.from_residual.ensures ((c.in_err-reach_entry.ensures.sound out sound).lacks);
+    }
 
-pub returns-in_err-own_l2-clause-limit : goal.returns-in_err-own_l2-clause-limit
-returns-in_err-own_l2-clause-limit g c = λ out sound.
+pub returns-in_err-own_l2-clause-sound : goal.returns-in_err-own_l2-clause-sound
+returns-in_err-own_l2-clause-sound g c = λ out sound.
     let view = g.S.Storage.view in
     let below = g.F.BackingDisk.backing in
     let old = c.args.self.now in
     let long = c.reach_entry.new.self in
-    let new = c.own_l2.new.self in
     let e = c.in_err-own_l2.field-0.0 in
-    let reached = c.in_ok-reach_entry.ensures.makes out sound in
+    let reached = (c.in_ok-reach_entry.ensures.sound out sound).makes in
+    let new = c.own_l2.new.self in
     let gave = c.in_ok-reach_entry.ensures.former in
-    let near : HasNearEntry long (l1_index_of long.file.header.fields c.args.offset) =
-    near_reached old long c.args.offset sound.l1_table.bits (λ far. not_both c.has_far_entry.result (c.has_far_entry.ensures.1 far) c.if-has_far_entry.false) c.reach_entry.ensures.none c.in_ok-reach_entry.ensures.placed c.in_ok-reach_entry.ensures.length (ap (λ (h : HeaderFields). l1_index_of h c.args.offset) reached.header) in
-    hands_limit (λ x. LacksTableFor view c.args.offset old new) c.from_residual-in_err-own_l2.result e c.from_residual-in_err-own_l2.ensures
-    (λ is.
-    let s = c.in_err-own_l2.ensures.limit (pending_in view below long out) out reached.sound near is in (
-      (λ own. absurd (let no : false ≡ true = sym c.if-has_own_l2.false ∙ c.has_own_l2.ensures.1 own in cc)),
-      inr (stands_then view HasNoCluster cluster_more long.file.free_list (listed_or_l1 old) gave.0 old long new gave.1 (reached_runs old long c.args.offset gave.0 c.reach_entry.ensures.none c.in_ok-reach_entry.ensures.emptied) s),
-    ))
+    record {
+      freed = search rules;
+      freeing = search rules;
+      finds = handed_on (FindsTable view below old c.own_l2.new.self out c.args.offset) c.from_residual-in_err-own_l2.result e c.from_residual-in_err-own_l2.ensures
+          (finds_after view below out old long c.own_l2.new.self reached c.args.offset (Err e)
+          (left_refused view below out long c.own_l2.new.self e reached.sound c.own_l2.ensures.keeps_rest ((c.in_err-own_l2.ensures.sound (pending_in view below long out) out reached.sound).does)));
+      met = let near : HasNearEntry long (l1_index_of long.file.header.fields c.args.offset) =
+          near_reached old long c.args.offset sound.l1_table.bits (λ far. not_both c.has_far_entry.result (c.has_far_entry.ensures.1 far) c.if-has_far_entry.false) c.reach_entry.ensures.none c.in_ok-reach_entry.ensures.placed c.in_ok-reach_entry.ensures.length (ap (λ (h : HeaderFields). l1_index_of h c.args.offset) reached.header) in
+          hands_met (IsMetTaking (HasPrepared out) ⊥ ⊥ (NeedsFarEntry old c.args.offset)) c.from_residual-in_err-own_l2.result c.in_err-own_l2.field-0.0 c.from_residual-in_err-own_l2.ensures
+          (taking_as (λ held. held) (λ no. no) (λ no. no) (λ no. absurd no) c.in_err-own_l2.field-0.0 ((c.in_err-own_l2.ensures.sound (pending_in view below long out) out reached.sound).met (inr near)));
+      limit = let near : HasNearEntry long (l1_index_of long.file.header.fields c.args.offset) =
+          near_reached old long c.args.offset sound.l1_table.bits (λ far. not_both c.has_far_entry.result (c.has_far_entry.ensures.1 far) c.if-has_far_entry.false) c.reach_entry.ensures.none c.in_ok-reach_entry.ensures.placed c.in_ok-reach_entry.ensures.length (ap (λ (h : HeaderFields). l1_index_of h c.args.offset) reached.header) in
+          hands_limit (λ x. LacksTableFor view c.args.offset old new) c.from_residual-in_err-own_l2.result e c.from_residual-in_err-own_l2.ensures
+          (λ is.
+          let s = (c.in_err-own_l2.ensures.sound (pending_in view below long out) out reached.sound).limit near is in (
+            (λ own. absurd (let no : false ≡ true = sym c.if-has_own_l2.false ∙ c.has_own_l2.ensures.1 own in cc)),
+            inr (stands_then view HasNoCluster cluster_more long.file.free_list (listed_or_l1 old) gave.0 old long new gave.1 (reached_runs old long c.args.offset gave.0 c.reach_entry.ensures.none c.in_ok-reach_entry.ensures.emptied) s),
+          ));
+      lacks = λ none. handed_on (λ r. IfErr r (IsFaultOrLacksTable view c.own_l2.new.self c.args.offset)) c.from_residual-in_err-own_l2.result c.in_err-own_l2.field-0.0 c.from_residual-in_err-own_l2.ensures
+          ((c.in_err-own_l2.ensures.sound (pending_in view below long out) out ((c.in_ok-reach_entry.ensures.sound out sound).makes).sound).lacks);
+    }
 
-pub returns-in_err-free_listed-clause-limit : goal.returns-in_err-free_listed-clause-limit
-returns-in_err-free_listed-clause-limit g c = λ out sound.
+pub returns-in_err-free_listed-clause-sound : goal.returns-in_err-free_listed-clause-sound
+returns-in_err-free_listed-clause-sound g c = λ out sound.
     let view = g.S.Storage.view in
     let below = g.F.BackingDisk.backing in
+    let old = c.args.self.now in
     let long = c.reach_entry.new.self in
     let mid = c.own_l2.new.self in
     let e = c.in_err-free_listed.field-0.0 in
-    let reached = c.in_ok-reach_entry.ensures.makes out sound in
-    let first = stays_kept view below out long mid reached.sound (c.in_ok-own_l2.ensures.owns (pending_in view below long out) out reached.sound).0 in
+    let reached = (c.in_ok-reach_entry.ensures.sound out sound).makes in
+    let new = c.free_listed.new.self in
+    let first = stays_kept view below out long mid reached.sound ((c.in_ok-own_l2.ensures.sound (pending_in view below long out) out reached.sound).does).0 in
     let listed = subst (λ (x : Pending). ImageInvariant view below x mid out) (all_listed view below mid out) first.sound in
-    hands_limit (λ x. LacksTableFor view c.args.offset c.args.self.now c.free_listed.new.self) c.from_residual-in_err-free_listed.result e c.from_residual-in_err-free_listed.ensures
-    (other_limit _ e (fault_unlimited e (c.in_err-free_listed.ensures.faults (beside view below mid out) out listed)))
+    record {
+      freed = handed_on (λ r. OnOk r (ListsSinceTable c.args.offset old new)) c.from_residual-in_err-free_listed.result e c.from_residual-in_err-free_listed.ensures tt;
+      freeing = handed_on (λ r. OnOk r (ListsNoMore old new)) c.from_residual-in_err-free_listed.result e c.from_residual-in_err-free_listed.ensures tt;
+      finds = handed_on (FindsTable view below old new out c.args.offset) c.from_residual-in_err-free_listed.result e c.from_residual-in_err-free_listed.ensures
+          (finds_after view below out old long new reached c.args.offset (Err e)
+          (finds_after view below out long mid new first c.args.offset (Err e) (freed_refused view below mid out new e first.sound (c.in_err-free_listed.ensures.frees (beside view below mid out) out listed))));
+      met = let first = stays_kept view below out long mid reached.sound ((c.in_ok-own_l2.ensures.sound (pending_in view below long out) out reached.sound).does).0 in
+          hands_met (IsMetTaking (HasPrepared out) ⊥ ⊥ (NeedsFarEntry old c.args.offset)) c.from_residual-in_err-free_listed.result c.in_err-free_listed.field-0.0 c.from_residual-in_err-free_listed.ensures
+          (inl (inl (inl (c.in_err-free_listed.ensures.faults (beside view below mid out) out listed))));
+      limit = hands_limit (λ x. LacksTableFor view c.args.offset c.args.self.now c.free_listed.new.self) c.from_residual-in_err-free_listed.result e c.from_residual-in_err-free_listed.ensures
+          (other_limit _ e (fault_unlimited e (c.in_err-free_listed.ensures.faults (beside view below mid out) out listed)));
+      lacks = λ none. handed_on (λ r. IfErr r (IsFaultOrLacksTable view c.free_listed.new.self c.args.offset)) c.from_residual-in_err-free_listed.result c.in_err-free_listed.field-0.0 c.from_residual-in_err-free_listed.ensures
+          (inl (c.in_err-free_listed.ensures.faults (beside view below mid out) out listed));
+    }
 
-pub returns-clause-limit : goal.returns-clause-limit
-returns-clause-limit g c = λ out sound.
+pub returns-clause-sound : goal.returns-clause-sound
+returns-clause-sound g c = λ out sound.
     let view = g.S.Storage.view in
     let below = g.F.BackingDisk.backing in
     let old = c.args.self.now in
     let long = c.reach_entry.new.self in
     let mid = c.own_l2.new.self in
     let freed = c.free_listed.new.self in
-    let reached = c.in_ok-reach_entry.ensures.makes out sound in
-    let owned = c.in_ok-own_l2.ensures.owns (pending_in view below long out) out reached.sound in
-    let first = stays_kept view below out long mid reached.sound owned.0 in
+    let reached = (c.in_ok-reach_entry.ensures.sound out sound).makes in
+    let new = c.ensure_l2-2.new.self in
+    let owned = (c.in_ok-own_l2.ensures.sound (pending_in view below long out) out reached.sound).does in
+    let first = stays_kept view below out long mid reached.sound ((c.in_ok-own_l2.ensures.sound (pending_in view below long out) out reached.sound).does).0 in
     let listed = subst (λ (x : Pending). ImageInvariant view below x mid out) (all_listed view below mid out) first.sound in
     let second = tidy_stays view below mid out freed first.sound (c.in_ok-free_listed.ensures.frees (beside view below mid out) out listed) in
     let at = ap (λ (v : HeaderView). l1_index_of v.fields c.args.offset) c.own_l2.ensures.keeps_rest.header in
     let own = own_after view below out (pending_with_listed (pending_in view below long out) long mid) mid freed owned.0.sound c.args.offset (l1_index_of long.file.header.fields c.args.offset) at owned.1.own c.free_listed.ensures.table c.free_listed.ensures.keeps_rest.header in
-    unlimited_all c.ensure_l2-2.result (λ e. LacksTableFor view c.args.offset old c.ensure_l2-2.new.self) (c.ensure_l2-2.ensures.limited (pending_in view below freed out) out second.sound own)
-
-pub returns-then-has_own_l2-clause-met : goal.returns-then-has_own_l2-clause-met
-returns-then-has_own_l2-clause-met g c = λ out sound.
-    met_as (IsMetTaking (HasPrepared out) ⊥ ⊥ ⊥) (IsMetTaking (HasPrepared out) ⊥ ⊥ (NeedsFarEntry c.args.self.now c.args.offset)) c.ensure_l2.result (taking_as (λ held. held) (λ no. no) (λ no. no) (λ no. absurd no))
-    (c.ensure_l2.ensures.met (pending_in g.S.Storage.view g.F.BackingDisk.backing c.args.self.now out) out sound (inl (c.has_own_l2.ensures.0 c.if-has_own_l2.true)))
-
-pub returns-in_err-reach_entry-clause-met : goal.returns-in_err-reach_entry-clause-met
-returns-in_err-reach_entry-clause-met g c = λ out sound.
-    hands_met (IsMetTaking (HasPrepared out) ⊥ ⊥ (NeedsFarEntry c.args.self.now c.args.offset)) c.from_residual.result c.in_err-reach_entry.field-0.0 c.from_residual.ensures (inl (inl (c.in_err-reach_entry.ensures.fault out sound)))
-
-pub returns-in_err-own_l2-clause-met : goal.returns-in_err-own_l2-clause-met
-returns-in_err-own_l2-clause-met g c = λ out sound.
-    let view = g.S.Storage.view in
-    let below = g.F.BackingDisk.backing in
-    let old = c.args.self.now in
-    let long = c.reach_entry.new.self in
-    let reached = c.in_ok-reach_entry.ensures.makes out sound in
-    let near : HasNearEntry long (l1_index_of long.file.header.fields c.args.offset) =
-    near_reached old long c.args.offset sound.l1_table.bits (λ far. not_both c.has_far_entry.result (c.has_far_entry.ensures.1 far) c.if-has_far_entry.false) c.reach_entry.ensures.none c.in_ok-reach_entry.ensures.placed c.in_ok-reach_entry.ensures.length (ap (λ (h : HeaderFields). l1_index_of h c.args.offset) reached.header) in
-    hands_met (IsMetTaking (HasPrepared out) ⊥ ⊥ (NeedsFarEntry old c.args.offset)) c.from_residual-in_err-own_l2.result c.in_err-own_l2.field-0.0 c.from_residual-in_err-own_l2.ensures
-    (taking_as (λ held. held) (λ no. no) (λ no. no) (λ no. absurd no) c.in_err-own_l2.field-0.0 (c.in_err-own_l2.ensures.met (pending_in view below long out) out reached.sound (inr near)))
-
-pub returns-in_err-free_listed-clause-met : goal.returns-in_err-free_listed-clause-met
-returns-in_err-free_listed-clause-met g c = λ out sound.
-    let view = g.S.Storage.view in
-    let below = g.F.BackingDisk.backing in
-    let old = c.args.self.now in
-    let long = c.reach_entry.new.self in
-    let mid = c.own_l2.new.self in
-    let reached = c.in_ok-reach_entry.ensures.makes out sound in
-    let owned = c.in_ok-own_l2.ensures.owns (pending_in view below long out) out reached.sound in
-    let first = stays_kept view below out long mid reached.sound owned.0 in
-    let listed = subst (λ (x : Pending). ImageInvariant view below x mid out) (all_listed view below mid out) first.sound in
-    hands_met (IsMetTaking (HasPrepared out) ⊥ ⊥ (NeedsFarEntry old c.args.offset)) c.from_residual-in_err-free_listed.result c.in_err-free_listed.field-0.0 c.from_residual-in_err-free_listed.ensures
-    (inl (inl (inl (c.in_err-free_listed.ensures.faults (beside view below mid out) out listed))))
-
-pub returns-clause-met : goal.returns-clause-met
-returns-clause-met g c = λ out sound.
-    let view = g.S.Storage.view in
-    let below = g.F.BackingDisk.backing in
-    let old = c.args.self.now in
-    let long = c.reach_entry.new.self in
-    let mid = c.own_l2.new.self in
-    let reached = c.in_ok-reach_entry.ensures.makes out sound in
-    let owned = c.in_ok-own_l2.ensures.owns (pending_in view below long out) out reached.sound in
-    let first = stays_kept view below out long mid reached.sound owned.0 in
-    let listed = subst (λ (x : Pending). ImageInvariant view below x mid out) (all_listed view below mid out) first.sound in
-    let freed = c.free_listed.new.self in
-    let second = tidy_stays view below mid out freed first.sound (c.in_ok-free_listed.ensures.frees (beside view below mid out) out listed) in
-    let at = ap (λ (v : HeaderView). l1_index_of v.fields c.args.offset) c.own_l2.ensures.keeps_rest.header in
-    let own = own_after view below out (pending_with_listed (pending_in view below long out) long mid) mid freed owned.0.sound c.args.offset (l1_index_of long.file.header.fields c.args.offset) at owned.1.own c.free_listed.ensures.table c.free_listed.ensures.keeps_rest.header in
-    met_as (IsMetTaking (HasPrepared out) ⊥ ⊥ ⊥) (IsMetTaking (HasPrepared out) ⊥ ⊥ (NeedsFarEntry old c.args.offset)) c.ensure_l2-2.result (taking_as (λ held. held) (λ no. no) (λ no. no) (λ no. absurd no)) (c.ensure_l2-2.ensures.met (pending_in view below freed out) out second.sound (inl own))
-
-pub returns-in_err-free_listed-clause-faults : goal.returns-in_err-free_listed-clause-faults
-returns-in_err-free_listed-clause-faults g c =
-    let view = g.S.Storage.view in
-    let below = g.F.BackingDisk.backing in
-    let old = c.args.self.now in
-    let reached = same_of view below old c.reach_entry.new.self c.reach_entry.result c.in_ok-reach_entry.field-0 c.reach_entry.ensures.faults c.in_ok-reach_entry.was in
-    let owned = same_of view below c.reach_entry.new.self c.own_l2.new.self c.own_l2.result c.in_ok-own_l2.field-0 c.own_l2.ensures.faults c.in_ok-own_l2.was in
-    counted_on view below old c.own_l2.new.self c.free_listed.new.self c.free_listed.result c.in_err-free_listed.field-0.0 c.from_residual-in_err-free_listed.result (faults_then view below old c.reach_entry.new.self c.own_l2.new.self reached owned) c.free_listed.ensures.counts c.in_err-free_listed.was
-    c.from_residual-in_err-free_listed.ensures
-
-pub returns-in_err-own_l2-clause-faults : goal.returns-in_err-own_l2-clause-faults
-returns-in_err-own_l2-clause-faults g c =
-    let view = g.S.Storage.view in
-    let below = g.F.BackingDisk.backing in
-    let old = c.args.self.now in
-    let reached = same_of view below old c.reach_entry.new.self c.reach_entry.result c.in_ok-reach_entry.field-0 c.reach_entry.ensures.faults c.in_ok-reach_entry.was in
-    counted_on view below old c.reach_entry.new.self c.own_l2.new.self c.own_l2.result c.in_err-own_l2.field-0.0 c.from_residual-in_err-own_l2.result reached c.own_l2.ensures.faults c.in_err-own_l2.was c.from_residual-in_err-own_l2.ensures
-
-pub returns-then-has_own_l2-clause-freeing : goal.returns-then-has_own_l2-clause-freeing
-returns-then-has_own_l2-clause-freeing g c = λ out sound. always_ok c.ensure_l2.result (inl (c.ensure_l2.ensures.quiet (c.has_own_l2.ensures.0 c.if-has_own_l2.true)).list)
-
-pub returns-clause-freeing : goal.returns-clause-freeing
-returns-clause-freeing g c = λ out sound.
-    let view = g.S.Storage.view in
-    let below = g.F.BackingDisk.backing in
-    let old = c.args.self.now in
-    let long = c.reach_entry.new.self in
-    let mid = c.own_l2.new.self in
-    let freed = c.free_listed.new.self in
-    let reached = c.in_ok-reach_entry.ensures.makes out sound in
-    let owned = c.in_ok-own_l2.ensures.owns (pending_in view below long out) out reached.sound in
-    let at = ap (λ (v : HeaderView). l1_index_of v.fields c.args.offset) c.own_l2.ensures.keeps_rest.header in
-    let own = own_after view below out (pending_with_listed (pending_in view below long out) long mid) mid freed owned.0.sound c.args.offset (l1_index_of long.file.header.fields c.args.offset) at owned.1.own c.free_listed.ensures.table c.free_listed.ensures.keeps_rest.header in
-    let writable = subst IsTrue (sym (c.own_l2.ensures.stays.image.writable ∙ c.reach_entry.ensures.stays.image.writable)) c.requires.writable in
-    always_ok c.ensure_l2-2.result (inr ((c.ensure_l2-2.ensures.quiet own).list ∙ c.in_ok-free_listed.ensures.emptied writable))
+    let writable = subst IsTrue (sym (c.own_l2.ensures.step.stays.image.writable ∙ c.reach_entry.ensures.step.stays.image.writable)) c.requires.writable in
+    let gave = some_kept old mid freed (some_then old long mid c.in_ok-reach_entry.ensures.former c.in_ok-own_l2.ensures.former) c.free_listed.ensures.former in
+    record {
+      finds = finds_after view below out old long new reached c.args.offset c.ensure_l2-2.result
+          (finds_after view below out long mid new first c.args.offset c.ensure_l2-2.result
+          (finds_after view below out mid freed new second c.args.offset c.ensure_l2-2.result
+          (finds view below out freed new second.sound c.ensure_l2-2.ensures.keeps_rest c.args.offset c.ensure_l2-2.result ((c.ensure_l2-2.ensures.sound (pending_in view below freed out) out second.sound).ready))));
+      met = let first = stays_kept view below out long mid reached.sound owned.0 in
+          met_as (IsMetTaking (HasPrepared out) ⊥ ⊥ ⊥) (IsMetTaking (HasPrepared out) ⊥ ⊥ (NeedsFarEntry old c.args.offset)) c.ensure_l2-2.result (taking_as (λ held. held) (λ no. no) (λ no. no) (λ no. absurd no)) ((c.ensure_l2-2.ensures.sound (pending_in view below freed out) out second.sound).met (inl own));
+      limit = let first = stays_kept view below out long mid reached.sound owned.0 in
+          unlimited_all c.ensure_l2-2.result (λ e. LacksTableFor view c.args.offset old c.ensure_l2-2.new.self) ((c.ensure_l2-2.ensures.sound (pending_in view below freed out) out second.sound).limited own);
+      lacks = λ none. (c.ensure_l2-2.ensures.sound (pending_in view below freed out) out second.sound).lacks none;
+      freed = always_ok c.ensure_l2-2.result (lists_made c.args.offset old freed c.ensure_l2-2.new.self (λ has. let some = c.has_own_l2.ensures.1 has in let is = sym c.if-has_own_l2.false ∙ some in cc) gave (c.ensure_l2-2.ensures.quiet own).allocator ((c.ensure_l2-2.ensures.quiet own).list ∙ c.in_ok-free_listed.ensures.emptied writable));
+      freeing = always_ok c.ensure_l2-2.result (inr ((c.ensure_l2-2.ensures.quiet own).list ∙ c.in_ok-free_listed.ensures.emptied writable));
+    }

@@ -1,5 +1,5 @@
-use Rattle.std.proofs.Common.{◌≡◌, subst, refl}
-use Rattle.std.specs.Prelude.{IfSome, Some}
+use Rattle.std.proofs.Common.{◌≡◌, subst, refl, rules, arith, ◌<◌}
+use Rattle.std.specs.Prelude.{IfSome, Some, IfOk, IfErr}
 use Rattle.qcow2_alloc.specs.Allocation.{Allocates}
 use Rattle.qcow2_alloc.specs.FreeList.{pending_then}
 use Rattle.qcow2_alloc.specs.KeptAllocators.{IsAllocatorOf}
@@ -9,13 +9,10 @@ use Rattle.qcow2_image.proofs.Formats.{lists_grow}
 use Rattle.qcow2_image.proofs.Moving.{leaked_still}
 use Rattle.qcow2_image.proofs.Prepare.Gaining.{takes_data}
 use Rattle.qcow2_image.proofs.Call.BehindHeader.{behind_allocated}
-use Rattle.std.specs.Prelude.{IfOk}
 use Rattle.qcow2_alloc.specs.LowestRuns.{IsLowestRun, IsUsed}
 use Rattle.qcow2_image.proofs.Prepare.InUse.{all_used}
 use Rattle.qcow2_image.proofs.Map.Loading.{if_ok}
 use Rattle.qcow2_image.proofs.Prepare.Lacked.{cluster_more, limits_untaken, stands_untaken}
-use Rattle.std.proofs.Common.{arith, ◌<◌}
-use Rattle.std.specs.Prelude.{IfErr}
 use Rattle.qcow2_alloc.specs.Limits.{HasNoPlace, IsFaultOr}
 use Rattle.qcow2_image.specs.LackedPlaces.{HasNoCluster, StandsInWay}
 use Rattle.qcow2_image.proofs.Prepare.Met.{limit_alone, met_as}
@@ -27,23 +24,17 @@ returns-clause-takes g c = λ p out sound holds.
     let view = g.S.Storage.view in
     let one : c.new.result ≡ 1 = c.new.ensures in
     let own = subst (λ x. IfSome x (IsAllocatorOf view c.args.self.now.file)) c.in-Some.is sound.reftable in
-    let answer = c.allocate_data.ensures.sound p (record { sound = sound.file; reftable = own.reftable }) in
-    takes_data view g.F.BackingDisk.backing out c.args.self.now p sound holds c.allocate_data.new.file c.allocate_data.new.self c.allocate_data.ensures.marks c.allocate_data.ensures.list c.allocate_data.ensures.header
-    (leaked_still c.args.self.now c.in-Some.allocator c.allocate_data.new.self c.in-Some.is (c.allocate_data.ensures.leaks p (record { sound = sound.file; reftable = own.reftable }))) c.allocate_data.result
+    let answer = (c.allocate_data.ensures.sound p (record { sound = sound.file; reftable = own.reftable })).found.takes in
+    takes_data view g.F.BackingDisk.backing out c.args.self.now p sound holds c.allocate_data.new.file c.allocate_data.new.self c.allocate_data.ensures.step.marks.pins c.allocate_data.ensures.step.list c.allocate_data.ensures.step.header
+    (leaked_still c.args.self.now c.in-Some.allocator c.allocate_data.new.self c.in-Some.is ((c.allocate_data.ensures.sound p (record { sound = sound.file; reftable = own.reftable })).leaks)) c.allocate_data.result
     (subst (λ n. Allocates view p c.args.self.now.file c.allocate_data.new.self c.allocate_data.new.file (pending_then p c.args.self.now.file.free_list c.allocate_data.new.file.free_list) Kind.Data n c.allocate_data.result) one answer)
-    (c.allocate_data.ensures.hint p (record { sound = record { sound = sound.file; reftable = own.reftable }; hint = own.hint }))
+    (((c.allocate_data.ensures.sound p (record { sound = sound.file; reftable = own.reftable })).found.hint own.hint))
 
 pub returns-clause-list : goal.returns-clause-list
-returns-clause-list g c = lists_grow c.args.self.now (record c.args.self.now { file = c.allocate_data.new.file; allocator = Some c.allocate_data.new.self }) c.allocate_data.ensures.list
+returns-clause-list g c = lists_grow c.args.self.now (record c.args.self.now { file = c.allocate_data.new.file; allocator = Some c.allocate_data.new.self }) c.allocate_data.ensures.step.list
 
 pub returns-clause-former : goal.returns-clause-former
-returns-clause-former g c = record { before = c.in-Some.allocator; after = c.allocate_data.new.self; was = c.in-Some.is; is = refl; behind = c.allocate_data.ensures.former }
-
-pub returns-clause-notes : goal.returns-clause-notes
-returns-clause-notes g c = (notes_of_both c.allocate_data.ensures.marks c.allocate_data.ensures.notes)
-
-pub returns-clause-header_cluster : goal.returns-clause-header_cluster
-returns-clause-header_cluster g c = behind_allocated c.in-Some.is c.allocate_data.ensures.header_cluster
+returns-clause-former g c = record { before = c.in-Some.allocator; after = c.allocate_data.new.self; was = c.in-Some.is; is = refl; behind = c.allocate_data.ensures.step.former }
 
 pub returns-clause-lowest : goal.returns-clause-lowest
 returns-clause-lowest g c = λ p out sound.
@@ -51,7 +42,7 @@ returns-clause-lowest g c = λ p out sound.
     let one : c.new.result ≡ 1 = c.new.ensures in
     let own = subst (λ x. IfSome x (IsAllocatorOf view c.args.self.now.file)) c.in-Some.is sound.reftable in
     if_ok c.allocate_data.result (λ run low. all_used view c.allocate_data.new.file run.first_cluster low)
-    (subst (λ n. IfOk c.allocate_data.result (λ run. IsLowestRun (IsUsed view c.allocate_data.new.file) run.first_cluster n)) one (c.allocate_data.ensures.lowest p (record { sound = record { sound = sound.file; reftable = own.reftable }; hint = own.hint })))
+    (subst (λ n. IfOk c.allocate_data.result (λ run. IsLowestRun (IsUsed view c.allocate_data.new.file) run.first_cluster n)) one (((c.allocate_data.ensures.sound p (record { sound = sound.file; reftable = own.reftable })).found.lowest own.hint)))
 
 pub returns-clause-limit : goal.returns-clause-limit
 returns-clause-limit g c = λ p out sound.
@@ -62,22 +53,24 @@ returns-clause-limit g c = λ p out sound.
     let own = subst (λ x. IfSome x (IsAllocatorOf view old.file)) c.in-Some.is sound.reftable in
     let none = HasNoPlace (IsUsed view file) file.header.fields c.allocate_data.new.self 1 in
     limits_untaken none (StandsInWay view HasNoCluster old.file.free_list old (record old { file = file; allocator = Some c.allocate_data.new.self })) c.allocate_data.result
-    (λ full. stands_untaken view HasNoCluster cluster_more old file c.in-Some.allocator c.allocate_data.new.self c.in-Some.is c.allocate_data.ensures.former full)
+    (λ full. stands_untaken view HasNoCluster cluster_more old file c.in-Some.allocator c.allocate_data.new.self c.in-Some.is c.allocate_data.ensures.step.former full)
     (subst (λ n. IfErr c.allocate_data.result (IsFaultOr (HasNoPlace (IsUsed view file) file.header.fields c.allocate_data.new.self n))) one
-    (c.allocate_data.ensures.limit p (record { sound = record { sound = sound.file; reftable = own.reftable }; hint = own.hint }) (omega (arith, one))))
+    (((c.allocate_data.ensures.sound p (record { sound = sound.file; reftable = own.reftable })).found.limit own.hint) (omega (arith, one))))
 
 pub returns-clause-fault : goal.returns-clause-fault
 returns-clause-fault g c = λ p out sound.
     let view = g.S.Storage.view in
-    let old = c.args.self.now in
     let file = c.allocate_data.new.file in
     let one : c.new.result ≡ 1 = c.new.ensures in
-    let own = subst (λ x. IfSome x (IsAllocatorOf view old.file)) c.in-Some.is sound.reftable in
+    let own = subst (λ x. IfSome x (IsAllocatorOf view c.args.self.now.file)) c.in-Some.is sound.reftable in
     let none = HasNoPlace (IsUsed view file) file.header.fields c.allocate_data.new.self c.new.result in
     met_as (IsFaultOr none) IsFaultOrLimit c.allocate_data.result (λ e why. limit_alone none e why)
-    (c.allocate_data.ensures.limit p (record { sound = record { sound = sound.file; reftable = own.reftable }; hint = own.hint }) (omega (arith, one)))
+    (((c.allocate_data.ensures.sound p (record { sound = sound.file; reftable = own.reftable })).found.limit own.hint) (omega (arith, one)))
 
 pub returns-clause-uses : goal.returns-clause-uses
 returns-clause-uses g c = λ p out sound.
     let own = subst (λ x. IfSome x (IsAllocatorOf g.S.Storage.view c.args.self.now.file)) c.in-Some.is sound.reftable in
-    c.allocate_data.ensures.uses p (record { sound = sound.file; reftable = own.reftable })
+    (c.allocate_data.ensures.sound p (record { sound = sound.file; reftable = own.reftable })).found.uses
+
+pub returns-clause-step : goal.returns-clause-step
+returns-clause-step g c = record { stays = search rules; notes = (notes_of_both c.allocate_data.ensures.step.marks.pins c.allocate_data.ensures.step.marks.notes); header_cluster = behind_allocated c.in-Some.is c.allocate_data.ensures.step.header_cluster }

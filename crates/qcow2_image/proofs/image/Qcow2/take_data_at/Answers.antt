@@ -1,4 +1,4 @@
-use Rattle.std.proofs.Common.{subst, refl}
+use Rattle.std.proofs.Common.{subst, refl, rules}
 use Rattle.std.specs.Prelude.{IfSome, Some}
 use Rattle.qcow2_alloc.specs.ImageFile.{AllocatorInvariant}
 use Rattle.qcow2_alloc.specs.KeptAllocators.{IsAllocatorOf}
@@ -10,9 +10,8 @@ use Rattle.qcow2_image.proofs.Prepare.Gaining.{takes_data_at}
 use Rattle.qcow2_image.proofs.Call.BehindHeader.{behind_allocated}
 use Rattle.qcow2_image.proofs.Prepare.Lacked.{limits_kept}
 use Rattle.qcow2_image.specs.LackedPlaces.{CantTake}
-use Rattle.qcow2_alloc.specs.Limits.{CantCount}
+use Rattle.qcow2_alloc.specs.Limits.{CantCount, IsFaultOr}
 use Rattle.qcow2_alloc.specs.LowestRuns.{IsUsed, StaysUsed}
-use Rattle.qcow2_alloc.specs.Limits.{IsFaultOr}
 use Rattle.qcow2_image.specs.Refusals.{IsFaultOrLimit}
 use Rattle.qcow2_image.proofs.Prepare.Met.{limit_alone, met_as}
 use Rattle.qcow2_image.proofs.image.Qcow2.take_data_at.Goals as goal
@@ -22,26 +21,20 @@ returns-clause-takes g c = λ p out sound holds.
     let view = g.S.Storage.view in
     let own = subst (λ x. IfSome x (IsAllocatorOf view c.args.self.now.file)) c.in-Some.is sound.reftable in
     let allocator : AllocatorInvariant view c.in-Some.allocator p c.args.self.now.file = record { sound = sound.file; reftable = own.reftable } in
-    takes_data_at view g.F.BackingDisk.backing out c.args.self.now p sound holds c.allocate_data_at.new.file c.allocate_data_at.new.self c.allocate_data_at.ensures.marks c.allocate_data_at.ensures.list c.allocate_data_at.ensures.header
-    (leaked_still c.args.self.now c.in-Some.allocator c.allocate_data_at.new.self c.in-Some.is (c.allocate_data_at.ensures.leaks p allocator)) c.args.cluster c.allocate_data_at.result
-    (c.allocate_data_at.ensures.sound p allocator) (none_used view c.allocate_data_at.new.file c.args.self.now.file.header.fields c.args.cluster _ c.allocate_data_at.result (c.allocate_data_at.ensures.none p allocator)) (c.allocate_data_at.ensures.hint p (record { sound = allocator; hint = own.hint }))
+    takes_data_at view g.F.BackingDisk.backing out c.args.self.now p sound holds c.allocate_data_at.new.file c.allocate_data_at.new.self c.allocate_data_at.ensures.step.marks.pins c.allocate_data_at.ensures.step.list c.allocate_data_at.ensures.step.header
+    (leaked_still c.args.self.now c.in-Some.allocator c.allocate_data_at.new.self c.in-Some.is ((c.allocate_data_at.ensures.sound p allocator).leaks)) c.args.cluster c.allocate_data_at.result
+    ((c.allocate_data_at.ensures.sound p allocator).takes) (none_used view c.allocate_data_at.new.file c.args.self.now.file.header.fields c.args.cluster _ c.allocate_data_at.result ((c.allocate_data_at.ensures.sound p allocator).none)) (((c.allocate_data_at.ensures.sound p allocator).hint own.hint))
 
 pub returns-clause-list : goal.returns-clause-list
-returns-clause-list g c = lists_grow c.args.self.now (record c.args.self.now { file = c.allocate_data_at.new.file; allocator = Some c.allocate_data_at.new.self }) c.allocate_data_at.ensures.list
+returns-clause-list g c = lists_grow c.args.self.now (record c.args.self.now { file = c.allocate_data_at.new.file; allocator = Some c.allocate_data_at.new.self }) c.allocate_data_at.ensures.step.list
 
 pub returns-clause-former : goal.returns-clause-former
-returns-clause-former g c = record { before = c.in-Some.allocator; after = c.allocate_data_at.new.self; was = c.in-Some.is; is = refl; behind = c.allocate_data_at.ensures.former }
-
-pub returns-clause-notes : goal.returns-clause-notes
-returns-clause-notes g c = (notes_of_both c.allocate_data_at.ensures.marks c.allocate_data_at.ensures.notes)
-
-pub returns-clause-header_cluster : goal.returns-clause-header_cluster
-returns-clause-header_cluster g c = behind_allocated c.in-Some.is c.allocate_data_at.ensures.header_cluster
+returns-clause-former g c = record { before = c.in-Some.allocator; after = c.allocate_data_at.new.self; was = c.in-Some.is; is = refl; behind = c.allocate_data_at.ensures.step.former }
 
 pub returns-clause-uses : goal.returns-clause-uses
 returns-clause-uses g c = λ p out sound holds.
     let own = subst (λ x. IfSome x (IsAllocatorOf g.S.Storage.view c.args.self.now.file)) c.in-Some.is sound.reftable in
-    c.allocate_data_at.ensures.uses p (record { sound = sound.file; reftable = own.reftable })
+    (c.allocate_data_at.ensures.sound p (record { sound = sound.file; reftable = own.reftable })).uses
 
 pub returns-clause-limit : goal.returns-clause-limit
 returns-clause-limit g c = λ p out sound.
@@ -50,9 +43,9 @@ returns-clause-limit g c = λ p out sound.
     let file = c.allocate_data_at.new.file in
     let own = subst (λ x. IfSome x (IsAllocatorOf view old.file)) c.in-Some.is sound.reftable in
     limits_kept (CantCount (IsUsed view file) file.header.fields (λ k. 0) c.allocate_data_at.new.self c.args.cluster) (StaysUsed view old.file file) (CantTake view c.args.cluster old (record old { file = file; allocator = Some c.allocate_data_at.new.self })) c.allocate_data_at.result
-    (λ cant stays. record { former = record { before = c.in-Some.allocator; after = c.allocate_data_at.new.self; was = c.in-Some.is; is = refl; behind = c.allocate_data_at.ensures.former }; allocator = c.allocate_data_at.new.self; is = refl; uncounted = cant; uses = stays })
-    (c.allocate_data_at.ensures.limit p (record { sound = record { sound = sound.file; reftable = own.reftable }; hint = own.hint }))
-    (c.allocate_data_at.ensures.kept p (record { sound = sound.file; reftable = own.reftable }))
+    (λ cant stays. record { former = record { before = c.in-Some.allocator; after = c.allocate_data_at.new.self; was = c.in-Some.is; is = refl; behind = c.allocate_data_at.ensures.step.former }; allocator = c.allocate_data_at.new.self; is = refl; uncounted = cant; uses = stays })
+    (((c.allocate_data_at.ensures.sound p (record { sound = sound.file; reftable = own.reftable })).limit own.hint))
+    ((c.allocate_data_at.ensures.sound p (record { sound = sound.file; reftable = own.reftable })).kept)
 
 pub returns-clause-fault : goal.returns-clause-fault
 returns-clause-fault g c = λ p out sound.
@@ -60,4 +53,7 @@ returns-clause-fault g c = λ p out sound.
     let file = c.allocate_data_at.new.file in
     let own = subst (λ x. IfSome x (IsAllocatorOf view c.args.self.now.file)) c.in-Some.is sound.reftable in
     let none = CantCount (IsUsed view file) file.header.fields (λ k. 0) c.allocate_data_at.new.self c.args.cluster in
-    met_as (IsFaultOr none) IsFaultOrLimit c.allocate_data_at.result (limit_alone none) (c.allocate_data_at.ensures.limit p (record { sound = record { sound = sound.file; reftable = own.reftable }; hint = own.hint }))
+    met_as (IsFaultOr none) IsFaultOrLimit c.allocate_data_at.result (limit_alone none) (((c.allocate_data_at.ensures.sound p (record { sound = sound.file; reftable = own.reftable })).limit own.hint))
+
+pub returns-clause-step : goal.returns-clause-step
+returns-clause-step g c = record { stays = search rules; notes = (notes_of_both c.allocate_data_at.ensures.step.marks.pins c.allocate_data_at.ensures.step.marks.notes); header_cluster = behind_allocated c.in-Some.is c.allocate_data_at.ensures.step.header_cluster }

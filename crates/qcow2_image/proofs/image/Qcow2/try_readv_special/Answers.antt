@@ -1,5 +1,5 @@
-use Rattle.std.proofs.Common.{◌≡◌, ◌⊎◌, [], sym, ◌∙◌, subst}
-use Rattle.std.specs.Prelude.{Result}
+use Rattle.std.proofs.Common.{◌≡◌, ◌⊎◌, [], sym, ◌∙◌, subst, rules}
+use Rattle.std.specs.Prelude.{Result, IfErr, None, Some}
 use Rattle.qcow2_disk.specs.Calls.{IsSame}
 use Rattle.qcow2_image.specs.Calls.{AnswersCall}
 use Rattle.qcow2_image.specs.declared.image.Qcow2.{Qcow2}
@@ -14,14 +14,12 @@ use Rattle.qcow2_image.proofs.Call.FaultCounts.{counted_marked}
 use Rattle.qcow2_image.proofs.Call.Marked.{may_mark}
 use Rattle.qcow2_image.proofs.Call.OnceWritten.{fails_none, fails_once}
 use Rattle.qcow2_image.proofs.Call.BehindHeader.{behind_call}
-use Rattle.std.specs.Prelude.{IfErr}
 use Rattle.qcow2_alloc.specs.declared.error.ImageError.TheVariants.{Compressed}
 use Rattle.qcow2_image.proofs.Map.MetLooking.{held_since}
 use Rattle.qcow2_image.specs.MetAlone.{IsCacheHeld, IsMetLooking}
 use Rattle.qcow2_image.proofs.Sizes.{sound_is_usable}
 use Rattle.qcow2_image.proofs.Clear.ClearCalls.{refused_for}
 use Rattle.qcow2_image.specs.Refusals.{unusable}
-use Rattle.std.specs.Prelude.{None, Some}
 use Rattle.qcow2_image.proofs.Map.Quiet.{reads_call}
 use Rattle.qcow2_image.proofs.image.Qcow2.try_readv_special.Goals as goal
 
@@ -34,8 +32,8 @@ returns-clause-sees g c =
     subst (λ (image : Qcow2 _ _). AnswersCall view below old image [] (λ at was is. is ≡ was) c.mark_failure.result) (sym c.mark_failure.ensures.rest)
     (subst (λ (r : Result _ _). AnswersCall view below old (record new { is_failed = is_failed c.mark_failure.new.self }) [] (λ at was is. is ≡ was) r) (sym c.mark_failure.ensures.answer)
     (told_answers view below old (record new { is_failed = is_failed c.mark_failure.new.self }) (λ at was is. is ≡ was) c.plain_at-plain.result
-    (tells_quietly view below old new (λ out. quietly_then view below out old c.begin.new.self new c.begin.ensures.keeps c.begin.ensures.list c.plain_at-plain.ensures.keeps c.plain_at-plain.ensures.list)
-    (is_failed c.mark_failure.new.self) (λ at v w. IsSame v w) c.plain_at-plain.result (may_mark c.plain_at-plain.new.self c.mark_failure.new.self c.plain_at-plain.result c.mark_failure.ensures.marks) (c.plain_at-plain.ensures.stays.image.number ∙ c.begin.ensures.stays.image.number)
+    (tells_quietly view below old new (λ out. quietly_then view below out old c.begin.new.self new c.begin.ensures.keeps c.begin.ensures.list c.plain_at-plain.ensures.keeps c.plain_at-plain.ensures.step.list)
+    (is_failed c.mark_failure.new.self) (λ at v w. IsSame v w) c.plain_at-plain.result (may_mark c.plain_at-plain.new.self c.mark_failure.new.self c.plain_at-plain.result c.mark_failure.ensures.marks) (c.plain_at-plain.ensures.step.part.stays.image.number ∙ c.begin.ensures.stays.image.number)
     (usable_works old c.check_usable.result c.in_ok-check_usable.was c.check_usable.ensures)
     (λ out sound same. if_ok c.plain_at-plain.result (λ at is. same) c.plain_at-plain.ensures.answer))))
 
@@ -46,21 +44,6 @@ returns-clause-tells g c = λ some out sound.
     subst (λ r. TellsWhether (known_in view c.args.self.now.file) c.args.offset r) (sym c.mark_failure.ensures.answer)
     (subst (λ k. TellsWhether k c.args.offset c.plain_at-plain.result) (c.begin.ensures.known p out sound) (c.plain_at-plain.ensures.tells p out (c.begin.ensures.keeps p out sound).sound))
 
-pub returns-clause-faults : goal.returns-clause-faults
-returns-clause-faults g c = counted_marked g.S.Storage.view g.F.BackingDisk.backing c.args.self.now c.begin.new.self c.plain_at-plain.new.self c.mark_failure.new.self c.plain_at-plain.result c.mark_failure.result c.begin.ensures.faults c.plain_at-plain.ensures.faults c.mark_failure.ensures.answer c.mark_failure.ensures.rest
-
-pub returns-in_err-check_usable-clause-once_written : goal.returns-in_err-check_usable-clause-once_written
-returns-in_err-check_usable-clause-once_written g c = fails_none g.S.Storage.view c.args.self.now _
-
-pub returns-then-is_empty-clause-once_written : goal.returns-then-is_empty-clause-once_written
-returns-then-is_empty-clause-once_written g c = fails_none g.S.Storage.view c.args.self.now _
-
-pub returns-clause-once_written : goal.returns-clause-once_written
-returns-clause-once_written g c = fails_once g.S.Storage.view c.args.self.now c.begin.new.self c.begin.ensures.begun c.plain_at-plain.new.self c.mark_failure.new.self c.plain_at-plain.result c.plain_at-plain.ensures.notes (c.plain_at-plain.ensures.stays.failed ∙ c.begin.ensures.stays.failed) c.mark_failure.ensures.marks c.mark_failure.ensures.rest c.mark_failure.result (λ memory. sym c.mark_failure.ensures.answer ∙ memory)
-
-pub returns-clause-header_cluster : goal.returns-clause-header_cluster
-returns-clause-header_cluster g c = behind_call g.S.Storage.view c.begin.ensures.begun c.plain_at-plain.ensures.header_cluster c.mark_failure.ensures.rest
-
 pub returns-clause-met : goal.returns-clause-met
 returns-clause-met g c = λ out sound.
     let p = pending_in g.S.Storage.view g.F.BackingDisk.backing c.args.self.now out in
@@ -69,9 +52,22 @@ returns-clause-met g c = λ out sound.
 pub returns-in_err-check_usable-clause-met : goal.returns-in_err-check_usable-clause-met
 returns-in_err-check_usable-clause-met g c = λ out sound.
     let old = c.args.self.now in
-    let e = c.in_err-check_usable.field-0.0 in
-    let refused = refused_for c.check_usable.result tt (unusable old) e c.check_usable.ensures c.in_err-check_usable.was in
+    let refused = refused_for c.check_usable.result tt (unusable old) c.in_err-check_usable.field-0.0 c.check_usable.ensures c.in_err-check_usable.was in
     absurd (let no : None ≡ Some c.in_err-check_usable.field-0.0 = sym (sound_is_usable g.S.Storage.view g.F.BackingDisk.backing old out sound) ∙ refused in cc)
 
-pub returns-clause-quiet : goal.returns-clause-quiet
-returns-clause-quiet g c = reads_call g.S.Storage.view c.args.self.now c.begin.new.self c.plain_at-plain.new.self c.mark_failure.new.self _ c.begin.ensures.begun c.plain_at-plain.ensures.quiet c.mark_failure.ensures.rest
+pub returns-clause-step : goal.returns-clause-step
+returns-clause-step g c = record {
+  image = search rules;
+  header = search rules;
+  marks = search rules;
+  once_written = fails_once g.S.Storage.view c.args.self.now c.begin.new.self c.begin.ensures.begun c.plain_at-plain.new.self c.mark_failure.new.self c.plain_at-plain.result c.plain_at-plain.ensures.step.part.notes (c.plain_at-plain.ensures.step.part.stays.failed ∙ c.begin.ensures.stays.failed) c.mark_failure.ensures.marks c.mark_failure.ensures.rest c.mark_failure.result (λ memory. sym c.mark_failure.ensures.answer ∙ memory);
+  header_cluster = behind_call g.S.Storage.view c.begin.ensures.begun c.plain_at-plain.ensures.step.part.header_cluster c.mark_failure.ensures.rest;
+  faults = counted_marked g.S.Storage.view g.F.BackingDisk.backing c.args.self.now c.begin.new.self c.plain_at-plain.new.self c.mark_failure.new.self c.plain_at-plain.result c.mark_failure.result c.begin.ensures.faults c.plain_at-plain.ensures.fails.faults c.mark_failure.ensures.answer c.mark_failure.ensures.rest;
+  quiet = reads_call g.S.Storage.view c.args.self.now c.begin.new.self c.plain_at-plain.new.self c.mark_failure.new.self _ c.begin.ensures.begun c.plain_at-plain.ensures.step.quiet c.mark_failure.ensures.rest;
+}
+
+pub returns-in_err-check_usable-clause-step : goal.returns-in_err-check_usable-clause-step
+returns-in_err-check_usable-clause-step g c = record { image = search rules; header = search rules; marks = search rules; once_written = fails_none g.S.Storage.view c.args.self.now _; header_cluster = search rules; faults = search rules; quiet = search rules }
+
+pub returns-then-is_empty-clause-step : goal.returns-then-is_empty-clause-step
+returns-then-is_empty-clause-step g c = record { image = search rules; header = search rules; marks = search rules; once_written = fails_none g.S.Storage.view c.args.self.now _; header_cluster = search rules; faults = search rules; quiet = search rules }

@@ -51,26 +51,20 @@ returns-in_ok-end_freeing-in-Err-clause-uncovers g c =
 
 pub returns-in_err-end_freeing-in-Err-clause-marks : goal.returns-in_err-end_freeing-in-Err-clause-marks
 returns-in_err-end_freeing-in-Err-clause-marks g c =
-    let view = g.S.Storage.view in
-    let below = g.F.BackingDisk.backing in
     let old = c.args.self.now in
     let mid = c.uncover_next.new.self in
     let new = c.end_freeing.new.self in
-    let e = c.in-Err.refusal in
     let none : IsFault c.in-Err.refusal → ⊥ = λ fault. not_both c.is_fault.result (c.is_fault.ensures.1 fault) c.if-is_fault.false in
-    let failed = not_marked view below old mid new e none c.in-Err.ensures.marks in
+    let failed = not_marked g.S.Storage.view g.F.BackingDisk.backing old mid new c.in-Err.refusal none c.in-Err.ensures.marks in
     subst (λ (r : Result _ _). MarksFailed old new r) (sym (err_is c.from_residual.result c.from_residual.ensures)) (refused_since old mid new failed c.in_err-end_freeing-in-Err.field-0.0 c.in_err-end_freeing-in-Err.ensures.marks)
 
 pub returns-in_ok-end_freeing-in-Err-clause-marks : goal.returns-in_ok-end_freeing-in-Err-clause-marks
 returns-in_ok-end_freeing-in-Err-clause-marks g c =
-    let view = g.S.Storage.view in
-    let below = g.F.BackingDisk.backing in
     let old = c.args.self.now in
-    let mid = c.uncover_next.new.self in
     let new = c.end_freeing.new.self in
     let e = c.in-Err.refusal in
     let none : IsFault c.in-Err.refusal → ⊥ = λ fault. not_both c.is_fault.result (c.is_fault.ensures.1 fault) c.if-is_fault.false in
-    let failed = not_marked view below old mid new e none c.in-Err.ensures.marks in
+    let failed = not_marked g.S.Storage.view g.F.BackingDisk.backing old c.uncover_next.new.self new e none c.in-Err.ensures.marks in
     failed_other e (is_failed old) (has_noted_change new) (is_failed new) none (c.in_ok-end_freeing-in-Err.ensures.marks ∙ failed)
 
 pub returns-then-is_fault-clause-stops : goal.returns-then-is_fault-clause-stops
@@ -79,15 +73,11 @@ returns-then-is_fault-clause-stops g c = λ none out sound unprepared. inl (c.is
 pub returns-in_err-end_freeing-in-Err-clause-stops : goal.returns-in_err-end_freeing-in-Err-clause-stops
 returns-in_err-end_freeing-in-Err-clause-stops g c = λ usable out sound unprepared.
     let view = g.S.Storage.view in
-    let below = g.F.BackingDisk.backing in
     let old = c.args.self.now in
     let mid = c.uncover_next.new.self in
-    let new = c.end_freeing.new.self in
-    let e = c.in-Err.refusal in
     let none : IsFault c.in-Err.refusal → ⊥ = λ fault. not_both c.is_fault.result (c.is_fault.ensures.1 fault) c.if-is_fault.false in
-    let failed = not_marked view below old mid new e none c.in-Err.ensures.marks in
-    let still = turn_still view below old mid mid e none c.args.at c.requires.usable c.uncover_next.ensures.image.number c.in-Err.ensures.uncovers out sound in
-    handed_on (λ r. IfErr r (IsFaultOrCantUncover view (size_of old) new c.args.at)) c.from_residual.result c.in_err-end_freeing-in-Err.field-0.0 c.from_residual.ensures
+    let still = turn_still view g.F.BackingDisk.backing old mid mid c.in-Err.refusal none c.args.at c.requires.usable c.uncover_next.ensures.image.number c.in-Err.ensures.uncovers out sound in
+    handed_on (λ r. IfErr r (IsFaultOrCantUncover view (size_of old) c.end_freeing.new.self c.args.at)) c.from_residual.result c.in_err-end_freeing-in-Err.field-0.0 c.from_residual.ensures
     (inl (fault_of c.in_err-end_freeing-in-Err.field-0.0 (c.in_err-end_freeing-in-Err.ensures.frees out still.0).1))
 
 pub returns-in_ok-end_freeing-in-Err-clause-stops : goal.returns-in_ok-end_freeing-in-Err-clause-stops
@@ -96,14 +86,11 @@ returns-in_ok-end_freeing-in-Err-clause-stops g c = λ usable out sound unprepar
     let below = g.F.BackingDisk.backing in
     let old = c.args.self.now in
     let mid = c.uncover_next.new.self in
-    let new = c.end_freeing.new.self in
-    let e = c.in-Err.refusal in
     let none : IsFault c.in-Err.refusal → ⊥ = λ fault. not_both c.is_fault.result (c.is_fault.ensures.1 fault) c.if-is_fault.false in
-    let failed = not_marked view below old mid new e none c.in-Err.ensures.marks in
-    let still = turn_still view below old mid mid e none c.args.at c.requires.usable c.uncover_next.ensures.image.number c.in-Err.ensures.uncovers out sound in
+    let still = turn_still view below old mid mid c.in-Err.refusal none c.args.at c.requires.usable c.uncover_next.ensures.image.number c.in-Err.ensures.uncovers out sound in
     elim (c.in-Err.ensures.stops usable out sound unprepared) [
       | inl fault ↦ absurd (none fault)
-      | inr cant ↦ inr (written_stops view below out (size_of old) c.args.at (size_of mid) mid new still.0 (c.in_ok-end_freeing-in-Err.ensures.frees out still.0).sound c.end_freeing.ensures.table c.end_freeing.ensures.header cant)
+      | inr cant ↦ inr (written_stops view below out (size_of old) c.args.at (size_of mid) mid c.end_freeing.new.self still.0 (c.in_ok-end_freeing-in-Err.ensures.frees out still.0).sound c.end_freeing.ensures.table c.end_freeing.ensures.header cant)
     ]
 
 pub returns-in-Ok-clause-emptied : goal.returns-in-Ok-clause-emptied
@@ -114,16 +101,11 @@ returns-then-is_fault-clause-emptied g c = λ writable out sound. inl (c.is_faul
 
 pub returns-in_err-end_freeing-in-Err-clause-emptied : goal.returns-in_err-end_freeing-in-Err-clause-emptied
 returns-in_err-end_freeing-in-Err-clause-emptied g c = λ writable out sound.
-    let view = g.S.Storage.view in
-    let below = g.F.BackingDisk.backing in
     let old = c.args.self.now in
     let mid = c.uncover_next.new.self in
-    let new = c.end_freeing.new.self in
-    let e = c.in-Err.refusal in
     let none : IsFault c.in-Err.refusal → ⊥ = λ fault. not_both c.is_fault.result (c.is_fault.ensures.1 fault) c.if-is_fault.false in
-    let failed = not_marked view below old mid new e none c.in-Err.ensures.marks in
-    let still = turn_still view below old mid mid e none c.args.at c.requires.usable c.uncover_next.ensures.image.number c.in-Err.ensures.uncovers out sound in
-    handed_on (FreesTurn old new c.args.at) c.from_residual.result c.in_err-end_freeing-in-Err.field-0.0 c.from_residual.ensures
+    let still = turn_still g.S.Storage.view g.F.BackingDisk.backing old mid mid c.in-Err.refusal none c.args.at c.requires.usable c.uncover_next.ensures.image.number c.in-Err.ensures.uncovers out sound in
+    handed_on (FreesTurn old c.end_freeing.new.self c.args.at) c.from_residual.result c.in_err-end_freeing-in-Err.field-0.0 c.from_residual.ensures
     (inl (fault_of c.in_err-end_freeing-in-Err.field-0.0 (c.in_err-end_freeing-in-Err.ensures.frees out still.0).1))
 
 pub returns-in_ok-end_freeing-in-Err-clause-emptied : goal.returns-in_ok-end_freeing-in-Err-clause-emptied
@@ -131,9 +113,7 @@ returns-in_ok-end_freeing-in-Err-clause-emptied g c = λ writable out sound. inr
 
 pub returns-in_err-end_freeing-in-Err-clause-faults : goal.returns-in_err-end_freeing-in-Err-clause-faults
 returns-in_err-end_freeing-in-Err-clause-faults g c =
-    let view = g.S.Storage.view in
-    let below = g.F.BackingDisk.backing in
-    counted_on view below c.args.self.now c.uncover_next.new.self c.end_freeing.new.self c.end_freeing.result c.in_err-end_freeing-in-Err.field-0.0 c.from_residual.result (c.in-Err.ensures.faults.told (λ is. not_both c.is_fault.result (c.is_fault.ensures.1 (inl is)) c.if-is_fault.false)) c.end_freeing.ensures.faults c.in_err-end_freeing-in-Err.was c.from_residual.ensures
+    counted_on g.S.Storage.view g.F.BackingDisk.backing c.args.self.now c.uncover_next.new.self c.end_freeing.new.self c.end_freeing.result c.in_err-end_freeing-in-Err.field-0.0 c.from_residual.result (c.in-Err.ensures.faults.told (λ is. not_both c.is_fault.result (c.is_fault.ensures.1 (inl is)) c.if-is_fault.false)) c.end_freeing.ensures.fails.faults c.in_err-end_freeing-in-Err.was c.from_residual.ensures
 
 pub returns-in_ok-end_freeing-in-Err-clause-faults : goal.returns-in_ok-end_freeing-in-Err-clause-faults
 returns-in_ok-end_freeing-in-Err-clause-faults g c =
@@ -141,7 +121,7 @@ returns-in_ok-end_freeing-in-Err-clause-faults g c =
     let below = g.F.BackingDisk.backing in
     let old = c.args.self.now in
     let e = c.in-Err.refusal in
-    counted_still view below old c.uncover_next.new.self c.end_freeing.new.self (Err e) (counted_as view below old old c.uncover_next.new.self c.uncover_next.result e (untouched view below old old refl refl) c.uncover_next.ensures.faults c.in-Err.is) c.in_ok-end_freeing-in-Err.ensures.faults.told
+    counted_still view below old c.uncover_next.new.self c.end_freeing.new.self (Err e) (counted_as view below old old c.uncover_next.new.self c.uncover_next.result e (untouched view below old old refl refl) c.uncover_next.ensures.faults c.in-Err.is) c.in_ok-end_freeing-in-Err.ensures.fails.faults.told
 
 pub returns-in-Ok-clause-since : goal.returns-in-Ok-clause-since
 returns-in-Ok-clause-since g c = c.uncover_next.ensures.since

@@ -18,9 +18,8 @@ returns-in_err-from-clause-uncovers g c =
     let below = g.F.BackingDisk.backing in
     let old = c.args.self.now in
     let new = c.clear_range.new.self in
-    let e = c.in_err-from.field-0.0 in
     subst (λ (r : Result _ _). UncoversNext view below old new c.args.at r) (sym (err_is c.from_residual.result c.from_residual.ensures))
-    (turn_refused view below old new c.args.at c.size-end.result e c.size-end.ensures c.requires.inside c.in_err-from.ensures.sound.sees c.in_err-from.ensures.fails.refused.ungiven)
+    (turn_refused view below old new c.args.at c.size-end.result c.in_err-from.field-0.0 c.size-end.ensures c.requires.inside c.in_err-from.ensures.sound.sees c.in_err-from.ensures.fails.refused.ungiven)
 
 pub returns-then-next-end-clause-uncovers : goal.returns-then-next-end-clause-uncovers
 returns-then-next-end-clause-uncovers g c =
@@ -36,12 +35,11 @@ returns-else-at-next-clause-uncovers g c =
 pub returns-in_err-from-clause-stops : goal.returns-in_err-from-clause-stops
 returns-in_err-from-clause-stops g c = λ none out sound unprepared.
     let view = g.S.Storage.view in
-    let below = g.F.BackingDisk.backing in
     let old = c.args.self.now in
     let new = c.clear_range.new.self in
     let e = c.in_err-from.field-0.0 in
     handed_on (λ r. IfErr r (IsFaultOrCantUncover view (size_of old) new c.args.at)) c.from_residual.result e c.from_residual.ensures
-    (turn_stops view below old new c.args.at c.size-end.result e c.size-end.ensures c.requires.inside none c.in_err-from.ensures.sound.sees c.in_err-from.ensures.fails.refused out sound unprepared)
+    (turn_stops view g.F.BackingDisk.backing old new c.args.at c.size-end.result e c.size-end.ensures c.requires.inside none c.in_err-from.ensures.sound.sees c.in_err-from.ensures.fails.refused out sound unprepared)
 
 pub returns-then-next-end-clause-emptied : goal.returns-then-next-end-clause-emptied
 returns-then-next-end-clause-emptied g c = λ out sound.

@@ -1,4 +1,4 @@
-use Rattle.std.proofs.Common.{refl, ap}
+use Rattle.std.proofs.Common.{refl, ap, rules}
 use Rattle.qcow2_laws.specs.CrashInvariant.{Pending}
 use Rattle.qcow2_alloc.specs.FreeList.{with_listed}
 use Rattle.qcow2_alloc.specs.ImageFile.{contents_in}
@@ -55,46 +55,17 @@ pub returns-clause-frees : goal.returns-clause-frees
 returns-clause-frees g c = λ p out sound.
     let view = g.S.Storage.view in
     let below = g.F.BackingDisk.backing in
-    let old = c.args.self.now in
     let freed = c.free_listed.new.self in
     let q : Pending = with_listed p freed.file.free_list in
     let first = c.in_ok-free_listed.ensures.frees p out sound in
     let mid = with_caches view below freed out q first.sound c.flush_all.new.storage c.flush_all.new.self in
     let written = caches_moved view below freed out q first.sound c.flush_all.new.storage c.flush_all.new.self (c.flush_all.ensures.keeps freed.file.header.fields q first.sound.file.honest first.sound.file.caches) c.flush_all.ensures.marks.room c.flush_all.ensures.marks.pins in
     let last = with_caches view below mid out q written.sound c.flush.new.self c.flush_all.new.self in
-    freeing_step_on view below out old freed last p refl first
+    freeing_step_on view below out c.args.self.now freed last p refl first
     (keeps_then view below out freed mid last q q q (λ k h. h) written (read_moved view below mid out q written.sound c.flush.new.self c.flush.ensures.calls c.flush.ensures.same))
 
 pub returns-clause-written : goal.returns-clause-written
 returns-clause-written g c = all_known c.free_listed.new.self.file.header.fields c.flush_all.new.self (contents_in g.S.Storage.view (record c.free_listed.new.self.file { storage = c.flush.new.self })) c.in_ok-flush_all.ensures.written
-
-pub returns-in_err-free_listed-clause-notes : goal.returns-in_err-free_listed-clause-notes
-returns-in_err-free_listed-clause-notes g c = c.free_listed.ensures.notes
-
-pub returns-in_err-flush_all-clause-notes : goal.returns-in_err-flush_all-clause-notes
-returns-in_err-flush_all-clause-notes g c = notes_then c.free_listed.ensures.notes (notes_of_both c.flush_all.ensures.marks c.flush_all.ensures.notes)
-
-pub returns-in_err-flush-clause-notes : goal.returns-in_err-flush-clause-notes
-returns-in_err-flush-clause-notes g c =
-    notes_then (notes_then c.free_listed.ensures.notes (notes_of_both c.flush_all.ensures.marks c.flush_all.ensures.notes))
-    (notes_of_storage (read_kept c.flush_all.new.storage c.flush.new.self c.flush.result c.flush.ensures.calls c.flush.ensures.same c.flush.ensures.unnoted))
-
-pub returns-clause-notes : goal.returns-clause-notes
-returns-clause-notes g c =
-    notes_then (notes_then c.free_listed.ensures.notes (notes_of_both c.flush_all.ensures.marks c.flush_all.ensures.notes))
-    (notes_of_storage (read_kept c.flush_all.new.storage c.flush.new.self c.flush.result c.flush.ensures.calls c.flush.ensures.same c.flush.ensures.unnoted))
-
-pub returns-in_err-free_listed-clause-header_cluster : goal.returns-in_err-free_listed-clause-header_cluster
-returns-in_err-free_listed-clause-header_cluster g c = c.free_listed.ensures.header_cluster
-
-pub returns-in_err-flush_all-clause-header_cluster : goal.returns-in_err-flush_all-clause-header_cluster
-returns-in_err-flush_all-clause-header_cluster g c = behind_then c.free_listed.ensures.header_cluster (behind_caches c.flush_all.ensures.header_cluster)
-
-pub returns-in_err-flush-clause-header_cluster : goal.returns-in_err-flush-clause-header_cluster
-returns-in_err-flush-clause-header_cluster g c = behind_then (behind_then c.free_listed.ensures.header_cluster (behind_caches c.flush_all.ensures.header_cluster)) (behind_read c.flush.result c.flush.ensures.calls c.flush.ensures.same)
-
-pub returns-clause-header_cluster : goal.returns-clause-header_cluster
-returns-clause-header_cluster g c = behind_then (behind_then c.free_listed.ensures.header_cluster (behind_caches c.flush_all.ensures.header_cluster)) (behind_read c.flush.result c.flush.ensures.calls c.flush.ensures.same)
 
 pub returns-in_err-flush_all-clause-fault : goal.returns-in_err-flush_all-clause-fault
 returns-in_err-flush_all-clause-fault g c = λ p out sound.
@@ -131,3 +102,29 @@ returns-clause-quiet g c = λ reading.
     let first : ReadsQuietly g.S.Storage.view c.args.self.now freed = reads_same g.S.Storage.view c.args.self.now freed (ap (λ (o : Qcow2 _ _). o.file) (c.free_listed.ensures.untouched reading)) in
     let mid : Qcow2 _ _ = record freed { file = record freed.file { storage = c.flush_all.new.storage; caches = c.flush_all.new.self } } in
     written_then g.S.Storage.view (written_then g.S.Storage.view first c.flush_all.ensures.all_written) (reads_bytes g.S.Storage.view mid c.flush.new.self c.flush.result c.flush.ensures.calls c.flush.ensures.same)
+
+pub returns-in_err-free_listed-clause-step : goal.returns-in_err-free_listed-clause-step
+returns-in_err-free_listed-clause-step g c = c.free_listed.ensures.step
+
+pub returns-in_err-flush_all-clause-step : goal.returns-in_err-flush_all-clause-step
+returns-in_err-flush_all-clause-step g c = record {
+  stays = search rules;
+  notes = notes_then c.free_listed.ensures.step.notes (notes_of_both c.flush_all.ensures.marks c.flush_all.ensures.notes);
+  header_cluster = behind_then c.free_listed.ensures.step.header_cluster (behind_caches c.flush_all.ensures.header_cluster);
+}
+
+pub returns-in_err-flush-clause-step : goal.returns-in_err-flush-clause-step
+returns-in_err-flush-clause-step g c = record {
+  stays = search rules;
+  notes = notes_then (notes_then c.free_listed.ensures.step.notes (notes_of_both c.flush_all.ensures.marks c.flush_all.ensures.notes))
+      (notes_of_storage (read_kept c.flush_all.new.storage c.flush.new.self c.flush.result c.flush.ensures.calls c.flush.ensures.same c.flush.ensures.unnoted));
+  header_cluster = behind_then (behind_then c.free_listed.ensures.step.header_cluster (behind_caches c.flush_all.ensures.header_cluster)) (behind_read c.flush.result c.flush.ensures.calls c.flush.ensures.same);
+}
+
+pub returns-clause-step : goal.returns-clause-step
+returns-clause-step g c = record {
+  stays = search rules;
+  notes = notes_then (notes_then c.free_listed.ensures.step.notes (notes_of_both c.flush_all.ensures.marks c.flush_all.ensures.notes))
+      (notes_of_storage (read_kept c.flush_all.new.storage c.flush.new.self c.flush.result c.flush.ensures.calls c.flush.ensures.same c.flush.ensures.unnoted));
+  header_cluster = behind_then (behind_then c.free_listed.ensures.step.header_cluster (behind_caches c.flush_all.ensures.header_cluster)) (behind_read c.flush.result c.flush.ensures.calls c.flush.ensures.same);
+}

@@ -1,3 +1,4 @@
+use Rattle.qcow2_image.proofs.Call.ImageSteps.{step_then}
 use Rattle.qcow2_image.proofs.image.Qcow2.write_current.Goals as goal
 use Rattle.std.proofs.Common.{◌≡◌, ◌+◌, ◌^◌, ◌≤◌, inl, inr, None, Err, length, refl, sym, ap, ◌∙◌, subst, true, arith}
 use Rattle.image_access.specs.Contents.{overwritten}
@@ -13,8 +14,6 @@ use Rattle.qcow2_image.specs.CallParts.{PutsPart, IsWriteOutcome}
 use Rattle.qcow2_image.specs.ImageInvariant.{pending_in}
 use Rattle.qcow2_image.proofs.Write.PutParts.{mapped_in_place, puts_nothing, puts_refused, puts_then, puts_written}
 use Rattle.qcow2_image.proofs.Call.Called.{Quietly, quiet_sound}
-use Rattle.qcow2_alloc.proofs.KeptMarks.{notes_then}
-use Rattle.qcow2_image.proofs.Call.BehindHeader.{behind_then}
 use Rattle.qcow2_image.proofs.Map.Held.{heeds_then, held_as, keeps_storage}
 use Rattle.qcow2_image.specs.HeldMappings.{HeedsHeld, IsHeldAs}
 use Rattle.std.specs.Prelude.{Result}
@@ -64,28 +63,16 @@ returns-clause-puts g c = λ some fits out k placed sound.
 
 pub returns-in_err-check_in_place-clause-outdated : goal.returns-in_err-check_in_place-clause-outdated
 returns-in_err-check_in_place-clause-outdated g c = λ some none p out sound is whole.
-    let view = g.S.Storage.view in
-    let n = length c.args.bytes.now in
-    let old = c.args.self.now in
-    let here = subst (λ o. IsFoundWhole view old (c.args.prepared.now.guest + c.args.at) (Raw Image o true) n) (sym c.in-Some.ensures.1) whole in
-    let e = c.in_err-check_in_place.field-0.0 in
-    handed_on (λ r. r ≡ Err OutdatedMapping → ⊥) c.from_residual.result e c.from_residual.ensures (λ was. c.in_err-check_in_place.ensures.outdated some p out sound was here) is
+    let here = subst (λ o. IsFoundWhole g.S.Storage.view c.args.self.now (c.args.prepared.now.guest + c.args.at) (Raw Image o true) (length c.args.bytes.now)) (sym c.in-Some.ensures.1) whole in
+    handed_on (λ r. r ≡ Err OutdatedMapping → ⊥) c.from_residual.result c.in_err-check_in_place.field-0.0 c.from_residual.ensures (λ was. c.in_err-check_in_place.ensures.outdated some p out sound was here) is
 
 pub returns-in_default-clause-puts : goal.returns-in_default-clause-puts
 returns-in_default-clause-puts g c = λ some fits out k placed sound. puts_nothing g.S.Storage.view g.F.BackingDisk.backing out k c.args.prepared.now c.args.at c.args.bytes.now placed c.args.self.now Overflow sound
 
-pub returns-clause-notes : goal.returns-clause-notes
-returns-clause-notes g c = notes_then c.check_in_place.ensures.notes c.write_data.ensures.notes
-
 pub returns-clause-mapped : goal.returns-clause-mapped
 returns-clause-mapped g c = λ none p out sound.
-    let view = g.S.Storage.view in
-    let old = c.args.self.now in
     always_ok c.write_data.result
-    (subst (λ o. IsFoundWhole view old (c.args.prepared.now.guest + c.args.at) (Raw Image o true) (length c.args.bytes.now)) c.in-Some.ensures.1 (c.in_ok-check_in_place.ensures.found none p out sound))
-
-pub returns-clause-header_cluster : goal.returns-clause-header_cluster
-returns-clause-header_cluster g c = behind_then c.check_in_place.ensures.header_cluster c.write_data.ensures.header_cluster
+    (subst (λ o. IsFoundWhole g.S.Storage.view c.args.self.now (c.args.prepared.now.guest + c.args.at) (Raw Image o true) (length c.args.bytes.now)) c.in-Some.ensures.1 (c.in_ok-check_in_place.ensures.found none p out sound))
 
 pub returns-in_err-check_in_place-clause-held : goal.returns-in_err-check_in_place-clause-held
 returns-in_err-check_in_place-clause-held g c = λ none some.
@@ -112,8 +99,7 @@ returns-in_default-clause-met g c = λ fits some out k placed sound.
     let old = c.args.self.now in
     let p = c.args.prepared.now in
     let past : 2 ^ 64 ≤ p.offset + c.args.at = elim (cases_lt (p.offset + c.args.at) (2 ^ 64)) [ inl lt ↦ absurd (told_sum c.checked_add.result (p.offset + c.args.at) c.checked_add.ensures lt c.in_default.is) | inr past ↦ past ] in
-    let none = past_existing view below old out (pending_in view below old out) sound p (sound.ready k p placed).mapped c.args.at (length c.args.bytes.now) fits some past in
-    inr (none, inr (refl, past))
+    inr ((past_existing view below old out (pending_in view below old out) sound p (sound.ready k p placed).mapped c.args.at (length c.args.bytes.now) fits some past), inr (refl, past))
 
 pub returns-in_err-check_in_place-clause-met : goal.returns-in_err-check_in_place-clause-met
 returns-in_err-check_in_place-clause-met g c = λ fits some out k placed sound.
@@ -144,24 +130,26 @@ returns-in_err-check_in_place-clause-once g c =
     let new = c.check_in_place.new.self in
     let e = c.in_err-check_in_place.field-0.0 in
     handed_on (PutsOnce g.S.Storage.view g.F.BackingDisk.backing p c.args.at c.args.bytes.now c.args.self.now new) c.from_residual.result e c.from_residual.ensures
-    (put_unwritten g.S.Storage.view g.F.BackingDisk.backing p c.args.at c.args.bytes.now c.args.self.now new e c.check_in_place.ensures.notes.storage.honest c.check_in_place.ensures.idle
+    (put_unwritten g.S.Storage.view g.F.BackingDisk.backing p c.args.at c.args.bytes.now c.args.self.now new e c.check_in_place.ensures.step.notes.storage.honest c.check_in_place.ensures.idle
     (λ out sound. checked_unseen g.S.Storage.view g.F.BackingDisk.backing c.args.self.now new out c.check_in_place.ensures.keeps c.check_in_place.ensures.list sound))
 
 pub returns-clause-once : goal.returns-clause-once
 returns-clause-once g c =
     let view = g.S.Storage.view in
     let mid = c.check_in_place.new.self in
-    let new = c.write_data.new.self in
     let contents = (view_in view mid.file).contents in
     let w = c.write_data.ensures.written in
     record {
       before = mid;
-      honest = c.check_in_place.ensures.notes.storage.honest;
+      honest = c.check_in_place.ensures.step.notes.storage.honest;
       unseen = λ out sound. checked_unseen view g.F.BackingDisk.backing c.args.self.now mid out c.check_in_place.ensures.keeps c.check_in_place.ensures.list sound;
       idle = λ some. let same = c.check_in_place.ensures.idle some in (ap (λ (i : Qcow2 _ _). storage_of_image i) same, ap (λ (i : Qcow2 _ _). changes_of i.file.storage) same);
       time = w.time;
-      written = λ honest. subst (λ o. IsWriteOutcome c.write_data.result contents (overwritten contents o c.args.bytes.now) (view_in view new.file).contents) c.in-Some.ensures.1 (w.written honest);
+      written = λ honest. subst (λ o. IsWriteOutcome c.write_data.result contents (overwritten contents o c.args.bytes.now) (view_in view c.write_data.new.self.file).contents) c.in-Some.ensures.1 (w.written honest);
     }
 
 pub returns-clause-list : goal.returns-clause-list
 returns-clause-list g c = ap (λ (image : Qcow2 _ _). image.file.free_list) c.write_data.ensures.written.rest ∙ c.check_in_place.ensures.list
+
+pub returns-clause-step : goal.returns-clause-step
+returns-clause-step g c = step_then c.check_in_place.ensures.step c.write_data.ensures.step

@@ -1,5 +1,5 @@
 use Rattle.qcow2_image.proofs.image.Qcow2.write_l1_table.Goals as goal
-use Rattle.std.proofs.Common.{◌∙◌, ◌≡◌, inl, ap, subst, sym}
+use Rattle.std.proofs.Common.{◌∙◌, ◌≡◌, inl, ap, subst, sym, rules}
 use Rattle.std.specs.Prelude.{OnOk}
 use Rattle.qcow2_metadata.specs.EntryTable.{entry_count, EntryTableView}
 use Rattle.qcow2_alloc.proofs.AllocationSteps.{handed_on}
@@ -46,13 +46,6 @@ returns-in_err-place_l1_table-clause-allocator g c = ap (λ (i : Qcow2 _ _). i.a
 pub returns-clause-allocator : goal.returns-clause-allocator
 returns-clause-allocator g c = c.name_l1_table.ensures.allocator ∙ ap (λ (i : Qcow2 _ _). i.allocator) c.place_l1_table.ensures.rest
 
-pub returns-clause-faults : goal.returns-clause-faults
-returns-clause-faults g c =
-    let view = g.S.Storage.view in
-    let below = g.F.BackingDisk.backing in
-    counted_since view below c.args.self.now c.place_l1_table.new.self c.name_l1_table.new.self c.name_l1_table.result
-    (same_of view below c.args.self.now c.place_l1_table.new.self c.place_l1_table.result c.in_ok-place_l1_table.field-0 c.place_l1_table.ensures.faults c.in_ok-place_l1_table.was) c.name_l1_table.ensures.faults
-
 pub returns-in_err-place_l1_table-clause-fault : goal.returns-in_err-place_l1_table-clause-fault
 returns-in_err-place_l1_table-clause-fault g c = λ p out sound longer.
     hands_fault c.from_residual.result c.in_err-place_l1_table.field-0.0 c.from_residual.ensures (c.in_err-place_l1_table.ensures.fault p out sound (subst (λ n. IsHostCluster n c.args.cluster) (sym longer.bits) c.requires))
@@ -62,3 +55,12 @@ returns-clause-fault g c = λ p out sound longer. c.name_l1_table.ensures.fault
 
 pub returns-clause-placed : goal.returns-clause-placed
 returns-clause-placed g c = subst (λ (t : EntryTableView). OnOk c.name_l1_table.result (c.name_l1_table.new.self.l1_table ≡ t)) c.in_ok-place_l1_table.ensures.table c.name_l1_table.ensures.table
+
+pub returns-clause-fails : goal.returns-clause-fails
+returns-clause-fails g c = record {
+  cause = search rules;
+  faults = let view = g.S.Storage.view in
+      let below = g.F.BackingDisk.backing in
+      counted_since view below c.args.self.now c.place_l1_table.new.self c.name_l1_table.new.self c.name_l1_table.result
+      (same_of view below c.args.self.now c.place_l1_table.new.self c.place_l1_table.result c.in_ok-place_l1_table.field-0 c.place_l1_table.ensures.fails.faults c.in_ok-place_l1_table.was) c.name_l1_table.ensures.fails.faults;
+}

@@ -1,5 +1,5 @@
 use Rattle.qcow2_image.proofs.image.Qcow2.write_l2.Goals as goal
-use Rattle.std.proofs.Common.{inl, ap, ◌∙◌, arith, subst, sym}
+use Rattle.std.proofs.Common.{inl, ap, ◌∙◌, arith, subst, sym, rules}
 use Rattle.qcow2_laws.specs.Changes.{one_at, with_new_tables}
 use Rattle.qcow2_alloc.proofs.AllocationSteps.{handed_on}
 use Rattle.qcow2_alloc.proofs.FileSteps.{one_here}
@@ -55,30 +55,6 @@ returns-clause-writes g c = λ p out sound may noted says.
     (c.name_l2.ensures.names p out c.args.table kept.sound (may_still view below out q q old mid sound kept.sound same c.args.index may) (c.in_ok-place_l2.ensures.noted (c.in_ok-store_first.ensures.noted noted))
     (says_still view below out q q old mid c.args.index c.args.table kept says) c.in_ok-place_l2.ensures.long placed.1)
 
-pub returns-then-not-can_enter-clause-notes : goal.returns-then-not-can_enter-clause-notes
-returns-then-not-can_enter-clause-notes g c = notes_none
-
-pub returns-in_err-store_first-clause-notes : goal.returns-in_err-store_first-clause-notes
-returns-in_err-store_first-clause-notes g c = c.store_first.ensures.notes
-
-pub returns-in_err-place_l2-clause-notes : goal.returns-in_err-place_l2-clause-notes
-returns-in_err-place_l2-clause-notes g c = notes_then c.store_first.ensures.notes c.place_l2.ensures.notes
-
-pub returns-clause-notes : goal.returns-clause-notes
-returns-clause-notes g c = notes_then (notes_then c.store_first.ensures.notes c.place_l2.ensures.notes) c.name_l2.ensures.notes
-
-pub returns-then-not-can_enter-clause-header_cluster : goal.returns-then-not-can_enter-clause-header_cluster
-returns-then-not-can_enter-clause-header_cluster g c = λ some. behind_none
-
-pub returns-in_err-store_first-clause-header_cluster : goal.returns-in_err-store_first-clause-header_cluster
-returns-in_err-store_first-clause-header_cluster g c = λ some. c.store_first.ensures.header_cluster
-
-pub returns-in_err-place_l2-clause-header_cluster : goal.returns-in_err-place_l2-clause-header_cluster
-returns-in_err-place_l2-clause-header_cluster g c = λ some. behind_then c.store_first.ensures.header_cluster (c.place_l2.ensures.header_cluster some)
-
-pub returns-clause-header_cluster : goal.returns-clause-header_cluster
-returns-clause-header_cluster g c = λ some. behind_then (behind_then c.store_first.ensures.header_cluster (c.place_l2.ensures.header_cluster some)) c.name_l2.ensures.header_cluster
-
 pub returns-in_err-store_first-clause-allocator : goal.returns-in_err-store_first-clause-allocator
 returns-in_err-store_first-clause-allocator g c = ap (λ (i : Qcow2 _ _). i.allocator) c.store_first.ensures.rest
 
@@ -100,14 +76,10 @@ returns-in_err-store_first-clause-limited g c = λ p out sound says near host.
 
 pub returns-in_err-place_l2-clause-limited : goal.returns-in_err-place_l2-clause-limited
 returns-in_err-place_l2-clause-limited g c = λ p out sound says near host.
-    let view = g.S.Storage.view in
-    let below = g.F.BackingDisk.backing in
-    let old = c.args.self.now in
-    let mid = c.store_first.new.self in
     let q = with_new_tables p (one_at c.args.cluster) in
     let own = one_here c.args.cluster in
     let stored = c.in_ok-store_first.ensures.stores q out sound in
-    let format = (says_still view below out q q old mid c.args.index c.args.table stored.0 says).format in
+    let format = (says_still g.S.Storage.view g.F.BackingDisk.backing out q q c.args.self.now c.store_first.new.self c.args.index c.args.table stored.0 says).format in
     hands_unlimited c.from_residual-in_err-place_l2.result c.in_err-place_l2.field-0.0 c.from_residual-in_err-place_l2.ensures
     (c.in_err-place_l2.ensures.limited q out stored.0.sound (omega (arith, own)) format stored.1 (subst (λ n. IsHostCluster n c.args.cluster) (sym says.format.bits) host))
 
@@ -120,14 +92,10 @@ returns-in_err-store_first-clause-met g c = λ p out sound says near host.
 
 pub returns-in_err-place_l2-clause-met : goal.returns-in_err-place_l2-clause-met
 returns-in_err-place_l2-clause-met g c = λ p out sound says near host.
-    let view = g.S.Storage.view in
-    let below = g.F.BackingDisk.backing in
-    let old = c.args.self.now in
-    let mid = c.store_first.new.self in
     let q = with_new_tables p (one_at c.args.cluster) in
     let own = one_here c.args.cluster in
     let stored = c.in_ok-store_first.ensures.stores q out sound in
-    let format = (says_still view below out q q old mid c.args.index c.args.table stored.0 says).format in
+    let format = (says_still g.S.Storage.view g.F.BackingDisk.backing out q q c.args.self.now c.store_first.new.self c.args.index c.args.table stored.0 says).format in
     hands_met (IsMetLooking (HasPrepared out)) c.from_residual-in_err-place_l2.result c.in_err-place_l2.field-0.0 c.from_residual-in_err-place_l2.ensures
     (c.in_err-place_l2.ensures.met q out stored.0.sound (omega (arith, own)) format stored.1 (subst (λ n. IsHostCluster n c.args.cluster) (sym says.format.bits) host))
 
@@ -139,3 +107,23 @@ returns-then-not-can_enter-clause-met g c = λ p out sound says near host.
 
 pub returns-clause-met : goal.returns-clause-met
 returns-clause-met g c = λ p out sound says near host. met_as IsFault (IsMetLooking (HasPrepared out)) c.name_l2.result (λ e fault. inl fault) c.name_l2.ensures.fault
+
+pub returns-then-not-can_enter-clause-step : goal.returns-then-not-can_enter-clause-step
+returns-then-not-can_enter-clause-step g c = record { stays = search rules; notes = notes_none; header_cluster = λ some. behind_none }
+
+pub returns-in_err-store_first-clause-step : goal.returns-in_err-store_first-clause-step
+returns-in_err-store_first-clause-step g c = record { stays = search rules; notes = c.store_first.ensures.step.notes; header_cluster = λ some. c.store_first.ensures.step.header_cluster }
+
+pub returns-in_err-place_l2-clause-step : goal.returns-in_err-place_l2-clause-step
+returns-in_err-place_l2-clause-step g c = record {
+  stays = search rules;
+  notes = notes_then c.store_first.ensures.step.notes c.place_l2.ensures.step.notes;
+  header_cluster = λ some. behind_then c.store_first.ensures.step.header_cluster (c.place_l2.ensures.step.header_cluster some);
+}
+
+pub returns-clause-step : goal.returns-clause-step
+returns-clause-step g c = record {
+  stays = search rules;
+  notes = notes_then (notes_then c.store_first.ensures.step.notes c.place_l2.ensures.step.notes) c.name_l2.ensures.step.notes;
+  header_cluster = λ some. behind_then (behind_then c.store_first.ensures.step.header_cluster (c.place_l2.ensures.step.header_cluster some)) c.name_l2.ensures.step.header_cluster;
+}

@@ -46,7 +46,7 @@ returns-clause-sees g c =
     subst (λ (image : Qcow2 _ _). Puts view below old image p c.args.at bytes c.mark_failure.result) (sym c.mark_failure.ensures.rest)
     (subst (λ (x : Result _ _). Puts view below old (record new { is_failed = is_failed c.mark_failure.new.self }) p c.args.at bytes x) (sym c.mark_failure.ensures.answer)
     (puts_with_outcome view below old p c.args.at bytes (usable_works old c.check_usable.result c.in_ok-check_usable.was c.check_usable.ensures) new (is_failed c.mark_failure.new.self)
-    (c.write_current-done.ensures.stays.image.number ∙ c.begin.ensures.stays.image.number) r (may_mark c.write_current-done.new.self c.mark_failure.new.self c.write_current-done.result c.mark_failure.ensures.marks)
+    (c.write_current-done.ensures.step.stays.image.number ∙ c.begin.ensures.stays.image.number) r (may_mark c.write_current-done.new.self c.mark_failure.new.self c.write_current-done.result c.mark_failure.ensures.marks)
     (λ out k placed sound. puts_then view below out k p c.args.at bytes placed old c.begin.new.self new r (quiet out sound) sound
     (c.write_current-done.ensures.puts some c.requires out k placed (quiet_sound view below out old c.begin.new.self (quiet out) sound)))))
 
@@ -68,24 +68,6 @@ pub returns-then-not-writable-clause-sees : goal.returns-then-not-writable-claus
 returns-then-not-writable-clause-sees g c =
     puts_early g.S.Storage.view g.F.BackingDisk.backing c.args.self.now c.args.prepared.now c.args.at c.args.bytes.now (usable_works c.args.self.now c.check_usable.result c.in_ok-check_usable.was c.check_usable.ensures) ReadOnly (λ is. cc)
 
-pub returns-clause-faults : goal.returns-clause-faults
-returns-clause-faults g c = counted_marked g.S.Storage.view g.F.BackingDisk.backing c.args.self.now c.begin.new.self c.write_current-done.new.self c.mark_failure.new.self c.write_current-done.result c.mark_failure.result c.begin.ensures.faults c.write_current-done.ensures.faults c.mark_failure.ensures.answer c.mark_failure.ensures.rest
-
-pub returns-in_err-check_usable-clause-once_written : goal.returns-in_err-check_usable-clause-once_written
-returns-in_err-check_usable-clause-once_written g c = fails_none g.S.Storage.view c.args.self.now _
-
-pub returns-then-prepared-self-clause-once_written : goal.returns-then-prepared-self-clause-once_written
-returns-then-prepared-self-clause-once_written g c = fails_none g.S.Storage.view c.args.self.now _
-
-pub returns-then-is_empty-clause-once_written : goal.returns-then-is_empty-clause-once_written
-returns-then-is_empty-clause-once_written g c = fails_none g.S.Storage.view c.args.self.now _
-
-pub returns-then-not-writable-clause-once_written : goal.returns-then-not-writable-clause-once_written
-returns-then-not-writable-clause-once_written g c = fails_none g.S.Storage.view c.args.self.now _
-
-pub returns-clause-once_written : goal.returns-clause-once_written
-returns-clause-once_written g c = fails_once g.S.Storage.view c.args.self.now c.begin.new.self c.begin.ensures.begun c.write_current-done.new.self c.mark_failure.new.self c.write_current-done.result c.write_current-done.ensures.notes (c.write_current-done.ensures.stays.failed ∙ c.begin.ensures.stays.failed) c.mark_failure.ensures.marks c.mark_failure.ensures.rest c.mark_failure.result (λ memory. sym c.mark_failure.ensures.answer ∙ memory)
-
 pub returns-then-is_empty-clause-mapped : goal.returns-then-is_empty-clause-mapped
 returns-then-is_empty-clause-mapped g c = λ none some out sound. absurd (let no : length c.args.bytes.now ≡ 0 = search rules in omega (arith, no, some))
 
@@ -101,9 +83,6 @@ returns-clause-mapped g c = λ none some out sound.
     let begun = c.begin.ensures.keeps p out sound in
     subst (λ (r : Result _ _). OnOk r (IsFoundWhole view old place kind n)) (sym c.mark_failure.ensures.answer)
     (on_ok c.write_current-done.result (λ whole. found_before view below old c.begin.new.self out p p place n kind begun whole) (c.write_current-done.ensures.mapped none p out begun.sound))
-
-pub returns-clause-header_cluster : goal.returns-clause-header_cluster
-returns-clause-header_cluster g c = behind_call g.S.Storage.view c.begin.ensures.begun c.write_current-done.ensures.header_cluster c.mark_failure.ensures.rest
 
 pub returns-clause-held : goal.returns-clause-held
 returns-clause-held g c = λ usable none some.
@@ -147,3 +126,24 @@ returns-clause-once g c =
 
 pub returns-clause-freeing : goal.returns-clause-freeing
 returns-clause-freeing g c = ap (λ (image : Qcow2 _ _). image.file.free_list) c.mark_failure.ensures.rest ∙ c.write_current-done.ensures.list ∙ c.begin.ensures.list
+
+pub returns-clause-step : goal.returns-clause-step
+returns-clause-step g c = record {
+  image = search rules;
+  marks = search rules;
+  once_written = fails_once g.S.Storage.view c.args.self.now c.begin.new.self c.begin.ensures.begun c.write_current-done.new.self c.mark_failure.new.self c.write_current-done.result c.write_current-done.ensures.step.notes (c.write_current-done.ensures.step.stays.failed ∙ c.begin.ensures.stays.failed) c.mark_failure.ensures.marks c.mark_failure.ensures.rest c.mark_failure.result (λ memory. sym c.mark_failure.ensures.answer ∙ memory);
+  header_cluster = behind_call g.S.Storage.view c.begin.ensures.begun c.write_current-done.ensures.step.header_cluster c.mark_failure.ensures.rest;
+  faults = counted_marked g.S.Storage.view g.F.BackingDisk.backing c.args.self.now c.begin.new.self c.write_current-done.new.self c.mark_failure.new.self c.write_current-done.result c.mark_failure.result c.begin.ensures.faults c.write_current-done.ensures.fails.faults c.mark_failure.ensures.answer c.mark_failure.ensures.rest;
+}
+
+pub returns-in_err-check_usable-clause-step : goal.returns-in_err-check_usable-clause-step
+returns-in_err-check_usable-clause-step g c = record { image = search rules; marks = search rules; once_written = fails_none g.S.Storage.view c.args.self.now _; header_cluster = search rules; faults = search rules }
+
+pub returns-then-prepared-self-clause-step : goal.returns-then-prepared-self-clause-step
+returns-then-prepared-self-clause-step g c = record { image = search rules; marks = search rules; once_written = fails_none g.S.Storage.view c.args.self.now _; header_cluster = search rules; faults = search rules }
+
+pub returns-then-is_empty-clause-step : goal.returns-then-is_empty-clause-step
+returns-then-is_empty-clause-step g c = record { image = search rules; marks = search rules; once_written = fails_none g.S.Storage.view c.args.self.now _; header_cluster = search rules; faults = search rules }
+
+pub returns-then-not-writable-clause-step : goal.returns-then-not-writable-clause-step
+returns-then-not-writable-clause-step g c = record { image = search rules; marks = search rules; once_written = fails_none g.S.Storage.view c.args.self.now _; header_cluster = search rules; faults = search rules }

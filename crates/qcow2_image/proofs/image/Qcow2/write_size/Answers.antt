@@ -47,11 +47,10 @@ returns-in-Err-clause-writes g c = λ out sound.
 pub returns-in-Err-clause-resizes : goal.returns-in-Err-clause-resizes
 returns-in-Err-clause-resizes g c = λ p sound.
     let view = g.S.Storage.view in
-    let old = c.args.self.now in
     let after = c.write_size.new.self in
     let asked = storage_of c.will_write.new.self in
     let wrote = subst (λ (v : HeaderView). Changes (view asked) (view (storage_of after)) c.write_size.result (size_written v.fields)) c.set_size.ensures c.write_size.ensures.written in
-    resizes_refused view g.F.BackingDisk.backing p old sound c.args.size c.ranges.size.fits after c.write_size.result asked c.will_write.ensures.storage wrote c.write_size.ensures.calls _ c.in-Err.refusal refl
+    resizes_refused view g.F.BackingDisk.backing p c.args.self.now sound c.args.size c.ranges.size.fits after c.write_size.result asked c.will_write.ensures.storage wrote c.write_size.ensures.calls _ c.in-Err.refusal refl
 
 pub returns-in-Ok-clause-notes : goal.returns-in-Ok-clause-notes
 returns-in-Ok-clause-notes g c = notes_of_storage (told_kept c.args.self.now.file.storage c.will_write.new.self c.write_size.new.self c.write_size.result c.will_write.ensures.storage c.will_write.ensures.changed _ c.write_size.ensures.written c.write_size.ensures.calls c.write_size.ensures.noted)

@@ -30,11 +30,8 @@ returns-clause-allocator g c = c.write_l1_table-done.ensures.allocator
 
 pub returns-clause-fault : goal.returns-clause-fault
 returns-clause-fault g c = λ p out sound longer.
-    let view = g.S.Storage.view in
-    let below = g.F.BackingDisk.backing in
-    let old = c.args.self.now in
     subst (λ (r : Result _ _). IfErr r IsFault) (sym c.keep_or_list.ensures.answer)
-    (c.write_l1_table-done.ensures.fault p out (subst (λ n. ImageInvariant view below (with_table p c.args.table n) old out) (sym c.cluster.ensures) sound) longer)
+    (c.write_l1_table-done.ensures.fault p out (subst (λ n. ImageInvariant g.S.Storage.view g.F.BackingDisk.backing (with_table p c.args.table n) c.args.self.now out) (sym c.cluster.ensures) sound) longer)
 
 pub returns-clause-placed : goal.returns-clause-placed
 returns-clause-placed g c =

@@ -1,5 +1,5 @@
+use Rattle.qcow2_image.proofs.Call.ImageSteps.{step_then}
 use Rattle.qcow2_image.proofs.image.Qcow2.zero_between.Goals as goal
-use Rattle.qcow2_alloc.proofs.KeptMarks.{notes_then}
 use Rattle.std.proofs.Common.{◌≤◌, subst, sym, arith}
 use Rattle.qcow2_alloc.proofs.AllocationSteps.{handed_on}
 use Rattle.qcow2_image.specs.ImageInvariant.{abstract_of}
@@ -7,7 +7,6 @@ use Rattle.qcow2_image.specs.Preallocation.{FillsOrRefuses}
 use Rattle.qcow2_image.proofs.Call.Called.{works_none}
 use Rattle.qcow2_image.proofs.Preallocate.Filled.{fills_before, fills_none, fills_or_refuses, refused_after, zeros_from}
 use Rattle.qcow2_image.proofs.Preallocate.Turns.{same_version, still_at}
-use Rattle.qcow2_image.proofs.Call.BehindHeader.{behind_then}
 use Rattle.qcow2_alloc.specs.ImageFile.{known_in}
 use Rattle.qcow2_image.specs.MetAlone.{HasCompressedIn, IsMetTaking}
 use Rattle.qcow2_image.proofs.Preallocate.Met.{hands_met, met_before, near_behind}
@@ -15,105 +14,78 @@ use Rattle.qcow2_image.proofs.Prepare.Taken.{if_err}
 use Rattle.qcow2_image.specs.Backings.{HasPrepared}
 use Rattle.qcow2_image.proofs.Prepare.MetTaking.{taking_as}
 
-pub returns-in_err-next-clause-fills : goal.returns-in_err-next-clause-fills
-returns-in_err-next-clause-fills g c = λ out sound low high whole version.
+pub returns-clause-emptied : goal.returns-clause-emptied
+returns-clause-emptied g c = λ none. c.zero_range.ensures.emptied (c.in_ok-fill_range.ensures.emptied (c.in_ok-next.ensures.emptied none))
+
+pub returns-in_err-next-clause-step : goal.returns-in_err-next-clause-step
+returns-in_err-next-clause-step g c = c.zero_first.ensures.step
+
+pub returns-in_err-fill_range-clause-step : goal.returns-in_err-fill_range-clause-step
+returns-in_err-fill_range-clause-step g c = step_then c.zero_first.ensures.step c.fill_range.ensures.step
+
+pub returns-clause-step : goal.returns-clause-step
+returns-clause-step g c = step_then (step_then c.zero_first.ensures.step c.fill_range.ensures.step) c.zero_range.ensures.step
+
+pub returns-in_err-next-clause-sound : goal.returns-in_err-next-clause-sound
+returns-in_err-next-clause-sound g c = λ out sound before order whole third.
     let view = g.S.Storage.view in
+    let old = c.args.self.now in
     let below = g.F.BackingDisk.backing in
     let a = c.args.self.now in
     let b = c.zero_first.new.self in
     let e = c.in_err-next.field-0.0 in
-    handed_on (λ r. FillsOrRefuses view below c.args.from c.args.old c.args.end a b out r) c.from_residual.result e c.from_residual.ensures
-    (refused_after view below out a a b c.args.from c.args.old c.args.end c.args.old c.args.old c.args.from c.args.end (omega arith) (omega (arith, low, high)) low (omega arith) (fills_none view below out a c.args.from c.args.old sound (works_none (abstract_of view below a out) sound)) 0 (omega arith) (λ none. none) e
-    (c.in_err-next.ensures.fills out sound high whole version))
+    record {
+      fills = handed_on (λ r. FillsOrRefuses view below c.args.from c.args.old c.args.end a b out r) c.from_residual.result e c.from_residual.ensures
+          (refused_after view below out a a b c.args.from c.args.old c.args.end c.args.old c.args.old c.args.from c.args.end (omega arith) (omega (arith, before, order)) before (omega arith) (fills_none view below out a c.args.from c.args.old sound (works_none (abstract_of view below a out) sound)) 0 (omega arith) (λ none. none) e
+          ((c.in_err-next.ensures.sound out sound order whole third).fills));
+      met = λ near. hands_met (IsMetTaking (HasPrepared out) (HasPrepared out) (HasCompressedIn c.args.old c.args.from old.file.header.fields (known_in g.S.Storage.view old.file)) ⊥) c.from_residual.result c.in_err-next.field-0.0 c.from_residual.ensures
+          (taking_as (λ held. held) (λ kept. kept) (λ no. absurd no) (λ no. no) c.in_err-next.field-0.0 ((c.in_err-next.ensures.sound out sound order whole third).met near));
+    }
 
-pub returns-in_err-fill_range-clause-fills : goal.returns-in_err-fill_range-clause-fills
-returns-in_err-fill_range-clause-fills g c = λ out sound low high whole version.
-    let view = g.S.Storage.view in
-    let below = g.F.BackingDisk.backing in
-    let a = c.args.self.now in
-    let b = c.zero_first.new.self in
-    let d = c.fill_range.new.self in
-    let e = c.in_err-fill_range.field-0.0 in
-    let next = c.in_ok-next.ensures.next in
-    let first = zeros_from view below out a b c.args.from c.in_ok-next.next whole.0 (c.in_ok-next.ensures.fills out sound high whole version) in
-    handed_on (λ r. FillsOrRefuses view below c.args.from c.args.old c.args.end a d out r) c.from_residual-in_err-fill_range.result e c.from_residual-in_err-fill_range.ensures
-    (refused_after view below out a b d c.args.from c.args.old c.args.end c.args.from c.in_ok-next.next c.args.old c.args.from low (omega (arith, next.2, high)) (omega arith) high first c.args.from (omega arith) (λ none. c.in_ok-next.ensures.emptied none) e
-    (c.in_err-fill_range.ensures.fills out first.sound low (still_at a.file.header.fields b.file.header.fields c.args.from first.header whole.0)))
-
-pub returns-clause-fills : goal.returns-clause-fills
-returns-clause-fills g c = λ out sound low high whole version.
-    let view = g.S.Storage.view in
-    let below = g.F.BackingDisk.backing in
-    let a = c.args.self.now in
-    let b = c.zero_first.new.self in
-    let d = c.fill_range.new.self in
-    let next = c.in_ok-next.ensures.next in
-    let first = zeros_from view below out a b c.args.from c.in_ok-next.next whole.0 (c.in_ok-next.ensures.fills out sound high whole version) in
-    let second = c.in_ok-fill_range.ensures.fills out first.sound low (still_at a.file.header.fields b.file.header.fields c.args.from first.header whole.0) in
-    let both = fills_before view below out a b d c.args.from c.args.old c.args.from c.in_ok-next.next low next.0 first second in
-    let ends = c.in_ok-next.ensures.whole out sound whole in
-    fills_or_refuses view below out a d c.zero_range.new.self c.args.from c.args.old c.in_ok-next.next c.args.end (omega (arith, low, next.0)) (omega (arith, next.2, high)) both (λ none. c.in_ok-fill_range.ensures.emptied (c.in_ok-next.ensures.emptied none)) next.0 (still_at a.file.header.fields d.file.header.fields c.in_ok-next.next both.header ends) c.zero_range.result
-    (c.zero_range.ensures.fills out both.sound (omega (arith, next.2, high)) (still_at a.file.header.fields d.file.header.fields c.in_ok-next.next both.header ends, still_at a.file.header.fields d.file.header.fields c.args.end both.header whole.1)
-    (subst (λ v. 3 ≤ v) (sym (same_version a.file.header.fields d.file.header.fields both.header)) version))
-
-pub returns-clause-emptied : goal.returns-clause-emptied
-returns-clause-emptied g c = λ none. c.zero_range.ensures.emptied (c.in_ok-fill_range.ensures.emptied (c.in_ok-next.ensures.emptied none))
-
-pub returns-in_err-next-clause-header_cluster : goal.returns-in_err-next-clause-header_cluster
-returns-in_err-next-clause-header_cluster g c = c.zero_first.ensures.header_cluster
-
-pub returns-in_err-fill_range-clause-header_cluster : goal.returns-in_err-fill_range-clause-header_cluster
-returns-in_err-fill_range-clause-header_cluster g c = behind_then c.zero_first.ensures.header_cluster c.fill_range.ensures.header_cluster
-
-pub returns-clause-header_cluster : goal.returns-clause-header_cluster
-returns-clause-header_cluster g c = behind_then (behind_then c.zero_first.ensures.header_cluster c.fill_range.ensures.header_cluster) c.zero_range.ensures.header_cluster
-
-pub returns-in_err-next-clause-notes : goal.returns-in_err-next-clause-notes
-returns-in_err-next-clause-notes g c = c.zero_first.ensures.notes
-
-pub returns-in_err-fill_range-clause-notes : goal.returns-in_err-fill_range-clause-notes
-returns-in_err-fill_range-clause-notes g c = notes_then c.zero_first.ensures.notes c.fill_range.ensures.notes
-
-pub returns-clause-notes : goal.returns-clause-notes
-returns-clause-notes g c = notes_then (notes_then c.zero_first.ensures.notes c.fill_range.ensures.notes) c.zero_range.ensures.notes
-
-pub returns-in_err-next-clause-met : goal.returns-in_err-next-clause-met
-returns-in_err-next-clause-met g c = λ out sound low high whole version near.
-    let old = c.args.self.now in
-    hands_met (IsMetTaking (HasPrepared out) (HasPrepared out) (HasCompressedIn c.args.old c.args.from old.file.header.fields (known_in g.S.Storage.view old.file)) ⊥) c.from_residual.result c.in_err-next.field-0.0 c.from_residual.ensures
-    (taking_as (λ held. held) (λ kept. kept) (λ no. absurd no) (λ no. no) c.in_err-next.field-0.0 (c.in_err-next.ensures.met out sound high whole version near))
-
-pub returns-in_err-fill_range-clause-met : goal.returns-in_err-fill_range-clause-met
-returns-in_err-fill_range-clause-met g c = λ out sound low high whole version near.
-    let view = g.S.Storage.view in
-    let below = g.F.BackingDisk.backing in
-    let a = c.args.self.now in
-    let b = c.zero_first.new.self in
-    let h = a.file.header.fields in
-    let h' = b.file.header.fields in
-    let e = c.in_err-fill_range.field-0.0 in
-    let first = c.in_ok-next.ensures.fills out sound high whole version in
-    let next = c.in_ok-next.ensures.next in
-    hands_met (IsMetTaking (HasPrepared out) (HasPrepared out) (HasCompressedIn c.args.old c.args.from h (known_in view a.file)) ⊥) c.from_residual-in_err-fill_range.result e c.from_residual-in_err-fill_range.ensures
-    (met_before view below out 0 c.args.from c.in_ok-next.next a b first c.args.old c.args.from c.args.old c.args.from (omega arith) (omega arith) e
-    (c.in_err-fill_range.ensures.met out first.sound low (still_at h h' c.args.from first.header whole.0) (near_behind view below out 0 c.args.from c.in_ok-next.next a b first c.args.end c.args.from (omega (arith, next.2, high)) high near)))
-
-pub returns-clause-met : goal.returns-clause-met
-returns-clause-met g c = λ out sound low high whole version near.
+pub returns-in_err-fill_range-clause-sound : goal.returns-in_err-fill_range-clause-sound
+returns-in_err-fill_range-clause-sound g c = λ out sound before order whole third.
     let view = g.S.Storage.view in
     let below = g.F.BackingDisk.backing in
     let a = c.args.self.now in
     let b = c.zero_first.new.self in
     let d = c.fill_range.new.self in
     let h = a.file.header.fields in
+    let e = c.in_err-fill_range.field-0.0 in
     let h' = b.file.header.fields in
+    let next = c.in_ok-next.ensures.next in
+    let first = zeros_from view below out a b c.args.from c.in_ok-next.next whole.0 ((c.in_ok-next.ensures.sound out sound order whole third).fills) in
+    record {
+      fills = handed_on (λ r. FillsOrRefuses view below c.args.from c.args.old c.args.end a d out r) c.from_residual-in_err-fill_range.result e c.from_residual-in_err-fill_range.ensures
+          (refused_after view below out a b d c.args.from c.args.old c.args.end c.args.from c.in_ok-next.next c.args.old c.args.from before (omega (arith, next.2, order)) (omega arith) order first c.args.from (omega arith) (λ none. c.in_ok-next.ensures.emptied none) e
+          ((c.in_err-fill_range.ensures.sound out first.sound before (still_at a.file.header.fields b.file.header.fields c.args.from first.header whole.0)).fills));
+      met = λ near. let first = (c.in_ok-next.ensures.sound out sound order whole third).fills in
+          hands_met (IsMetTaking (HasPrepared out) (HasPrepared out) (HasCompressedIn c.args.old c.args.from h (known_in view a.file)) ⊥) c.from_residual-in_err-fill_range.result e c.from_residual-in_err-fill_range.ensures
+          (met_before view below out 0 c.args.from c.in_ok-next.next a b first c.args.old c.args.from c.args.old c.args.from (omega arith) (omega arith) e
+          ((c.in_err-fill_range.ensures.sound out first.sound before (still_at h h' c.args.from first.header whole.0)).met (near_behind view below out 0 c.args.from c.in_ok-next.next a b first c.args.end c.args.from (omega (arith, next.2, order)) order near)));
+    }
+
+pub returns-clause-sound : goal.returns-clause-sound
+returns-clause-sound g c = λ out sound before order whole third.
+    let view = g.S.Storage.view in
+    let below = g.F.BackingDisk.backing in
+    let a = c.args.self.now in
+    let b = c.zero_first.new.self in
+    let d = c.fill_range.new.self in
+    let next = c.in_ok-next.ensures.next in
+    let h = a.file.header.fields in
+    let first = zeros_from view below out a b c.args.from c.in_ok-next.next whole.0 ((c.in_ok-next.ensures.sound out sound order whole third).fills) in
+    let h' = b.file.header.fields in
+    let second = (c.in_ok-fill_range.ensures.sound out first.sound before (still_at a.file.header.fields b.file.header.fields c.args.from first.header whole.0)).fills in
     let h'' = d.file.header.fields in
-    let next = c.in_ok-next.ensures.next in
-    let first = zeros_from view below out a b c.args.from c.in_ok-next.next whole.0 (c.in_ok-next.ensures.fills out sound high whole version) in
-    let at = still_at h h' c.args.from first.header whole.0 in
-    let second = c.in_ok-fill_range.ensures.fills out first.sound low at in
-    let both = fills_before view below out a b d c.args.from c.args.old c.args.from c.in_ok-next.next low next.0 first second in
+    let both = fills_before view below out a b d c.args.from c.args.old c.args.from c.in_ok-next.next before next.0 first second in
     let ends = c.in_ok-next.ensures.whole out sound whole in
-    if_err c.zero_range.result (taking_as (λ held. held) (λ kept. kept) (λ no. absurd no) (λ no. no))
-    (c.zero_range.ensures.met out both.sound (omega (arith, next.2, high)) (still_at h h'' c.in_ok-next.next both.header ends, still_at h h'' c.args.end both.header whole.1) (subst (λ v. 3 ≤ v) (sym (same_version h h'' both.header)) version)
-    (near_behind view below out _ c.args.old c.in_ok-next.next a d both c.args.end c.args.end (omega (arith, next.2, high)) (omega arith) near))
+    let at = still_at h h' c.args.from first.header whole.0 in
+    record {
+      fills = fills_or_refuses view below out a d c.zero_range.new.self c.args.from c.args.old c.in_ok-next.next c.args.end (omega (arith, before, next.0)) (omega (arith, next.2, order)) both (λ none. c.in_ok-fill_range.ensures.emptied (c.in_ok-next.ensures.emptied none)) next.0 (still_at a.file.header.fields d.file.header.fields c.in_ok-next.next both.header ends) c.zero_range.result
+          ((c.zero_range.ensures.sound out both.sound (omega (arith, next.2, order)) (still_at a.file.header.fields d.file.header.fields c.in_ok-next.next both.header ends, still_at a.file.header.fields d.file.header.fields c.args.end both.header whole.1)
+          (subst (λ v. 3 ≤ v) (sym (same_version a.file.header.fields d.file.header.fields both.header)) third)).fills);
+      met = λ near. let second = (c.in_ok-fill_range.ensures.sound out first.sound before at).fills in
+          if_err c.zero_range.result (taking_as (λ held. held) (λ kept. kept) (λ no. absurd no) (λ no. no))
+          ((c.zero_range.ensures.sound out both.sound (omega (arith, next.2, order)) (still_at h h'' c.in_ok-next.next both.header ends, still_at h h'' c.args.end both.header whole.1) (subst (λ v. 3 ≤ v) (sym (same_version h h'' both.header)) third)).met
+          (near_behind view below out _ c.args.old c.in_ok-next.next a d both c.args.end c.args.end (omega (arith, next.2, order)) (omega arith) near));
+    }

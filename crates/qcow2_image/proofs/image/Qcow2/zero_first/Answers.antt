@@ -1,4 +1,3 @@
-use Rattle.qcow2_alloc.proofs.KeptMarks.{notes_none, notes_then}
 use Rattle.std.proofs.Common.{◌≡◌, ◌∙◌, ◌+◌, ◌-◌, ◌^◌, ◌<◌, inl, min, ap, subst, sym, arith, rules}
 use Rattle.std.specs.Prelude.{IsTrue}
 use Rattle.qcow2_disk.specs.Found.{rest_of_table}
@@ -18,23 +17,53 @@ use Rattle.qcow2_image.proofs.Preallocate.Untaken.{untaken_cleared}
 use Rattle.qcow2_image.proofs.Call.MetErrors.{tables_met}
 use Rattle.qcow2_image.proofs.Call.Unlimited.{fault_unlimited}
 use Rattle.qcow2_image.proofs.Prepare.Lacked.{emptied_by_limit}
-use Rattle.qcow2_image.proofs.Call.BehindHeader.{behind_none, behind_then}
 use Rattle.qcow2_image.proofs.Preallocate.Met.{under_prepared, never_far}
 use Rattle.qcow2_image.specs.Backings.{HasPrepared}
 use Rattle.qcow2_image.specs.MetAlone.{IsMetTaking}
 use Rattle.qcow2_image.proofs.Prepare.Met.{hands_met}
 use Rattle.qcow2_image.proofs.Prepare.MetTaking.{taking_as}
+use Rattle.qcow2_image.proofs.Call.ImageSteps.{step_none, step_of_part, step_then}
 use Rattle.qcow2_image.proofs.image.Qcow2.zero_first.Goals as goal
 
-pub returns-then-to-from-clause-fills : goal.returns-then-to-from-clause-fills
-returns-then-to-from-clause-fills g c = λ out sound le whole version.
+pub returns-clause-whole : goal.returns-clause-whole
+returns-clause-whole g c = λ out sound whole.
+    let old = c.args.self.now in
+    let h = old.file.header.fields in
+    let from = c.args.from in
+    let to = c.args.to in
+    let sizes = Sizes-from h (contents_in g.S.Storage.view old.file) sound.file.caches.kept.kept.crash_invariant.top.header_reads in
+    let is : c.min-next.result ≡ min c.args.to (min (c.args.from + rest_of_table c.args.self.now.file.header.fields c.args.from) (2 ^ 64 - 1)) =
+    c.min-next.ensures ∙ ap (min to) (c.saturating_add.ensures ∙ ap (λ n. min (from + n) (2 ^ 64 - 1)) c.rest_of_table.ensures.value) in
+    let high : c.args.to < 2 ^ 64 = search rules in
+    next_whole h sizes.some sizes.entries from to c.min-next.result whole.1 is high
+
+pub returns-clause-emptied : goal.returns-clause-emptied
+returns-clause-emptied g c = λ none. c.in_ok-free_listed.ensures.emptied (subst IsTrue (sym c.clear_between.ensures.step.stays.image.writable) c.requires.writable)
+
+pub returns-then-to-from-clause-step : goal.returns-then-to-from-clause-step
+returns-then-to-from-clause-step g c = step_none
+
+pub returns-in_err-clear_between-clause-step : goal.returns-in_err-clear_between-clause-step
+returns-in_err-clear_between-clause-step g c = (step_of_part c.clear_between.ensures.step)
+
+pub returns-in_err-free_listed-clause-step : goal.returns-in_err-free_listed-clause-step
+returns-in_err-free_listed-clause-step g c = step_then (step_of_part c.clear_between.ensures.step) c.free_listed.ensures.step
+
+pub returns-clause-step : goal.returns-clause-step
+returns-clause-step g c = step_then (step_of_part c.clear_between.ensures.step) c.free_listed.ensures.step
+
+pub returns-then-to-from-clause-sound : goal.returns-then-to-from-clause-sound
+returns-then-to-from-clause-sound g c = λ out sound order whole third.
     let view = g.S.Storage.view in
     let below = g.F.BackingDisk.backing in
     let old = c.args.self.now in
-    fills_none view below out old 0 c.args.from sound (works_none (abstract_of view below old out) sound)
+    record {
+      met = search rules;
+      fills = fills_none view below out old 0 c.args.from sound (works_none (abstract_of view below old out) sound);
+    }
 
-pub returns-in_err-clear_between-clause-fills : goal.returns-in_err-clear_between-clause-fills
-returns-in_err-clear_between-clause-fills g c = λ out sound le whole version.
+pub returns-in_err-clear_between-clause-sound : goal.returns-in_err-clear_between-clause-sound
+returns-in_err-clear_between-clause-sound g c = λ out sound order whole third.
     let view = g.S.Storage.view in
     let below = g.F.BackingDisk.backing in
     let old = c.args.self.now in
@@ -44,27 +73,36 @@ returns-in_err-clear_between-clause-fills g c = λ out sound le whole version.
     let to = c.args.to in
     let e = c.in_err-clear_between.field-0.0 in
     let sizes = Sizes-from h (contents_in view old.file) sound.file.caches.kept.kept.crash_invariant.top.header_reads in
-    let rest = c.rest_of_table.ensures.value in
-    let is : c.min-next.result ≡ min c.args.to (min (c.args.from + rest_of_table c.args.self.now.file.header.fields c.args.from) (2 ^ 64 - 1)) = c.min-next.ensures ∙ ap (min to) (c.saturating_add.ensures ∙ ap (λ n. min (from + n) (2 ^ 64 - 1)) rest) in
+    let is : c.min-next.result ≡ min c.args.to (min (c.args.from + rest_of_table c.args.self.now.file.header.fields c.args.from) (2 ^ 64 - 1)) = c.min-next.ensures ∙ ap (min to) (c.saturating_add.ensures ∙ ap (λ n. min (from + n) (2 ^ 64 - 1)) c.rest_of_table.ensures.value) in
     let high : c.args.to < 2 ^ 64 = search rules in
     let lt = c.if-to-from.false in
-    let can : IsClearable c.args.self.now.file.header.fields KeptZeros c.args.from c.min-next.result = record {
-      begins = whole.0;
-      ends = next_whole h sizes.some sizes.entries from to c.min-next.result whole.1 is high;
-      within = next_within h sizes.some sizes.entries from to c.min-next.result whole.1 is high;
-      version = λ _. version;
-    } in
-    handed_on (λ r. FillsFirst view below 0 from to old new out r) c.from_residual.result e c.from_residual.ensures
-    (record {
-      left = fill_unseen view below out old new from to e (c.in_err-clear_between.ensures.clears out sound can);
-      taken = λ same. taken_here h from to out c.if-to-from.false (c.in_err-clear_between.ensures.taken out sound same);
-      limit = λ limit.
-          let lacks = c.in_err-clear_between.ensures.limit out sound can limit in
-          lacks_here view below out old new 0 from to (to - from) sound (omega (arith, lt)) (omega (arith, lt)) (inl lacks) (λ _. lacks) (emptied_by_limit new e (c.in_err-clear_between.ensures.freed out sound can) limit);
-    })
+    record {
+      fills = let can : IsClearable c.args.self.now.file.header.fields KeptZeros c.args.from c.min-next.result = record {
+        begins = whole.0;
+        ends = next_whole h sizes.some sizes.entries from to c.min-next.result whole.1 is high;
+        within = next_within h sizes.some sizes.entries from to c.min-next.result whole.1 is high;
+        version = λ _. third;
+      } in
+          handed_on (λ r. FillsFirst view below 0 from to old new out r) c.from_residual.result e c.from_residual.ensures
+          (record {
+            left = fill_unseen view below out old new from to e (c.in_err-clear_between.ensures.clears out sound can);
+            taken = λ same. taken_here h from to out c.if-to-from.false (c.in_err-clear_between.ensures.taken out sound same);
+            limit = λ limit.
+                let lacks = c.in_err-clear_between.ensures.limit out sound can limit in
+                lacks_here view below out old new 0 from to (to - from) sound (omega (arith, lt)) (omega (arith, lt)) (inl lacks) (λ _. lacks) (emptied_by_limit new e (c.in_err-clear_between.ensures.freed out sound can) limit);
+          });
+      met = λ near. let can : IsClearable c.args.self.now.file.header.fields KeptZeros c.args.from c.min-next.result = record {
+        begins = whole.0;
+        ends = next_whole h sizes.some sizes.entries from to c.min-next.result whole.1 is high;
+        within = next_within h sizes.some sizes.entries from to c.min-next.result whole.1 is high;
+        version = λ _. third;
+      } in
+          hands_met (IsMetTaking (HasPrepared out) (HasPrepared out) ⊥ ⊥) c.from_residual.result e c.from_residual.ensures
+          (taking_as (λ held. held) (under_prepared h from out) (λ no. no) (never_far view below out (pending_in view below old out) old sound from to c.if-to-from.false near) e (c.in_err-clear_between.ensures.met out sound can));
+    }
 
-pub returns-in_err-free_listed-clause-fills : goal.returns-in_err-free_listed-clause-fills
-returns-in_err-free_listed-clause-fills g c = λ out sound le whole version.
+pub returns-in_err-free_listed-clause-sound : goal.returns-in_err-free_listed-clause-sound
+returns-in_err-free_listed-clause-sound g c = λ out sound order whole third.
     let view = g.S.Storage.view in
     let below = g.F.BackingDisk.backing in
     let old = c.args.self.now in
@@ -74,40 +112,38 @@ returns-in_err-free_listed-clause-fills g c = λ out sound le whole version.
     let from = c.args.from in
     let to = c.args.to in
     let next = c.min-next.result in
+    let sizes = Sizes-from h (contents_in view old.file) sound.file.caches.kept.kept.crash_invariant.top.header_reads in
     let e = c.in_err-free_listed.field-0.0 in
-    let sizes = Sizes-from h (contents_in view old.file) sound.file.caches.kept.kept.crash_invariant.top.header_reads in
     let rest = c.rest_of_table.ensures.value in
     let is : c.min-next.result ≡ min c.args.to (min (c.args.from + rest_of_table c.args.self.now.file.header.fields c.args.from) (2 ^ 64 - 1)) = c.min-next.ensures ∙ ap (min to) (c.saturating_add.ensures ∙ ap (λ n. min (from + n) (2 ^ 64 - 1)) rest) in
     let high : c.args.to < 2 ^ 64 = search rules in
-    let can : IsClearable c.args.self.now.file.header.fields KeptZeros c.args.from c.min-next.result = record {
-      begins = whole.0;
-      ends = next_whole h sizes.some sizes.entries from to c.min-next.result whole.1 is high;
-      within = next_within h sizes.some sizes.entries from to c.min-next.result whole.1 is high;
-      version = λ _. version;
-    } in
-    let part = cleared_fills view below out old mid from next (let lt = c.if-to-from.false in let some = c.rest_of_table.ensures.some in omega (arith, is, lt, some, rest, high)) (entry_count old.l1_table) sound.l1_table.count c.in_ok-clear_between.ensures.l1_place (c.in_ok-clear_between.ensures.gave out sound) whole.0
-    (c.in_ok-clear_between.ensures.clears out sound can)
-    (untaken_cleared h (known_in view old.file) sizes out from next (next_within h sizes.some sizes.entries from to next whole.1 is high) (c.in_ok-clear_between.ensures.free out sound)) in
-    let listed = subst (λ (x : Pending). ImageInvariant view below x mid out) (all_listed view below mid out) part.sound in
-    handed_on (λ r. FillsFirst view below 0 from to old new out r) c.from_residual-in_err-free_listed.result e c.from_residual-in_err-free_listed.ensures
-    (fills_refused view below out old mid new 0 from next part to e (omega (arith, is)) (tables_met e c.in_err-free_listed.ensures.cause) (fault_unlimited e (c.in_err-free_listed.ensures.faults (beside view below mid out) out listed))
-    (freed_refused view below mid out new e part.sound (c.in_err-free_listed.ensures.frees (beside view below mid out) out listed)) c.free_listed.ensures.keeps_rest.header)
+    record {
+      fills = let can : IsClearable c.args.self.now.file.header.fields KeptZeros c.args.from c.min-next.result = record {
+        begins = whole.0;
+        ends = next_whole h sizes.some sizes.entries from to c.min-next.result whole.1 is high;
+        within = next_within h sizes.some sizes.entries from to c.min-next.result whole.1 is high;
+        version = λ _. third;
+      } in
+          let part = cleared_fills view below out old mid from next (let lt = c.if-to-from.false in let some = c.rest_of_table.ensures.some in omega (arith, is, lt, some, rest, high)) (entry_count old.l1_table) sound.l1_table.count c.in_ok-clear_between.ensures.l1_place (c.in_ok-clear_between.ensures.gave out sound) whole.0
+          (c.in_ok-clear_between.ensures.clears out sound can)
+          (untaken_cleared h (known_in view old.file) sizes out from next (next_within h sizes.some sizes.entries from to next whole.1 is high) (c.in_ok-clear_between.ensures.free out sound)) in
+          let listed = subst (λ (x : Pending). ImageInvariant view below x mid out) (all_listed view below mid out) part.sound in
+          handed_on (λ r. FillsFirst view below 0 from to old new out r) c.from_residual-in_err-free_listed.result e c.from_residual-in_err-free_listed.ensures
+          (fills_refused view below out old mid new 0 from next part to e (omega (arith, is)) (tables_met e c.in_err-free_listed.ensures.cause) (fault_unlimited e (c.in_err-free_listed.ensures.faults (beside view below mid out) out listed))
+          (freed_refused view below mid out new e part.sound (c.in_err-free_listed.ensures.frees (beside view below mid out) out listed)) c.free_listed.ensures.keeps_rest.header);
+      met = λ near. let part = c.in_ok-clear_between.ensures.clears out sound (record {
+        begins = whole.0;
+        ends = next_whole h sizes.some sizes.entries from to next whole.1 is high;
+        within = next_within h sizes.some sizes.entries from to next whole.1 is high;
+        version = λ _. third;
+      }) in
+          let listed = subst (λ (x : Pending). ImageInvariant view below x mid out) (all_listed view below mid out) part.sound in
+          hands_met (IsMetTaking (HasPrepared out) (HasPrepared out) ⊥ ⊥) c.from_residual-in_err-free_listed.result c.in_err-free_listed.field-0.0 c.from_residual-in_err-free_listed.ensures
+          (inl (inl (inl (c.in_err-free_listed.ensures.faults (beside view below mid out) out listed))));
+    }
 
-pub returns-clause-whole : goal.returns-clause-whole
-returns-clause-whole g c = λ out sound whole.
-    let view = g.S.Storage.view in
-    let old = c.args.self.now in
-    let h = old.file.header.fields in
-    let from = c.args.from in
-    let to = c.args.to in
-    let sizes = Sizes-from h (contents_in view old.file) sound.file.caches.kept.kept.crash_invariant.top.header_reads in
-    let is : c.min-next.result ≡ min c.args.to (min (c.args.from + rest_of_table c.args.self.now.file.header.fields c.args.from) (2 ^ 64 - 1)) =
-    c.min-next.ensures ∙ ap (min to) (c.saturating_add.ensures ∙ ap (λ n. min (from + n) (2 ^ 64 - 1)) c.rest_of_table.ensures.value) in
-    let high : c.args.to < 2 ^ 64 = search rules in
-    next_whole h sizes.some sizes.entries from to c.min-next.result whole.1 is high
-
-pub returns-clause-fills : goal.returns-clause-fills
-returns-clause-fills g c = λ out sound le whole version.
+pub returns-clause-sound : goal.returns-clause-sound
+returns-clause-sound g c = λ out sound order whole third.
     let view = g.S.Storage.view in
     let below = g.F.BackingDisk.backing in
     let old = c.args.self.now in
@@ -121,87 +157,17 @@ returns-clause-fills g c = λ out sound le whole version.
     let rest = c.rest_of_table.ensures.value in
     let is : c.min-next.result ≡ min c.args.to (min (c.args.from + rest_of_table c.args.self.now.file.header.fields c.args.from) (2 ^ 64 - 1)) = c.min-next.ensures ∙ ap (min to) (c.saturating_add.ensures ∙ ap (λ n. min (from + n) (2 ^ 64 - 1)) rest) in
     let high : c.args.to < 2 ^ 64 = search rules in
-    let can : IsClearable c.args.self.now.file.header.fields KeptZeros c.args.from c.min-next.result = record {
-      begins = whole.0;
-      ends = next_whole h sizes.some sizes.entries from to c.min-next.result whole.1 is high;
-      within = next_within h sizes.some sizes.entries from to c.min-next.result whole.1 is high;
-      version = λ _. version;
-    } in
-    let part = cleared_fills view below out old mid from next (let lt = c.if-to-from.false in let some = c.rest_of_table.ensures.some in omega (arith, is, lt, some, rest, high)) (entry_count old.l1_table) sound.l1_table.count c.in_ok-clear_between.ensures.l1_place (c.in_ok-clear_between.ensures.gave out sound) whole.0
-    (c.in_ok-clear_between.ensures.clears out sound can)
-    (untaken_cleared h (known_in view old.file) sizes out from next (next_within h sizes.some sizes.entries from to next whole.1 is high) (c.in_ok-clear_between.ensures.free out sound)) in
-    let listed = subst (λ (x : Pending). ImageInvariant view below x mid out) (all_listed view below mid out) part.sound in
-    fills_stays view below out old mid new 0 from next part (tidy_stays view below mid out new part.sound (c.in_ok-free_listed.ensures.frees (beside view below mid out) out listed)) c.free_listed.ensures.keeps_rest.header c.free_listed.ensures.former
-
-pub returns-clause-emptied : goal.returns-clause-emptied
-returns-clause-emptied g c = λ none. c.in_ok-free_listed.ensures.emptied (subst IsTrue (sym c.clear_between.ensures.step.stays.image.writable) c.requires.writable)
-
-pub returns-then-to-from-clause-header_cluster : goal.returns-then-to-from-clause-header_cluster
-returns-then-to-from-clause-header_cluster g c = behind_none
-
-pub returns-in_err-clear_between-clause-header_cluster : goal.returns-in_err-clear_between-clause-header_cluster
-returns-in_err-clear_between-clause-header_cluster g c = c.clear_between.ensures.step.header_cluster
-
-pub returns-in_err-free_listed-clause-header_cluster : goal.returns-in_err-free_listed-clause-header_cluster
-returns-in_err-free_listed-clause-header_cluster g c = behind_then c.clear_between.ensures.step.header_cluster c.free_listed.ensures.header_cluster
-
-pub returns-clause-header_cluster : goal.returns-clause-header_cluster
-returns-clause-header_cluster g c = behind_then c.clear_between.ensures.step.header_cluster c.free_listed.ensures.header_cluster
-
-pub returns-then-to-from-clause-notes : goal.returns-then-to-from-clause-notes
-returns-then-to-from-clause-notes g c = notes_none
-
-pub returns-in_err-clear_between-clause-notes : goal.returns-in_err-clear_between-clause-notes
-returns-in_err-clear_between-clause-notes g c = c.clear_between.ensures.step.notes
-
-pub returns-in_err-free_listed-clause-notes : goal.returns-in_err-free_listed-clause-notes
-returns-in_err-free_listed-clause-notes g c = notes_then c.clear_between.ensures.step.notes c.free_listed.ensures.notes
-
-pub returns-clause-notes : goal.returns-clause-notes
-returns-clause-notes g c = notes_then c.clear_between.ensures.step.notes c.free_listed.ensures.notes
-
-pub returns-in_err-clear_between-clause-met : goal.returns-in_err-clear_between-clause-met
-returns-in_err-clear_between-clause-met g c = λ out sound le whole version near.
-    let view = g.S.Storage.view in
-    let below = g.F.BackingDisk.backing in
-    let old = c.args.self.now in
-    let h = old.file.header.fields in
-    let from = c.args.from in
-    let to = c.args.to in
-    let e = c.in_err-clear_between.field-0.0 in
-    let sizes = Sizes-from h (contents_in view old.file) sound.file.caches.kept.kept.crash_invariant.top.header_reads in
-    let rest = c.rest_of_table.ensures.value in
-    let is : c.min-next.result ≡ min c.args.to (min (c.args.from + rest_of_table c.args.self.now.file.header.fields c.args.from) (2 ^ 64 - 1)) = c.min-next.ensures ∙ ap (min to) (c.saturating_add.ensures ∙ ap (λ n. min (from + n) (2 ^ 64 - 1)) rest) in
-    let high : c.args.to < 2 ^ 64 = search rules in
-    let can : IsClearable c.args.self.now.file.header.fields KeptZeros c.args.from c.min-next.result = record {
-      begins = whole.0;
-      ends = next_whole h sizes.some sizes.entries from to c.min-next.result whole.1 is high;
-      within = next_within h sizes.some sizes.entries from to c.min-next.result whole.1 is high;
-      version = λ _. version;
-    } in
-    hands_met (IsMetTaking (HasPrepared out) (HasPrepared out) ⊥ ⊥) c.from_residual.result e c.from_residual.ensures
-    (taking_as (λ held. held) (under_prepared h from out) (λ no. no) (never_far view below out (pending_in view below old out) old sound from to c.if-to-from.false near) e (c.in_err-clear_between.ensures.met out sound can))
-
-pub returns-in_err-free_listed-clause-met : goal.returns-in_err-free_listed-clause-met
-returns-in_err-free_listed-clause-met g c = λ out sound le whole version near.
-    let view = g.S.Storage.view in
-    let below = g.F.BackingDisk.backing in
-    let old = c.args.self.now in
-    let mid = c.clear_between.new.self in
-    let h = old.file.header.fields in
-    let from = c.args.from in
-    let to = c.args.to in
-    let next = c.min-next.result in
-    let sizes = Sizes-from h (contents_in view old.file) sound.file.caches.kept.kept.crash_invariant.top.header_reads in
-    let rest = c.rest_of_table.ensures.value in
-    let is : c.min-next.result ≡ min c.args.to (min (c.args.from + rest_of_table c.args.self.now.file.header.fields c.args.from) (2 ^ 64 - 1)) = c.min-next.ensures ∙ ap (min to) (c.saturating_add.ensures ∙ ap (λ n. min (from + n) (2 ^ 64 - 1)) rest) in
-    let high : c.args.to < 2 ^ 64 = search rules in
-    let part = c.in_ok-clear_between.ensures.clears out sound (record {
-      begins = whole.0;
-      ends = next_whole h sizes.some sizes.entries from to next whole.1 is high;
-      within = next_within h sizes.some sizes.entries from to next whole.1 is high;
-      version = λ _. version;
-    }) in
-    let listed = subst (λ (x : Pending). ImageInvariant view below x mid out) (all_listed view below mid out) part.sound in
-    hands_met (IsMetTaking (HasPrepared out) (HasPrepared out) ⊥ ⊥) c.from_residual-in_err-free_listed.result c.in_err-free_listed.field-0.0 c.from_residual-in_err-free_listed.ensures
-    (inl (inl (inl (c.in_err-free_listed.ensures.faults (beside view below mid out) out listed))))
+    record {
+      met = search rules;
+      fills = let can : IsClearable c.args.self.now.file.header.fields KeptZeros c.args.from c.min-next.result = record {
+        begins = whole.0;
+        ends = next_whole h sizes.some sizes.entries from to c.min-next.result whole.1 is high;
+        within = next_within h sizes.some sizes.entries from to c.min-next.result whole.1 is high;
+        version = λ _. third;
+      } in
+          let part = cleared_fills view below out old mid from next (let lt = c.if-to-from.false in let some = c.rest_of_table.ensures.some in omega (arith, is, lt, some, rest, high)) (entry_count old.l1_table) sound.l1_table.count c.in_ok-clear_between.ensures.l1_place (c.in_ok-clear_between.ensures.gave out sound) whole.0
+          (c.in_ok-clear_between.ensures.clears out sound can)
+          (untaken_cleared h (known_in view old.file) sizes out from next (next_within h sizes.some sizes.entries from to next whole.1 is high) (c.in_ok-clear_between.ensures.free out sound)) in
+          let listed = subst (λ (x : Pending). ImageInvariant view below x mid out) (all_listed view below mid out) part.sound in
+          fills_stays view below out old mid new 0 from next part (tidy_stays view below mid out new part.sound (c.in_ok-free_listed.ensures.frees (beside view below mid out) out listed)) c.free_listed.ensures.keeps_rest.header c.free_listed.ensures.former;
+    }

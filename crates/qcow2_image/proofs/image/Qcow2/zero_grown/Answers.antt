@@ -1,4 +1,3 @@
-use Rattle.qcow2_alloc.proofs.KeptMarks.{notes_none}
 use Rattle.std.proofs.Common.{◌≡◌, ◌≤◌, ◌%◌, ◌∙◌, ap, refl, subst, sym, arith}
 use Rattle.std.proofs.lemmas.Nat.{pow_pos}
 use Rattle.qcow2_metadata.specs.Header.{cluster_size, rounded_up}
@@ -6,13 +5,13 @@ use Rattle.qcow2_alloc.specs.declared.error.ImageError.TheVariants.{Overflow, Ve
 use Rattle.qcow2_image.specs.Preallocation.{FillsOrRefuses}
 use Rattle.qcow2_image.proofs.Preallocate.Filled.{refused_here}
 use Rattle.qcow2_image.proofs.Preallocate.Grown.{up_least, up_rising, up_whole}
-use Rattle.qcow2_image.proofs.Call.BehindHeader.{behind_none}
 use Rattle.std.specs.Prelude.{IfErr}
 use Rattle.qcow2_alloc.specs.ImageFile.{known_in}
 use Rattle.qcow2_image.specs.ImageInvariant.{pending_in}
 use Rattle.qcow2_image.specs.MetAlone.{HasCompressedIn, HasNearEntries, IsMetTaking}
 use Rattle.qcow2_image.proofs.Preallocate.Met.{never_past}
 use Rattle.qcow2_image.specs.Backings.{HasPrepared}
+use Rattle.qcow2_image.proofs.Call.ImageSteps.{step_none}
 use Rattle.qcow2_image.proofs.image.Qcow2.zero_grown.Goals as goal
 
 pub returns-then-version-lt3-clause-fills : goal.returns-then-version-lt3-clause-fills
@@ -45,31 +44,7 @@ returns-clause-fills g c = λ out sound le.
     let rising = up_rising cs c.args.old c.args.size some le in
     subst (λ n. FillsOrRefuses view below (rounded_up cs c.args.old) c.args.old n old c.zero_between.new.self out c.zero_between.result) end
     (subst (λ n. FillsOrRefuses view below n c.args.old c.in-Some-rounded_up.end old c.zero_between.new.self out c.zero_between.result) from
-    (c.zero_between.ensures.fills out sound (omega (arith, from, least)) (omega (arith, from, end, rising)) (subst (λ n. n % cs ≡ 0) (sym from) (up_whole cs c.args.old some), subst (λ n. n % cs ≡ 0) (sym end) (up_whole cs c.args.size some)) version))
-
-pub returns-then-version-lt3-clause-header_cluster : goal.returns-then-version-lt3-clause-header_cluster
-returns-then-version-lt3-clause-header_cluster g c = behind_none
-
-pub returns-in_default-clause-header_cluster : goal.returns-in_default-clause-header_cluster
-returns-in_default-clause-header_cluster g c = behind_none
-
-pub returns-in_default-rounded_up-clause-header_cluster : goal.returns-in_default-rounded_up-clause-header_cluster
-returns-in_default-rounded_up-clause-header_cluster g c = behind_none
-
-pub returns-clause-header_cluster : goal.returns-clause-header_cluster
-returns-clause-header_cluster g c = c.zero_between.ensures.header_cluster
-
-pub returns-then-version-lt3-clause-notes : goal.returns-then-version-lt3-clause-notes
-returns-then-version-lt3-clause-notes g c = notes_none
-
-pub returns-in_default-clause-notes : goal.returns-in_default-clause-notes
-returns-in_default-clause-notes g c = notes_none
-
-pub returns-in_default-rounded_up-clause-notes : goal.returns-in_default-rounded_up-clause-notes
-returns-in_default-rounded_up-clause-notes g c = notes_none
-
-pub returns-clause-notes : goal.returns-clause-notes
-returns-clause-notes g c = c.zero_between.ensures.notes
+    ((c.zero_between.ensures.sound out sound (omega (arith, from, least)) (omega (arith, from, end, rising)) (subst (λ n. n % cs ≡ 0) (sym from) (up_whole cs c.args.old some), subst (λ n. n % cs ≡ 0) (sym end) (up_whole cs c.args.size some)) version).fills))
 
 pub returns-then-version-lt3-clause-met : goal.returns-then-version-lt3-clause-met
 returns-then-version-lt3-clause-met g c = λ out sound le version near. absurd (let low = c.if-version-lt3.true in let is = c.version.ensures.value in omega (arith, low, is, version))
@@ -86,8 +61,6 @@ returns-in_default-rounded_up-clause-met g c = λ out sound le version near.
 
 pub returns-clause-met : goal.returns-clause-met
 returns-clause-met g c = λ out sound le version near.
-    let view = g.S.Storage.view in
-    let below = g.F.BackingDisk.backing in
     let old = c.args.self.now in
     let h = old.file.header.fields in
     let cs = cluster_size h in
@@ -97,6 +70,18 @@ returns-clause-met g c = λ out sound le version near.
     let end : c.in-Some-rounded_up.end ≡ rounded_up (cluster_size c.args.self.now.file.header.fields) c.args.size = c.in-Some-rounded_up.ensures.some ∙ ap (λ s. rounded_up s c.args.size) size in
     let least = up_least cs c.args.old some in
     let rising = up_rising cs c.args.old c.args.size some le in
-    subst (λ n. IfErr c.zero_between.result (IsMetTaking (HasPrepared out) (HasPrepared out) (HasCompressedIn c.args.old n h (known_in view old.file)) ⊥)) from
-    (c.zero_between.ensures.met out sound (omega (arith, from, least)) (omega (arith, from, end, rising)) (subst (λ n. n % cs ≡ 0) (sym from) (up_whole cs c.args.old some), subst (λ n. n % cs ≡ 0) (sym end) (up_whole cs c.args.size some)) version
+    subst (λ n. IfErr c.zero_between.result (IsMetTaking (HasPrepared out) (HasPrepared out) (HasCompressedIn c.args.old n h (known_in g.S.Storage.view old.file)) ⊥)) from
+    ((c.zero_between.ensures.sound out sound (omega (arith, from, least)) (omega (arith, from, end, rising)) (subst (λ n. n % cs ≡ 0) (sym from) (up_whole cs c.args.old some), subst (λ n. n % cs ≡ 0) (sym end) (up_whole cs c.args.size some)) version).met
     (subst (λ n. HasNearEntries n h) (sym end) near))
+
+pub returns-then-version-lt3-clause-step : goal.returns-then-version-lt3-clause-step
+returns-then-version-lt3-clause-step g c = step_none
+
+pub returns-in_default-clause-step : goal.returns-in_default-clause-step
+returns-in_default-clause-step g c = step_none
+
+pub returns-in_default-rounded_up-clause-step : goal.returns-in_default-rounded_up-clause-step
+returns-in_default-rounded_up-clause-step g c = step_none
+
+pub returns-clause-step : goal.returns-clause-step
+returns-clause-step g c = c.zero_between.ensures.step

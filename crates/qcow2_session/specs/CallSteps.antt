@@ -1,0 +1,92 @@
+-- What a command, a read or a conversion leaves of an image as it was, whatever the contents are, and what it counts.
+use Rattle.std.specs.Prelude.{◌≡◌, ℕ, true, List, Option, Result, IfErr}
+use Rattle.image_access.specs.Backing.{BackingView}
+use Rattle.image_access.specs.Moments.{StorageView}
+use Rattle.qcow2_alloc.specs.ImageFile.{known_in}
+use Rattle.qcow2_alloc.specs.declared.error.ImageError.{ImageError}
+use Rattle.qcow2_alloc.specs.declared.error.ImageError.TheVariants.{Limit}
+use Rattle.qcow2_image.specs.Backings.{HasPrepared}
+use Rattle.qcow2_image.specs.BehindHeader.{StaysBehindHeader}
+use Rattle.qcow2_image.specs.Clearing.{IsUnderMapping}
+use Rattle.qcow2_image.specs.Faults.{CountsImageFaults, SameFaults}
+use Rattle.qcow2_image.specs.Image.{IsSameImage, KeepsWholeHeader, is_failed}
+use Rattle.qcow2_image.specs.L1Entries.{NeedsFarEntry}
+use Rattle.qcow2_image.specs.LackedPlaces.{LacksPlaceFor}
+use Rattle.qcow2_image.specs.MetAlone.{CopiesCompressed, IsMetTaking}
+use Rattle.qcow2_image.specs.Unwritten.{ReadsQuietly}
+use Rattle.qcow2_image.specs.declared.image.Qcow2.{Qcow2}
+use Rattle.qcow2_image.specs.declared.prepared.Prepared.{Prepared}
+use Rattle.qcow2_session.specs.Conversions.{IsLeft, IsUnchanged}
+use Rattle.qcow2_session.specs.CountedFaults.{CommandCounts, ConversionCounts, refusal_in}
+use Rattle.qcow2_session.specs.Marks.{MarksAtOnce, MarksInParts, reason_in}
+use Rattle.qcow2_session.specs.Sessions.{HeedsFirst}
+use Rattle.qcow2_session.specs.Told.{StaysQuiet}
+use Rattle.qcow2_session.specs.declared.session.Reply.{Reply}
+
+module _ {S F : Type 0} (view : S → StorageView) (backing : F → BackingView) (old new : Qcow2 S F) where
+  -- A command of one call leaves it the same image. Its reply tells each fault that it counted, and marks the image as failed by rule. The header's cluster is left alone.
+  pub record CommandStep (reply : Reply) : Type 0 where
+    pub image : IsSameImage old new
+    pub faults : CommandCounts view backing old new reply
+    pub header_cluster : StaysBehindHeader view old new
+    pub marks : MarksAtOnce view (refusal_in reply) old new
+
+  -- The end of a prepared mapping that is given up counts no fault and marks nothing.
+  pub record ReleasingStep : Type 0 where
+    pub image : IsSameImage old new
+    pub faults : SameFaults view backing old new
+    pub header_cluster : StaysBehindHeader view old new
+    pub marks : is_failed new ≡ is_failed old
+    pub quiet : ReadsQuietly view old new
+
+  -- The first bytes of a range are written to a sound image. A refusal has its cause; 9 (table prepared) and an answer heed the mappings that are out; 13 (limit) comes for want of a place.
+  pub record WritesSoundly (offset n : ℕ) (out : List (Option Prepared)) (result : Result ℕ ImageError) : Type 0 where
+    pub met : IfErr result (IsMetTaking (HasPrepared out) (IsUnderMapping old.file.header.fields offset out) (CopiesCompressed offset n true new.file.header.fields (known_in view new.file)) (NeedsFarEntry old offset))
+    pub taken : HeedsFirst view backing old out offset n result
+    pub limit : IfErr result (λ e. e ≡ Limit → LacksPlaceFor view offset n old new)
+
+  module _ {T : Type 0} (result : Result T ImageError) where
+    -- A read of several parts leaves the header in memory too, and writes nothing where no cached table is modified.
+    pub record ReadingParts : Type 0 where
+      pub image : IsSameImage old new
+      pub faults : CountsImageFaults view backing old new result
+      pub header : KeepsWholeHeader old new
+      pub header_cluster : StaysBehindHeader view old new
+      pub marks : MarksInParts view (reason_in result) old new
+      pub quiet : ReadsQuietly view old new
+
+    -- A write of several parts writes nothing to an image that was opened for reading.
+    pub record WritingParts : Type 0 where
+      pub image : IsSameImage old new
+      pub faults : CountsImageFaults view backing old new result
+      pub header_cluster : StaysBehindHeader view old new
+      pub marks : MarksInParts view (reason_in result) old new
+      pub quiet : StaysQuiet view old new
+
+    -- A special read is one call: so it is of it, marked at once.
+    pub record SpecialStep : Type 0 where
+      pub image : IsSameImage old new
+      pub faults : CountsImageFaults view backing old new result
+      pub header_cluster : StaysBehindHeader view old new
+      pub marks : MarksAtOnce view (reason_in result) old new
+      pub quiet : ReadsQuietly view old new
+
+  -- ---- conversions, with a raw disk's storage
+
+  module _ (raw raw' : StorageView) {T : Type 0} (result : Result T ImageError) where
+    -- An import leaves the raw disk's bytes. An image opened for reading is never written.
+    pub record ImportStep : Type 0 where
+      pub image : IsSameImage old new
+      pub raw_left : IsLeft raw raw'
+      pub faults : ConversionCounts view backing old new raw.faults raw'.faults result
+      pub quiet : StaysQuiet view old new
+      pub header_cluster : StaysBehindHeader view old new
+
+    -- An export leaves the disk's bytes, and writes nothing to the image where no cached table is modified. An honest raw disk stays honest.
+    pub record ExportStep : Type 0 where
+      pub image : IsSameImage old new
+      pub same : IsUnchanged view backing old new result
+      pub honest : raw.is_honest → raw'.is_honest
+      pub faults : ConversionCounts view backing old new raw.faults raw'.faults result
+      pub header_cluster : StaysBehindHeader view old new
+      pub quiet : ReadsQuietly view old new
