@@ -54,6 +54,50 @@ fn a_block_server_reads_what_it_wrote(rt: HostRuntime) -> Result<(), Fail> {
     Ok(())
 }
 
+// Zeroes a range, which begins and ends inside clusters, and frees the clusters of another, which reads as zeros then.
+fn cleared<S: Storage>(alloc: Global, image: &mut Qcow2<S>) -> Result<Vec<u8>, ImageError> {
+    let bytes = vec![in alloc; 0x33; 200000]?;
+    serve(alloc, image, &Request::Write { offset: 0, bytes })?;
+    serve(
+        alloc,
+        image,
+        &Request::Zero {
+            offset: 60000,
+            length: 80000,
+        },
+    )?;
+    serve(
+        alloc,
+        image,
+        &Request::Discard {
+            offset: 140000,
+            length: 60000,
+        },
+    )?;
+    serve(
+        alloc,
+        image,
+        &Request::Read {
+            offset: 0,
+            length: image.size(),
+        },
+    )
+}
+
+#[test]
+fn a_block_server_zeroes_and_discards(rt: HostRuntime) -> Result<(), Fail> {
+    let alloc = rt.alloc();
+    let mut image = empty(alloc, 1)?;
+    let bytes = cleared(alloc, &mut image)?;
+    assert_eq!(rt; bytes.len(), 200000);
+    assert_eq!(rt; (bytes[59999], bytes[60000]), (0x33, 0));
+    assert_eq!(rt; (bytes[139999], bytes[140000]), (0, 0x33));
+    assert_eq!(rt; bytes[65536..131072].iter().all(|byte| *byte == 0), true);
+    // the last cluster ends with the disk
+    assert_eq!(rt; (bytes[196607], bytes[196608]), (0x33, 0));
+    Ok(())
+}
+
 #[test]
 fn an_overlay_is_merged(rt: HostRuntime) -> Result<(), Fail> {
     let alloc = rt.alloc();
