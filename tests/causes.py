@@ -54,7 +54,7 @@ def a_full_device():
 
 def a_file_that_is_open():
     create("disk", 65536, 512)
-    held = (1, STORAGE, ["qimg: disk: another program has it open"])
+    held = (1, STORAGE, [f"qimg: disk: process {os.getpid()} has it open"])
     for how in (fcntl.LOCK_EX, fcntl.LOCK_SH):
         with open("disk", "rb") as it:
             fcntl.flock(it, how)
@@ -92,6 +92,51 @@ def a_file_that_may_not_grow():
     equal(messages[0][:32], "qimg: line 2: refused 15 storage", "the line")
     equal(messages[1][:26], "qimg: disk: File too large", "the cause")
     consistent("disk")
+
+
+def the_line_that_the_system_refused():
+    """It is named beside the first refused line, so that the system's cause isn't taken for that one's."""
+    create("disk", 65536, 512)
+    limited = ["prlimit", "--fsize=4096", QIMG, "run", "disk"]
+    done = subprocess.run(limited, input=b"read 65536 1\nsize\nfill 0 32768 11\n", capture_output=True, timeout=600)
+    equal((done.returncode, done.stdout.decode().splitlines()[:2]), (1, ["refused 2 beyond size", "size 65536"]), "the answers")
+    lines = [line.split(" after")[0].split(" (os")[0] for line in done.stderr.decode().splitlines()]
+    equal(lines, ["qimg: line 1: refused 2 beyond size", "qimg: line 3: refused 15 storage", "qimg: disk: File too large"], "the messages")
+
+
+def an_image_that_is_not_made():
+    """A file that was made for it is removed; one that was there stays."""
+    bad = ("create", "disk", "65536", "513", "16", "none")
+    says((1, "refused 5 invalid option\n", []), *bad)
+    equal(os.listdir("."), [], "the files")
+    with open("disk", "wb") as it:
+        it.write(b"some bytes")
+    says((1, "refused 5 invalid option\n", []), *bad)
+    equal(contents("disk"), b"some bytes", "the file")
+
+
+def an_output_that_is_full():
+    """It is said why no answer could be printed. The work is done."""
+    create("disk", 65536, 512)
+    with open("/dev/full", "wb") as full:
+        for words in (makes("other"), ("check", "disk"), ("run", "disk"), ("export", "disk", "raw"), ("import", "raw", "more", "512", "16")):
+            done = subprocess.run([QIMG, *words], input=b"size\n", stdout=full, stderr=subprocess.PIPE, timeout=600)
+            equal((done.returncode, done.stderr.decode()), (1, "qimg: standard output: No space left on device (os error 28)\n"), f"{words}")
+    equal(sorted(os.listdir(".")), ["disk", "more", "other", "raw"], "the files")
+    consistent("more", 0)
+    consistent("other", 0)
+
+
+def an_image_taken_as_a_raw_disk():
+    """It is done, since a guest can write such bytes to its disk, and it is said."""
+    create("disk", 65536, 512)
+    note = "qimg: disk: it begins as a qcow2 image, and its bytes become the disk of another"
+    says((0, "imported 1552\n", [note]), "import", "disk", "other", "512", "16")
+
+
+def a_file_that_is_read_and_written():
+    create("disk", 65536, 512)
+    says((1, STORAGE, ["qimg: disk: it is the file that is read"]), "export", "disk", "disk")
 
 
 NOBODY = 65534
@@ -204,6 +249,11 @@ def main():
         the_line_that_is_bad,
         nothing_where_all_is_well,
         a_file_that_may_not_grow,
+        the_line_that_the_system_refused,
+        an_image_that_is_not_made,
+        an_output_that_is_full,
+        an_image_taken_as_a_raw_disk,
+        a_file_that_is_read_and_written,
         a_file_that_may_not_be_read,
         a_file_that_may_not_be_written,
         a_folder_that_may_not_be_written,

@@ -1,8 +1,10 @@
 #!/usr/bin/env -S python3 -B
 """Import of raw disks and export to them: each byte comes back, zeros take no cluster, and what can't be done is refused with the other file as it was."""
 
+import fcntl
 import os
 import random
+import shutil
 import signal
 import subprocess
 import sys
@@ -11,7 +13,7 @@ import time
 sys.path.insert(0, os.path.join(os.path.dirname(os.path.abspath(__file__)), "interop"))
 
 from qemu import tool  # noqa: E402
-from checks import QIMG, Checks, answers, consistent, contents, create, equal, kept, put, qimg  # noqa: E402
+from checks import QIMG, Checks, NotTried, answers, consistent, contents, create, equal, kept, put, qimg  # noqa: E402
 
 ROW = b"\x11" * 512 + b"\x00" * 512 + b"\x22" * 276
 STORAGE = (1, "refused 15 storage\n")
@@ -142,13 +144,15 @@ def an_image_that_needs_another_file():
 
 
 def one_file_for_both():
-    """A file that is read isn't written at the same time."""
+    """A file that is read isn't written at the same time, also where another name of it is given."""
     has("raw", ROW)
     equal(qimg("import", "raw", "raw", "512", "16"), STORAGE, "import")
     equal(contents("raw"), ROW, "the raw disk")
     create("disk", 65536, 512)
     before = contents("disk")
     equal(qimg("export", "disk", "disk"), STORAGE, "export")
+    os.symlink("disk", "link")
+    equal(qimg("export", "disk", "link"), STORAGE, "export")
     equal(contents("disk"), before, "the image")
 
 
@@ -196,56 +200,60 @@ def with_calls_that(inject, file, *words):
     return done.returncode, done.stdout.decode()
 
 
+PART = ".disk.qimg-part"
+BEFORE = b"what was there before"
+
+
+def stays(what):
+    """The file has what it had, and nothing is left beside it."""
+    equal((contents("disk"), os.path.exists(PART)), (BEFORE, False), what)
+
+
 def each_read_of_the_raw_disk_fails():
-    """The image is then consistent, and has the raw disk's bytes up to a cluster's start, and zeros from there on."""
-    data = b"\x11" * 512 * 6
-    has("raw", data)
-    for number in range(1, 7):
-        has("disk", b"")
+    """The file is then as it was."""
+    has("raw", b"\x11" * 512 * 6)
+    for number in range(1, 8):
+        has("disk", BEFORE)
         equal(with_calls_that(f"pread64:error=EIO:when={number}", "raw", "import", "raw", "disk", "512", "16"), STORAGE, f"read {number}")
-        consistent("disk")
-        equal(qimg("export", "disk", "back")[0], 0, "export")
-        back = contents("back")
-        equal(len(back), len(data), "the size")
-        if not any(back == data[:512 * n] + bytes(len(data) - 512 * n) for n in range(number)):
-            raise AssertionError(f"read {number}: {back[::512]}")
+        stays(f"read {number}")
 
 
 def each_write_of_the_image_fails():
-    """What is left is no image, or a consistent one."""
+    """The file is then as it was: what is written has another name until it is whole."""
     has("raw", ROW)
     for number in range(1, 40):
-        has("disk", b"")
-        status, text = with_calls_that(f"pwrite64:error=ENOSPC:when={number}", "disk", "import", "raw", "disk", "512", "16")
+        has("disk", BEFORE)
+        status, text = with_calls_that(f"pwrite64:error=ENOSPC:when={number}", os.path.abspath(PART), "import", "raw", "disk", "512", "16")
         if status == 0:
             break
         equal((status, text), STORAGE, f"write {number}")
         equal(contents("raw"), ROW, "the raw disk")
-        if contents("disk")[:4] == b"QFI\xfb":
-            consistent("disk")
-    equal((status, text), (0, "imported 1300\n"), "where none failed")
+        stays(f"write {number}")
+    equal((status, text, number > 3), (0, "imported 1300\n", True), "where none failed")
+    is_clean("disk")
+
+
+def each_way_to_the_name_fails():
+    """A file that can't be synced doesn't get the name, nor one that can't be renamed, and the line of the work isn't printed."""
+    has("raw", ROW)
+    for call in ("fsync", "rename"):
+        has("disk", BEFORE)
+        equal(with_calls_that(f"{call}:error=EIO:when=1", os.path.abspath(PART), "import", "raw", "disk", "512", "16"), STORAGE, call)
+        stays(call)
+        equal(in_the_record("INJECTED"), True, "the failure")
 
 
 def each_write_of_an_export_fails():
     imported(ROW, 512, 16)
     before = contents("disk")
     for number in range(1, 20):
-        has("back", b"")
-        status, text = with_calls_that(f"pwrite64:error=ENOSPC:when={number}", "back", "export", "disk", "back")
+        has("back", BEFORE)
+        status, text = with_calls_that(f"pwrite64:error=ENOSPC:when={number}", os.path.abspath(".back.qimg-part"), "export", "disk", "back")
         equal(contents("disk"), before, "the image")
         if status == 0:
             break
-        equal((status, text), STORAGE, f"write {number}")
+        equal((status, text, contents("back"), os.path.exists(".back.qimg-part")), (*STORAGE, BEFORE, False), f"write {number}")
     equal((number, text, contents("back")), (3, "exported 1300\n", ROW), "where none failed")
-
-
-def has_leading_clusters(data, cluster):
-    """The image is consistent, and has these bytes up to a cluster's start, and zeros from there on; or it has no size yet."""
-    consistent("disk")
-    equal(qimg("export", "disk", "back")[0], 0, "export")
-    back = contents("back")
-    same = next((at for at in range(0, len(data), cluster) if back[at:at + cluster] != data[at:at + cluster]), len(data))
-    equal((len(back) in (0, len(data)), any(back[same:])), (True, False), "what was imported")
 
 
 def each_long_read_fails():
@@ -253,34 +261,33 @@ def each_long_read_fails():
     data = random.Random(8).randbytes(700 * 1024)
     has("raw", data)
     for number in range(1, 100):
-        has("disk", b"")
+        has("disk", BEFORE)
         status, text = with_calls_that(f"pread64:error=EIO:when={number}", "raw", "import", "raw", "disk", "4096", "16")
         if status == 0:
             break
         equal((status, text), STORAGE, f"read {number}")
-        has_leading_clusters(data, 4096)
+        stays(f"read {number}")
     equal((text, number < 40), (f"imported {len(data)}\n", True), "where none failed")
 
 
 def each_long_write_fails():
-    """Writes that are joined fail as others do: nothing is told as done, and what is left is no image, or a consistent one."""
+    """Writes that are joined fail as others do: nothing is told as done, and the file is as it was."""
     data = random.Random(9).randbytes(700 * 1024)
     has("raw", data)
     for number in range(1, 100):
-        has("disk", b"")
-        status, text = with_calls_that(f"pwrite64:error=ENOSPC:when={number}+", "disk", "import", "raw", "disk", "4096", "16")
+        has("disk", BEFORE)
+        status, text = with_calls_that(f"pwrite64:error=ENOSPC:when={number}+", os.path.abspath(PART), "import", "raw", "disk", "4096", "16")
         if status == 0:
             break
         equal((status, text), STORAGE, f"write {number}")
-        if contents("disk")[:4] == b"QFI\xfb":
-            has_leading_clusters(data, 4096)
-    equal((text, number < 40), (f"imported {len(data)}\n", True), "where none failed")
+        stays(f"write {number}")
+    equal((text, 5 < number < 40), (f"imported {len(data)}\n", True), "where none failed")
     for number in range(1, 100):
-        status, text = with_calls_that(f"pwrite64:error=ENOSPC:when={number}", "back", "export", "disk", "back")
+        status, text = with_calls_that(f"pwrite64:error=ENOSPC:when={number}", os.path.abspath(".back.qimg-part"), "export", "disk", "back")
         if status == 0:
             break
         equal((status, text), STORAGE, f"write {number} of an export")
-    equal((text, number < 10, contents("back")), (f"exported {len(data)}\n", True, data), "where none failed")
+    equal((text, 1 < number < 10, contents("back")), (f"exported {len(data)}\n", True, data), "where none failed")
 
 
 def stopped_in_a_read(count):
@@ -290,7 +297,7 @@ def stopped_in_a_read(count):
     limit = time.monotonic() + 60
     while time.monotonic() < limit:
         for child in children_of(traced.pid):
-            if state_of(child) in ("T", "t") and was_stopped():
+            if state_of(child) in ("T", "t") and in_the_record("stopped by SIGSTOP"):
                 return traced, child
         time.sleep(0.01)
     traced.kill()
@@ -311,58 +318,156 @@ def state_of(pid):
         return None
 
 
-def was_stopped():
-    """The stop stands in strace's record, which strace makes once it has begun."""
+def in_the_record(words):
+    """Whether strace's record has these words. It makes the record once it has begun."""
     try:
         with open("calls") as it:
-            return "stopped by SIGSTOP" in it.read()
+            return words in it.read()
     except FileNotFoundError:
         return False
 
 
 def a_raw_disk_that_is_cut():
-    """A raw disk that is cut while it is read is no longer what was to be imported: refused, and the image is consistent."""
-    data = b"\x11" * 512 * 8
-    has("raw", data)
+    """A raw disk that is cut while it is read is no longer what was to be imported: it is refused, and the file is as it was."""
+    has("raw", b"\x11" * 512 * 8)
+    has("disk", BEFORE)
     traced, child = stopped_in_a_read(4)
     os.truncate("raw", 512 * 5)
     os.kill(int(child), signal.SIGCONT)
     text = traced.communicate(timeout=60)[0].decode()
     equal((traced.returncode, text), (1, "refused 5 invalid option\n"), "import")
-    consistent("disk")
-    equal(qimg("export", "disk", "back")[0], 0, "export")
-    equal(contents("back"), data[:512 * 5] + bytes(512 * 3), "what was imported")
+    stays("a raw disk that is cut")
 
 
-def killed(words, seconds):
-    """A run that is killed after so many seconds; whether it was still running."""
-    program = subprocess.Popen([QIMG, *words], stdout=subprocess.DEVNULL)
-    time.sleep(seconds)
-    was_running = program.poll() is None
-    program.kill()
-    program.wait()
-    return was_running
-
-
-def kills():
-    """An import that is killed leaves no image, or a consistent one whose bytes are the raw disk's or zeros; an export leaves the image."""
-    data = random.Random(6).randbytes(512) * 16384
+def an_import_that_is_killed():
+    """The file is as it was. While it is written no other run writes it, and what the killed run left the next one removes."""
+    data = b"\x11" * 512 * 8
     has("raw", data)
-    begun = time.monotonic()
-    qimg("import", "raw", "whole", "512", "16")
-    whole, chosen, running = time.monotonic() - begun, random.Random(5), 0
-    for _ in range(30):
-        running += killed(["import", "raw", "disk", "512", "16"], chosen.random() * whole / 2)
-        if os.path.isfile("disk") and contents("disk")[:4] == b"QFI\xfb":
-            consistent("disk")
-            equal(qimg("export", "disk", "back")[0], 0, "export")
-            back = contents("back")
-            if len(back) not in (0, len(data)) or any(back[at:at + 512] not in (data[at:at + 512], bytes(512)) for at in range(0, len(back), 512)):
-                raise AssertionError("bytes of no moment")
-        with kept("whole"):
-            killed(["export", "whole", "back"], chosen.random() * whole / 4)
-    if running < 5:
-        raise AssertionError(f"{running} of 30 imports were still running")
+    has("disk", BEFORE)
+    traced, child = stopped_in_a_read(4)
+    equal((contents("disk"), os.path.exists(PART)), (BEFORE, True), "while it is written")
+    equal(qimg("import", "raw", "disk", "512", "16"), STORAGE, "another import")
+    equal(qimg("create", "disk", "512", "512", "16", "none"), STORAGE, "a new image")
+    os.kill(int(child), signal.SIGKILL)
+    traced.communicate(timeout=60)
+    equal((contents("disk"), os.path.exists(PART)), (BEFORE, True), "what the killed run leaves")
+    imported(data, 512, 16)
+    equal(os.path.exists(PART), False, "what is left")
+
+
+def two_imports_to_a_new_name():
+    """The second one is refused while the first one writes, and the first one ends well."""
+    has("raw", b"\x11" * 512 * 8)
+    traced, child = stopped_in_a_read(4)
+    equal(qimg("import", "raw", "disk", "512", "16"), STORAGE, "the second import")
+    equal((os.path.exists("disk"), os.path.exists(PART)), (False, True), "the files")
+    os.kill(int(child), signal.SIGCONT)
+    text = traced.communicate(timeout=60)[0].decode()
+    equal((traced.returncode, text), (0, "imported 4096\n"), "the first import")
+    is_clean("disk")
+
+
+def what_is_left_is_no_file():
+    """What has the other name and is no file of a run isn't written, nor removed."""
+    has("raw", ROW)
+    has("other", BEFORE)
+    os.symlink("other", PART)
+    equal(qimg("import", "raw", "disk", "512", "16"), STORAGE, "import")
+    equal((contents("other"), os.path.islink(PART), os.path.exists("disk")), (BEFORE, True, False), "the files")
+
+
+def the_rights_of_the_file():
+    """A file that is replaced keeps its rights, and a link stays one to it."""
+    has("raw", ROW)
+    has("disk", BEFORE)
+    os.chmod("disk", 0o600)
+    os.symlink("disk", "link")
+    equal(qimg("import", "raw", "link", "512", "16"), (0, "imported 1300\n"), "import")
+    equal((oct(os.stat("disk").st_mode & 0o7777), os.path.islink("link")), (oct(0o600), True), "the rights, and the link")
+    is_clean("disk")
+
+
+def an_image_that_qemu_has_open():
+    """It is refused to whoever would write it, and stays as it is; the image that is made of it is another file."""
+    has("raw", ROW)
+    create("disk", 65536, 512)
+    before = contents("disk")
+    opened = subprocess.Popen(["qemu-io", "disk"], stdin=subprocess.PIPE, stdout=subprocess.PIPE)
+    try:
+        opened.stdin.write(b"read 0 512\n")
+        opened.stdin.flush()
+        opened.stdout.readline()
+        for words in (["create", "disk", "512", "512", "16", "none"], ["run", "disk"], ["import", "raw", "disk", "512", "16"], ["export", "disk2", "disk"]):
+            shutil.copy("disk", "disk2")
+            done = subprocess.run([QIMG, *words], input=b"size\n", capture_output=True, timeout=600)
+            equal((done.returncode, done.stdout), (1, b"refused 15 storage\n"), f"{words}")
+            if b"qimg: disk: another program, such as QEMU, has it open" not in done.stderr:
+                raise AssertionError(f"{words} doesn't say why: {done.stderr}")
+        equal(contents("disk"), before, "the image")
+    finally:
+        opened.communicate(b"quit\n", timeout=60)
+    equal(qimg("import", "raw", "disk", "512", "16"), (0, "imported 1300\n"), "once QEMU has closed it")
+
+
+def locked_bytes(kind):
+    """A program that holds such a lock on the bytes that QEMU locks, as its process names them in the list of locks."""
+    with open("disk", "r+b") as it:
+        fcntl.lockf(it, kind, 1, 100)
+        done = subprocess.run([QIMG, "run", "disk"], input=b"size\n", capture_output=True, timeout=600)
+    equal((done.returncode, done.stdout), (1, b"refused 15 storage\n"), "the run")
+    equal(done.stderr.decode(), f"qimg: disk: process {os.getpid()} has it open\n", "the message")
+
+
+def a_process_that_locks_bytes():
+    """The process is named where the list tells it; a lock on other bytes is none of QEMU's."""
+    create("disk", 65536, 512)
+    locked_bytes(fcntl.LOCK_SH)
+    locked_bytes(fcntl.LOCK_EX)
+    with open("disk", "r+b") as it:
+        fcntl.lockf(it, fcntl.LOCK_EX, 100, 0)
+        fcntl.lockf(it, fcntl.LOCK_EX, 0, 300)
+        answers("disk", [("size", "size 65536")])
+
+
+def a_device_that_is_too_small():
+    """A device that can't hold the disk stays as it is, and one that can gets it."""
+    data = random.Random(1).randbytes(1 << 20)
+    has("device", data)
+    create("disk", (1 << 20) + 1, 512)
+    create("disk2", 1 << 20, 512)
+    device = loop_device("device")
+    try:
+        done = subprocess.run([QIMG, "export", "disk", device], capture_output=True, timeout=600)
+        equal((done.returncode, done.stdout), (1, b"refused 15 storage\n"), "export")
+        equal(done.stderr.decode(), f"qimg: {device}: it can hold 1048576 bytes, and the disk has 1048577\n", "the message")
+        equal(contents(device) == data, True, "the device")
+        equal(qimg("export", "disk2", device), (0, "exported 1048576\n"), "export")
+        equal(any(contents(device)), False, "the device")
+    finally:
+        subprocess.run(["losetup", "--detach", device], check=True)
+
+
+def loop_device(file):
+    done = subprocess.run(["losetup", "--find", "--show", file], capture_output=True, check=False) if shutil.which("losetup") else None
+    if done is None or done.returncode:
+        raise NotTried("no block device can be made here")
+    return done.stdout.decode().strip()
+
+
+def files_past_a_limit():
+    """A run that would make a file too large is refused as by a full disk, and isn't ended by the system's signal."""
+    has("raw", random.Random(2).randbytes(9000))
+    imported(contents("raw"), 512, 16)
+    has("back", BEFORE)
+    for words, given in ((["import", "raw", "other", "512", "16"], b""), (["export", "disk", "back"], b""), (["create", "other", "1000000", "512", "16", "full"], b"")):
+        done = subprocess.run(["prlimit", "--fsize=6000", QIMG, *words], input=given, capture_output=True, timeout=600)
+        equal((done.returncode, done.stdout), (1, b"refused 15 storage\n"), f"{words}")
+        equal((contents("back"), sorted(os.listdir("."))), (BEFORE, ["back", "disk", "raw"]), "the files")
+    create("other", 65536, 512)
+    done = subprocess.run(["prlimit", "--fsize=6000", QIMG, "run", "other"], input=b"fill 0 512 11\nfill 0 65536 22\nread 0 1\n", capture_output=True, timeout=600)
+    lines = done.stdout.decode().splitlines()
+    equal((done.returncode, lines[0], lines[1][:18]), (1, "ok", "refused 15 storage"), "the answers")
+    consistent("other")
 
 
 def main():
@@ -381,7 +486,8 @@ def main():
     for check in (
         a_compressed_image, a_raw_disk_that_is_not_opened, an_image_that_is_not_opened, what_is_no_image, an_image_that_needs_another_file, one_file_for_both,
         files_that_may_not_be_written, clusters_that_no_image_has, full_devices, full_devices_for_output, each_read_of_the_raw_disk_fails, each_write_of_the_image_fails,
-        each_write_of_an_export_fails, each_long_read_fails, each_long_write_fails, a_raw_disk_that_is_cut, kills,
+        each_way_to_the_name_fails, each_write_of_an_export_fails, each_long_read_fails, each_long_write_fails, a_raw_disk_that_is_cut, an_import_that_is_killed, two_imports_to_a_new_name,
+        what_is_left_is_no_file, the_rights_of_the_file, an_image_that_qemu_has_open, a_process_that_locks_bytes, a_device_that_is_too_small, files_past_a_limit,
     ):
         checks.run(check.__name__, check)
     checks.done()

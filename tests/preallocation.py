@@ -188,12 +188,14 @@ def stops_of_creating(size, cluster, width, mode):
 
 
 def a_file_has_no_room(size, cluster, mode):
-    """At each length to which the file may grow, a refused creating leaves no image, or one of no bytes or all of them, which are zeros."""
+    """At each length to which a file that is there may grow, a refused creating leaves no image, or one of no bytes or all of them, which are zeros."""
     refused = 0
     for room in range(0, 300 * cluster, cluster):
         for file in ("disk", "stopped"):
             if os.path.exists(file):
                 os.remove(file)
+        with open("disk", "wb"):
+            pass
         done = subprocess.run([checks.QIMG, "create", "disk", str(size), str(cluster), "16", mode], stdout=subprocess.PIPE, stderr=subprocess.DEVNULL, preexec_fn=limited(room), restore_signals=False, timeout=600)
         if done.returncode == 0:
             equal(done.stdout, b"created\n", f"what is told with room for {room} bytes")

@@ -5,13 +5,14 @@ import json
 import os
 import random
 import re
+import shutil
 import subprocess
 import sys
 
 sys.path.insert(0, os.path.join(os.path.dirname(os.path.abspath(__file__)), "interop"))
 
 from qemu import qemu_io, tool  # noqa: E402
-from checks import ROOT, Checks, consistent, contents, create, equal, put, run  # noqa: E402
+from checks import ROOT, Checks, NotTried, consistent, contents, create, equal, put, run  # noqa: E402
 
 TOOLS = os.environ.get("QIMG_TOOLS", os.path.join(ROOT, "build", "qimg-tools"))
 LAYOUTS = [
@@ -67,6 +68,27 @@ def info_lines(layout):
     equal(ours, [line for line in theirs.splitlines() if line in ours], "lines")
 
 
+def control_characters_in_names():
+    """A name in an image can't speak to the terminal: it is told by numbers, and as JSON it is whole."""
+    name = "base\x1b[2J\x07\x7f\u009b"
+    tool("qemu-img", "create", "-q", "-f", "qcow2", name, "1M")
+    tool("qemu-img", "create", "-q", "-f", "qcow2", "-b", name, "-F", "qcow2", "disk")
+    text = told("info", "disk")
+    equal([line for line in text.splitlines() if line.startswith("backing file:")], ["backing file: base\\x1b[2J\\x07\\x7f\\x9b"], "the name")
+    equal(json.loads(told("info", "--output=json", "disk"))["backing-filename"], name, "the name as JSON")
+
+
+def sizes_as_qemu_rounds_them():
+    """The size is told as by qemu-img, also where it is near a round number, or as near to two of them."""
+    near = [unit * count + more for unit in (1 << 10, 1 << 20, 1 << 30, 1 << 40) for count in (1, 9, 10, 99, 100, 999, 1000, 1001, 1023) for more in (-512, 0, 512)]
+    halves = [count << shift for shift in (9, 19, 29) for count in (2001, 1125, 1999, 2007, 511, 513, 1023, 1535)] + [1152 << 10, 1664 << 10, (1 << 30) + (1 << 27), 102912 << 10]
+    tool("qemu-img", "create", "-q", "-f", "qcow2", "disk", "1100T")
+    for size in sorted({0, 512, 999 << 9, *near, *halves}):
+        put("disk", 24, max(size, 0).to_bytes(8, "big"))
+        theirs = [line for line in tool("qemu-img", "info", "disk").splitlines() if line.startswith("virtual size")]
+        equal([line for line in told("info", "disk").splitlines() if line.startswith("virtual size")], theirs, f"a size of {size}")
+
+
 def sizes_for_people():
     for size, text in ((0, "0 B"), (512, "512 B"), (65536, "64 KiB"), (1 << 20, "1 MiB"), (1536 << 10, "1.5 MiB"), ((10 << 30) + (1 << 29), "10.5 GiB"), (1 << 40, "1 TiB"), (1245184, "1.19 MiB")):
         told("create", "disk", str(size))
@@ -83,7 +105,7 @@ def mapped(runs):
 def map_is_as_qemu_says(layout):
     qemu_image(layout)
     equal(mapped(json.loads(told("map", "--output=json", "disk"))), mapped(json.loads(tool("qemu-img", "map", "--output=json", "disk"))), "map")
-    equal(told("map", "disk").split(), tool("qemu-img", "map", "disk").replace("\n0 ", "\n0x0 ").split(), "the table")
+    equal(told("map", "disk").split(), tool("qemu-img", "map", "disk").split(), "the table")
 
 
 def map_of_an_overlay():
@@ -142,14 +164,80 @@ def check_of_a_missing_count():
 
 
 def what_is_no_image():
-    for command in ("info", "map", "check"):
+    for command, status in (("info", 1), ("map", 1), ("check", 63)):
         with open("raw", "wb") as it:
             it.write(bytes(1024))
-        equal(tools(command, "raw"), (1, "", "qimg-tools: raw: refused 19 metadata\n"), command)
-        status, text, messages = tools(command, "missing")
-        equal((status, text), (1, ""), command)
+        said = "qimg-tools: raw: refused 19 metadata\nqimg-tools: raw: it doesn't begin as a qcow2 image: it may be a raw disk\n"
+        equal(tools(command, "raw"), (status, "", said), command)
+        got, text, messages = tools(command, "missing")
+        equal((got, text), (1, ""), command)
         if "missing: No such file or directory" not in messages:
             raise AssertionError(f"{command} doesn't say why: {messages}")
+    equal(subprocess.run(["qemu-img", "check", "raw"], capture_output=True, timeout=600).returncode, 63, "the status of QEMU's check")
+
+
+def explains(reason, *more):
+    """Each command that reads the image is refused 19, and says why."""
+    for command in (["info", "disk"], ["map", "--output=json", "disk"], ["check", "disk"], ["convert", "disk", "raw"]):
+        status, text, messages = tools(*command)
+        equal((status in (1, 63), text), (True, ""), f"{command}, with {messages}")
+        lines = messages.splitlines()
+        equal((lines[0], len(lines)), ("qimg-tools: disk: refused 19 metadata", 2), f"the messages to {command}")
+        for words in (reason, *more):
+            if words not in lines[1]:
+                raise AssertionError(f"{command} doesn't say {words!r}: {messages}")
+    equal(os.path.exists("raw"), False, "the raw disk")
+
+
+def why_an_image_is_refused():
+    """What qemu-img makes and this program doesn't read is named, and so is a header that QEMU marks."""
+    tool("qemu-img", "create", "-q", "-f", "qcow2", "-o", "extended_l2=on", "disk", "1M")
+    explains("extended L2", "qemu-img convert")
+    tool("qemu-img", "create", "-q", "-f", "vmdk", "disk", "1M")
+    explains("VMDK", "qemu-img convert")
+    tool("qemu-img", "create", "-q", "-f", "qcow2", "--object", "secret,id=s,data=abc", "-o", "encrypt.format=luks,encrypt.key-secret=s,encrypt.iter-time=10", "disk", "1M")
+    explains("encrypted")
+    tool("qemu-img", "create", "-q", "-f", "qcow2", "disk", "1M")
+    for bits, words in ((1, "dirty"), (2, "corrupt"), (3, "corrupt"), (8, "zlib"), (32, "doesn't know"), (1 << 40, "doesn't know")):
+        put("disk", 72, bits.to_bytes(8, "big"))
+        explains(words)
+    put("disk", 72, bytes(8))
+    put("disk", 4, (4).to_bytes(4, "big"))
+    explains("version")
+    with open("disk", "wb"):
+        pass
+    explains("empty")
+
+
+def names_what_the_lines_say():
+    report = json.loads(tools("check", "--output=json", "disk")[1])
+    lines = tools("check", "disk")[1].splitlines()
+    named = [" ".join(str(value) for value in it.values()) for it in report["breaches"] + report["leaked-clusters"]]
+    equal((named, report["corruptions"], report["leaks"]), (lines[:-1], len(report["breaches"]), len(report["leaked-clusters"])), "what is named")
+    return report
+
+
+def check_names_each_breach():
+    """Each line of the report stands in the JSON too, with its kind and its numbers."""
+    check_of_a_consistent_image()
+    equal(names_what_the_lines_say()["breaches"], [], "a consistent image")
+    put("disk", 1536, bytes(8))
+    equal(names_what_the_lines_say()["leaked-clusters"], [{"kind": "leak", "cluster": at, "count": 1, "named": 0} for at in (4, 5)], "leaks")
+    check_of_a_consistent_image()
+    put("disk", 1034, bytes(2))
+    equal(names_what_the_lines_say()["breaches"], [{"kind": kind, "cluster": 5, "count": 0, "named": 1} for kind in ("under", "copied")], "a missing count")
+    put("disk", 60, (2).to_bytes(4, "big"))
+    equal(names_what_the_lines_say()["breaches"][0], {"kind": "snapshots", "count": 2}, "snapshots")
+
+
+def a_map_that_cannot_be_finished():
+    """Nothing of it is printed."""
+    create("disk", 1 << 20, 512)
+    run("disk", "fill 0 512 11", "fill 524288 512 22", "flush")
+    table = int.from_bytes(contents("disk")[40:48], "big")
+    put("disk", table + 8 * 16, ((1 << 63) | 0x1100).to_bytes(8, "big"))
+    for words in (["map", "disk"], ["map", "--output=json", "disk"]):
+        equal(tools(*words)[:2], (1, ""), f"{words}")
 
 
 # New images, and conversions
@@ -166,7 +254,7 @@ def sizes():
         told("create", "disk", word)
         equal(json.loads(told("info", "--output=json", "disk"))["virtual-size"], size, word)
     os.remove("disk")
-    for word in ("", "k", "10x", "-1", "+1", "1.5G", "1kk", "0x10", "16E", "18446744073709551616", "1 k", "é"):
+    for word in ("", "k", "10x", "-1", "+1", "1kk", "0x10", "16E", "18446744073709551616", "1 k", "é"):
         status, text, messages = tools("create", "disk", word)
         equal((status, text, os.path.exists("disk")), (1, "", False), f"a size of {word!r}, with {messages}")
 
@@ -174,6 +262,29 @@ def sizes():
 def layouts_that_images_do_not_have():
     for layout in ("cluster_size=100", "refcount_bits=3", "cluster_size=4M"):
         equal(tools("create", "-o", layout, "disk", "1M"), (1, "", "qimg-tools: disk: refused 5 invalid option\n"), layout)
+        equal(os.listdir("."), [], "the files")
+    with open("disk", "wb") as it:
+        it.write(b"some bytes")
+    equal(tools("create", "-o", layout, "disk", "1M")[0], 1, layout)
+    equal(contents("disk"), b"some bytes", "a file that was there")
+
+
+def formats_that_are_given():
+    """The format of an image may be said, as QEMU's users do, where it is qcow2."""
+    told("create", "-f", "qcow2", "disk", "1M")
+    for command in ("info", "check", "map"):
+        equal(told(command, "-f", "qcow2", "disk"), told(command, "disk"), command)
+        equal(tools(command, "-f", "raw", "disk"), (1, "", "qimg-tools: raw: the only format here is qcow2\nqimg-tools --help tells the words\n"), command)
+
+
+def parts_of_sectors():
+    """A disk that ends in a part of a sector is made, and it is said that QEMU takes the whole ones alone."""
+    for words in (["create", "disk", "1000"], ["convert", "-O", "qcow2", "raw", "disk"]):
+        with open("raw", "wb") as it:
+            it.write(b"\x11" * 1000)
+        equal(tools(*words), (0, "", "qimg-tools: disk: the disk ends in a part of a sector: QEMU doesn't see its last 488 bytes\n"), f"{words}")
+        equal(json.loads(tool("qemu-img", "info", "--output=json", "disk"))["virtual-size"], 512, "what QEMU sees")
+    equal(tools("create", "disk", "1024"), (0, "", ""), "whole sectors")
 
 
 def rises(text):
@@ -229,7 +340,9 @@ def there_and_back(size, layout):
 
 def conversions_that_are_refused():
     create("disk", 65536, 512)
-    equal(tools("convert", "-O", "qcow2", "disk", "other")[0], 1, "an image taken as a raw disk")
+    os.truncate("disk", 2048)
+    status, _, messages = tools("convert", "-O", "qcow2", "disk", "other")
+    equal((status, "convert it to a raw disk" in messages), (1, True), f"an image taken as a raw disk, with {messages}")
     equal(tools("convert", "-f", "raw", "disk", "other")[0], 1, "a raw disk of a raw disk")
     equal(tools("convert", "-f", "qcow2", "-O", "qcow2", "disk", "other")[0], 1, "an image of an image")
     equal(os.listdir("."), ["disk"], "the files")
@@ -238,10 +351,93 @@ def conversions_that_are_refused():
     equal(contents("again"), contents("disk"), "the image in an image")
     with open("raw", "wb") as it:
         it.write(bytes(1024))
-    equal(tools("convert", "raw", "again"), (1, "", "qimg-tools: raw: refused 19 metadata\n"), "no image")
-    equal(tools("convert", "disk", "disk")[0], 1, "a file into itself")
+    status, _, messages = tools("convert", "raw", "again")
+    equal((status, messages.splitlines()[0]), (1, "qimg-tools: raw: refused 19 metadata"), "no image")
+    equal(tools("convert", "disk", "disk"), (1, "", "qimg-tools: disk: it is the file that is read\n"), "a file into itself")
     equal(tools("convert", "missing", "none")[0], 1, "a missing file")
     equal(os.path.exists("none"), False, "the file that wasn't made")
+
+
+def the_file_that_failed():
+    """Where the target fails it is named, and not the source."""
+    create("disk", 65536, 512)
+    with open("raw", "wb") as it:
+        it.write(b"\x11" * 4096)
+    wanted = "qimg-tools: /dev/full: refused 15 storage\nqimg-tools: /dev/full: No space left on device (os error 28)\n"
+    equal(tools("convert", "-O", "qcow2", "raw", "/dev/full"), (1, "", wanted), "convert")
+    equal(tools("convert", "-O", "qcow2", "-o", "cluster_size=100", "raw", "other"), (1, "", "qimg-tools: other: refused 5 invalid option\n"), "a layout")
+    equal(sorted(os.listdir(".")), ["disk", "raw"], "the files")
+    equal(tools("convert", "disk", "missing/other"), (1, "", "qimg-tools: missing/other: No such file or directory (os error 2)\n"), "a missing folder")
+
+
+BEFORE = b"what was there before"
+
+
+def files_past_a_limit():
+    """A conversion that would make a file too large is refused, and what was there stays; the system's signal doesn't end it."""
+    data = random.Random(3).randbytes(9000 // 512 * 512)
+    with open("raw", "wb") as it:
+        it.write(data)
+    told("convert", "-O", "qcow2", "-o", "cluster_size=512", "raw", "disk")
+    for words in (["convert", "-O", "qcow2", "raw", "other"], ["convert", "disk", "other"]):
+        with open("other", "wb") as it:
+            it.write(BEFORE)
+        done = subprocess.run(["prlimit", "--fsize=6000", TOOLS, *words], capture_output=True, timeout=600)
+        equal((done.returncode, contents("other"), sorted(os.listdir("."))), (1, BEFORE, ["disk", "other", "raw"]), f"{words}, with {done.stderr}")
+    equal(done.stderr.decode(), "qimg-tools: other: it can hold 6000 bytes, and the disk has 8704\n", "the message")
+
+
+def a_device_that_is_too_small():
+    """It is refused, and stays as it is."""
+    data = random.Random(1).randbytes(1 << 20)
+    with open("device", "wb") as it:
+        it.write(data)
+    told("create", "disk", "2M")
+    made = subprocess.run(["losetup", "--find", "--show", "device"], capture_output=True, check=False) if shutil.which("losetup") else None
+    if made is None or made.returncode:
+        raise NotTried("no block device can be made here")
+    device = made.stdout.decode().strip()
+    try:
+        equal(tools("convert", "disk", device), (1, "", f"qimg-tools: {device}: it can hold 1048576 bytes, and the disk has 2097152\n"), "convert")
+        equal(contents(device) == data, True, "the device")
+        told("create", "disk", "1M")
+        told("convert", "disk", device)
+        equal(any(contents(device)), False, "the device once it was written")
+    finally:
+        subprocess.run(["losetup", "--detach", device], check=True)
+
+
+def an_image_that_qemu_has_open():
+    """It is refused to whoever would write it, and stays as it is."""
+    told("create", "disk", "1M")
+    told("create", "other", "1M")
+    before = contents("disk")
+    opened = subprocess.Popen(["qemu-io", "disk"], stdin=subprocess.PIPE, stdout=subprocess.PIPE)
+    try:
+        opened.stdin.write(b"read 0 512\n")
+        opened.stdin.flush()
+        opened.stdout.readline()
+        for words in (["create", "disk", "2M"], ["convert", "other", "disk"], ["convert", "-f", "raw", "-O", "qcow2", "other", "disk"]):
+            equal(tools(*words), (1, "", "qimg-tools: disk: another program, such as QEMU, has it open\n"), f"{words}")
+        equal(contents("disk"), before, "the image")
+    finally:
+        opened.communicate(b"quit\n", timeout=60)
+    told("create", "disk", "2M")
+
+
+def a_conversion_that_is_stopped():
+    """The name has what it had until the file is whole, and where that fails nothing is left."""
+    told("create", "disk", "64k")
+    for call in ("fsync", "rename"):
+        with open("other", "wb") as it:
+            it.write(BEFORE)
+        part = os.path.abspath(".other.qimg-part")
+        done = subprocess.run(["strace", "-f", "-qq", "-o", "calls", "-P", part, "-e", f"inject={call}:error=EIO:when=1", TOOLS, "convert", "disk", "other"], capture_output=True, timeout=600)
+        equal((done.returncode, contents("other"), os.path.exists(part)), (1, BEFORE, False), call)
+        if "INJECTED" not in contents("calls").decode():
+            raise AssertionError(f"{call} didn't fail")
+    told("convert", "disk", "other")
+    equal(contents("other"), bytes(65536), "the raw disk")
 
 
 def a_full_device():
@@ -257,15 +453,20 @@ def a_full_device():
 # The words
 
 BAD_WORDS = [
-    [], ["info"], ["info", "disk", "more"], ["info", "-p", "disk"], ["info", "--output=xml", "disk"], ["info", "--output"], ["map"], ["check"], ["check", "-f", "raw", "disk"], ["convert", "disk"],
-    ["convert", "a", "b", "c"], ["convert", "-O", "vmdk", "a", "b"], ["create", "disk"], ["create", "-o", "size=1", "disk", "1M"], ["create", "-o", "cluster_size=x", "disk", "1M"], ["create", "-o"],
-    ["create", "-O", "raw", "disk", "1M"], ["Info", "disk"], ["--help", "more"], ["--version", "-p"],
+    ([], "a command is missing"), (["info"], "a file is missing"), (["info", "disk", "more"], "more"), (["info", "-p", "disk"], "-p"), (["info", "--output=xml", "disk"], "--output=xml"),
+    (["info", "--output"], "--output"), (["map"], "a file is missing"), (["check"], "a file is missing"), (["check", "-f", "raw", "disk"], "raw"), (["convert", "disk"], "a second word is missing"),
+    (["convert", "a", "b", "c"], "c"), (["convert", "-O", "vmdk", "a", "b"], "vmdk"), (["create", "disk"], "a second word is missing"), (["create", "-o", "size=1", "disk", "1M"], "size=1"),
+    (["create", "-o", "cluster_size=x", "disk", "1M"], "cluster_size=x"), (["create", "-o"], "-o"), (["create", "-O", "raw", "disk", "1M"], "-O"), (["Info", "disk"], "Info"), (["--help", "more"], "more"),
+    (["--version", "-p"], "-p"), (["create", "disk", "1x"], "1x"), (["convert", "-o", "cluster_size=4k", "-O", "raw", "a", "b"], "-o"), (["convert", "-o", "cluster_size=4k", "a", "b"], "-o"),
+    (["info", "--frob", "disk"], "--frob"),
 ]
 
 
-def refuses_words(words):
+def refuses_words(words, named):
+    """The word that can't be read is named, and nothing is done."""
     status, text, messages = tools(*words)
-    equal((status, text, messages.startswith("usage: qimg-tools ")), (1, "", True), f"{words}, with {messages}")
+    equal((status, text, len(messages.splitlines())), (1, "", 2), f"{words}, with {messages}")
+    equal(messages.startswith((f"qimg-tools: {named}: ", f"qimg-tools: {named}\n")), True, f"what is named: {messages}")
     equal(os.listdir("."), [], "the files")
 
 
@@ -273,6 +474,15 @@ def help_and_version():
     if not told("--help").startswith("usage: qimg-tools info"):
         raise AssertionError("no help")
     equal(told("--version").split()[0], "qimg-tools", "the version")
+    for command in ("info", "map", "check", "convert", "create"):
+        equal((told(command, "--help"), told(command, "-h", "disk")), (told("--help"), told("--help")), f"{command} --help")
+    equal(os.listdir("."), [], "the files")
+
+
+def words_that_are_no_text():
+    """A name that isn't UTF-8 is refused, and it is said."""
+    done = subprocess.run([TOOLS, "info", b"\xff"], capture_output=True, timeout=600)
+    equal((done.returncode, done.stdout, done.stderr[:18]), (1, b"", b"qimg-tools: words:"), "a name")
 
 
 def main():
@@ -282,7 +492,9 @@ def main():
         checks.run(f"the lines of info of {layout}", info_lines, layout)
         checks.run(f"map of {layout}", map_is_as_qemu_says, layout)
     for check in (
-        info_names_the_backing_file, sizes_for_people, map_of_an_overlay, map_of_compressed_data, map_of_nothing, check_of_a_consistent_image, check_of_a_leak, check_of_a_missing_count, what_is_no_image,
+        info_names_the_backing_file, control_characters_in_names, sizes_as_qemu_rounds_them, sizes_for_people, map_of_an_overlay, map_of_compressed_data, map_of_nothing, check_of_a_consistent_image, check_of_a_leak, check_of_a_missing_count, what_is_no_image,
+        why_an_image_is_refused, check_names_each_breach, a_map_that_cannot_be_finished, formats_that_are_given, parts_of_sectors, the_file_that_failed, files_past_a_limit, a_device_that_is_too_small,
+        an_image_that_qemu_has_open, a_conversion_that_is_stopped, words_that_are_no_text,
         sizes, layouts_that_images_do_not_have, progress_as_qemu_shows_it, progress_of_little_and_of_much, conversions_that_are_refused, a_full_device, help_and_version,
     ):
         checks.run(check.__name__, check)
@@ -290,8 +502,8 @@ def main():
         checks.run(f"create {words}", created, words, layout)
     for size, layout in ((1 << 20, "cluster_size=512"), (5 << 20, "cluster_size=64k,refcount_bits=1"), (100000 // 512 * 512, "cluster_size=4096")):
         checks.run(f"{size} bytes to an image of {layout} and back", there_and_back, size, layout)
-    for words in BAD_WORDS:
-        checks.run(f"the words {words}", refuses_words, words)
+    for words, named in BAD_WORDS:
+        checks.run(f"the words {words}", refuses_words, words, named)
     checks.done()
 
 

@@ -1,5 +1,6 @@
 ghost use Rattle.std.specs.Prelude.{◌≡◌, None};
 
+use crate::limits::require_within;
 use crate::zeros::{end_of, fill_from, set_size, size_of, write_or_grow, write_zeros};
 use image_access::{Storage, StorageError, StoragePreallocate};
 use std::fs::File;
@@ -13,6 +14,8 @@ use std::os::unix::fs::FileExt;
 pub struct FileStorage {
     file: File,
     is_block_device: bool,
+    limit: u64,
+    is_new: bool,
     faults: u64,
     last_error: Option<io::Error>,
     ghost kept: { last_error ≡ None → faults ≡ 0 },
@@ -30,7 +33,8 @@ impl FileStorage {
     ghost use Rattle.std.specs.Prelude.{◌≡◌, None};
     ghost use Rattle.file_storage.specs.FileStorage.{CountsFailures, Tells};
 
-    pub(crate) fn new(file: File, is_block_device: bool) -> Self
+    // The limit is the greatest size that it may be given.
+    pub(crate) fn new(file: File, is_block_device: bool, limit: u64, is_new: bool) -> Self
         ensures device { result.is_block_device ≡ is_block_device }
         ensures faults { result.faults ≡ 0 }
         ensures no_error { result.last_error ≡ None }
@@ -38,6 +42,8 @@ impl FileStorage {
         FileStorage {
             file,
             is_block_device,
+            limit,
+            is_new,
             faults: 0,
             last_error: None,
         }
@@ -49,6 +55,40 @@ impl FileStorage {
         ensures each { result ≡ None → self.now.faults ≡ 0 }
     {
         self.last_error
+    }
+
+    /// Whether there was no file before it was opened.
+    pub fn is_new(&self) -> bool {
+        self.is_new
+    }
+
+    /// The greatest size that it can have, in bytes: where a block device ends, and what the system lets this program give a file.
+    /// What is free on the file's device isn't asked.
+    pub fn greatest_size(&mut self) -> Result<u64, StorageError>
+        ensures counts { CountsFailures self.old self.new result }
+    {
+        if !self.is_block_device {
+            return Ok(self.limit);
+        }
+        let end = size_of(&self.file);
+        self.told(end)
+    }
+
+    // Gives a file a size up to the limit. A block device keeps its end.
+    fn give_size(&self, size: u64) -> io::Result<()> {
+        if self.is_block_device {
+            fill_from(&self.file, size)
+        } else {
+            set_size(&self.file, size, self.limit)
+        }
+    }
+
+    // Refuses a change that ends past the limit.
+    fn require_room(&mut self, end: Option<u64>) -> Result<(), StorageError>
+        ensures counts { CountsFailures self.old self.new result }
+    {
+        let answer = require_within(self.limit, end);
+        self.told(answer)
     }
 
     // Answers what the system answered. Its error is a fault, which is counted, and it is kept.
@@ -128,6 +168,7 @@ impl Storage for FileStorage {
     fn write(&mut self, at: u64, bytes: &[u8]) -> Result<(), StorageError>
         ensures counts { CountsFailures self.old self.new result }
     {
+        self.require_room(at.checked_add(bytes.len() as u64))?;
         let answer = self.file.write_all_at(bytes, at);
         self.told(answer)
     }
@@ -136,6 +177,7 @@ impl Storage for FileStorage {
         ensures counts { CountsFailures self.old self.new result }
     {
         let end = self.told(end_of(at, length))?;
+        self.require_room(Some(end))?;
         let answer = write_or_grow(&self.file, at, end);
         self.told(answer)
     }
@@ -144,6 +186,7 @@ impl Storage for FileStorage {
         ensures counts { CountsFailures self.old self.new result }
     {
         let end = self.told(end_of(at, length))?;
+        self.require_room(Some(end))?;
         let answer = write_zeros(&self.file, at, end);
         self.told(answer)
     }
@@ -151,11 +194,7 @@ impl Storage for FileStorage {
     fn resize(&mut self, size: u64, _how: StoragePreallocate) -> Result<(), StorageError>
         ensures counts { CountsFailures self.old self.new result }
     {
-        let answer = if self.is_block_device {
-            fill_from(&self.file, size)
-        } else {
-            set_size(&self.file, size)
-        };
+        let answer = self.give_size(size);
         self.told(answer)
     }
 

@@ -1,3 +1,4 @@
+use crate::limits::require_within;
 use std::fs::File;
 use std::io;
 use std::io::{Seek, SeekFrom};
@@ -32,10 +33,14 @@ pub(crate) fn write_or_grow(file: &File, from: u64, to: u64) -> io::Result<()> {
     Ok(())
 }
 
-// Cuts a file to a size, or grows it. One that has it is left alone: a file that was cut to no bytes is written to the device as it is closed.
-pub(crate) fn set_size(file: &File, size: u64) -> io::Result<()> {
-    if size_of(file)? == size {
+// Cuts a file to a size, or grows it up to a limit. One that has it is left alone: a file that was cut to no bytes is written to the device as it is closed.
+pub(crate) fn set_size(file: &File, size: u64, limit: u64) -> io::Result<()> {
+    let before = size_of(file)?;
+    if before == size {
         return Ok(());
+    }
+    if before < size {
+        require_within(limit, Some(size))?;
     }
     file.set_len(size)
 }

@@ -6,6 +6,7 @@ ghost use Rattle.qcow2_disk.specs.AbstractImages.{IsOpened};
 ghost use Rattle.qcow2_image.specs.ImageInvariant.{abstract_of};
 ghost use Rattle.qcow2_metadata.specs.Bytes.{byte_at};
 ghost use Rattle.qcow2_metadata.specs.Consistent.{IsConsistent};
+ghost use Rattle.qcow2_metadata.specs.Header.{header};
 ghost use Rattle.qcow2_image.specs.Created.{longest_disk};
 ghost use Rattle.qcow2_image.specs.Image.{HasNothingToFree, IsSameImage, is_writable, size_of, storage_of_image};
 ghost use Rattle.qcow2_image.specs.Opened.{NeedsAnother};
@@ -17,6 +18,7 @@ ghost use Rattle.program_parts.specs.Conversions.{CountsBoth, IsImageOf, IsImage
 
 use image_access::{Storage, WrappedFormat};
 use qcow2_image::{ImageError, NoBacking, Qcow2, Qcow2CreateBuilder};
+use qcow2_metadata::HeaderFields;
 use qcow2_session::convert::{to_qcow2, to_raw};
 use std::alloc::Global;
 
@@ -97,6 +99,17 @@ fn fill<R: Storage, S: Storage, F: WrappedFormat<S>>(
         return Err(ImageError::InvalidOption);
     }
     Ok(count)
+}
+
+/// The size of an image's disk in bytes, as its header says it. The image is only read. Refused 19 (metadata) and 13 (limit) for a header
+/// that doesn't read. Where the work meets them: 14 (memory), 15 (storage).
+pub fn disk_size<S: Storage>(alloc: Global, storage: &mut S) -> Result<u64, ImageError>
+    ensures size { (S.view storage.old).is_honest
+        → IfOk result (λ n. n ≡ (header (byte_at (S.view storage.old).contents)).size) }
+    ensures reading { ContentsStay (S.view storage.old) (S.view storage.new) }
+{
+    let fields = HeaderFields::load(alloc, storage)?;
+    Ok(fields.size)
 }
 
 /// Makes a raw disk of an image, which is only read and never written, and hands the image's storage back. The answer is the number of bytes.

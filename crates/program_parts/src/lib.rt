@@ -5,6 +5,6 @@ mod conversions;
 mod numbers;
 mod report;
 
-pub use conversions::{make_image, make_raw_disk};
+pub use conversions::{disk_size, make_image, make_raw_disk};
 pub use numbers::number;
 pub use report::print_report;

@@ -13,15 +13,18 @@ mod words;
 use crate::checking::report;
 use crate::conversions::{export_raw, import_raw};
 use crate::messages::report_cause;
-use crate::program::{DONE, create, print_usage, refuse, script};
+use crate::program::{DONE, REFUSED, create, end, print_usage, refuse, script};
 use crate::words::{Invocation, words};
-use file_storage::{FileStorage, StreamedFile};
+use file_storage::{FileStorage, Replacement, StreamedFile, is_same_file, replace};
 use image_access::{BackingDisk, Storage};
-use qcow2_image::ImageError;
-use std::alloc::AllocError;
+use program_parts::disk_size;
+use qcow2_image::{ImageError, Qcow2};
 use std::io;
 use std::io::{BufReader, BufWriter, Write};
 use std::process::ExitCode;
+
+// Room for the longest answer, in bytes.
+const ANSWER: usize = 64;
 
 // The words after the program's name. One that isn't UTF-8 can't be read, and then there are none.
 fn given_words(rt: &HostRuntime) -> io::Result<Vec<String>> {
@@ -38,8 +41,11 @@ fn given_words(rt: &HostRuntime) -> io::Result<Vec<String>> {
     Ok(given)
 }
 
-// Tells why a file couldn't be opened, and refuses.
+// Tells why a file couldn't be opened or kept, and refuses.
 fn refuse_file(rt: &HostRuntime, file: &str, cause: &io::Error, output: &mut impl Write) -> u8 {
+    if cause.kind() == io::ErrorKind::OutOfMemory {
+        return refuse(output, &ImageError::Memory);
+    }
     report_cause(&mut rt.stderr(), file, cause);
     refuse(output, &ImageError::Storage)
 }
@@ -54,18 +60,35 @@ fn tell(rt: &HostRuntime, file: &str, status: u8, cause: Option<io::Error>) -> u
     status
 }
 
+// Prints an answer that was held back until its work was done, and answers the exit status.
+fn print_answer(answer: &Vec<u8>, status: u8, output: &mut impl Write) -> u8 {
+    let printed = output.write_all(answer);
+    match end(printed, output) {
+        DONE => status,
+        unprinted => unprinted,
+    }
+}
+
+// Where the image isn't made, a file that was made for it is removed.
 fn create_file(
     rt: &HostRuntime,
     file: &str,
     invocation: &Invocation<'_>,
     output: &mut impl Write,
 ) -> u8 {
+    let Ok(mut answer) = Vec::with_capacity(rt.alloc(), ANSWER) else {
+        return refuse(output, &ImageError::Memory);
+    };
     let storage = match file_storage::create(rt, file) {
         Ok(storage) => storage,
         Err(e) => return refuse_file(rt, file, &e, output),
     };
-    let (status, storage) = create(rt.alloc(), storage, invocation, output);
-    tell(rt, file, status, storage.last_error())
+    let (status, storage) = create(rt.alloc(), storage, invocation, &mut answer);
+    if status != DONE && storage.is_new() {
+        let _ = std::fs::remove_file(rt, file);
+    }
+    tell(rt, file, status, storage.last_error());
+    print_answer(&answer, status, output)
 }
 
 fn run_file(rt: &HostRuntime, file: &str, output: &mut impl Write) -> u8 {
@@ -95,19 +118,58 @@ fn check_file(rt: &HostRuntime, file: &str, output: &mut impl Write) -> u8 {
     tell(rt, file, status, storage.last_error())
 }
 
-// Both storages, read and written from front to back.
-fn streamed(
+// Opens the file that a conversion is to write, which can't be the one that it reads.
+fn open_target(
     rt: &HostRuntime,
-    first: FileStorage,
-    second: FileStorage,
-) -> Result<(StreamedFile, StreamedFile), AllocError> {
-    Ok((
-        StreamedFile::new(rt.alloc(), first)?,
-        StreamedFile::new(rt.alloc(), second)?,
-    ))
+    source: &str,
+    target: &str,
+) -> io::Result<(FileStorage, Replacement)> {
+    if is_same_file(rt, source, target) {
+        return Err(io::Error::new(io::ErrorKind::InvalidInput, "it is the file that is read"));
+    }
+    replace(rt, target)
 }
 
-// The raw disk is opened first: where it can't be, no file is made. What was written before a refusal is left in the file.
+// Refuses a target that can't hold an image's disk. Of an image whose header doesn't read nothing is said.
+fn require_room(
+    rt: &HostRuntime,
+    image: &mut FileStorage,
+    target: &mut FileStorage,
+) -> io::Result<()> {
+    let (Ok(size), Ok(greatest)) = (disk_size(rt.alloc(), image), target.greatest_size()) else {
+        return Ok(());
+    };
+    if size <= greatest {
+        return Ok(());
+    }
+    let text = format!(in rt.alloc(); "it can hold {greatest} bytes, and the disk has {size}")?;
+    Err(io::Error::new(io::ErrorKind::FileTooLarge, &text))
+}
+
+// Ends a conversion: a file that was written whole gets its name, and another one is removed. The answer says what came of it.
+fn end_conversion(
+    rt: &HostRuntime,
+    file: &str,
+    storage: &mut StreamedFile,
+    place: Replacement,
+    status: u8,
+    answer: &mut Vec<u8>,
+) -> u8 {
+    if status != DONE {
+        let _ = storage.flush();
+        place.discard(rt);
+        return tell(rt, file, status, storage.last_error());
+    }
+    match place.finish(rt, storage) {
+        Ok(()) => status,
+        Err(e) => {
+            answer.clear();
+            refuse_file(rt, file, &e, answer)
+        }
+    }
+}
+
+// The raw disk is opened first: where it can't be, no file is made.
 fn import_file(
     rt: &HostRuntime,
     raw: &str,
@@ -115,40 +177,72 @@ fn import_file(
     invocation: &Invocation<'_>,
     output: &mut impl Write,
 ) -> u8 {
-    let disk = match file_storage::open_read_only(rt, raw) {
+    let mut disk = match file_storage::open_read_only(rt, raw) {
         Ok(disk) => disk,
         Err(e) => return refuse_file(rt, raw, &e, output),
     };
-    let storage = match file_storage::create(rt, file) {
-        Ok(storage) => storage,
+    if let Err(e) = report_image(rt, raw, &mut disk) {
+        tell(rt, raw, REFUSED, disk.last_error());
+        return refuse(output, &e);
+    }
+    let (storage, place) = match open_target(rt, raw, file) {
+        Ok(target) => target,
         Err(e) => return refuse_file(rt, file, &e, output),
     };
-    let Ok((mut disk, storage)) = streamed(rt, disk, storage) else {
+    let alloc = rt.alloc();
+    let (Ok(mut disk), Ok(storage), Ok(mut answer)) = (
+        StreamedFile::new(alloc, disk),
+        StreamedFile::new(alloc, storage),
+        Vec::with_capacity(alloc, ANSWER),
+    ) else {
+        place.discard(rt);
         return refuse(output, &ImageError::Memory);
     };
-    let (status, mut storage) = import_raw(rt.alloc(), &mut disk, storage, invocation, output);
-    let _ = storage.flush();
+    let (status, mut storage) = import_raw(alloc, &mut disk, storage, invocation, &mut answer);
     tell(rt, raw, status, disk.last_error());
-    tell(rt, file, status, storage.last_error())
+    let status = end_conversion(rt, file, &mut storage, place, status, &mut answer);
+    print_answer(&answer, status, output)
+}
+
+// Tells that a raw disk begins as an image does: it may be one, that was to be copied.
+fn report_image(rt: &HostRuntime, raw: &str, disk: &mut FileStorage) -> Result<(), ImageError> {
+    if Qcow2::<FileStorage>::probe(disk)? {
+        report_cause(
+            &mut rt.stderr(),
+            raw,
+            &"it begins as a qcow2 image, and its bytes become the disk of another",
+        );
+    }
+    Ok(())
 }
 
 // The image is opened first: where it can't be, no raw disk is made.
 fn export_file(rt: &HostRuntime, file: &str, raw: &str, output: &mut impl Write) -> u8 {
-    let storage = match file_storage::open_read_only(rt, file) {
+    let mut storage = match file_storage::open_read_only(rt, file) {
         Ok(storage) => storage,
         Err(e) => return refuse_file(rt, file, &e, output),
     };
-    let disk = match file_storage::create(rt, raw) {
-        Ok(disk) => disk,
+    let (mut disk, place) = match open_target(rt, file, raw) {
+        Ok(target) => target,
         Err(e) => return refuse_file(rt, raw, &e, output),
     };
-    let Ok((mut disk, storage)) = streamed(rt, disk, storage) else {
+    if let Err(e) = require_room(rt, &mut storage, &mut disk) {
+        place.discard(rt);
+        return refuse_file(rt, raw, &e, output);
+    }
+    let alloc = rt.alloc();
+    let (Ok(mut disk), Ok(storage), Ok(mut answer)) = (
+        StreamedFile::new(alloc, disk),
+        StreamedFile::new(alloc, storage),
+        Vec::with_capacity(alloc, ANSWER),
+    ) else {
+        place.discard(rt);
         return refuse(output, &ImageError::Memory);
     };
-    let (status, storage) = export_raw(rt.alloc(), storage, &mut disk, output);
-    let _ = disk.flush();
+    let (status, storage) = export_raw(alloc, storage, &mut disk, &mut answer);
     tell(rt, file, status, storage.last_error());
-    tell(rt, raw, status, disk.last_error())
+    let status = end_conversion(rt, raw, &mut disk, place, status, &mut answer);
+    print_answer(&answer, status, output)
 }
 
 fn run_words(rt: &HostRuntime, given: &[String], output: &mut impl Write) -> u8 {
@@ -169,7 +263,16 @@ fn main(rt: HostRuntime) -> ExitCode {
         given_words(&rt),
         BufWriter::new(rt.alloc(), io::writer(&rt)),
     ) {
-        (Ok(given), Ok(mut output)) => run_words(&rt, &given, &mut output),
+        (Ok(given), Ok(mut output)) => {
+            let status = run_words(&rt, &given, &mut output);
+            match output.flush() {
+                Ok(()) => status,
+                Err(e) => {
+                    report_cause(&mut rt.stderr(), "standard output", &e);
+                    status.max(REFUSED)
+                }
+            }
+        }
         _ => refuse(&mut io::writer(&rt), &ImageError::Memory),
     };
     ExitCode::from(status)

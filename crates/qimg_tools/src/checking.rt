@@ -11,7 +11,7 @@ use crate::words::Form;
 use image_access::Storage;
 use program_parts::print_report;
 use qcow2_image::ImageError;
-use qcow2_session::{Report, check as report_of};
+use qcow2_session::{Breach, Kind, Leak, Report, check as report_of};
 use std::alloc::Global;
 use std::io;
 use std::io::Write;
@@ -72,6 +72,95 @@ fn print_object<W: Write>(output: &mut W, file: &str, report: &Report) -> io::Re
     writeln!(output, ",\n    \"format\": \"qcow2\",")?;
     writeln!(output, "    \"check-errors\": 0,")?;
     writeln!(output, "    \"corruptions\": {breaches},")?;
-    writeln!(output, "    \"leaks\": {leaks}")?;
+    writeln!(output, "    \"leaks\": {leaks},")?;
+    print_breaches(output, &report.breaches)?;
+    print_leaks(output, &report.leaks)?;
     writeln!(output, "}}")
+}
+
+fn print_breaches<W: Write>(output: &mut W, breaches: &[Breach]) -> io::Result<()> {
+    write!(output, "    \"breaches\": [")?;
+    let mut between = "\n";
+    for breach in breaches {
+        write!(output, "{between}        ")?;
+        print_breach(output, breach)?;
+        between = ",\n";
+    }
+    writeln!(output, "{}],", end_of_list(breaches.is_empty()))
+}
+
+fn print_leaks<W: Write>(output: &mut W, leaks: &[Leak]) -> io::Result<()> {
+    write!(output, "    \"leaked-clusters\": [")?;
+    let mut between = "\n";
+    for leak in leaks {
+        write!(output, "{between}        ")?;
+        let Leak {
+            cluster,
+            count,
+            named,
+        } = *leak;
+        print_counted(output, "leak", cluster, count, named)?;
+        between = ",\n";
+    }
+    writeln!(output, "{}]", end_of_list(leaks.is_empty()))
+}
+
+// What stands before the bracket that closes a list.
+fn end_of_list(is_empty: bool) -> &'static str {
+    if is_empty { "" } else { "\n    " }
+}
+
+// The words are those of the lines of the text.
+fn print_breach<W: Write>(output: &mut W, breach: &Breach) -> io::Result<()> {
+    match *breach {
+        Breach::Snapshots { count } => {
+            write!(output, "{{ \"kind\": \"snapshots\", \"count\": {count} }}")
+        }
+        Breach::External => write!(output, "{{ \"kind\": \"external\" }}"),
+        Breach::Unaligned { kind, offset } => {
+            let table = table_word(kind);
+            write!(
+                output,
+                "{{ \"kind\": \"unaligned\", \"table\": \"{table}\", \"offset\": {offset} }}"
+            )
+        }
+        Breach::Under {
+            cluster,
+            count,
+            named,
+        } => print_counted(output, "under", cluster, count, named),
+        Breach::Shared { cluster, named } => write!(
+            output,
+            "{{ \"kind\": \"shared\", \"cluster\": {cluster}, \"named\": {named} }}"
+        ),
+        Breach::Copied {
+            cluster,
+            count,
+            named,
+        } => print_counted(output, "copied", cluster, count, named),
+    }
+}
+
+// A cluster, with its count and how often it is named.
+fn print_counted<W: Write>(
+    output: &mut W,
+    kind: &str,
+    cluster: u64,
+    count: u64,
+    named: u64,
+) -> io::Result<()> {
+    write!(
+        output,
+        "{{ \"kind\": \"{kind}\", \"cluster\": {cluster}, \"count\": {count}, \"named\": {named} }}"
+    )
+}
+
+fn table_word(kind: Kind) -> &'static str {
+    match kind {
+        Kind::L1 => "l1",
+        Kind::Reftable => "reftable",
+        Kind::L2 => "l2",
+        Kind::Refblock => "refblock",
+        Kind::Data => "data",
+    }
 }

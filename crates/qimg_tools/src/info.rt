@@ -3,6 +3,7 @@ ghost use Rattle.image_access.specs.Moments.{ContentsStay};
 
 use crate::failures::Failure;
 use crate::json::print_text;
+use crate::plain::print_plain;
 use crate::sizes::Human;
 use crate::words::Form;
 use image_access::Storage;
@@ -51,7 +52,7 @@ fn print_lines<W: Write>(output: &mut W, file: &File<'_>, header: &Header) -> io
     let size = header.size();
     let human = Human(size);
     let cluster = header.cluster_size();
-    writeln!(output, "image: {name}")?;
+    print_line(output, "image: ", name)?;
     writeln!(output, "file format: qcow2")?;
     writeln!(output, "virtual size: {human} ({size} bytes)")?;
     if let Some(room) = file.room {
@@ -63,12 +64,19 @@ fn print_lines<W: Write>(output: &mut W, file: &File<'_>, header: &Header) -> io
     print_features(output, header)
 }
 
+// A line with a name, which an image's maker chose.
+fn print_line<W: Write>(output: &mut W, key: &str, name: &str) -> io::Result<()> {
+    write!(output, "{key}")?;
+    print_plain(output, name)?;
+    writeln!(output)
+}
+
 fn print_names<W: Write>(output: &mut W, header: &Header) -> io::Result<()> {
     if let Some(name) = header.backing_name() {
-        writeln!(output, "backing file: {name}")?;
+        print_line(output, "backing file: ", name.as_str())?;
     }
     if let Some(format) = header.backing_format() {
-        writeln!(output, "backing file format: {format}")?;
+        print_line(output, "backing file format: ", format.as_str())?;
     }
     Ok(())
 }
@@ -92,7 +100,7 @@ fn print_features<W: Write>(output: &mut W, header: &Header) -> io::Result<()> {
 
 fn print_data_file<W: Write>(output: &mut W, header: &Header) -> io::Result<()> {
     if let Some(name) = header.data_file_name() {
-        writeln!(output, "    data file: {name}")?;
+        print_line(output, "    data file: ", name.as_str())?;
     }
     if header.has_data_file() {
         let raw = is_raw_data(header);

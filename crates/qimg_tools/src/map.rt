@@ -2,6 +2,7 @@
 ghost use Rattle.std.specs.Prelude.{◌≡◌, ◌<◌, ◌≤◌, IfOk, IsTrue};
 
 use crate::failures::Failure;
+use crate::plain::print_plain;
 use crate::words::Form;
 use image_access::Storage;
 use qcow2_image::{ImageError, MappingKind, Qcow2};
@@ -49,7 +50,7 @@ struct Page<'a> {
 
 /// Prints what each run of an image's disk is mapped to. The image is opened for reading alone, and without the disk below it, and its
 /// storage is handed back. Refused as `open_image` is: 19 (metadata), 13 (limit), 4 (unaligned table). An image whose data stand in
-/// another file is refused 12 (dependency). Where the work meets them: 4 (unaligned table), 14 (memory), 15 (storage), and `Unprinted`.
+/// another file is refused 12 (dependency). Nothing is printed before all of it was looked up. Where the work meets them: 4 (unaligned table), 14 (memory), 15 (storage), and `Unprinted`.
 pub fn map<S: Storage, W: Write>(
     alloc: Global,
     storage: S,
@@ -59,11 +60,21 @@ pub fn map<S: Storage, W: Write>(
 ) -> (S, Result<(), Failure>) {
     match Qcow2::<S>::open_image(alloc, storage, false, 1) {
         Ok(mut image) => {
-            let printed = print_map(&mut image, &Page { file, form }, output);
+            let printed = print_whole_map(&mut image, &Page { file, form }, output);
             (image.into_storage(), printed)
         }
         Err((storage, e)) => (storage, Err(Failure::Refused(e))),
     }
+}
+
+// Prints a map once it is known that all of it can be looked up.
+fn print_whole_map<S: Storage, W: Write>(
+    image: &mut Qcow2<S>,
+    page: &Page<'_>,
+    output: &mut W,
+) -> Result<(), Failure> {
+    print_map(image, page, &mut io::sink())?;
+    print_map(image, page, output)
 }
 
 fn print_map<S: Storage, W: Write>(
@@ -172,18 +183,29 @@ fn print_run<W: Write>(output: &mut W, page: &Page<'_>, run: &Run) -> io::Result
 
 // Only data has a row.
 fn print_row<W: Write>(output: &mut W, file: &str, run: &Run) -> io::Result<()> {
-    let start = run.start;
-    let length = run.length();
     match run.content {
         Content::Data { offset } => {
-            writeln!(output, "{start:<#16x}{length:<#16x}{offset:<#16x}{file}")
+            print_column(output, run.start)?;
+            print_column(output, run.length())?;
+            print_column(output, offset)?;
         }
-        Content::Compressed => writeln!(
-            output,
-            "{start:<#16x}{length:<#16x}compressed      {file}"
-        ),
-        _ => Ok(()),
+        Content::Compressed => {
+            print_column(output, run.start)?;
+            print_column(output, run.length())?;
+            write!(output, "compressed      ")?;
+        }
+        _ => return Ok(()),
     }
+    print_plain(output, file)?;
+    writeln!(output)
+}
+
+// A number in the form of C's `%#-16x`, which writes nought without `0x`.
+fn print_column<W: Write>(output: &mut W, number: u64) -> io::Result<()> {
+    if number == 0 {
+        return write!(output, "0               ");
+    }
+    write!(output, "{number:<#16x}")
 }
 
 fn print_entry<W: Write>(output: &mut W, run: &Run) -> io::Result<()> {

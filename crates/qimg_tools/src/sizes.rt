@@ -50,55 +50,81 @@ fn number_of_digits(digits: &[u8]) -> Option<u64>
     }
 }
 
-/// A number of bytes as people read it: of the greatest unit that it has one of, in at most three digits that say something.
+/// A number of bytes as people read it, in the form of QEMU's tools: in three digits of a unit of which it has a thousand at most.
 #[derive(Clone, Copy)]
 pub struct Human(pub u64);
 
 impl fmt::Display for Human {
     fn fmt<W: fmt::Write>(&self, f: &mut fmt::Formatter<W>) -> fmt::Result {
-        let (hundredths, unit) = rounded(self.0);
-        let whole = hundredths / 100;
-        let rest = hundredths % 100;
-        let tenths = rest / 10;
-        if rest == 0 {
+        let (shift, unit) = unit_of(self.0);
+        let thousandths = rounded(self.0, shift);
+        let whole = thousandths / 1000;
+        let rest = thousandths % 1000;
+        if whole == 1000 {
+            write!(f, "1e+03 {unit}")
+        } else if rest == 0 {
             write!(f, "{whole} {unit}")
-        } else if rest % 10 == 0 {
+        } else if rest % 100 == 0 {
+            let tenths = rest / 100;
             write!(f, "{whole}.{tenths} {unit}")
+        } else if rest % 10 == 0 {
+            let hundredths = rest / 10;
+            write!(f, "{whole}.{hundredths:02} {unit}")
         } else {
-            write!(f, "{whole}.{rest:02} {unit}")
+            write!(f, "{whole}.{rest:03} {unit}")
         }
     }
 }
 
-// The hundredths of the greatest unit that a number of bytes has one of, rounded to three digits.
-fn rounded(bytes: u64) -> (u64, &'static str) {
-    let (shift, unit) = unit_of(bytes);
-    if shift == 0 {
-        return (bytes.min(1023) * 100, unit);
-    }
-    let parts = (bytes >> (shift - 10)).min(1 << 20);
-    let hundredths = if parts < 10 << 10 {
-        (parts * 100 + 512) >> 10
-    } else if parts < 100 << 10 {
-        ((parts * 10 + 512) >> 10) * 10
+// The thousandths of a unit of two to some power, rounded to three digits.
+fn rounded(bytes: u64, shift: u32) -> u64
+    requires { shift ≤ 60 }
+{
+    let unit = 1u128 << shift;
+    let bytes = u128::from(bytes);
+    let step = if bytes < unit {
+        1
+    } else if bytes < 10 * unit {
+        10
+    } else if bytes < 100 * unit {
+        100
     } else {
-        ((parts + 512) >> 10) * 100
+        1000
     };
-    (hundredths, unit)
+    let steps = nearest(bytes * (1000 / step), unit);
+    u64::try_from(steps.saturating_mul(step)).unwrap_or(u64::MAX)
 }
 
-// The greatest unit that a number of bytes has one of: two to which power, and its name.
+// A quotient, rounded to the nearest number; of two that are as near the even one.
+fn nearest(number: u128, unit: u128) -> u128
+    requires { 0 < unit }
+{
+    let below = number / unit;
+    let rest = number % unit;
+    if rest > unit - rest || (rest == unit - rest && below % 2 == 1) {
+        below.saturating_add(1)
+    } else {
+        below
+    }
+}
+
+// The unit in which a number of bytes is told: two to which power, and its name. A thousand of one are told in the next.
 fn unit_of(bytes: u64) -> (u32, &'static str)
     ensures bound { result.0 ≤ 60 }
-    ensures units { 0 < result.0 → 10 ≤ result.0 }
 {
-    match bytes {
-        0..=0x3ff => (0, "B"),
-        0x400..=0xf_ffff => (10, "KiB"),
-        0x10_0000..=0x3fff_ffff => (20, "MiB"),
-        0x4000_0000..=0xff_ffff_ffff => (30, "GiB"),
-        0x100_0000_0000..=0x3_ffff_ffff_ffff => (40, "TiB"),
-        0x4_0000_0000_0000..=0xfff_ffff_ffff_ffff => (50, "PiB"),
-        _ => (60, "EiB"),
+    if bytes < 1000 {
+        (0, "B")
+    } else if bytes < 1000 << 10 {
+        (10, "KiB")
+    } else if bytes < 1000 << 20 {
+        (20, "MiB")
+    } else if bytes < 1000 << 30 {
+        (30, "GiB")
+    } else if bytes < 1000 << 40 {
+        (40, "TiB")
+    } else if bytes < 1000 << 50 {
+        (50, "PiB")
+    } else {
+        (60, "EiB")
     }
 }

@@ -2,15 +2,24 @@
 
 use crate::sizes::size;
 
-/// What is printed for `--help`, and where the words can't be read.
-pub const USAGE: &str = "usage: qimg-tools info [--output human|json] FILE
-       qimg-tools map [--output human|json] FILE
-       qimg-tools check [--output human|json] FILE
+/// What is printed for `--help`.
+pub const USAGE: &str = "usage: qimg-tools info [-f qcow2] [--output human|json] FILE
+       qimg-tools map [-f qcow2] [--output human|json] FILE
+       qimg-tools check [-f qcow2] [--output human|json] FILE
        qimg-tools convert [-p] [-f raw|qcow2] [-O raw|qcow2] [-o cluster_size=SIZE,refcount_bits=N] SOURCE TARGET
-       qimg-tools create [-o cluster_size=SIZE,refcount_bits=N] FILE SIZE
-       qimg-tools --help | --version
+       qimg-tools create [-f qcow2] [-o cluster_size=SIZE,refcount_bits=N] FILE SIZE
+       qimg-tools [COMMAND] --help | --version
 SIZE is a number of bytes, or of units of 1024 as in 64k, 512M and 10G. Of the formats one is raw and the other qcow2: -O raw is taken where none is given.
-The status is 0, or 1 where something is refused. Of check it is 2 for an image that isn't consistent, and 3 for one that only has leaked clusters.";
+The status is 0, or 1 where something is refused. Of check it is 2 for an image that isn't consistent, 3 for one that only has leaked clusters, and 63 for a file that is no qcow2 image.";
+
+/// Why the words can't be read: one of them, and what is wrong with it.
+#[derive(Clone, Copy)]
+pub struct BadWord<'a> {
+    /// The word; of words that are missing the one before them.
+    pub word: &'a str,
+    /// What is wrong with it, as the end of a sentence.
+    pub reason: &'static str,
+}
 
 /// What is to be done.
 #[derive(Clone, Copy)]
@@ -69,8 +78,12 @@ pub struct Settings<'a> {
     pub target: DiskFormat,
     /// How a new image is laid out.
     pub layout: Layout,
+    /// Whether the words say how.
+    pub has_layout: bool,
     /// Whether the begin and the end of a conversion are told.
     pub shows_progress: bool,
+    /// Whether the words of the command are to be explained, and nothing done.
+    pub wants_help: bool,
     /// The files, or the file and the size, in their order; at most two.
     pub operands: (Option<&'a str>, Option<&'a str>),
 }
@@ -84,11 +97,44 @@ enum Setting {
     Layout,
 }
 
-/// Reads the words after the program's name; None where they can't be read.
-pub fn read_words(words: &[String]) -> Option<(Command, Settings<'_>)> {
-    let (name, words) = words.split_first()?;
-    let command = command_of(name.as_str())?;
-    let mut settings = Settings {
+// The settings that words ask for, up to one of them, and the option whose value comes next.
+#[derive(Clone, Copy)]
+struct Reading<'a> {
+    settings: Settings<'a>,
+    awaited: Option<(Setting, &'a str)>,
+}
+
+/// Reads the words after the program's name. Refused with the word that can't be read.
+pub fn read_words(words: &[String]) -> Result<(Command, Settings<'_>), BadWord<'_>> {
+    let Some((name, words)) = words.split_first() else {
+        return bad("", "a command is missing");
+    };
+    let Some(command) = command_of(name.as_str()) else {
+        return bad(name.as_str(), "there is no such command");
+    };
+    let mut reading = Reading {
+        settings: default_settings(),
+        awaited: None,
+    };
+    for word in words {
+        reading = with_word(command, reading, word.as_str())?;
+    }
+    if let Some((_, option)) = reading.awaited {
+        return bad(option, "its value is missing");
+    }
+    if reading.settings.has_layout && makes_raw_disk(command, &reading.settings) {
+        return bad("-o", "a raw disk has no layout: -O qcow2 makes an image");
+    }
+    Ok((command, reading.settings))
+}
+
+fn bad<'a, T>(word: &'a str, reason: &'static str) -> Result<T, BadWord<'a>> {
+    Err(BadWord { word, reason })
+}
+
+// What is asked for where no words are.
+fn default_settings() -> Settings<'static> {
+    Settings {
         form: Form::Text,
         source: None,
         target: DiskFormat::Raw,
@@ -96,17 +142,15 @@ pub fn read_words(words: &[String]) -> Option<(Command, Settings<'_>)> {
             cluster_size: 65536,
             refcount_bits: 16,
         },
+        has_layout: false,
         shows_progress: false,
+        wants_help: false,
         operands: (None, None),
-    };
-    let mut awaited = None;
-    for word in words {
-        (settings, awaited) = with_word(command, settings, awaited, word.as_str())?;
     }
-    match awaited {
-        None => Some((command, settings)),
-        Some(_) => None,
-    }
+}
+
+fn makes_raw_disk(command: Command, settings: &Settings<'_>) -> bool {
+    matches!(command, Command::Convert) && matches!(settings.target, DiskFormat::Raw)
 }
 
 fn command_of(word: &str) -> Option<Command> {
@@ -122,44 +166,61 @@ fn command_of(word: &str) -> Option<Command> {
     }
 }
 
-// The settings with one more word, and the option whose value comes next.
+// The settings with one more word.
 fn with_word<'a>(
     command: Command,
-    settings: Settings<'a>,
-    awaited: Option<Setting>,
+    reading: Reading<'a>,
     word: &'a str,
-) -> Option<(Settings<'a>, Option<Setting>)> {
-    match awaited {
-        Some(setting) => Some((with_value(settings, setting, word)?, None)),
-        None if word == "-p" && matches!(command, Command::Convert) => Some((
-            Settings {
-                shows_progress: true,
-                ..settings
-            },
-            None,
-        )),
-        None if word.starts_with('-') => match word.split_once('=') {
-            Some(("--output", value)) if takes(command, Setting::Output) => {
-                Some((with_value(settings, Setting::Output, value)?, None))
-            }
-            _ => Some((settings, Some(setting_of(command, word)?))),
+) -> Result<Reading<'a>, BadWord<'a>> {
+    let Reading { settings, awaited } = reading;
+    if let Some((setting, _)) = awaited {
+        return with_value(command, settings, setting, word, word);
+    }
+    if !word.starts_with('-') {
+        return with_operand(settings, word);
+    }
+    if let Some(("--output", value)) = word.split_once('=') {
+        return with_value(command, settings, Setting::Output, value, word);
+    }
+    let settings = match word.as_bytes() {
+        b"-p" if matches!(command, Command::Convert) => Settings {
+            shows_progress: true,
+            ..settings
         },
-        None => Some((with_operand(settings, word)?, None)),
+        b"--help" | b"-h" if !matches!(command, Command::Help | Command::Version) => Settings {
+            wants_help: true,
+            ..settings
+        },
+        _ => return with_option(command, settings, word),
+    };
+    Ok(Reading {
+        settings,
+        awaited: None,
+    })
+}
+
+// The settings as they are, and an option that awaits its value.
+fn with_option<'a>(
+    command: Command,
+    settings: Settings<'a>,
+    word: &'a str,
+) -> Result<Reading<'a>, BadWord<'a>> {
+    match setting_of(word) {
+        Some(setting) if takes(command, setting) => Ok(Reading {
+            settings,
+            awaited: Some((setting, word)),
+        }),
+        _ => bad(word, "this command has no such option"),
     }
 }
 
-fn setting_of(command: Command, word: &str) -> Option<Setting> {
-    let setting = match word.as_bytes() {
-        b"--output" => Setting::Output,
-        b"-f" => Setting::Source,
-        b"-O" => Setting::Target,
-        b"-o" => Setting::Layout,
-        _ => return None,
-    };
-    if takes(command, setting) {
-        Some(setting)
-    } else {
-        None
+fn setting_of(word: &str) -> Option<Setting> {
+    match word.as_bytes() {
+        b"--output" => Some(Setting::Output),
+        b"-f" => Some(Setting::Source),
+        b"-O" => Some(Setting::Target),
+        b"-o" => Some(Setting::Layout),
+        _ => None,
     }
 }
 
@@ -167,38 +228,72 @@ fn setting_of(command: Command, word: &str) -> Option<Setting> {
 fn takes(command: Command, setting: Setting) -> bool {
     match setting {
         Setting::Output => matches!(command, Command::Info | Command::Map | Command::Check),
-        Setting::Source | Setting::Target => matches!(command, Command::Convert),
+        Setting::Source => !matches!(command, Command::Help | Command::Version),
+        Setting::Target => matches!(command, Command::Convert),
         Setting::Layout => matches!(command, Command::Convert | Command::Create),
     }
 }
 
-fn with_value<'a>(settings: Settings<'a>, setting: Setting, value: &str) -> Option<Settings<'a>> {
-    match setting {
-        Setting::Output => Some(Settings {
-            form: form_of(value)?,
-            ..settings
+// The settings with an option's value, which stands in a word.
+fn with_value<'a>(
+    command: Command,
+    settings: Settings<'a>,
+    setting: Setting,
+    value: &str,
+    word: &'a str,
+) -> Result<Reading<'a>, BadWord<'a>> {
+    if !takes(command, setting) {
+        return bad(word, "this command has no such option");
+    }
+    let found = match setting {
+        Setting::Output => with_form(settings, value),
+        Setting::Source => with_source(command, settings, value),
+        Setting::Target => with_target(settings, value),
+        Setting::Layout => with_layout(settings, value),
+    };
+    match found {
+        Some(settings) => Ok(Reading {
+            settings,
+            awaited: None,
         }),
-        Setting::Source => Some(Settings {
-            source: Some(format_of(value)?),
-            ..settings
-        }),
-        Setting::Target => Some(Settings {
-            target: format_of(value)?,
-            ..settings
-        }),
-        Setting::Layout => Some(Settings {
-            layout: layout_of(settings.layout, value)?,
-            ..settings
-        }),
+        None => bad(word, wanted(command, setting)),
     }
 }
 
-fn form_of(word: &str) -> Option<Form> {
-    match word.as_bytes() {
-        b"human" => Some(Form::Text),
-        b"json" => Some(Form::Json),
-        _ => None,
+// What a value is to be.
+fn wanted(command: Command, setting: Setting) -> &'static str {
+    match setting {
+        Setting::Output => "the form of an answer is human or json",
+        Setting::Source if !matches!(command, Command::Convert) => "the only format here is qcow2",
+        Setting::Source | Setting::Target => "the format of a disk is raw or qcow2",
+        Setting::Layout => "a layout is cluster_size=SIZE or refcount_bits=N, or both with a comma",
     }
+}
+
+fn with_form<'a>(settings: Settings<'a>, word: &str) -> Option<Settings<'a>> {
+    let form = match word.as_bytes() {
+        b"human" => Form::Text,
+        b"json" => Form::Json,
+        _ => return None,
+    };
+    Some(Settings { form, ..settings })
+}
+
+// Only a conversion takes raw disks.
+fn with_source<'a>(command: Command, settings: Settings<'a>, word: &str) -> Option<Settings<'a>> {
+    let source = format_of(word)?;
+    if !matches!(command, Command::Convert) && matches!(source, DiskFormat::Raw) {
+        return None;
+    }
+    Some(Settings {
+        source: Some(source),
+        ..settings
+    })
+}
+
+fn with_target<'a>(settings: Settings<'a>, word: &str) -> Option<Settings<'a>> {
+    let target = format_of(word)?;
+    Some(Settings { target, ..settings })
 }
 
 fn format_of(word: &str) -> Option<DiskFormat> {
@@ -207,6 +302,15 @@ fn format_of(word: &str) -> Option<DiskFormat> {
         b"qcow2" => Some(DiskFormat::Qcow2),
         _ => None,
     }
+}
+
+fn with_layout<'a>(settings: Settings<'a>, list: &str) -> Option<Settings<'a>> {
+    let layout = layout_of(settings.layout, list)?;
+    Some(Settings {
+        layout,
+        has_layout: true,
+        ..settings
+    })
 }
 
 // A layout with the values of a list of names and values.
@@ -224,14 +328,17 @@ fn layout_of(layout: Layout, list: &str) -> Option<Layout> {
     Some(layout)
 }
 
-fn with_operand<'a>(settings: Settings<'a>, word: &'a str) -> Option<Settings<'a>> {
+fn with_operand<'a>(settings: Settings<'a>, word: &'a str) -> Result<Reading<'a>, BadWord<'a>> {
     let operands = match settings.operands {
         (None, None) => (Some(word), None),
         (Some(first), None) => (Some(first), Some(word)),
-        _ => return None,
+        _ => return bad(word, "it is one word too many"),
     };
-    Some(Settings {
-        operands,
-        ..settings
+    Ok(Reading {
+        settings: Settings {
+            operands,
+            ..settings
+        },
+        awaited: None,
     })
 }

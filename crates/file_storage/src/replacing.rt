@@ -1,0 +1,209 @@
+//! Files that get their name once they are whole.
+
+use crate::opening::{Identity, Opened, claimed, open_old, storage_of};
+use crate::{FileStorage, StreamedFile};
+use image_access::Storage;
+use std::alloc::AllocError;
+use std::fs::{File, Metadata, OpenOptions};
+use std::os::unix::fs::{MetadataExt, OpenOptionsExt, PermissionsExt};
+use std::path::{Path, PathBuf};
+use std::rt::Files;
+use std::{fs, io};
+
+/// What is to become of a file that `replace` opened: `finish` it, or `discard` it.
+#[derive(Drop)]
+pub struct Replacement {
+    part: Option<Part>,
+}
+
+/// A file beside the one whose name it is to have.
+#[derive(Drop)]
+struct Part {
+    path: PathBuf,
+    name: PathBuf,
+    identity: Identity,
+    // It is locked for as long as it has the name.
+    old: Option<Opened>,
+}
+
+/// Opens a file that is to be written from nothing, in place of the one that has this name, or where none has. Until `finish` it has
+/// another name: that of a file `NAME` is `.NAME.qimg-part`, in the same folder. What a run that was killed left under that name is
+/// removed. A block device, and what else isn't a file of a folder, is opened itself. Refused as `create` is, and where the folder takes
+/// no file.
+pub fn replace<R: Files<File = File> + AllocGlobal>(
+    rt: &R,
+    path: &str,
+) -> io::Result<(FileStorage, Replacement)> {
+    match open_old(rt, path) {
+        Ok(old) if old.metadata.is_file() => {
+            let path = fs::canonicalize(rt, path)?;
+            open_part(rt, path, Some(old))
+        }
+        Ok(device) => Ok((storage_of(rt, device, false)?, Replacement { part: None })),
+        Err(e) if e.kind() == io::ErrorKind::NotFound && !is_link(rt, path) => {
+            let path = PathBuf::from_str(rt.alloc(), path)?;
+            open_part(rt, path, None)
+        }
+        Err(e) => Err(e),
+    }
+}
+
+impl Replacement {
+    /// Gives the file its name, once all of it is on its device. Where that fails it is removed. What was opened itself is flushed.
+    pub fn finish<R: Files<File = File> + AllocGlobal>(
+        self,
+        rt: &R,
+        file: &mut StreamedFile,
+    ) -> io::Result<()> {
+        let Some(part) = self.part else {
+            let flushed = file.flush().is_ok();
+            return told(file, flushed);
+        };
+        let done = put_in_place(rt, file, &part);
+        if done.is_err() {
+            remove(rt, &part);
+        }
+        done
+    }
+
+    /// Removes the file, so that all is as it was. What was opened itself stays as it is.
+    pub fn discard<R: Files<File = File> + AllocGlobal>(self, rt: &R) {
+        if let Some(part) = self.part {
+            remove(rt, &part);
+        }
+    }
+}
+
+fn is_link<R: Files>(rt: &R, path: &str) -> bool {
+    rt.symlink_metadata(path).is_ok()
+}
+
+// Opens the file beside a name, with the rights of the one that has it.
+fn open_part<R: Files<File = File> + AllocGlobal>(
+    rt: &R,
+    path: PathBuf,
+    old: Option<Opened>,
+) -> io::Result<(FileStorage, Replacement)> {
+    let name = part_name(rt, &path)?;
+    let file = match new_file(rt, &name, &old) {
+        Err(e) if e.kind() == io::ErrorKind::AlreadyExists => {
+            remove_left(rt, &name)?;
+            new_file(rt, &name, &old)?
+        }
+        answer => answer?,
+    };
+    let file = claimed(rt, file)?;
+    let identity = Identity::of(&file.metadata);
+    let storage = storage_of(rt, file, true)?;
+    let part = Part {
+        path,
+        name,
+        identity,
+        old,
+    };
+    require_own(rt, &part)?;
+    Ok((storage, Replacement { part: Some(part) }))
+}
+
+// The name beside another: `.NAME.qimg-part` for `NAME`.
+fn part_name(rt: &impl AllocGlobal, path: &PathBuf) -> Result<PathBuf, AllocError> {
+    let path = path.as_path();
+    let name = path.file_name().unwrap_or("");
+    let name = format!(in rt.alloc(); ".{name}.qimg-part")?;
+    path.with_file_name(rt.alloc(), name.as_str())
+}
+
+// Makes a file that isn't there, with the rights of another. Its owner is that one's where the system allows it.
+fn new_file<R: Files<File = File>>(
+    rt: &R,
+    name: &PathBuf,
+    old: &Option<Opened>,
+) -> io::Result<File> {
+    let mut how = OpenOptions::new();
+    how.read(true).write(true).create_new(true);
+    let Some(old) = old else {
+        return how.open(rt, name.as_path());
+    };
+    let rights = old.metadata.permissions();
+    let file = how.mode(rights.mode() & 0o777).open(rt, name.as_path())?;
+    let _ = give(rt, name, &old.metadata);
+    file.set_permissions(rights)?;
+    Ok(file)
+}
+
+fn give<R: Files<File = File>>(rt: &R, name: &PathBuf, old: &Metadata) -> io::Result<()> {
+    std::os::unix::fs::chown(rt, name.as_path(), Some(old.uid()), Some(old.gid()))
+}
+
+// Removes what a run that was killed left. Refused where it is no file, and where a run still writes it.
+fn remove_left<R: Files<File = File> + AllocGlobal>(rt: &R, name: &PathBuf) -> io::Result<()> {
+    if !fs::symlink_metadata(rt, name.as_path())?.is_file() {
+        return Err(io::Error::from(io::ErrorKind::AlreadyExists));
+    }
+    let left = OpenOptions::new()
+        .read(true)
+        .write(true)
+        .open(rt, name.as_path())?;
+    let left = claimed(rt, left)?;
+    if !has_name(rt, name, Identity::of(&left.metadata)) {
+        return Err(io::Error::from(io::ErrorKind::WouldBlock));
+    }
+    fs::remove_file(rt, name.as_path())
+}
+
+fn has_name<R: Files>(rt: &R, name: &PathBuf, identity: Identity) -> bool {
+    match fs::symlink_metadata(rt, name.as_path()) {
+        Ok(metadata) => Identity::of(&metadata) == identity,
+        Err(_) => false,
+    }
+}
+
+// Refuses a file that another run has removed, before this one locked it.
+fn require_own<R: Files>(rt: &R, part: &Part) -> io::Result<()> {
+    if has_name(rt, &part.name, part.identity) {
+        return Ok(());
+    }
+    Err(io::Error::new(io::ErrorKind::WouldBlock, "another program writes it"))
+}
+
+// Gives a file its name, which is on the device then too where the folder can be synced.
+fn put_in_place<R: Files<File = File> + AllocGlobal>(
+    rt: &R,
+    file: &mut StreamedFile,
+    part: &Part,
+) -> io::Result<()> {
+    let synced = file.sync().is_ok();
+    told(file, synced)?;
+    require_own(rt, part)?;
+    fs::rename(rt, part.name.as_path(), part.path.as_path())?;
+    if let Some(folder) = part.path.as_path().parent() {
+        let _ = sync_folder(rt, folder);
+    }
+    Ok(())
+}
+
+fn sync_folder<R: Files<File = File>>(rt: &R, folder: Path<'_>) -> io::Result<()> {
+    let folder = if folder.as_str().is_empty() {
+        Path::new(".")
+    } else {
+        folder
+    };
+    File::open(rt, folder)?.sync_all()
+}
+
+// What the system said of a file's last call, where that failed.
+fn told(file: &StreamedFile, is_done: bool) -> io::Result<()> {
+    if is_done {
+        return Ok(());
+    }
+    Err(
+        file.last_error()
+            .unwrap_or(io::Error::from(io::ErrorKind::Other)),
+    )
+}
+
+fn remove<R: Files>(rt: &R, part: &Part) {
+    if has_name(rt, &part.name, part.identity) {
+        let _ = fs::remove_file(rt, part.name.as_path());
+    }
+}
