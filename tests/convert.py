@@ -12,7 +12,7 @@ import time
 
 sys.path.insert(0, os.path.join(os.path.dirname(os.path.abspath(__file__)), "interop"))
 
-from qemu import tool  # noqa: E402
+from qemu import opened_by_qemu, tool  # noqa: E402
 from checks import QIMG, Checks, NotTried, answers, consistent, contents, create, equal, kept, put, qimg  # noqa: E402
 
 ROW = b"\x11" * 512 + b"\x00" * 512 + b"\x22" * 276
@@ -392,11 +392,7 @@ def an_image_that_qemu_has_open():
     has("raw", ROW)
     create("disk", 65536, 512)
     before = contents("disk")
-    opened = subprocess.Popen(["qemu-io", "disk"], stdin=subprocess.PIPE, stdout=subprocess.PIPE)
-    try:
-        opened.stdin.write(b"read 0 512\n")
-        opened.stdin.flush()
-        opened.stdout.readline()
+    with opened_by_qemu("disk"):
         for words in (["create", "disk", "512", "512", "16", "none"], ["run", "disk"], ["import", "raw", "disk", "512", "16"], ["export", "disk2", "disk"]):
             shutil.copy("disk", "disk2")
             done = subprocess.run([QIMG, *words], input=b"size\n", capture_output=True, timeout=600)
@@ -404,8 +400,6 @@ def an_image_that_qemu_has_open():
             if b"qimg: disk: another program, such as QEMU, has it open" not in done.stderr:
                 raise AssertionError(f"{words} doesn't say why: {done.stderr}")
         equal(contents("disk"), before, "the image")
-    finally:
-        opened.communicate(b"quit\n", timeout=60)
     equal(qimg("import", "raw", "disk", "512", "16"), (0, "imported 1300\n"), "once QEMU has closed it")
 
 

@@ -11,7 +11,7 @@ import sys
 
 sys.path.insert(0, os.path.join(os.path.dirname(os.path.abspath(__file__)), "interop"))
 
-from qemu import qemu_io, tool  # noqa: E402
+from qemu import opened_by_qemu, qemu_io, tool  # noqa: E402
 from checks import ROOT, Checks, NotTried, consistent, contents, create, equal, put, run  # noqa: E402
 
 TOOLS = os.environ.get("QIMG_TOOLS", os.path.join(ROOT, "build", "qimg-tools"))
@@ -412,16 +412,10 @@ def an_image_that_qemu_has_open():
     told("create", "disk", "1M")
     told("create", "other", "1M")
     before = contents("disk")
-    opened = subprocess.Popen(["qemu-io", "disk"], stdin=subprocess.PIPE, stdout=subprocess.PIPE)
-    try:
-        opened.stdin.write(b"read 0 512\n")
-        opened.stdin.flush()
-        opened.stdout.readline()
+    with opened_by_qemu("disk"):
         for words in (["create", "disk", "2M"], ["convert", "other", "disk"], ["convert", "-f", "raw", "-O", "qcow2", "other", "disk"]):
             equal(tools(*words), (1, "", "qimg-tools: disk: another program, such as QEMU, has it open\n"), f"{words}")
         equal(contents("disk"), before, "the image")
-    finally:
-        opened.communicate(b"quit\n", timeout=60)
     told("create", "disk", "2M")
 
 

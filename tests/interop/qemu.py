@@ -6,6 +6,7 @@ import random
 import re
 import subprocess
 import sys
+from contextlib import contextmanager
 
 sys.path.insert(0, os.path.dirname(os.path.dirname(os.path.abspath(__file__))))
 
@@ -30,6 +31,19 @@ def qemu_io(image, *commands):
     if re.search(r"failed|error|invalid", text, re.I):
         raise AssertionError(f"qemu-io {commands}: {text}")
     return text
+
+
+@contextmanager
+def opened_by_qemu(file):
+    """QEMU has a file open for writing as long as the block runs."""
+    opened = subprocess.Popen(["qemu-io", file], stdin=subprocess.PIPE, stdout=subprocess.PIPE)
+    try:
+        opened.stdin.write(b"read 0 512\n")
+        opened.stdin.flush()
+        opened.stdout.readline()
+        yield
+    finally:
+        opened.communicate(b"quit\n", timeout=60)
 
 
 def seen_by_qemu(size):
