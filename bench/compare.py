@@ -1,217 +1,228 @@
 #!/usr/bin/env python3
-"""qimg and QEMU's tools side by side on the same work: time and peak memory of each, and their ratios.
+"""qimg beside QEMU's tools on the same work, as a table of ratios, ours to theirs: of processor time, and of peak memory behind it.
 
-qemu-io runs with the cache mode `unsafe`: a flush hands the tables to the operating system, as qimg's does,
-and doesn't wait for the device. Then qimg alone on a small image and on a large one, with the same amount of work: its peak memory
-is to stay the same. Then ranges that are zeroed and discarded beside qemu-io, raw disks made into images and back beside qemu-img convert, and qimg check beside qemu-img check.
-Then new images that take their place, beside qemu-img create. Each figure is the median of three runs, each on a new image, and of five from ranges on, both programs in turn. The words `scripts`, `clear`, `convert`, `check` or `create` do those parts alone."""
+Both run in turn, each on a new copy of the same file, and the least of some runs counts: that is what a busy computer changes least. qemu-io runs with the cache mode `unsafe`, so a flush hands
+the tables to the operating system, as qimg's does, and doesn't wait for the device. The rows under "alone" are qimg beside itself: what more tables in memory, or a larger image, cost it.
 
+Words choose rows by their first word (`compare.py check export`), and numbers choose sizes of clusters (`compare.py check 4096`). With --least N a figure is the least of N runs."""
+
+import argparse
 import os
 import random
 import resource
 import shutil
-import statistics
 import subprocess
 import sys
 import tempfile
 import time
+from dataclasses import dataclass, field
 
 ROOT = os.path.dirname(os.path.dirname(os.path.abspath(__file__)))
 QIMG = os.environ.get("QIMG", os.path.join(ROOT, "build", "qimg"))
 MIB = 1048576
-SIZE = 64 * MIB
-LARGE = 1024 * MIB
-RUNS = 3
-TURNS = 5
+SIZES = (65536, 4096, 512)
+LEAST = 3
 
 
-def sequential(size=SIZE):
-    """So many bytes in order, in writes of 1 MiB."""
-    return [("write", at, MIB, at // MIB % 255 + 1) for at in range(0, size, MIB)] + [("flush",)]
+@dataclass
+class Side:
+    """A program's words, the lines that it reads, the file that it makes, or of which file it changes a copy under that name, and the statuses that are right."""
+
+    words: list
+    lines: list = field(default_factory=list)
+    made: str = ""
+    of: str = ""
+    statuses: tuple = (0,)
+
+    def run(self):
+        """Seconds of a processor, seconds by the clock, and peak memory in KiB."""
+        if self.made and os.path.exists(self.made):
+            os.remove(self.made)
+        if self.of:
+            shutil.copyfile(self.of, self.made)
+        with open("lines", "w", encoding="utf-8") as it:
+            it.writelines(f"{line}\n" for line in self.lines)
+        with open("lines", "rb") as given:
+            before, start = resource.getrusage(resource.RUSAGE_CHILDREN), time.monotonic()
+            done = subprocess.run(["/usr/bin/time", "-q", "-f", "%M", "-o", "memory", *self.words], stdin=given, stdout=subprocess.DEVNULL, stderr=subprocess.DEVNULL)
+            seconds, after = time.monotonic() - start, resource.getrusage(resource.RUSAGE_CHILDREN)
+        if done.returncode not in self.statuses:
+            raise AssertionError(f"{' '.join(self.words)} ended with status {done.returncode}")
+        with open("memory", encoding="utf-8") as it:
+            return after.ru_utime + after.ru_stime - before.ru_utime - before.ru_stime, seconds, int(it.read())
 
 
-def scattered(count, flush_each, size=SIZE):
-    """Writes of 4 KiB at random places of an image of this size."""
+def qimg(*words, **more):
+    return Side([QIMG, *map(str, words)], **more)
+
+
+def qemu_img(*words, **more):
+    return Side(["qemu-img", *map(str, words)], **more)
+
+
+def scripts(own, other, of):
+    """Lines for qimg run and for qemu-io, each on a copy of an image."""
+    return qimg("run", "disk", lines=own, made="disk", of=of), Side(["qemu-io", "-f", "qcow2", "-t", "unsafe", "by_qemu"], lines=other, made="by_qemu", of=of)
+
+
+def amount(cluster, large, small):
+    """So many bytes, and fewer in the smallest clusters, where QEMU takes long."""
+    return small if cluster == 512 else large
+
+
+def empty(cluster, size):
+    """An image without data."""
+    qimg("create", "image", size, cluster, 16, "none").run()
+    return "image"
+
+
+def full(cluster, size):
+    """An image of random bytes, and the raw disk that it was made of."""
+    chosen = random.Random(size)
+    with open("raw", "wb") as it:
+        for _ in range(size // MIB):
+            it.write(chosen.randbytes(MIB))
+    qimg("import", "raw", "image", cluster, 16).run()
+    return "image"
+
+
+def random_places(count, size, step=4096):
     chosen = random.Random(count)
-    steps = []
-    for number in range(count):
-        steps.append(("write", chosen.randrange(size // 4096) * 4096, 4096, number % 255 + 1))
+    return [chosen.randrange(size // step) * step for _ in range(count)]
+
+
+def writes(cluster, flush_each):
+    places = random_places(1000 if flush_each else 4000, 1024 * MIB)
+    own, other = [], []
+    for number, at in enumerate(places):
+        own.append(f"fill {at} 4096 {number % 255 + 1:02x}")
+        other.append(f"write -q -P {number % 255 + 1} {at} 4096")
         if flush_each:
-            steps.append(("flush",))
-    return steps if flush_each else steps + [("flush",)]
+            own.append("flush")
+            other.append("flush")
+    return scripts([*own, "flush"], [*other, "flush"], empty(cluster, 1024 * MIB))
 
 
-# Each with its clusters' size, the bits of a count and the disk's size. The one with small clusters and wide counts needs more than 2,000 refblocks: the reftable grows on the way.
-WORK = [
-    ("64 MiB in order, clusters of 65536", (65536, 16, SIZE), sequential()),
-    ("64 MiB in order, clusters of 4096", (4096, 16, SIZE), sequential()),
-    ("256 MiB in 1 MiB writes, clusters of 4096", (4096, 16, 256 * MIB), sequential(256 * MIB)),
-    ("64 MiB in order, clusters of 512, counts of 64 bits", (512, 64, SIZE), sequential()),
-    ("2,000 random writes of 4 KiB, one flush, clusters of 65536", (65536, 16, SIZE), scattered(2000, False)),
-    ("200 random writes of 4 KiB, a flush after each, clusters of 65536", (65536, 16, SIZE), scattered(200, True)),
+def in_order(cluster):
+    size = amount(cluster, 256 * MIB, 64 * MIB)
+    own = [f"fill {at} {MIB} {at // MIB % 255 + 1:02x}" for at in range(0, size, MIB)]
+    other = [f"write -q -P {at // MIB % 255 + 1} {at} {MIB}" for at in range(0, size, MIB)]
+    return scripts([*own, "flush"], [*other, "flush"], empty(cluster, size))
+
+
+def reads(cluster, count, for_qemu):
+    size = amount(cluster, 512 * MIB, 128 * MIB)
+    places = random_places(20000, size)
+    return scripts([f"read {at} {count}" for at in places], [f"read -q {at} {for_qemu}" for at in places], full(cluster, size))
+
+
+def cleared(cluster, own, other):
+    """A mebibyte at a time, or what an L2 table covers."""
+    size, piece = amount(cluster, 512 * MIB, 128 * MIB), min(MIB, cluster // 8 * cluster)
+    places = range(0, size, piece)
+    return scripts([*(f"{own} {at} {piece}" for at in places), "flush"], [*(f"{other} {at} {piece}" for at in places), "flush"], full(cluster, size))
+
+
+def check(cluster):
+    full(cluster, amount(cluster, 512 * MIB, 128 * MIB))
+    return qimg("check", "image"), qemu_img("check", "-f", "qcow2", "image")
+
+
+def hostile(cluster, width, times):
+    """A reftable that names one full refblock many times. Each cluster under it is leaked, and QEMU's check sees the file's own alone."""
+    clusters = -(-8 * times // cluster)
+    qimg("create", "image", MIB, cluster, width, "none").run()
+    with open("image", "r+b") as it:
+        it.seek(40)
+        it.write(((clusters + 2) * cluster).to_bytes(8, "big") + cluster.to_bytes(8, "big") + clusters.to_bytes(4, "big"))
+        it.seek(cluster)
+        it.write(((clusters + 1) * cluster).to_bytes(8, "big") * times)
+        it.seek((clusters + 1) * cluster)
+        it.write(b"\xff" * cluster)
+        it.truncate((clusters + 3) * cluster)
+    return qimg("check", "image", statuses=(0, 1)), qemu_img("check", "-f", "qcow2", "image", statuses=(0, 1, 2, 3))
+
+
+def imported(cluster):
+    full(cluster, amount(cluster, 256 * MIB, 64 * MIB))
+    own = qimg("import", "raw", "disk", cluster, 16, made="disk")
+    return own, qemu_img("convert", "-f", "raw", "-O", "qcow2", "-o", f"cluster_size={cluster}", "raw", "by_qemu", made="by_qemu")
+
+
+def exported(image):
+    return qimg("export", image, "back", made="back"), qemu_img("convert", "-f", "qcow2", "-O", "raw", image, "back_by_qemu", made="back_by_qemu")
+
+
+def created(cluster, mode, way):
+    size = amount(cluster, 1024 * MIB, 128 * MIB)
+    own = qimg("create", "disk", size, cluster, 16, mode, made="disk")
+    return own, qemu_img("create", "-q", "-f", "qcow2", "-o", f"cluster_size={cluster},preallocation={way}", "by_qemu", size, made="by_qemu")
+
+
+def full_beside_written(cluster):
+    size = amount(cluster, 1024 * MIB, 128 * MIB)
+    return [qimg("create", "disk", size, cluster, 16, mode, made="disk") for mode in ("full", "write")]
+
+
+def flushes(cluster):
+    """A write and a flush, 40,000 times in one table, with 128 tables in memory and with four: so often that what it takes to load them counts little."""
+    covered, image = cluster // 8 * cluster, "tables"
+    os.replace(empty(cluster, 128 * covered), image)
+    qimg("run", image, lines=[*(f"fill {table * covered} 1 01" for table in range(128)), "flush"]).run()
+    each = [line for number in range(40000) for line in (f"fill {number % 64 * cluster} 1 {number % 255 + 1:02x}", "flush")]
+    sides = [[f"read {number % tables * covered} 1" for number in range(128)] for tables in (128, 4)]
+    return [qimg("run", "disk", lines=[*held, *each], made="disk", of=image) for held in sides]
+
+
+def larger(cluster):
+    """2,000 random writes over an image of 1 GiB and over one of 64 MiB."""
+    sides = []
+    for name, size in (("large", 1024 * MIB), ("small", 64 * MIB)):
+        os.replace(empty(cluster, size), name)
+        lines = [f"fill {at} 4096 11" for at in random_places(2000, size)]
+        sides.append(qimg("run", "disk", lines=[*lines, "flush"], made="disk", of=name))
+    return sides
+
+
+# Each row's name, the sizes of clusters, and what makes the two sides of one.
+ROWS = [
+    ("writes of 4 KiB at random places of 1 GiB, one flush", SIZES, lambda cluster: writes(cluster, False)),
+    ("writes of 4 KiB, a flush after each", SIZES, lambda cluster: writes(cluster, True)),
+    ("order: 1 MiB writes, one after the other", SIZES, in_order),
+    ("reads of 4 KiB at random places, 20,000 (ours prints hex)", SIZES, lambda cluster: reads(cluster, 4096, 4096)),
+    ("reads of 1 byte (theirs 512)", SIZES, lambda cluster: reads(cluster, 1, 512)),
+    ("check of 512 MiB of data (128 MiB at 512)", SIZES, check),
+    ("hostile: check of a full refblock named 1,000 times", (512,), lambda cluster: hostile(cluster, 1, 1000)),
+    ("zeroing, 1 MiB at a time", SIZES, lambda cluster: cleared(cluster, "zero", "write -q -z")),
+    ("discarding, 1 MiB at a time", SIZES, lambda cluster: cleared(cluster, "dback", "discard -q")),
+    ("import of random data", SIZES, imported),
+    ("export of random data", SIZES, lambda cluster: exported(full(cluster, amount(cluster, 256 * MIB, 64 * MIB)))),
+    ("thin: export of an empty disk of 10 TiB", (65536,), lambda cluster: exported(empty(cluster, 10 * 1024 * 1024 * MIB))),
+    ("create of 1 GiB (128 MiB at 512): `zero` beside `off`", SIZES, lambda cluster: created(cluster, "zero", "off")),
+    ("create: `format` beside `metadata`", SIZES, lambda cluster: created(cluster, "format", "metadata")),
+    ("create: `full` beside `falloc`", SIZES, lambda cluster: created(cluster, "full", "falloc")),
+    ("create: `write` beside `full`", SIZES, lambda cluster: created(cluster, "write", "full")),
+    ("alone: create `full`, beside `write`", SIZES, full_beside_written),
+    ("alone: write and flush with 128 tables in memory, beside 4", (65536, 4096), flushes),
+    ("alone: random writes over 1 GiB, beside 64 MiB", (65536, 4096), larger),
 ]
 
 
-def qimg_line(step):
-    return "flush" if step[0] == "flush" else f"fill {step[1]} {step[2]} {step[3]:02x}"
+def compared(sides, least):
+    """The ratios of two sides that run in turn: processor time, time by the clock, peak memory."""
+    runs = [[side.run() for side in sides] for _ in range(least)]
+    own, other = ([min(column) for column in zip(*side)] for side in zip(*runs))
+    print(f"    qimg {own[0]:.3f} s, {own[1]:.3f} s by the clock, {own[2] / 1024:.1f} MiB; beside it {other[0]:.3f} s, {other[1]:.3f} s, {other[2] / 1024:.1f} MiB", file=sys.stderr, flush=True)
+    return [a / max(b, 1e-3) for a, b in zip(own, other)]
 
 
-def qemu_line(step):
-    return "flush" if step[0] == "flush" else f"write -q -P {step[3]} {step[1]} {step[2]}"
-
-
-def measured(words, lines, wanted):
-    """Seconds and peak memory in KiB of a program that is given lines, or None where it didn't do the work."""
-    with open("lines", "w") as it:
-        it.write("".join(f"{line}\n" for line in lines))
-    with open("lines") as given, open("printed", "w+") as printed:
-        start = time.monotonic()
-        done = subprocess.run(["/usr/bin/time", "-f", "%M", "-o", "memory", *words], stdin=given, stdout=printed, stderr=subprocess.STDOUT)
-        seconds = time.monotonic() - start
-        printed.seek(0)
-        text = printed.read()
-    refused = [line for line in text.splitlines() if line.startswith(("refused", "bad line"))]
-    if done.returncode or refused or not wanted(text):
-        print(f"  {os.path.basename(words[0])} ended with status {done.returncode}: {(refused or [text[-200:]])[0]}")
-        return None
-    with open("memory") as it:
-        return seconds, int(it.read())
-
-
-def by_qimg(shape, steps):
-    cluster, width, size = shape
-    subprocess.run([QIMG, "create", "disk", str(size), str(cluster), str(width), "none"], check=True, stdout=subprocess.DEVNULL)
-    return measured([QIMG, "run", "disk"], [qimg_line(step) for step in steps], lambda text: text == "ok\n" * len(steps))
-
-
-def by_qemu(shape, steps):
-    cluster, width, size = shape
-    words = ["qemu-img", "create", "-q", "-f", "qcow2", "-o", f"cluster_size={cluster},refcount_bits={width}", "disk", str(size)]
-    subprocess.run(words, check=True)
-    words = ["qemu-io", "-f", "qcow2", "-t", "unsafe", "disk"]
-    return measured(words, [qemu_line(step) for step in steps], lambda text: "failed" not in text)
-
-
-def median_of(runner, shape, steps):
-    """The medians of some runs, each in a new folder, or None where one didn't do the work."""
-    results = []
-    here = os.getcwd()
-    for _ in range(RUNS):
-        room = tempfile.mkdtemp(prefix="qimg-bench-")
-        os.chdir(room)
-        try:
-            results.append(runner(shape, steps))
-        finally:
-            os.chdir(here)
-            shutil.rmtree(room)
-        if results[-1] is None:
-            return None
-    return [statistics.median(column) for column in zip(*results)]
-
-
-def of_two_sizes(cluster):
-    """Peak memory of qimg in KiB on an image of 64 MiB and on one of 1 GiB, for 2,000 random writes over the whole image, or None."""
-    results = [median_of(by_qimg, (cluster, 16, size), scattered(2000, False, size)) for size in (SIZE, LARGE)]
-    return None if None in results else [memory for _, memory in results]
-
-
-def once(words, made=None, of=None):
-    """Seconds, seconds of a processor and peak memory in KiB of a program that must succeed. What it makes is removed before, or is a new copy of what it changes."""
-    if made and os.path.exists(made):
-        os.remove(made)
-    if of:
-        shutil.copyfile(of, made)
-    before, start = resource.getrusage(resource.RUSAGE_CHILDREN), time.monotonic()
-    subprocess.run(["/usr/bin/time", "-f", "%M", "-o", "memory", *words], check=True, stdout=subprocess.DEVNULL)
-    seconds, after = time.monotonic() - start, resource.getrusage(resource.RUSAGE_CHILDREN)
-    with open("memory") as it:
-        return seconds, after.ru_utime + after.ru_stime - before.ru_utime - before.ru_stime, int(it.read())
-
-
-def beside(name, own, other, tool):
-    """The medians of some runs of both in turn, each with the words and what they make, and the ratios. What a busy machine slows least is the time of a processor."""
-    results = [(once(*own), once(*other)) for _ in range(TURNS)]
-    own, other = ([statistics.median(column) for column in zip(*runs)] for runs in zip(*results))
-    print(name)
-    for what, index, unit, scale in (("time", 0, "ms", 1000), ("processor", 1, "ms", 1000), ("memory", 2, "MiB", 1 / 1024)):
-        print(f"  {what:10}qimg {own[index] * scale:8.1f} {unit}   {tool} {other[index] * scale:8.1f} {unit}   ratio {own[index] / max(other[index], 1e-3):.2f}", flush=True)
-
-
-def fill(file, size):
-    """A raw disk of random bytes."""
-    chosen = random.Random(size)
-    with open(file, "wb") as it:
-        for _ in range(size // MIB):
-            it.write(chosen.randbytes(MIB))
-
-
-def sparse(file):
-    """A raw disk of 64 GiB with 1 MiB of data in its middle."""
-    with open(file, "wb") as it:
-        it.truncate(64 * 1024 * MIB)
-        it.seek(30000 * MIB)
-        it.write(random.Random(1).randbytes(MIB))
-
-
-def converted(name, cluster):
-    """The raw disk is made into an image, and the image into a raw disk."""
-    own = ([QIMG, "import", "raw", "disk", str(cluster), "16"], "disk")
-    other = (["qemu-img", "convert", "-f", "raw", "-O", "qcow2", "-o", f"cluster_size={cluster}", "raw", "by_qemu"], "by_qemu")
-    beside(f"import: {name}, clusters of {cluster}", own, other, "qemu-img convert")
-    own = ([QIMG, "export", "disk", "back"], "back")
-    other = (["qemu-img", "convert", "-f", "qcow2", "-O", "raw", "disk", "back_by_qemu"], "back_by_qemu")
-    beside(f"export: {name}, clusters of {cluster}", own, other, "qemu-img convert")
-
-
-def given(words, lines, file):
-    """A program that reads these lines, as words of a shell."""
-    with open(file, "w", encoding="utf-8") as it:
-        it.write("".join(f"{line}\n" for line in lines))
-    return ["sh", "-c", f'exec "$@" < {file}', "sh", *words]
-
-
-def clears():
-    """1 GiB of data is zeroed, and is discarded."""
-    fill("raw", LARGE)
-    for cluster in (65536, 4096):
-        subprocess.run([QIMG, "import", "raw", "data", str(cluster), "16"], check=True, stdout=subprocess.DEVNULL)
-        table = cluster // 8 * cluster
-        for name, word, other in (("zeroing", "zero", "write -q -z"), ("discarding", "dback", "discard -q")):
-            own = given([QIMG, "run", "disk"], [*(f"{word} {at} {table}" for at in range(0, LARGE, table)), "flush"], "own_lines")
-            by_qemu_io = given(["qemu-io", "-f", "qcow2", "-t", "unsafe", "disk"], [f"{other} 0 {LARGE}", "flush"], "other_lines")
-            beside(f"{name}: 1 GiB of data, clusters of {cluster}", (own, "disk", "data"), (by_qemu_io, "disk", "data"), "qemu-io")
-
-
-def conversions():
-    fill("raw", 256 * MIB)
-    for cluster in (65536, 4096):
-        converted("256 MiB of data", cluster)
-    sparse("raw")
-    converted("64 GiB with 1 MiB of data", 65536)
-
-
-def checks():
-    fill("raw", LARGE)
-    for cluster in (65536, 4096, 512):
-        subprocess.run([QIMG, "import", "raw", "disk", str(cluster), "16"], check=True, stdout=subprocess.DEVNULL)
-        beside(f"check: 1 GiB of data, clusters of {cluster}", ([QIMG, "check", "disk"],), (["qemu-img", "check", "-f", "qcow2", "disk"],), "qemu-img check")
-
-
-def creates():
-    """A new image of 1 GiB has the place of its clusters."""
-    for cluster in (65536, 4096):
-        for mode, way in (("zero", "off"), ("format", "metadata"), ("full", "falloc"), ("write", "full")):
-            own = ([QIMG, "create", "disk", str(LARGE), str(cluster), "16", mode], "disk")
-            other = (["qemu-img", "create", "-q", "-f", "qcow2", "-o", f"cluster_size={cluster},preallocation={way}", "by_qemu", str(LARGE)], "by_qemu")
-            beside(f"create: 1 GiB, {mode} beside preallocation={way}, clusters of {cluster}", own, other, "qemu-img create")
-
-
-def in_a_room(part):
-    """Does a part in a new folder, which is gone in the end."""
+def cell(make, cluster, least):
+    """What the table says of a row at one size of clusters. The work is done in a new folder, which is gone in the end."""
     here, room = os.getcwd(), tempfile.mkdtemp(prefix="qimg-bench-")
     os.chdir(room)
     try:
-        part()
+        processor, _, memory = compared(make(cluster), least)
+        return f"{processor:.2f}, {memory:.1f}"
     finally:
         os.chdir(here)
         shutil.rmtree(room)
@@ -220,34 +231,20 @@ def in_a_room(part):
 def main():
     if not os.access("/usr/bin/time", os.X_OK):
         print("/usr/bin/time is missing: install the package time")
-        return 1
-    parts = sys.argv[1:] or ["scripts", "clear", "convert", "check", "create"]
-    failed = "scripts" in parts and scripts()
-    for word, part in (("clear", clears), ("convert", conversions), ("check", checks), ("create", creates)):
-        if word in parts:
-            in_a_room(part)
-    return 1 if failed else 0
-
-
-def scripts():
-    """Scripts for qimg and for qemu-io. Whether one didn't do its work."""
-    failed = False
-    for name, shape, steps in WORK:
-        print(name)
-        own, other = median_of(by_qimg, shape, steps), median_of(by_qemu, shape, steps)
-        if own is None or other is None:
-            failed = True
+        sys.exit(1)
+    parser = argparse.ArgumentParser(description=__doc__, formatter_class=argparse.RawDescriptionHelpFormatter)
+    parser.add_argument("chosen", nargs="*")
+    parser.add_argument("--least", type=int, default=LEAST)
+    given = parser.parse_args()
+    sizes = [int(it) for it in given.chosen if it.isdigit()] or SIZES
+    words = [it for it in given.chosen if not it.isdigit()]
+    print("| Work | " + " | ".join(f"{size:,}" for size in SIZES) + " |\n|---|---|---|---|")
+    for name, of_sizes, make in ROWS:
+        if words and name.split()[0].rstrip(":,") not in words:
             continue
-        for what, index, unit, scale in (("time", 0, "ms", 1000), ("memory", 1, "MiB", 1 / 1024)):
-            print(f"  {what:7}qimg {own[index] * scale:8.1f} {unit}   qemu-io {other[index] * scale:8.1f} {unit}   ratio {own[index] / other[index]:.2f}")
-    for cluster in (4096, 65536):
-        print(f"2,000 random writes of 4 KiB over images of {SIZE // MIB} MiB and {LARGE // MIB} MiB, one flush, clusters of {cluster}")
-        memory = of_two_sizes(cluster)
-        if memory is None:
-            failed = True
-            continue
-        print(f"  memory qimg {memory[0] / 1024:8.1f} MiB   qimg    {memory[1] / 1024:8.1f} MiB   ratio {memory[1] / memory[0]:.2f}")
-    return failed
+        print(f"  {name}", file=sys.stderr, flush=True)
+        cells = [cell(make, size, given.least) if size in of_sizes and size in sizes else "" for size in SIZES]
+        print(f"| {name} | " + " | ".join(cells) + " |", flush=True)
 
 
-sys.exit(main())
+main()

@@ -15,7 +15,7 @@ sys.path.insert(0, os.path.join(os.path.dirname(os.path.abspath(__file__)), "int
 from qemu import qemu_io, tool  # noqa: E402
 from checks import QIMG, ROOT, Checks, Report, contents, create, equal, number_at, put, qimg, run, shown  # noqa: E402
 
-IMAGES = 3000
+IMAGES = 4000
 SEED = 7
 
 
@@ -190,18 +190,18 @@ def with_changes(data, chosen):
 
 
 # What QEMU's check says, and the row of docs/INTEROP.md for what the checker doesn't say so.
-RESERVED_ABOVE = "reserved bits of entries of the L1 table and the reftable"
+RESERVED_ABOVE = "reserved bits of L1 and reftable entries"
 RESERVED_BELOW = "reserved bits of L2 entries"
-UNMARKED = "an entry that isn't marked copied although its count is 1"
-PAST_THE_END = "clusters past the end of the file"
-COUNTED_PAST_THE_END = "counts of clusters past the end of the file"
-OFF_A_CLUSTER = "offsets that aren't on a cluster"
-MARKED_COMPRESSED = "a compressed entry that is marked copied"
-NARROW_COUNTS = "a cluster that is named more often than a count can say"
-NOT_OPENED = "headers that QEMU doesn't open"
-SHARED = "a table's cluster that is named and counted twice"
+UNMARKED = "an entry without the copied mark, although the refcount is 1"
+PAST_THE_END = "mapped clusters past the end of the file"
+COUNTED_PAST_THE_END = "refcounts of clusters past the end of the file"
+OFF_A_CLUSTER = "unaligned offsets"
+MARKED_COMPRESSED = "a compressed entry with the copied mark"
+NARROW_COUNTS = "more references than a refcount can hold"
+NOT_OPENED = "headers that QEMU does not open"
+SHARED = "a table's cluster with two references and refcount 2"
 NEEDS_REPAIR = "dirty and corrupt images"
-NO_OFFSET = "an L1 entry that is marked copied and has no offset"
+NO_OFFSET = "an L1 entry with the copied mark and offset 0"
 ROWS = [NEEDS_REPAIR, NO_OFFSET, RESERVED_ABOVE, RESERVED_BELOW, UNMARKED, PAST_THE_END, COUNTED_PAST_THE_END, OFF_A_CLUSTER, MARKED_COMPRESSED, NARROW_COUNTS, NOT_OPENED, SHARED]
 
 KINDS = [

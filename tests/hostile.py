@@ -2,9 +2,10 @@
 """Images that aren't consistent: what is refused, and what of the file stays as it was."""
 
 import re
+import resource
 import subprocess
 
-from checks import Checks, answers, contents, create, equal, put, ran, shown
+from checks import QIMG, Checks, answers, contents, create, equal, put, ran, shown
 
 POINTERS = slice(48, 60)
 
@@ -57,8 +58,8 @@ def a_first_range_without_a_refblock(cluster, width):
     equal(contents("disk"), before, "the contents")
 
 
-def one_full_refblock_many_times(cluster, width, count, told):
-    """The reftable names it from its first entry on. Where it names all places of a file, none is free (13); else what is free lies far behind, and the write may be a fault, which ends the run. The checker would tell of each cluster that is counted, so only the run is tried."""
+def names_one_full_refblock(cluster, width, count):
+    """The reftable of an image names it from its first entry on, so many times."""
     create("disk", 1 << 20, cluster, width)
     clusters = -(-8 * count // cluster)
     put("disk", 48, cluster.to_bytes(8, "big") + clusters.to_bytes(4, "big"))
@@ -66,9 +67,24 @@ def one_full_refblock_many_times(cluster, width, count, told):
     put("disk", cluster, ((clusters + 1) * cluster).to_bytes(8, "big") * count)
     put("disk", (clusters + 1) * cluster, b"\xff" * cluster)
     put("disk", (clusters + 3) * cluster - 1, bytes(1))
+
+
+def one_full_refblock_many_times(cluster, width, count, told):
+    """Where it names all places of a file, none is free (13); else what is free lies far behind, and the write may be a fault, which ends the run."""
+    names_one_full_refblock(cluster, width, count)
     status, text = ran("run", "disk", input=b"fill 0 512 11\n", stdout=subprocess.PIPE, stderr=subprocess.DEVNULL, timeout=60)
     if status not in (0, 1) or not re.fullmatch(told, text):
         raise AssertionError(f"status {status} and {shown(text)}")
+
+
+def many_leaks_in_little_memory():
+    """The report has half a billion leaks, of which the first are read, in 64 MiB of address space. A file of one mebibyte names its refblock in each of 131,072 entries, and has 2,051 clusters."""
+    names_one_full_refblock(512, 1, 131072)
+    program = subprocess.Popen([QIMG, "check", "disk"], stdout=subprocess.PIPE, stderr=subprocess.DEVNULL, preexec_fn=lambda: resource.setrlimit(resource.RLIMIT_AS, (64 << 20, 64 << 20)))
+    lines = [program.stdout.readline().decode() for _ in range(4)]
+    program.stdout.close()
+    program.wait(timeout=60)
+    equal(lines, ["under 2049 1 131072\n", "shared 2049 131072\n", "leak 2051 1 0\n", "leak 2052 1 0\n"], "the first lines")
 
 
 def an_l1_table_that_ends_past_64_bits():
@@ -134,7 +150,7 @@ def a_tail_that_cant_be_dropped():
 
 def main():
     checks = Checks()
-    for check in (a_header_that_is_not_counted, nothing_is_counted, a_reftable_without_clusters, an_l1_table_that_ends_past_64_bits, a_tail_that_cant_be_dropped):
+    for check in (a_header_that_is_not_counted, nothing_is_counted, a_reftable_without_clusters, an_l1_table_that_ends_past_64_bits, a_tail_that_cant_be_dropped, many_leaks_in_little_memory):
         checks.run(check.__name__, check)
     for cluster, width in ((512, 16), (512, 64), (65536, 16), (2 << 20, 1)):
         checks.run(f"a first range without a refblock, {cluster} {width}", a_first_range_without_a_refblock, cluster, width)
@@ -142,9 +158,10 @@ def main():
     for cluster, width, count, told in ((65536, 1, 4000, any_answer), (65536, 16, 1 << 20, none_free), (65536, 2, 1 << 18, any_answer), (2 << 20, 2, 4096, none_free)):
         checks.run(f"one full refblock {count} times, {cluster} {width}", one_full_refblock_many_times, cluster, width, count, told)
     checks.run("a reftable at offset 0 without clusters", a_reftable_at_offset_0)
-    for needs in (needs_a_data_file, names_a_data_file, names_a_backing_file):
+    for needs in (needs_a_data_file, names_a_backing_file):
         checks.run(f"an image that {needs.__name__}", an_image_with_a_bitmap, needs, "refused 12 dependency", b"\xff" * 8, 1)
-    checks.run("an image that needs nothing", an_image_with_a_bitmap, needs_nothing, "size 65536", bytes(8), 0)
+    for needs in (names_a_data_file, needs_nothing):
+        checks.run(f"an image that {needs.__name__}", an_image_with_a_bitmap, needs, "size 65536", bytes(8), 0)
     checks.done()
 
 

@@ -275,10 +275,14 @@ BAD_LINES = [
     b"grow 18446744073709551616 none",
     b"shrink",
     b"shrink 100 none",
-    b"sync",
+    b"sync 0",
     b"invalidate",
-    b"leaks",
+    b"leaks 0",
 ]
+
+
+def syncs_and_counts_leaks():
+    answers(disk(), [("fill 0 512 11", "ok"), ("flush", "ok"), ("sync", "ok"), ("leaks", "leaks 0"), ("read 0 2", "data 1111")])
 
 
 def stops_at_a_bad_line(line):
@@ -403,6 +407,7 @@ def main():
         reads_the_longest_lengths,
         takes_no_bytes_at_the_last_offset,
         stops_at_a_bad_line_without_its_end,
+        syncs_and_counts_leaks,
         a_bad_line_goes_before_a_refusal,
         a_read_that_fails_is_a_bad_line,
         leaves_the_input_where_the_file_is_missing,

@@ -177,8 +177,8 @@ def what_is_no_image():
 
 
 def explains(reason, *more):
-    """Each command that reads the image is refused 19, and says why."""
-    for command in (["info", "disk"], ["map", "--output=json", "disk"], ["check", "disk"], ["convert", "disk", "raw"]):
+    """Each command that reads the disk or the tables is refused 19, and says why."""
+    for command in (["map", "--output=json", "disk"], ["check", "disk"], ["vet", "disk"], ["convert", "disk", "raw"]):
         status, text, messages = tools(*command)
         equal((status in (1, 63), text), (True, ""), f"{command}, with {messages}")
         lines = messages.splitlines()
@@ -189,6 +189,35 @@ def explains(reason, *more):
     equal(os.path.exists("raw"), False, "the raw disk")
 
 
+def info_of(*layout):
+    """What the header says is told as by QEMU, also where the image isn't read."""
+    tool("qemu-img", "create", "-q", "-f", "qcow2", *layout, "disk", "1M")
+    told_of_the_header()
+
+
+def told_of_the_header():
+    ours, theirs = json.loads(told("info", "--output=json", "disk")), json.loads(tool("qemu-img", "info", "--output=json", "disk"))
+    for it in (ours, theirs):
+        it["format-specific"]["data"].pop("encrypt", None)
+    equal(ours, {key: value for key, value in theirs.items() if key in ours}, "info")
+    equal(sorted(set(theirs) - set(ours) - {"children"}), [], "keys that are missing")
+    lines = [line for line in told("info", "disk").splitlines() if not line.startswith("disk size")]
+    equal(lines, [line for line in tool("qemu-img", "info", "disk").splitlines() if line in lines], "lines")
+
+
+def info_of_what_is_not_read():
+    info_of("-o", "extended_l2=on")
+    info_of("-o", "compression_type=zstd")
+    info_of("--object", "secret,id=s,data=abc", "-o", "encrypt.format=luks,encrypt.key-secret=s,encrypt.iter-time=10")
+    tool("qemu-img", "create", "-q", "-f", "qcow2", "-u", "-b", "some base", "-F", "raw", "disk", "1M")
+    put("disk", 72, (1).to_bytes(8, "big"))
+    equal(json.loads(told("info", "--output=json", "disk"))["backing-filename"], "some base", "the backing file of a dirty image")
+    for bits in (1, 2, 3):
+        tool("qemu-img", "create", "-q", "-f", "qcow2", "disk", "1M")
+        put("disk", 72, bits.to_bytes(8, "big"))
+        told_of_the_header()
+
+
 def why_an_image_is_refused():
     """What qemu-img makes and this program doesn't read is named, and so is a header that QEMU marks."""
     tool("qemu-img", "create", "-q", "-f", "qcow2", "-o", "extended_l2=on", "disk", "1M")
@@ -197,6 +226,9 @@ def why_an_image_is_refused():
     explains("VMDK", "qemu-img convert")
     tool("qemu-img", "create", "-q", "-f", "qcow2", "--object", "secret,id=s,data=abc", "-o", "encrypt.format=luks,encrypt.key-secret=s,encrypt.iter-time=10", "disk", "1M")
     explains("encrypted")
+    compressed("zstd")
+    os.remove("raw")
+    explains("zlib", "qemu-img convert")
     tool("qemu-img", "create", "-q", "-f", "qcow2", "disk", "1M")
     for bits, words in ((1, "dirty"), (2, "corrupt"), (3, "corrupt"), (8, "zlib"), (32, "doesn't know"), (1 << 40, "doesn't know")):
         put("disk", 72, bits.to_bytes(8, "big"))
@@ -227,7 +259,85 @@ def check_names_each_breach():
     put("disk", 1034, bytes(2))
     equal(names_what_the_lines_say()["breaches"], [{"kind": kind, "cluster": 5, "count": 0, "named": 1} for kind in ("under", "copied")], "a missing count")
     put("disk", 60, (2).to_bytes(4, "big"))
-    equal(names_what_the_lines_say()["breaches"][0], {"kind": "snapshots", "count": 2}, "snapshots")
+    report = json.loads(tools("check", "--output=json", "disk")[1])
+    equal((report["not-covered"]["snapshots"], [it["kind"] for it in report["breaches"]], report["leaked-clusters"]), (2, ["under", "copied"], None), "beside snapshots")
+
+
+def with_a_snapshot():
+    qemu_image("cluster_size=4096")
+    tool("qemu-img", "snapshot", "-c", "one", "disk")
+    qemu_io("disk", "write -P 5 0 300k")
+
+
+def with_a_data_file():
+    qemu_image("cluster_size=4096,data_file=data,data_file_raw=on")
+
+
+def with_a_bitmap():
+    qemu_image("cluster_size=4096")
+    tool("qemu-img", "bitmap", "--add", "disk", "b")
+
+
+def with_lazy_counts():
+    qemu_image("lazy_refcounts=on")
+
+
+def preallocated():
+    tool("qemu-img", "create", "-q", "-f", "qcow2", "-o", "preallocation=metadata", "disk", "5M")
+
+
+def compressed(how):
+    with open("raw", "wb") as it:
+        it.write(b"some text " * 20000 + bytes(480))
+    tool("qemu-img", "convert", "-c", "-f", "raw", "-O", "qcow2", "-o", f"compression_type={how}", "raw", "disk")
+
+
+def chained():
+    tool("qemu-img", "create", "-q", "-f", "qcow2", "base", "1M")
+    tool("qemu-img", "create", "-q", "-f", "qcow2", "-b", "base", "-F", "qcow2", "disk")
+    qemu_io("disk", "write -P 6 64k 64k")
+
+
+def no_false_alarm(make, lines, uncovered):
+    """Where QEMU finds no error, none is told; what isn't covered is named, and leaked clusters aren't told then."""
+    make()
+    done = subprocess.run(["qemu-img", "check", "-f", "qcow2", "disk"], capture_output=True, timeout=600)
+    equal(done.returncode, 0, f"the status of QEMU's check, with {done.stderr}")
+    equal(tools("check", "disk"), (0, "".join(f"{line}\n" for line in lines), ""), "the report")
+    report = json.loads(told("check", "--output=json", "disk"))
+    equal((report["corruptions"], report["breaches"], report.get("not-covered")), (0, [], uncovered), "the report as JSON")
+
+
+UNTOLD = "no errors, leaked clusters are not told"
+
+
+def images_without_errors():
+    """What `check` says of each variant of QEMU's images that it reads."""
+    for make, lines, uncovered in (
+        (with_a_snapshot, ["not covered: snapshots 1", UNTOLD], {"snapshots": 1, "bitmaps": False, "data-file": False}),
+        (with_a_bitmap, ["not covered: bitmaps", UNTOLD], {"snapshots": 0, "bitmaps": True, "data-file": False}),
+        (with_a_data_file, ["not covered: the data file", UNTOLD], {"snapshots": 0, "bitmaps": False, "data-file": True}),
+        (with_lazy_counts, ["consistent, 0 leaked"], None),
+        (preallocated, ["consistent, 0 leaked"], None),
+        (lambda: compressed("zlib"), ["consistent, 0 leaked"], None),
+        (chained, ["consistent, 0 leaked"], None),
+    ):
+        no_false_alarm(make, lines, uncovered)
+        for file in os.listdir("."):
+            os.remove(file)
+
+
+def errors_beside_what_is_not_covered():
+    """An error is told also where something isn't covered, with the status of a broken image."""
+    for make in (with_a_snapshot, with_a_data_file):
+        make()
+        table = int.from_bytes(contents("disk")[40:48], "big")
+        block = int.from_bytes(contents("disk")[int.from_bytes(contents("disk")[48:56], "big"):][:8], "big")
+        put("disk", block + 2 * (table // 4096), bytes(2))
+        status, text, messages = tools("check", "disk")
+        equal((status, messages, any(line.startswith(f"under {table // 4096} 0 ") for line in text.splitlines()), text.splitlines()[-1].startswith("broken, ")), (2, "", True, True), f"the report: {text}")
+        equal(subprocess.run(["qemu-img", "check", "disk"], capture_output=True, timeout=600).returncode, 2, "the status of QEMU's check")
+        os.remove("disk")
 
 
 def a_map_that_cannot_be_finished():
@@ -240,7 +350,220 @@ def a_map_that_cannot_be_finished():
         equal(tools(*words)[:2], (1, ""), f"{words}")
 
 
+# Whether a stranger's image may be taken in
+
+def vets(status, lines, *words):
+    before = contents("disk")
+    equal(tools("vet", *words, "disk"), (status, "".join(f"{line}\n" for line in lines), ""), "what is told")
+    got, text, _ = tools("vet", "--json", *words, "disk")
+    equal((got, json.loads(text)["passes"]), (status, status == 0), "the same as JSON")
+    equal(contents("disk"), before, "the image")
+
+
+UNFIT = "it may not be taken in"
+
+
+def images_that_may_be_taken_in():
+    for make in (lambda: qemu_image("cluster_size=4096"), with_lazy_counts, preallocated, lambda: compressed("zlib")):
+        make()
+        vets(0, ["it may be taken in"])
+        size = json.loads(told("info", "--output=json", "disk"))["virtual-size"]
+        vets(0, ["it may be taken in"], "--max-size", str(size))
+        vets(2, [f"its disk has {size} bytes, and {size - 1} are allowed", UNFIT], f"--max-size={size - 1}")
+
+
+def images_that_may_not_be_taken_in():
+    """One that names a file of the host is found out, whatever else it is; so is one that isn't consistent."""
+    tool("qemu-img", "create", "-q", "-u", "-f", "qcow2", "-b", "/etc/passwd", "-F", "raw", "disk", "1M")
+    named = "it names a backing file, whose bytes would be taken in with it"
+    vets(2, [named, UNFIT])
+    vets(2, [named, "its disk has 1048576 bytes, and 65536 are allowed", UNFIT], "--max-size", "64k")
+    report = json.loads(tools("vet", "--output=json", "--max-size", "64k", "disk")[1])
+    equal(report, {"filename": "disk", "passes": False, "virtual-size": 1 << 20, "too-large": True, "backing-file": True, "data-file": False, "snapshots": False, "corruptions": 0}, "the report")
+    with_a_snapshot()
+    vets(2, ["it has snapshots, whose bytes aren't looked at", UNFIT])
+    os.remove("disk")
+    with_a_data_file()
+    vets(2, ["its data stand in another file, whose bytes would be taken in with it", UNFIT])
+    os.remove("disk")
+    check_of_a_missing_count()
+    vets(2, ["it isn't consistent: qimg-tools check names 2 breaches", UNFIT])
+
+
+def what_cannot_be_vetted():
+    with open("disk", "wb") as it:
+        it.write(bytes(1024))
+    equal(tools("vet", "disk"), (1, "", "qimg-tools: disk: refused 19 metadata\nqimg-tools: disk: it doesn't begin as a qcow2 image: it may be a raw disk\n"), "a raw disk")
+    equal(tools("vet", "missing")[:2], (1, ""), "a missing file")
+
+
+# Whether two disks are the same
+
+def compared(status, line, *words):
+    """Both programs find the same, which is a line and a status."""
+    done = subprocess.run(["qemu-img", "compare", *words], capture_output=True, timeout=600)
+    equal((done.returncode, done.stdout.decode()), (status, f"{line}\n"), "QEMU's")
+    equal(tools("compare", *words), (status, f"{line}\n", ""), "ours")
+    equal(tools("compare", "-q", *words), (status, "", ""), "ours, without words")
+
+
+def comparisons():
+    qemu_image("cluster_size=4096")
+    tool("qemu-img", "convert", "-f", "qcow2", "-O", "raw", "disk", "raw")
+    told("convert", "-O", "qcow2", "-o", "cluster_size=2M", "raw", "other")
+    for words in (["disk", "raw"], ["raw", "disk"], ["disk", "other"], ["raw", "raw"], ["-f", "qcow2", "-F", "raw", "disk", "raw"]):
+        compared(0, "Images are identical.", *words)
+    put("raw", (5 << 20) - 1, b"\x77")
+    equal(tools("compare", "disk", "raw"), (1, f"Content mismatch at offset {(5 << 20) - 1}!\n", ""), "the last byte")
+    equal(subprocess.run(["qemu-img", "compare", "disk", "raw"], capture_output=True, timeout=600).returncode, 1, "QEMU's status")
+    put("raw", 65536, b"\x99")
+    compared(1, "Content mismatch at offset 65536!", "disk", "raw")
+    os.truncate("raw", 4 << 20)
+    done = subprocess.run(["qemu-img", "compare", "-s", "disk", "raw"], capture_output=True, timeout=600)
+    equal(tools("compare", "disk", "raw"), (done.returncode, done.stdout.decode(), ""), "other sizes, strictly")
+    equal(done.returncode, 1, "the status")
+
+
+def disks_that_cannot_be_compared():
+    """The status isn't that of disks which differ, and the file that can't be read is named."""
+    qemu_image("cluster_size=4096")
+    chained()
+    for words, named in ((["missing", "base"], "missing"), (["base", "missing"], "missing"), (["base", "disk"], "disk"), (["disk", "base"], "disk")):
+        status, text, messages = tools("compare", *words)
+        equal((status, text, messages.startswith(f"qimg-tools: {named}: ")), (2, "", True), f"{words}, with {messages}")
+    if "refused 12 dependency" not in messages or "backing file" not in messages:
+        raise AssertionError(f"it isn't said why: {messages}")
+    for words in (["base"], ["base", "base", "base"], ["--json", "base", "base"]):
+        equal(tools("compare", *words)[0], 2, f"{words}")
+
+
+# Other sizes
+
+def resized(words, size):
+    """The program and QEMU give an image the same size, and the bytes below both sizes stay."""
+    shutil.copy("disk", "theirs")
+    tool("qemu-img", "resize", "-q", "-f", "qcow2", *words[:-1], "theirs", words[-1])
+    equal(told("resize", *words[:-1], "disk", words[-1]), "Image resized.\n", f"{words}")
+    told_size = json.loads(tool("qemu-img", "info", "--output=json", "disk"))["virtual-size"]
+    equal(told_size, size, f"the size after {words}")
+    consistent("disk", 0)
+    equal(tool("qemu-img", "compare", "disk", "theirs").strip(), "Images are identical.", f"the disk after {words}")
+
+
+def sizes_of_disks():
+    qemu_image("cluster_size=4096")
+    for words, size in ((["+1M"], 6 << 20), (["8M"], 8 << 20), (["--shrink", "-7M"], 1 << 20), (["--shrink", "68k"], 69632), (["+2k"], 71680), (["1M"], 1 << 20)):
+        resized(words, size)
+    told("resize", "--preallocation=metadata", "disk", "+256k")
+    consistent("disk", 0)
+    told("convert", "disk", "raw")
+    equal((len(contents("raw")), any(contents("raw")[1 << 20:])), (1310720, False), "new bytes, in clusters that are taken at once")
+    before = contents("disk")
+    equal(tools("resize", "disk", "64k"), (1, "", "qimg-tools: disk: its last 1245184 bytes would be lost: --shrink allows it\n"), "a smaller disk")
+    equal(tools("resize", "--shrink", "disk", "-2M"), (1, "", "qimg-tools: disk: no disk has such a size\n"), "less than nothing")
+    equal(tools("resize", "disk", "+16383P")[0], 1, "a size past the longest table")
+    equal(json.loads(told("info", "--output=json", "disk"))["virtual-size"], 1310720, "the size")
+    told("resize", "-q", "--", "disk", "+0")
+    equal(contents("disk"), before, "the image")
+
+
+def bytes_that_come_back():
+    """A disk that is made smaller within a cluster and then larger has zeros behind the smaller size."""
+    create("disk", 65536, 65536)
+    run("disk", "fill 0 65536 11", "flush")
+    told("resize", "--shrink", "disk", "1k")
+    told("resize", "disk", "128k")
+    told("convert", "disk", "raw")
+    equal(contents("raw"), b"\x11" * 1024 + bytes(130048), "the disk")
+
+
+def an_overlay_is_not_resized():
+    chained()
+    before = contents("disk")
+    status, text, messages = tools("resize", "disk", "+1M")
+    equal((status, text, messages.splitlines()[0], contents("disk")), (1, "", "qimg-tools: disk: refused 12 dependency", before), "the refusal")
+
+
 # New images, and conversions
+
+def preallocations():
+    """Each of QEMU's modes takes the clusters that it names, and gives zeros."""
+    for mode, takes in (("off", False), ("metadata", True), ("falloc", True), ("full", True)):
+        told("create", "-o", f"cluster_size=4k,preallocation={mode}", "disk", "1M")
+        consistent("disk", 0)
+        runs = json.loads(tool("qemu-img", "map", "--output=json", "disk"))
+        equal(sum(it["length"] for it in runs if it["present"]), (1 << 20) * takes, f"the map of {mode}")
+        equal(sum(it["length"] for it in json.loads(told("map", "--json", "disk")) if it["data"]), (1 << 20) * takes, f"what {mode} takes")
+        told("convert", "disk", "raw")
+        equal(contents("raw") == bytes(1 << 20), True, f"the bytes of {mode}")
+    equal(os.stat("disk").st_blocks * 512 >= 1 << 20, True, "the room that a full image takes")
+    equal(tools("create", "-o", "preallocation=some", "disk", "1M")[0], 1, "another mode")
+
+
+def overlays():
+    """An image over a backing file is QEMU's: it has that one's size, or the size that is asked for, and shows its bytes."""
+    qemu_image("cluster_size=4096")
+    os.rename("disk", "base")
+    tool("qemu-img", "convert", "-f", "qcow2", "-O", "raw", "base", "raw")
+    os.mkdir("folder")
+    for words, size in ((["-b", "base", "-F", "qcow2", "disk"], 5 << 20), (["-b", "raw", "-F", "raw", "-o", "cluster_size=512", "disk"], 5 << 20), (["-b", "../base", "-F", "qcow2", "folder/disk", "6M"], 6 << 20), (["-F", "raw", "-b", os.path.abspath("raw"), "folder/disk"], 5 << 20)):
+        told("create", *words)
+        file = next(word for word in words if word.endswith("disk"))
+        theirs = json.loads(tool("qemu-img", "info", "--output=json", file))
+        below = (words[words.index("-b") + 1], words[words.index("-F") + 1])
+        equal((theirs["virtual-size"], theirs["backing-filename"], theirs["backing-filename-format"]), (size, *below), f"{words}")
+        equal(tool("qemu-img", "compare", "raw", file).strip().splitlines()[-1], "Images are identical.", f"the disk of {words}")
+        equal(tools("check", file)[:2], (0, "consistent, 0 leaked\n"), f"the check of {words}")
+        os.remove(file)
+    for words, named in ((["-b", "missing", "-F", "raw", "disk"], "missing"), (["-b", "raw", "-F", "qcow2", "disk"], "raw"), (["-b", "base", "-F", "qcow2", "-o", "preallocation=full", "disk"], "disk")):
+        status, text, messages = tools("create", *words)
+        equal((status, text, messages.startswith(f"qimg-tools: {named}: "), os.path.exists("disk")), (1, "", True, False), f"{words}, with {messages}")
+
+
+def images_of_images():
+    """An image of an image has the same disk, in the layout that is asked for."""
+    qemu_image("cluster_size=4096,refcount_bits=64")
+    for words, layout in (([], (65536, 16)), (["-o", "cluster_size=512,refcount_bits=1"], (512, 1)), (["-f", "qcow2", "--verify", "-o", "cluster_size=2M"], (2 << 20, 16))):
+        equal(told("convert", "-O", "qcow2", *words, "disk", "other"), "", "what is printed")
+        consistent("other", 0)
+        theirs = json.loads(tool("qemu-img", "info", "--output=json", "other"))
+        equal((theirs["cluster-size"], theirs["format-specific"]["data"]["refcount-bits"]), layout, "the layout")
+        equal(tool("qemu-img", "compare", "disk", "other").strip(), "Images are identical.", f"the disk of {words}")
+    equal(rises(told("convert", "-p", "-O", "qcow2", "disk", "other")), [0, 100], "the percents")
+    with_a_snapshot()
+    told("convert", "-O", "qcow2", "disk", "other")
+    consistent("other", 0)
+    equal(told("compare", "disk", "other"), "Images are identical.\n", "the disk of an image with a snapshot")
+
+
+def images_of_what_cannot_be_read():
+    """The source is named, with what can be done, and no file is made."""
+    for make, number, words in ((chained, 12, "qemu-img convert"), (lambda: compressed("zlib"), 7, "compressed")):
+        make()
+        before = sorted(os.listdir("."))
+        for target in (["-O", "qcow2"], []):
+            status, text, messages = tools("convert", *target, "disk", "other")
+            equal((status, text, messages.startswith(f"qimg-tools: disk: refused {number} ")), (1, "", True), f"{target}, with {messages}")
+            equal((words in messages, sorted(os.listdir("."))), (True, before), f"what is said, and the files: {messages}")
+
+
+def conversions_that_are_verified():
+    """A write that is lost is found out before the file has its name."""
+    create("disk", 262144, 65536)
+    run("disk", "fill 0 262144 22", "flush")
+    told("convert", "--verify", "disk", "other")
+    with open("other", "wb") as it:
+        it.write(BEFORE)
+    part = os.path.abspath(".other.qimg-part")
+    for words, status in (([], 0), (["--verify"], 1)):
+        done = subprocess.run(["strace", "-f", "-qq", "-o", "calls", "-P", part, "-e", "inject=pwrite64:retval=65536:when=2", TOOLS, "convert", *words, "disk", "other"], capture_output=True, timeout=600)
+        if "INJECTED" not in contents("calls").decode():
+            raise AssertionError("no write was lost")
+        equal((done.returncode, done.stdout, os.path.exists(part)), (status, b"", False), f"{words}, with {done.stderr}")
+        if status:
+            equal((done.stderr, contents("other")), (b"qimg-tools: other: it was written, and reads otherwise than the source\n", BEFORE), "what is told, and the file")
+        with open("other", "wb") as it:
+            it.write(BEFORE)
 
 def created(words, layout):
     told("create", *words, "disk", "10M")
@@ -341,10 +664,7 @@ def there_and_back(size, layout):
 def conversions_that_are_refused():
     create("disk", 65536, 512)
     os.truncate("disk", 2048)
-    status, _, messages = tools("convert", "-O", "qcow2", "disk", "other")
-    equal((status, "convert it to a raw disk" in messages), (1, True), f"an image taken as a raw disk, with {messages}")
-    equal(tools("convert", "-f", "raw", "disk", "other")[0], 1, "a raw disk of a raw disk")
-    equal(tools("convert", "-f", "qcow2", "-O", "qcow2", "disk", "other")[0], 1, "an image of an image")
+    equal(tools("convert", "-f", "raw", "disk", "other"), (1, "", "qimg-tools: disk: a raw disk of a raw disk is a copy, as cp makes it\n"), "a raw disk of a raw disk")
     equal(os.listdir("."), ["disk"], "the files")
     told("convert", "-f", "raw", "-O", "qcow2", "disk", "other")
     told("convert", "other", "again")
@@ -385,6 +705,8 @@ def files_past_a_limit():
         done = subprocess.run(["prlimit", "--fsize=6000", TOOLS, *words], capture_output=True, timeout=600)
         equal((done.returncode, contents("other"), sorted(os.listdir("."))), (1, BEFORE, ["disk", "other", "raw"]), f"{words}, with {done.stderr}")
     equal(done.stderr.decode(), "qimg-tools: other: it can hold 6000 bytes, and the disk has 8704\n", "the message")
+    done = subprocess.run(["prlimit", "--fsize=6000", TOOLS, "create", "-o", "cluster_size=512,preallocation=full", "new", "64k"], capture_output=True, timeout=600)
+    equal((done.returncode, b"refused 15 storage" in done.stderr, os.path.exists("new")), (1, True, False), f"a new image, with {done.stderr}")
 
 
 def a_device_that_is_too_small():
@@ -413,7 +735,7 @@ def an_image_that_qemu_has_open():
     told("create", "other", "1M")
     before = contents("disk")
     with opened_by_qemu("disk"):
-        for words in (["create", "disk", "2M"], ["convert", "other", "disk"], ["convert", "-f", "raw", "-O", "qcow2", "other", "disk"]):
+        for words in (["create", "disk", "2M"], ["resize", "disk", "2M"], ["convert", "other", "disk"], ["convert", "-f", "raw", "-O", "qcow2", "other", "disk"]):
             equal(tools(*words), (1, "", "qimg-tools: disk: another program, such as QEMU, has it open\n"), f"{words}")
         equal(contents("disk"), before, "the image")
     told("create", "disk", "2M")
@@ -452,7 +774,10 @@ BAD_WORDS = [
     (["convert", "a", "b", "c"], "c"), (["convert", "-O", "vmdk", "a", "b"], "vmdk"), (["create", "disk"], "a second word is missing"), (["create", "-o", "size=1", "disk", "1M"], "size=1"),
     (["create", "-o", "cluster_size=x", "disk", "1M"], "cluster_size=x"), (["create", "-o"], "-o"), (["create", "-O", "raw", "disk", "1M"], "-O"), (["Info", "disk"], "Info"), (["--help", "more"], "more"),
     (["--version", "-p"], "-p"), (["create", "disk", "1x"], "1x"), (["convert", "-o", "cluster_size=4k", "-O", "raw", "a", "b"], "-o"), (["convert", "-o", "cluster_size=4k", "a", "b"], "-o"),
-    (["info", "--frob", "disk"], "--frob"),
+    (["info", "--frob", "disk"], "--frob"), (["vet"], "a file is missing"), (["vet", "--max-size", "x", "disk"], "x"), (["vet", "-o", "disk"], "-o"), (["resize", "disk"], "a second word is missing"),
+    (["resize", "disk", "+"], "+"), (["resize", "--preallocation=some", "disk", "1M"], "--preallocation=some"), (["resize", "--shrink=1", "disk", "1M"], "--shrink=1"), (["resize", "-F", "raw", "disk", "1M"], "-F"),
+    (["convert", "--verify=yes", "a", "b"], "--verify=yes"), (["convert", "-o", "preallocation=full", "-O", "qcow2", "a", "b"], "preallocation=full"), (["create", "--shrink", "disk", "1M"], "--shrink"),
+    (["create", "-b", "base", "disk", "1M"], "-b"), (["create", "-F", "raw", "disk", "1M"], "-F"), (["convert", "-b", "base", "disk", "other"], "-b"), (["info", "-1", "disk"], "-1"), (["info", "--", "-1", "disk"], "disk"),
 ]
 
 
@@ -468,7 +793,7 @@ def help_and_version():
     if not told("--help").startswith("usage: qimg-tools info"):
         raise AssertionError("no help")
     equal(told("--version").split()[0], "qimg-tools", "the version")
-    for command in ("info", "map", "check", "convert", "create"):
+    for command in ("info", "map", "check", "vet", "compare", "convert", "create", "resize"):
         equal((told(command, "--help"), told(command, "-h", "disk")), (told("--help"), told("--help")), f"{command} --help")
     equal(os.listdir("."), [], "the files")
 
@@ -489,6 +814,8 @@ def main():
         info_names_the_backing_file, control_characters_in_names, sizes_as_qemu_rounds_them, sizes_for_people, map_of_an_overlay, map_of_compressed_data, map_of_nothing, check_of_a_consistent_image, check_of_a_leak, check_of_a_missing_count, what_is_no_image,
         why_an_image_is_refused, check_names_each_breach, a_map_that_cannot_be_finished, formats_that_are_given, parts_of_sectors, the_file_that_failed, files_past_a_limit, a_device_that_is_too_small,
         an_image_that_qemu_has_open, a_conversion_that_is_stopped, words_that_are_no_text,
+        info_of_what_is_not_read, images_without_errors, errors_beside_what_is_not_covered, images_that_may_be_taken_in, images_that_may_not_be_taken_in, what_cannot_be_vetted, comparisons, disks_that_cannot_be_compared,
+        overlays, sizes_of_disks, bytes_that_come_back, an_overlay_is_not_resized, preallocations, images_of_images, images_of_what_cannot_be_read, conversions_that_are_verified,
         sizes, layouts_that_images_do_not_have, progress_as_qemu_shows_it, progress_of_little_and_of_much, conversions_that_are_refused, a_full_device, help_and_version,
     ):
         checks.run(check.__name__, check)

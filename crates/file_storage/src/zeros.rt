@@ -33,7 +33,8 @@ pub(crate) fn write_or_grow(file: &File, from: u64, to: u64) -> io::Result<()> {
     Ok(())
 }
 
-// Cuts a file to a size, or grows it up to a limit. One that has it is left alone: a file that was cut to no bytes is written to the device as it is closed.
+// Cuts a file to a size, or grows it up to a limit. A file that has the size is left alone: one that was cut to no bytes is written to
+// the device as it is closed.
 pub(crate) fn set_size(file: &File, size: u64, limit: u64) -> io::Result<()> {
     let before = size_of(file)?;
     if before == size {

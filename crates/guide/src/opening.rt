@@ -5,7 +5,7 @@ use std::alloc::Global;
 
 /// Opens an image for writing. Images that are open together have different numbers.
 pub fn open<S: Storage>(alloc: Global, storage: S, number: u64) -> Result<Qcow2<S>, ImageError> {
-    match Qcow2::open_alone(alloc, storage, true, number) {
+    match Qcow2::builder(storage, number).write(true).open(alloc) {
         Ok(image) => Ok(image),
         Err((_storage, refusal)) => Err(refusal),
     }
@@ -19,7 +19,7 @@ pub fn make<S: Storage>(
     number: u64,
 ) -> Result<Qcow2<S>, ImageError> {
     let builder = Qcow2CreateBuilder::new(storage).size(size);
-    match builder.create_open(alloc, number) {
+    match builder.create_open(alloc, |made| Ok(Qcow2::builder(made, number))) {
         Ok(image) => Ok(image),
         Err((_storage, refusal)) => Err(refusal),
     }

@@ -11,12 +11,9 @@ pub fn open_over<S: Storage, F: WrappedFormat<S>>(
     number: u64,
     below: F,
 ) -> Result<Qcow2<S, F>, ImageError> {
-    let mut image = match Qcow2::open_with_own_data(alloc, storage, true, number) {
-        Ok(image) => image,
-        Err((_storage, refusal)) => return Err(refusal),
-    };
-    match image.set_backing(Some(below)) {
-        Ok(()) => Ok(image),
-        Err((_below, refusal)) => Err(refusal),
+    let builder = Qcow2::builder(storage, number).write(true);
+    match builder.backing(Some(below)).open(alloc) {
+        Ok(image) => Ok(image),
+        Err((_storage, refusal)) => Err(refusal),
     }
 }

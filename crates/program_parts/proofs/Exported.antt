@@ -40,7 +40,7 @@ once_flushed P before now copied (Err e) same is h = tt
 module _ {S F : Type 0} (view : S → StorageView) (backing : F → BackingView) (storage : StorageView) (old new : Qcow2 S F)
     (opened : IsOpened (abstract_of view backing old [])) (alone : is_some old.backing ≡ false) (same : (view (storage_of_image old)).contents ≡ storage.contents) where
   -- the disk of the image is that of the contents
-  disk_is : (guest_of (abstract_of view backing old [])).disk ≡ disk_alone (byte_at storage.contents)
+  pub disk_is : (guest_of (abstract_of view backing old [])).disk ≡ disk_alone (byte_at storage.contents)
   disk_is = ap (λ b. disk b (abstract_of view backing old []).setting.backing) (opened.clean ∙ ap byte_at same) ∙ ap (disk (byte_at storage.contents)) (none_below view backing old.backing alone)
 
   pub has_export : (raw : List ℕ) (n : ℕ) → Exports view backing old raw n → IsExport storage.contents n raw

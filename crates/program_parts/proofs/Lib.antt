@@ -6,3 +6,5 @@ pub mod Texts
 pub mod Counted
 pub mod Making
 pub mod Refused
+pub mod TakenIn
+pub mod Compared

@@ -1,6 +1,9 @@
 -- Why an image isn't made of a raw disk, and a raw disk not of an image.
-use Rattle.std.proofs.Common.{◌≡◌, ◌≢◌, ◌⊎◌, inl, inr, ⊎_elim, ℕ, List, [], None, Result, Ok, Err, refl, sym, ap, ◌∙◌, subst, true, false}
-use Rattle.std.specs.Prelude.{IfErr, IsErrAnd, IsTrue}
+use Rattle.std.proofs.Common.{◌≡◌, ◌≢◌, ◌⊎◌, inl, inr, ⊎_elim, ℕ, ◌+◌, ◌≤◌, ◌^◌, List, [], None, Result, Ok, Err, refl, sym, ap, ◌∙◌, subst, true, false, arith}
+use Rattle.std.specs.Prelude.{IfErr, IsErrAnd, IsTrue, Option, length, option_map, unwrap_or}
+use Rattle.std.specs.String.{string_bytes}
+use Rattle.std.proofs.Math.Pow.{pow_mono}
+use Rattle.qcow2_metadata.specs.HeaderWrite.{name_place}
 use Rattle.std.specs.Option.{is_some, option_or}
 use Rattle.image_access.specs.Backing.{BackingView}
 use Rattle.image_access.specs.Moments.{StorageView}
@@ -15,11 +18,11 @@ use Rattle.qcow2_alloc.specs.ImageError.{IsFault}
 use Rattle.qcow2_alloc.specs.ImageFile.{known_in, state_in}
 use Rattle.qcow2_alloc.specs.declared.error.ImageError.{ImageError}
 use Rattle.qcow2_alloc.specs.declared.error.ImageError.TheVariants as I
-use Rattle.qcow2_image.specs.Created.{IsAllowed, IsCreated, IsReasonNotToCreateOpen}
+use Rattle.qcow2_image.specs.Created.{IsAllowed, IsCreated, IsReasonNotToCreateOpen, allocates_over, backing_format_in, backing_name_in}
 use Rattle.qcow2_image.specs.Image.{IsSameImage, is_writable, size_of, storage_of_image}
 use Rattle.qcow2_image.specs.ImageInvariant.{abstract_of, pending_in}
 use Rattle.qcow2_image.specs.MetAlone.{HasCompressedIn, IsMetReadingRange}
-use Rattle.qcow2_image.specs.Opened.{LeavesStorage, NeedsAnother}
+use Rattle.qcow2_image.specs.Opened.{NeedsAnother}
 use Rattle.qcow2_image.specs.Readable.{HeaderSuits, IsRefusedRightly, OpensRightly}
 use Rattle.qcow2_image.specs.Refusals.{passes, refuse_if, refuses_to_read}
 use Rattle.qcow2_image.specs.declared.builder.NoBacking.{NoBacking}
@@ -44,8 +47,8 @@ err_then (Err e) to h = to e h
 -- ---- an image of a raw disk
 
 -- the same clusters and counts are allowed, whatever the storage is
-layout_as : {S T : Type 0} (a : Qcow2CreateBuilder S) (b : Qcow2CreateBuilder T) → b.cluster_size ≡ a.cluster_size → b.refcount_width ≡ a.refcount_width → IsAllowed a → IsAllowed b
-layout_as a b clusters counts allowed = record {
+layout_as : {S T : Type 0} (a : Qcow2CreateBuilder S) (b : Qcow2CreateBuilder T) → b.cluster_size ≡ a.cluster_size → b.refcount_width ≡ a.refcount_width → b.backing_name ≡ None → b.backing_format ≡ None → IsAllowed a → IsAllowed b
+layout_as a b clusters counts name format allowed = record {
   cluster_bits = allowed.cluster_bits;
   refcount_order = allowed.refcount_order;
   cluster_size_is = clusters ∙ allowed.cluster_size_is;
@@ -53,21 +56,35 @@ layout_as a b clusters counts allowed = record {
   no_smaller = allowed.no_smaller;
   no_larger = allowed.no_larger;
   no_wider = allowed.no_wider;
+  room =
+      let low : 2 ^ 9 ≤ 2 ^ allowed.cluster_bits = pow_mono allowed.no_smaller in
+      let size : b.cluster_size ≡ 2 ^ allowed.cluster_bits = clusters ∙ allowed.cluster_size_is in
+      let short : name_place (backing_format_in b) None + length (unwrap_or (backing_name_in b) []) ≡ 112 =
+      ap (λ (f : Option _). name_place (option_map string_bytes f) None + length (unwrap_or (backing_name_in b) [])) format
+      ∙ ap (λ (n : Option _). 112 + length (unwrap_or (option_map string_bytes n) [])) name in
+      omega (arith, low, size, short);
 }
 
 module _ {S : Type 0} where
   -- the builder, as it is told one after the other
-  pub asked_so : (storage : S) (n cluster width : ℕ) (new sized clustered whole : Qcow2CreateBuilder S) → new ≡ record { image = storage; size = 0; preallocate = Mode.None; cluster_size = 65536; refcount_width = 16 }
+  pub asked_so : (storage : S) (n cluster width : ℕ) (new sized clustered whole : Qcow2CreateBuilder S) → new ≡ record { image = storage; size = 0; preallocate = Mode.None; cluster_size = 65536; refcount_width = 16; backing_name = None; backing_format = None }
       → sized ≡ record new { size = n } → clustered ≡ record sized { cluster_size = cluster } → whole ≡ record clustered { refcount_width = width } → whole ≡ asked_for storage n cluster width
   asked_so storage n cluster width new sized clustered whole first second third fourth =
       fourth ∙ ap (λ (b : Qcow2CreateBuilder S). record b { refcount_width = width }) (third ∙ ap (λ (b : Qcow2CreateBuilder S). record b { cluster_size = cluster }) (second ∙ ap (λ (b : Qcow2CreateBuilder S). record b { size = n }) first))
 
   module _ (storage : S) (n cluster width : ℕ) (built : Qcow2CreateBuilder S) (is : built ≡ asked_for storage n cluster width) where
     pub no_layout : ¬ IsLayout cluster width → ¬ IsAllowed built
-    no_layout none allowed = none (layout_as built (asked_for {S = Unit {0}} tt 0 cluster width) (sym (ap (λ (b : Qcow2CreateBuilder S). b.cluster_size) is)) (sym (ap (λ (b : Qcow2CreateBuilder S). b.refcount_width) is)) allowed)
+    no_layout none allowed = none (layout_as built (asked_for {S = Unit {0}} tt 0 cluster width) (sym (ap (λ (b : Qcow2CreateBuilder S). b.cluster_size) is)) (sym (ap (λ (b : Qcow2CreateBuilder S). b.refcount_width) is)) refl refl allowed)
 
     pub of_layout : IsLayout cluster width → IsAllowed built
-    of_layout layout = layout_as (asked_for {S = Unit {0}} tt 0 cluster width) built (ap (λ (b : Qcow2CreateBuilder S). b.cluster_size) is) (ap (λ (b : Qcow2CreateBuilder S). b.refcount_width) is) layout
+    of_layout layout = layout_as (asked_for {S = Unit {0}} tt 0 cluster width) built (ap (λ (b : Qcow2CreateBuilder S). b.cluster_size) is) (ap (λ (b : Qcow2CreateBuilder S). b.refcount_width) is) (ap (λ (b : Qcow2CreateBuilder S). b.backing_name) is) (ap (λ (b : Qcow2CreateBuilder S). b.backing_format) is) layout
+
+    -- it names no file below, and takes no clusters over one
+    pub unnamed : built.backing_name ≡ None
+    unnamed = ap (λ (b : Qcow2CreateBuilder S). b.backing_name) is
+
+    pub allocates_alone : allocates_over built ≡ false
+    allocates_alone = ap (λ (b : Qcow2CreateBuilder S). allocates_over b) is
 
     -- the storage is as it was where the builder says so
     pub untouched : {A : Type 0} (left : S) (r : Result A ImageError) (e reason : ImageError) → r ≡ Err e → (r ≡ Err reason) × (left ≡ built.image) → IsRefusedUntouched reason storage (left, Err e)
@@ -97,11 +114,12 @@ none_missing contents e alone = by e where
   by e why = absurd why
 
 -- an image that was created is refused so as it is opened
-pub opening_refused : {S F : Type 0} (view : S → StorageView) (builder : Qcow2CreateBuilder S) (storage : S) (refused : S × ImageError) → IsCreated builder (view storage) → LeavesStorage {F = F} view true (view storage) (Err refused)
-    → OpensRightly {S = S} {F = F} (view storage) true M.OtherFiles (Err refused) → IsReasonNotToCreateOpen view builder refused
-opening_refused {S} {F} view builder storage refused made left rightly =
-    let why = none_missing (view storage).contents refused.1 made.alone (rightly.1 made.honest) in
-    opening_reasons builder view storage (Err refused) made left
+pub opening_refused : {S : Type 0} (view : S → StorageView) (builder : Qcow2CreateBuilder S) (storage : S) (refused : S × ImageError) → builder.backing_name ≡ None → IsCreated builder (view storage)
+    → OpensRightly {S = S} {F = NoBacking} (view storage) true M.OtherFiles (Err refused) → IsReasonNotToCreateOpen view builder refused
+opening_refused {S} view builder storage refused unnamed made rightly =
+    let why = none_missing (view storage).contents refused.1 (made.alone unnamed) (rightly.1 made.honest) in
+    let result : Result (Qcow2 S NoBacking) (S × ImageError) = Err refused in
+    opening_reasons builder view storage result made
     (λ is. absurd (no_truth (subst (λ (e : ImageError). IsRefusedRightly (view storage).contents true M.Nothing e) is why).1.needs), λ honest. why)
   where
     no_truth : false ≡ true → ⊥

@@ -1,5 +1,5 @@
 -- What stands after an image was made of a raw disk, or a raw disk of an image.
-use Rattle.std.specs.Prelude.{ℕ, ◌≡◌, ◌⊎◌, ◌≤◌, false, IsErrAnd, IsTrue, length, List, [], Result, IsErrOf}
+use Rattle.std.specs.Prelude.{ℕ, ◌≡◌, ◌⊎◌, ◌≤◌, false, IsErrAnd, IsTrue, length, List, [], Result, IsErrOf, None}
 use Rattle.image_access.specs.Moments.{StorageView, Rose, UnlessErr}
 use Rattle.image_access.specs.declared.storage.PreallocateMode.TheVariants as Mode
 use Rattle.qcow2_metadata.specs.Bytes.{Bytes, byte_at}
@@ -72,7 +72,7 @@ pub record CountsBoth {T : Type 0} (before now raw_before raw_now : ℕ) (result
 
 -- how the image is asked for: with a disk of so many bytes for which no place is taken, and with these clusters and counts
 abbrev pub asked_for : {S : Type 0} → S → (n cluster width : ℕ) → Qcow2CreateBuilder S
-asked_for storage n cluster width = record { image = storage; size = n; preallocate = Mode.None; cluster_size = cluster; refcount_width = width }
+asked_for storage n cluster width = record { image = storage; size = n; preallocate = Mode.None; cluster_size = cluster; refcount_width = width; backing_name = None; backing_format = None }
 
 -- images may have clusters of so many bytes, and counts of so many bits
 abbrev pub IsLayout : (cluster width : ℕ) → Type 0

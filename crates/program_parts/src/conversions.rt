@@ -14,7 +14,9 @@ ghost use Rattle.qcow2_alloc.specs.ImageError.{IsFault};
 ghost use Rattle.qcow2_alloc.specs.declared.error.ImageError.TheVariants.{InvalidOption, Limit};
 ghost use Rattle.qcow2_alloc.specs.Quiet.{IsQuiet};
 ghost use Rattle.qcow2_session.specs.Conversions.{Imports, IsLeft, IsMetImporting, IsOfImporting};
-ghost use Rattle.program_parts.specs.Conversions.{CountsBoth, IsImageOf, IsImageOfSize, IsLayout, IsMetExporting, IsReasonNotToMake, IsRefusedUntouched, IsStopOfMaking, IsUnopened, IsExport, KeepsDisk, OpensToExport, asked_for};
+ghost use Rattle.program_parts.specs.Conversions.{CountsBoth, IsImageOf, IsImageOfSize, IsLayout, IsMetExporting};
+ghost use Rattle.program_parts.specs.Conversions.{IsReasonNotToMake, IsRefusedUntouched, IsStopOfMaking, IsUnopened};
+ghost use Rattle.program_parts.specs.Conversions.{IsExport, KeepsDisk, OpensToExport, asked_for};
 
 use image_access::{Storage, WrappedFormat};
 use qcow2_image::{ImageError, NoBacking, Qcow2, Qcow2CreateBuilder};

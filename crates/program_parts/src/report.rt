@@ -1,20 +1,23 @@
 //! The report of an image, as it is printed.
-ghost use Rattle.std.specs.Prelude.{◌≡◌, ◌∷◌, ◌++◌, [], OnOk};
+ghost use Rattle.std.specs.Prelude.{◌≡◌, ◌∷◌, ◌++◌, [], IfOk, OnOk, length};
+ghost use Rattle.std.specs.Fmt.{decimal};
 ghost use Rattle.std.specs.Io.KnownBytes.{Appends};
-ghost use Rattle.program_parts.specs.Reports.{kind_word, breach_line, leak_line, consistent_line, verdict_line, text_of_lines, text_of_report};
+ghost use Rattle.program_parts.specs.Reports.{kind_word, breach_line, leak_line, consistent_line, verdict_line};
+ghost use Rattle.program_parts.specs.Reports.{text_of_lines, text_of_report};
 
-use qcow2_check::{Breach, Kind, Leak, Report};
+use itoa::Buffer;
+use qcow2_check::{Breach, Kind, Leak, Leaks, Report};
 use std::io;
 use std::io::Write;
 
 /// Prints the lines of a report: each breach, each leaked cluster, and what that comes to. Refused as the output is.
 pub fn print_report<W: Write>(output: &mut W, report: &Report) -> io::Result<()>
     ensures { OnOk result (Appends (W.contents output.old) (W.contents output.new)
-        (text_of_report report.now.breaches.items report.now.leaks.items)) }
+        (text_of_report report.now.breaches.items report.now.leaks)) }
 {
     print_breaches(output, &report.breaches)?;
-    print_leaks(output, &report.leaks)?;
-    print_verdict(output, report.breaches.len(), report.leaks.len())
+    let leaks = print_leaks(output, &report.leaks)?;
+    print_verdict(output, report.breaches.len(), leaks)
 }
 
 // The last line.
@@ -34,7 +37,8 @@ fn print_consistent<W: Write>(output: &mut W, leaks: usize) -> io::Result<()>
     writeln!(output, "consistent, {leaks} leaked")
 }
 
-fn print_breaches<W: Write>(output: &mut W, breaches: &[Breach]) -> io::Result<()>
+/// Prints a line for each breach. Refused as the output is.
+pub fn print_breaches<W: Write>(output: &mut W, breaches: &[Breach]) -> io::Result<()>
     ensures { OnOk result (Appends (W.contents output.old) (W.contents output.new) (text_of_lines breach_line breaches.now)) }
 {
     for breach in breaches {
@@ -43,24 +47,37 @@ fn print_breaches<W: Write>(output: &mut W, breaches: &[Breach]) -> io::Result<(
     Ok(())
 }
 
-fn print_leaks<W: Write>(output: &mut W, leaks: &[Leak]) -> io::Result<()>
-    ensures { OnOk result (Appends (W.contents output.old) (W.contents output.new) (text_of_lines leak_line leaks.now)) }
+// The answer is how many there are.
+fn print_leaks<W: Write>(output: &mut W, leaks: &Leaks) -> io::Result<usize>
+    ensures lines { OnOk result (Appends (W.contents output.old) (W.contents output.new) (text_of_lines leak_line leaks.now)) }
+    ensures count { IfOk result (λ n. n ≡ length leaks.now) }
 {
-    for leak in leaks {
-        print_leak(output, leak)?;
+    let mut count = 0;
+    for leak in leaks.iter() {
+        print_leak(output, &leak)?;
+        count += 1;
     }
-    Ok(())
+    Ok(count)
 }
 
+// A leak is one of many, so its line is written without a formatter.
 fn print_leak<W: Write>(output: &mut W, leak: &Leak) -> io::Result<()>
     ensures { OnOk result (Appends (W.contents output.old) (W.contents output.new) (leak_line leak.now ++ 10 ∷ [])) }
 {
-    let Leak {
-        cluster,
-        count,
-        named,
-    } = *leak;
-    writeln!(output, "leak {cluster} {count} {named}")
+    output.write_all(b"leak ")?;
+    print_number(output, leak.cluster)?;
+    output.write_all(b" ")?;
+    print_number(output, leak.count)?;
+    output.write_all(b" ")?;
+    print_number(output, leak.named)?;
+    output.write_all(b"\n")
+}
+
+fn print_number<W: Write>(output: &mut W, number: u64) -> io::Result<()>
+    ensures { OnOk result (Appends (W.contents output.old) (W.contents output.new) (decimal number)) }
+{
+    let mut digits = Buffer::new();
+    output.write_all(digits.format(number).as_bytes())
 }
 
 fn print_breach<W: Write>(output: &mut W, breach: &Breach) -> io::Result<()>

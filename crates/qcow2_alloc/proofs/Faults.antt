@@ -25,19 +25,11 @@ use Rattle.qcow2_alloc.specs.declared.image_storage.ImageStorage.{ImageStorage}
 use Rattle.qcow2_metadata.specs.L2Table.{L2TableView}
 use Rattle.qcow2_metadata.specs.RefBlock.{RefBlockView}
 use Rattle.qcow2_metadata.specs.declared.header.HeaderFields.{HeaderFields}
-use Rattle.qcow2_alloc.specs.ImageError.{of_storage, of_metadata, of_cache, IsFault}
+use Rattle.qcow2_alloc.specs.ImageError.{of_storage, of_metadata, of_cache}
 use Rattle.qcow2_alloc.specs.TableSteps.{IsTableFault, answer_refused, table_steps}
 use Rattle.qcow2_alloc.proofs.CacheFaults as F
 use Rattle.qcow2_alloc.proofs.KeptTables.Fetching.{none_or_some}
 use Rattle.qcow2_alloc.proofs.KeptTables.Inserting.{found_or_not, lookup_none}
-
--- one call after others
-pub told_since : {T : Type 0} {result : Result T ImageError} (before mid now : ℕ) → mid ≡ before → FaultsTold mid now result → FaultsTold before now result
-told_since {T} {result} before mid now same told = subst (λ n. FaultsTold n now result) same told
-
--- what stays where a refusal isn't the storage's failure
-pub stays_unless : {T : Type 0} (before now : ℕ) (e : ImageError) → FaultsTold {T = T} before now (Err e) → e ≢ I.Storage → now ≡ before
-stays_unless before now e told other = told.told other
 
 -- what the storage answered
 pub unless_fault : {A : Type 0} (r : Result A StorageError) (P : Type 0) → UnlessErr r S.Fault P → ¬ IsErrOf r S.Fault → P
@@ -51,18 +43,10 @@ module _ {T A E : Type 0} (of_error : E → ImageError) (before now : ℕ) (answ
   handed_on e (Ok _) is on = absurd (let bad = on.0 in cc)
   handed_on e (Err x) is on = record { no_fewer = no_fewer; rose = λ storage. let same : x ≡ I.Storage = cc in rose (raised e is (sym on.1 ∙ same)); told = λ other. stays e is (λ bad. other (on.1 ∙ bad)) }
 
--- one of this driver's own
-pub told_on : {T A : Type 0} (before now : ℕ) (answer : Result A ImageError) (e : ImageError) (result : Result T ImageError) → FaultsTold before now answer → answer ≡ Err e → IsErr result × IsErrAnd result (λ x. x ≡ e) → FaultsTold before now result
-told_on before now answer e result told = handed_on (λ x. x) before now answer (answer ≡ Err I.Storage) (λ x is storage. is ∙ ap Err storage) told.no_fewer told.rose (λ x is other. stays_unless before now x (subst (λ r. FaultsTold before now r) is told) other) e result
-
 -- what holds of a failure that was met and of a refusal, holds of what that is told as
 pub told_as : (P : ImageError → Type 0) (noted : Bool) (x e : ImageError) → (noted ≡ true → x ≡ I.Storage) → (noted ≡ false → x ≡ e) → P I.Storage → P e → P x
 told_as P true x e met unmet storage other = subst P (sym (met refl)) storage
 told_as P false x e met unmet storage other = subst P (sym (unmet refl)) other
-
--- no refusal
-pub told_ok : {T : Type 0} (before now : ℕ) (x : T) → now ≡ before → FaultsTold before now (Ok x)
-told_ok before now x same = record { no_fewer = omega arith; rose = λ bad. absurd (cc); told = same }
 
 -- ---- errors of the lower layers
 

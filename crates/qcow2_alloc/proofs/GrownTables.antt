@@ -1,5 +1,5 @@
 -- A longer reftable that stands ready with its refblocks is such as the header may name.
-use Rattle.std.proofs.Common.{◌≡◌, ◌≢◌, inl, inr, ℕ, ◌+◌, ◌-◌, ◌*◌, ◌/◌, ◌%◌, ◌<◌, ◌≤◌, ◌==◌, cond, nat_lt, List, length, refl, sym, ap, ◌∙◌, subst, arith}
+use Rattle.std.proofs.Common.{◌≡◌, ◌≢◌, inl, inr, ℕ, ◌+◌, ◌-◌, ◌*◌, ◌/◌, ◌%◌, ◌^◌, ◌<◌, ◌≤◌, ◌==◌, cond, nat_lt, List, length, Option, Some, refl, sym, ap, ◌∙◌, subst, arith}
 use Rattle.std.proofs.lemmas.Bool.{cases_eq, cases_lt, eq-eqb, ne_eqb, cond-true, cond-false, lt-ltb, le-ltb}
 use Rattle.std.proofs.lemmas.Nat.{div-mul-add, mod_below}
 use Rattle.image_access.specs.Moments.{StorageView}
@@ -7,7 +7,7 @@ use Rattle.qcow2_metadata.specs.Bytes.{Bytes, byte_at, number_at, sum_below}
 use Rattle.qcow2_metadata.specs.declared.header.HeaderFields.{HeaderFields}
 use Rattle.qcow2_metadata.specs.Header.{cluster_size, counts_per_block, count_width, reftable_entries, entries_per_cluster, with_reftable}
 use Rattle.qcow2_metadata.specs.Entries.{reftable_entry, l2_entry, block_offset, block_count, count, ReftableEntryReads}
-use Rattle.qcow2_metadata.specs.EntryTable.{EntryTableView, IsRefTable, IsRefTableOf, NamesRefTable, entry_count}
+use Rattle.qcow2_metadata.specs.EntryTable.{EntryTableView, HasRoomIfPlaced, IsRefTable, IsRefTableOf, NamesRefTable, entry_count}
 use Rattle.qcow2_metadata.specs.Named.{in_run, table_in, named_by_reftable}
 use Rattle.qcow2_metadata.specs.TableBytes.{entry_at}
 use Rattle.qcow2_metadata.proofs.EntryTables.{entry_at_past}
@@ -229,9 +229,15 @@ module _ {S : Type 0} (view : S → StorageView) (p : Pending) (first blocks clu
         clean_counts h (order_of file.caches) q (l2_tables file.caches) (refblocks file.caches) on_storage sound.caches.kept.kept ready.clean c,
       )
 
+  pub ends : place + length t.bytes < 2 ^ 64
+  ends =
+      let room : HasRoomIfPlaced t.cluster_bits (length t.bytes) (Some (first + blocks)) = subst (λ (c : Option ℕ). HasRoomIfPlaced t.cluster_bits (length t.bytes) c) ready.grown.cluster is_table.room in
+      subst (λ b. (first + blocks) * 2 ^ b + length t.bytes < 2 ^ 64) ready.grown.bits room
+
   pub new_reftable : IsNewReftable h (order_of file.caches) q on_storage known place clusters (run_at first blocks) (counted_anew h old first n)
   new_reftable = record {
     aligned = cluster_aligned (first + blocks) h.cluster_bits;
+    fits = let last = ends in let whole = is_table.table.whole in let entries = many in omega (arith, last, whole, entries);
     same = new_same;
     known_same = new_known;
     reads = λ k. subst ReftableEntryReads (new_entries k) (is_table.reads k);

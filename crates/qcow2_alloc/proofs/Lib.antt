@@ -44,3 +44,9 @@ pub mod KeptNotes
 pub mod MetFaults
 pub mod KeptMarks
 pub mod Steps
+pub mod CacheSteps
+pub mod ChangedTables
+pub mod Marks
+pub mod Uses
+pub mod TableMarks
+pub mod FlushedMarks

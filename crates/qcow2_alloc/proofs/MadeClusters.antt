@@ -28,6 +28,7 @@ use Rattle.qcow2_alloc.specs.Allocation.{run_at, taken_as, is_data, Allocates, K
 use Rattle.qcow2_alloc.specs.FreeList.{of_data, of_tables, to_free, pending_then, run_of, ListsTables, ListsReftables, IsRunOfTable}
 use Rattle.qcow2_alloc.specs.GrownTables.{reftable_at, without_reftable}
 use Rattle.qcow2_alloc.specs.ImageFile.{pending_at, contents_in, known_in, FileInvariant, HasReftable, AllocatorInvariant, UnseenFileGrowth}
+use Rattle.qcow2_alloc.specs.Limits.{IsPastLimits}
 use Rattle.qcow2_alloc.specs.LowestRuns.{IsUsed}
 use Rattle.qcow2_alloc.specs.MetadataCaches.{order_of}
 use Rattle.qcow2_alloc.specs.MadeClusters.{IsOfNewRefblock, IsOfReftable, IsMadeOnTheWay, IsMadeInTurn, IsListedSince, listed_at, run_in, CountsListed, ListsUsed, TakesAlone}
@@ -473,6 +474,6 @@ module _ {S : Type 0} (view : S → StorageView) where
 
 -- the answer that no cluster was taken, with less said of it
 pub none_used : {S : Type 0} (view : S → StorageView) (new : ImageFile S) (h : HeaderFields) (cluster : ℕ) (Was : Type 0) (result : Result (Option ClustersToFreeEntry) ImageError)
-    → IfOk result (λ run. IsNone run → (IsHostCluster h.cluster_bits cluster → ⊥) ⊎ (IsUsed view new cluster × Was)) → IfOk result (λ run. IsNone run → (IsHostCluster h.cluster_bits cluster → ⊥) ⊎ IsUsed view new cluster)
+    → IfOk result (λ run. IsNone run → IsPastLimits h cluster ⊎ (IsUsed view new cluster × Was)) → IfOk result (λ run. IsNone run → IsPastLimits h cluster ⊎ IsUsed view new cluster)
 none_used view new h cluster Was (Ok run) why = λ none. elim (why none) [ inl far ↦ inl far | inr used ↦ inr used.0 ]
 none_used view new h cluster Was (Err e) why = tt

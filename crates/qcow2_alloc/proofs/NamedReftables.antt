@@ -1,5 +1,5 @@
 -- The header is written to name a longer reftable, which is the allocator's own then.
-use Rattle.std.proofs.Common.{◌≡◌, ◌≢◌, ◌⊎◌, inl, inr, ℕ, ◌+◌, ◌-◌, ◌*◌, ◌/◌, ◌^◌, ◌<◌, ◌≤◌, List, [], length, Option, Some, Result, Ok, IsTrue, refl, sym, ap, ◌∙◌, subst, arith}
+use Rattle.std.proofs.Common.{◌≡◌, ◌≢◌, ◌⊎◌, inl, inr, ℕ, ◌+◌, ◌-◌, ◌*◌, ◌/◌, ◌^◌, ◌<◌, ◌≤◌, List, [], length, Some, Result, Ok, IsTrue, refl, sym, ap, ◌∙◌, subst, arith}
 use Rattle.std.proofs.Math.Nat.{mul-le-mul_left}
 use Rattle.std.proofs.lemmas.Bool.{cases_eq, or_left}
 use Rattle.image_access.specs.Moments.{StorageView, Changes, Calls}
@@ -9,7 +9,7 @@ use Rattle.qcow2_metadata.specs.declared.header.HeaderFields.{HeaderFields}
 use Rattle.qcow2_metadata.specs.Header.{HeaderView, cluster_size, entries_per_cluster, with_fields, with_reftable}
 use Rattle.qcow2_metadata.specs.HeaderWrite.{reftable_pointer_written}
 use Rattle.qcow2_metadata.specs.Entries.{l1_entry, reftable_entry, block_offset}
-use Rattle.qcow2_metadata.specs.EntryTable.{EntryTableView, IsRefTable, HasRoomIfPlaced, entry_count}
+use Rattle.qcow2_metadata.specs.EntryTable.{EntryTableView, IsRefTable, entry_count}
 use Rattle.qcow2_metadata.specs.TableBytes.{entry_at}
 use Rattle.qcow2_laws.specs.Caches.{HasBlock}
 use Rattle.qcow2_laws.specs.CrashInvariant.{Pending}
@@ -34,7 +34,7 @@ use Rattle.qcow2_alloc.specs.KeptTables.{AreLoaded}
 use Rattle.qcow2_alloc.specs.LowestRuns.{IsUsed}
 use Rattle.qcow2_alloc.specs.MetadataCaches.{order_of, refblocks, known_of}
 use Rattle.qcow2_alloc.proofs.FileSteps.{pending_same}
-use Rattle.qcow2_alloc.proofs.GrownTables.{counted_anew, clusters_of_run, run_counted, whole_clusters, new_entries, few_entries, new_reftable}
+use Rattle.qcow2_alloc.proofs.GrownTables.{counted_anew, clusters_of_run, run_counted, whole_clusters, new_entries, few_entries, ends, new_reftable}
 use Rattle.qcow2_alloc.proofs.HeaderKept.{same_block, header_named_blocks, header_sound}
 use Rattle.qcow2_alloc.proofs.KeptTables.Named.{AreCurrentIn, current_none}
 use Rattle.qcow2_alloc.proofs.KeptTables.Standing.{own_cluster}
@@ -103,10 +103,7 @@ module _ {S : Type 0} (view : S → StorageView) (p : Pending) (first blocks clu
       omega (arith, one, most)
 
   near : place < 2 ^ 64
-  near =
-      let room : HasRoomIfPlaced t.cluster_bits (length t.bytes) (Some (first + blocks)) = subst (λ (c : Option ℕ). HasRoomIfPlaced t.cluster_bits (length t.bytes) c) ready.grown.cluster is_table.room in
-      let there : (first + blocks) * 2 ^ h.cluster_bits + length t.bytes < 2 ^ 64 = subst (λ b. (first + blocks) * 2 ^ b + length t.bytes < 2 ^ 64) ready.grown.bits room in
-      omega (arith, there)
+  near = let last = ends view p first blocks clusters file old t sound has ready is_table in omega (arith, last)
 
   writes : WritesHeader h (with_reftable_at h place clusters) on_storage known (byte_at written) (known_of h file.caches (byte_at written))
   writes = reftable_pointer_writes view q file sound place clusters few limit near

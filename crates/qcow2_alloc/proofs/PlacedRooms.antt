@@ -39,7 +39,7 @@ pub record EntersSo (h : HeaderFields) (old t0 t : EntryTableView) (first placed
 lacks_none : (t : EntryTableView) (k : ℕ) → lacks t k ≡ true → HasNone t k
 lacks_none t k is = elim (cases_eq (block_offset (entry_at t.bytes k)) 0) [ inl none ↦ none | inr real ↦ absurd (let no = ne_eqb (block_offset (entry_at t.bytes k)) 0 real in let bad : true ≡ false = sym is ∙ no in cc) ]
 
-has_some : (t : EntryTableView) (k : ℕ) → lacks t k ≡ false → block_offset (entry_at t.bytes k) ≢ 0
+pub has_some : (t : EntryTableView) (k : ℕ) → lacks t k ≡ false → block_offset (entry_at t.bytes k) ≢ 0
 has_some t k is none = let yes_so = eq-eqb (block_offset (entry_at t.bytes k)) 0 none in let bad : false ≡ true = sym is ∙ yes_so in cc
 
 -- an earlier cluster of the run lies in an earlier range than one that begins its range

@@ -10,7 +10,7 @@ use Rattle.qcow2_metadata.specs.MetadataError.{storage_result}
 use Rattle.qcow2_metadata.specs.EntryTable.{EntryTableView}
 use Rattle.qcow2_alloc.specs.Faults.{FaultsTold}
 use Rattle.qcow2_alloc.specs.CachePins.{KeepsPinsAndNotes}
-use Rattle.qcow2_alloc.specs.FreeList.{ListsTables, ListsReftables}
+use Rattle.qcow2_alloc.specs.FreeList.{GivesWay, ListsReftables}
 use Rattle.qcow2_alloc.specs.HeaderClusters.{KeepsHeaderCluster}
 use Rattle.qcow2_alloc.specs.ImageFile.{view_in}
 use Rattle.qcow2_alloc.specs.ImageError.{of_storage, of_metadata, IsOfTables}
@@ -20,7 +20,7 @@ use Rattle.qcow2_alloc.specs.declared.clusters_to_free.ClustersToFreeEntry.{Clus
 use Rattle.qcow2_alloc.specs.SparedHeaders.{CachesSpareHeader, KeepBehindHeader}
 use Rattle.qcow2_alloc.specs.declared.cache.MetadataCaches.{MetadataCaches}
 use Rattle.qcow2_alloc.specs.declared.image_storage.ImageStorage.{ImageStorage}
-use Rattle.qcow2_alloc.specs.Steps.{err_of, FailsFor, TableStep, FileStep, KeepsMarksInTurn, DataStep, PointerStep, FreeStep, FreeStepInTurn, PartStep}
+use Rattle.qcow2_alloc.specs.Steps.{err_of, FailsFor, TableStep, FileStep, KeepsMarksInTurn, DataStep, PointerStep, PointerStepTo, GrowthStep, FreeStep, FreeStepInTurn, PartStep}
 use Rattle.qcow2_alloc.specs.declared.error.ImageError.{ImageError}
 use Rattle.qcow2_alloc.specs.declared.error.ImageError.TheVariants as I
 use Rattle.qcow2_alloc.specs.declared.image_file.ImageFile.{ImageFile}
@@ -162,21 +162,30 @@ module _ {S : Type 0} {view : S → StorageView} where
 
   -- ---- where the header's pointer may change
   pub pointer_step_on : {t t' : EntryTableView} {a b : ImageFile S} → TableStep view t a t' b → PointerStep view t a t' b
-  pointer_step_on {t} {t'} {a} {b} step = record { header = header_same a.header b.header step.header; marks = step.marks; header_cluster = spares_less step.header_cluster }
-
-  pub pointer_step_none : {t : EntryTableView} {f : ImageFile S} → PointerStep view t f t f
-  pointer_step_none = pointer_step_on table_step_none
+  pointer_step_on {t} {t'} {a} {b} step = record { header = header_same a.header b.header step.header; list = step.list; marks = step.marks; header_cluster = λ _. spares_less step.header_cluster }
 
   pub pointer_step_then : {t t' t'' : EntryTableView} {a b c : ImageFile S} → PointerStep view t a t' b → PointerStep view t' b t'' c → PointerStep view t a t'' c
-  pointer_step_then {t} {t'} {t''} {a} {b} {c} first then =
-      record { header = header_then a.header b.header c.header first.header then.header; marks = kept_marks_then first.marks then.marks; header_cluster = spares_then first.header_cluster then.header_cluster }
+  pointer_step_then {t} {t'} {t''} {a} {b} {c} first then = record {
+    header = header_then a.header b.header c.header first.header then.header;
+    list = then.list ∙ first.list;
+    marks = kept_marks_then first.marks then.marks;
+    header_cluster = λ _. spares_then (first.header_cluster tt) (then.header_cluster tt);
+  }
 
-  pub pointer_step_listed : {t t' : EntryTableView} {a b : ImageFile S} (list : List ClustersToFreeEntry) → PointerStep view t a t' b → PointerStep view t a t' (record b { free_list = list })
-  pointer_step_listed list step = record { header = step.header; marks = step.marks; header_cluster = spares_listed list step.header_cluster }
+  -- so it is where the table is one to be named
+  pub pointer_step_to : {IsToName : Type 0} {t t' : EntryTableView} {a b : ImageFile S} → IsToName → PointerStepTo view IsToName t a t' b → PointerStep view t a t' b
+  pointer_step_to is step = record { header = step.header; list = step.list; marks = step.marks; header_cluster = λ _. step.header_cluster is }
 
-  -- with what the list and the reftable say of it, it is one of a file
-  pub step_grown : {t t' : EntryTableView} {a b : ImageFile S} → PointerStep view t a t' b → ListsTables a.free_list b.free_list → ListsReftables t t' a.free_list b.free_list → FileStep view t a t' b
-  step_grown step list former = record { header = step.header; list = list; former = former; marks = step.marks; header_cluster = step.header_cluster }
+  -- the reftable stays, or gives way to a longer one, whose former clusters are listed
+  pub growth_step_on : {t t' : EntryTableView} {a b : ImageFile S} (r : Result (Unit {0}) ImageError) → PointerStep view t a t' b → GivesWay t t' a.free_list b.free_list r → GrowthStep view t a t' b r
+  growth_step_on {t} {t'} {a} {b} r step former = record { header = step.header; list = lists_same a.free_list b.free_list step.list; former = former; marks = step.marks; header_cluster = step.header_cluster tt }
+
+  pub growth_step_none : {t : EntryTableView} {f : ImageFile S} (r : Result (Unit {0}) ImageError) (e : ImageError) → IsErr r × IsErrAnd r (λ x. x ≡ e) → GrowthStep view t f t f r
+  growth_step_none {t} {f} r e on = growth_step_on r (pointer_step_on table_step_none) (handed_on (GivesWay t t f.free_list f.free_list) r e on (refl, refl))
+
+  -- with what the reftable says of it, it is one of a file
+  pub step_grown : {t t' : EntryTableView} {a b : ImageFile S} {r : Result (Unit {0}) ImageError} → GrowthStep view t a t' b r → ListsReftables t t' a.free_list b.free_list → FileStep view t a t' b
+  step_grown step former = record { header = step.header; list = step.list; former = former; marks = step.marks; header_cluster = step.header_cluster }
 
 -- ---- why a call is refused
 -- it isn't

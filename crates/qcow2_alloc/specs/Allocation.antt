@@ -5,6 +5,7 @@ use Rattle.qcow2_metadata.specs.declared.header.HeaderFields.{HeaderFields}
 use Rattle.qcow2_metadata.specs.Bytes.{Bytes, byte_at}
 use Rattle.qcow2_metadata.specs.Header.{cluster_size, counts_per_block}
 use Rattle.qcow2_metadata.specs.EntryTable.{EntryTableView, entry_count}
+use Rattle.qcow2_metadata.specs.L2Mapping.{IsHostCluster}
 use Rattle.qcow2_metadata.specs.RefBlock.{RefBlockView}
 use Rattle.qcow2_metadata.specs.TableBytes.{entry_at}
 use Rattle.qcow2_alloc.specs.TableCaches.{cleared_rb}
@@ -101,6 +102,14 @@ LacksBlock h reftable cluster e = (IsUnaligned h reftable (cluster / counts_per_
 pub record HasPlaceFor (counts_itself : Bool) (h : HeaderFields) (reftable : EntryTableView) (range at : ℕ) : Type 0 where
   pub none : HasNone reftable range
   pub first : StandsFirst counts_itself h range at
+
+-- the reftable has an entry for a range, and a refblock that it names may lie in a cluster, behind the header's
+pub record CanName (cluster_bits : ℕ) (reftable : EntryTableView) (range at : ℕ) : Type 0 where
+  pub within : range < entry_count reftable
+  pub placed : IsSome reftable.cluster
+  pub elsewhere : 0 < at
+  pub nameable : IsHostCluster reftable.cluster_bits at
+  pub nameable_here : IsHostCluster cluster_bits at
 
 -- No refblock comes to lie in cluster 0: each entry of the reftable stays, or names a refblock behind that cluster.
 pub record NamesBehindHeader (old new : EntryTableView) : Type 0 where

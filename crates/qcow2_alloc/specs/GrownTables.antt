@@ -1,5 +1,5 @@
 -- A longer reftable that stands ready with its refblocks, and the header's pointer that names it.
-use Rattle.std.specs.Prelude.{ℕ, ◌+◌, ◌*◌, ◌/◌, ◌%◌, ◌<◌, ◌≡◌, ◌≢◌, ◌==◌, Some, None, Result, Ok, Err, if◌then◌else◌}
+use Rattle.std.specs.Prelude.{ℕ, ◌+◌, ◌*◌, ◌/◌, ◌%◌, ◌<◌, ◌≡◌, ◌≢◌, ◌==◌, Some, None, IfSome, Result, Ok, Err, if◌then◌else◌}
 use Rattle.image_access.specs.Moments.{StorageView}
 use Rattle.qcow2_metadata.specs.Bytes.{sum_below}
 use Rattle.qcow2_metadata.specs.declared.header.HeaderFields.{HeaderFields}
@@ -33,6 +33,11 @@ with_run p h t first n = with_new_tables p (counted_run h t first n)
 -- the clusters of the reftable are to be freed
 abbrev pub without_reftable : Pending → HeaderFields → Pending
 without_reftable p h = record p { old_tables = λ c. p.old_tables c + reftable_at h c }
+
+-- a table has the header's clusters, and stands behind cluster 0 if anywhere
+pub record StandsBehind (h : HeaderFields) (table : EntryTableView) : Type 0 where
+  pub bits : table.cluster_bits ≡ h.cluster_bits
+  pub elsewhere : IfSome table.cluster (λ cluster. 0 < cluster)
 
 -- how often entries of the reftable name a cluster
 abbrev pub named_by_reftable_entries : HeaderFields → EntryTableView → ℕ → ℕ

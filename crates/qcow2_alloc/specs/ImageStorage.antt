@@ -1,5 +1,7 @@
 -- What the image's storage is made of.
-use Rattle.std.specs.Prelude.{◌≡◌, ℕ, Bool, Result, Ok, Err, IsTrue}
+use Rattle.std.specs.Prelude.{◌≡◌, ℕ, Bool, List, Result, Ok, Err, IsTrue}
+use Rattle.image_access.specs.Contents.{overwritten}
+use Rattle.image_access.specs.Moments.{StorageView, Changes}
 use Rattle.image_access.specs.declared.error.StorageError.{StorageError}
 use Rattle.image_access.specs.declared.error.StorageError.TheVariants.{Fault, Memory}
 use Rattle.qcow2_alloc.specs.CountedChanges.{IsOneChange}
@@ -46,6 +48,12 @@ abbrev pub NotesFault : {S T : Type 0} → ImageStorage S → ImageStorage S →
 NotesFault old new (Ok _) = met_fault_of new ≡ met_fault_of old
 NotesFault old new (Err Fault) = IsTrue (met_fault_of new)
 NotesFault old new (Err Memory) = met_fault_of new ≡ met_fault_of old
+
+-- Bytes are written from an offset on, which is noted and counted, as is a failure.
+pub record WritesBytes {S T : Type 0} (view : S → StorageView) (old new : ImageStorage S) (at : ℕ) (bytes : List ℕ) (result : Result T StorageError) : Type 0 where
+  pub written : Changes (view (storage_of old)) (view (storage_of new)) result (λ b. overwritten b at bytes)
+  pub noted : NotesWrite old new result
+  pub faults : NotesFault old new result
 
 -- a write that isn't told its kind: it is refused 14, and nothing changes
 abbrev pub IsRefusedUntold : {S T : Type 0} → ImageStorage S → ImageStorage S → Result T StorageError → Type 0

@@ -40,4 +40,7 @@ pub mod MetFaults
 pub mod WriteKinds
 pub mod HeaderClusters
 pub mod SparedHeaders
+pub mod CacheSteps
 pub mod Steps
+pub mod Uses
+pub mod TableCache

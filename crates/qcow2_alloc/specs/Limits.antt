@@ -3,7 +3,7 @@ use Rattle.std.specs.Prelude.{ℕ, ◌+◌, ◌*◌, ◌/◌, ◌^◌, ◌<◌, 
 use Rattle.qcow2_metadata.specs.declared.header.HeaderFields.{HeaderFields}
 use Rattle.qcow2_metadata.specs.EntryTable.{EntryTableView, entry_count}
 use Rattle.qcow2_metadata.specs.Header.{counts_per_block, entries_per_cluster}
-use Rattle.qcow2_metadata.specs.L2Mapping.{greatest_offset}
+use Rattle.qcow2_metadata.specs.L2Mapping.{greatest_offset, IsHostCluster}
 use Rattle.qcow2_alloc.specs.Allocation.{run_at}
 use Rattle.qcow2_alloc.specs.Growing.{IsLeastLength}
 use Rattle.qcow2_alloc.specs.ImageError.{IsFault}
@@ -20,6 +20,10 @@ IsFaultOr Cause e = IsFault e ⊎ ((e ≡ I.Limit) × Cause)
 -- how many clusters begin at an offset that tables can name
 abbrev pub nameable_clusters : HeaderFields → ℕ
 nameable_clusters h = greatest_offset / 2 ^ h.cluster_bits + 1
+
+-- a cluster can't be named by a table, or not the refblock that would count it by a reftable
+abbrev pub IsPastLimits : HeaderFields → ℕ → Type 0
+IsPastLimits h cluster = (IsHostCluster h.cluster_bits cluster → ⊥) ⊎ (2 ^ 20 ≤ cluster / counts_per_block h)
 
 -- By what counts as in use, and by the header's numbers.
 module _ (used : ℕ → Type 0) (h : HeaderFields) where

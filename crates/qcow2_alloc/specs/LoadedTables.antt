@@ -3,6 +3,7 @@ use Rattle.std.specs.Prelude.{ℕ, ◌+◌, ◌*◌, ◌^◌, ◌<◌, ◌≤◌
 use Rattle.qcow2_metadata.specs.Bytes.{Bytes}
 use Rattle.qcow2_metadata.specs.declared.header.HeaderFields.{HeaderFields}
 use Rattle.qcow2_metadata.specs.Header.{reftable_entries, IsAligned}
+pub use Rattle.qcow2_metadata.specs.Header.{ReftableFits}
 use Rattle.qcow2_metadata.specs.Entries.{l1_entry, reftable_entry, L1EntryReads, ReftableEntryReads}
 use Rattle.qcow2_alloc.specs.declared.error.ImageError.{ImageError}
 use Rattle.qcow2_alloc.specs.declared.error.ImageError.TheVariants as I
@@ -34,11 +35,7 @@ L1TableReads h b = EntriesRead h.l1_entries (λ i. L1EntryReads (l1_entry h b i)
 abbrev pub IsReasonAgainstL1Table : HeaderFields → Bytes → ImageError → Type 0
 IsReasonAgainstL1Table h b e = IsReasonAgainst h h.l1_offset ⊥ (HasUnreadEntry h.l1_entries (λ i. L1EntryReads (l1_entry h b i))) e
 
--- 64 bits hold the end of its reftable
-abbrev pub ReftableFits : HeaderFields → Type 0
-ReftableFits h = h.reftable_offset + 8 * reftable_entries h < 2 ^ 64
-
--- they do, and its entries read
+-- 64 bits hold the end of its reftable, and its entries read
 pub record ReftableReads (h : HeaderFields) (b : Bytes) : Type 0 where
   pub fits : ReftableFits h
   pub each : EntriesRead (reftable_entries h) (λ k. ReftableEntryReads (reftable_entry h b k))

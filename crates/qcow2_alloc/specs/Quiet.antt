@@ -1,5 +1,5 @@
 -- When nothing is written, and where the calls of the caches write nothing.
-use Rattle.std.specs.Prelude.{ℕ, ◌≡◌, ◌<◌, ◌==◌, ◌⊎◌, Bool, false, List, length, IfSome, IsSome, IsNone}
+use Rattle.std.specs.Prelude.{ℕ, ◌≡◌, ◌<◌, ◌==◌, ◌⊎◌, Bool, false, List, length, Option, IfSome, IsSome, IsNone}
 use Rattle.image_access.specs.Moments.{StorageView, EachMomentSince, IsLeftBy}
 use Rattle.qcow2_metadata.specs.L2Table.{L2TableView}
 use Rattle.qcow2_metadata.specs.RefBlock.{RefBlockView}
@@ -59,13 +59,9 @@ module _ {S : Type 0} where
         (IsNone (rb_at caches cluster) × (HasSpace caches.rb ⊎ BlockGoesQuietly))
         ⊎ (BlocksMayGo (order_of caches) (l2_tables caches) × IfSome (rb_at caches cluster) (λ b. b.is_modified ≡ false) × IsSome (rb_at caches cluster))
 
-  -- the other L2 tables that are still held are as they were, so none of them was written
-  abbrev pub OtherTablesStay : MetadataCaches S → MetadataCaches S → ℕ → Type 0
-  OtherTablesStay caches caches' cluster = (c : ℕ) → cluster == c ≡ false → IsSome (l2_at caches' c) → l2_at caches' c ≡ l2_at caches c
-
-  -- so are the other refblocks
-  abbrev pub OtherBlocksStay : MetadataCaches S → MetadataCaches S → ℕ → Type 0
-  OtherBlocksStay caches caches' cluster = (c : ℕ) → cluster == c ≡ false → IsSome (rb_at caches' c) → rb_at caches' c ≡ rb_at caches c
+  -- the other tables of a kind that are still held are as they were, so none of them was written
+  abbrev pub OthersStayHeld : {V : Type 0} → (MetadataCaches S → ℕ → Option V) → MetadataCaches S → MetadataCaches S → ℕ → Type 0
+  OthersStayHeld at caches caches' cluster = (c : ℕ) → cluster == c ≡ false → IsSome (at caches' c) → at caches' c ≡ at caches c
 
   -- Where no table is modified, none is then, whatever the tables hold, and on an honest storage nothing is written.
   pub record KeepAllWritten (view : S → StorageView) (old : ImageStorage S) (caches : MetadataCaches S) (new : ImageStorage S) (caches' : MetadataCaches S) : Type 0 where

@@ -1,18 +1,19 @@
 -- A run of free clusters for a longer reftable and the refblocks that it lacks.
-use Rattle.std.specs.Prelude.{ℕ, ◌+◌, ◌*◌, ◌/◌, ◌%◌, ◌<◌, ◌≡◌, ◌≢◌, ◌==◌, ◌&&◌, ◌||◌, Bool, true, false, List, length, Some, None, Result, Ok, Err, if◌then◌else◌}
+use Rattle.std.specs.Prelude.{ℕ, ◌+◌, ◌*◌, ◌/◌, ◌%◌, ◌^◌, ◌<◌, ◌≤◌, ◌≡◌, ◌≢◌, ◌⊎◌, ◌==◌, ◌&&◌, ◌||◌, Bool, IsTrue, true, false, List, length, Some, None, Result, Ok, Err, if◌then◌else◌}
 use Rattle.image_access.specs.Moments.{StorageView}
 use Rattle.qcow2_metadata.specs.declared.header.HeaderFields.{HeaderFields}
 use Rattle.qcow2_metadata.specs.Bytes.{sum_below, one_if}
 use Rattle.qcow2_metadata.specs.Header.{cluster_size, counts_per_block, count_width}
 use Rattle.qcow2_metadata.specs.Entries.{block_offset, block_count}
 use Rattle.qcow2_metadata.specs.EntryTable.{EntryTableView, entry_count}
+use Rattle.qcow2_metadata.specs.L2Mapping.{greatest_offset}
 use Rattle.qcow2_metadata.specs.RefBlock.{RefBlockView, count_at}
 use Rattle.qcow2_metadata.specs.TableBytes.{entry_at}
 use Rattle.qcow2_laws.specs.Changes.{one_at, with_new_tables}
 use Rattle.qcow2_laws.specs.CrashInvariant.{Pending, SameIn}
 use Rattle.qcow2_laws.specs.Tops.{IsSameOutside}
-use Rattle.qcow2_alloc.specs.Allocation.{run_at, StandAt, HasNone, UnseenAllocatorStep}
-use Rattle.qcow2_alloc.specs.GrownTables.{with_run, named_by_reftable_entries, IsGrown}
+use Rattle.qcow2_alloc.specs.Allocation.{run_at, StandAt, HasNone, NamesLacking, UnseenAllocatorStep}
+use Rattle.qcow2_alloc.specs.GrownTables.{counted_run, with_run, named_by_reftable_entries, IsGrown}
 use Rattle.qcow2_alloc.specs.ImageFile.{contents_in, IsFault, RefusedFileStep}
 use Rattle.qcow2_alloc.specs.MetadataCaches.{rb_at}
 use Rattle.qcow2_alloc.specs.declared.allocation.Allocator.{Allocator}
@@ -69,6 +70,37 @@ pub record IsLonger (h : HeaderFields) (old t : EntryTableView) (clusters : ℕ)
 -- count i of the refblock is that of cluster begin + i: 1 for each one of n from first on
 abbrev pub CountsRun : HeaderFields → RefBlockView → ℕ → ℕ → ℕ → Type 0
 CountsRun h block begin first n = (i : ℕ) → i < counts_per_block h → count_at block i ≡ run_at first n (begin + i)
+
+-- A table has entries for all clusters of a room, which tables can name. They are those of a longer reftable and, before them, those of the refblocks that the reftable lacks there.
+pub record IsRoomFor (h : HeaderFields) (reftable table : EntryTableView) (room : Room) : Type 0 where
+  pub above : 0 < room.first
+  pub within : room.first + room_length room ≤ entry_count table * counts_per_block h
+  pub near : room.first + room_length room ≤ greatest_offset / 2 ^ h.cluster_bits + 1
+  pub bits : table.cluster_bits ≡ h.cluster_bits
+  pub blocks : room.blocks ≡ opened reftable (counts_per_block h) room.first (room_length room)
+
+-- entries of a table are filled in, which name refblocks that the reftable lacks
+pub record FillsTable (reftable old new : EntryTableView) : Type 0 where
+  pub rest : new ≡ record old { bytes = new.bytes }
+  pub as_long : length new.bytes ≡ length old.bytes
+  pub lacking : NamesLacking reftable old new
+
+module _ {S : Type 0} (h : HeaderFields) (reftable : EntryTableView) where
+  -- a room for n clusters of a reftable was found below an end, and a change is noted where some of it are counted
+  pub record IsRoomBelow (n end : ℕ) (new : ImageFile S) (room : Room) : Type 0 where
+    pub above : 0 < room.first
+    pub below : room.first + room_length room ≤ end
+    pub clusters : room.clusters ≡ n
+    pub blocks : room.blocks ≡ opened reftable (counts_per_block h) room.first (room_length room)
+    pub noted : ((k : ℕ) → counted_run h reftable room.first (room_length room) k ≡ 0) ⊎ IsTrue new.caches.is_changed
+
+  -- clusters from first on were taken until there was room for so many of a reftable, or one was in use, or the end came
+  pub record IsReach (first clusters end : ℕ) (new : ImageFile S) (reach : Reach) : Type 0 where
+    pub within : first + reach.taken ≤ end
+    pub few : reach.blocks ≤ reach.taken
+    pub blocks : reach.blocks ≡ opened reftable (counts_per_block h) first reach.taken
+    pub short : reach.taken ≢ reach.blocks + clusters → (n : ℕ) → n ≤ reach.taken → n < opened reftable (counts_per_block h) first n + clusters
+    pub noted : ((k : ℕ) → counted_run h reftable first reach.taken k ≡ 0) ⊎ IsTrue new.caches.is_changed
 
 -- where the reftable has it lie
 abbrev pub placed_at : EntryTableView → ℕ → EntryTableView

@@ -1,30 +1,32 @@
 -- What each call of the allocator leaves of the image's file, whatever its contents are, and why it is refused.
-use Rattle.std.specs.Prelude.{◌≡◌, ◌≢◌, ℕ, ◌+◌, ◌*◌, ◌/◌, ◌<◌, ◌≤◌, ◌⊎◌, Bool, false, Option, Some, None, IsSome, IfSome, IsNone, IsTrue, Result, Ok, Err, IfOk, IfErr, OnOk}
-use Rattle.image_access.specs.Moments.{StorageView, Rose}
+use Rattle.std.specs.Prelude.{◌≡◌, ◌≢◌, ℕ, ◌+◌, ◌*◌, ◌/◌, ◌%◌, ◌^◌, ◌<◌, ◌≤◌, ◌⊎◌, Bool, false, Option, Some, None, IsSome, IfSome, IsNone, IsTrue, Result, Ok, Err, IfOk, IfErr, OnOk}
+use Rattle.image_access.specs.Moments.{StorageView, ContentsStay, EachMomentSince, IsLeftBy, Rose}
 use Rattle.qcow2_metadata.specs.EntryTable.{EntryTableView, entry_count}
-use Rattle.qcow2_metadata.specs.Header.{counts_per_block}
+use Rattle.qcow2_metadata.specs.Header.{counts_per_block, entries_per_cluster}
 use Rattle.qcow2_metadata.specs.L2Mapping.{IsHostCluster}
 use Rattle.qcow2_metadata.specs.declared.header.HeaderFields.{HeaderFields}
 use Rattle.qcow2_laws.specs.CrashInvariant.{Pending}
-use Rattle.qcow2_alloc.specs.Allocation.{Allocates, AllocatesAt, GivesBack, GrowsTable, GetsBlock, HasNone, KeepsNamed, NamesBlock, SameLeaks, TakesCluster, TakesOne, TakesRun, UnseenAllocatorGrowth, run_at, taken_as}
+use Rattle.qcow2_alloc.specs.Allocation.{Allocates, AllocatesAt, GivesBack, GrowsTable, GetsBlock, HasNone, KeepsEntries, KeepsNamed, NamesBlock, NamesLacking, SameLeaks, TakesCluster, TakesOne, TakesRun, UnseenAllocatorGrowth, run_at, taken_as}
 use Rattle.qcow2_alloc.specs.CachePins.{KeepsPinsAndNotes}
 use Rattle.qcow2_alloc.specs.Faults.{faults_of}
-use Rattle.qcow2_alloc.specs.FreeList.{pending_then, run_of, ListsTables, ListsReftables}
-use Rattle.qcow2_alloc.specs.GrownTables.{counted_run, EntersReftable}
+use Rattle.qcow2_alloc.specs.FreeList.{pending_then, run_of, FillsClusters, GivesWay, ListsTables, ListsReftables}
+use Rattle.qcow2_alloc.specs.GrownTables.{counted_run, EntersReftable, NamesReftable}
+use Rattle.qcow2_alloc.specs.Growing.{IsLeastLength}
 use Rattle.qcow2_alloc.specs.HeaderClusters.{KeepsHeaderCluster}
-use Rattle.qcow2_alloc.specs.ImageFile.{view_in, KeepsHeader, IsFault}
+use Rattle.qcow2_alloc.specs.ImageFile.{has_noted, view_in, HasReftable, KeepsHeader, IsFault}
 use Rattle.qcow2_alloc.specs.KeptMarks.{KeepsMarks}
 use Rattle.qcow2_alloc.specs.KeptNotes.{KeepsNotes}
-use Rattle.qcow2_alloc.specs.Limits.{CantCount, CantCountRun, CantGrow, HasNoPlace, HasNoRoomBelow, HasNoRoomFor, IsLowestRoom, LiesLowest, IsFaultOr, nameable_clusters}
+use Rattle.qcow2_alloc.specs.Limits.{CantCount, CantCountRun, CantGrow, HasNoPlace, HasNoRoomBelow, HasNoRoomFor, IsLowestRoom, IsPastLimits, LiesLowest, IsFaultOr, nameable_clusters}
 use Rattle.qcow2_alloc.specs.LowestRuns.{IsLowestRun, IsUsed, KeepsNoFreeBelowHint, KeepsUsed, NoFreeBelowHint, StaysUsed}
 use Rattle.qcow2_alloc.specs.MadeClusters.{run_in, IsMadeInTurn, IsMadeOnTheWay, ListsUsed, TakesAlone}
 use Rattle.qcow2_alloc.specs.MetadataCaches.{rb_at}
-use Rattle.qcow2_alloc.specs.Rooms.{TakesRoom}
-use Rattle.qcow2_alloc.specs.SparedHeaders.{KeepBehindHeader, SparesHeader, SparesHeaderButPointer}
+use Rattle.qcow2_alloc.specs.Rooms.{ReachesRoom, TakesRoom}
+use Rattle.qcow2_alloc.specs.SparedHeaders.{AreBehindHeader, KeepBehindHeader, NamesReftableBehind, SparesHeader, SparesHeaderButPointer, StandsBehindHeader}
 use Rattle.qcow2_alloc.specs.declared.allocation.Allocator.{Allocator}
 use Rattle.qcow2_alloc.specs.declared.cache.MetadataCaches.{MetadataCaches}
 use Rattle.qcow2_alloc.specs.declared.clusters_to_free.ClusterKind.{ClusterKind}
 use Rattle.qcow2_alloc.specs.declared.clusters_to_free.ClustersToFreeEntry.{ClustersToFreeEntry}
+use Rattle.qcow2_alloc.specs.declared.free_room.Reach.{Reach}
 use Rattle.qcow2_alloc.specs.declared.free_room.Room.{Room}
 use Rattle.qcow2_alloc.specs.declared.error.ImageError.{ImageError}
 use Rattle.qcow2_alloc.specs.declared.error.ImageError.TheVariants as I
@@ -57,13 +59,28 @@ module _ {S : Type 0} (view : S → StorageView) where
 
   -- ---- what stays
 
-  -- The header and the list stay. Ranges may get refblocks, and each that has one keeps it. Marks are kept, and cluster 0 is spared.
-  pub record TableStep (reftable : EntryTableView) (old : ImageFile S) (reftable' : EntryTableView) (new : ImageFile S) : Type 0 where
+  -- The header and the list stay, and entries of the reftable so. Marks are kept, and cluster 0 is spared.
+  pub record TableStepBy (Keeps : EntryTableView → EntryTableView → Type 0) (reftable : EntryTableView) (old : ImageFile S) (reftable' : EntryTableView) (new : ImageFile S) : Type 0 where
     pub header : new.header ≡ old.header
     pub list : new.free_list ≡ old.free_list
-    pub named : KeepsNamed reftable reftable'
+    pub named : Keeps reftable reftable'
     pub marks : KeepsMarks view old new
     pub header_cluster : SparesHeader view reftable old reftable' new
+
+  -- a step in which ranges may get refblocks, and each that has one keeps it
+  abbrev pub TableStep : EntryTableView → ImageFile S → EntryTableView → ImageFile S → Type 0
+  TableStep = TableStepBy KeepsNamed
+
+  -- a step in which only one range may get another refblock
+  abbrev pub RangeStep : ℕ → EntryTableView → ImageFile S → EntryTableView → ImageFile S → Type 0
+  RangeStep range = TableStepBy (KeepsEntries (λ k. k ≢ range))
+
+  -- A refblock is written. The header and the list stay, and marks are kept. Cluster 0 is spared where clusters have so many bits.
+  pub record BlockStep (bits : ℕ) (old new : ImageFile S) : Type 0 where
+    pub header : new.header ≡ old.header
+    pub list : new.free_list ≡ old.free_list
+    pub marks : KeepsMarks view old new
+    pub header_cluster : (reftable : EntryTableView) → bits ≡ old.header.fields.cluster_bits → SparesHeader view reftable old reftable new
 
   -- The header and the list stay, and marks are kept. The bytes of cluster 0 stay where clusters have so many bits, and no cached table comes to stand there.
   pub record PartStep (bits : ℕ) (old new : ImageFile S) : Type 0 where
@@ -94,9 +111,23 @@ module _ {S : Type 0} (view : S → StorageView) where
   abbrev pub DataStep : EntryTableView → ImageFile S → EntryTableView → ImageFile S → Type 0
   DataStep = FileStepBy KeepsMarksInTurn
 
-  -- Marks are kept, and the header's pointer to the reftable may change. But for that the header stays, and cluster 0 is spared. Nothing is said of the list, or of what the reftable names.
-  pub record PointerStep (reftable : EntryTableView) (old : ImageFile S) (reftable' : EntryTableView) (new : ImageFile S) : Type 0 where
+  -- Marks are kept, and the header's pointer to the reftable may change. But for that the header stays, and cluster 0 is spared where the table is one to be named. The list stays.
+  pub record PointerStepTo (IsToName : Type 0) (reftable : EntryTableView) (old : ImageFile S) (reftable' : EntryTableView) (new : ImageFile S) : Type 0 where
     pub header : KeepsHeader old.header new.header
+    pub list : new.free_list ≡ old.free_list
+    pub marks : KeepsMarks view old new
+    pub header_cluster : IsToName → SparesHeaderButPointer view reftable old reftable' new
+
+  -- so it is in any case
+  abbrev pub PointerStep : EntryTableView → ImageFile S → EntryTableView → ImageFile S → Type 0
+  PointerStep = PointerStepTo (Unit {0})
+
+  -- Marks are kept. Where the call is answered, the reftable gives way to a longer one: the header names that, and the old one's clusters are listed. But for that the header and the list stay,
+  -- and cluster 0 is spared.
+  pub record GrowthStep (reftable : EntryTableView) (old : ImageFile S) (reftable' : EntryTableView) (new : ImageFile S) (result : Result (Unit {0}) ImageError) : Type 0 where
+    pub header : KeepsHeader old.header new.header
+    pub list : ListsTables old.free_list new.free_list
+    pub former : GivesWay reftable reftable' old.free_list new.free_list result
     pub marks : KeepsMarks view old new
     pub header_cluster : SparesHeaderButPointer view reftable old reftable' new
 
@@ -114,6 +145,23 @@ module _ {S : Type 0} (view : S → StorageView) where
   -- a step that frees, in which the order of writes may turn
   abbrev pub FreeStepInTurn : EntryTableView → ImageFile S → EntryTableView → ImageFile S → Type 0
   FreeStepInTurn = FreeStepBy KeepsMarksInTurn
+
+  -- ---- where the allocator begins
+
+  -- The file is only read: all of it but the storage stays, and of that the contents do.
+  pub record ReadsFile (old new : ImageFile S) : Type 0 where
+    pub rest : new ≡ record old { storage = new.storage }
+    pub honest : (view_in view old).is_honest → (view_in view new).is_honest
+    pub same : ContentsStay (view_in view old) (view_in view new)
+    pub time : EachMomentSince (view_in view old) (view_in view new) (IsLeftBy (view_in view new))
+
+  -- It looks for free clusters from the first one on, and none is leaked. Its reftable is the one on an honest storage, and stands behind cluster 0 where the header names it there.
+  pub record BeginsFrom (old new : ImageFile S) (allocator : Allocator) : Type 0 where
+    pub first : allocator.first_free_cluster ≡ 0
+    pub leaks : allocator.leaked_clusters ≡ 0
+    pub reftable : (view_in view old).is_honest → HasReftable view new allocator.reftable
+    pub header_cluster : NamesReftableBehind old.header.fields → AreBehindHeader old.header.fields.cluster_bits old.caches
+        → StandsBehindHeader old.header.fields.cluster_bits allocator.reftable new
 
   -- ---- what is so on a sound image
 
@@ -185,7 +233,8 @@ module _ {S : Type 0} (view : S → StorageView) where
     pub made : TakesAlone view run_in (IsMadeOnTheWay old.header.fields allocator.reftable allocator'.reftable) old new result
     pub uses : OnOk result (StaysUsed view old new)
     pub kept : IfErr result (λ e. IsFault e ⊎ StaysUsed view old new)
-    pub none : IfOk result (λ run. IsNone run → (IsHostCluster old.header.fields.cluster_bits cluster → ⊥)
+    pub within : IfErr result (λ e. IsFault e ⊎ (cluster / counts_per_block old.header.fields < 2 ^ 20))
+    pub none : IfOk result (λ run. IsNone run → IsPastLimits old.header.fields cluster
         ⊎ (IsUsed view new cluster × (IsUsed view old cluster ⊎ IsMadeOnTheWay old.header.fields allocator.reftable allocator'.reftable cluster)))
     pub hint : NoFreeBelowHint view allocator old → KeepsNoFreeBelowHint view allocator' new result
     pub limit : NoFreeBelowHint view allocator old → IfErr result (IsFaultOr (CantCount (IsUsed view new) new.header.fields (λ k. 0) allocator' cluster))
@@ -221,6 +270,16 @@ module _ {S : Type 0} (view : S → StorageView) where
     pub leaks : SameLeaks allocator allocator'
     pub hint : NoFreeBelowHint view allocator old → KeepsNoFreeBelowHint view allocator' new result
 
+  -- the header names a longer reftable that stood ready, and what was in use stays so
+  pub record NamesSoundly (q p : Pending) (old : ImageFile S) (allocator' : Allocator) (new : ImageFile S) (result : Result (Unit {0}) ImageError) : Type 0 where
+    pub names : NamesReftable view q p old allocator' new result
+    pub uses : KeepsUsed view old new result
+
+  -- a run of clusters is taken up to one that is in use, or up to an end
+  pub record ReachesRoomSoundly (p : Pending) (first clusters end : ℕ) (allocator : Allocator) (old : ImageFile S) (allocator' : Allocator) (new : ImageFile S) (result : Result Reach ImageError) : Type 0 where
+    pub reaches : ReachesRoom view p old allocator' new allocator.reftable first result
+    pub stopped : IfOk result (λ reach. reach.taken ≢ reach.blocks + clusters → first + reach.taken < end → IsUsed view new (first + reach.taken))
+
   -- a longer reftable is entered, with the refblocks that it lacks, in the lowest room for both
   pub record EntersSoundly (p : Pending) (length : ℕ) (allocator : Allocator) (old : ImageFile S) (allocator' : Allocator) (new : ImageFile S) (result : Result (Unit {0}) ImageError) : Type 0 where
     pub enters : EntersReftable view p old allocator' new result
@@ -239,3 +298,28 @@ pub record FindsBlock {S : Type 0} (h : HeaderFields) (reftable : EntryTableView
   pub names : NamesBlock h reftable range block
   pub has : IsSome block → HasNone reftable range → ⊥
   pub held : IfSome block (λ at. IsSome (rb_at caches at))
+
+module _ {S : Type 0} where
+  -- ---- what a call answers of the reftable
+
+  -- it has an entry of an index, no more than it takes, and stands behind cluster 0; a change is noted
+  pub record HasGrown (h : HeaderFields) (index : ℕ) (reftable reftable' : EntryTableView) (new : ImageFile S) : Type 0 where
+    pub length : IsLeastLength (entry_count reftable) index (entries_per_cluster h) (counts_per_block h) (entry_count reftable')
+    pub elsewhere : IfSome reftable'.cluster (λ c. 0 < c)
+    pub noted : IsTrue (has_noted new)
+
+  -- it is a table that was handed in, with refblocks that it lacked; a change is noted
+  pub record HasEntered (reftable table reftable' : EntryTableView) (new : ImageFile S) : Type 0 where
+    pub count : entry_count reftable' ≡ entry_count table
+    pub lacking : NamesLacking reftable table reftable'
+    pub noted : IsTrue (has_noted new)
+
+  -- a table of whole clusters fills those, and stands behind cluster 0
+  pub record EntersTable (h : HeaderFields) (reftable table reftable' : EntryTableView) (new : ImageFile S) : Type 0 where
+    pub entered : HasEntered reftable table reftable' new
+    pub fills : entry_count table % entries_per_cluster h ≡ 0 → FillsClusters reftable'
+
+  -- it stands in a room, behind its refblocks
+  pub record EntersRoom (reftable table reftable' : EntryTableView) (room : Room) (new : ImageFile S) : Type 0 where
+    pub entered : HasEntered reftable table reftable' new
+    pub place : reftable'.cluster ≡ Some (room.first + room.blocks)

@@ -2,9 +2,10 @@
 use Rattle.std.proofs.Common.{◌≡◌, ◌≢◌, ◌⊎◌, inl, inr, ℕ, ◌+◌, ◌*◌, ◌^◌, ◌<◌, ◌≤◌, Bool, true, false, cond, eqb, List, length, refl, sym, ap, ◌∙◌, subst, arith}
 use Rattle.std.proofs.lemmas.Bool.{cases_lt}
 use Rattle.std.proofs.lemmas.Bool.Decides.{nat_tests}
-use Rattle.std.proofs.Math.Nat.{mul-le-mul_left}
+use Rattle.std.proofs.Math.Nat.{le_refl, mul-le-mul_left}
 use Rattle.image_access.specs.Contents.{bytes_at, overwritten}
-use Rattle.image_access.specs.Moments.{StorageView}
+use Rattle.image_access.specs.Moments.{StorageView, IsLeftBy}
+use Rattle.image_access.proofs.EachMomentSince.{passes_none}
 use Rattle.image_access.proofs.Bytes.{bytes_at-overwritten, bytes_at-overwritten_apart}
 use Rattle.qcow2_metadata.specs.declared.error.MetadataError.{MetadataError}
 use Rattle.qcow2_alloc.specs.AsyncLruCacheBackend.{value_laid_over, IsLawful}
@@ -91,4 +92,17 @@ module _ {S V : Type 0} (view : S → StorageView) (cluster_bits : ℕ) (bytes :
     flush_cleans = λ s t k v w h. (ap is_modified h.clean ∙ unmodified v, ap bytes h.clean ∙ same v);
     flush_writes = flush_writes;
     failed_flush_keeps = failed_flush_keeps;
+  }
+
+  -- a table that isn't modified may be left as it is
+  pub table_rests : (s : S) (k : ℕ) (v : V) → is_modified v ≡ false → v ≡ cleared v → FlushesTable view cluster_bits bytes is_modified cleared IsFit s k v v s
+  table_rests s k v unmodified clean = record {
+    clean = clean;
+    skips = λ _ _. refl;
+    writes = λ m. let bad : false ≡ true = sym unmodified ∙ m in cc;
+    calls = record {
+      honest = λ h. h;
+      time = λ _. passes_none (view s) (IsLeftBy (view s));
+      cause = record { no_fewer = le_refl (view s).faults; fault = λ bad. absurd cc; told = refl };
+    };
   }

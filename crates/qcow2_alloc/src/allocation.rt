@@ -1,14 +1,13 @@
 //! Taking clusters of the image's file.
 ghost use Rattle.std.specs.Prelude.{◌≡◌, false, ◌+◌, ◌-◌, ◌^◌, ◌<◌, ◌≤◌, Bool, IfOk, OnOk, IsSome, IsTrue, MatchResult};
-ghost use Rattle.image_access.specs.Moments.{ContentsStay, EachMomentSince, IsLeftBy};
 ghost use Rattle.qcow2_laws.specs.Clusters.{L2DependsOnRb};
 ghost use Rattle.qcow2_laws.specs.CrashInvariant.{Pending};
 ghost use Rattle.qcow2_alloc.specs.Allocation.{MayTake, TakesSomeRun, is_data, Allocates, SameLeaks};
 ghost use Rattle.qcow2_alloc.specs.FreeList.{pending_then};
-ghost use Rattle.qcow2_alloc.specs.SparedHeaders.{AreBehindHeader, NamesReftableBehind, StandsBehindHeader};
-ghost use Rattle.qcow2_alloc.specs.Steps.{Fails, FileStep, TakesSoundly, TakesRunSoundly, DataStep, AllocatesAtSoundly, AllocatesSoundly, TakesLowestSoundly};
+ghost use Rattle.qcow2_alloc.specs.Steps.{Fails, FileStep, TakesSoundly, TakesRunSoundly, DataStep, AllocatesAtSoundly};
+ghost use Rattle.qcow2_alloc.specs.Steps.{AllocatesSoundly, BeginsFrom, ReadsFile, TakesLowestSoundly};
 ghost use Rattle.qcow2_alloc.specs.ImageError.{IsOfTables};
-ghost use Rattle.qcow2_alloc.specs.ImageFile.{view_in, contents_in, HasReftable, AllocatorInvariant};
+ghost use Rattle.qcow2_alloc.specs.ImageFile.{view_in, contents_in, AllocatorInvariant};
 ghost use Rattle.qcow2_alloc.specs.LoadedTables.{IsReasonAgainstReftable, ReftableReads};
 ghost use Rattle.qcow2_alloc.specs.MetadataCaches.{order_of};
 ghost use Rattle.qcow2_metadata.specs.L2Mapping.{IsHostCluster};
@@ -17,7 +16,7 @@ use crate::{
     ClusterKind, ClustersToFreeEntry, ClustersToFreeList, ImageError, ImageFile, PendingClusters,
 };
 use image_access::Storage;
-use qcow2_metadata::{ClusterCount, HostCluster, MAX_HOST_OFFSET, RefTable};
+use qcow2_metadata::{ClusterCount, HostCluster, MAX_HOST_OFFSET, MAX_REFTABLE_ENTRIES, RefTable};
 
 /// Takes clusters, and frees those that are to be freed. No cluster below the first free one has count 0.
 #[derive(Drop)]
@@ -32,23 +31,12 @@ impl Allocator {
     /// Loads the reftable. Refused 4 (unaligned table) where it isn't on a cluster, 13 (limit) where it would end past 64 bits,
     /// 19 (metadata) where an entry doesn't read. Where the work meets them: 14 (memory), 15 (storage).
     pub fn new<S: Storage>(file: &mut ImageFile<S>) -> Result<Allocator, ImageError>
+        ensures step { ReadsFile S.view file.old file.new }
         ensures fails { Fails S.view file.old.storage file.new.storage result IsOfTables }
         ensures why { (view_in S.view file.old).is_honest
             → MatchResult result (λ allocator. ReftableReads file.old.header.fields (contents_in S.view file.old))
             (IsReasonAgainstReftable file.old.header.fields (contents_in S.view file.old)) }
-        ensures rest { file.new ≡ record file.old { storage = file.new.storage } }
-        ensures honest { (view_in S.view file.old).is_honest → (view_in S.view file.new).is_honest }
-        ensures same { ContentsStay (view_in S.view file.old) (view_in S.view file.new) }
-        ensures time { EachMomentSince (view_in S.view file.old) (view_in S.view file.new)
-            (IsLeftBy (view_in S.view file.new)) }
-        ensures reftable { (view_in S.view file.old).is_honest
-            → IfOk result (λ allocator. HasReftable S.view file.new allocator.reftable) }
-        ensures first { IfOk result (λ allocator. allocator.first_free_cluster ≡ 0) }
-        ensures leaks { IfOk result (λ allocator. allocator.leaked_clusters ≡ 0) }
-        ensures header_cluster { NamesReftableBehind file.old.header.fields
-            → AreBehindHeader file.old.header.fields.cluster_bits file.old.caches
-            → IfOk result (λ allocator. StandsBehindHeader file.old.header.fields.cluster_bits allocator.reftable
-            file.new) }
+        ensures begins { IfOk result (BeginsFrom S.view file.old file.new) }
     {
         let bits = file.header.cluster_bits();
         let Some(cluster) = file.header.reftable_offset().checked_cluster(bits) else {
@@ -123,9 +111,9 @@ impl Allocator {
         self.allocate(file, count, ClusterKind::Data)
     }
 
-    /// Takes just the cluster that is asked for, for data: None where it is cluster 0, is in use, or passes the greatest offset of a host
-    /// cluster. From here on refblocks are written before L2 tables. Refused as `allocate_meta` is, 13 (limit) where a refblock or
-    /// a longer reftable has no place.
+    /// Takes just the cluster that is asked for, for data: None where it is cluster 0, is in use, or passes a limit: the greatest offset
+    /// of a host cluster, or the last entry that a reftable may have. From here on refblocks are written before L2 tables. Refused as
+    /// `allocate_meta` is, 13 (limit) where a refblock or a longer reftable has no place.
     pub fn allocate_data_at<S: Storage>(
         &mut self,
         file: &mut ImageFile<S>,
@@ -146,6 +134,10 @@ impl Allocator {
             return Ok(None);
         }
         if !cluster.is_nameable(file.header.cluster_bits()) {
+            return Ok(None);
+        }
+        let range = at >> file.header.rb_bits();
+        if range >= MAX_REFTABLE_ENTRIES as u64 {
             return Ok(None);
         }
         let entry = ClustersToFreeEntry::data(cluster, ClusterCount::new(1));

@@ -1,9 +1,12 @@
 //! A cache of bounded size over a store that is lent to each call.
-ghost use Rattle.std.specs.Prelude.{◌≡◌, ◌≢◌, ◌<◌, ◌≤◌, ◌↔◌, IsTrue, cond, [], length, option_copied, option_map, All, IsSome, IsNone, IfOk, IfSome, Ok, Err, None, true, false};
+ghost use Rattle.std.specs.Prelude.{◌≡◌, ◌≢◌, ◌<◌, ◌≤◌, ◌↔◌, IsTrue, cond, [], length, option_copied, option_map, All};
+ghost use Rattle.std.specs.Prelude.{IsSome, IsNone, IfOk, IfSome, OnErr, Ok, Err, None, true, false};
 ghost use Rattle.std.specs.List.{IsDistinct};
 ghost use Rattle.std.specs.Map.{keys_of, lookup, lookup_entry, remove_entry};
 ghost use Rattle.lru.specs.LruCache.{promoted};
-ghost use Rattle.qcow2_alloc.specs.AsyncLruCache.{cache_of, with_entries, value_at, is_pinned, can_pin, pin_at, can_unpin, unpin_at, can_remove, oldest_free, pinned, pins_at, IsInFront, OnlyOldestGoes, OthersStay, KeepsPins};
+ghost use Rattle.qcow2_alloc.specs.AsyncLruCache.{cache_of, with_entries, value_at, is_pinned, can_pin, pin_at};
+ghost use Rattle.qcow2_alloc.specs.AsyncLruCache.{can_unpin, unpin_at, can_remove, oldest_free, pinned, pins_at};
+ghost use Rattle.qcow2_alloc.specs.AsyncLruCache.{IsInFront, OnlyOldestGoes, OthersStay, KeepsPins};
 ghost use Rattle.qcow2_alloc.specs.AsyncLruCacheBackend.{KeepsKnown, LaysOver};
 ghost use Rattle.qcow2_alloc.specs.CacheAnswers.{Invalidates, Flushes, FlushesKey, GetsNew, InsertsNew, Replaces};
 
@@ -274,6 +277,15 @@ impl<B: AsyncLruCacheBackend> AsyncLruCache<B> {
         ensures { result ≡ option_map (λ e. e.0) (oldest_free self.now.entries) }
     {
         oldest_free(&self.entries)
+    }
+
+    // The keys of the entries with a pin, the most recently used first.
+    pub(crate) fn pinned_keys(&self) -> Result<Vec<B::Key>, AllocError>
+        ensures ok { IfOk result (λ keys. keys.items ≡ keys_of (pinned self.now.entries)) }
+        ensures err { OnErr result (0 < length (pinned self.now.entries)) }
+    {
+        let alloc = *self.entries.allocator();
+        pinned_keys(alloc, &self.entries)
     }
 
     /// Gives each entry with no pin to the backend, unflushed. Refused `StillInUse` with the keys of those that are pinned, which stay.

@@ -1,33 +1,38 @@
 //! The caches of L2 tables and of refblocks, and which of them has to be written first.
-ghost use Rattle.std.specs.Prelude.{◌≡◌, ◌≢◌, ◌⊎◌, ◌↔◌, ℕ, ◌+◌, ◌-◌, ◌*◌, ◌^◌, ◌<◌, ◌≤◌, ◌==◌, IsSome, IsNone, IfSome, IfOk, IfErr, OnOk, OnErr, IsTrue, IsFalse, Some, None, true, false, if◌then◌else◌, option_copied};
-ghost use Rattle.qcow2_metadata.specs.Bytes.{Bytes};
+ghost use Rattle.std.specs.Prelude.{◌≡◌, ◌⊎◌, ◌↔◌, ℕ, ◌+◌, ◌-◌, ◌^◌, ◌<◌, ◌≤◌, ◌==◌, IsSome, IsNone, IfSome};
+ghost use Rattle.std.specs.Prelude.{IfOk, IfErr, OnOk, IsTrue, IsFalse, false};
+ghost use Rattle.std.specs.Prelude.{option_copied};
 ghost use Rattle.qcow2_metadata.specs.declared.header.HeaderFields.{HeaderFields};
-ghost use Rattle.qcow2_metadata.specs.TableBytes.{HasPlace};
-ghost use Rattle.qcow2_laws.specs.CrashInvariant.{Pending, CrashInvariant};
-ghost use Rattle.qcow2_laws.specs.Clusters.{Neither, L2DependsOnRb, RbDependsOnL2};
-ghost use Rattle.qcow2_laws.specs.Caches.{IsFreeOf, AreClean, AreNamedBlocks, BlocksMayGo, TablesMayGo};
+ghost use Rattle.qcow2_laws.specs.Caches.{IsFreeOf, AreClean};
 ghost use Rattle.qcow2_alloc.specs.ImageError.{IsOfTables, IsFault};
 ghost use Rattle.qcow2_alloc.specs.CountedChanges.{IsOneChange};
 ghost use Rattle.qcow2_alloc.specs.AsyncLruCache.{can_remove};
-ghost use Rattle.qcow2_alloc.specs.TableCaches.{IsTableOf, IsBlockOf};
-ghost use Rattle.qcow2_alloc.specs.MetadataCaches.{order_of, l2_at, rb_at, l2_tables, refblocks, known_of, AreAllWritten, CacheInvariant, KeepSound, PutSound, RefusesBy, PutRefusesBy, RaisesCount, LowersCount, TellsZero, RaisesZero, LowersSome, MapsCachedEntry, ZeroesEntry, DiscardsEntry, NotesEntry, NotesHeld, ShowsKnown, TakesOff, TakesBlock, LaysTable, LaysBlock, WritesInOrder};
-ghost use Rattle.qcow2_alloc.specs.ApartCaches.{KeepsKnownApart, LaysTableApart, LaysBlockApart, TakesOffApart, TakesBlockApart, ChangesTableApart, ChangesBlockApart};
-ghost use Rattle.qcow2_metadata.specs.L2Mapping.{IsHostCluster};
-ghost use Rattle.qcow2_metadata.specs.L2Table.{entries_of, cover_at, copied_entry, zero_entry, copied_host};
+ghost use Rattle.qcow2_alloc.specs.MetadataCaches.{l2_at, rb_at, l2_tables, refblocks};
+ghost use Rattle.qcow2_alloc.specs.MetadataCaches.{AreAllWritten, RefusesBy, TellsZero};
+ghost use Rattle.qcow2_alloc.specs.MetadataCaches.{MapsCachedEntry, ZeroesEntry, DiscardsEntry, NotesEntry};
+ghost use Rattle.qcow2_alloc.specs.MetadataCaches.{NotesHeld, ShowsKnown, TakesOff};
+ghost use Rattle.qcow2_alloc.specs.CacheSteps.{CacheStep, TurnStep, KeepsSoundly, TablesGo, BlocksGo, FlushesL2, FlushesRb};
+ghost use Rattle.qcow2_alloc.specs.CacheSteps.{LoadStep, PutStep, HeldStep, GetsL2, GetsRb, PutsL2, PutsRb, PutsL2Soundly, PutsRbSoundly};
+ghost use Rattle.qcow2_alloc.specs.CacheSteps.{KeepsL2Written, KeepsRbWritten, KeepsBlocks, FlushesBlocks};
+ghost use Rattle.qcow2_alloc.specs.CacheSteps.{RemovesBlock, RaisesSoundly, LowersSoundly, AreNewCaches};
+ghost use Rattle.qcow2_alloc.specs.CacheSteps.{LoadRefusesBy, PutL2RefusesBy, PutRbRefusesBy, MakesWayForL2, MakesWayForRb, TurnsToRb, TurnsToL2};
+ghost use Rattle.qcow2_alloc.specs.Steps.{Fails};
+ghost use Rattle.qcow2_alloc.specs.ApartCaches.{ChangesTableApart, TakesOffApart};
+ghost use Rattle.qcow2_metadata.specs.L2Table.{entries_of};
 ghost use Rattle.qcow2_alloc.specs.UsedCounts.{TellsUsed, TellsFirstFree};
-ghost use Rattle.qcow2_alloc.specs.TableChanges.{CountsMore, CountsLess, SetsEntry};
-ghost use Rattle.qcow2_alloc.specs.Quiet.{WritesNothing, GetsTableQuietly, GetsBlockQuietly, PutsTableQuietly, PutsBlockQuietly, OtherTablesStay, OtherBlocksStay, KeepAllWritten};
-ghost use Rattle.qcow2_alloc.specs.Faults.{CountsFaults};
-ghost use Rattle.qcow2_alloc.specs.SparedHeaders.{AreBehindHeader, KeepBehindHeader, CachesSpareHeader};
-ghost use Rattle.qcow2_alloc.specs.KeptNotes.{KeepsNotes};
-ghost use Rattle.qcow2_alloc.specs.CachePins.{l2_pins, CachesHaveRoom, KeepsPinsAndNotes, SameTables, SetsPins, IsInUseOrFault, LeavesPinned};
+ghost use Rattle.qcow2_alloc.specs.TableChanges.{CountsMore, CountsLess, MapsHeldEntry, ZeroesHeldEntry, DiscardsHeldEntry};
+ghost use Rattle.qcow2_alloc.specs.TableChanges.{LeavesEntry, CantMap};
+ghost use Rattle.qcow2_alloc.specs.CachePins.{l2_pins, CachesHaveRoom, SameTables, SetsPins};
+ghost use Rattle.qcow2_alloc.specs.CachePins.{IsInUseOrFault, LeavesPinned};
 
 mod backends;
+mod changes;
 
-use crate::async_lru_cache::AsyncLruCache;
 use crate::image_storage::one_more;
+use crate::table_cache::TableCache;
 use crate::{ImageError, ImageStorage};
 pub use backends::{L2CacheBackend, RefBlockCacheBackend};
+use changes::{DiscardEntry, Lower, MapEntry, NextZero, Raise, ZeroEntry};
 use image_access::Storage;
 use qcow2_metadata::{ClusterCount, Header, HostCluster, L2Table, RefBlock};
 use std::alloc::{AllocError, Global};
@@ -48,8 +53,8 @@ pub enum Direction {
 /// which only a caller can put in, is refused 19 (metadata) there.
 #[derive(Drop)]
 pub struct MetadataCaches<S: Storage> {
-    l2: AsyncLruCache<L2CacheBackend<S>>,
-    rb: AsyncLruCache<RefBlockCacheBackend<S>>,
+    l2: TableCache<L2CacheBackend<S>>,
+    rb: TableCache<RefBlockCacheBackend<S>>,
     direction: Direction,
     is_changed: bool,
     changes: u64,
@@ -64,21 +69,10 @@ impl<S: Storage> MetadataCaches<S> {
         l2_entries: usize,
         rb_entries: usize,
     ) -> Result<Self, AllocError>
-        ensures sound { IfOk result (λ caches. (p : Pending) (on_storage : Bytes)
-            → CrashInvariant header.now.fields Neither p on_storage on_storage
-            → CacheInvariant header.now.fields p caches on_storage) }
-        ensures known { IfOk result (λ caches. (on_storage : Bytes) → known_of header.now.fields caches on_storage ≡ on_storage) }
-        ensures named_blocks { IfOk result (λ caches. (on_storage : Bytes) → AreNamedBlocks header.now.fields (refblocks caches) on_storage) }
-        ensures order { IfOk result (λ caches. order_of caches ≡ Neither) }
-        ensures sizes { IfOk result (λ caches. (caches.l2.size ≡ l2_entries) × (caches.rb.size ≡ rb_entries)) }
-        ensures room { IfOk result (λ caches. 0 < l2_entries → 0 < rb_entries → CachesHaveRoom caches) }
-        ensures pins { IfOk result (λ caches. (cluster : ℕ) → l2_pins caches cluster ≡ 0) }
-        ensures unchanged { IfOk result (λ caches. IsFalse caches.is_changed) }
-        ensures all_written { IfOk result AreAllWritten }
-        ensures header_cluster { IfOk result (AreBehindHeader header.now.fields.cluster_bits) }
+        ensures { IfOk result (AreNewCaches header.now.fields l2_entries rb_entries) }
     {
-        let l2 = AsyncLruCache::new(alloc, L2CacheBackend::new(header), l2_entries)?;
-        let rb = AsyncLruCache::new(alloc, RefBlockCacheBackend::new(header), rb_entries)?;
+        let l2 = TableCache::new(alloc, L2CacheBackend::new(header), l2_entries)?;
+        let rb = TableCache::new(alloc, RefBlockCacheBackend::new(header), rb_entries)?;
         Ok(MetadataCaches {
             l2,
             rb,
@@ -90,21 +84,12 @@ impl<S: Storage> MetadataCaches<S> {
 
     // Writes the modified L2 tables.
     fn write_tables(&mut self, storage: &mut ImageStorage<S>) -> Result<(), ImageError>
-        ensures cause { IfErr result IsOfTables }
-        ensures storage_faults { CountsFaults S.view storage.old storage.new result }
-        ensures notes { KeepsNotes S.view storage.old storage.new }
-        ensures direction { self.new.direction ≡ self.old.direction }
-        ensures refblocks { self.new.rb ≡ self.old.rb }
-        ensures written { OnOk result (AreClean (l2_tables self.new)) }
-        ensures marks { KeepsPinsAndNotes self.old self.new }
+        ensures step { CacheStep S.view storage.old self.old storage.new self.new }
+        ensures fails { Fails S.view storage.old storage.new result IsOfTables }
         ensures faults { (h : HeaderFields) → RefusesBy IsFault S.view storage.old self.old h result }
-        ensures keeps { TablesMayGo (order_of self.old) (refblocks self.old) → KeepSound S.view storage.old self.old storage.new self.new }
-        ensures apart { TablesMayGo (order_of self.old) (refblocks self.old) → KeepsKnownApart S.view storage.old self.old storage.new self.new }
-        ensures free { (size cluster : ℕ) → IsFreeOf size (l2_tables self.old) cluster → IsFreeOf size (l2_tables self.new) cluster }
-        ensures ordered { TablesMayGo (order_of self.old) (refblocks self.old) → WritesInOrder S.view storage.old self.old storage.new }
-        ensures quiet { AreClean (l2_tables self.old) → WritesNothing S.view storage.old storage.new }
-        ensures all_written { KeepAllWritten S.view storage.old self.old storage.new self.new }
-        ensures header_cluster { CachesSpareHeader S.view storage.old self.old storage.new self.new }
+        ensures sound { TablesGo self.old → KeepsSoundly S.view storage.old self.old storage.new self.new }
+        ensures flushes { FlushesL2 S.view storage.old self.old storage.new self.new result }
+        ensures free { (size c : ℕ) → IsFreeOf size (l2_tables self.old) c → IsFreeOf size (l2_tables self.new) c }
     {
         storage.watch_faults();
         if let Err(refusal) = self.l2.flush(storage) {
@@ -115,21 +100,12 @@ impl<S: Storage> MetadataCaches<S> {
 
     // Writes the modified refblocks.
     fn write_blocks(&mut self, storage: &mut ImageStorage<S>) -> Result<(), ImageError>
-        ensures cause { IfErr result IsOfTables }
-        ensures storage_faults { CountsFaults S.view storage.old storage.new result }
-        ensures notes { KeepsNotes S.view storage.old storage.new }
-        ensures direction { self.new.direction ≡ self.old.direction }
-        ensures tables { self.new.l2 ≡ self.old.l2 }
-        ensures written { OnOk result (AreClean (refblocks self.new)) }
-        ensures marks { KeepsPinsAndNotes self.old self.new }
+        ensures step { CacheStep S.view storage.old self.old storage.new self.new }
+        ensures fails { Fails S.view storage.old storage.new result IsOfTables }
         ensures faults { (h : HeaderFields) → RefusesBy IsFault S.view storage.old self.old h result }
-        ensures keeps { BlocksMayGo (order_of self.old) (l2_tables self.old) → KeepSound S.view storage.old self.old storage.new self.new }
-        ensures apart { BlocksMayGo (order_of self.old) (l2_tables self.old) → KeepsKnownApart S.view storage.old self.old storage.new self.new }
+        ensures sound { BlocksGo self.old → KeepsSoundly S.view storage.old self.old storage.new self.new }
+        ensures flushes { FlushesRb S.view storage.old self.old storage.new self.new result }
         ensures clean { AreClean (refblocks self.old) → AreClean (refblocks self.new) }
-        ensures ordered { BlocksMayGo (order_of self.old) (l2_tables self.old) → WritesInOrder S.view storage.old self.old storage.new }
-        ensures quiet { AreClean (refblocks self.old) → WritesNothing S.view storage.old storage.new }
-        ensures all_written { KeepAllWritten S.view storage.old self.old storage.new self.new }
-        ensures header_cluster { CachesSpareHeader S.view storage.old self.old storage.new self.new }
     {
         storage.watch_faults();
         if let Err(refusal) = self.rb.flush(storage) {
@@ -141,23 +117,11 @@ impl<S: Storage> MetadataCaches<S> {
     /// From here on refblocks are written before L2 tables. Where it was the other way round, the L2 tables are written now. Refused as
     /// that is: 14 (memory), 15 (storage), and then it isn't turned round.
     pub fn l2_depends_on_rb(&mut self, storage: &mut ImageStorage<S>) -> Result<(), ImageError>
-        ensures cause { IfErr result IsOfTables }
-        ensures storage_faults { CountsFaults S.view storage.old storage.new result }
-        ensures notes { KeepsNotes S.view storage.old storage.new }
-        ensures order { OnOk result (order_of self.new ≡ L2DependsOnRb) }
-        ensures refused { OnErr result (order_of self.new ≡ order_of self.old) }
-        ensures turned { OnErr result (order_of self.old ≡ RbDependsOnL2) }
-        ensures written { order_of self.old ≡ RbDependsOnL2 → OnOk result (AreClean (l2_tables self.new)) }
-        ensures marks { KeepsPinsAndNotes self.old self.new }
+        ensures step { TurnStep S.view storage.old self.old storage.new self.new }
+        ensures fails { Fails S.view storage.old storage.new result IsOfTables }
         ensures faults { (h : HeaderFields) → RefusesBy IsFault S.view storage.old self.old h result }
-        ensures keeps { KeepSound S.view storage.old self.old storage.new self.new }
-        ensures apart { KeepsKnownApart S.view storage.old self.old storage.new self.new }
-        ensures ordered { WritesInOrder S.view storage.old self.old storage.new }
-        ensures blocks { self.new.rb ≡ self.old.rb }
-        ensures quiet { BlocksMayGo (order_of self.old) (l2_tables self.old) → WritesNothing S.view storage.old storage.new }
-        ensures storage_stays { order_of self.old ≢ RbDependsOnL2 → storage.new ≡ storage.old }
-        ensures all_written { KeepAllWritten S.view storage.old self.old storage.new self.new }
-        ensures header_cluster { CachesSpareHeader S.view storage.old self.old storage.new self.new }
+        ensures sound { KeepsSoundly S.view storage.old self.old storage.new self.new }
+        ensures turns { TurnsToRb S.view storage.old self.old storage.new self.new result }
     {
         match self.direction {
             Direction::L2DependsOnRb => {}
@@ -173,20 +137,11 @@ impl<S: Storage> MetadataCaches<S> {
     /// From here on L2 tables are written before refblocks. Where it was the other way round, the refblocks are written now. Refused as
     /// that is: 14 (memory), 15 (storage), and then it isn't turned round.
     pub fn rb_depends_on_l2(&mut self, storage: &mut ImageStorage<S>) -> Result<(), ImageError>
-        ensures cause { IfErr result IsOfTables }
-        ensures storage_faults { CountsFaults S.view storage.old storage.new result }
-        ensures notes { KeepsNotes S.view storage.old storage.new }
-        ensures order { OnOk result (order_of self.new ≡ RbDependsOnL2) }
-        ensures refused { OnErr result (order_of self.new ≡ order_of self.old) }
-        ensures written { order_of self.old ≡ L2DependsOnRb → OnOk result (AreClean (refblocks self.new)) }
-        ensures marks { KeepsPinsAndNotes self.old self.new }
+        ensures step { TurnStep S.view storage.old self.old storage.new self.new }
+        ensures fails { Fails S.view storage.old storage.new result IsOfTables }
         ensures faults { (h : HeaderFields) → RefusesBy IsFault S.view storage.old self.old h result }
-        ensures keeps { KeepSound S.view storage.old self.old storage.new self.new }
-        ensures apart { KeepsKnownApart S.view storage.old self.old storage.new self.new }
-        ensures ordered { WritesInOrder S.view storage.old self.old storage.new }
-        ensures tables { self.new.l2 ≡ self.old.l2 }
-        ensures quiet { TablesMayGo (order_of self.old) (refblocks self.old) → WritesNothing S.view storage.old storage.new }
-        ensures header_cluster { CachesSpareHeader S.view storage.old self.old storage.new self.new }
+        ensures sound { KeepsSoundly S.view storage.old self.old storage.new self.new }
+        ensures turns { TurnsToL2 S.view storage.old self.old storage.new self.new result }
     {
         match self.direction {
             Direction::RbDependsOnL2 => {}
@@ -201,19 +156,11 @@ impl<S: Storage> MetadataCaches<S> {
 
     /// Writes both caches, in the order that the direction asks for. Refused 14 (memory), 15 (storage), as the storage is.
     pub fn flush_all(&mut self, storage: &mut ImageStorage<S>) -> Result<(), ImageError>
-        ensures cause { IfErr result IsOfTables }
-        ensures storage_faults { CountsFaults S.view storage.old storage.new result }
-        ensures notes { KeepsNotes S.view storage.old storage.new }
-        ensures order { order_of self.new ≡ order_of self.old }
-        ensures written { OnOk result (AreAllWritten self.new) }
-        ensures marks { KeepsPinsAndNotes self.old self.new }
+        ensures step { CacheStep S.view storage.old self.old storage.new self.new }
+        ensures fails { Fails S.view storage.old storage.new result IsOfTables }
         ensures faults { (h : HeaderFields) → RefusesBy IsFault S.view storage.old self.old h result }
-        ensures keeps { KeepSound S.view storage.old self.old storage.new self.new }
-        ensures apart { KeepsKnownApart S.view storage.old self.old storage.new self.new }
-        ensures ordered { WritesInOrder S.view storage.old self.old storage.new }
-        ensures quiet { AreAllWritten self.old → WritesNothing S.view storage.old storage.new }
-        ensures all_written { KeepAllWritten S.view storage.old self.old storage.new self.new }
-        ensures header_cluster { CachesSpareHeader S.view storage.old self.old storage.new self.new }
+        ensures sound { KeepsSoundly S.view storage.old self.old storage.new self.new }
+        ensures written { OnOk result (AreAllWritten self.new) }
     {
         match self.direction {
             Direction::None | Direction::RbDependsOnL2 => {
@@ -230,21 +177,11 @@ impl<S: Storage> MetadataCaches<S> {
     /// Writes the refblocks, and the L2 tables before them where the direction asks for it. Refused 14 (memory), 15 (storage), as the
     /// storage is.
     pub fn flush_rb(&mut self, storage: &mut ImageStorage<S>) -> Result<(), ImageError>
-        ensures cause { IfErr result IsOfTables }
-        ensures storage_faults { CountsFaults S.view storage.old storage.new result }
-        ensures notes { KeepsNotes S.view storage.old storage.new }
-        ensures order { order_of self.new ≡ order_of self.old }
-        ensures written { OnOk result (AreClean (refblocks self.new)) }
-        ensures first { OnOk result (BlocksMayGo (order_of self.new) (l2_tables self.new)) }
-        ensures marks { KeepsPinsAndNotes self.old self.new }
+        ensures step { CacheStep S.view storage.old self.old storage.new self.new }
+        ensures fails { Fails S.view storage.old storage.new result IsOfTables }
         ensures faults { (h : HeaderFields) → RefusesBy IsFault S.view storage.old self.old h result }
-        ensures keeps { KeepSound S.view storage.old self.old storage.new self.new }
-        ensures apart { KeepsKnownApart S.view storage.old self.old storage.new self.new }
-        ensures ordered { WritesInOrder S.view storage.old self.old storage.new }
-        ensures tables { order_of self.old ≢ RbDependsOnL2 → self.new.l2 ≡ self.old.l2 }
-        ensures quiet { AreClean (refblocks self.old) → BlocksMayGo (order_of self.old) (l2_tables self.old)
-            → WritesNothing S.view storage.old storage.new }
-        ensures header_cluster { CachesSpareHeader S.view storage.old self.old storage.new self.new }
+        ensures sound { KeepsSoundly S.view storage.old self.old storage.new self.new }
+        ensures flushes { FlushesBlocks S.view storage.old self.old storage.new self.new result }
     {
         match self.direction {
             Direction::RbDependsOnL2 => {
@@ -257,22 +194,12 @@ impl<S: Storage> MetadataCaches<S> {
 
     // What has to be written before an L2 table goes.
     fn before_l2(&mut self, storage: &mut ImageStorage<S>) -> Result<(), ImageError>
-        ensures cause { IfErr result IsOfTables }
-        ensures storage_faults { CountsFaults S.view storage.old storage.new result }
-        ensures notes { KeepsNotes S.view storage.old storage.new }
-        ensures order { order_of self.new ≡ order_of self.old }
-        ensures tables { self.new.l2 ≡ self.old.l2 }
-        ensures blocks { AreClean (refblocks self.old) → AreClean (refblocks self.new) }
-        ensures first { OnOk result (TablesMayGo (order_of self.new) (refblocks self.new)) }
-        ensures marks { KeepsPinsAndNotes self.old self.new }
+        ensures step { CacheStep S.view storage.old self.old storage.new self.new }
+        ensures fails { Fails S.view storage.old storage.new result IsOfTables }
         ensures faults { (h : HeaderFields) → RefusesBy IsFault S.view storage.old self.old h result }
-        ensures keeps { KeepSound S.view storage.old self.old storage.new self.new }
-        ensures apart { KeepsKnownApart S.view storage.old self.old storage.new self.new }
-        ensures ordered { WritesInOrder S.view storage.old self.old storage.new }
-        ensures quiet { TablesMayGo (order_of self.old) (refblocks self.old) → WritesNothing S.view storage.old storage.new }
-        ensures blocks_stay { order_of self.old ≢ L2DependsOnRb → self.new.rb ≡ self.old.rb }
-        ensures all_written { KeepAllWritten S.view storage.old self.old storage.new self.new }
-        ensures header_cluster { CachesSpareHeader S.view storage.old self.old storage.new self.new }
+        ensures sound { KeepsSoundly S.view storage.old self.old storage.new self.new }
+        ensures way { MakesWayForL2 S.view storage.old self.old storage.new self.new result }
+        ensures blocks { AreClean (refblocks self.old) → AreClean (refblocks self.new) }
     {
         match self.direction {
             Direction::L2DependsOnRb => self.write_blocks(storage),
@@ -282,22 +209,12 @@ impl<S: Storage> MetadataCaches<S> {
 
     // What has to be written before a refblock goes.
     fn before_rb(&mut self, storage: &mut ImageStorage<S>) -> Result<(), ImageError>
-        ensures cause { IfErr result IsOfTables }
-        ensures storage_faults { CountsFaults S.view storage.old storage.new result }
-        ensures notes { KeepsNotes S.view storage.old storage.new }
-        ensures order { order_of self.new ≡ order_of self.old }
-        ensures refblocks { self.new.rb ≡ self.old.rb }
-        ensures free { (size cluster : ℕ) → IsFreeOf size (l2_tables self.old) cluster → IsFreeOf size (l2_tables self.new) cluster }
-        ensures first { OnOk result (BlocksMayGo (order_of self.new) (l2_tables self.new)) }
-        ensures marks { KeepsPinsAndNotes self.old self.new }
+        ensures step { CacheStep S.view storage.old self.old storage.new self.new }
+        ensures fails { Fails S.view storage.old storage.new result IsOfTables }
         ensures faults { (h : HeaderFields) → RefusesBy IsFault S.view storage.old self.old h result }
-        ensures keeps { KeepSound S.view storage.old self.old storage.new self.new }
-        ensures apart { KeepsKnownApart S.view storage.old self.old storage.new self.new }
-        ensures ordered { WritesInOrder S.view storage.old self.old storage.new }
-        ensures quiet { BlocksMayGo (order_of self.old) (l2_tables self.old) → WritesNothing S.view storage.old storage.new }
-        ensures tables_stay { order_of self.old ≢ RbDependsOnL2 → self.new.l2 ≡ self.old.l2 }
-        ensures all_written { KeepAllWritten S.view storage.old self.old storage.new self.new }
-        ensures header_cluster { CachesSpareHeader S.view storage.old self.old storage.new self.new }
+        ensures sound { KeepsSoundly S.view storage.old self.old storage.new self.new }
+        ensures way { MakesWayForRb S.view storage.old self.old storage.new self.new result }
+        ensures free { (size c : ℕ) → IsFreeOf size (l2_tables self.old) c → IsFreeOf size (l2_tables self.new) c }
     {
         match self.direction {
             Direction::RbDependsOnL2 => self.write_tables(storage),
@@ -313,28 +230,17 @@ impl<S: Storage> MetadataCaches<S> {
         storage: &mut ImageStorage<S>,
         cluster: HostCluster,
     ) -> Result<(), ImageError>
-        ensures cause { IfErr result IsOfTables }
-        ensures storage_faults { CountsFaults S.view storage.old storage.new result }
-        ensures notes { KeepsNotes S.view storage.old storage.new }
-        ensures order { order_of self.new ≡ order_of self.old }
-        ensures cached { OnOk result (IsSome (l2_at self.new cluster)) }
-        ensures marks { KeepsPinsAndNotes self.old self.new }
-        ensures refusals { (h : HeaderFields) → HasPlace h.cluster_bits cluster
-            → RefusesBy (IsInUseOrFault self.old) S.view storage.old self.old h result }
-        ensures keeps { KeepSound S.view storage.old self.old storage.new self.new }
-        ensures apart { KeepsKnownApart S.view storage.old self.old storage.new self.new }
-        ensures ordered { WritesInOrder S.view storage.old self.old storage.new }
-        ensures quiet { GetsTableQuietly self.old cluster → WritesNothing S.view storage.old storage.new }
-        ensures tables_stay { OtherTablesStay self.old self.new cluster }
-        ensures blocks_stay { order_of self.old ≢ L2DependsOnRb → self.new.rb ≡ self.old.rb }
-        ensures all_written { KeepAllWritten S.view storage.old self.old storage.new self.new }
-        ensures header_cluster { 0 < cluster → CachesSpareHeader S.view storage.old self.old storage.new self.new }
+        ensures step { LoadStep S.view storage.old self.old storage.new self.new cluster }
+        ensures fails { Fails S.view storage.old storage.new result IsOfTables }
+        ensures refusals { LoadRefusesBy S.view (IsInUseOrFault self.old) storage.old self.old cluster result }
+        ensures sound { KeepsSoundly S.view storage.old self.old storage.new self.new }
+        ensures gets { GetsL2 S.view storage.old self.old storage.new self.new result cluster }
     {
-        if self.l2.get_or_insert(storage, cluster, false)? {
+        if self.l2.get_or_insert(storage, cluster, false)?? {
             return Ok(());
         }
         self.before_l2(storage)?;
-        self.l2.get_or_insert(storage, cluster, true)?;
+        self.l2.get_or_insert(storage, cluster, true)??;
         Ok(())
     }
 
@@ -346,29 +252,18 @@ impl<S: Storage> MetadataCaches<S> {
         storage: &mut ImageStorage<S>,
         cluster: HostCluster,
     ) -> Result<(), ImageError>
-        ensures cause { IfErr result IsOfTables }
-        ensures storage_faults { CountsFaults S.view storage.old storage.new result }
-        ensures notes { KeepsNotes S.view storage.old storage.new }
-        ensures order { order_of self.new ≡ order_of self.old }
-        ensures cached { OnOk result (IsSome (rb_at self.new cluster)) }
-        ensures marks { KeepsPinsAndNotes self.old self.new }
-        ensures faults { CachesHaveRoom self.old → (h : HeaderFields) → HasPlace h.cluster_bits cluster
-            → RefusesBy IsFault S.view storage.old self.old h result }
-        ensures keeps { KeepSound S.view storage.old self.old storage.new self.new }
-        ensures apart { KeepsKnownApart S.view storage.old self.old storage.new self.new }
-        ensures ordered { WritesInOrder S.view storage.old self.old storage.new }
-        ensures quiet { GetsBlockQuietly self.old cluster → WritesNothing S.view storage.old storage.new }
-        ensures held { IsSome (rb_at self.old cluster) → (storage.new ≡ storage.old) × ((c : ℕ) → rb_at self.new c ≡ rb_at self.old c) }
-        ensures blocks_stay { OtherBlocksStay self.old self.new cluster }
-        ensures tables_stay { order_of self.old ≢ RbDependsOnL2 → self.new.l2 ≡ self.old.l2 }
-        ensures all_written { KeepAllWritten S.view storage.old self.old storage.new self.new }
-        ensures header_cluster { 0 < cluster → CachesSpareHeader S.view storage.old self.old storage.new self.new }
+        ensures step { LoadStep S.view storage.old self.old storage.new self.new cluster }
+        ensures fails { Fails S.view storage.old storage.new result IsOfTables }
+        ensures faults { CachesHaveRoom self.old → LoadRefusesBy S.view IsFault storage.old self.old cluster result }
+        ensures sound { KeepsSoundly S.view storage.old self.old storage.new self.new }
+        ensures gets { GetsRb S.view storage.old self.old storage.new self.new result cluster }
+        ensures held { IsSome (rb_at self.old cluster) → KeepsBlocks storage.old self.old storage.new self.new }
     {
-        if self.rb.get_or_insert(storage, cluster, false)? {
+        if self.rb.get_or_insert(storage, cluster, false)?? {
             return Ok(());
         }
         self.before_rb(storage)?;
-        self.rb.get_or_insert(storage, cluster, true)?;
+        self.rb.get_or_insert(storage, cluster, true)??;
         Ok(())
     }
 
@@ -381,41 +276,22 @@ impl<S: Storage> MetadataCaches<S> {
         table: L2Table,
     ) -> Result<(), ImageError>
         requires { IsSome table.cluster }
-        ensures cause { IfErr result IsOfTables }
-        ensures storage_faults { CountsFaults S.view storage.old storage.new result }
-        ensures notes { KeepsNotes S.view storage.old storage.new }
-        ensures order { order_of self.new ≡ order_of self.old }
-        ensures cached { OnOk result (IfSome table.cluster (λ cluster. l2_at self.new cluster ≡ Some table)) }
-        ensures marks { KeepsPinsAndNotes self.old self.new }
-        ensures refusals { PutRefusesBy (IsInUseOrFault self.old) S.view storage.old self.old
-            (λ h. IsTableOf h table) table.cluster table.bytes table.is_modified result }
-        ensures keeps { PutSound S.view storage.old self.old storage.new self.new
-            (λ h. IsTableOf h table) table.cluster table.bytes table.is_modified }
-        ensures laid { OnOk result (LaysTable S.view storage.old self.old storage.new self.new table) }
-        ensures refused { OnErr result (KeepSound S.view storage.old self.old storage.new self.new) }
-        ensures laid_apart { OnOk result (LaysTableApart S.view storage.old self.old storage.new self.new table) }
-        ensures apart { OnErr result (KeepsKnownApart S.view storage.old self.old storage.new self.new) }
-        ensures ordered { WritesInOrder S.view storage.old self.old storage.new }
-        ensures quiet { IfSome table.cluster (λ cluster. PutsTableQuietly self.old cluster → WritesNothing S.view storage.old storage.new) }
-        ensures tables_stay { IfSome table.cluster (OtherTablesStay self.old self.new) }
-        ensures blocks_stay { order_of self.old ≢ L2DependsOnRb → self.new.rb ≡ self.old.rb }
-        ensures clean { AreClean (l2_tables self.old) → IsFalse table.is_modified → AreClean (l2_tables self.new) }
-        ensures blocks { AreClean (refblocks self.old) → AreClean (refblocks self.new) }
-        ensures first { BlocksMayGo (order_of self.old) (l2_tables self.old) → IsFalse table.is_modified
-            → BlocksMayGo (order_of self.new) (l2_tables self.new) }
-        ensures may_go { TablesMayGo (order_of self.old) (refblocks self.old) → TablesMayGo (order_of self.new) (refblocks self.new) }
-        ensures header_cluster { IfSome table.cluster
-            (λ cluster. 0 < cluster → CachesSpareHeader S.view storage.old self.old storage.new self.new) }
+        ensures step { PutStep S.view storage.old self.old storage.new self.new table.cluster }
+        ensures fails { Fails S.view storage.old storage.new result IsOfTables }
+        ensures refusals { PutL2RefusesBy S.view (IsInUseOrFault self.old) storage.old self.old table result }
+        ensures sound { PutsL2Soundly S.view storage.old self.old storage.new self.new result table }
+        ensures puts { PutsL2 S.view storage.old self.old storage.new self.new result table }
+        ensures written { KeepsL2Written table.is_modified self.old self.new }
     {
         let Some(cluster) = table.get_cluster() else {
             unreachable!();
         };
         let mut table = Some(table);
-        if self.l2.insert(storage, cluster, &mut table, false)? {
+        if self.l2.insert(storage, cluster, &mut table, false)?? {
             return Ok(());
         }
         self.before_l2(storage)?;
-        self.l2.insert(storage, cluster, &mut table, true)?;
+        self.l2.insert(storage, cluster, &mut table, true)??;
         Ok(())
     }
 
@@ -428,39 +304,22 @@ impl<S: Storage> MetadataCaches<S> {
         block: RefBlock,
     ) -> Result<(), ImageError>
         requires { IsSome block.cluster }
-        ensures cause { IfErr result IsOfTables }
-        ensures storage_faults { CountsFaults S.view storage.old storage.new result }
-        ensures notes { KeepsNotes S.view storage.old storage.new }
-        ensures order { order_of self.new ≡ order_of self.old }
-        ensures cached { OnOk result (IfSome block.cluster (λ cluster. rb_at self.new cluster ≡ Some block)) }
-        ensures marks { KeepsPinsAndNotes self.old self.new }
-        ensures faults { CachesHaveRoom self.old
-            → PutRefusesBy IsFault S.view storage.old self.old
-            (λ h. IsBlockOf h block) block.cluster block.bytes block.is_modified result }
-        ensures keeps { PutSound S.view storage.old self.old storage.new self.new
-            (λ h. IsBlockOf h block) block.cluster block.bytes block.is_modified }
-        ensures laid { OnOk result (LaysBlock S.view storage.old self.old storage.new self.new block) }
-        ensures refused { OnErr result (KeepSound S.view storage.old self.old storage.new self.new) }
-        ensures laid_apart { OnOk result (LaysBlockApart S.view storage.old self.old storage.new self.new block) }
-        ensures apart { OnErr result (KeepsKnownApart S.view storage.old self.old storage.new self.new) }
-        ensures ordered { WritesInOrder S.view storage.old self.old storage.new }
-        ensures quiet { IfSome block.cluster (λ cluster. PutsBlockQuietly self.old cluster → WritesNothing S.view storage.old storage.new) }
-        ensures blocks_stay { IfSome block.cluster (OtherBlocksStay self.old self.new) }
-        ensures tables_stay { order_of self.old ≢ RbDependsOnL2 → self.new.l2 ≡ self.old.l2 }
-        ensures clean { AreClean (refblocks self.old) → IsFalse block.is_modified → OnOk result (AreClean (refblocks self.new)) }
-        ensures first { BlocksMayGo (order_of self.old) (l2_tables self.old) → OnOk result (BlocksMayGo (order_of self.new) (l2_tables self.new)) }
-        ensures header_cluster { IfSome block.cluster
-            (λ cluster. 0 < cluster → CachesSpareHeader S.view storage.old self.old storage.new self.new) }
+        ensures step { PutStep S.view storage.old self.old storage.new self.new block.cluster }
+        ensures fails { Fails S.view storage.old storage.new result IsOfTables }
+        ensures faults { CachesHaveRoom self.old → PutRbRefusesBy S.view IsFault storage.old self.old block result }
+        ensures sound { PutsRbSoundly S.view storage.old self.old storage.new self.new result block }
+        ensures puts { PutsRb S.view storage.old self.old storage.new self.new result block }
+        ensures written { KeepsRbWritten block.is_modified self.old self.new result }
     {
         let Some(cluster) = block.get_cluster() else {
             unreachable!();
         };
         let mut block = Some(block);
-        if self.rb.insert(storage, cluster, &mut block, false)? {
+        if self.rb.insert(storage, cluster, &mut block, false)?? {
             return Ok(());
         }
         self.before_rb(storage)?;
-        self.rb.insert(storage, cluster, &mut block, true)?;
+        self.rb.insert(storage, cluster, &mut block, true)??;
         Ok(())
     }
 
@@ -506,18 +365,12 @@ impl<S: Storage> MetadataCaches<S> {
 
     /// Drops a refblock unwritten: false where it isn't there or is pinned.
     pub fn rb_remove(&mut self, cluster: HostCluster) -> bool
-        ensures order { order_of self.new ≡ order_of self.old }
+        ensures step { HeldStep self.old self.new }
         ensures tables { l2_tables self.new ≡ l2_tables self.old }
         ensures answer { result ≡ can_remove (λ k. cluster == k) self.old.rb.entries }
         ensures same { IsFalse result → self.new ≡ self.old }
         ensures others { (c : ℕ) → cluster == c ≡ false → rb_at self.new c ≡ rb_at self.old c }
-        ensures marks { KeepsPinsAndNotes self.old self.new }
-        ensures taken { IsTrue result → TakesBlock self.old self.new cluster }
-        ensures taken_apart { IsTrue result → TakesBlockApart self.old self.new cluster }
-        ensures clean { AreClean (refblocks self.old) → AreClean (refblocks self.new) }
-        ensures gone { (h : HeaderFields) (p : Pending) (on_storage : Bytes) → CacheInvariant h p self.old on_storage
-            → CachesHaveRoom self.old → rb_at self.new cluster ≡ None }
-        ensures header_cluster { KeepBehindHeader self.old self.new }
+        ensures removes { RemovesBlock self.old self.new cluster result }
     {
         self.rb.remove(cluster)
     }
@@ -525,14 +378,12 @@ impl<S: Storage> MetadataCaches<S> {
     /// Drops the L2 tables without a pin, unwritten. Refused 21 (still in use) with the clusters of those that are pinned, and
     /// 14 (memory), which drops nothing.
     pub fn invalidate_l2(&mut self) -> Result<(), ImageError>
+        ensures step { HeldStep self.old self.new }
         ensures cause { IfErr result IsOfTables }
-        ensures order { order_of self.new ≡ order_of self.old }
-        ensures blocks { refblocks self.new ≡ refblocks self.old }
         ensures left { LeavesPinned self.old.l2.entries result self.new.l2.entries }
-        ensures marks { KeepsPinsAndNotes self.old self.new }
+        ensures blocks { refblocks self.new ≡ refblocks self.old }
         ensures taken { TakesOff (AreClean (l2_tables self.old)) self.old self.new }
         ensures taken_apart { TakesOffApart (AreClean (l2_tables self.old)) self.old self.new }
-        ensures header_cluster { KeepBehindHeader self.old self.new }
     {
         self.l2.invalidate()?;
         Ok(())
@@ -541,14 +392,12 @@ impl<S: Storage> MetadataCaches<S> {
     /// Drops the refblocks without a pin, unwritten. Refused 21 (still in use) with the clusters of those that are pinned, and
     /// 14 (memory), which drops nothing.
     pub fn invalidate_rb(&mut self) -> Result<(), ImageError>
+        ensures step { HeldStep self.old self.new }
         ensures cause { IfErr result IsOfTables }
-        ensures order { order_of self.new ≡ order_of self.old }
-        ensures tables { l2_tables self.new ≡ l2_tables self.old }
         ensures left { LeavesPinned self.old.rb.entries result self.new.rb.entries }
-        ensures marks { KeepsPinsAndNotes self.old self.new }
+        ensures tables { l2_tables self.new ≡ l2_tables self.old }
         ensures taken { TakesOff (AreClean (refblocks self.old)) self.old self.new }
         ensures taken_apart { TakesOffApart (AreClean (refblocks self.old)) self.old self.new }
-        ensures header_cluster { KeepBehindHeader self.old self.new }
     {
         self.rb.invalidate()?;
         Ok(())
@@ -599,54 +448,47 @@ impl<S: Storage> MetadataCaches<S> {
         index: usize,
         host: HostCluster,
     ) -> Option<(HostCluster, ClusterCount)>
-        ensures order { order_of self.new ≡ order_of self.old }
-        ensures marks { KeepsPinsAndNotes self.old self.new }
+        ensures step { HeldStep self.old self.new }
         ensures mapped { MapsCachedEntry self.old self.new cluster index host result }
         ensures noted { NotesEntry self.old self.new cluster index host }
-        ensures entry { IfSome (l2_at self.old cluster)
-            (λ t. index < entries_of t → IsHostCluster t.cluster_bits host
-            → SetsEntry self.old self.new cluster index t (copied_entry (host * 2 ^ t.cluster_bits)) result) }
+        ensures entry { MapsHeldEntry self.old self.new cluster index host result }
         ensures apart { ChangesTableApart self.old self.new cluster }
-        ensures refused { IfSome (l2_at self.old cluster)
-            (λ t. index < entries_of t → IsHostCluster t.cluster_bits host → ⊥) → (result ≡ None)
-            × (self.new ≡ self.old) }
-        ensures header_cluster { KeepBehindHeader self.old self.new }
+        ensures refused { LeavesEntry self.old self.new cluster (CantMap index host) result }
     {
-        let table = self.l2.peek_mut(cluster)?;
+        let table = self.l2.peek(cluster)?;
         let bits = table.cluster_bits();
         if index >= table.entries() || !host.is_nameable(bits) {
             return None;
         }
+        let old_data = self.l2.change(cluster, &MapEntry { index, host }).unwrap();
         self.is_changed = true;
         self.changes = one_more(self.changes);
-        table.map_cluster(index, host)
+        old_data
     }
 
-    /// Makes an entry of a held L2 table zero; where it is to keep its host cluster, and that is marked copied, it keeps it. Answers the host clusters that it names no longer.
+    /// Makes an entry of a held L2 table zero; where it is to keep its host cluster, and that is marked copied, it keeps it.
+    /// Answers the host clusters that it names no longer.
     pub fn l2_zero_cluster(
         &mut self,
         cluster: HostCluster,
         index: usize,
         keep: bool,
     ) -> Option<(HostCluster, ClusterCount)>
-        ensures order { order_of self.new ≡ order_of self.old }
-        ensures marks { KeepsPinsAndNotes self.old self.new }
+        ensures step { HeldStep self.old self.new }
         ensures zeroed { ZeroesEntry self.old self.new cluster index keep result }
         ensures noted { NotesHeld self.old self.new cluster index }
-        ensures entry { IfSome (l2_at self.old cluster)
-            (λ t. index < entries_of t → SetsEntry self.old self.new cluster index t
-            (zero_entry (if keep then copied_host (cover_at t index) else None)) result) }
+        ensures entry { ZeroesHeldEntry self.old self.new cluster index keep result }
         ensures apart { ChangesTableApart self.old self.new cluster }
-        ensures refused { IfSome (l2_at self.old cluster) (λ t. entries_of t ≤ index) → (result ≡ None) × (self.new ≡ self.old) }
-        ensures header_cluster { KeepBehindHeader self.old self.new }
+        ensures refused { LeavesEntry self.old self.new cluster (λ t. entries_of t ≤ index) result }
     {
-        let table = self.l2.peek_mut(cluster)?;
+        let table = self.l2.peek(cluster)?;
         if index >= table.entries() {
             return None;
         }
+        let old_data = self.l2.change(cluster, &ZeroEntry { index, keep }).unwrap();
         self.is_changed = true;
         self.changes = one_more(self.changes);
-        table.zero_cluster(index, keep)
+        old_data
     }
 
     /// Makes an entry of a held L2 table cover nothing. Answers the host clusters that it names no longer.
@@ -655,22 +497,21 @@ impl<S: Storage> MetadataCaches<S> {
         cluster: HostCluster,
         index: usize,
     ) -> Option<(HostCluster, ClusterCount)>
-        ensures order { order_of self.new ≡ order_of self.old }
-        ensures marks { KeepsPinsAndNotes self.old self.new }
+        ensures step { HeldStep self.old self.new }
         ensures discarded { DiscardsEntry self.old self.new cluster index result }
         ensures noted { NotesHeld self.old self.new cluster index }
-        ensures entry { IfSome (l2_at self.old cluster) (λ t. index < entries_of t → SetsEntry self.old self.new cluster index t 0 result) }
+        ensures entry { DiscardsHeldEntry self.old self.new cluster index result }
         ensures apart { ChangesTableApart self.old self.new cluster }
-        ensures refused { IfSome (l2_at self.old cluster) (λ t. entries_of t ≤ index) → (result ≡ None) × (self.new ≡ self.old) }
-        ensures header_cluster { KeepBehindHeader self.old self.new }
+        ensures refused { LeavesEntry self.old self.new cluster (λ t. entries_of t ≤ index) result }
     {
-        let table = self.l2.peek_mut(cluster)?;
+        let table = self.l2.peek(cluster)?;
         if index >= table.entries() {
             return None;
         }
+        let old_data = self.l2.change(cluster, &DiscardEntry { index }).unwrap();
         self.is_changed = true;
         self.changes = one_more(self.changes);
-        table.discard_cluster(index)
+        old_data
     }
 
     /// Whether a count of a held refblock is 0.
@@ -689,32 +530,33 @@ impl<S: Storage> MetadataCaches<S> {
         ensures first { TellsFirstFree self.old cluster index result }
         ensures same { self.new ≡ self.old }
     {
-        let Some(block) = self.rb.peek_mut(cluster) else {
+        let Some(block) = self.rb.peek(cluster) else {
             return 0;
         };
         if index > block.counts() {
             return 0;
         }
-        block.next_zero(index) - index
+        let first = self.rb.change(cluster, &NextZero { from: index }).unwrap();
+        first.saturating_sub(index)
     }
 
     /// Counts a cluster of a held refblock once more. False at the greatest count.
     pub fn rb_increment(&mut self, cluster: HostCluster, index: usize) -> bool
-        ensures order { order_of self.new ≡ order_of self.old }
-        ensures counted { IsTrue result → RaisesCount self.old self.new cluster index }
-        ensures refused { IsFalse result → self.new ≡ self.old }
-        ensures marks { KeepsPinsAndNotes self.old self.new }
-        ensures noted { IsTrue result → IsOneChange self.new.is_changed self.old.changes self.new.changes }
-        ensures made { RaisesZero self.old cluster index result }
+        ensures step { HeldStep self.old self.new }
+        ensures sound { RaisesSoundly self.old self.new cluster index result }
         ensures counts { IfSome (rb_at self.old cluster) (λ b. CountsMore self.old self.new cluster index b result) }
-        ensures apart { ChangesBlockApart self.old self.new cluster }
+        ensures noted { IsTrue result → IsOneChange self.new.is_changed self.old.changes self.new.changes }
+        ensures refused { IsFalse result → self.new ≡ self.old }
         ensures missing { IsNone (rb_at self.old cluster) → IsFalse result }
-        ensures header_cluster { KeepBehindHeader self.old self.new }
     {
-        let Some(block) = self.rb.peek_mut(cluster) else {
+        let Some(block) = self.rb.peek(cluster) else {
             return false;
         };
-        if index >= block.counts() || !block.increment(index) {
+        if index >= block.counts() {
+            return false;
+        }
+        let raised = self.rb.change(cluster, &Raise { index }).unwrap();
+        if !raised {
             return false;
         }
         self.is_changed = true;
@@ -724,22 +566,22 @@ impl<S: Storage> MetadataCaches<S> {
 
     /// Counts a cluster of a held refblock once less. False at 0.
     pub fn rb_decrement(&mut self, cluster: HostCluster, index: usize) -> bool
-        ensures order { order_of self.new ≡ order_of self.old }
-        ensures counted { IsTrue result → LowersCount self.old self.new cluster index }
-        ensures refused { IsFalse result → self.new ≡ self.old }
-        ensures marks { KeepsPinsAndNotes self.old self.new }
-        ensures noted { IsTrue result → IsOneChange self.new.is_changed self.old.changes self.new.changes }
-        ensures made { LowersSome self.old cluster index result }
-        ensures cached { IsTrue result → IsSome (rb_at self.new cluster) }
+        ensures step { HeldStep self.old self.new }
+        ensures sound { LowersSoundly self.old self.new cluster index result }
         ensures counts { IfSome (rb_at self.old cluster) (λ b. CountsLess self.old self.new cluster index b result) }
-        ensures apart { ChangesBlockApart self.old self.new cluster }
+        ensures noted { IsTrue result → IsOneChange self.new.is_changed self.old.changes self.new.changes }
+        ensures refused { IsFalse result → self.new ≡ self.old }
+        ensures cached { IsTrue result → IsSome (rb_at self.new cluster) }
         ensures missing { IsNone (rb_at self.old cluster) → IsFalse result }
-        ensures header_cluster { KeepBehindHeader self.old self.new }
     {
-        let Some(block) = self.rb.peek_mut(cluster) else {
+        let Some(block) = self.rb.peek(cluster) else {
             return false;
         };
-        if index >= block.counts() || !block.decrement(index) {
+        if index >= block.counts() {
+            return false;
+        }
+        let lowered = self.rb.change(cluster, &Lower { index }).unwrap();
+        if !lowered {
             return false;
         }
         self.is_changed = true;

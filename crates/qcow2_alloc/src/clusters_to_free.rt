@@ -1,5 +1,6 @@
 ghost use Rattle.std.specs.Iterator.{YieldsFirst, item_count};
-ghost use Rattle.std.specs.Prelude.{length, ◌==◌, ◌≡◌, ◌+◌, ◌-◌, ◌^◌, ◌<◌, ◌++◌, ◌∷◌, [], List, reverse, IfOk, IfSome, IsNone, OnOk, OnErr, IsTrue, ◌↔◌};
+ghost use Rattle.std.specs.Prelude.{length, ◌==◌, ◌≡◌, ◌+◌, ◌-◌, ◌^◌, ◌<◌, ◌++◌, ◌∷◌, [], List, reverse, IfOk, IfSome};
+ghost use Rattle.std.specs.Prelude.{IsNone, OnOk, OnErr, IsTrue, ◌↔◌};
 
 use qcow2_metadata::{ClusterCount, HostCluster};
 use std::alloc::{AllocError, Global};

@@ -1,14 +1,15 @@
 //! A run of free clusters for a longer reftable and the refblocks that it lacks.
-ghost use Rattle.std.specs.Prelude.{◌≡◌, ◌≢◌, ◌⊎◌, ℕ, ◌+◌, ◌/◌, ◌^◌, ◌<◌, ◌≤◌, false, IfOk, IsTrue};
+ghost use Rattle.std.specs.Prelude.{◌≡◌, ◌+◌, ◌/◌, ◌^◌, ◌<◌, ◌≤◌, false, IfOk, IsTrue};
 ghost use Rattle.qcow2_metadata.specs.Header.{counts_per_block};
 ghost use Rattle.qcow2_laws.specs.CrashInvariant.{Pending};
 ghost use Rattle.qcow2_alloc.specs.Allocation.{UnseenAllocatorStep};
-ghost use Rattle.qcow2_alloc.specs.GrownTables.{counted_run, with_run};
+ghost use Rattle.qcow2_alloc.specs.GrownTables.{with_run};
 ghost use Rattle.qcow2_alloc.specs.ImageError.{IsOfTables};
 ghost use Rattle.qcow2_alloc.specs.ImageFile.{AllocatorInvariant};
 ghost use Rattle.qcow2_alloc.specs.LowestRuns.{IsUsed};
-ghost use Rattle.qcow2_alloc.specs.Rooms.{lacks, opens, opened, room_length, TakesFree, ReachesRoom};
-ghost use Rattle.qcow2_alloc.specs.Steps.{Fails, TableStep, TakesRoomSoundly, LeavesSoundly};
+ghost use Rattle.qcow2_alloc.specs.Rooms.{lacks, opens, IsReach, IsRoomBelow, TakesFree};
+ghost use Rattle.qcow2_alloc.specs.Steps.{Fails, TableStep, ReachesRoomSoundly, TakesRoomSoundly};
+ghost use Rattle.qcow2_alloc.specs.Steps.{LeavesSoundly};
 
 use crate::{Allocator, ImageError, ImageFile};
 use image_access::Storage;
@@ -43,19 +44,12 @@ impl Allocator {
         requires few { clusters ≤ 2 ^ 32 }
         requires near { end ≤ 2 ^ 60 }
         ensures step { TableStep S.view self.old.reftable file.old self.new.reftable file.new }
-        ensures reftable { self.new.reftable ≡ self.old.reftable }
-        ensures first { self.new.first_free_cluster ≡ self.old.first_free_cluster }
+        ensures fails { Fails S.view file.old.storage file.new.storage result IsOfTables }
         ensures sound { (p : Pending) → AllocatorInvariant S.view self.old p file.old
             → TakesRoomSoundly S.view p clusters end self.old file.old self.new file.new result }
-        ensures blocks { IfOk result (λ room. room.blocks ≡ opened self.old.reftable
-            (counts_per_block file.old.header.fields) room.first (room_length room)) }
-        ensures noted { IfOk result (λ room. ((k : ℕ)
-            → counted_run file.old.header.fields self.old.reftable room.first (room_length room) k ≡ 0)
-            ⊎ IsTrue file.new.caches.is_changed) }
-        ensures clusters { IfOk result (λ room. room.clusters ≡ clusters) }
-        ensures above { IfOk result (λ room. 0 < room.first) }
-        ensures below { IfOk result (λ room. room.first + room_length room ≤ end) }
-        ensures fails { Fails S.view file.old.storage file.new.storage result IsOfTables }
+        ensures room { IfOk result (IsRoomBelow file.old.header.fields self.old.reftable clusters end file.new) }
+        ensures reftable { self.new.reftable ≡ self.old.reftable }
+        ensures first { self.new.first_free_cluster ≡ self.old.first_free_cluster }
     {
         let mut first = self.first_free_cluster.max(1);
         'search: while first < end {
@@ -86,22 +80,11 @@ impl Allocator {
         requires few { clusters ≤ 2 ^ 32 }
         requires near { end ≤ 2 ^ 60 }
         ensures step { TableStep S.view self.old.reftable file.old self.new.reftable file.new }
-        ensures same { self.new ≡ self.old }
-        ensures sound { (p : Pending) → AllocatorInvariant S.view self.old p file.old
-            → ReachesRoom S.view p file.old self.new file.new self.old.reftable first result }
-        ensures noted { IfOk result (λ reach. ((k : ℕ)
-            → counted_run file.old.header.fields self.old.reftable first reach.taken k ≡ 0)
-            ⊎ IsTrue file.new.caches.is_changed) }
-        ensures blocks { IfOk result (λ reach. reach.blocks ≡ opened self.old.reftable
-            (counts_per_block file.old.header.fields) first reach.taken) }
-        ensures within { IfOk result (λ reach. first + reach.taken ≤ end) }
-        ensures few { IfOk result (λ reach. reach.blocks ≤ reach.taken) }
         ensures fails { Fails S.view file.old.storage file.new.storage result IsOfTables }
-        ensures short { IfOk result (λ reach. reach.taken ≢ reach.blocks + clusters → (n : ℕ) → n ≤ reach.taken
-            → n < opened self.old.reftable (counts_per_block file.old.header.fields) first n + clusters) }
-        ensures stopped { (p : Pending) → AllocatorInvariant S.view self.old p file.old
-            → IfOk result (λ reach. reach.taken ≢ reach.blocks + clusters → first + reach.taken < end
-            → IsUsed S.view file.new (first + reach.taken)) }
+        ensures sound { (p : Pending) → AllocatorInvariant S.view self.old p file.old
+            → ReachesRoomSoundly S.view p first clusters end self.old file.old self.new file.new result }
+        ensures reach { IfOk result (IsReach file.old.header.fields self.old.reftable first clusters end file.new) }
+        ensures same { self.new ≡ self.old }
     {
         let bits = file.header.rb_bits();
         let mut taken = 0;

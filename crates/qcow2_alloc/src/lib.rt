@@ -15,6 +15,7 @@ mod refblocks;
 mod reftable_growth;
 mod reftable_length;
 mod reftable_naming;
+pub mod table_cache;
 mod used_clusters;
 
 pub use allocation::Allocator;

@@ -1,23 +1,23 @@
 //! The refblocks that a longer reftable needs.
-ghost use Rattle.std.specs.Prelude.{◌≡◌, ℕ, ◌+◌, ◌-◌, ◌*◌, ◌/◌, ◌^◌, ◌<◌, ◌≤◌, length, Some, IfOk, IfErr, OnOk, OnErr, IsTrue};
-ghost use Rattle.qcow2_metadata.specs.EntryTable.{entry_count};
-ghost use Rattle.qcow2_metadata.specs.Header.{cluster_size, counts_per_block};
-ghost use Rattle.qcow2_metadata.specs.L2Mapping.{IsHostCluster, greatest_offset};
+ghost use Rattle.std.specs.Prelude.{◌≡◌, ℕ, ◌+◌, ◌-◌, ◌*◌, ◌^◌, ◌<◌, ◌≤◌, length, Some, IfOk, IfErr, OnOk, OnErr};
+ghost use Rattle.std.specs.Prelude.{IsTrue};
+ghost use Rattle.qcow2_metadata.specs.Header.{cluster_size};
+ghost use Rattle.qcow2_metadata.specs.L2Mapping.{IsHostCluster};
 ghost use Rattle.qcow2_metadata.specs.RefBlock.{IsRefBlock};
 ghost use Rattle.qcow2_metadata.specs.TableBytes.{HasPlace};
 ghost use Rattle.qcow2_laws.specs.Caches.{AreClean, BlocksMayGo};
 ghost use Rattle.qcow2_laws.specs.CrashInvariant.{Pending};
-ghost use Rattle.qcow2_alloc.specs.Allocation.{run_at, NamesLacking, SameLeaks};
-ghost use Rattle.qcow2_alloc.specs.GrownTables.{with_run, NamesReftable};
+ghost use Rattle.qcow2_alloc.specs.Allocation.{run_at};
+ghost use Rattle.qcow2_alloc.specs.GrownTables.{with_run};
 ghost use Rattle.qcow2_alloc.specs.ImageError.{IsOfTables};
-ghost use Rattle.qcow2_alloc.specs.ImageFile.{has_noted, AllocatorInvariant};
+ghost use Rattle.qcow2_alloc.specs.ImageFile.{AllocatorInvariant};
 ghost use Rattle.qcow2_alloc.specs.ImageStorage.{is_changed_of};
-ghost use Rattle.qcow2_alloc.specs.LowestRuns.{KeepsUsed};
 ghost use Rattle.qcow2_alloc.specs.MetadataCaches.{order_of, l2_tables, refblocks, rb_at};
-ghost use Rattle.qcow2_alloc.specs.Rooms.{opened, room_length, placed_at, CountsRun, IsLonger, WritesTo, WritesTable, PlacesBlocks};
+ghost use Rattle.qcow2_alloc.specs.Rooms.{room_length, placed_at, CountsRun, IsLonger, IsRoomFor, WritesTo, WritesTable};
+ghost use Rattle.qcow2_alloc.specs.Rooms.{FillsTable, PlacesBlocks};
 ghost use Rattle.qcow2_alloc.specs.TableCaches.{IsBlockOf};
 ghost use Rattle.qcow2_alloc.specs.declared.allocation.Allocator.{Allocator as AllocatorView};
-ghost use Rattle.qcow2_alloc.specs.Steps.{Fails, PointerStep, PartStep};
+ghost use Rattle.qcow2_alloc.specs.Steps.{EntersRoom, Fails, NamesSoundly, PartStep, PointerStep};
 
 use crate::free_room::Room;
 use crate::{Allocator, ImageError, ImageFile, WriteKind};
@@ -119,26 +119,18 @@ impl Allocator {
         table: &mut RefTable,
         room: Room,
     ) -> Result<(), ImageError>
-        requires above { 0 < room.first }
-        requires within { room.first + room_length room
-            ≤ entry_count table.old * counts_per_block file.old.header.fields }
-        requires near { room.first + room_length room ≤ greatest_offset / 2 ^ file.old.header.fields.cluster_bits + 1 }
-        requires bits { table.old.cluster_bits ≡ file.old.header.fields.cluster_bits }
-        requires blocks { room.blocks
-            ≡ opened self.now.reftable (counts_per_block file.old.header.fields) room.first (room_length room) }
+        requires room { IsRoomFor file.old.header.fields self.now.reftable table.old room }
         ensures step { PartStep S.view file.old.header.fields.cluster_bits file.old file.new }
-        ensures tables { l2_tables file.new.caches ≡ l2_tables file.old.caches }
-        ensures clean { AreClean (refblocks file.old.caches) → AreClean (refblocks file.new.caches) }
-        ensures rest { table.new ≡ record table.old { bytes = table.new.bytes } }
-        ensures as_long { length table.new.bytes ≡ length table.old.bytes }
-        ensures lacking { NamesLacking self.now.reftable table.old table.new }
+        ensures fails { Fails S.view file.old.storage file.new.storage result IsOfTables }
         ensures sound { (p : Pending) → AllocatorInvariant S.view self.now
             (with_run p file.old.header.fields self.now.reftable room.first (room_length room)) file.old
             → BlocksMayGo (order_of file.old.caches) (l2_tables file.old.caches)
             → IsLonger file.old.header.fields self.now.reftable table.old room.clusters
             → PlacesBlocks S.view (with_run p file.old.header.fields self.now.reftable room.first
             (room_length room)) file.old self.now file.new self.now.reftable table.new room result }
-        ensures fails { Fails S.view file.old.storage file.new.storage result IsOfTables }
+        ensures table { FillsTable self.now.reftable table.old table.new }
+        ensures tables { l2_tables file.new.caches ≡ l2_tables file.old.caches }
+        ensures clean { AreClean (refblocks file.old.caches) → AreClean (refblocks file.new.caches) }
     {
         let bits = file.header.rb_bits();
         let end = room.first + room.blocks + room.clusters;
@@ -170,32 +162,18 @@ impl Allocator {
         table: RefTable,
         room: Room,
     ) -> Result<(), ImageError>
-        requires above { 0 < room.first }
-        requires within { room.first + room_length room ≤ entry_count table * counts_per_block file.old.header.fields }
-        requires near { room.first + room_length room ≤ greatest_offset / 2 ^ file.old.header.fields.cluster_bits + 1 }
+        requires room { IsRoomFor file.old.header.fields self.old.reftable table room }
         requires some { 0 < room.clusters }
-        requires bits { table.cluster_bits ≡ file.old.header.fields.cluster_bits }
-        requires blocks { room.blocks
-            ≡ opened self.old.reftable (counts_per_block file.old.header.fields) room.first (room_length room) }
         ensures step { PointerStep S.view self.old.reftable file.old self.new.reftable file.new }
-        ensures noted { OnOk result (IsTrue (has_noted file.new)) }
-        ensures table { OnOk result (entry_count self.new.reftable ≡ entry_count table) }
-        ensures place { OnOk result (self.new.reftable.cluster ≡ Some (room.first + room.blocks)) }
-        ensures lacking { OnOk result (NamesLacking self.old.reftable table self.new.reftable) }
-        ensures first { self.new.first_free_cluster ≡ self.old.first_free_cluster }
+        ensures fails { Fails S.view file.old.storage file.new.storage result IsOfTables }
         ensures sound { (p : Pending) → AllocatorInvariant S.view self.old
             (with_run p file.old.header.fields self.old.reftable room.first (room_length room)) file.old
             → IsLonger file.old.header.fields self.old.reftable table room.clusters
-            → NamesReftable S.view (with_run p file.old.header.fields self.old.reftable room.first
+            → NamesSoundly S.view (with_run p file.old.header.fields self.old.reftable room.first
             (room_length room)) p file.old self.new file.new result }
-        ensures uses { (p : Pending) → AllocatorInvariant S.view self.old
-            (with_run p file.old.header.fields self.old.reftable room.first (room_length room)) file.old
-            → IsLonger file.old.header.fields self.old.reftable table room.clusters
-            → KeepsUsed S.view file.old file.new result }
-        ensures list { file.new.free_list ≡ file.old.free_list }
-        ensures fails { Fails S.view file.old.storage file.new.storage result IsOfTables }
+        ensures entered { OnOk result (EntersRoom self.old.reftable table self.new.reftable room file.new) }
         ensures kept { OnErr result (self.new.reftable ≡ self.old.reftable) }
-        ensures leaks { SameLeaks self.old self.new }
+        ensures rest { self.new ≡ record self.old { reftable = self.new.reftable } }
     {
         let mut table = table;
         file.caches.flush_rb(&mut file.storage)?;

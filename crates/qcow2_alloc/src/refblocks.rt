@@ -1,11 +1,15 @@
 //! Refblocks: loading one, counting a cluster in it, and making one that is missing.
-ghost use Rattle.std.specs.Prelude.{◌≡◌, ◌≢◌, ◌/◌, false, ℕ, ◌*◌, ◌^◌, ◌<◌, ◌≤◌, Bool, None, Some, Ok, IfSome, IfOk, IfErr, OnOk, IsErrOf, IsSome, IsTrue};
+ghost use Rattle.std.specs.Prelude.{◌≡◌, ◌≢◌, ◌/◌, false, ℕ, ◌*◌, ◌^◌, ◌<◌, ◌≤◌, Bool, None, Some, Ok, IfSome, IfOk};
+ghost use Rattle.std.specs.Prelude.{IfErr, OnOk, IsErrOf, IsSome, IsTrue};
 ghost use Rattle.qcow2_laws.specs.CrashInvariant.{Pending};
-ghost use Rattle.qcow2_alloc.specs.Allocation.{placing, first_counts, HasPlaceFor, KeepsEntries, KeepsNamed, KeepsNamed, MayTake, LoadsBlock, WritesBlock, PlacesBlock, IsUnaligned, HasNone, TakesLowest, SameLeaks};
+ghost use Rattle.qcow2_alloc.specs.Allocation.{placing, first_counts, CanName, HasPlaceFor, KeepsEntries, KeepsNamed, MayTake};
+ghost use Rattle.qcow2_alloc.specs.Allocation.{LoadsBlock, WritesBlock, PlacesBlock, IsUnaligned, HasNone, TakesLowest};
+ghost use Rattle.qcow2_alloc.specs.Allocation.{SameLeaks};
 ghost use Rattle.qcow2_alloc.specs.KeptMarks.{KeepsMarks};
 ghost use Rattle.qcow2_alloc.specs.CachePins.{LeavesPinned};
-ghost use Rattle.qcow2_alloc.specs.SparedHeaders.{KeepBehindHeader, SparesHeader};
-ghost use Rattle.qcow2_alloc.specs.Steps.{EnsuresSoundly, Fails, FindsBlock, GetsSoundly, TableStep, TakesOneSoundly, FileStep, ReachesSoundly};
+ghost use Rattle.qcow2_alloc.specs.SparedHeaders.{KeepBehindHeader};
+ghost use Rattle.qcow2_alloc.specs.Steps.{EnsuresSoundly, Fails, FindsBlock, GetsSoundly, TableStep, TakesOneSoundly};
+ghost use Rattle.qcow2_alloc.specs.Steps.{BlockStep, FileStep, RangeStep, ReachesSoundly};
 ghost use Rattle.qcow2_alloc.specs.LowestRuns.{NoFreeBelowHint, KeepsNoFreeBelowHint};
 ghost use Rattle.qcow2_alloc.specs.ImageError.{IsOfTables};
 ghost use Rattle.qcow2_alloc.specs.ImageFile.{has_noted, AllocatorInvariant};
@@ -14,7 +18,7 @@ ghost use Rattle.qcow2_laws.specs.Caches.{AreClean, BlocksMayGo};
 ghost use Rattle.qcow2_alloc.specs.MetadataCaches.{order_of, l2_tables, refblocks, TakesOff};
 ghost use Rattle.qcow2_metadata.specs.L2Mapping.{IsHostCluster};
 ghost use Rattle.qcow2_metadata.specs.Header.{counts_per_block};
-ghost use Rattle.qcow2_metadata.specs.EntryTable.{EntryTableView, entry_count};
+ghost use Rattle.qcow2_metadata.specs.EntryTable.{entry_count};
 ghost use Rattle.qcow2_metadata.specs.RefBlock.{count_at, IsRefBlock};
 ghost use Rattle.qcow2_metadata.specs.TableBytes.{HasPlace};
 ghost use Rattle.qcow2_alloc.specs.TableCaches.{IsBlockOf};
@@ -53,7 +57,8 @@ fn new_block(
 fn write_block<S: Storage>(file: &mut ImageFile<S>, mut block: RefBlock) -> Result<(), ImageError>
     requires placed { IsSome block.cluster }
     requires elsewhere { IfSome block.cluster (λ at. 0 < at) }
-    ensures marks { KeepsMarks S.view file.old file.new }
+    ensures step { BlockStep S.view block.cluster_bits file.old file.new }
+    ensures fails { Fails S.view file.old.storage file.new.storage result IsOfTables }
     ensures sound { (p : Pending) (counts_itself : Bool) (allocator : Allocator) (range at : ℕ)
         → AllocatorInvariant S.view allocator (placing counts_itself p at) file.old
         → HasPlaceFor counts_itself file.old.header.fields allocator.reftable range at
@@ -62,11 +67,6 @@ fn write_block<S: Storage>(file: &mut ImageFile<S>, mut block: RefBlock) -> Resu
     ensures counted { OnOk result (AreClean (refblocks file.new.caches)) }
     ensures noted { OnOk result (IsTrue (is_changed_of file.new.storage)) }
     ensures first { OnOk result (BlocksMayGo (order_of file.new.caches) (l2_tables file.new.caches)) }
-    ensures header { file.new.header ≡ file.old.header }
-    ensures list { file.new.free_list ≡ file.old.free_list }
-    ensures fails { Fails S.view file.old.storage file.new.storage result IsOfTables }
-    ensures header_cluster { (reftable : EntryTableView) → block.cluster_bits ≡ file.old.header.fields.cluster_bits
-        → SparesHeader S.view reftable file.old reftable file.new }
 {
     file.caches.flush_rb(&mut file.storage)?;
     file.storage.will_write(WriteKind::Other);
@@ -159,11 +159,15 @@ impl Allocator {
         ensures named { cluster / counts_per_block file.old.header.fields < entry_count self.old.reftable
             → KeepsNamed self.old.reftable self.new.reftable }
     {
-        let range = (cluster >> file.header.rb_bits()) as usize;
-        if self.reftable.in_bounds(range) {
+        let range = cluster >> file.header.rb_bits();
+        if !self.lacks_block(range) {
+            return Ok(());
+        }
+        let index = range as usize;
+        if self.reftable.in_bounds(index) {
             return self.ensure_block(file, cluster);
         }
-        self.grow_reftable(file, range)?;
+        self.grow_reftable(file, index)?;
         self.ensure_block(file, cluster)
     }
 
@@ -272,24 +276,15 @@ impl Allocator {
         at: u64,
         counts_itself: bool,
     ) -> Result<(), ImageError>
-        requires within { range < entry_count self.old.reftable }
-        requires placed { IsSome self.old.reftable.cluster }
-        requires elsewhere { 0 < at }
-        requires nameable { IsHostCluster self.old.reftable.cluster_bits at }
-        requires nameable_here { IsHostCluster file.old.header.fields.cluster_bits at }
-        ensures marks { KeepsMarks S.view file.old file.new }
-        ensures noted { OnOk result (IsTrue (has_noted file.new)) }
-        ensures entries { KeepsEntries (λ k. k ≢ range) self.old.reftable self.new.reftable }
-        ensures has { OnOk result (HasNone self.new.reftable range → ⊥) }
+        requires place { CanName file.old.header.fields.cluster_bits self.old.reftable range at }
+        ensures step { RangeStep S.view range self.old.reftable file.old self.new.reftable file.new }
+        ensures fails { Fails S.view file.old.storage file.new.storage result IsOfTables }
         ensures sound { (p : Pending) → AllocatorInvariant S.view self.old (placing counts_itself p at) file.old
             → HasPlaceFor counts_itself file.old.header.fields self.old.reftable range at
             → PlacesBlock S.view (placing counts_itself p at) file.old self.new file.new p range at result }
-        ensures header { file.new.header ≡ file.old.header }
-        ensures list { file.new.free_list ≡ file.old.free_list }
-        ensures fails { Fails S.view file.old.storage file.new.storage result IsOfTables }
-        ensures leaks { SameLeaks self.old self.new }
-        ensures first { self.new.first_free_cluster ≡ self.old.first_free_cluster }
-        ensures header_cluster { SparesHeader S.view self.old.reftable file.old self.new.reftable file.new }
+        ensures noted { OnOk result (IsTrue (has_noted file.new)) }
+        ensures has { OnOk result (HasNone self.new.reftable range → ⊥) }
+        ensures rest { self.new ≡ record self.old { reftable = self.new.reftable } }
     {
         let cluster = HostCluster::new(at);
         let block = new_block(file.alloc, &file.header, cluster, counts_itself)?;

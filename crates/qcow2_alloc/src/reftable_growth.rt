@@ -1,17 +1,19 @@
 //! A longer reftable.
-ghost use Rattle.std.specs.Prelude.{◌≡◌, ℕ, ◌+◌, ◌-◌, ◌/◌, ◌%◌, ◌^◌, ◌<◌, ◌≤◌, length, IfOk, IfErr, IfSome, IsSome, OnOk, OnErr, IsErrOf, IsTrue};
+ghost use Rattle.std.specs.Prelude.{◌≡◌, ℕ, ◌+◌, ◌-◌, ◌/◌, ◌%◌, ◌^◌, ◌<◌, ◌≤◌, length, IfOk, IfErr, IfSome, IsSome};
+ghost use Rattle.std.specs.Prelude.{OnOk, OnErr, IsErrOf};
 ghost use Rattle.qcow2_laws.specs.CrashInvariant.{Pending};
 ghost use Rattle.qcow2_metadata.specs.EntryTable.{entry_count, IsRefTable};
 ghost use Rattle.qcow2_metadata.specs.Header.{entries_per_cluster, counts_per_block};
-ghost use Rattle.qcow2_alloc.specs.Allocation.{NamesLacking, SameLeaks};
+ghost use Rattle.qcow2_alloc.specs.Allocation.{SameLeaks};
 ghost use Rattle.qcow2_alloc.specs.ClustersToFree.{metadata_entry};
 ghost use Rattle.qcow2_alloc.specs.declared.clusters_to_free.ClusterKind.TheVariants.{Metadata};
-ghost use Rattle.qcow2_alloc.specs.FreeList.{ListsTables, IsRunOfTable, FillsClusters, GivesWay};
+ghost use Rattle.qcow2_alloc.specs.FreeList.{IsRunOfTable};
 ghost use Rattle.qcow2_alloc.specs.Growing.{IsLongEnough, IsLeastLength, IsCloneOf};
 ghost use Rattle.qcow2_alloc.specs.ImageError.{IsOfTables};
-ghost use Rattle.qcow2_alloc.specs.ImageFile.{has_noted, AllocatorInvariant};
+ghost use Rattle.qcow2_alloc.specs.ImageFile.{AllocatorInvariant};
 ghost use Rattle.qcow2_alloc.specs.Limits.{IsFaultOr};
-ghost use Rattle.qcow2_alloc.specs.Steps.{Fails, PointerStep, GrowsSoundly, EntersSoundly};
+ghost use Rattle.qcow2_alloc.specs.Steps.{EntersSoundly, EntersTable, Fails, GrowsSoundly, GrowthStep, HasGrown};
+ghost use Rattle.qcow2_alloc.specs.Steps.{PointerStep};
 
 use crate::reftable_length::grown_length;
 use crate::{
@@ -31,17 +33,12 @@ impl Allocator {
         file: &mut ImageFile<S>,
         index: usize,
     ) -> Result<(), ImageError>
-        ensures step { PointerStep S.view self.old.reftable file.old self.new.reftable file.new }
-        ensures noted { OnOk result (IsTrue (has_noted file.new)) }
+        ensures step { GrowthStep S.view self.old.reftable file.old self.new.reftable file.new result }
+        ensures fails { Fails S.view file.old.storage file.new.storage result IsOfTables }
         ensures sound { (p : Pending) → AllocatorInvariant S.view self.old p file.old
             → GrowsSoundly S.view p index self.old file.old self.new file.new result }
-        ensures list { ListsTables file.old.free_list file.new.free_list }
-        ensures length { OnOk result (IsLeastLength (entry_count self.old.reftable) index
-            (entries_per_cluster file.old.header.fields) (counts_per_block file.old.header.fields)
-            (entry_count self.new.reftable)) }
-        ensures elsewhere { OnOk result (IfSome self.new.reftable.cluster (λ c. 0 < c)) }
-        ensures fails { Fails S.view file.old.storage file.new.storage result IsOfTables }
-        ensures former { GivesWay self.old.reftable self.new.reftable file.old.free_list file.new.free_list result }
+        ensures grown { OnOk result
+            (HasGrown file.old.header.fields index self.old.reftable self.new.reftable file.new) }
         ensures first { self.new.first_free_cluster ≡ self.old.first_free_cluster }
     {
         let table = self.longer_reftable(file.alloc, &file.header, index)?;
@@ -120,18 +117,14 @@ impl Allocator {
     ) -> Result<(), ImageError>
         requires some { 0 < entry_count table }
         ensures step { PointerStep S.view self.old.reftable file.old self.new.reftable file.new }
-        ensures noted { OnOk result (IsTrue (has_noted file.new)) }
+        ensures fails { Fails S.view file.old.storage file.new.storage result IsOfTables }
         ensures sound { (p : Pending) → AllocatorInvariant S.view self.old p file.old
             → IsCloneOf self.old.reftable table → entry_count table % entries_per_cluster file.old.header.fields ≡ 0
             → EntersSoundly S.view p (entry_count table) self.old file.old self.new file.new result }
-        ensures list { file.new.free_list ≡ file.old.free_list }
-        ensures table { OnOk result (entry_count self.new.reftable ≡ entry_count table) }
-        ensures lacking { OnOk result (NamesLacking self.old.reftable table self.new.reftable) }
-        ensures first { self.new.first_free_cluster ≡ self.old.first_free_cluster }
-        ensures fills { entry_count table % entries_per_cluster file.old.header.fields ≡ 0
-            → OnOk result (FillsClusters self.new.reftable) }
-        ensures fails { Fails S.view file.old.storage file.new.storage result IsOfTables }
+        ensures entered { OnOk result
+            (EntersTable file.old.header.fields self.old.reftable table self.new.reftable file.new) }
         ensures kept { OnErr result (self.new.reftable ≡ self.old.reftable) }
+        ensures first { self.new.first_free_cluster ≡ self.old.first_free_cluster }
         ensures leaks { (p : Pending) → AllocatorInvariant S.view self.old p file.old → SameLeaks self.old self.new }
     {
         let bits = file.header.cluster_bits();

@@ -1,15 +1,11 @@
 //! The header's pointer to a longer reftable.
-ghost use Rattle.std.specs.Prelude.{◌≡◌, ℕ, ◌+◌, ◌<◌, OnOk, OnErr, IfSome, IsTrue};
+ghost use Rattle.std.specs.Prelude.{◌≡◌, ℕ, ◌+◌, OnOk, OnErr, IsTrue};
 ghost use Rattle.qcow2_laws.specs.CrashInvariant.{Pending};
-ghost use Rattle.qcow2_alloc.specs.Allocation.{SameLeaks};
-ghost use Rattle.qcow2_alloc.specs.KeptMarks.{KeepsMarks};
-ghost use Rattle.qcow2_alloc.specs.SparedHeaders.{SparesHeaderButPointer};
-ghost use Rattle.qcow2_alloc.specs.GrownTables.{with_run, StandsGrown, NamesReftable};
+ghost use Rattle.qcow2_alloc.specs.GrownTables.{with_run, StandsBehind, StandsGrown};
 ghost use Rattle.qcow2_alloc.specs.ImageError.{IsOfTables};
-ghost use Rattle.qcow2_alloc.specs.ImageFile.{AllocatorInvariant, KeepsHeader};
+ghost use Rattle.qcow2_alloc.specs.ImageFile.{AllocatorInvariant};
 ghost use Rattle.qcow2_alloc.specs.ImageStorage.{is_changed_of};
-ghost use Rattle.qcow2_alloc.specs.LowestRuns.{KeepsUsed};
-ghost use Rattle.qcow2_alloc.specs.Steps.{Fails};
+ghost use Rattle.qcow2_alloc.specs.Steps.{Fails, NamesSoundly, PointerStepTo};
 
 use crate::{Allocator, ImageError, ImageFile, WriteKind};
 use image_access::Storage;
@@ -23,28 +19,18 @@ impl Allocator {
         table: RefTable,
     ) -> Result<(), ImageError>
         requires noted { IsTrue (is_changed_of file.old.storage) }
-        ensures marks { KeepsMarks S.view file.old file.new }
-        ensures names { (p : Pending) (first blocks clusters : ℕ)
-            → AllocatorInvariant S.view self.old
-            (with_run p file.old.header.fields self.old.reftable first (blocks + clusters)) file.old
-            → StandsGrown S.view file.old self.old.reftable table first blocks clusters
-            → NamesReftable S.view (with_run p file.old.header.fields self.old.reftable first
-            (blocks + clusters)) p file.old self.new file.new result }
-        ensures uses { (p : Pending) (first blocks clusters : ℕ)
-            → AllocatorInvariant S.view self.old
-            (with_run p file.old.header.fields self.old.reftable first (blocks + clusters)) file.old
-            → StandsGrown S.view file.old self.old.reftable table first blocks clusters
-            → KeepsUsed S.view file.old file.new result }
-        ensures header { KeepsHeader file.old.header file.new.header }
-        ensures list { file.new.free_list ≡ file.old.free_list }
-        ensures table { OnOk result (self.new.reftable ≡ table) }
-        ensures first { self.new.first_free_cluster ≡ self.old.first_free_cluster }
+        ensures step { PointerStepTo S.view (StandsBehind file.old.header.fields table)
+            self.old.reftable file.old self.new.reftable file.new }
         ensures fails { Fails S.view file.old.storage file.new.storage result IsOfTables }
+        ensures sound { (p : Pending) (first blocks clusters : ℕ)
+            → AllocatorInvariant S.view self.old
+            (with_run p file.old.header.fields self.old.reftable first (blocks + clusters)) file.old
+            → StandsGrown S.view file.old self.old.reftable table first blocks clusters
+            → NamesSoundly S.view (with_run p file.old.header.fields self.old.reftable first
+            (blocks + clusters)) p file.old self.new file.new result }
+        ensures table { OnOk result (self.new.reftable ≡ table) }
         ensures kept { OnErr result (self.new.reftable ≡ self.old.reftable) }
-        ensures leaks { SameLeaks self.old self.new }
-        ensures header_cluster { IfSome table.cluster (λ cluster. 0 < cluster)
-            → table.cluster_bits ≡ file.old.header.fields.cluster_bits
-            → SparesHeaderButPointer S.view self.old.reftable file.old self.new.reftable file.new }
+        ensures rest { self.new ≡ record self.old { reftable = self.new.reftable } }
     {
         let Some(cluster) = table.get_cluster() else {
             return Err(ImageError::Limit);

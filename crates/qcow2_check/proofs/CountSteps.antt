@@ -1,14 +1,15 @@
 -- The counts that the reftable gives.
 use Rattle.std.proofs.Common.{◌≡◌, ◌≢◌, ℕ, ◌+◌, ◌-◌, ◌*◌, ◌/◌, ◌%◌, ◌^◌, ◌<◌, ◌≤◌, List, length, arith, sym, ap, ◌∙◌}
 use Rattle.std.proofs.lemmas.Bool.{cond-false, ne_eqb, le-ltb}
-use Rattle.std.proofs.lemmas.Nat.{one_shl, pow_pos, pow-add, div-add-mod', div-mul-add, le-div}
+use Rattle.std.proofs.lemmas.Nat.{pow_pos, pow-add, div-add-mod', div-mul-add, le-div}
 use Rattle.std.proofs.Math.Pow.{pow_mono}
 use Rattle.qcow2_metadata.specs.declared.header.HeaderFields.{HeaderFields}
-use Rattle.qcow2_metadata.specs.Bytes.{Bytes, byte_at}
-use Rattle.qcow2_metadata.specs.Header.{cluster_size, count_width, counts_per_block, reftable_entries}
-use Rattle.qcow2_metadata.specs.Entries.{block_offset, block_count, reftable_entry, count, count_under}
+use Rattle.qcow2_metadata.specs.Bytes.{Bytes}
+use Rattle.qcow2_metadata.specs.Header.{cluster_size, counts_per_block, reftable_entries}
+use Rattle.qcow2_metadata.specs.Entries.{block_offset, reftable_entry, count, count_under}
 use Rattle.qcow2_metadata.proofs.TablesAt.{StandAt, count_stands}
-use Rattle.qcow2_check.specs.Counted.{block_count_or_zero, HasCounts}
+use Rattle.qcow2_metadata.specs.RefBlock.{count_in}
+use Rattle.qcow2_check.specs.Counted.{block_count_or_zero}
 
 pub whole_cluster : (bits : ℕ) → 9 ≤ bits → 2 ^ bits % 8 ≡ 0
 whole_cluster bits low =
@@ -22,22 +23,16 @@ some_counts h low few =
     let positive = pow_pos h.refcount_order in
     le-div 1 _ _ (omega arith) (omega arith)
 
--- so many counts are in so many bytes
-pub counts_of_bytes : (h : HeaderFields) (long : ℕ) → h.refcount_order ≤ 6 → long ≡ cluster_size h → long * 8 / (1 * 2 ^ h.refcount_order % 2 ^ 64) ≡ counts_per_block h
-counts_of_bytes h long few is =
-    ap (λ n. n * 8 / (1 * 2 ^ h.refcount_order % 2 ^ 64)) is ∙ ap (λ w. cluster_size h * 8 / w) (one_shl h.refcount_order 64 (omega arith))
-
--- a refblock that was read into a buffer
-pub block_counts : (h : HeaderFields) (b : Bytes) (bytes : List ℕ) (place : ℕ) (entries : List (ℕ × ℕ)) (truth : ℕ → ℕ) → h.refcount_order ≤ 6 → cluster_size h % 8 ≡ 0
+-- the counts of a refblock that was read into a buffer
+pub read_counts : (h : HeaderFields) (b : Bytes) (bytes : List ℕ) (place : ℕ) → h.refcount_order ≤ 6 → cluster_size h % 8 ≡ 0
     → place ≢ 0 → StandAt b place bytes → length bytes ≡ cluster_size h
-    → HasCounts entries (counts_per_block h) truth (block_count_or_zero h b place) → HasCounts entries (counts_per_block h) truth (block_count (byte_at bytes) (count_width h) 0)
-block_counts h b bytes place entries truth few whole some stands long are i j lt inside =
-    are i j lt inside ∙ cond-false _ _ _ (ne_eqb place 0 some)
-    ∙ sym (count_stands b place bytes h.refcount_order j stands (rw long whole) few (rw long inside))
+    → (j : ℕ) → j < counts_per_block h → count_in h.refcount_order bytes j ≡ block_count_or_zero h b place j
+read_counts h b bytes place few whole some stands long j inside =
+    count_stands b place bytes h.refcount_order j stands (rw long whole) few (rw long inside) ∙ sym (cond-false _ _ _ (ne_eqb place 0 some))
 
 -- ---- the reftable
 
-reftable_entry-past : (h : HeaderFields) (b : Bytes) (k : ℕ) → reftable_entries h ≤ k → reftable_entry h b k ≡ 0
+pub reftable_entry-past : (h : HeaderFields) (b : Bytes) (k : ℕ) → reftable_entries h ≤ k → reftable_entry h b k ≡ 0
 unfolding reftable_entry
 reftable_entry-past h b k past = cond-false _ _ _ (le-ltb k (reftable_entries h) past)
 

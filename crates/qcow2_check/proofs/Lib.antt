@@ -1,16 +1,18 @@
 pub mod AlignedOffsets
+pub mod BlockCounts
+pub mod Breached
 pub mod Clusters
-pub mod Corrections
 pub mod CountSteps
 pub mod Covers
 pub mod EachCovers
 pub mod Grow
 pub mod GrowL1
+pub mod KeptBlocks
+pub mod LeakLists
 pub mod NoBreaches
 pub mod NoLines
 pub mod OffsetSteps
 pub mod OwnMarks
-pub mod Places
 pub mod Ranges
 pub mod Reading
 pub mod Refusals
@@ -23,5 +25,4 @@ pub mod TallyMaps
 pub mod TallyTests
 pub mod Terms
 pub mod Totals
-pub mod WholeCounts
 pub mod WholeL1

@@ -1,10 +1,10 @@
 -- A report without breaches is one of a consistent image, and the other way round.
-use Rattle.std.proofs.Common.{◌≡◌, ◌≢◌, ℕ, ◌+◌, ◌^◌, ◌<◌, ◌≤◌, List, [], ◌++◌, refl, sym, subst, ◌∙◌, arith, inl, inr}
+use Rattle.std.proofs.Common.{◌≡◌, ◌≢◌, ℕ, ◌+◌, ◌^◌, ◌<◌, ◌≤◌, List, [], ◌++◌, ◌*◌, length, ap, refl, sym, subst, ◌∙◌, arith, inl, inr}
 use Rattle.std.specs.Prelude.{◌↔◌}
 use Rattle.std.proofs.lemmas.Bool.{cases_eq}
 use Rattle.qcow2_metadata.specs.Bytes.{Bytes, byte_at}
 use Rattle.qcow2_metadata.specs.declared.header.HeaderFields.{HeaderFields}
-use Rattle.qcow2_metadata.specs.Header.{entries_per_cluster, reftable_entries, HeaderReads}
+use Rattle.qcow2_metadata.specs.Header.{entries_per_cluster, reftable_entries, HeaderReads, ReftableFits}
 use Rattle.qcow2_metadata.specs.Entries.{l1_entry, l2_entry, reftable_entry, host_offset, block_offset, is_copied}
 use Rattle.qcow2_metadata.specs.Cover.{entry_cover}
 use Rattle.qcow2_metadata.specs.L2Mapping.{host_of}
@@ -16,7 +16,12 @@ use Rattle.qcow2_check.specs.Marks.{marked_at, marks_of_cover, marked_by_entries
 use Rattle.qcow2_check.specs.Offsets.{times, off_cluster_if, off_l2_tables, off_refblocks, data_off_at, data_off_below}
 use Rattle.qcow2_check.specs.Lines.{lines, snapshot_lines, external_lines, header_lines, table_offset_lines, offset_lines, is_named, unaligned_line, is_under, under_line, is_shared, shared_line, is_miscopied, copied_line}
 use Rattle.qcow2_check.specs.declared.tally_map.TallyMap.{TallyMap}
-use Rattle.qcow2_check.specs.Tallies.{tally_in, TalliesWithin64Bits}
+use Rattle.std.proofs.lemmas.Nat.{mul-le}
+use Rattle.qcow2_check.specs.declared.kept.Counts.{Counts}
+use Rattle.qcow2_check.specs.declared.tally.Tally.{Tally}
+use Rattle.qcow2_check.specs.Counted.{count_in, counted_in}
+use Rattle.qcow2_check.specs.Tallies.{tally_in, no_tally, TalliesWithin64Bits}
+use Rattle.qcow2_check.proofs.KeptBlocks.{count_past_end}
 use Rattle.qcow2_check.specs.Report.{tally, breach_lines, TablesRead, ArePassed}
 use Rattle.qcow2_check.proofs.NoLines.{append-empty, front_empty, back_empty, EndsBelow, lines-empty, fails_each, zero-line, zero_from_line}
 use Rattle.qcow2_check.proofs.Terms.{from_some_term, some-sum}
@@ -160,12 +165,13 @@ module _ (h : HeaderFields) (b : Bytes) where
   unfolding named
   few_tables q = omega arith
 
-  pub consistent_without_lines : HeaderReads h b → TablesRead h b → AllEnd h b → NoLines h b → Consistent h b
-  consistent_without_lines reads tables end none =
+  pub consistent_without_lines : HeaderReads h b → ReftableFits h → TablesRead h b → AllEnd h b → NoLines h b → Consistent h b
+  consistent_without_lines reads fits tables end none =
       let owns : (q : ℕ) → marked_below h b h.l1_entries q ≢ 0 → IsOwnCluster h b q = λ q.
       own_from_is_miscopied (tally h b q) (fails_each (2 ^ 64) is_miscopied copied_line (tally h b) refl end.clusters none.copied q) in
       record {
         header_reads = reads;
+        reftable_fits = fits;
         l1_reads = tables.l1_entries;
         reftable_reads = tables.reftable;
         no_snapshots = zero_from_line _ _ none.snapshots;
@@ -202,16 +208,26 @@ module _ (h : HeaderFields) (b : Bytes) where
     copied = lines-empty (2 ^ 64) is_miscopied copied_line (tally h b) (λ q. is_miscopied-own (tally h b q) (own_clusters is q));
   }
 
-  pub no_breaches : HeaderReads h b → TablesRead h b → AllEnd h b → (breach_lines h b ≡ []) ↔ Consistent h b
-  no_breaches reads tables end =
-      ((λ none. consistent_without_lines reads tables end (no_lines none)), (λ is. no_breach_lines (no_lines_where_consistent is)))
+  pub no_breaches : HeaderReads h b → ReftableFits h → TablesRead h b → AllEnd h b → (breach_lines h b ≡ []) ↔ Consistent h b
+  no_breaches reads fits tables end =
+      ((λ none. consistent_without_lines reads fits tables end (no_lines none)), (λ is. no_breach_lines (no_lines_where_consistent is)))
 
   -- ---- the maps that a walk over an image leaves
 
-  pub all_end : (names l2_tables refblocks data' : TallyMap) → ArePassed h b (tally_in names) (tally_in l2_tables) (tally_in refblocks) (tally_in data')
+  -- a count beside no tally
+  abbrev tally_with : Tally → ℕ → Tally
+  tally_with t n = record { named = t.named; for_tables = t.for_tables; marked = t.marked; count = n }
+
+  counted_ends : (names : TallyMap) (counts : Counts) → TalliesWithin64Bits names → EndsBelow (2 ^ 64) (counted_in names counts)
+  counted_ends names counts near q past =
+      let low : length counts.numbers.items * counts.per_block ≤ 2 ^ 20 * 2 ^ 24 = mul-le _ _ _ _ counts.few counts.narrow in
+      ap (λ t. tally_with t (count_in counts q)) (near q past) ∙ ap (tally_with no_tally) (count_past_end counts q (omega (arith, low)))
+
+  pub all_end : (names l2_tables refblocks data' : TallyMap) (counts : Counts)
+      → ArePassed h b (counted_in names counts) (tally_in l2_tables) (tally_in refblocks) (tally_in data')
       → TalliesWithin64Bits names → TalliesWithin64Bits l2_tables → TalliesWithin64Bits refblocks → TalliesWithin64Bits data' → AllEnd h b
-  all_end names l2_tables refblocks data' are one two three four = record {
-    clusters = subst (EndsBelow (2 ^ 64)) are.clusters_are one;
+  all_end names l2_tables refblocks data' counts are one two three four = record {
+    clusters = subst (EndsBelow (2 ^ 64)) are.clusters_are (counted_ends names counts one);
     l2_tables = subst (EndsBelow (2 ^ 64)) are.l2_tables_are two;
     refblocks = subst (EndsBelow (2 ^ 64)) are.refblocks_are three;
     of_data = subst (EndsBelow (2 ^ 64)) are.data_are four;
@@ -219,12 +235,12 @@ module _ (h : HeaderFields) (b : Bytes) where
 
 -- the same of another header and another file that are equal to these
 pub breaches_told : (h k : HeaderFields) (old new : List ℕ) (items : List Breach) → new ≡ old → h ≡ k
-    → HeaderReads h (byte_at old) → TablesRead h (byte_at new) → AllEnd h (byte_at new) → items ≡ breach_lines k (byte_at old) → (items ≡ []) ↔ Consistent k (byte_at old)
-breaches_told h k old new items same is reads tables end lines =
+    → HeaderReads h (byte_at old) → ReftableFits h → TablesRead h (byte_at new) → AllEnd h (byte_at new) → items ≡ breach_lines k (byte_at old) → (items ≡ []) ↔ Consistent k (byte_at old)
+breaches_told h k old new items same is reads fits tables end lines =
     let R : HeaderFields → Type 0 = λ h. HeaderReads h (byte_at old) in
     let T : HeaderFields → Type 0 = λ h. TablesRead h (byte_at old) in
     let E : HeaderFields → Type 0 = λ h. AllEnd h (byte_at old) in
     let tables_read : T h = let P : List ℕ → Type 0 = λ b. TablesRead h (byte_at b) in subst P same tables in
     let ends : E h = let P : List ℕ → Type 0 = λ b. AllEnd h (byte_at b) in subst P same end in
-    let both = no_breaches k (byte_at old) (subst R is reads) (subst T is tables_read) (subst E is ends) in
+    let both = no_breaches k (byte_at old) (subst R is reads) (subst ReftableFits is fits) (subst T is tables_read) (subst E is ends) in
     ((λ none. both.0 (sym lines ∙ none)), (λ consistent. lines ∙ both.1 consistent))

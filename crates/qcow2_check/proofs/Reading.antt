@@ -1,5 +1,5 @@
 -- Reads one after the other.
-use Rattle.std.proofs.Common.{◌≡◌, Result, ◌∙◌}
+use Rattle.std.proofs.Common.{◌≡◌, Result, Ok, ◌∙◌}
 use Rattle.image_access.specs.Moments.{StorageView, IsLeftBy}
 use Rattle.image_access.proofs.EachMomentSince.{passes_on, cause_since}
 use Rattle.qcow2_metadata.specs.declared.error.MetadataError.{MetadataError}
@@ -12,3 +12,7 @@ reads_more old mid new first counted next = record {
   time = λ h. passes_on (IsLeftBy old) (first.time h) (next.time (first.honest h)) (λ c is. is ∙ first.same h);
   cause = cause_since _ _ _ counted next.cause;
 }
+
+-- whatever value was read
+pub reads_another : {T U : Type 0} {x : T} {y : U} (old new : StorageView) → OnlyReads old new (Ok x) → OnlyReads old new (Ok y)
+reads_another old new reads = record { honest = reads.honest; same = reads.same; time = reads.time; cause = reads.cause }

@@ -28,10 +28,9 @@ module _ (h k : HeaderFields) (old new : List ℕ) (t l2_tables refblocks data' 
       ∙ ap (whole h) same
       ∙ ap (λ f. whole f old) is
 
-  pub all_leaks : (start items : List Leak) → start ≡ [] → items ≡ start ++ leak_lines_of t → items ≡ leak_lines k (byte_at old)
+  pub all_leaks : (items : List Leak) → items ≡ leak_lines_of t → items ≡ leak_lines k (byte_at old)
   unfolding leak_lines
-  all_leaks start items none rest =
-      rest ∙ ap (λ s. s ++ leak_lines_of t) none
-      ∙ ap leak_lines_of are.clusters_are
+  all_leaks items rest =
+      rest ∙ ap leak_lines_of are.clusters_are
       ∙ ap (λ c. leak_lines_of (tally h (byte_at c))) same
       ∙ ap (λ f. leak_lines_of (tally f (byte_at old))) is

@@ -10,7 +10,7 @@ use Rattle.std.proofs.lemmas.List.{map-append}
 use Rattle.std.proofs.lemmas.Map.Keys.{sorted_head, sorted_tail}
 use Rattle.qcow2_check.specs.declared.tally.Tally.{Tally}
 use Rattle.qcow2_check.specs.Tallies.{no_tally}
-use Rattle.qcow2_check.specs.Lines.{rising, lines, lines_of, numbered, entries_past}
+use Rattle.qcow2_check.specs.Lines.{rising, lines, lines_from, lines_of, numbered, entries_past}
 
 -- ---- keys
 
@@ -78,7 +78,7 @@ module _ {L : Type 0} (test : Tally → Bool) (line : ℕ → Tally → L) (tall
   Shows a es = (q : ℕ) → a ≤ q → tally q ≡ tally_of es q
 
   abbrev pub from : ℕ → ℕ → List L
-  from a n = map (λ c. line c (tally c)) (filter (λ c. test (tally c)) (range_with_len a n))
+  from a n = lines_from test line tally a n
 
   shows_tail : (a : ℕ) (e : ℕ × Tally) (es : List (ℕ × Tally)) → a ≤ e.0 + 1 → Shows a (e ∷ es) → Shows (e.0 + 1) es
   shows_tail a e es le shows = λ q ge. shows q (omega arith) ∙ tally_of-tail e es q (λ same. absurd (omega arith))
@@ -156,7 +156,7 @@ module _ {L : Type 0} (test : Tally → Bool) (line : ℕ → Tally → L) (tall
   line_if true n = refl
   line_if false n = refl
 
-  lines_more : (n : ℕ) → lines (n + 1) test line tally ≡ lines n test line tally ++ cond (test (tally n)) (line n (tally n) ∷ []) []
+  pub lines_more : (n : ℕ) → lines (n + 1) test line tally ≡ lines n test line tally ++ cond (test (tally n)) (line n (tally n) ∷ []) []
   lines_more n =
       ap (map (λ c. line c (tally c))) (rising_more n (λ c. test (tally c)))
       ∙ map-append (λ c. line c (tally c)) (rising n (λ c. test (tally c))) (cond (test (tally n)) (n ∷ []) [])
@@ -168,10 +168,46 @@ module _ {L : Type 0} (test : Tally → Bool) (line : ℕ → Tally → L) (tall
   pub lines-failed : (n : ℕ) → test (tally n) ≡ false → lines (n + 1) test line tally ≡ lines n test line tally
   lines-failed n is = lines_more n ∙ ap (λ r. lines n test line tally ++ r) (cond-false _ _ _ is) ∙ append-nil (lines n test line tally)
 
+  -- numbers that pass and have the same line with other tallies
+  line_where : (b : Bool) (x y : L) → (b ≡ true → x ≡ y) → cond b (x ∷ []) [] ≡ cond b (y ∷ []) []
+  line_where true x y same = ap (λ l. l ∷ []) (same refl)
+  line_where false x y same = refl
+
   pub lines-add : (n a : ℕ) → lines (a + n) test line tally ≡ lines a test line tally ++ from test line tally a n
   lines-add n a =
       ap (map (λ c. line c (tally c))) (rising-add n a (λ c. test (tally c)))
       ∙ map-append (λ c. line c (tally c)) (rising a (λ c. test (tally c))) (filter (λ c. test (tally c)) (range_with_len a n))
+
+-- the lines are those of other tallies, where each number passes with both or with neither, and has the same line
+module _ {L : Type 0} (test : Tally → Bool) (line : ℕ → Tally → L) (s t : ℕ → Tally) where
+  pub lines-same : (n : ℕ) → ((q : ℕ) → test (s q) ≡ test (t q)) → ((q : ℕ) → test (t q) ≡ true → line q (s q) ≡ line q (t q)) → lines n test line s ≡ lines n test line t
+  lines-same zero tests same = lines-none test line s ∙ sym (lines-none test line t)
+  lines-same (suc n) tests same =
+      ap (λ n. lines n test line s) (sym (add-one n)) ∙ lines_more test line s n
+      ∙ ap (λ r. r ++ cond (test (s n)) (line n (s n) ∷ []) []) (lines-same n tests same)
+      ∙ ap (λ b. lines n test line t ++ cond b (line n (s n) ∷ []) []) (tests n)
+      ∙ ap (λ r. lines n test line t ++ r) (line_where test line s (test (t n)) (line n (s n)) (line n (t n)) (same n))
+      ∙ sym (lines_more test line t n) ∙ ap (λ n. lines n test line t) (add-one n)
+
+-- ---- the entries of a map with other tallies
+
+module _ (other : ℕ → Tally → Tally) (none : (q : ℕ) → other q no_tally ≡ no_tally) where
+  abbrev others : List (ℕ × Tally) → List (ℕ × Tally)
+  others es = map (λ e. (e.0, other e.0 e.1)) es
+
+  pub keys_of-others : (es : List (ℕ × Tally)) → keys_of (others es) ≡ keys_of es
+  keys_of-others [] = refl
+  keys_of-others (e ∷ es) = ap (λ ks. e.0 ∷ ks) (keys_of-others es)
+
+  pub tally_of-others : (es : List (ℕ × Tally)) (q : ℕ) → tally_of (others es) q ≡ other q (tally_of es q)
+  tally_of-others [] q = sym (none q)
+  tally_of-others (e ∷ es) q = elim (cases_eq q e.0) [
+    | inl same ↦
+        ap (tally_of (others (e ∷ es))) same ∙ tally_of-head (e.0, other e.0 e.1) (others es)
+        ∙ sym (ap (λ q. other q (tally_of (e ∷ es) q)) same ∙ ap (other e.0) (tally_of-head e es))
+    | inr apart ↦
+        tally_of-tail (e.0, other e.0 e.1) (others es) q apart ∙ tally_of-others es q ∙ sym (ap (other q) (tally_of-tail e es q apart))
+  ]
 
 module _ (test : Tally → Bool) (tally : ℕ → Tally) (first : ℕ) where
   all_past : (a : ℕ) (es : List (ℕ × Tally)) → first ≤ a → Above a es → entries_past first test es ≡ lines_of test numbered es

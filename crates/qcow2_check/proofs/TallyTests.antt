@@ -4,7 +4,7 @@ use Rattle.std.specs.Prelude.{not}
 use Rattle.std.proofs.lemmas.Bool.{cases_lt, eq-eqb, ne_eqb, le-ltb, lt-ltb}
 use Rattle.std.proofs.lemmas.Bool.Decides.{eqb_tells}
 use Rattle.qcow2_check.specs.declared.tally.Tally.{Tally}
-use Rattle.qcow2_check.specs.Lines.{is_named, is_under, is_shared, is_miscopied, is_leaked, is_told}
+use Rattle.qcow2_check.specs.Lines.{is_named, is_under, is_shared, is_miscopied, is_leaked, is_breached}
 
 pub both_true : (a b : Bool) → a ≡ true → b ≡ true → (a && b) ≡ true
 both_true true b one two = two
@@ -17,6 +17,10 @@ left_true false b is = cc
 pub right_true : (a b : Bool) → (a && b) ≡ true → b ≡ true
 right_true true b is = is
 right_true false b is = cc
+
+and_false : (a b : Bool) → b ≡ false → (a && b) ≡ false
+and_false true b is = is
+and_false false b is = refl
 
 left_false : (a b : Bool) → (a || b) ≡ false → a ≡ false
 left_false true b is = cc
@@ -65,6 +69,9 @@ is_shared-once t once = elim (eqb_tells t.for_tables 0) [
   | inr some ↦ ap (λ e. not e && ltb 1 t.named) some.0 ∙ le-ltb 1 t.named (omega (arith, once some.1))
 ]
 
+pub is_shared-few : (t : Tally) → t.named ≤ 1 → is_shared t ≡ false
+is_shared-few t few = and_false (not (eqb t.for_tables 0)) _ (le-ltb 1 t.named few)
+
 -- ---- marked copied, and its own
 
 pub own_from_is_miscopied : (t : Tally) → is_miscopied t ≡ false → t.marked ≢ 0 → (t.named ≡ 1) × (t.count ≡ 1)
@@ -89,19 +96,32 @@ is_miscopied-own t own = elim (eqb_tells t.marked 0) [
       ∙ ap not (both_true _ _ (eq-eqb t.named 1 is.0) (eq-eqb t.count 1 is.1))
 ]
 
--- ---- a tally that no line tells of
+-- ---- a tally without a breach
 
-front_quiet : (t : Tally) → is_told t ≡ false → (is_under t || is_shared t) ≡ false
-front_quiet t quiet = left_false _ (is_miscopied t) (left_false _ (is_leaked t) quiet)
+front_quiet : (t : Tally) → is_breached t ≡ false → (is_under t || is_shared t) ≡ false
+front_quiet t quiet = left_false _ (is_miscopied t) quiet
 
-pub told_under : (t : Tally) → is_told t ≡ false → is_under t ≡ false
-told_under t quiet = left_false _ (is_shared t) (front_quiet t quiet)
+pub breached_under : (t : Tally) → is_breached t ≡ false → is_under t ≡ false
+breached_under t quiet = left_false _ (is_shared t) (front_quiet t quiet)
 
-pub told_shared : (t : Tally) → is_told t ≡ false → is_shared t ≡ false
-told_shared t quiet = right_false (is_under t) _ (front_quiet t quiet)
+pub breached_shared : (t : Tally) → is_breached t ≡ false → is_shared t ≡ false
+breached_shared t quiet = right_false (is_under t) _ (front_quiet t quiet)
 
-pub told_miscopied : (t : Tally) → is_told t ≡ false → is_miscopied t ≡ false
-told_miscopied t quiet = right_false (is_under t || is_shared t) _ (left_false _ (is_leaked t) quiet)
+pub breached_miscopied : (t : Tally) → is_breached t ≡ false → is_miscopied t ≡ false
+breached_miscopied t quiet = right_false (is_under t || is_shared t) _ quiet
 
-pub told_leaked : (t : Tally) → is_told t ≡ false → is_leaked t ≡ false
-told_leaked t quiet = right_false (is_under t || is_shared t || is_miscopied t) _ quiet
+either_false : (a b : Bool) → a ≡ false → b ≡ false → (a || b) ≡ false
+either_false true b one two = cc
+either_false false b one two = two
+
+-- a cluster without names and marks has none
+pub is_breached-blank : (t : Tally) → t.named ≡ 0 → t.marked ≡ 0 → is_breached t ≡ false
+is_breached-blank t named marked =
+    either_false (is_under t || is_shared t) (is_miscopied t)
+    (either_false (is_under t) (is_shared t) (is_under-counted t (omega (arith, named))) (is_shared-few t (omega (arith, named))))
+    (ap (λ e. not e && not (eqb t.named 1 && eqb t.count 1)) (eq-eqb t.marked 0 marked))
+
+-- ---- leaked or not
+
+pub is_leaked-uncounted : (t : Tally) → t.count ≡ 0 → is_leaked t ≡ false
+is_leaked-uncounted t none = le-ltb t.named t.count (omega (arith, none))

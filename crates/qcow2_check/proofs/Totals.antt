@@ -12,11 +12,12 @@ use Rattle.qcow2_metadata.specs.Named.{table_in, in_cluster, named, named_for_ta
 use Rattle.qcow2_check.proofs.Sums.{sum_below_more, sum_below-same}
 use Rattle.qcow2_check.specs.declared.tally.Tally.{Tally}
 use mathlib.Core.Path.{fun_ext}
-use Rattle.qcow2_check.specs.Tallies.{TalliesGrow, AddsToTally, CountsAll, tally_in, no_tally, names_of}
+use Rattle.qcow2_check.specs.declared.kept.Counts.{Counts}
+use Rattle.qcow2_check.specs.Tallies.{TalliesGrow, AddsToTally, tally_in, no_tally, names_of}
 use Rattle.qcow2_check.specs.Report.{tally}
 use Rattle.std.proofs.Math.Nat.{mul-le-mul_left}
 use Rattle.qcow2_metadata.specs.TableBytes.{entry_at}
-use Rattle.qcow2_check.specs.Counted.{blocks_among}
+use Rattle.qcow2_check.specs.Counted.{blocks_among, count_in, counted_in}
 use Rattle.qcow2_check.specs.Marks.{named_below, tables_below, marked_below}
 use Rattle.qcow2_check.proofs.Grow.{grows_more}
 use Rattle.qcow2_check.proofs.GrowL1.{one_if-and_true}
@@ -116,27 +117,25 @@ pub triple : (a a' b b' c c' : ℕ) → a ≡ a' → b ≡ b' → c ≡ c' → t
 triple a a' b b' c c' p q r = ap (λ x. trio x b c) p ∙ ap (λ x. trio a' x c) q ∙ ap (λ x. trio a' b' x) r
 
 -- what the passes over an image leave
-pub all_tallies : (h : HeaderFields) (b : Bytes) (l1 reftable : List ℕ) (m0 m1 m2 m3 m4 : TallyMap)
+pub all_tallies : (h : HeaderFields) (b : Bytes) (l1 reftable : List ℕ) (m0 m1 m2 m3 : TallyMap) (c : Counts)
     → length l1 / 8 ≡ h.l1_entries → length reftable / 8 ≡ reftable_entries h
     → ((k : ℕ) → entry_at reftable k ≡ reftable_entry h b k)
     → ((q : ℕ) → tally_in m0 q ≡ no_tally)
-    → CountsAll m0 m1 (count h b)
-    → TalliesGrow m1 m2 (named_by_header h) (named_by_header h) (λ _. 0)
-    → TalliesGrow m2 m3 (blocks_among h reftable (length reftable / 8)) (blocks_among h reftable (length reftable / 8)) (λ _. 0)
-    → TalliesGrow m3 m4 (named_below h b (length l1 / 8)) (tables_below h b (length l1 / 8)) (marked_below h b (length l1 / 8))
-    → tally_in m4 ≡ tally h b
+    → ((q : ℕ) → count_in c q ≡ count h b q)
+    → TalliesGrow m0 m1 (named_by_header h) (named_by_header h) (λ _. 0)
+    → TalliesGrow m1 m2 (blocks_among h reftable (length reftable / 8)) (blocks_among h reftable (length reftable / 8)) (λ _. 0)
+    → TalliesGrow m2 m3 (named_below h b (length l1 / 8)) (tables_below h b (length l1 / 8)) (marked_below h b (length l1 / 8))
+    → counted_in m3 c ≡ tally h b
 unfolding named named_for_tables
-all_tallies h b l1 reftable m0 m1 m2 m3 m4 l1_long long are none counted head blocks l1s = fun_ext (λ q.
-    let start : names_of (tally_in m1 q) ≡ (0, (0, 0)) = counted.same_names q ∙ ap names_of (none q) in
-    let start_named : (tally_in m1 q).named ≡ 0 = ap (λ (n : ℕ × (ℕ × ℕ)). n.0) start in
-    let start_tables : (tally_in m1 q).for_tables ≡ 0 = ap (λ (n : ℕ × (ℕ × ℕ)). n.1.0) start in
-    let start_marked : (tally_in m1 q).marked ≡ 0 = ap (λ (n : ℕ × (ℕ × ℕ)). n.1.1) start in
+all_tallies h b l1 reftable m0 m1 m2 m3 c l1_long long are none counts head blocks l1s = fun_ext (λ q.
+    let start_named : (tally_in m0 q).named ≡ 0 = ap (λ (t : Tally). t.named) (none q) in
+    let start_tables : (tally_in m0 q).for_tables ≡ 0 = ap (λ (t : Tally). t.for_tables) (none q) in
+    let start_marked : (tally_in m0 q).marked ≡ 0 = ap (λ (t : Tally). t.marked) (none q) in
     let all = blocks_all h b reftable q long are in
     let n_l1 : named_below h b (length l1 / 8) q ≡ named_by_l1_table h b q + named_by_l2_tables h b q = ap (λ n. named_below h b n q) l1_long ∙ named_l1 h b q in
     let t_l1 : tables_below h b (length l1 / 8) q ≡ named_by_l1_table h b q = ap (λ n. tables_below h b n q) l1_long ∙ tables_l1 h b q in
     let m_l1 : marked_below h b (length l1 / 8) q ≡ marked_below h b h.l1_entries q = ap (λ n. marked_below h b n q) l1_long in
-    let are_named : (tally_in m4 q).named ≡ named h b q = omega (arith, head.more_named q, blocks.more_named q, l1s.more_named q) in
-    let are_tables : (tally_in m4 q).for_tables ≡ named_for_tables h b q = omega (arith, head.more_for_tables q, blocks.more_for_tables q, l1s.more_for_tables q) in
-    let are_marked : (tally_in m4 q).marked ≡ marked_below h b h.l1_entries q = omega (arith, head.more_marked q, blocks.more_marked q, l1s.more_marked q) in
-    let counts : (tally_in m4 q).count ≡ count h b q = l1s.same_count q ∙ blocks.same_count q ∙ head.same_count q ∙ counted.counts q in
-    tally_same (tally_in m4 q) (tally h b q) (triple _ _ _ _ _ _ are_named are_tables are_marked) counts)
+    let are_named : (tally_in m3 q).named ≡ named h b q = omega (arith, head.more_named q, blocks.more_named q, l1s.more_named q) in
+    let are_tables : (tally_in m3 q).for_tables ≡ named_for_tables h b q = omega (arith, head.more_for_tables q, blocks.more_for_tables q, l1s.more_for_tables q) in
+    let are_marked : (tally_in m3 q).marked ≡ marked_below h b h.l1_entries q = omega (arith, head.more_marked q, blocks.more_marked q, l1s.more_marked q) in
+    tally_same (counted_in m3 c q) (tally h b q) (triple _ _ _ _ _ _ are_named are_tables are_marked) (counts q))

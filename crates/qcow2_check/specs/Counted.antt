@@ -1,13 +1,19 @@
--- The counts under the entries of the reftable.
-use Rattle.std.specs.Prelude.{ℕ, ◌+◌, ◌*◌, ◌≡◌, ◌<◌, ◌==◌, ◌⊎◌, List, length, slice_index_or, if◌then◌else◌}
-use Rattle.qcow2_check.specs.declared.tally_map.TallyMap.{TallyMap}
+-- The counts of clusters, by the refblocks that are kept.
+use Rattle.std.specs.Prelude.{ℕ, zero, suc, ◌*◌, ◌/◌, ◌%◌, ◌^◌, ◌≡◌, ◌<◌, ◌≤◌, ◌==◌, ◌&&◌, List, length, slice_get, slice_index_or, nat_lt, Option, Some, None, IfSome, if◌then◌else◌}
+use Rattle.std.specs.BTreeMap.{BTreeMap, get}
+use Rattle.std.specs.Ordering.{nat_cmp}
 use Rattle.qcow2_metadata.specs.Bytes.{Bytes, sum_below}
 use Rattle.qcow2_metadata.specs.declared.header.HeaderFields.{HeaderFields}
-use Rattle.qcow2_metadata.specs.Header.{count_width}
+use Rattle.qcow2_metadata.specs.Header.{count_width, counts_per_block}
 use Rattle.qcow2_metadata.specs.Named.{table_in}
 use Rattle.qcow2_metadata.specs.TableBytes.{entry_at}
 use Rattle.qcow2_metadata.specs.Entries.{block_offset, block_count}
-use Rattle.qcow2_check.specs.Tallies.{tally_in, names_of}
+use Rattle.qcow2_metadata.specs.RefBlock.{count_in as count_in_bytes}
+use Rattle.qcow2_check.specs.declared.tally.Tally.{Tally}
+use Rattle.qcow2_check.specs.declared.tally_map.TallyMap.{TallyMap}
+use Rattle.qcow2_check.specs.declared.kept.Block.{Block}
+use Rattle.qcow2_check.specs.declared.kept.Counts.{Counts}
+use Rattle.qcow2_check.specs.Tallies.{tally_in, no_tally}
 
 -- count j of the refblock at a place, 0 without one
 abbrev pub block_count_or_zero : HeaderFields → Bytes → ℕ → ℕ → ℕ
@@ -17,31 +23,51 @@ block_count_or_zero h b place j = if place == 0 then 0 else block_count b (count
 abbrev pub blocks_among : HeaderFields → List ℕ → ℕ → ℕ → ℕ
 blocks_among h entries n cluster = sum_below n (λ k. table_in h cluster (block_offset (entry_at entries k)))
 
--- of places of refblocks, each with the number of its entry: the place and the number at i
-abbrev pub place_at : List (ℕ × ℕ) → ℕ → ℕ
-place_at places i = (slice_index_or places i (0, 0)).0
+-- how many counts are kept of a refblock
+abbrev pub counts_kept : Block → ℕ
+counts_kept block = length block.bytes.items * 8 / 2 ^ block.order
 
-abbrev pub entry_number_at : List (ℕ × ℕ) → ℕ → ℕ
-entry_number_at places i = (slice_index_or places i (0, 0)).1
+-- count j of a refblock, 0 past what is kept of it
+abbrev pub count_of : Block → ℕ → ℕ
+count_of block j = if nat_lt j (counts_kept block) then count_in_bytes block.order block.bytes.items j else 0
 
--- under each of these entries the clusters have these counts in truth
-abbrev pub HasCounts : List (ℕ × ℕ) → ℕ → (ℕ → ℕ) → (ℕ → ℕ) → Type 0
-HasCounts entries per_block truth count = (i j : ℕ) → i < length entries → j < per_block → truth (entry_number_at entries i * per_block + j) ≡ count j
+-- the same of a refblock that may be missing
+abbrev pub count_kept : Option Block → ℕ → ℕ
+count_kept None j = 0
+count_kept (Some block) j = count_of block j
 
--- each count is the true one, or 0
-abbrev pub IsRightOrNone : TallyMap → (ℕ → ℕ) → Type 0
-IsRightOrNone m truth = (q : ℕ) → ((tally_in m q).count ≡ 0) ⊎ ((tally_in m q).count ≡ truth q)
+-- the refblock with a number, which are from 1
+abbrev pub block_numbered : List Block → ℕ → Option Block
+block_numbered blocks zero = None
+block_numbered blocks (suc n) = slice_get blocks n
 
--- the n counts from a first one on are the true ones
-abbrev pub AreRight : TallyMap → (ℕ → ℕ) → ℕ → ℕ → Type 0
-AreRight m truth first n = (j : ℕ) → j < n → (tally_in m (first + j)).count ≡ truth (first + j)
+-- the refblock under entry k of the reftable
+abbrev pub block_in : Counts → ℕ → Option Block
+block_in c k = block_numbered c.blocks.items (slice_index_or c.numbers.items k 0)
 
--- each count stays or becomes the true one, and nothing else changes
-pub record Corrects (old new : TallyMap) (truth : ℕ → ℕ) : Type 0 where
-  pub same_names : (q : ℕ) → names_of (tally_in new q) ≡ names_of (tally_in old q)
-  pub changes : (q : ℕ) → ((tally_in new q).count ≡ (tally_in old q).count) ⊎ ((tally_in new q).count ≡ truth q)
+-- the count of a cluster
+unfoldable pub count_in : Counts → ℕ → ℕ
+count_in c q = count_kept (block_in c (q / c.per_block)) (q % c.per_block)
 
--- the first n counts under each of these entries are the true ones then
-pub record CorrectsUnder (old new : TallyMap) (truth : ℕ → ℕ) (entries : List (ℕ × ℕ)) (per_block n : ℕ) : Type 0 where
-  pub corrects : Corrects old new truth
-  pub right : (i : ℕ) → i < length entries → AreRight new truth (entry_number_at entries i * per_block) n
+-- the block with a number is kept, and has the counts of the refblock at a place
+pub record HasBlock (h : HeaderFields) (b : Bytes) (blocks : List Block) (number place : ℕ) : Type 0 where
+  pub inside : number ≤ length blocks
+  pub counts : (j : ℕ) → j < counts_per_block h → count_kept (block_numbered blocks number) j ≡ block_count_or_zero h b place j
+
+-- a place without a number, or with that of the refblock there
+abbrev pub KeepsBlocks : HeaderFields → Bytes → List Block → BTreeMap ℕ ℕ → Type 0
+KeepsBlocks h b blocks numbers = (place : ℕ) → IfSome (get nat_cmp numbers place) (λ number. HasBlock h b blocks number place)
+
+-- the refblock at a place is kept with a number too, beside those that were
+pub record KeepsMore (h : HeaderFields) (b : Bytes) (old new : List Block) (numbers : BTreeMap ℕ ℕ) (place number : ℕ) : Type 0 where
+  pub keeps : KeepsBlocks h b new numbers
+  pub here : HasBlock h b new number place
+  pub others : (m other : ℕ) → HasBlock h b old m other → HasBlock h b new m other
+
+-- the tally of a cluster's names, with its count
+abbrev pub counted_in : TallyMap → Counts → ℕ → Tally
+counted_in m c q = record { named = (tally_in m q).named; for_tables = (tally_in m q).for_tables; marked = (tally_in m q).marked; count = count_in c q }
+
+-- the same of a tally that has a name or a mark, and nothing of any other
+abbrev pub with_count : ℕ → Tally → Tally
+with_count count t = if t.named == 0 && t.marked == 0 then no_tally else record { named = t.named; for_tables = t.for_tables; marked = t.marked; count = count }

@@ -1,10 +1,12 @@
 -- The lines of a report, by the tallies of clusters.
 use Rattle.std.specs.Prelude.{ℕ, zero, suc, Bool, ◌==◌, ◌&&◌, ◌||◌, not, nat_lt, List, [], ◌∷◌, ◌++◌, map, if◌then◌else◌, ◌%◌, ◌^◌}
+use Rattle.std.specs.List.{filter, range_with_len}
 use Rattle.qcow2_metadata.specs.declared.header.HeaderFields.{HeaderFields}
 use Rattle.qcow2_metadata.specs.Header.{cluster_size}
 use Rattle.qcow2_check.specs.declared.tally.Tally.{Tally}
+use Rattle.qcow2_check.specs.Counted.{count_in, with_count}
 use Rattle.qcow2_check.specs.declared.told.Choice.{Choice}
-use Rattle.qcow2_check.specs.declared.told.Choice.TheVariants.{Told, Named}
+use Rattle.qcow2_check.specs.declared.told.Choice.TheVariants.{Breached, Named}
 use Rattle.qcow2_check.specs.declared.report.Leak.{Leak}
 use Rattle.qcow2_check.specs.declared.report.Kind.{Kind}
 use Rattle.qcow2_check.specs.declared.report.Kind.TheVariants.{L1, Reftable, L2, Refblock, Data}
@@ -19,6 +21,10 @@ rising (suc n) p = rising n p ++ (if p n then n ∷ [] else [])
 -- a line for each cluster that passes a test of its tally, rising
 abbrev pub lines : {L : Type 0} → ℕ → (Tally → Bool) → (ℕ → Tally → L) → (ℕ → Tally) → List L
 lines limit test line tally = map (λ c. line c (tally c)) (rising limit (λ c. test (tally c)))
+
+-- the same for the n numbers from one on
+abbrev pub lines_from : {L : Type 0} → (Tally → Bool) → (ℕ → Tally → L) → (ℕ → Tally) → ℕ → ℕ → List L
+lines_from test line tally first n = map (λ c. line c (tally c)) (filter (λ c. test (tally c)) (range_with_len first n))
 
 -- the same of the entries of a map
 abbrev pub lines_of : {L : Type 0} → (Tally → Bool) → (ℕ → Tally → L) → List (ℕ × Tally) → List L
@@ -67,14 +73,23 @@ is_miscopied t = not (t.marked == 0) && not (t.named == 1 && t.count == 1)
 abbrev pub is_leaked : Tally → Bool
 is_leaked t = nat_lt t.named t.count
 
--- a line tells of a cluster with such a tally
-abbrev pub is_told : Tally → Bool
-is_told t = is_under t || is_shared t || is_miscopied t || is_leaked t
+-- a cluster with such a tally has a breach
+abbrev pub is_breached : Tally → Bool
+is_breached t = is_under t || is_shared t || is_miscopied t
 
 -- whether a list has such tallies
 abbrev pub takes : Choice → Tally → Bool
-takes Told t = is_told t
+takes (Breached counts) t = is_breached t
 takes Named t = is_named t
+
+-- a cluster's tally, as a list has it
+abbrev pub shown : Choice → ℕ → Tally → Tally
+shown (Breached counts) cluster t = with_count (count_in counts.now cluster) t
+shown Named cluster t = t
+
+-- the same of each entry of a map
+abbrev pub shown_entries : Choice → List (ℕ × Tally) → List (ℕ × Tally)
+shown_entries choice es = map (λ e. (e.0, shown choice e.0 e.1)) es
 
 -- a tally in a list
 abbrev pub numbered : ℕ → Tally → ℕ × Tally

@@ -2,7 +2,7 @@
 use Rattle.std.specs.Prelude.{ℕ, ◌≡◌, ◌+◌, ◌*◌, ◌^◌, ◌<◌, List, ◌++◌, ⊤}
 use Rattle.qcow2_metadata.specs.Bytes.{Bytes}
 use Rattle.qcow2_metadata.specs.declared.header.HeaderFields.{HeaderFields}
-use Rattle.qcow2_metadata.specs.Header.{reftable_entries, IsWellFormed, IsWithinLimits}
+use Rattle.qcow2_metadata.specs.Header.{reftable_entries, IsWellFormed, IsWithinLimits, ReftableFits}
 use Rattle.qcow2_metadata.specs.Entries.{count, l1_entry, reftable_entry, L1EntryReads, ReftableEntryReads}
 use Rattle.qcow2_metadata.specs.Named.{named, named_for_tables}
 use Rattle.qcow2_metadata.specs.declared.error.MetadataError.{MetadataError}
@@ -47,7 +47,7 @@ pub record TablesRead (h : HeaderFields) (b : Bytes) : Type 0 where
 -- 64 bits hold the ends of both
 pub record TablesFit (h : HeaderFields) : Type 0 where
   pub l1_table : h.l1_offset + 8 * h.l1_entries < 2 ^ 64
-  pub reftable : h.reftable_offset + 8 * reftable_entries h < 2 ^ 64
+  pub reftable : ReftableFits h
 
 -- Why clusters aren't counted under a header that reads.
 abbrev pub IsReasonNotToCount : HeaderFields → Bytes → MetadataError → Type 0

@@ -1,5 +1,5 @@
 -- How often each cluster was named so far.
-use Rattle.std.specs.Prelude.{ℕ, ◌+◌, ◌*◌, ◌^◌, ◌≡◌, ◌≢◌, ◌≤◌, ◌==◌, ◌&&◌, Bool, slice_index_or, unwrap_or, if◌then◌else◌}
+use Rattle.std.specs.Prelude.{ℕ, ◌+◌, ◌*◌, ◌^◌, ◌≡◌, ◌≤◌, ◌==◌, ◌&&◌, Bool, slice_index_or, unwrap_or, if◌then◌else◌}
 use Rattle.std.specs.BTreeMap.{get}
 use Rattle.std.specs.Ordering.{nat_cmp}
 use Rattle.qcow2_metadata.specs.Bytes.{one_if}
@@ -11,14 +11,14 @@ abbrev pub no_tally : Tally
 no_tally = record { named = 0; for_tables = 0; marked = 0; count = 0 }
 
 abbrev pub blank : SmallTally
-blank = record { named = 0; for_tables = 0; marked = 0; count = 0 }
+blank = record { named = 0; for_tables = 0; marked = 0 }
 
--- a small tally of a cluster that is neither named nor counted stands for none
+-- a small tally of a cluster that isn't named stands for none
 abbrev pub is_blank : SmallTally → Bool
-is_blank s = s.named == 0 && s.count == 0
+is_blank s = s.named == 0
 
 abbrev pub widened : SmallTally → Tally
-widened s = record { named = s.named; for_tables = s.for_tables; marked = s.marked; count = s.count }
+widened s = record { named = s.named; for_tables = s.for_tables; marked = s.marked; count = 0 }
 
 -- a small tally, or another one in the place of none
 abbrev pub small_or : SmallTally → Tally → Tally
@@ -62,14 +62,3 @@ AddsTimes old new cluster times for_table marked =
 
 abbrev pub names_of : Tally → ℕ × (ℕ × ℕ)
 names_of t = (t.named, (t.for_tables, t.marked))
-
--- one cluster has this count, and nothing else changes
-pub record Counts (old new : TallyMap) (cluster count : ℕ) : Type 0 where
-  pub same_names : (q : ℕ) → names_of (tally_in new q) ≡ names_of (tally_in old q)
-  pub new_count : (tally_in new cluster).count ≡ count
-  pub other_counts : (q : ℕ) → q ≢ cluster → (tally_in new q).count ≡ (tally_in old q).count
-
--- each cluster has its count, and nothing else changes
-pub record CountsAll (old new : TallyMap) (count : ℕ → ℕ) : Type 0 where
-  pub same_names : (q : ℕ) → names_of (tally_in new q) ≡ names_of (tally_in old q)
-  pub counts : (q : ℕ) → (tally_in new q).count ≡ count q

@@ -50,7 +50,8 @@ fn names_of_table_at<S: Storage>(
     Ok(())
 }
 
-/// What the L2 tables at these places name, each as often as its place is there. A table is read once for all its places that stand one after the other. The buffer is of one cluster.
+/// What the L2 tables at these places name, each as often as its place is there. A table is read once for all its places that stand
+/// one after the other. The buffer is of one cluster.
 pub(crate) fn names_of_l2_tables<S: Storage>(
     names: &mut Names,
     offsets: &mut Names,

@@ -1,12 +1,15 @@
 //! The report of an image: whether it is consistent, each breach, and each cluster that is counted more often than it is named.
 #![tactic(auto)]
 
+mod block;
 mod checker;
 mod counts;
 mod entries;
 mod header;
+mod kept;
 mod l1;
 mod l2;
+mod leaks;
 mod lines;
 mod names;
 mod offsets;
@@ -17,4 +20,5 @@ mod tally_map;
 mod told;
 
 pub use checker::{Report, check};
+pub use leaks::{LeakIter, Leaks};
 pub use report::{Breach, Kind, Leak};

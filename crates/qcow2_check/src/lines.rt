@@ -2,14 +2,14 @@
 
 ghost use Rattle.std.specs.Prelude.{ℕ, ◌≡◌, ◌++◌, ◌^◌, ◌≤◌, OnOk};
 ghost use Rattle.qcow2_check.specs.Tallies.{tally_in};
-ghost use Rattle.qcow2_check.specs.Lines.{lines, lines_of, is_under, is_shared, is_miscopied, is_leaked, is_told, numbered};
-ghost use Rattle.qcow2_check.specs.Lines.{under_line, shared_line, copied_line, leak_of_cluster, header_lines};
+ghost use Rattle.qcow2_check.specs.Lines.{lines, lines_of, is_under, is_shared, is_miscopied, is_breached, numbered};
+ghost use Rattle.qcow2_check.specs.Lines.{under_line, shared_line, copied_line, header_lines};
 ghost use Rattle.qcow2_check.specs.Lines.{is_named, unaligned_line, offset_lines, table_offset_lines, unaligned_lines};
-ghost use Rattle.qcow2_check.specs.Report.{cluster_lines, leak_lines_of};
+ghost use Rattle.qcow2_check.specs.Report.{cluster_lines};
 
 use crate::names::Names;
 use crate::offsets::Offsets;
-use crate::report::{Breach, Kind, Leak};
+use crate::report::{Breach, Kind};
 use crate::tally::Tally;
 use crate::told::Choice;
 use qcow2_metadata::HeaderFields;
@@ -54,22 +54,6 @@ fn push_copied(breaches: &mut Vec<Breach>, told: &[(u64, Tally)]) -> Result<(), 
     for (cluster, tally) in told {
         if tally.marked != 0 && !(tally.named == 1 && tally.count == 1) {
             breaches.push(Breach::Copied {
-                cluster: *cluster,
-                count: tally.count,
-                named: tally.named,
-            })?;
-        }
-    }
-    Ok(())
-}
-
-/// A line for each cluster that is counted more often than named.
-fn push_leaks(leaks: &mut Vec<Leak>, told: &[(u64, Tally)]) -> Result<(), AllocError>
-    ensures lines { OnOk result (leaks.new.items ≡ leaks.old.items ++ lines_of is_leaked leak_of_cluster told.now) }
-{
-    for (cluster, tally) in told {
-        if tally.count > tally.named {
-            leaks.push(Leak {
                 cluster: *cluster,
                 count: tally.count,
                 named: tally.named,
@@ -171,20 +155,11 @@ pub(crate) fn add_breaches(
     breaches: &mut Vec<Breach>,
     told: &[(u64, Tally)],
 ) -> Result<(), AllocError>
-    ensures { (t : ℕ → Tally) → told.now ≡ lines (2 ^ 64) is_told numbered t
+    ensures { (t : ℕ → Tally) → told.now ≡ lines (2 ^ 64) is_breached numbered t
         → OnOk result (breaches.new.items ≡ breaches.old.items ++ cluster_lines t) }
 {
     push_under(breaches, told)?;
     push_shared(breaches, told)?;
     push_copied(breaches, told)?;
-    Ok(())
-}
-
-/// The leaked clusters.
-pub(crate) fn add_leaks(leaks: &mut Vec<Leak>, told: &[(u64, Tally)]) -> Result<(), AllocError>
-    ensures { (t : ℕ → Tally) → told.now ≡ lines (2 ^ 64) is_told numbered t
-        → OnOk result (leaks.new.items ≡ leaks.old.items ++ leak_lines_of t) }
-{
-    push_leaks(leaks, told)?;
     Ok(())
 }

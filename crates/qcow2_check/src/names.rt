@@ -2,7 +2,7 @@
 
 ghost use Rattle.std.specs.Prelude.{ℕ, ◌≡◌, ◌+◌, ◌-◌, ◌*◌, ◌<◌, ◌≤◌, ◌^◌, ◌&&◌, nat_le, nat_lt, OnOk, OnErr};
 ghost use Rattle.qcow2_metadata.specs.Bytes.{one_if};
-ghost use Rattle.qcow2_check.specs.Tallies.{tally_in, no_tally, AddsToTally, AddsTimes, Counts, TalliesGrow, TalliesWithin64Bits, IsSmall};
+ghost use Rattle.qcow2_check.specs.Tallies.{tally_in, no_tally, AddsToTally, AddsTimes, TalliesGrow, TalliesWithin64Bits, IsSmall};
 
 use crate::tally::Tally;
 use crate::tally_map::TallyMap;
@@ -25,12 +25,13 @@ fn times_if(times: u64, is: bool) -> u64
 }
 
 impl Names {
-    pub(crate) fn new(alloc: Global) -> Self
+    /// No names. An array may have the tallies of so many more clusters from the start.
+    pub(crate) fn new(alloc: Global, more: u64) -> Self
         ensures none { (q : ℕ) → tally_in result.clusters q ≡ no_tally }
         ensures total { result.total ≡ 0 }
     {
         Names {
-            clusters: TallyMap::new(alloc),
+            clusters: TallyMap::new(alloc, more),
             total: 0,
         }
     }
@@ -89,16 +90,6 @@ impl Names {
             self.add_times(cluster, times, false, false)?;
         }
         Ok(())
-    }
-
-    /// The count of a cluster.
-    pub(crate) fn set_count(&mut self, cluster: u64, count: u64) -> Result<(), AllocError>
-        ensures counts { OnOk result (Counts self.old.clusters self.new.clusters cluster count) }
-        ensures total { self.new.total ≡ self.old.total }
-    {
-        let mut tally = self.clusters.get(cluster);
-        tally.count = count;
-        self.clusters.set(cluster, tally)
     }
 
     /// One more name, for a table, of each of n clusters from a first one on.

@@ -131,9 +131,9 @@ impl Offsets {
         ensures totals { (result.l2_tables.total ≡ 0) × (result.refblocks.total ≡ 0) × (result.data.total ≡ 0) }
     {
         Offsets {
-            l2_tables: Names::new(alloc),
-            refblocks: Names::new(alloc),
-            data: Names::new(alloc),
+            l2_tables: Names::new(alloc, 0),
+            refblocks: Names::new(alloc, 0),
+            data: Names::new(alloc, 0),
         }
     }
 }

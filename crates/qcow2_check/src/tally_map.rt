@@ -13,13 +13,12 @@ const FIRST_ROOM: u64 = 4096;
 /// So many more it may have after each change.
 const MORE_ROOM: u64 = 3;
 
-/// A tally of numbers below 256, in four bytes.
+/// A tally of numbers below 256 without a count, in three bytes.
 #[derive(Clone, Copy)]
 pub(crate) struct SmallTally {
     pub(crate) named: u8,
     pub(crate) for_tables: u8,
     pub(crate) marked: u8,
-    pub(crate) count: u8,
 }
 
 impl SmallTally {
@@ -28,34 +27,28 @@ impl SmallTally {
         named: 0,
         for_tables: 0,
         marked: 0,
-        count: 0,
     };
 
-    /// The tally in four bytes, unless it is of a cluster that is neither named nor counted, or of greater numbers.
+    /// The tally in three bytes, unless it is of a cluster that isn't named, has a count, or is of greater numbers.
     fn of(tally: &Tally) -> Option<SmallTally>
         ensures value { IfSome result (λ s. widened s ≡ tally.now) }
         ensures some { IfSome result (λ s. is_blank s ≡ false) }
     {
-        let largest = tally
-            .named
-            .max(tally.for_tables)
-            .max(tally.marked)
-            .max(tally.count);
-        if largest > 255 || (tally.named == 0 && tally.count == 0) {
+        let largest = tally.named.max(tally.for_tables).max(tally.marked);
+        if largest > 255 || tally.named == 0 || tally.count != 0 {
             return None;
         }
         Some(SmallTally {
             named: tally.named as u8,
             for_tables: tally.for_tables as u8,
             marked: tally.marked as u8,
-            count: tally.count as u8,
         })
     }
 
     fn is_blank(&self) -> bool
         ensures { result ≡ is_blank self.now }
     {
-        self.named == 0 && self.count == 0
+        self.named == 0
     }
 
     fn widened(&self) -> Tally
@@ -65,12 +58,12 @@ impl SmallTally {
             named: self.named as u64,
             for_tables: self.for_tables as u64,
             marked: self.marked as u64,
-            count: self.count as u64,
+            count: 0,
         }
     }
 }
 
-/// The tally of each cluster. Small ones of low clusters stand in an array, of four bytes for each cluster, and all others in a map.
+/// The tally of each cluster. Small ones of low clusters stand in an array, of three bytes for each cluster, and all others in a map.
 #[derive(Drop)]
 pub(crate) struct TallyMap {
     pub(crate) small: Vec<SmallTally>,
@@ -80,13 +73,14 @@ pub(crate) struct TallyMap {
 }
 
 impl TallyMap {
-    pub(crate) fn new(alloc: Global) -> Self
+    /// No tallies. The array may have so many more from the start.
+    pub(crate) fn new(alloc: Global, more: u64) -> Self
         ensures { (q : ℕ) → tally_in result q ≡ no_tally }
     {
         TallyMap {
             small: Vec::new(alloc),
             large: BTreeMap::new(alloc),
-            room: FIRST_ROOM,
+            room: FIRST_ROOM.saturating_add(more),
         }
     }
 

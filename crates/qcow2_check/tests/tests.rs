@@ -83,7 +83,37 @@ fn a_cluster_that_is_counted_for_nothing(rt: HostRuntime) -> Result<(), Fail> {
         named: 0,
     };
     assert_eq!(rt; report.breaches.len(), 0);
-    assert_eq!(rt; report.leaks.as_slice(), [leak].as_slice());
+    assert_eq!(rt; report.leaks.is_empty(), false);
+    assert_eq!(rt; report.leaks.iter().next(), Some(leak));
+    assert_eq!(rt; report.leaks.len(), 1);
+    Ok(())
+}
+
+/// The second entry of the reftable names the refblock of the first, so its six counts are of clusters 256 to 261 too.
+#[test]
+fn a_refblock_that_two_entries_name(rt: HostRuntime) -> Result<(), Fail> {
+    let report = report_of(rt.alloc(), &[(526, 4)])?;
+    let under = Breach::Under {
+        cluster: 2,
+        count: 1,
+        named: 2,
+    };
+    let shared = Breach::Shared {
+        cluster: 2,
+        named: 2,
+    };
+    assert_eq!(rt; report.breaches.as_slice(), [under, shared].as_slice());
+    let mut cluster = 256;
+    for leak in report.leaks.iter() {
+        let wanted = Leak {
+            cluster,
+            count: 1,
+            named: 0,
+        };
+        assert_eq!(rt; leak, wanted);
+        cluster += 1;
+    }
+    assert_eq!(rt; cluster, 262);
     Ok(())
 }
 

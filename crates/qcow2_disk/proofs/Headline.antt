@@ -5,11 +5,12 @@ use Rattle.image_access.specs.Moments.{StorageView, EachMomentSince}
 use Rattle.image_access.proofs.EachMomentSince.{passes_if, passes_on}
 use Rattle.qcow2_metadata.specs.Bytes.{Bytes, byte_at}
 use Rattle.qcow2_metadata.specs.Consistent.{IsConsistent}
+use Rattle.qcow2_metadata.specs.Header.{header}
 use Rattle.qcow2_disk.specs.Disk.{Disk, disk, disk_with}
 use Rattle.qcow2_disk.specs.HeaderRest.{KeepsHeaderRest}
 use Rattle.qcow2_disk.specs.Stops.{checkpoint_at, StopOkEverywhere, StopOk, SafeThroughout}
-use Rattle.qcow2_disk.specs.AbstractImages.{Setting, Guest, Abstraction, abstract_image, guest_of}
-use Rattle.qcow2_disk.specs.Runs.{Command, Reply, State, Run, RefinesDisk, IsStopIn, started, given_by, asked_by}
+use Rattle.qcow2_disk.specs.AbstractImages.{Setting, Guest, Abstraction, abstract_image, guest_of, surplus_of}
+use Rattle.qcow2_disk.specs.Runs.{Command, Reply, State, Run, RefinesDisk, IsStopIn, started, checkpoint_during, given_by, asked_by}
 use Rattle.qcow2_disk.specs.Headline.{shown_below, setting_in, guest_in, IsHeadline}
 use Rattle.qcow2_disk.proofs.HeaderRest.{header_rest_same, header_rest_then, header_rest_back}
 use Rattle.qcow2_disk.proofs.Stops.{stop_of_kept, stop_more}
@@ -22,7 +23,7 @@ same_disk backing header_bytes d b kept =
     let values : (disk b backing).value ≡ d.value = fun_ext (λ o. ⊎_elim (λ (e : (disk b backing).value o ≡ d.value o). e) (λ h. absurd h) (kept.values o)) in
     λ i. record { size = size i; value = values i }
 
-at_once : (backing b : Bytes) → IsConsistent b → StopOkEverywhere backing (checkpoint_at (disk b backing) b) b
+pub at_once : (backing b : Bytes) → IsConsistent b → StopOkEverywhere backing (checkpoint_at (disk b backing) b) b
 at_once backing b consistent = record { consistent = consistent; rest = header_rest_same b; size = inl refl; values = λ o. inl refl }
 
 -- what a stop may leave where a run begins falls under its first command, or its end
@@ -32,10 +33,20 @@ first_stop x s end (command ∷ commands) (reply ∷ replies) run b at = inl (st
 first_stop x s end [] (reply ∷ replies) run b at = absurd run
 first_stop x s end (command ∷ commands) [] run b at = absurd run
 
+-- whatever it leaves is consistent
+pub stop_consistent : (x : Setting) (s end : State) (commands : List Command) (replies : List Reply) (run : Run x s commands replies end) (b : Bytes) → IsStopIn x s end commands replies run b → IsConsistent b
+stop_consistent x s end [] [] run b at = at.consistent
+stop_consistent x s end (command ∷ commands) (reply ∷ replies) run b at = ⊎_elim
+    (λ (now : StopOk x.backing (checkpoint_during x s command) b). now.consistent)
+    (λ (later : IsStopIn x run.0 end commands replies run.2 b). stop_consistent x run.0 end commands replies run.2 b later) at
+stop_consistent x s end [] (reply ∷ replies) run b at = absurd at
+stop_consistent x s end (command ∷ commands) [] run b at = absurd at
+
 module _ {D P : Type 0} (spec : Abstraction D P) (before : StorageView) (below : Option Bytes) (opened new : D) (commands : List Command) (replies : List Reply)
     (consistent : IsConsistent (byte_at before.contents)) (nothing_before : (c : List ℕ) → before.had_since before.moment c → c ≡ before.contents)
     (since : SafeThroughout before (spec.storage opened) (byte_at before.contents) (λ _. []) []) (clean : spec.known opened ≡ byte_at (spec.storage opened).contents) (in_image : spec.data_bytes opened ≡ spec.known opened)
-    (setting : spec.setting opened ≡ setting_in below (byte_at before.contents)) (refines : RefinesDisk spec opened new commands replies) where
+    (setting : spec.setting opened ≡ setting_in below (byte_at before.contents)) (sound : spec.is_sound opened [])
+    (surplus : spec.surplus opened [] ≡ surplus_of (header (byte_at before.contents)) (byte_at before.contents)) (leaks : spec.leaked opened ≡ 0) (refines : RefinesDisk spec opened new commands replies) where
   abbrev b : Bytes
   b = byte_at before.contents
 
@@ -87,6 +98,9 @@ module _ {D P : Type 0} (spec : Abstraction D P) (before : StorageView) (below :
     setting = setting;
     shows = shows;
     rest = rest;
+    sound = sound;
+    surplus = surplus;
+    leaks = leaks;
     refines = refines;
     stops = λ c had. ⊎_elim (λ (h : before.had_since before.moment c). subst In (sym (nothing_before c h)) (kept_in before.contents start)) (λ p. p) (whole.each before.moment c (omega arith) had);
   }

@@ -12,7 +12,7 @@ use Rattle.qcow2_disk.specs.Stops.{GivenBytes, IsGiven, Checkpoint, checkpoint_a
 use Rattle.qcow2_disk.specs.Mappings.{PreparedMapping}
 use Rattle.qcow2_disk.specs.AbstractImages.{Setting, Guest, Abstraction, AbstractImage, abstract_image, guest_of, stored_bytes, IsWhole}
 use Rattle.qcow2_disk.specs.Calls.{Refusal, memory, storage, not_compressed, another, CallEffect, AnsweredEffect, RefusedEffect, IsRefusalByFault, EffectOnSound, EffectOnFailed, Stops}
-use Rattle.qcow2_disk.specs.Runs.{Command, Reply, Found, CommandMeaning, IsFaultReply, IsStorageReply, MayAnswer, IsAnswerOfFailed, IsRightlyTold, ResizesLast, State, CommandStep, Run, IsSafeWhile, IsCommandInterval, RefinesGuest, RefinesAlong, IsStopIn, RefinesState, RefinesCommand, RefinesRun, RefinesWholeRun, RefinesDisk, IsOwnInterval, started, checkpoint_during, checkpoint_after, stepped, given_by, asked_by, flush, shrink, done, number_is}
+use Rattle.qcow2_disk.specs.Runs.{Command, Reply, Found, CommandMeaning, IsFaultReply, IsStorageReply, MayAnswer, IsAnswerOfFailed, IsRightlyTold, ResizesLast, State, CommandStep, Run, IsSafeWhile, RefinesGuest, RefinesAlong, IsStopIn, RefinesState, RefinesCommand, RefinesRun, RefinesWholeRun, RefinesDisk, IsOwnInterval, started, checkpoint_during, checkpoint_after, stepped, given_by, asked_by, flush, shrink, done, number_is}
 use Rattle.qcow2_disk.specs.UngivenCovers.{UngivenStay}
 use Rattle.qcow2_disk.proofs.Compose.{TouchesLess, works_less, stops_none, rests_none}
 use Rattle.qcow2_disk.proofs.HeaderRest.{header_rest_same}
@@ -58,8 +58,8 @@ module _ (x : Setting) (old new : AbstractImage) (s : State) (command : Command)
           contents = λ e. absurd (not_ok e);
           at_rest = at;
         };
+        safe = record { moments = λ e. absurd (not_ok e); at_return = at; silent = λ _. rests.moments; unchanged = λ _. rests.contents };
         interval = record {
-          safe = record { moments = λ e. absurd (not_ok e); at_return = at; silent = λ _. rests.moments; unchanged = λ _. rests.contents };
           own = λ e. absurd (not_ok e);
           sized = λ e. absurd (not_ok e);
           told = λ e. absurd (not_ok e);
@@ -117,7 +117,8 @@ module _ (x : Setting) (old new : AbstractImage) (s : State) (command : Command)
             contents = λ e. absurd (cc);
             at_rest = at;
           };
-          interval = record { safe = safe_to (checkpoint_after x s command reply s.guest) at; own = λ _. own; sized = λ _. sized; told = λ e. absurd (cc); beside = λ e. absurd (cc) };
+          safe = safe_to (checkpoint_after x s command reply s.guest) at;
+          interval = record { own = λ _. own; sized = λ _. sized; told = λ e. absurd (cc); beside = λ e. absurd (cc) };
           surplus = λ e. absurd (cc);
           leaks = acts.leaks;
           since = λ _. ok;
@@ -150,8 +151,8 @@ module _ (x : Setting) (old new : AbstractImage) (s : State) (command : Command)
             contents = λ _. kept;
             at_rest = at;
           };
+          safe = safe_to after at;
           interval = record {
-            safe = safe_to after at;
             own = λ _. own;
             sized = λ _. sized;
             told = λ _. subst (λ y. IsRightlyTold y old.known new command reply) (acts.setting ∙ stands.setting) finds;
@@ -333,21 +334,21 @@ said_at before leaked stands same leaks = record { works = stands.works; failed 
 module _ {D P : Type 0} (spec : Abstraction D P) (x : Setting) (before : ℕ → ℕ) (leaked : ℕ) where
   -- so does the image along it
   along_push : (old mid new : D) (out : List (Option P)) (s t end : State) (commands : List Command) (replies : List Reply) (command : Command) (reply : Reply) (run : Run x s commands replies t) (step : CommandStep x t command reply end)
-      → RefinesAlong spec x before leaked old mid s t commands replies run → RefinesGuest (abstract_image spec new out) end before leaked → IsCommandInterval x (spec.storage mid) (spec.known mid) (abstract_image spec new out) t command reply end
+      → RefinesAlong spec x before leaked old mid s t commands replies run → RefinesGuest (abstract_image spec new out) end before leaked → IsSafeWhile x.backing (spec.storage mid) (spec.storage new) t.is_failed (checkpoint_during x t command) end.checkpoint
       → RefinesAlong spec x before leaked old new s end (commands ++ command ∷ []) (replies ++ reply ∷ []) (Run-push x s t end commands replies command reply run step)
   unfolding Run-push
-  along_push old mid new out s t end [] [] command reply run step same said interval = (
+  along_push old mid new out s t end [] [] command reply run step same said safe = (
     new,
     out,
     said,
-    subst (λ (d : D). IsCommandInterval x (spec.storage d) (spec.known d) (abstract_image spec new out) s command reply end) same
-        (subst (λ (r : State). IsCommandInterval x (spec.storage mid) (spec.known mid) (abstract_image spec new out) r command reply end) run interval),
+    subst (λ (d : D). IsSafeWhile x.backing (spec.storage d) (spec.storage new) s.is_failed (checkpoint_during x s command) end.checkpoint) same
+        (subst (λ (r : State). IsSafeWhile x.backing (spec.storage mid) (spec.storage new) r.is_failed (checkpoint_during x r command) end.checkpoint) run safe),
     refl,
   )
-  along_push old mid new out s t end (c ∷ commands) (r ∷ replies) command reply run step so_far said interval =
-      (so_far.0, so_far.1, so_far.2, so_far.3, along_push so_far.0 mid new out run.0 t end commands replies command reply run.2 step so_far.4 said interval)
-  along_push old mid new out s t end [] (r ∷ replies) command reply run step so_far said interval = absurd run
-  along_push old mid new out s t end (c ∷ commands) [] command reply run step so_far said interval = absurd run
+  along_push old mid new out s t end (c ∷ commands) (r ∷ replies) command reply run step so_far said safe =
+      (so_far.0, so_far.1, so_far.2, so_far.3, along_push so_far.0 mid new out run.0 t end commands replies command reply run.2 step so_far.4 said safe)
+  along_push old mid new out s t end [] (r ∷ replies) command reply run step so_far said safe = absurd run
+  along_push old mid new out s t end (c ∷ commands) [] command reply run step so_far said safe = absurd run
 
   -- the moments of a run fall under its commands
   within : (old new : D) (s end : State) (commands : List Command) (replies : List Reply) (run : Run x s commands replies end) → RefinesAlong spec x before leaked old new s end commands replies run
@@ -356,10 +357,10 @@ module _ {D P : Type 0} (spec : Abstraction D P) (x : Setting) (before : ℕ →
   within old new s end (command ∷ commands) (reply ∷ replies) run safe at =
       let here : EachMomentSince (spec.storage old) (spec.storage safe.0) (λ c. StopOk x.backing (checkpoint_during x s command) (byte_at c)) = elim (bool_cases s.is_failed) [
         | inl failed ↦ passes_if (λ c. StopOk x.backing (checkpoint_during x s command) (byte_at c))
-            (λ c e. subst (λ k. StopOk x.backing (checkpoint_during x s command) (byte_at k)) (sym e) (stop_more x.backing (given_by x s.guest command) (asked_by command) s.checkpoint (byte_at (spec.storage old).contents) at)) (safe.3.safe.silent failed)
-        | inr ok ↦ safe.3.safe.moments ok
+            (λ c e. subst (λ k. StopOk x.backing (checkpoint_during x s command) (byte_at k)) (sym e) (stop_more x.backing (given_by x s.guest command) (asked_by command) s.checkpoint (byte_at (spec.storage old).contents) at)) (safe.3.silent failed)
+        | inr ok ↦ safe.3.moments ok
       ] in
-      passes_more here (within safe.0 new run.0 end commands replies run.2 safe.4 safe.3.safe.at_return)
+      passes_more here (within safe.0 new run.0 end commands replies run.2 safe.4 safe.3.at_return)
   within old new s end [] (reply ∷ replies) run safe at = absurd run
   within old new s end (command ∷ commands) [] run safe at = absurd run
 
@@ -372,7 +373,7 @@ module _ {D P : Type 0} (spec : Abstraction D P) (x : Setting) (before : ℕ →
   rest_at_end : (old new : D) (s end : State) (commands : List Command) (replies : List Reply) (run : Run x s commands replies end) → RefinesAlong spec x before leaked old new s end commands replies run
       → LeavesOk x.backing s.checkpoint (spec.storage old) → LeavesOk x.backing end.checkpoint (spec.storage new)
   rest_at_end old new s end [] [] run same at = subst (λ (d : D). LeavesOk x.backing end.checkpoint (spec.storage d)) (sym same) (subst (λ (t : State). LeavesOk x.backing t.checkpoint (spec.storage old)) (sym run) at)
-  rest_at_end old new s end (command ∷ commands) (reply ∷ replies) run safe at = rest_at_end safe.0 new run.0 end commands replies run.2 safe.4 safe.3.safe.at_return
+  rest_at_end old new s end (command ∷ commands) (reply ∷ replies) run safe at = rest_at_end safe.0 new run.0 end commands replies run.2 safe.4 safe.3.at_return
   rest_at_end old new s end [] (reply ∷ replies) run safe at = absurd run
   rest_at_end old new s end (command ∷ commands) [] run safe at = absurd run
 
@@ -417,7 +418,7 @@ module _ {D P : Type 0} (spec : Abstraction D P) where
     end = command_step.end;
     run = Run-push x s ran.end command_step.end commands replies command reply ran.run command_step.step;
     along = along_push spec x (spec.surplus old before) (spec.leaked old) old mid new out' s ran.end command_step.end commands replies command reply ran.run command_step.step ran.along
-        (said_at (spec.surplus old before) (spec.leaked old) command_step.stands (λ e. command_step.surplus e ∙ ran.surplus (command_step.since e)) (command_step.leaks ∙ ran.leaks)) command_step.interval;
+        (said_at (spec.surplus old before) (spec.leaked old) command_step.stands (λ e. command_step.surplus e ∙ ran.surplus (command_step.since e)) (command_step.leaks ∙ ran.leaks)) command_step.safe;
     stands = command_step.stands;
     surplus = λ e. command_step.surplus e ∙ ran.surplus (command_step.since e);
     leaks = command_step.leaks ∙ ran.leaks;

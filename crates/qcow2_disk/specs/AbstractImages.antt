@@ -1,8 +1,11 @@
 -- What a contract sees of an image.
-use Rattle.std.specs.Prelude.{ℕ, ◌≡◌, ◌++◌, ◌∷◌, Bool, false, List, Option, Some, None, slice_get}
+use Rattle.std.specs.Prelude.{ℕ, ◌-◌, ◌≡◌, ◌++◌, ◌∷◌, Bool, false, List, Option, Some, None, slice_get}
 use Rattle.image_access.specs.Moments.{StorageView}
 use Rattle.qcow2_metadata.specs.Bytes.{Bytes, byte_at}
+use Rattle.qcow2_metadata.specs.declared.header.HeaderFields.{HeaderFields}
+use Rattle.qcow2_metadata.specs.Entries.{count}
 use Rattle.qcow2_metadata.specs.Header.{header, cluster_size}
+use Rattle.qcow2_metadata.specs.Named.{named}
 use Rattle.qcow2_metadata.specs.Consistent.{IsConsistent}
 use Rattle.qcow2_disk.specs.Disk.{Disk, disk_with}
 use Rattle.qcow2_disk.specs.Mappings.{PreparedMapping}
@@ -100,6 +103,10 @@ stored_bytes v = byte_at v.storage.contents
 -- what a guest sees of it
 abbrev pub guest_of : AbstractImage → Guest
 guest_of v = record { disk = disk_with v.known v.data_bytes v.setting.backing; slots = v.slots }
+
+-- how much more often each cluster is counted than named
+abbrev pub surplus_of : HeaderFields → Bytes → ℕ → ℕ
+surplus_of h b c = count h b c - named h b c
 
 -- what a sound image is
 pub record IsWhole (v : AbstractImage) : Type 0 where

@@ -279,20 +279,19 @@ ResizesLast size old new (grow asked mode) = EachMomentSince old new (λ c. ((he
 ResizesLast size old new (shrink asked) = EachMomentSince old new (λ c. ((header (byte_at c)).size ≡ size) ⊎ (c ≡ new.contents))
 ResizesLast size old new command = Unit {0}
 
--- The stretch of one command, from a storage with what was known over it. Each moment on the way is safe and its own, and the reply is as it is then. What stands for guest clusters of which it gives no byte stays.
+-- What else is so of the stretch of one command, from a storage with what was known over it. Each moment on the way is its own, and a resize writes its size last. The reply is as the image is then. What stands for guest clusters of which it gives no byte stays.
 pub record IsCommandInterval (x : Setting) (old : StorageView) (known : Bytes) (new : AbstractImage) (s : State) (command : Command) (reply : Reply) (end : State) : Type 0 where
-  pub safe : IsSafeWhile x.backing old new.storage s.is_failed (checkpoint_during x s command) end.checkpoint
   pub own : s.is_failed ≡ false → IsOwnInterval x.backing old new.storage known (given_by x s.guest command) (asked_by command)
   pub sized : s.is_failed ≡ false → ResizesLast s.guest.disk.size old new.storage command
   pub told : end.is_failed ≡ false → IsRightlyTold x known new command reply
   pub beside : end.is_failed ≡ false → UngivenStay x.cluster_size (given_by x s.guest command) known new.known
 
--- Along a run: for each command there is the image at its return, with the mappings that are prepared then, and its stretch is as said.
+-- Along a run: for each command there is the image at its return, with the mappings that are prepared then, and each moment on the way is safe.
 abbrev pub RefinesAlong : {D P : Type 0} (spec : Abstraction D P) (x : Setting) (before : ℕ → ℕ) (leaked : ℕ) (old new : D) (s end : State) (commands : List Command) (replies : List Reply) → Run x s commands replies end → Type 0
 RefinesAlong spec x before leaked old new s end [] [] run = new ≡ old
 RefinesAlong {D = D} {P = P} spec x before leaked old new s end (command ∷ commands) (reply ∷ replies) run =
     (mid : D) × (out : List (Option P)) × RefinesGuest (abstract_image spec mid out) run.0 before leaked
-    × IsCommandInterval x (spec.storage old) (spec.known old) (abstract_image spec mid out) s command reply run.0
+    × IsSafeWhile x.backing (spec.storage old) (spec.storage mid) s.is_failed (checkpoint_during x s command) run.0.checkpoint
     × RefinesAlong spec x before leaked mid new run.0 end commands replies run.2
 RefinesAlong spec x before leaked old new s end [] (reply ∷ replies) run = ⊥
 RefinesAlong spec x before leaked old new s end (command ∷ commands) [] run = ⊥
@@ -322,6 +321,7 @@ pub record RefinesCommand (x : Setting) (old new : AbstractImage) (s : State) (c
   pub end : State
   pub step : CommandStep x s command reply end
   pub stands : RefinesState x new end
+  pub safe : IsSafeWhile x.backing old.storage new.storage s.is_failed (checkpoint_during x s command) end.checkpoint
   pub interval : IsCommandInterval x old.storage old.known new s command reply end
   pub surplus : end.is_failed ≡ false → new.surplus ≡ old.surplus
   pub leaks : new.leaked ≡ old.leaked

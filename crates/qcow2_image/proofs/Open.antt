@@ -7,3 +7,4 @@ pub mod Probing
 pub mod Reftables
 pub mod Left
 pub mod NamedBehind
+pub mod OverDisks

@@ -20,15 +20,11 @@ pub mod Extending
 pub mod Behind
 pub mod Onward
 pub mod KeptShares
-pub mod Listing
 pub mod Lacked
-pub mod LackedBehind
 pub mod NearPlaces
 pub mod MetRanges
 pub mod MetTaking
 pub mod MetTables
-pub mod InUse
-pub mod LowestTables
 pub mod Pinned
 pub mod Met
 pub mod MarkedPlaces

@@ -10,4 +10,3 @@ pub mod Growing
 pub mod GrowCalls
 pub mod GrownTables
 pub mod CountedTurns
-pub mod LackedTables

@@ -1,7 +1,8 @@
 -- How many entries the L1 table has, whether it names an L2 table of its own for an offset, and whether 64 bits hold where the entry lies. What refuses a call that needs one past them.
-use Rattle.std.specs.Prelude.{ℕ, ◌+◌, ◌-◌, ◌*◌, ◌≡◌, ◌<◌, max}
+use Rattle.std.specs.Prelude.{ℕ, ◌+◌, ◌-◌, ◌*◌, ◌≡◌, ◌<◌, ◌≤◌, max, Some}
 use Rattle.qcow2_metadata.specs.declared.header.HeaderFields.{HeaderFields}
-use Rattle.qcow2_metadata.specs.EntryTable.{entry_count, HasRoomIfPlaced}
+use Rattle.qcow2_metadata.specs.EntryTable.{EntryTableView, entry_count, HasRoomIfPlaced}
+use Rattle.qcow2_metadata.specs.L2Mapping.{IsHostCluster}
 use Rattle.qcow2_metadata.specs.TableBytes.{entry_at}
 use Rattle.qcow2_image.specs.declared.image.Qcow2.{Qcow2}
 use Rattle.qcow2_image.specs.Found.{l1_index_of}
@@ -16,7 +17,23 @@ ReachesOffset offset h h' = h'.l1_entries ≡ max h.l1_entries (l1_index_of h of
 abbrev pub ReachingStays : ℕ → HeaderFields → HeaderFields → Type 0
 ReachingStays to h h' = l1_index_of h (to - 1) < h.l1_entries → KeepsL1Place h h'
 
+-- a table that isn't too long has a place, and its first cluster can be named
+pub record IsPlacedNear (t : EntryTableView) : Type 0 where
+  pub few : entry_count t ≤ 4194304
+  pub cluster : ℕ
+  pub is : t.cluster ≡ Some cluster
+  pub nameable : IsHostCluster t.cluster_bits cluster
+
 module _ {S F : Type 0} where
+  -- the L1 table has no entry for an offset
+  abbrev pub EndsBefore : ℕ → Qcow2 S F → Type 0
+  EndsBefore offset image = entry_count image.l1_table ≤ l1_index_of image.file.header.fields offset
+
+  -- the L1 table has an entry of an index, and 64 bits hold where that lies
+  pub record HasNearEntry (image : Qcow2 S F) (index : ℕ) : Type 0 where
+    pub within : index < entry_count image.l1_table
+    pub room : HasRoomIfPlaced image.l1_table.cluster_bits (8 * index) image.l1_table.cluster
+
   -- the L1 table in memory names an L2 table for an offset that is marked copied
   abbrev pub HasOwnTable : Qcow2 S F → ℕ → Type 0
   HasOwnTable image offset = NamesOwn (entry_at image.l1_table.bytes (l1_index_of image.file.header.fields offset))

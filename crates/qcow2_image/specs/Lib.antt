@@ -29,12 +29,11 @@ pub mod Unwritten
 pub mod L1Entries
 pub mod PinnedTables
 pub mod ListedClusters
-pub mod LowestPlaces
 pub mod MetAlone
-pub mod LackedPlaces
-pub mod LackedTables
+pub mod Limits
 pub mod Noted
 pub mod BehindHeader
 pub mod PreparedPlaces
 pub mod ImageSteps
 pub mod SoundParts
+pub mod Storages

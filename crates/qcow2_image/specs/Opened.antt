@@ -56,9 +56,9 @@ SameNames old new = (new.backing_name ≡ old.backing_name) × (new.backing_form
 abbrev pub HasNamesIn : HeaderView → List ℕ → Type 0
 HasNamesIn v contents = IsHeaderIn (with_fields v (header (byte_at contents))) contents
 
--- its data stand in another file, or it names one: that of its data, or one below it
+-- its data stand in another file, or it names one below it
 abbrev pub needs_another : HeaderView → Bool
-needs_another v = has_data_file v.fields || is_some v.data_file_name || is_some v.backing_name
+needs_another v = has_data_file v.fields || is_some v.backing_name
 
 -- it needs one of the files that are missing as it is opened
 abbrev pub needs_missing : Missing → HeaderView → Bool
@@ -71,10 +71,6 @@ pub record NeedsMissing (missing : Missing) (contents : List ℕ) : Type 0 where
   pub header : HeaderView
   pub stands : IsHeaderIn header contents
   pub needs : needs_missing missing header ≡ true
-
--- it says that the data stand in another file
-abbrev pub NeedsDataFile : List ℕ → Type 0
-NeedsDataFile contents = NeedsMissing M.DataFile contents
 
 -- it needs another file
 abbrev pub NeedsAnother : List ℕ → Type 0

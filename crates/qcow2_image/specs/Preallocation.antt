@@ -24,11 +24,10 @@ use Rattle.qcow2_image.specs.declared.preallocation.ZeroWrites.TheVariants.{Shor
 use Rattle.qcow2_image.specs.declared.prepared.Prepared.{Prepared}
 use Rattle.qcow2_image.specs.CallParts.{AreCopied, StaysBeside}
 use Rattle.qcow2_image.specs.Clearing.{IsUnderMapping, setting_of}
-use Rattle.qcow2_image.specs.Image.{HasNothingToFree, size_of, has_noted_change}
+use Rattle.qcow2_image.specs.Image.{size_of, has_noted_change}
 use Rattle.qcow2_image.specs.ImageInvariant.{ImageInvariant, abstract_of, disk_of, meaning, pending_in}
 use Rattle.qcow2_image.specs.L1Entries.{ReachingStays}
-use Rattle.qcow2_image.specs.LackedPlaces.{LacksPlaceFor, LacksTableFor}
-use Rattle.qcow2_image.specs.ListedClusters.{MayGiveWay}
+use Rattle.qcow2_image.specs.Limits.{IsLimited}
 use Rattle.qcow2_image.specs.MovedTables.{CoversStay, MovesTables}
 use Rattle.qcow2_alloc.specs.ImageFile.{known_in}
 
@@ -85,7 +84,6 @@ module _ {S F : Type 0} (view : S → StorageView) (backing : F → BackingView)
     pub shows : guest_of (abstract_of view backing new out) ≡ with_disk (guest_of (abstract_of view backing old out)) (zeroed_between (disk_of view backing old) from to)
     pub header : MovesTables old.file.header.fields new.file.header.fields
     pub l1_table : ReachingStays to old.file.header.fields new.file.header.fields
-    pub reftables : MayGiveWay old new
     pub covers : FilledCovers (cluster_size old.file.header.fields) first from to old.file.header.fields (known_in view old.file) new.file.header.fields (known_in view new.file)
     pub free : ChangesFree (cluster_size old.file.header.fields) first from to old.file.header.fields (known_in view old.file) out
 
@@ -103,35 +101,20 @@ module _ {S F : Type 0} (view : S → StorageView) (backing : F → BackingView)
     pub noted : e ≡ I.Memory → IsTrue (has_noted_change new)
     pub works : EffectOnSound (abstract_of view backing old out) (abstract_of view backing (record new { is_failed = true }) out) given []
 
-  -- Why a range isn't filled for a limit. What was done so far left an image on which nothing is to be freed, where nothing was before. From there n bytes of the range have no place.
-  -- Where whole clusters are to be zeros, from a first offset on, they have no L2 table. At the return nothing is to be freed.
-  pub record LacksPlaceOnWay (first from to : ℕ) (old new : Qcow2 S F) (out : List (Option Prepared)) : Type 0 where
-    pub mid : Qcow2 S F
-    pub so_far : FillsSome from to old mid out
-    pub listed : HasNothingToFree old → HasNothingToFree mid
-    pub offset : ℕ
-    pub n : ℕ
-    pub low : from ≤ offset
-    pub some : 0 < n
-    pub high : offset + n ≤ to
-    pub lacks : LacksPlaceFor view offset n mid new
-    pub zeros : first ≤ offset → LacksTableFor view offset mid new
-    pub emptied : HasNothingToFree new
-
   -- A refused part: one or the other. That a table is prepared refuses it only where one of the range is, and a limit only where a place lacks for it.
-  pub record RefusedFill (first from to : ℕ) (old new : Qcow2 S F) (out : List (Option Prepared)) (e : ImageError) : Type 0 where
+  pub record RefusedFill (from to : ℕ) (old new : Qcow2 S F) (out : List (Option Prepared)) (e : ImageError) : Type 0 where
     pub left : FillsSome from to old new out ⊎ InterruptedGiving (given_by_zeros from to ∷ []) old new out e
     pub taken : e ≡ I.TablePrepared → IsUnderMappingIn old.file.header.fields from to out
-    pub limit : e ≡ I.Limit → LacksPlaceOnWay first from to old new out
+    pub limit : e ≡ I.Limit → IsLimited view backing to old
 
   abbrev pub FillsOrRefuses : (first from to : ℕ) → Qcow2 S F → Qcow2 S F → List (Option Prepared) → Result (Unit {0}) ImageError → Type 0
   FillsOrRefuses first from to old new out (Ok _) = FillsPart first from to old new out
-  FillsOrRefuses first from to old new out (Err e) = RefusedFill first from to old new out e
+  FillsOrRefuses first from to old new out (Err e) = RefusedFill from to old new out e
 
   -- so far the range is filled, or it was refused
   abbrev pub FillsFirst : (first from to : ℕ) → Qcow2 S F → Qcow2 S F → List (Option Prepared) → Result ℕ ImageError → Type 0
   FillsFirst first from to old new out (Ok next) = FillsPart first from next old new out
-  FillsFirst first from to old new out (Err e) = RefusedFill first from to old new out e
+  FillsFirst first from to old new out (Err e) = RefusedFill from to old new out e
 
   -- a mapping that is out is committed, and its place is free
   pub record CommitsWhole (old new : Qcow2 S F) (out : List (Option Prepared)) (k : ℕ) (p : Prepared) (free : List (Option Prepared)) : Type 0 where
@@ -156,7 +139,6 @@ module _ {S F : Type 0} (view : S → StorageView) (backing : F → BackingView)
     pub shows : guest_of (abstract_of view backing new out) ≡ with_disk (guest_of (abstract_of view backing old out)) (filled_to (cluster_size old.file.header.fields) (disk_of view backing old) size mode)
     pub header : MovesTables old.file.header.fields new.file.header.fields
     pub l1_table : ReachingStays (rounded_up (cluster_size old.file.header.fields) size) old.file.header.fields new.file.header.fields
-    pub reftables : MayGiveWay old new
     pub covers : GrownCovers mode (size_of old) size old.file.header.fields (known_in view old.file) new.file.header.fields (known_in view new.file)
     pub free : GrownFree mode (size_of old) size old.file.header.fields (known_in view old.file) out
 
@@ -172,7 +154,7 @@ module _ {S F : Type 0} (view : S → StorageView) (backing : F → BackingView)
   pub record RefusedGrown (size : ℕ) (mode : PreallocateMode) (old new : Qcow2 S F) (out : List (Option Prepared)) (e : ImageError) : Type 0 where
     pub left : FillsGrownInPart size mode old new out ⊎ InterruptedGiving (all_given_by_growing old size mode) old new out e
     pub taken : e ≡ I.TablePrepared → (shows_old mode ≡ false) × IsUnderMappingIn old.file.header.fields (disk_of view backing old).size (rounded_up (cluster_size old.file.header.fields) size) out
-    pub limit : e ≡ I.Limit → LacksPlaceOnWay (first_zeros (cluster_size old.file.header.fields) (size_of old) size mode) (size_of old) (rounded_up (cluster_size old.file.header.fields) size) old new out
+    pub limit : e ≡ I.Limit → IsLimited view backing (rounded_up (cluster_size old.file.header.fields) size) old
 
   abbrev pub FillsGrownOrRefuses : ℕ → PreallocateMode → Qcow2 S F → Qcow2 S F → List (Option Prepared) → Result (Unit {0}) ImageError → Type 0
   FillsGrownOrRefuses size mode old new out (Ok _) = FillsGrown size mode old new out

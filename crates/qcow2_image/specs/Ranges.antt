@@ -20,6 +20,7 @@ use Rattle.qcow2_disk.specs.Found.{rest_of_table}
 use Rattle.qcow2_disk.specs.Mappings.{IsPrepared}
 use Rattle.qcow2_laws.specs.Unseen.{KeepsFormat}
 use Rattle.qcow2_alloc.specs.ImageFile.{contents_in, known_in}
+use Rattle.qcow2_alloc.specs.Limits.{IsPastLimits}
 use Rattle.qcow2_alloc.specs.MetadataCaches.{AreAllWritten}
 use Rattle.qcow2_alloc.specs.declared.clusters_to_free.ClusterKind.TheVariants as Kind
 use Rattle.qcow2_alloc.specs.declared.clusters_to_free.ClustersToFreeEntry.{ClustersToFreeEntry}
@@ -76,12 +77,12 @@ module _ (h : HeaderFields) where
     pub most : n < q.length → q.length ≡ p.length
     pub whole : q.length < n → EndsWithCluster q
 
-  -- Why a mapping ends at guest byte e and at byte f of the file before its range does. A cluster ends there. Its L2 table does too, or what follows is copied data elsewhere. Or the host cluster that would follow can't be named, or is in use and isn't kept by the zero entry of what follows.
+  -- Why a mapping ends at guest byte e and at byte f of the file before its range does. A cluster ends there. Its L2 table does too, or what follows is copied data elsewhere. Or the host cluster that would follow is past a limit, or is in use and isn't kept by the zero entry of what follows.
   pub record EndsAt (known : Bytes) (e f : ℕ) : Type 0 where
     pub cluster : e % cluster_size h ≡ 0
     pub because : (e % (cluster_size h * entries_per_cluster h) ≡ 0)
         ⊎ (((place : ℕ) × IsDataAt h known true e place × (place ≢ f))
-        ⊎ ((IsHostCluster h.cluster_bits (f / cluster_size h) → ⊥) ⊎ ((count h known (f / cluster_size h) ≢ 0) × (cover h known (e / cluster_size h) ≢ Zero (Some (f, true))))))
+        ⊎ (IsPastLimits h (f / cluster_size h) ⊎ ((count h known (f / cluster_size h) ≢ 0) × (cover h known (e / cluster_size h) ≢ Zero (Some (f, true))))))
 
 module _ {S F : Type 0} (view : S → StorageView) where
   -- why a mapping ends before its range does, by what is known
@@ -110,14 +111,14 @@ module _ {S F : Type 0} (view : S → StorageView) where
     abbrev pub TakesDataAt : Pending → Qcow2 S F → Qcow2 S F → List (Option Prepared) → ℕ → Result (Option ClustersToFreeEntry) ImageError → Type 0
     TakesDataAt p old new out cluster (Ok (Some n)) = (n.first_cluster ≡ cluster) × (n.count ≡ 1) × (n.kind ≡ Kind.Data) × UnseenFillingStep view backing p (with_new_data (pending_with_listed p old new) (run_of n)) old new out
     TakesDataAt p old new out cluster (Ok None) =
-        UnseenFillingStep view backing p (pending_with_listed p old new) old new out × ((IsHostCluster old.file.header.fields.cluster_bits cluster → ⊥) ⊎ (count new.file.header.fields (known_in view new.file) cluster ≢ 0))
+        UnseenFillingStep view backing p (pending_with_listed p old new) old new out × (IsPastLimits old.file.header.fields cluster ⊎ (count new.file.header.fields (known_in view new.file) cluster ≢ 0))
     TakesDataAt p old new out cluster (Err e) = RefusedFillingStep view backing p old new out e
 
     -- so it is, and filled with what the guest sees, but where that is announced as overwritten
     abbrev pub GainsAt : Pending → Qcow2 S F → Qcow2 S F → List (Option Prepared) → ℕ → ℕ → Bool → L2Mapping → ℕ → Result (Option ClustersToFreeEntry) ImageError → Type 0
     GainsAt p old new out offset n overwrite mapping cluster (Ok (Some run)) = (run.first_cluster ≡ cluster) × IsGained view backing p old new out offset n overwrite mapping run
     GainsAt p old new out offset n overwrite mapping cluster (Ok None) =
-        UnseenFillingStep view backing p (pending_with_listed p old new) old new out × ((IsHostCluster old.file.header.fields.cluster_bits cluster → ⊥) ⊎ (count new.file.header.fields (known_in view new.file) cluster ≢ 0))
+        UnseenFillingStep view backing p (pending_with_listed p old new) old new out × (IsPastLimits old.file.header.fields cluster ⊎ (count new.file.header.fields (known_in view new.file) cluster ≢ 0))
     GainsAt p old new out offset n overwrite mapping cluster (Err e) = RefusedFillingStep view backing p old new out e
 
     -- the share of a guest cluster at a place in the file: a new cluster, that no mapping has yet
@@ -132,7 +133,7 @@ module _ {S F : Type 0} (view : S → StorageView) where
     SharesAt p old new out offset n overwrite mapping host (Ok (Some share)) = IsSharedAt p old new out offset n overwrite mapping host share
     SharesAt p old new out offset n overwrite mapping host (Ok None) =
         UnseenFillingStep view backing p (pending_with_listed p old new) old new out
-        × ((IsHostCluster old.file.header.fields.cluster_bits (host / cluster_size old.file.header.fields) → ⊥) ⊎ (count new.file.header.fields (known_in view new.file) (host / cluster_size old.file.header.fields) ≢ 0))
+        × (IsPastLimits old.file.header.fields (host / cluster_size old.file.header.fields) ⊎ (count new.file.header.fields (known_in view new.file) (host / cluster_size old.file.header.fields) ≢ 0))
     SharesAt p old new out offset n overwrite mapping host (Err e) = RefusedFillingStep view backing p old new out e
 
     -- A share for the guest cluster behind a mapping that is out stands ready. Where it isn't in place, its cluster has what the guest sees, but where that is announced as overwritten.

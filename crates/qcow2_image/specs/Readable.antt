@@ -1,5 +1,5 @@
 -- When an image opens, and why one is refused: by its contents alone, by whether it is to be written, and by the files that are missing.
-use Rattle.std.specs.Prelude.{ℕ, ◌≡◌, ◌≢◌, ◌⊎◌, Bool, IsTrue, List, Result, Ok, Err}
+use Rattle.std.specs.Prelude.{ℕ, ◌≡◌, ◌≢◌, ◌⊎◌, Bool, IsTrue, List, Option, Some, None, Result, Ok, Err, false}
 use Rattle.image_access.specs.Moments.{StorageView}
 use Rattle.qcow2_metadata.specs.Bytes.{Bytes, byte_at}
 use Rattle.qcow2_metadata.specs.Header.{header, HeaderReads, IsWellFormed, IsWithinLimits}
@@ -11,7 +11,14 @@ use Rattle.qcow2_alloc.specs.LoadedTables.{IsReasonAgainstL1Table, IsReasonAgain
 use Rattle.qcow2_image.specs.declared.image.Missing.{Missing}
 use Rattle.qcow2_image.specs.declared.image.Missing.TheVariants as M
 use Rattle.qcow2_image.specs.declared.image.Qcow2.{Qcow2}
-use Rattle.qcow2_image.specs.Opened.{NeedsMissing}
+use Rattle.qcow2_metadata.specs.Consistent.{IsConsistent}
+use Rattle.qcow2_image.specs.BehindHeader.{LiesBehindHeader, NamesTablesBehind}
+use Rattle.qcow2_image.specs.CountedOpening.{OpeningCounts}
+use Rattle.qcow2_image.specs.Growing.{SameFormat}
+use Rattle.qcow2_image.specs.Image.{is_failed, is_writable, number_of}
+use Rattle.qcow2_image.specs.Opened.{HasNamesIn, IsKeptSince, IsRefusedAlone, LeavesStorage, NeedsMissing, storage_after}
+use Rattle.qcow2_image.specs.PinnedTables.{HasPinnedTable}
+use Rattle.qcow2_image.specs.Unwritten.{ContentsStayThroughout, HoldsNothingModified}
 
 -- The header is as opening asks for: it reads, its tables begin on clusters, and no file is needed that is missing.
 pub record HeaderSuits (contents : List ℕ) (writable : Bool) (missing : Missing) : Type 0 where
@@ -52,3 +59,28 @@ IsRefusedRightly contents writable missing e = ⊥
 abbrev pub OpensRightly : {S F : Type 0} → StorageView → Bool → Missing → Result (Qcow2 S F) (S × ImageError) → Type 0
 OpensRightly storage writable missing (Ok image) = storage.is_honest → IsReadable storage.contents writable missing
 OpensRightly storage writable missing (Err refused) = (refused.1 ≡ I.Dependency → missing ≢ M.Nothing) × (storage.is_honest → IsRefusedRightly storage.contents writable missing refused.1)
+
+-- What opening does, opened or refused. Each fault is counted and told. No byte changes but those of the autoclear field, and what was kept of a consistent image is kept at each moment.
+-- An image that needs a file which is missing is refused before any byte changes. It is opened, and refused, for the reasons above alone.
+pub record OpeningStep {S F : Type 0} (view : S → StorageView) (before : StorageView) (writable : Bool) (missing : Missing) (result : Result (Qcow2 S F) (S × ImageError)) : Type 0 where
+  pub faults : OpeningCounts view before.faults result
+  pub storage : LeavesStorage view writable before result
+  pub since : before.is_honest → IsConsistent (byte_at before.contents) → IsKeptSince before (view (storage_after result))
+  pub another : before.is_honest → NeedsMissing missing before.contents → IsRefusedAlone result × ContentsStayThroughout before (view (storage_after result))
+  pub cause : OpensRightly before writable missing result
+
+-- An image as it is opened: under its number, for writing or not, and works. No table is pinned or modified. Its header has the format and the names that stand on the storage, and its tables lie behind the header.
+pub record IsNewlyOpened {S F : Type 0} (before : StorageView) (writable : Bool) (number : ℕ) (image : Qcow2 S F) : Type 0 where
+  pub number_is : number_of image ≡ number
+  pub works : is_failed image ≡ false
+  pub writable_is : is_writable image ≡ writable
+  pub unpinned : ¬ HasPinnedTable image
+  pub unmodified : HoldsNothingModified image
+  pub header_cluster : NamesTablesBehind image.file.header.fields → LiesBehindHeader image
+  pub format : before.is_honest → SameFormat (header (byte_at before.contents)) image.file.header.fields
+  pub names : before.is_honest → HasNamesIn image.file.header before.contents
+
+-- the files that are missing as a builder opens: that of the data, and the backing file where it was neither given nor waived
+abbrev pub files_missing : {F : Type 0} → Option (Option F) → Missing
+files_missing None = M.OtherFiles
+files_missing (Some disk) = M.DataFile

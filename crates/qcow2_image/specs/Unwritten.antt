@@ -1,7 +1,5 @@
 -- An image that is only read: what stands on its storage stays.
-use Rattle.std.specs.Prelude.{◌≡◌}
 use Rattle.image_access.specs.Moments.{ContentsStay, StorageView, EachMomentSince, IsLeftBy}
-use Rattle.qcow2_alloc.specs.ImageFile.{contents_in, known_in}
 use Rattle.qcow2_alloc.specs.MetadataCaches.{AreAllWritten}
 use Rattle.qcow2_alloc.specs.Quiet.{KeepAllWritten}
 use Rattle.qcow2_image.specs.declared.image.Qcow2.{Qcow2}
@@ -11,12 +9,6 @@ abbrev pub ContentsStayThroughout : StorageView → StorageView → Type 0
 ContentsStayThroughout old new = ContentsStay old new × EachMomentSince old new (IsLeftBy old)
 
 module _ {S F : Type 0} (view : S → StorageView) where
-  -- what is known stands on the storage
-  abbrev pub IsUnmodified : Qcow2 S F → Type 0
-  IsUnmodified image = known_in view image.file ≡ contents_in view image.file
-
-  -- ---- an image in any state, whatever its contents are
-
   -- Where no cached table is modified, none is then. On an honest storage nothing is written then: the contents are the same, now and at each moment since.
   abbrev pub ReadsQuietly : Qcow2 S F → Qcow2 S F → Type 0
   ReadsQuietly old new = KeepAllWritten view old.file.storage old.file.caches new.file.storage new.file.caches

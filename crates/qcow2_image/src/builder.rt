@@ -1,5 +1,7 @@
 //! Making a new image.
-ghost use Rattle.std.specs.Prelude.{ℕ, ◌≡◌, ◌≢◌, ◌⊎◌, ◌↔◌, ◌^◌, ◌<◌, ◌≤◌, [], None, IfSome, IfNone, IfOk, IfErr, OnOk, IsSome, IsTrue, is_some, false};
+ghost use Rattle.qcow2_image.specs.Limits.{IfLimit, IsLimited};
+ghost use Rattle.std.specs.Prelude.{ℕ, ◌≡◌, ◌≢◌, ◌⊎◌, ◌↔◌, ◌^◌, ◌<◌, ◌≤◌, [], None, IfSome, IfNone, IfOk, IfErr, IsNone, OnOk};
+ghost use Rattle.std.specs.Prelude.{IsSome, IsTrue, is_some, false};
 ghost use Rattle.image_access.specs.Moments.{EachMomentSince};
 ghost use Rattle.qcow2_metadata.specs.HeaderLoad.{IsHeaderIn};
 ghost use Rattle.qcow2_metadata.specs.HeaderWrite.{HasNewNames};
@@ -8,23 +10,22 @@ ghost use Rattle.qcow2_alloc.specs.ImageStorage.{storage_of};
 ghost use Rattle.qcow2_alloc.specs.ImageFile.{view_in};
 ghost use Rattle.qcow2_disk.specs.AbstractImages.{IsOpened};
 ghost use Rattle.qcow2_alloc.specs.Faults.{CountsFaults, FaultsTold};
-ghost use Rattle.qcow2_image.specs.CountedOpening.{OpeningCounts};
-ghost use Rattle.qcow2_image.specs.BehindHeader.{LiesBehindHeader, NamesTablesBehind};
 ghost use Rattle.qcow2_image.specs.Faults.{CountsImageFaults, IsNotOfStorage};
 ghost use Rattle.qcow2_alloc.specs.declared.error.ImageError.TheVariants.{Limit};
 ghost use Rattle.qcow2_metadata.specs.Header.{header as header_at};
 ghost use Rattle.qcow2_laws.specs.NewImages.{IsNewImage};
-ghost use Rattle.qcow2_image.specs.Image.{is_failed, is_writable};
+ghost use Rattle.qcow2_image.specs.Image.{is_writable};
 ghost use Rattle.qcow2_alloc.specs.ImageError.{IsFault};
 ghost use Rattle.qcow2_image.specs.Refusals.{IsFaultOrLimit, MarksFailed};
-ghost use Rattle.qcow2_image.specs.Resizing.{refuses_to_resize};
+ghost use Rattle.qcow2_image.specs.Resizing.{boundary_in, refuses_to_resize};
 ghost use Rattle.qcow2_image.specs.ImageInvariant.{abstract_of};
 ghost use Rattle.qcow2_image.specs.Growing.{KeepsSurplus};
 ghost use Rattle.qcow2_laws.specs.Opened.{HasNoLeaks};
-ghost use Rattle.qcow2_image.specs.Created.{longest_disk, IsUnmapped, IsUnwritten, IsNewHeader, CountsThree, NamesOne, WritesThree, CantEnlarge, CantGrowBy, Enlarges, GrowsBy};
+ghost use Rattle.qcow2_image.specs.Created.{longest_disk, IsUnmapped, IsUnwritten, IsNewHeader, CountsThree, NamesOne};
+ghost use Rattle.qcow2_image.specs.Created.{WritesThree, CantEnlarge, Enlarges, GrowsBy};
 
-use crate::Qcow2;
 use crate::image::Missing;
+use crate::{Qcow2, Qcow2OpenBuilder};
 use image_access::{BackingDisk, PreallocateMode, Storage, StorageError, WrappedFormat};
 use qcow2_alloc::{ImageError, ImageStorage, WriteKind};
 use qcow2_metadata::{GuestOffset, Header, HostCluster, MAX_L1_ENTRIES, RefBlock, RefTable};
@@ -38,6 +39,8 @@ pub struct Qcow2CreateBuilder<S: Storage> {
     preallocate: PreallocateMode,
     cluster_size: u64,
     refcount_width: u64,
+    backing_name: Option<String>,
+    backing_format: Option<String>,
 }
 
 /// The type of the disk below where there is none, as below a new image: it has no bytes, and never fails.
@@ -93,15 +96,22 @@ fn has_l1_entries(cluster_bits: u32, size: u64) -> bool
 
 impl<S: Storage> Qcow2CreateBuilder<S> {
     ghost use Rattle.std.specs.Prelude.{Err};
-    ghost use Rattle.qcow2_alloc.specs.declared.error.ImageError.TheVariants.{InvalidOption};
-    ghost use Rattle.qcow2_image.specs.Created.{StopsCreating, IsCreated, IsAllowed, HasLostNone, IsNewDisk, IsReasonNotToCreate, IsReasonNotToCreateOpen};
-    ghost use Rattle.std.specs.Prelude.{true, false};
-    ghost use Rattle.qcow2_image.specs.Image.{number_of, storage_of_image};
-    ghost use Rattle.qcow2_image.specs.Opened.{storage_after};
+    ghost use Rattle.qcow2_alloc.specs.declared.error.ImageError.TheVariants.{InvalidOption, Preallocation};
+    ghost use Rattle.qcow2_image.specs.Created.{HasLogarithms, IsAllowed, IsCreated, IsMadeNoImage, IsMadeOpen, IsMadeUnopened};
+    ghost use Rattle.qcow2_image.specs.Created.{IsReasonAgainst, IsReasonNotToCreate, StopsCreating, allocates_over};
+    ghost use Rattle.std.specs.Prelude.{None, Some, false, true};
 
     /// A builder for a storage: a disk of no bytes for which no place is taken, clusters of 65,536 bytes and counts of 16 bits.
     pub fn new(image: S) -> Qcow2CreateBuilder<S>
-        ensures { result ≡ record { image = image; size = 0; preallocate = PreallocateMode.None; cluster_size = 65536; refcount_width = 16 } }
+        ensures { result ≡ record {
+          image = image;
+          size = 0;
+          preallocate = PreallocateMode.None;
+          cluster_size = 65536;
+          refcount_width = 16;
+          backing_name = None;
+          backing_format = None;
+        } }
     {
         Qcow2CreateBuilder {
             image,
@@ -109,6 +119,8 @@ impl<S: Storage> Qcow2CreateBuilder<S> {
             preallocate: PreallocateMode::None,
             cluster_size: 65536,
             refcount_width: 16,
+            backing_name: None,
+            backing_format: None,
         }
     }
 
@@ -158,38 +170,87 @@ impl<S: Storage> Qcow2CreateBuilder<S> {
         self
     }
 
-    /// Writes the new image, and hands its storage back. Its disk shows zeros, and takes the place that was asked for. Refused
-    /// 5 (invalid option) for clusters or counts that images don't have, then 13 (limit) for a size past the longest L1 table, and then
-    /// nothing was written. Where the work meets them: 13, 14 (memory), 15 (storage). Of a storage that returns other bytes than were
-    /// written, refusals of `open_image` and `resize_grow` come too.
+    /// The names of the backing file and of its format, which the header gives. Names that don't fit into a cluster behind the header are
+    /// refused 5 (invalid option), and with them a mode that takes clusters 6 (preallocation).
+    pub fn backing(mut self, name: String, format: String) -> Qcow2CreateBuilder<S>
+        ensures { result ≡ record self { backing_name = Some name; backing_format = Some format } }
+    {
+        self.backing_name = Some(name);
+        self.backing_format = Some(format);
+        self
+    }
+
+    // Whether clusters are to be taken for a disk over a backing file.
+    fn allocates_over(&self) -> bool
+        ensures { result ≡ allocates_over self.now }
+    {
+        match self.preallocate {
+            PreallocateMode::None | PreallocateMode::Zero => false,
+            PreallocateMode::FormatAllocate
+            | PreallocateMode::FullAllocate
+            | PreallocateMode::WriteData => self.backing_name.is_some(),
+        }
+    }
+
+    // The binary logarithms of the cluster size and of the bits of a count. What no new image may have is refused.
+    fn check(&self) -> Result<(u32, u32), ImageError>
+        ensures fits { IfOk result (HasLogarithms self.now) }
+        ensures refused { ¬ IsAllowed self.now → result ≡ Err InvalidOption }
+        ensures over { IsAllowed self.now → IsTrue (allocates_over self.now) → result ≡ Err Preallocation }
+        ensures limit { IsAllowed self.now → allocates_over self.now ≡ false → longest_disk self.now.cluster_size < self.now.size
+            → result ≡ Err Limit }
+        ensures cause { IfErr result (IsReasonAgainst self.now) }
+    {
+        let Some(cluster_bits) = power_of_two(self.cluster_size) else {
+            return Err(ImageError::InvalidOption);
+        };
+        let Some(refcount_order) = power_of_two(self.refcount_width) else {
+            return Err(ImageError::InvalidOption);
+        };
+        let name = self.backing_name.as_deref();
+        let format = self.backing_format.as_deref();
+        if !Header::fits(cluster_bits, refcount_order, name, format, None) {
+            return Err(ImageError::InvalidOption);
+        }
+        if self.allocates_over() {
+            return Err(ImageError::Preallocation);
+        }
+        if !has_l1_entries(cluster_bits, self.size) {
+            return Err(ImageError::Limit);
+        }
+        Ok((cluster_bits, refcount_order))
+    }
+
+    /// Writes the new image, and hands its storage back. Its disk shows zeros, and takes the place that was asked for. Refused 5
+    /// (invalid option) for clusters or counts that images don't have, and for names that don't fit; then 6 (preallocation) for a mode
+    /// that takes clusters where `backing` was called; then 13 (limit) for a size past the longest L1 table. Nothing was written then.
+    /// Where the work meets them: 13, 14 (memory), 15 (storage). Of a storage that returns other bytes than were written, refusals of
+    /// `open_image` and `resize_grow` come too.
     pub fn create(self, alloc: Global) -> (S, Result<(), ImageError>)
         ensures stops { (S.view self.image).is_honest → StopsCreating self.preallocate self.size (S.view self.image) (S.view result.0) }
         ensures created { (S.view self.image).is_honest → IfOk result.1 (λ done. IsCreated self (S.view result.0)) }
         ensures refused { ¬ IsAllowed self → (result.1 ≡ Err InvalidOption) × (result.0 ≡ self.image) }
-        ensures limit { IsAllowed self → longest_disk self.cluster_size < self.size → (result.1 ≡ Err Limit) × (result.0 ≡ self.image) }
-        ensures cause { (S.view self.image).is_honest → IfErr result.1 (IsReasonNotToCreate S.view self result.0) }
+        ensures over { IsAllowed self → IsTrue (allocates_over self) → (result.1 ≡ Err Preallocation) × (result.0 ≡ self.image) }
+        ensures limit { IsAllowed self → allocates_over self ≡ false → longest_disk self.cluster_size < self.size
+            → (result.1 ≡ Err Limit) × (result.0 ≡ self.image) }
+        ensures cause { (S.view self.image).is_honest → IfErr result.1 (IsReasonNotToCreate S.view self) }
         ensures faults { FaultsTold (S.view self.image).faults (S.view result.0).faults result.1 }
     {
+        let checked = self.check();
         let Qcow2CreateBuilder {
             image,
             size,
             preallocate,
-            cluster_size,
-            refcount_width,
+            cluster_size: _,
+            refcount_width: _,
+            backing_name,
+            backing_format,
         } = self;
-        let Some(cluster_bits) = power_of_two(cluster_size) else {
-            return (image, Err(ImageError::InvalidOption));
+        let (bits, order) = match checked {
+            Ok(logarithms) => logarithms,
+            Err(refusal) => return (image, Err(refusal)),
         };
-        let Some(refcount_order) = power_of_two(refcount_width) else {
-            return (image, Err(ImageError::InvalidOption));
-        };
-        if !Header::fits(cluster_bits, refcount_order, None, None, None) {
-            return (image, Err(ImageError::InvalidOption));
-        }
-        if !has_l1_entries(cluster_bits, size) {
-            return (image, Err(ImageError::Limit));
-        }
-        let header = Header::new(cluster_bits, refcount_order, None, None, None);
+        let header = Header::new(bits, order, backing_name, backing_format, None);
         let mut storage = ImageStorage::new(image);
         if let Err(refusal) = write_new_image(alloc, &mut storage, &header) {
             return (storage.into_inner(), Err(refusal));
@@ -197,36 +258,36 @@ impl<S: Storage> Qcow2CreateBuilder<S> {
         grow_new_image::<S, NoBacking>(alloc, storage, size, preallocate)
     }
 
-    /// Writes the new image and opens it for writing, with no disk below it. A refusal hands the storage back. Images that are open
-    /// together have different numbers. Refused 5 (invalid option), 13 (limit), 14 (memory), 15 (storage), as `create` is.
-    pub fn create_open<F: WrappedFormat<S>>(
-        self,
-        alloc: Global,
-        number: u64,
-    ) -> Result<Qcow2<S, F>, (S, ImageError)>
-        ensures stops { (S.view self.image).is_honest
-            → StopsCreating self.preallocate self.size (S.view self.image) (S.view (storage_after result)) }
-        ensures created { (S.view self.image).is_honest → IfOk result (λ image. IsCreated self (S.view (storage_of_image image))) }
-        ensures refused { ¬ IsAllowed self → result ≡ Err (self.image, InvalidOption) }
-        ensures limit { IsAllowed self → longest_disk self.cluster_size < self.size → result ≡ Err (self.image, Limit) }
-        ensures opens { (S.view self.image).is_honest → IfOk result (λ image. IsOpened (abstract_of S.view F.backing image [])) }
-        ensures clusters { (S.view self.image).is_honest → IfOk result (λ image. HasLostNone (abstract_of S.view F.backing image [])) }
-        ensures new_disk { (S.view self.image).is_honest
-            → IfOk result (λ image. IsNewDisk self.preallocate self.size
-            (abstract_of S.view F.backing image []).known) }
-        ensures ok { IfOk result (λ image. (number_of image ≡ number) × (is_failed image ≡ false)
-            × (is_writable image ≡ true) × (is_some image.backing ≡ false)) }
-        ensures cause { (S.view self.image).is_honest → IfErr result (IsReasonNotToCreateOpen S.view self) }
-        ensures faults { OpeningCounts S.view (S.view self.image).faults result }
-        ensures header_cluster { IfOk result
-            (λ image. (S.view self.image).is_honest ⊎ NamesTablesBehind image.file.header.fields
-            → LiesBehindHeader image) }
+    /// Writes the new image, gives its storage to the closure, and opens for writing what the closure's builder says. Refused as `create`
+    /// is, and as that builder's `open` is: then the storage is handed back. It isn't where the closure refuses.
+    pub fn create_open<
+        F: WrappedFormat<S>,
+        C: FnOnce(S) -> Result<Qcow2OpenBuilder<S, F>, ImageError>,
+    >(self, alloc: Global, builder: C) -> Result<Qcow2<S, F>, (Option<S>, ImageError)>
+        requires { C.IsAlwaysCallable builder }
+        ensures opens { (S.view self.image).is_honest
+            → IfOk result (IsMadeOpen S.view F.backing self (λ storage answer. C.post builder storage answer)) }
+        ensures refused { ¬ IsAllowed self → result ≡ Err (Some self.image, InvalidOption) }
+        ensures over { IsAllowed self → IsTrue (allocates_over self) → result ≡ Err (Some self.image, Preallocation) }
+        ensures limit { IsAllowed self → allocates_over self ≡ false → longest_disk self.cluster_size < self.size
+            → result ≡ Err (Some self.image, Limit) }
+        ensures closed { IfErr result (λ refused. IsNone refused.0 → (storage : S) × C.post builder storage (Err refused.1)) }
+        ensures cause { (S.view self.image).is_honest → IfErr result (λ refused. IfSome refused.0 (λ storage.
+            IsMadeNoImage S.view self storage refused.1
+            ⊎ IsMadeUnopened S.view self (λ made answer. C.post builder made answer) storage refused.1)) }
     {
         let (storage, done) = self.create(alloc);
         if let Err(refusal) = done {
-            return Err((storage, refusal));
+            return Err((Some(storage), refusal));
         }
-        Qcow2::open_image(alloc, storage, true, number)
+        let opener = match builder(storage) {
+            Ok(opener) => opener,
+            Err(refusal) => return Err((None, refusal)),
+        };
+        match opener.write(true).open(alloc) {
+            Ok(image) => Ok(image),
+            Err((storage, refusal)) => Err((Some(storage), refusal)),
+        }
     }
 }
 
@@ -341,8 +402,7 @@ fn grow_new_image<S: Storage, F: WrappedFormat<S>>(
         → IsNewImage (header_at (byte_at (S.view (storage_of storage)).contents))
         (byte_at (S.view (storage_of storage)).contents)
         → (header_at (byte_at (S.view (storage_of storage)).contents)).autoclear ≡ 0
-        → IfErr result.1 (λ e. e ≡ Limit
-        → CantEnlarge S.view F.backing mode size (S.view (storage_of storage)).contents result.0) }
+        → IfLimit result.1 (CantEnlarge S.view F.backing size (S.view (storage_of storage)).contents) }
     ensures faults { ((below : F) → (F.backing below).faults ≡ 0)
         → FaultsTold (S.view (storage_of storage)).faults (S.view result.0).faults result.1 }
 {
@@ -370,7 +430,7 @@ fn grow_and_flush<S: Storage, F: WrappedFormat<S>>(
         → is_some image.old.backing ≡ false → (abstract_of S.view F.backing image.old []).is_sound
         → IsUnmapped S.view image.old → IfErr result IsFaultOrLimit }
     ensures limit { refuses_to_resize image.old ≡ None → (abstract_of S.view F.backing image.old []).is_sound
-        → IfErr result (λ e. e ≡ Limit → CantGrowBy S.view F.backing mode size image.old image.new) }
+        → IfLimit result (IsLimited S.view F.backing (boundary_in image.old size) image.old) }
     ensures faults { CountsImageFaults S.view F.backing image.old image.new result }
 {
     grow_by(image, size, mode)?;
@@ -390,7 +450,7 @@ fn grow_by<S: Storage, F: WrappedFormat<S>>(
         → is_some image.old.backing ≡ false → (abstract_of S.view F.backing image.old []).is_sound
         → IsUnmapped S.view image.old → IfErr result IsFaultOrLimit }
     ensures limit { refuses_to_resize image.old ≡ None → (abstract_of S.view F.backing image.old []).is_sound
-        → IfErr result (λ e. e ≡ Limit → CantGrowBy S.view F.backing mode size image.old image.new) }
+        → IfLimit result (IsLimited S.view F.backing (boundary_in image.old size) image.old) }
     ensures marks { MarksFailed image.old image.new result }
     ensures faults { CountsImageFaults S.view F.backing image.old image.new result }
 {

@@ -1,12 +1,14 @@
 //! Filling a new cluster with the bytes that the guest saw there before.
 ghost use Rattle.qcow2_image.specs.ImageSteps.{FailsUnlimited, ImageStep};
-ghost use Rattle.std.specs.Prelude.{◌≡◌, ◌/◌, ◌^◌, ◌<◌, ◌≤◌, ℕ, List, Option, Some, true, false, replicate, IfOk, IfErr, IfSome, ◌⊎◌};
+ghost use Rattle.std.specs.Prelude.{◌≡◌, ◌/◌, ◌^◌, ◌<◌, ◌≤◌, ℕ, List, Option, Some, true, false, replicate, IfOk};
+ghost use Rattle.std.specs.Prelude.{IfErr, IfSome, ◌⊎◌};
 ghost use Rattle.qcow2_alloc.specs.ImageError.{IsFault};
 ghost use Rattle.qcow2_image.specs.MetAlone.{HasUnannounced, IsCopiedCompressed, IsMetReading};
 ghost use Rattle.qcow2_laws.specs.CrashInvariant.{Pending};
 ghost use Rattle.qcow2_alloc.specs.ImageFile.{known_in};
 ghost use Rattle.qcow2_image.specs.CallParts.{WritesBytes};
-ghost use Rattle.qcow2_image.specs.UnseenSteps.{UnseenFillingStep, HoldsAll, IsCopied, IsFilled, IsKeptAlone, IsInHeldCluster, is_announced};
+ghost use Rattle.qcow2_image.specs.UnseenSteps.{UnseenFillingStep, HoldsAll, IsCopied, IsFilled, IsKeptAlone};
+ghost use Rattle.qcow2_image.specs.UnseenSteps.{IsInHeldCluster, is_announced};
 ghost use Rattle.qcow2_image.specs.CopyRange.{HasByte};
 ghost use Rattle.qcow2_image.specs.ImageInvariant.{ImageInvariant, new_data_by, over_all};
 ghost use Rattle.qcow2_image.specs.Found.{IsMappedAs};

@@ -1,7 +1,8 @@
 //! Clearing the whole clusters of a range: to zeros, or to what the disk below shows.
-ghost use Rattle.qcow2_image.specs.ListedClusters.{SomeGaveWay};
-ghost use Rattle.qcow2_image.specs.LackedPlaces.{IsLimitedByTable};
-ghost use Rattle.std.specs.Prelude.{ℕ, List, Option, ◌≡◌, ◌+◌, ◌-◌, ◌/◌, ◌%◌, ◌^◌, ◌<◌, ◌≤◌, ◌++◌, true, false, Some, None, Ok, Err, IfOk, IfErr, IfSome, OnOk, IsSome, IsTrue, MatchOption, if◌then◌else◌};
+ghost use Rattle.qcow2_image.specs.Limits.{IfLimit, IsLimited};
+ghost use Rattle.std.specs.Prelude.{ℕ, List, Option, ◌≡◌, ◌+◌, ◌-◌, ◌/◌, ◌%◌, ◌^◌, ◌<◌, ◌≤◌, ◌++◌, true, false, Some};
+ghost use Rattle.std.specs.Prelude.{None, Ok, Err, IfOk, IfErr, IfSome, OnOk, IsSome, IsTrue, MatchOption};
+ghost use Rattle.std.specs.Prelude.{if◌then◌else◌};
 ghost use Rattle.qcow2_image.specs.Found.{l1_index_of};
 ghost use Rattle.qcow2_metadata.specs.EntryTable.{entry_count};
 ghost use Rattle.qcow2_image.specs.MetAlone.{KeepsL1Place};
@@ -18,8 +19,12 @@ ghost use Rattle.qcow2_image.specs.PinnedTables.{HeedsPins};
 ghost use Rattle.qcow2_image.specs.Image.{ImageStays, is_writable, size_of};
 ghost use Rattle.qcow2_image.specs.ImageInvariant.{ImageInvariant, pending_in, listed_run};
 ghost use Rattle.qcow2_image.specs.Refusals.{IsMet, IsMetPreparing, passes as passes_size};
-ghost use Rattle.qcow2_image.specs.ClearingCalls.{AnsweredBeside, ClearsBetween, FreesBetween, LacksBetween, MeetsBetween, RefusedUnder, PartStep, ClearsStep, ClearsSoundly, FailsToClear};
-ghost use Rattle.qcow2_image.specs.Clearing.{ClearsEntry, ClearsTable, IsClearable, ReadsAll, ReadsDropped, cover_once_cleared, from_in, to_in, needs_zero_entries, refuses_to_clear, rounds_past};
+ghost use Rattle.qcow2_image.specs.ClearingCalls.{AnsweredBeside, ClearsBetween, FreesBetween, LacksBetween};
+ghost use Rattle.qcow2_image.specs.ClearingCalls.{MeetsBetween, RefusedUnder, PartStep, ClearsStep, ClearsSoundly};
+ghost use Rattle.qcow2_image.specs.ClearingCalls.{FailsToClear};
+ghost use Rattle.qcow2_image.specs.Clearing.{ClearsEntry, ClearsTable, IsClearable, ReadsAll, ReadsDropped};
+ghost use Rattle.qcow2_image.specs.Clearing.{cover_once_cleared, from_in, to_in, needs_zero_entries, refuses_to_clear};
+ghost use Rattle.qcow2_image.specs.Clearing.{rounds_past};
 ghost use Rattle.qcow2_image.specs.Faults.{IsNotOfStorage};
 
 use crate::Qcow2;
@@ -249,7 +254,8 @@ impl<S: Storage, F: WrappedFormat<S>> Qcow2<S, F> {
         Some((from, to.min(from.saturating_add(self.rest_of_table(from)))))
     }
 
-    // Clears the clusters between two offsets within one L2 table. Where that is refused, the clusters that are to be freed are freed, but after a fault and under another mapping.
+    // Clears the clusters between two offsets within one L2 table. Where that is refused, the clusters that are to be freed are
+    // freed, but after a fault and under another mapping.
     pub(crate) fn clear_between(
         &mut self,
         from: u64,
@@ -266,14 +272,11 @@ impl<S: Storage, F: WrappedFormat<S>> Qcow2<S, F> {
         ensures limit { (out : List (Option Prepared))
             → ImageInvariant S.view F.backing (pending_in S.view F.backing self.old out) self.old out
             → IsClearable self.old.file.header.fields how from to
-            → IfErr result (IsLimitedByTable S.view from self.old self.new) }
+            → IfLimit result (IsLimited S.view F.backing (from + 1) self.old) }
         ensures lacks { LacksBetween S.view F.backing how from to self.old self.new result }
         ensures clears { ClearsBetween S.view F.backing how from to self.old self.new result }
         ensures taken { RefusedUnder S.view F.backing from self.old result }
         ensures free { AnsweredBeside S.view F.backing from self.old result }
-        ensures gave { (out : List (Option Prepared))
-            → ImageInvariant S.view F.backing (pending_in S.view F.backing self.old out) self.old out
-            → OnOk result (SomeGaveWay self.old self.new) }
         ensures freed { FreesBetween S.view F.backing how from to self.old self.new result }
         ensures pinned { HasOwnTable self.old from → HeedsPins self.old from result }
     {
@@ -295,14 +298,11 @@ impl<S: Storage, F: WrappedFormat<S>> Qcow2<S, F> {
         ensures limit { (out : List (Option Prepared))
             → ImageInvariant S.view F.backing (pending_in S.view F.backing self.old out) self.old out
             → IsClearable self.old.file.header.fields how from to
-            → IfErr result (IsLimitedByTable S.view from self.old self.new) }
+            → IfLimit result (IsLimited S.view F.backing (from + 1) self.old) }
         ensures lacks { LacksBetween S.view F.backing how from to self.old self.new result }
         ensures clears { ClearsBetween S.view F.backing how from to self.old self.new result }
         ensures taken { RefusedUnder S.view F.backing from self.old result }
         ensures free { AnsweredBeside S.view F.backing from self.old result }
-        ensures gave { (out : List (Option Prepared))
-            → ImageInvariant S.view F.backing (pending_in S.view F.backing self.old out) self.old out
-            → OnOk result (SomeGaveWay self.old self.new) }
         ensures pinned { HasOwnTable self.old from → HeedsPins self.old from result }
     {
         let table = self.table_for(from)?;

@@ -1,11 +1,11 @@
 //! The first cluster of a prepared range.
+ghost use Rattle.qcow2_image.specs.Limits.{IfLimit, IsLimited};
 ghost use Rattle.qcow2_image.specs.SoundParts.{BeginsSoundly};
 ghost use Rattle.qcow2_image.specs.ImageSteps.{FailsUnlimited, ImageFails, ImageStep, ImageStepWhere};
-ghost use Rattle.qcow2_alloc.specs.LowestRuns.{StaysUsed};
-ghost use Rattle.qcow2_image.specs.LackedPlaces.{IsLimitedByCluster, IsLimitedByFirst, first_of_range};
 ghost use Rattle.qcow2_metadata.specs.TableBytes.{HasPlace};
 ghost use Rattle.qcow2_image.specs.PreparedPlaces.{MarkedIsBehind};
-ghost use Rattle.std.specs.Prelude.{List, Option, ◌≡◌, ◌+◌, ◌-◌, ◌/◌, ◌%◌, ◌^◌, ◌<◌, ◌≤◌, true, false, Some, [], ◌∷◌, vec_capacity, IfOk, IfErr, IsSome, IsTrue, OnOk};
+ghost use Rattle.std.specs.Prelude.{List, Option, ◌≡◌, ◌+◌, ◌-◌, ◌/◌, ◌%◌, ◌^◌, ◌<◌, ◌≤◌, true, false, Some, [], ◌∷◌};
+ghost use Rattle.std.specs.Prelude.{vec_capacity, IfOk, IfErr, IsSome, IsTrue, OnOk};
 ghost use Rattle.qcow2_image.specs.Backings.{HasPrepared};
 ghost use Rattle.qcow2_alloc.specs.ImageError.{IsFault};
 ghost use Rattle.qcow2_image.specs.MetAlone.{IsCopiedCompressed, IsMetAlone, IsMetLooking, IsMetTaking};
@@ -19,16 +19,16 @@ ghost use Rattle.qcow2_alloc.specs.MetadataCaches.{l2_at};
 ghost use Rattle.qcow2_alloc.specs.ImageFile.{known_in, KeepsHeader};
 ghost use Rattle.qcow2_alloc.specs.declared.error.ImageError.TheVariants.{TablePrepared};
 ghost use Rattle.qcow2_image.specs.Image.{ImageStays, is_writable, number_of};
-ghost use Rattle.qcow2_image.specs.ListedClusters.{KeepsList, ListsFormer};
-ghost use Rattle.qcow2_image.specs.LowestPlaces.{BeginsLowest, IsUsedBelow};
+ghost use Rattle.qcow2_image.specs.ListedClusters.{KeepsList};
 ghost use Rattle.qcow2_image.specs.Prepared.{image_of, length_of, offset_of};
-ghost use Rattle.qcow2_image.specs.Refusals.{IsMet, IsMetPreparing, IsUnlimited, IsFaultOrLimit};
+ghost use Rattle.qcow2_image.specs.Refusals.{IsMet, IsMetPreparing, IsFaultOrLimit};
 ghost use Rattle.qcow2_image.specs.declared.prepared.Prepared.{Prepared};
 ghost use Rattle.qcow2_image.specs.declared.mapping.Place.TheVariants.{Image};
 ghost use Rattle.qcow2_image.specs.CallParts.{Readies};
 ghost use Rattle.qcow2_image.specs.ImageInvariant.{ImageInvariant, pending_in};
 ghost use Rattle.qcow2_image.specs.Ranges.{BeginsInKept, HasRoomForRange, IsFirst};
-ghost use Rattle.qcow2_image.specs.UnseenSteps.{Gains, HoldsAll, HoldsTable, ListGrows, Pins, SameHeld, TakesData, UnseenStep};
+ghost use Rattle.qcow2_image.specs.UnseenSteps.{Gains, HoldsAll, HoldsTable, ListGrows, Pins, SameHeld, TakesData};
+ghost use Rattle.qcow2_image.specs.UnseenSteps.{UnseenStep};
 
 use crate::mappings::{copied_place, kept_place};
 use crate::prepared::Share;
@@ -72,7 +72,7 @@ impl<S: Storage, F: WrappedFormat<S>> Qcow2<S, F> {
         ensures limit { (out : List (Option Prepared))
             → ImageInvariant S.view F.backing (pending_in S.view F.backing self.old out) self.old out
             → HoldsTable S.view F.backing self.old offset table
-            → IfErr result (IsLimitedByFirst S.view (first_of_range S.view offset self.old) self.old self.new) }
+            → IfLimit result (IsLimited S.view F.backing 1 self.old) }
         ensures taken { IfErr result (λ e. e ≡ TablePrepared → 0 < l2_pins self.old.file.caches table) }
         ensures unpinned { OnOk result (l2_pins self.old.file.caches table ≡ 0) }
         ensures own { IfOk result (λ p. image_of p ≡ number_of self.old) }
@@ -87,14 +87,6 @@ impl<S: Storage, F: WrappedFormat<S>> Qcow2<S, F> {
             → IfOk result (BeginsInKept self.old.file.header.fields offset
             (cover self.old.file.header.fields (known_in S.view self.old.file)
             (offset / cluster_size self.old.file.header.fields))) }
-        ensures former { OnOk result (ListsFormer self.old self.new) }
-        ensures lowest { (out : List (Option Prepared))
-            → ImageInvariant S.view F.backing (pending_in S.view F.backing self.old out) self.old out
-            → IfOk result (BeginsLowest S.view self.new) }
-        ensures uses { (out : List (Option Prepared))
-            → ImageInvariant S.view F.backing (pending_in S.view F.backing self.old out) self.old out
-            → HoldsTable S.view F.backing self.old offset table
-            → OnOk result (StaysUsed S.view self.old.file self.new.file) }
     {
         if self.file.caches.l2_is_pinned(table) {
             return Err(ImageError::TablePrepared);
@@ -136,7 +128,7 @@ impl<S: Storage, F: WrappedFormat<S>> Qcow2<S, F> {
         ensures limit { (out : List (Option Prepared))
             → ImageInvariant S.view F.backing (pending_in S.view F.backing self.old out) self.old out
             → HoldsTable S.view F.backing self.old offset table
-            → IfErr result (IsLimitedByFirst S.view old.now self.old self.new) }
+            → IfLimit result (IsLimited S.view F.backing 1 self.old) }
         ensures own { IfOk result (λ p. image_of p ≡ number_of self.old) }
         ensures first { IfOk result (IsFirst self.old.file.header.fields offset table) }
         ensures behind { IfOk result (λ p. cluster_size self.old.file.header.fields ≤ offset_of p) }
@@ -149,16 +141,6 @@ impl<S: Storage, F: WrappedFormat<S>> Qcow2<S, F> {
             (offset / cluster_size self.old.file.header.fields) ≡ old.now
             → Readies S.view F.backing self.old self.new out offset length overwrite result }
         ensures header { KeepsHeader self.old.file.header self.new.file.header }
-        ensures former { OnOk result (ListsFormer self.old self.new) }
-        ensures lowest { (out : List (Option Prepared))
-            → ImageInvariant S.view F.backing (pending_in S.view F.backing self.old out) self.old out
-            → IfOk result (BeginsLowest S.view self.new) }
-        ensures uses { (out : List (Option Prepared))
-            → ImageInvariant S.view F.backing (pending_in S.view F.backing self.old out) self.old out
-            → HoldsTable S.view F.backing self.old offset table → l2_pins self.old.file.caches table ≡ 0
-            → cover self.old.file.header.fields (known_in S.view self.old.file)
-            (offset / cluster_size self.old.file.header.fields) ≡ old.now
-            → OnOk result (StaysUsed S.view self.old.file self.new.file) }
     {
         match kept_place(old) {
             Some(host) => self.prepare_kept(table, offset, length, overwrite, host, room),
@@ -200,13 +182,6 @@ impl<S: Storage, F: WrappedFormat<S>> Qcow2<S, F> {
             → Readies S.view F.backing self.old self.new out offset length overwrite result }
         ensures header { self.new.file.header ≡ self.old.file.header }
         ensures list { KeepsList self.old self.new }
-        ensures lowest { IfOk result (BeginsLowest S.view self.new) }
-        ensures uses { IsTrue (is_writable self.old) → (out : List (Option Prepared))
-            → ImageInvariant S.view F.backing (pending_in S.view F.backing self.old out) self.old out
-            → HoldsTable S.view F.backing self.old offset table → l2_pins self.old.file.caches table ≡ 0
-            → cover self.old.file.header.fields (known_in S.view self.old.file)
-            (offset / cluster_size self.old.file.header.fields) ≡ L2Mapping.Zero (Some (host, true))
-            → OnOk result (StaysUsed S.view self.old.file self.new.file) }
     {
         self.fill_kept(host, offset, length, overwrite)?;
         Ok(self.prepare_at(table, offset, host, Share::Kept, room))
@@ -242,13 +217,6 @@ impl<S: Storage, F: WrappedFormat<S>> Qcow2<S, F> {
         ensures behind { IfOk result (λ p. cluster_size self.old.file.header.fields ≤ offset_of p) }
         ensures room { IfOk result (λ p. vec_capacity p.shares ≡ vec_capacity room) }
         ensures header { KeepsHeader self.old.file.header self.new.file.header }
-        ensures former { OnOk result (ListsFormer self.old self.new) }
-        ensures lowest { (out : List (Option Prepared))
-            → ImageInvariant S.view F.backing (pending_in S.view F.backing self.old out) self.old out
-            → IfOk result (BeginsLowest S.view self.new) }
-        ensures uses { (out : List (Option Prepared))
-            → ImageInvariant S.view F.backing (pending_in S.view F.backing self.old out) self.old out
-            → OnOk result (StaysUsed S.view self.old.file self.new.file) }
     {
         let old_data = self.named_by(old)?;
         let pending = self.new_cluster(offset, length, overwrite, old)?;
@@ -275,8 +243,6 @@ impl<S: Storage, F: WrappedFormat<S>> Qcow2<S, F> {
         ensures header { self.new.file.header ≡ self.old.file.header }
         ensures met { (p : Pending) (out : List (Option Prepared)) → ImageInvariant S.view F.backing p self.old out
             → HasPlace self.old.file.header.fields.cluster_bits table → IfErr result (IsMetLooking (HasPrepared out)) }
-        ensures limited { (p : Pending) (out : List (Option Prepared)) → ImageInvariant S.view F.backing p self.old out
-            → HasPlace self.old.file.header.fields.cluster_bits table → IfErr result IsUnlimited }
         ensures allocator { self.new.allocator ≡ self.old.allocator }
         ensures table { self.new.l1_table ≡ self.old.l1_table }
         ensures list { self.new.file.free_list ≡ self.old.file.free_list }
@@ -332,7 +298,8 @@ impl<S: Storage, F: WrappedFormat<S>> Qcow2<S, F> {
         }
     }
 
-    // Takes a cluster for the one at an offset, of which the old mapping is known, and fills it with the old bytes where they aren't announced as overwritten.
+    // Takes a cluster for the one at an offset, of which the old mapping is known, and fills it with the old bytes where they
+    // aren't announced as overwritten.
     fn new_cluster(
         &mut self,
         offset: u64,
@@ -352,15 +319,10 @@ impl<S: Storage, F: WrappedFormat<S>> Qcow2<S, F> {
             → IfErr result (IsMetAlone (IsCopiedCompressed self.old.file.header.fields old.now offset length overwrite)
             ⊥) }
         ensures limit { (p : Pending) (out : List (Option Prepared)) → ImageInvariant S.view F.backing p self.old out
-            → IfErr result (IsLimitedByCluster S.view self.old self.new) }
+            → HoldsAll S.view F.backing p out → IfLimit result (IsLimited S.view F.backing 1 self.old) }
         ensures gains { (p : Pending) (out : List (Option Prepared)) → ImageInvariant S.view F.backing p self.old out
             → HoldsAll S.view F.backing p out
             → Gains S.view F.backing p self.old self.new out offset length overwrite old.now result }
-        ensures former { OnOk result (ListsFormer self.old self.new) }
-        ensures lowest { (p : Pending) (out : List (Option Prepared)) → ImageInvariant S.view F.backing p self.old out
-            → HoldsAll S.view F.backing p out → IfOk result (λ run. IsUsedBelow S.view self.new run.first_cluster) }
-        ensures uses { (p : Pending) (out : List (Option Prepared)) → ImageInvariant S.view F.backing p self.old out
-            → HoldsAll S.view F.backing p out → OnOk result (StaysUsed S.view self.old.file self.new.file) }
     {
         let pending = self.take_data()?;
         match self.fill_cluster(pending.cluster(), offset, length, overwrite, old) {
@@ -384,14 +346,9 @@ impl<S: Storage, F: WrappedFormat<S>> Qcow2<S, F> {
         ensures fault { (p : Pending) (out : List (Option Prepared)) → ImageInvariant S.view F.backing p self.old out
             → IfErr result IsFaultOrLimit }
         ensures limit { (p : Pending) (out : List (Option Prepared)) → ImageInvariant S.view F.backing p self.old out
-            → IfErr result (IsLimitedByCluster S.view self.old self.new) }
+            → HoldsAll S.view F.backing p out → IfLimit result (IsLimited S.view F.backing 1 self.old) }
         ensures takes { (p : Pending) (out : List (Option Prepared)) → ImageInvariant S.view F.backing p self.old out
             → HoldsAll S.view F.backing p out → TakesData S.view F.backing p self.old self.new out result }
-        ensures former { ListsFormer self.old self.new }
-        ensures lowest { (p : Pending) (out : List (Option Prepared)) → ImageInvariant S.view F.backing p self.old out
-            → IfOk result (λ run. IsUsedBelow S.view self.new run.first_cluster) }
-        ensures uses { (p : Pending) (out : List (Option Prepared)) → ImageInvariant S.view F.backing p self.old out
-            → OnOk result (StaysUsed S.view self.old.file self.new.file) }
     {
         let Some(allocator) = &mut self.allocator else {
             unreachable!();

@@ -1,7 +1,7 @@
 ghost use Rattle.qcow2_image.specs.ImageSteps.{CallStep, ImageFails, ImageStep};
 ghost use Rattle.qcow2_alloc.specs.BehindHeader.{AreBehindHeader};
-ghost use Rattle.qcow2_image.specs.LackedPlaces.{FreesJustListed};
-ghost use Rattle.qcow2_image.specs.BehindHeader.{IsL1TableBehind, LiesBehindHeader, NamesTablesBehind, StaysBehindHeader, TablesBehindHeader};
+ghost use Rattle.qcow2_image.specs.BehindHeader.{IsL1TableBehind, NamesTablesBehind};
+ghost use Rattle.qcow2_image.specs.BehindHeader.{StaysBehindHeader, TablesBehindHeader};
 ghost use Rattle.qcow2_alloc.specs.SparedHeaders.{StandsBehindHeader};
 ghost use Rattle.std.specs.Prelude.{◌≡◌, ◌<◌};
 ghost use Rattle.qcow2_image.specs.Opened.{needs_missing, needs_another as needs_another_of};
@@ -40,11 +40,11 @@ struct Tables {
     allocator: Option<Allocator>,
 }
 
-// Whether the data stand in another file, or the header names one.
+// Whether the data stand in another file, or a backing file is named.
 fn needs_another(header: &Header) -> bool
     ensures { result ≡ needs_another_of header.now }
 {
-    header.has_data_file() || header.data_file_name().is_some() || header.backing_name().is_some()
+    header.has_data_file() || header.backing_name().is_some()
 }
 
 /// Which of the files that an image may need are missing as it is opened. One that needs such a file is refused then.
@@ -54,7 +54,7 @@ pub enum Missing {
     Nothing,
     /// The file that the data stand in, where that is another one.
     DataFile,
-    /// Any file that its header names or requires.
+    /// That file, and the backing file that its header names.
     OtherFiles,
 }
 
@@ -77,8 +77,7 @@ impl<S: Storage, F: WrappedFormat<S>> Qcow2<S, F> {
     ghost use Rattle.qcow2_alloc.specs.declared.error.ImageError.TheVariants.{Failed};
     ghost use Rattle.qcow2_alloc.specs.Faults.{FaultsTold};
     ghost use Rattle.qcow2_alloc.specs.LoadedTables.{IsReasonAgainstL1Table, IsReasonAgainstReftable, L1TableReads, ReftableReads};
-    ghost use Rattle.qcow2_image.specs.CountedOpening.{OpeningCounts};
-    ghost use Rattle.qcow2_image.specs.Readable.{IsReasonAgainstTables, OpensRightly, NeededTablesRead};
+    ghost use Rattle.qcow2_image.specs.Readable.{IsNewlyOpened, IsReasonAgainstTables, NeededTablesRead, OpeningStep};
     ghost use Rattle.qcow2_image.specs.Faults.{CountsImageFaults, SameFaults};
     ghost use Rattle.qcow2_image.specs.Image.{storage_of_image, HasNothingToFree, ImageStays, IsBegun, KeepsRest, IsSameImage, is_failed, is_writable, is_external, has_noted_change, leaked_by, leaked_in, number_of, size_of, KeepsWholeHeader};
     ghost use Rattle.qcow2_disk.specs.AbstractImages.{guest_of};
@@ -92,7 +91,6 @@ impl<S: Storage, F: WrappedFormat<S>> Qcow2<S, F> {
     ghost use Rattle.qcow2_image.specs.UnseenSteps.{UnseenStep, FreesListed};
     ghost use Rattle.qcow2_alloc.specs.FreeList.{with_listed};
     ghost use Rattle.qcow2_alloc.specs.ImageStorage.{storage_of};
-    ghost use Rattle.qcow2_image.specs.ListedClusters.{KeepsReftable};
     ghost use Rattle.qcow2_image.specs.Refusals.{unusable, IsMet, MarksFailed, MarksRefused};
     ghost use Rattle.image_access.specs.Moments.{ContentsStay, EachMomentSince, IsLeftBy};
     ghost use Rattle.qcow2_metadata.specs.Bytes.{byte_at};
@@ -101,9 +99,8 @@ impl<S: Storage, F: WrappedFormat<S>> Qcow2<S, F> {
     ghost use Rattle.qcow2_alloc.specs.KeptMarks.{KeepsFileNotes};
     ghost use Rattle.qcow2_image.specs.Created.{begins_image};
     ghost use Rattle.qcow2_image.specs.Growing.{SameFormat, WritesBack};
-    ghost use Rattle.qcow2_image.specs.Unwritten.{ContentsStayThroughout, HoldsNothingModified, ReadsQuietly};
-    ghost use Rattle.qcow2_image.specs.PinnedTables.{HasPinnedTable};
-    ghost use Rattle.qcow2_image.specs.Opened.{IsFresh, StaysFresh, IsLoaded, IsKeptSince, SameNames, HasNamesIn, NeedsAnother, NeedsDataFile, NeedsMissing, IsRefusedAlone, LeavesFile, LeavesStorage, storage_after, Opens};
+    ghost use Rattle.qcow2_image.specs.Unwritten.{ReadsQuietly};
+    ghost use Rattle.qcow2_image.specs.Opened.{IsFresh, StaysFresh, IsLoaded, IsKeptSince, SameNames, LeavesFile, Opens};
     ghost use Rattle.std.specs.Option.{is_some};
 
     /// Whether the first bytes of a storage are those of an image of version 2 or 3. Refused 14 (memory), 15 (storage), as the storage
@@ -133,20 +130,10 @@ impl<S: Storage, F: WrappedFormat<S>> Qcow2<S, F> {
         writable: bool,
         number: u64,
     ) -> Result<Qcow2<S, F>, (S, ImageError)>
+        ensures step { OpeningStep S.view (S.view metadata) writable Missing.Nothing result }
+        ensures image { IfOk result (IsNewlyOpened (S.view metadata) writable number) }
         ensures opens { IfOk result (Opens S.view F.backing (S.view metadata)) }
-        ensures since { (S.view metadata).is_honest → IsConsistent (byte_at (S.view metadata).contents)
-            → IsKeptSince (S.view metadata) (S.view (storage_after result)) }
-        ensures format { (S.view metadata).is_honest
-            → IfOk result (λ image. SameFormat (header (byte_at (S.view metadata).contents)) image.file.header.fields) }
-        ensures ok { IfOk result (λ image. (number_of image ≡ number) × (is_failed image ≡ false) × (is_writable image ≡ writable)) }
-        ensures faults { OpeningCounts S.view (S.view metadata).faults result }
-        ensures unpinned { IfOk result (λ image. ¬ HasPinnedTable image) }
         ensures below { IfOk result (λ image. is_some image.backing ≡ false) }
-        ensures names { (S.view metadata).is_honest → IfOk result (λ image. HasNamesIn image.file.header (S.view metadata).contents) }
-        ensures storage { LeavesStorage S.view writable (S.view metadata) result }
-        ensures cause { OpensRightly (S.view metadata) writable Missing.Nothing result }
-        ensures unmodified { IfOk result HoldsNothingModified }
-        ensures header_cluster { IfOk result (λ image. NamesTablesBehind image.file.header.fields → LiesBehindHeader image) }
     {
         Self::open(
             alloc,
@@ -157,8 +144,8 @@ impl<S: Storage, F: WrappedFormat<S>> Qcow2<S, F> {
         )
     }
 
-    /// Opens an image that needs no other file. One whose data stand in another, or whose header names one, is refused 12 (dependency)
-    /// and its bytes stay.
+    /// Opens an image that needs no other file. One whose data stand in another, or that names a backing file, is refused
+    /// 12 (dependency) and its bytes stay.
     /// Else it is refused as `open_image` is: for the header 19 (metadata), 13 (limit), 4 (unaligned table), before 12. Behind that come
     /// 19 for its tables, and 13 for the reftable. Where the work meets them: 14 (memory), 15 (storage).
     pub fn open_alone(
@@ -167,22 +154,10 @@ impl<S: Storage, F: WrappedFormat<S>> Qcow2<S, F> {
         writable: bool,
         number: u64,
     ) -> Result<Qcow2<S, F>, (S, ImageError)>
+        ensures step { OpeningStep S.view (S.view metadata) writable Missing.OtherFiles result }
+        ensures image { IfOk result (IsNewlyOpened (S.view metadata) writable number) }
         ensures opens { IfOk result (Opens S.view F.backing (S.view metadata)) }
-        ensures since { (S.view metadata).is_honest → IsConsistent (byte_at (S.view metadata).contents)
-            → IsKeptSince (S.view metadata) (S.view (storage_after result)) }
-        ensures format { (S.view metadata).is_honest
-            → IfOk result (λ image. SameFormat (header (byte_at (S.view metadata).contents)) image.file.header.fields) }
-        ensures ok { IfOk result (λ image. (number_of image ≡ number) × (is_failed image ≡ false) × (is_writable image ≡ writable)) }
-        ensures faults { OpeningCounts S.view (S.view metadata).faults result }
-        ensures unpinned { IfOk result (λ image. ¬ HasPinnedTable image) }
         ensures below { IfOk result (λ image. is_some image.backing ≡ false) }
-        ensures names { (S.view metadata).is_honest → IfOk result (λ image. HasNamesIn image.file.header (S.view metadata).contents) }
-        ensures storage { LeavesStorage S.view writable (S.view metadata) result }
-        ensures another { (S.view metadata).is_honest → NeedsAnother (S.view metadata).contents → IsRefusedAlone result
-            × ContentsStayThroughout (S.view metadata) (S.view (storage_after result)) }
-        ensures cause { OpensRightly (S.view metadata) writable Missing.OtherFiles result }
-        ensures unmodified { IfOk result HoldsNothingModified }
-        ensures header_cluster { IfOk result (λ image. NamesTablesBehind image.file.header.fields → LiesBehindHeader image) }
     {
         Self::open(
             alloc,
@@ -190,42 +165,6 @@ impl<S: Storage, F: WrappedFormat<S>> Qcow2<S, F> {
             writable,
             number,
             Missing::OtherFiles,
-        )
-    }
-
-    /// Opens an image whose data stand in its own file. One whose data stand in another is refused 12 (dependency) and its bytes stay. A
-    /// backing file that its header names isn't asked for.
-    /// Else it is refused as `open_image` is: for the header 19 (metadata), 13 (limit), 4 (unaligned table), before 12. Behind that come
-    /// 19 for its tables, and 13 for the reftable. Where the work meets them: 14 (memory), 15 (storage).
-    pub fn open_with_own_data(
-        alloc: Global,
-        metadata: S,
-        writable: bool,
-        number: u64,
-    ) -> Result<Qcow2<S, F>, (S, ImageError)>
-        ensures opens { IfOk result (Opens S.view F.backing (S.view metadata)) }
-        ensures since { (S.view metadata).is_honest → IsConsistent (byte_at (S.view metadata).contents)
-            → IsKeptSince (S.view metadata) (S.view (storage_after result)) }
-        ensures format { (S.view metadata).is_honest
-            → IfOk result (λ image. SameFormat (header (byte_at (S.view metadata).contents)) image.file.header.fields) }
-        ensures ok { IfOk result (λ image. (number_of image ≡ number) × (is_failed image ≡ false) × (is_writable image ≡ writable)) }
-        ensures faults { OpeningCounts S.view (S.view metadata).faults result }
-        ensures unpinned { IfOk result (λ image. ¬ HasPinnedTable image) }
-        ensures below { IfOk result (λ image. is_some image.backing ≡ false) }
-        ensures names { (S.view metadata).is_honest → IfOk result (λ image. HasNamesIn image.file.header (S.view metadata).contents) }
-        ensures storage { LeavesStorage S.view writable (S.view metadata) result }
-        ensures another { (S.view metadata).is_honest → NeedsDataFile (S.view metadata).contents → IsRefusedAlone result
-            × ContentsStayThroughout (S.view metadata) (S.view (storage_after result)) }
-        ensures cause { OpensRightly (S.view metadata) writable Missing.DataFile result }
-        ensures unmodified { IfOk result HoldsNothingModified }
-        ensures header_cluster { IfOk result (λ image. NamesTablesBehind image.file.header.fields → LiesBehindHeader image) }
-    {
-        Self::open(
-            alloc,
-            ImageStorage::new(metadata),
-            writable,
-            number,
-            Missing::DataFile,
         )
     }
 
@@ -237,28 +176,11 @@ impl<S: Storage, F: WrappedFormat<S>> Qcow2<S, F> {
         number: u64,
         missing: Missing,
     ) -> Result<Qcow2<S, F>, (S, ImageError)>
+        ensures step { OpeningStep S.view (S.view (storage_of storage)) writable missing result }
+        ensures image { IfOk result (IsNewlyOpened (S.view (storage_of storage)) writable number) }
         ensures opens { IfOk result (Opens S.view F.backing (S.view (storage_of storage))) }
-        ensures since { (S.view (storage_of storage)).is_honest
-            → IsConsistent (byte_at (S.view (storage_of storage)).contents)
-            → IsKeptSince (S.view (storage_of storage)) (S.view (storage_after result)) }
-        ensures format { (S.view (storage_of storage)).is_honest
-            → IfOk result (λ image. SameFormat
-            (header (byte_at (S.view (storage_of storage)).contents)) image.file.header.fields) }
-        ensures list { (S.view (storage_of storage)).is_honest
-            → IsConsistent (byte_at (S.view (storage_of storage)).contents) → IfOk result HasNothingToFree }
-        ensures ok { IfOk result (λ image. (number_of image ≡ number) × (is_failed image ≡ false) × (is_writable image ≡ writable)) }
-        ensures faults { OpeningCounts S.view (S.view (storage_of storage)).faults result }
-        ensures unpinned { IfOk result (λ image. ¬ HasPinnedTable image) }
         ensures below { IfOk result (λ image. is_some image.backing ≡ false) }
-        ensures names { (S.view (storage_of storage)).is_honest
-            → IfOk result (λ image. HasNamesIn image.file.header (S.view (storage_of storage)).contents) }
-        ensures storage { LeavesStorage S.view writable (S.view (storage_of storage)) result }
-        ensures another { (S.view (storage_of storage)).is_honest
-            → NeedsMissing missing (S.view (storage_of storage)).contents → IsRefusedAlone result
-            × ContentsStayThroughout (S.view (storage_of storage)) (S.view (storage_after result)) }
-        ensures cause { OpensRightly (S.view (storage_of storage)) writable missing result }
-        ensures unmodified { IfOk result HoldsNothingModified }
-        ensures header_cluster { IfOk result (λ image. NamesTablesBehind image.file.header.fields → LiesBehindHeader image) }
+        ensures list { (S.view (storage_of storage)).is_honest → IsConsistent (byte_at (S.view (storage_of storage)).contents) → IfOk result HasNothingToFree }
     {
         let header = match Header::load(alloc, &mut storage, writable) {
             Ok(header) => header,
@@ -544,11 +466,7 @@ impl<S: Storage, F: WrappedFormat<S>> Qcow2<S, F> {
         ensures step { ImageStep S.view self.old self.new }
         ensures keeps_rest { KeepsRest self.old self.new }
         ensures table { self.new.l1_table ≡ self.old.l1_table }
-        ensures former { KeepsReftable self.old self.new }
         ensures cause { IfErr result IsOfTables }
-        ensures uses { (p : Pending) (out : List (Option Prepared))
-            → ImageInvariant S.view F.backing (with_listed p self.old.file.free_list) self.old out
-            → OnOk result (FreesJustListed S.view self.old self.new) }
         ensures emptied { IsTrue (is_writable self.old) → OnOk result (HasNothingToFree self.new) }
         ensures frees { (p : Pending) (out : List (Option Prepared))
             → ImageInvariant S.view F.backing (with_listed p self.old.file.free_list) self.old out

@@ -1,9 +1,13 @@
 //! Reading and writing what is mapped.
-ghost use Rattle.qcow2_image.specs.ImageSteps.{CallStep, FailsUnlimited, ImageFails, ImageStep, ReadingCall, ReadingStep};
-ghost use Rattle.std.specs.Prelude.{◌≡◌, ◌≢◌, ◌+◌, ◌^◌, ◌<◌, ◌≤◌, ℕ, List, [], Option, length, slice_get, ◌⊎◌, IfOk, IfErr, IfSome, OnOk, IsErr, IsSome, IsTrue, MatchOption, Ok, Err, Some, None, is_some, true, false};
+ghost use Rattle.qcow2_image.specs.ImageSteps.{CallStep, FailsUnlimited, ImageFails, ImageStep, ReadingCall};
+ghost use Rattle.qcow2_image.specs.ImageSteps.{ReadingStep};
+ghost use Rattle.std.specs.Prelude.{◌≡◌, ◌≢◌, ◌+◌, ◌^◌, ◌<◌, ◌≤◌, ℕ, List, [], Option, length, slice_get, ◌⊎◌, IfOk};
+ghost use Rattle.std.specs.Prelude.{IfErr, IfSome, OnOk, IsErr, IsSome, IsTrue, MatchOption, Ok, Err, Some, None};
+ghost use Rattle.std.specs.Prelude.{is_some, true, false};
 ghost use Rattle.qcow2_metadata.specs.Header.{cluster_size};
 ghost use Rattle.qcow2_alloc.specs.ImageError.{IsFault};
-ghost use Rattle.qcow2_image.specs.MetAlone.{IsCacheHeld, IsMetLookingAgain, IsMetLooking, IsMetMapped, IsMetPutting, IsMetReading, IsMetSpecial};
+ghost use Rattle.qcow2_image.specs.MetAlone.{IsCacheHeld, IsMetLookingAgain, IsMetLooking, IsMetMapped, IsMetPutting};
+ghost use Rattle.qcow2_image.specs.MetAlone.{IsMetReading, IsMetSpecial};
 ghost use Rattle.qcow2_disk.specs.Calls.{Shows};
 ghost use Rattle.qcow2_laws.specs.CrashInvariant.{Pending};
 ghost use Rattle.qcow2_image.specs.Calls.{AnswersCall, Puts};
@@ -13,7 +17,8 @@ ghost use Rattle.qcow2_image.specs.CallParts.{PutsPart, WritesBytes};
 ghost use Rattle.qcow2_image.specs.HeldMappings.{HeedsHeld, KeepsHeld};
 ghost use Rattle.qcow2_image.specs.ListedClusters.{ListStays};
 ghost use Rattle.qcow2_image.specs.UnseenSteps.{UnseenStep};
-ghost use Rattle.qcow2_image.specs.ImageInvariant.{IsHonestBacking, ImageInvariant, pending_in, backing_bytes, disk_of, abstract_of};
+ghost use Rattle.qcow2_image.specs.ImageInvariant.{IsHonestBacking, ImageInvariant, pending_in, backing_bytes, disk_of};
+ghost use Rattle.qcow2_image.specs.ImageInvariant.{abstract_of};
 ghost use Rattle.qcow2_image.specs.declared.mapping.MappingKind.TheVariants.{Eof, Raw};
 ghost use Rattle.qcow2_image.specs.declared.mapping.Place.TheVariants.{Image};
 ghost use Rattle.qcow2_image.specs.declared.prepared.Prepared.{Prepared};
@@ -21,7 +26,8 @@ ghost use Rattle.qcow2_image.specs.Image.{is_writable, size_of, KeepsWholeHeader
 ghost use Rattle.qcow2_image.specs.Prepared.{image_of, table_of};
 ghost use Rattle.qcow2_image.specs.Refusals.{unusable, refuses_mapping, refuses_to_read, IsMet};
 ghost use Rattle.qcow2_image.specs.SpecialReads.{TellsCompressed, TellsWhether};
-ghost use Rattle.qcow2_alloc.specs.declared.error.ImageError.TheVariants.{Compressed, NotCompressed, OutdatedMapping, ReadOnly};
+ghost use Rattle.qcow2_alloc.specs.declared.error.ImageError.TheVariants.{Compressed, NotCompressed, OutdatedMapping};
+ghost use Rattle.qcow2_alloc.specs.declared.error.ImageError.TheVariants.{ReadOnly};
 ghost use Rattle.qcow2_image.specs.Noted.{PutsOnce};
 ghost use Rattle.qcow2_alloc.specs.ImageFile.{known_in};
 

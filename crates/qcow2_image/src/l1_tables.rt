@@ -1,11 +1,13 @@
 //! A longer L1 table, in the place of the former one.
+ghost use Rattle.qcow2_image.specs.Limits.{IfLimit, IsLimited, entries_reaching};
+ghost use Rattle.qcow2_image.specs.L1Entries.{EndsBefore, IsPlacedNear};
 ghost use Rattle.qcow2_image.specs.SoundParts.{EntrySoundly};
 ghost use Rattle.qcow2_image.specs.ImageSteps.{ImageFails, ImageStep};
-ghost use Rattle.qcow2_metadata.specs.TableBytes.{entry_at};
 ghost use Rattle.qcow2_image.specs.BehindHeader.{KeepsL1TableBehind, StaysBehindHeader};
 ghost use Rattle.qcow2_alloc.specs.ImageError.{IsFault};
 ghost use Rattle.qcow2_alloc.specs.KeptMarks.{KeepsFileNotes};
-ghost use Rattle.std.specs.Prelude.{ℕ, List, Option, ◌≡◌, ◌<◌, ◌≤◌, ◌++◌, ◌∷◌, [], ◌+◌, max, Some, IfErr, IfOk, IsTrue, OnErr, OnOk};
+ghost use Rattle.std.specs.Prelude.{ℕ, List, Option, ◌≡◌, ◌<◌, ◌≤◌, ◌++◌, ◌∷◌, [], ◌+◌, max, Some, IfErr, IfOk, IsTrue};
+ghost use Rattle.std.specs.Prelude.{OnErr, OnOk};
 ghost use Rattle.qcow2_metadata.specs.EntryTable.{entry_count};
 ghost use Rattle.qcow2_metadata.specs.L2Mapping.{IsHostCluster};
 ghost use Rattle.qcow2_laws.specs.CrashInvariant.{Pending};
@@ -13,10 +15,10 @@ ghost use Rattle.qcow2_image.specs.declared.prepared.Prepared.{Prepared};
 ghost use Rattle.qcow2_image.specs.Found.{l1_index_of};
 ghost use Rattle.qcow2_image.specs.Image.{HasNothingToFree, ImageStays, is_writable};
 ghost use Rattle.qcow2_image.specs.ImageInvariant.{ImageInvariant, pending_in};
-ghost use Rattle.qcow2_image.specs.ListedClusters.{SomeGaveWay};
-ghost use Rattle.qcow2_image.specs.LongerTables.{run_of_table, listed, with_table, IsLongerL1, StandsWhole, PlacesTable, NamesTable, NamesTaken, TakesTable, Lengthens, MakesEntry};
+ghost use Rattle.qcow2_image.specs.LongerTables.{run_of_table, listed, with_table, IsLongerL1, StandsWhole};
+ghost use Rattle.qcow2_image.specs.LongerTables.{PlacesTable, NamesTable, NamesTaken, TakesTable, Lengthens};
+ghost use Rattle.qcow2_image.specs.LongerTables.{MakesEntry};
 ghost use Rattle.qcow2_alloc.specs.declared.error.ImageError.TheVariants.{Limit};
-ghost use Rattle.qcow2_image.specs.LackedPlaces.{EndsBefore, HasNoTablePlace, IsPlacedNear, LacksLongerTable, StandsInWay};
 ghost use Rattle.qcow2_image.specs.Refusals.{IsFaultOrLimit, IsMet};
 ghost use Rattle.qcow2_image.specs.UnseenSteps.{ListGrows};
 ghost use Rattle.qcow2_image.specs.Faults.{CountsImageFaults, IsNotOfStorage};
@@ -30,7 +32,8 @@ use qcow2_metadata::{GuestOffset, HostCluster, L1Table, MAX_L1_ENTRIES};
 
 #[tactic(auto, using(crate::proofs::Call::MetErrors::tables_met, crate::proofs::Call::MetErrors::storage_met, crate::proofs::Call::MetErrors::metadata_met))]
 impl<S: Storage, F: WrappedFormat<S>> Qcow2<S, F> {
-    // Sees to it that there is an L1 entry for an offset. Where the L1 table is too short for it, a longer one takes its place, and the clusters that are to be freed are freed then.
+    // Sees to it that there is an L1 entry for an offset. Where the L1 table is too short for it, a longer one takes its place, and
+    // the clusters that are to be freed are freed then.
     pub(crate) fn reach_entry(&mut self, offset: u64) -> Result<(), ImageError>
         requires writable { IsTrue (is_writable self.old) }
         ensures step { ImageStep S.view self.old self.new }
@@ -38,10 +41,7 @@ impl<S: Storage, F: WrappedFormat<S>> Qcow2<S, F> {
         ensures sound { (out : List (Option Prepared))
             → ImageInvariant S.view F.backing (pending_in S.view F.backing self.old out) self.old out
             → EntrySoundly S.view F.backing offset self.old self.new result
-            (MakesEntry S.view F.backing self.old self.new out result) (EndsBefore offset self.old
-            × LacksLongerTable S.view (l1_index_of self.old.file.header.fields offset)
-            (l1_index_of self.old.file.header.fields offset + 1) self.old.file.free_list self.old self.new) }
-        ensures former { OnOk result (SomeGaveWay self.old self.new) }
+            (MakesEntry S.view F.backing self.old self.new out result) }
         ensures length { OnOk result (entry_count self.new.l1_table ≡ max (entry_count self.old.l1_table)
             (l1_index_of self.old.file.header.fields offset + 1)) }
         ensures placed { EndsBefore offset self.old
@@ -50,7 +50,6 @@ impl<S: Storage, F: WrappedFormat<S>> Qcow2<S, F> {
         ensures none { l1_index_of self.old.file.header.fields offset < entry_count self.old.l1_table → self.new ≡ self.old }
         ensures emptied { entry_count self.old.l1_table ≤ l1_index_of self.old.file.header.fields offset
             → OnOk result (HasNothingToFree self.new) }
-        ensures kept { OnOk result ((i : ℕ) → entry_at self.new.l1_table.bytes i ≡ entry_at self.old.l1_table.bytes i) }
     {
         let index = GuestOffset::new(offset).l1_index(self.file.header.cluster_bits());
         if self.l1_table.in_bounds(index) {
@@ -66,12 +65,10 @@ impl<S: Storage, F: WrappedFormat<S>> Qcow2<S, F> {
         ensures noted { OnOk result (IsTrue self.new.file.caches.is_changed) }
         ensures cause { IsTrue (is_writable self.old) → IfErr result IsMet }
         ensures limit { (p : Pending) (out : List (Option Prepared)) → ImageInvariant S.view F.backing p self.old out
-            → IfErr result (λ e. e ≡ Limit
-            → LacksLongerTable S.view index
-            (max (entry_count self.old.l1_table) (index + 1)) self.old.file.free_list self.old self.new) }
+            → (offset : ℕ) → index ≡ l1_index_of self.old.file.header.fields offset
+            → IfLimit result (IsLimited S.view F.backing (offset + 1) self.old) }
         ensures fault { IsTrue (is_writable self.old) → (p : Pending) (out : List (Option Prepared))
             → ImageInvariant S.view F.backing p self.old out → IfErr result IsFaultOrLimit }
-        ensures former { OnOk result (SomeGaveWay self.old self.new) }
         ensures lengthens { (p : Pending) (out : List (Option Prepared))
             → ImageInvariant S.view F.backing p self.old out
             → Lengthens S.view F.backing p self.old self.new out result }
@@ -79,7 +76,6 @@ impl<S: Storage, F: WrappedFormat<S>> Qcow2<S, F> {
         ensures placed { self.old.l1_table.cluster_bits ≡ self.old.file.header.fields.cluster_bits
             → OnOk result (IsPlacedNear self.new.l1_table) }
         ensures list { OnOk result (ListGrows self.old self.new) }
-        ensures kept { OnOk result ((i : ℕ) → entry_at self.new.l1_table.bytes i ≡ entry_at self.old.l1_table.bytes i) }
         ensures faults { CountsImageFaults S.view F.backing self.old self.new result }
     {
         if index >= MAX_L1_ENTRIES {
@@ -123,20 +119,17 @@ impl<S: Storage, F: WrappedFormat<S>> Qcow2<S, F> {
         ensures header_cluster { table.cluster_bits ≡ self.old.l1_table.cluster_bits → StaysBehindHeader S.view self.old self.new }
         ensures cause { IsTrue (is_writable self.old) → IfErr result IsMet }
         ensures limit { (p : Pending) (out : List (Option Prepared)) → ImageInvariant S.view F.backing p self.old out
-            → IsLongerL1 self.old table → 0 < entry_count table
-            → IfErr result (λ e. e ≡ Limit
-            → StandsInWay S.view (HasNoTablePlace (entry_count table)) self.old.file.free_list self.old self.new) }
+            → IsLongerL1 self.old table → (offset : ℕ) → entry_count table ≡ entries_reaching offset self.old
+            → IfLimit result (IsLimited S.view F.backing (offset + 1) self.old) }
         ensures fault { IsTrue (is_writable self.old) → (p : Pending) (out : List (Option Prepared))
             → ImageInvariant S.view F.backing p self.old out → IsLongerL1 self.old table → 0 < entry_count table
             → IfErr result IsFaultOrLimit }
-        ensures former { OnOk result (SomeGaveWay self.old self.new) }
         ensures takes { (p : Pending) (out : List (Option Prepared)) → ImageInvariant S.view F.backing p self.old out
             → IsLongerL1 self.old table → TakesTable S.view F.backing p self.old self.new out result }
         ensures entries { OnOk result (entry_count self.new.l1_table ≡ entry_count table) }
         ensures placed { entry_count table ≤ 4194304 → table.cluster_bits ≡ self.old.file.header.fields.cluster_bits
             → OnOk result (IsPlacedNear self.new.l1_table) }
         ensures list { OnOk result (ListGrows self.old self.new) }
-        ensures bytes { OnOk result (self.new.l1_table.bytes ≡ table.bytes) }
         ensures faults { CountsImageFaults S.view F.backing self.old self.new result }
     {
         let Some(allocator) = &mut self.allocator else {

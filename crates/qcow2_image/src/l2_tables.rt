@@ -1,8 +1,9 @@
 //! The L2 table of a range: found, made, or put in the place of one that others may name too.
-ghost use Rattle.qcow2_image.specs.SoundParts.{EnsuresSoundly, OwnsSoundly, TableSoundly};
+ghost use Rattle.qcow2_image.specs.SoundParts.{EnsuresSoundly, EntersSoundly, OwnsSoundly, TableSoundly};
 ghost use Rattle.qcow2_image.specs.ImageSteps.{ImageFails, ImageStep, ImageStepWhere};
-ghost use Rattle.std.specs.Prelude.{List, Option, ◌≡◌, ◌≢◌, ◌-◌, ◌*◌, Some, ◌^◌, ◌<◌, ◌↔◌, IfOk, IfErr, OnOk, IsSome, IsTrue, Ok, Err, length, ◌⊎◌};
-ghost use Rattle.qcow2_image.specs.MetAlone.{KeepsL1Place, IsMetLooking, IsMetTaking};
+ghost use Rattle.std.specs.Prelude.{List, Option, ◌≡◌, ◌≢◌, ◌-◌, ◌*◌, Some, ◌^◌, ◌<◌, ◌↔◌, IfOk, IfErr, OnOk, IsSome};
+ghost use Rattle.std.specs.Prelude.{IsTrue, Ok, Err, length};
+ghost use Rattle.qcow2_image.specs.MetAlone.{KeepsL1Place, IsMetLooking};
 ghost use Rattle.qcow2_metadata.specs.L2Mapping.{IsHostCluster};
 ghost use Rattle.qcow2_metadata.specs.EntryTable.{entry_count, HasRoomIfPlaced};
 ghost use Rattle.qcow2_alloc.specs.ImageError.{IsFault};
@@ -16,15 +17,16 @@ ghost use Rattle.qcow2_image.specs.declared.prepared.Prepared.{Prepared};
 ghost use Rattle.qcow2_image.specs.Found.{l1_index_of};
 ghost use Rattle.qcow2_image.specs.UnseenSteps.{Ensures};
 ghost use Rattle.qcow2_image.specs.ImageInvariant.{ImageInvariant, pending_in};
-ghost use Rattle.qcow2_image.specs.L1Entries.{HasFarEntry, HasOwnTable};
-ghost use Rattle.qcow2_image.specs.ListedClusters.{KeepsList, SomeGaveWay};
-ghost use Rattle.qcow2_image.specs.NewTables.{IsFaultOrKeepsL1Table, SaysKnown, IsStored, StandsReady, MayName, NamesShared, PlacesNewTable, Stores, NamesNew, WritesNew, EntersTable, OwnsTable};
+ghost use Rattle.qcow2_image.specs.L1Entries.{HasFarEntry, HasOwnTable, HasNearEntry};
+ghost use Rattle.qcow2_image.specs.ListedClusters.{KeepsList};
+ghost use Rattle.qcow2_image.specs.NewTables.{IsFaultOrKeepsL1Table, SaysKnown, IsStored, StandsReady, MayName};
+ghost use Rattle.qcow2_image.specs.NewTables.{NamesShared, PlacesNewTable, Stores, NamesNew, WritesNew, EntersTable};
+ghost use Rattle.qcow2_image.specs.NewTables.{OwnsTable};
 ghost use Rattle.qcow2_alloc.specs.TableCaches.{IsTableOf};
 ghost use Rattle.qcow2_laws.specs.Changes.{one_at, with_new_tables};
 ghost use Rattle.qcow2_metadata.specs.L2Table.{L2TableView};
 ghost use Rattle.qcow2_image.specs.PinnedTables.{FindsOwn, own_table};
-ghost use Rattle.qcow2_image.specs.LackedPlaces.{HasNearEntry, IsLimitedByCluster};
-ghost use Rattle.qcow2_image.specs.Refusals.{IsMet, IsUnlimited};
+ghost use Rattle.qcow2_image.specs.Refusals.{IsMet};
 
 use crate::Qcow2;
 use image_access::{Storage, WrappedFormat};
@@ -118,7 +120,6 @@ impl<S: Storage, F: WrappedFormat<S>> Qcow2<S, F> {
         ensures sound { (p : Pending) (out : List (Option Prepared)) → ImageInvariant S.view F.backing p self.old out
             → OwnsSoundly S.view F.backing offset self.old self.new out result
             (OwnsTable S.view F.backing p self.old self.new out (l1_index_of self.old.file.header.fields offset) result) }
-        ensures former { OnOk result (SomeGaveWay self.old self.new) }
         ensures quiet { HasOwnTable self.old offset → self.new ≡ self.old }
         ensures own { HasOwnTable self.old offset → IfOk result (λ table. table ≡ own_table self.old offset) }
     {
@@ -147,16 +148,10 @@ impl<S: Storage, F: WrappedFormat<S>> Qcow2<S, F> {
         ensures fails { ImageFails S.view F.backing self.old self.new result IsMet }
         ensures keeps_rest { KeepsRestOn self.old self.new }
         ensures elsewhere { IfOk result (λ table. 0 < table) }
-        ensures met { (p : Pending) (out : List (Option Prepared)) → ImageInvariant S.view F.backing p self.old out
-            → NamesShared S.view self.old index old → HasNearEntry self.old index
-            → IfErr result (IsMetTaking (HasPrepared out) ⊥ ⊥ ⊥) }
-        ensures limit { (p : Pending) (out : List (Option Prepared)) → ImageInvariant S.view F.backing p self.old out
-            → NamesShared S.view self.old index old → HasNearEntry self.old index
-            → IfErr result (IsLimitedByCluster S.view self.old self.new) }
-        ensures former { OnOk result (SomeGaveWay self.old self.new) }
         ensures l1_table { IfErr result (IsFaultOrKeepsL1Table self.old self.new) }
-        ensures owns { (p : Pending) (out : List (Option Prepared)) → ImageInvariant S.view F.backing p self.old out
-            → NamesShared S.view self.old index old → OwnsTable S.view F.backing p self.old self.new out index result }
+        ensures sound { (p : Pending) (out : List (Option Prepared)) → ImageInvariant S.view F.backing p self.old out
+            → NamesShared S.view self.old index old → EntersSoundly S.view F.backing index self.old out result
+            (OwnsTable S.view F.backing p self.old self.new out index result) }
     {
         self.file
             .caches
@@ -180,20 +175,12 @@ impl<S: Storage, F: WrappedFormat<S>> Qcow2<S, F> {
         ensures fails { ImageFails S.view F.backing self.old self.new result IsMet }
         ensures keeps_rest { KeepsRestOn self.old self.new }
         ensures elsewhere { IfOk result (λ table. 0 < table) }
-        ensures met { (p : Pending) (out : List (Option Prepared)) → ImageInvariant S.view F.backing p self.old out
-            → NamesShared S.view self.old index old
-            → SaysKnown self.old.file.header.fields (known_in S.view self.old.file) index table
-            → HasNearEntry self.old index → IfErr result (IsMetTaking (HasPrepared out) ⊥ ⊥ ⊥) }
-        ensures limit { (p : Pending) (out : List (Option Prepared)) → ImageInvariant S.view F.backing p self.old out
-            → NamesShared S.view self.old index old
-            → SaysKnown self.old.file.header.fields (known_in S.view self.old.file) index table
-            → HasNearEntry self.old index → IfErr result (IsLimitedByCluster S.view self.old self.new) }
-        ensures former { OnOk result (SomeGaveWay self.old self.new) }
         ensures l1_table { IfErr result (IsFaultOrKeepsL1Table self.old self.new) }
-        ensures owns { (p : Pending) (out : List (Option Prepared)) → ImageInvariant S.view F.backing p self.old out
+        ensures sound { (p : Pending) (out : List (Option Prepared)) → ImageInvariant S.view F.backing p self.old out
             → NamesShared S.view self.old index old
             → SaysKnown self.old.file.header.fields (known_in S.view self.old.file) index table
-            → OwnsTable S.view F.backing p self.old self.new out index result }
+            → EntersSoundly S.view F.backing index self.old out result
+            (OwnsTable S.view F.backing p self.old self.new out index result) }
     {
         let entry = ClustersToFreeEntry::metadata(old, ClusterCount::new(1));
         let dropped = ClustersToFreeList::pending_guard(self.file.alloc, entry)?;
@@ -216,20 +203,12 @@ impl<S: Storage, F: WrappedFormat<S>> Qcow2<S, F> {
         ensures fails { ImageFails S.view F.backing self.old self.new result IsMet }
         ensures keeps_rest { KeepsRestOn self.old self.new }
         ensures elsewhere { IfOk result (λ table. 0 < table) }
-        ensures met { (p : Pending) (out : List (Option Prepared)) → ImageInvariant S.view F.backing p self.old out
-            → MayName S.view self.old index
-            → SaysKnown self.old.file.header.fields (known_in S.view self.old.file) index table
-            → HasNearEntry self.old index → IfErr result (IsMetTaking (HasPrepared out) ⊥ ⊥ ⊥) }
-        ensures limit { (p : Pending) (out : List (Option Prepared)) → ImageInvariant S.view F.backing p self.old out
-            → MayName S.view self.old index
-            → SaysKnown self.old.file.header.fields (known_in S.view self.old.file) index table
-            → HasNearEntry self.old index → IfErr result (IsLimitedByCluster S.view self.old self.new) }
-        ensures former { OnOk result (SomeGaveWay self.old self.new) }
         ensures l1_table { IfErr result (IsFaultOrKeepsL1Table self.old self.new) }
-        ensures enters { (p : Pending) (out : List (Option Prepared)) → ImageInvariant S.view F.backing p self.old out
+        ensures sound { (p : Pending) (out : List (Option Prepared)) → ImageInvariant S.view F.backing p self.old out
             → MayName S.view self.old index
             → SaysKnown self.old.file.header.fields (known_in S.view self.old.file) index table
-            → EntersTable S.view F.backing p self.old self.new out index result }
+            → EntersSoundly S.view F.backing index self.old out result
+            (EntersTable S.view F.backing p self.old self.new out index result) }
     {
         let Some(allocator) = &mut self.allocator else {
             unreachable!();
@@ -263,11 +242,6 @@ impl<S: Storage, F: WrappedFormat<S>> Qcow2<S, F> {
             → SaysKnown self.old.file.header.fields (known_in S.view self.old.file) index table
             → HasNearEntry self.old index → IsHostCluster self.old.file.header.fields.cluster_bits cluster
             → IfErr result (IsMetLooking (HasPrepared out)) }
-        ensures limited { (p : Pending) (out : List (Option Prepared))
-            → ImageInvariant S.view F.backing (with_new_tables p (one_at cluster)) self.old out
-            → SaysKnown self.old.file.header.fields (known_in S.view self.old.file) index table
-            → HasNearEntry self.old index → IsHostCluster self.old.file.header.fields.cluster_bits cluster
-            → IfErr result IsUnlimited }
         ensures allocator { self.new.allocator ≡ self.old.allocator }
         ensures l1_table { IfErr result (IsFaultOrKeepsL1Table self.old self.new) }
         ensures list { self.new.file.free_list ≡ self.old.file.free_list }
@@ -285,14 +259,13 @@ impl<S: Storage, F: WrappedFormat<S>> Qcow2<S, F> {
         self.name_l2(index, cluster)
     }
 
-    // Writes what has to stand on the storage before an L1 entry names a new table: counts, and the L2 tables before them where the direction asks for it.
+    // Writes what has to stand on the storage before an L1 entry names a new table: counts, and the L2 tables before them where the
+    // direction asks for it.
     fn store_first(&mut self) -> Result<(), ImageError>
         ensures step { ImageStep S.view self.old self.new }
         ensures fails { ImageFails S.view F.backing self.old self.new result IsMet }
         ensures keeps_rest { KeepsRest self.old self.new }
         ensures fault { (p : Pending) (out : List (Option Prepared)) → ImageInvariant S.view F.backing p self.old out → IfErr result IsFault }
-        ensures limited { (p : Pending) (out : List (Option Prepared)) → ImageInvariant S.view F.backing p self.old out
-            → IfErr result IsUnlimited }
         ensures rest { self.new ≡ record self.old {
           file = record self.old.file {
             storage = self.new.file.storage;
@@ -307,7 +280,8 @@ impl<S: Storage, F: WrappedFormat<S>> Qcow2<S, F> {
         self.file.caches.flush_rb(&mut self.file.storage)
     }
 
-    // Writes a table's bytes to a cluster, and puts the table into its cache. One of another cluster size than the image's, which no cache holds, is refused 19 (metadata).
+    // Writes a table's bytes to a cluster, and puts the table into its cache. One of another cluster size than the image's, which
+    // no cache holds, is refused 19 (metadata).
     fn place_l2(&mut self, cluster: HostCluster, mut table: L2Table) -> Result<(), ImageError>
         ensures step { ImageStepWhere S.view (0 < cluster) self.old self.new }
         ensures fails { ImageFails S.view F.backing self.old self.new result IsMet }
@@ -315,9 +289,6 @@ impl<S: Storage, F: WrappedFormat<S>> Qcow2<S, F> {
         ensures met { (p : Pending) (out : List (Option Prepared)) → ImageInvariant S.view F.backing p self.old out
             → 0 < p.new_tables cluster → IsTableOf self.old.file.header.fields table → IsStored S.view self.old
             → IsHostCluster table.cluster_bits cluster → IfErr result (IsMetLooking (HasPrepared out)) }
-        ensures limited { (p : Pending) (out : List (Option Prepared)) → ImageInvariant S.view F.backing p self.old out
-            → 0 < p.new_tables cluster → IsTableOf self.old.file.header.fields table → IsStored S.view self.old
-            → IsHostCluster table.cluster_bits cluster → IfErr result IsUnlimited }
         ensures rest { self.new ≡ record self.old {
           file = record self.old.file {
             storage = self.new.file.storage;

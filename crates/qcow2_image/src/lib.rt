@@ -14,15 +14,18 @@ mod l2_tables;
 mod lookups;
 mod mapping;
 mod mappings;
+mod opening;
 mod preallocation;
 mod prepared;
 mod ranges;
 mod resize;
 mod resizing;
+mod storages;
 
 pub use builder::{NoBacking, Qcow2CreateBuilder};
 pub use image::{Missing, Qcow2};
 pub use mapping::{Mapping, MappingKind, Place};
+pub use opening::Qcow2OpenBuilder;
 pub use prepared::{CommitRefused, Prepared};
 pub use qcow2_alloc::async_lru_cache::{AsyncLruCache, AsyncLruCacheBackend, CacheError};
 pub use qcow2_alloc::{

@@ -1,7 +1,9 @@
 //! What stands at a guest offset, and for how many bytes all is mapped alike.
 ghost use Rattle.qcow2_image.specs.ImageSteps.{ImageFails, ReadingCall, ReadingStep};
 ghost use Rattle.qcow2_disk.specs.Alike.{IsAlike};
-ghost use Rattle.std.specs.Prelude.{◌↔◌, List, Option, is_some, ◌≡◌, ◌+◌, ◌*◌, ◌-◌, ◌%◌, true, Some, ◌^◌, ◌<◌, ◌≤◌, [], length, IfOk, IfErr, IfSome, IsOk, IsSome, IsTrue, Ok, Err, None, false, MatchOption, min, ℕ};
+ghost use Rattle.std.specs.Prelude.{◌↔◌, List, Option, is_some, ◌≡◌, ◌+◌, ◌*◌, ◌-◌, ◌%◌, true, Some, ◌^◌, ◌<◌, ◌≤◌, []};
+ghost use Rattle.std.specs.Prelude.{length, IfOk, IfErr, IfSome, IsOk, IsSome, IsTrue, Ok, Err, None, false};
+ghost use Rattle.std.specs.Prelude.{MatchOption, min, ℕ};
 ghost use Rattle.qcow2_metadata.specs.L2Mapping.{HasAlignedHost, IsInReach};
 ghost use Rattle.qcow2_image.specs.Image.{number_of, size_of};
 ghost use Rattle.qcow2_laws.specs.CrashInvariant.{Pending};
@@ -12,7 +14,8 @@ ghost use Rattle.qcow2_image.specs.Calls.{AnswersCall};
 ghost use Rattle.qcow2_alloc.specs.ImageError.{IsOfTables};
 ghost use Rattle.qcow2_disk.specs.Found.{IsFoundIn, kind_at, rest_of_table};
 ghost use Rattle.qcow2_image.specs.Faults.{IsNotOfStorage};
-ghost use Rattle.qcow2_image.specs.Found.{found_kind, mapping_of, IsRunBehind, NamesL2Table, IsRunFrom, IsFoundInImage, l1_index_of, l2_index_of};
+ghost use Rattle.qcow2_image.specs.Found.{found_kind, mapping_of, IsRunBehind, NamesL2Table, IsRunFrom, IsFoundInImage};
+ghost use Rattle.qcow2_image.specs.Found.{l1_index_of, l2_index_of};
 ghost use Rattle.qcow2_image.specs.HeldMappings.{IsHeldRun, named_place};
 ghost use Rattle.qcow2_image.specs.PinnedTables.{own_table};
 ghost use Rattle.qcow2_image.specs.UnseenSteps.{UnseenStep};

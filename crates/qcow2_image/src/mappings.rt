@@ -1,17 +1,20 @@
 //! Making a guest range writable, and entering what was prepared.
+ghost use Rattle.qcow2_image.specs.Limits.{IfLimit, IsLimited};
 ghost use Rattle.qcow2_image.specs.SoundParts.{InTableSoundly, PreparesSoundly};
 ghost use Rattle.qcow2_image.specs.ImageSteps.{CallStep, ImageFails, ImageStep, ImageStepWhere};
 ghost use Rattle.qcow2_disk.specs.Alike.{AreDataAt};
-ghost use Rattle.qcow2_image.specs.LackedPlaces.{FreesJustListed, LacksPlaceFor, LacksRange};
 ghost use Rattle.qcow2_image.specs.BehindHeader.{StaysBehindHeader};
 ghost use Rattle.qcow2_image.specs.PreparedPlaces.{HasBytesBehind, MarkedIsBehind};
-ghost use Rattle.std.specs.Prelude.{◌↔◌, ℕ, List, Option, ◌≡◌, ◌⊎◌, ◌≢◌, ◌+◌, ◌*◌, ◌-◌, ◌/◌, ◌%◌, true, Some, ◌^◌, ◌<◌, ◌≤◌, [], ◌∷◌, ◌++◌, length, slice_get, IfOk, IfErr, IfSome, OnOk, IsOk, IsNone, IsSome, IsTrue, IsFalse, MatchOption, MatchResult, Ok, Err, None, false};
+ghost use Rattle.std.specs.Prelude.{◌↔◌, ℕ, List, Option, ◌≡◌, ◌⊎◌, ◌≢◌, ◌+◌, ◌*◌, ◌-◌, ◌/◌, ◌%◌, true, Some, ◌^◌, ◌<◌};
+ghost use Rattle.std.specs.Prelude.{◌≤◌, [], ◌∷◌, ◌++◌, length, slice_get, IfOk, IfErr, IfSome, OnOk, IsOk, IsNone};
+ghost use Rattle.std.specs.Prelude.{IsSome, IsTrue, IsFalse, MatchOption, MatchResult, Ok, Err, None, false};
 ghost use Rattle.qcow2_metadata.specs.EntryTable.{entry_count};
 ghost use Rattle.qcow2_image.specs.Backings.{HasPrepared};
 ghost use Rattle.qcow2_image.specs.MetAlone.{CopiesCompressed, KeepsL1Place, IsMetTaking};
 ghost use Rattle.qcow2_metadata.specs.L2Mapping.{IsInReach, greatest_offset, named_run};
 ghost use Rattle.qcow2_disk.specs.Mappings.{is_copied_data};
-ghost use Rattle.qcow2_image.specs.Image.{HasNothingToFree, ImageStays, IsSameImage, KeepsRest, is_failed, is_writable, number_of, KeepsWholeHeader};
+ghost use Rattle.qcow2_image.specs.Image.{HasNothingToFree, ImageStays, IsSameImage, KeepsRest, is_failed, is_writable};
+ghost use Rattle.qcow2_image.specs.Image.{number_of, KeepsWholeHeader};
 ghost use Rattle.qcow2_image.specs.Prepared.{guest_offset_of, image_of, length_of, offset_of, table_of, IsHandedBackBy};
 ghost use Rattle.qcow2_image.specs.Preparing.{IsAnswered, IsOfNothing, IsPlaceOf, IsTaken};
 ghost use Rattle.qcow2_image.specs.Ranges.{ReleasesOneMapping, Reaches};
@@ -20,26 +23,29 @@ ghost use Rattle.qcow2_alloc.specs.MetadataCaches.{IsEntryAt, l2_at};
 ghost use Rattle.qcow2_image.specs.Noted.{CommitFailsOnceWritten};
 ghost use Rattle.qcow2_alloc.specs.ImageFile.{known_in, FileInvariant, KeepsHeader};
 ghost use Rattle.qcow2_image.specs.L1Entries.{HasOwnTable, NeedsFarEntry};
-ghost use Rattle.qcow2_image.specs.ListedClusters.{ListsFormer, PreparesList, PreparesTable, ListStays, ListsNoMore};
-ghost use Rattle.qcow2_image.specs.PinnedTables.{PreparesUnpinned, own_table};
+ghost use Rattle.qcow2_image.specs.ListedClusters.{ListStays, ListsNoMore};
+ghost use Rattle.qcow2_image.specs.PinnedTables.{PreparesUnpinned};
 ghost use Rattle.qcow2_alloc.specs.ImageStorage.{storage_of};
 ghost use Rattle.qcow2_image.specs.declared.prepared.Prepared.{Prepared};
 ghost use Rattle.qcow2_image.specs.Calls.{Commits, Discards, Prepares, reason_of};
 ghost use Rattle.qcow2_image.specs.CallParts.{EntersAll, IsEntered, IsExisting, RefusedCall};
 ghost use Rattle.qcow2_alloc.specs.CachePins.{l2_pins};
 ghost use Rattle.qcow2_alloc.specs.ImageError.{IsFault, IsOfTables};
-ghost use Rattle.qcow2_image.specs.Faults.{CountsImageFaults, IsNotOfStorage, NoFewerFaults, SameFaults, TellsEachBy, TellsFault};
+ghost use Rattle.qcow2_image.specs.Faults.{CountsImageFaults, IsNotOfStorage, NoFewerFaults, SameFaults, TellsEachBy};
+ghost use Rattle.qcow2_image.specs.Faults.{TellsFault};
 ghost use Rattle.qcow2_image.specs.declared.image.Qcow2.{Qcow2};
 ghost use Rattle.qcow2_image.specs.Found.{l1_index_of, l2_index_of};
-ghost use Rattle.qcow2_image.specs.UnseenSteps.{DropsNothing, HoldsTable, EntersCluster, EntersShare, FreesLater, Unpins, old_data_by, freed_by};
+ghost use Rattle.qcow2_image.specs.UnseenSteps.{DropsNothing, HoldsTable, EntersCluster, EntersShare, FreesLater};
+ghost use Rattle.qcow2_image.specs.UnseenSteps.{Unpins, old_data_by, freed_by};
 ghost use Rattle.qcow2_image.specs.ImageInvariant.{ImageInvariant, listed_run, meaning, pending_in, abstract_of};
 ghost use Rattle.qcow2_metadata.specs.Header.{entries_per_cluster, cluster_size};
 ghost use Rattle.qcow2_metadata.specs.Cover.{cover};
 ghost use Rattle.qcow2_image.specs.declared.mapping.Place.TheVariants.{Image};
-ghost use Rattle.qcow2_image.specs.Refusals.{FreesRefused, refuses_to_prepare, passes as passes_size, IsMet, IsUnlimited, IsMetPreparing, MarksRefused};
+ghost use Rattle.qcow2_image.specs.Refusals.{FreesRefused, refuses_to_prepare, passes as passes_size, IsMet};
+ghost use Rattle.qcow2_image.specs.Refusals.{IsUnlimited, IsMetPreparing, MarksRefused};
 ghost use Rattle.qcow2_image.specs.declared.prepared.CommitRefused.TheVariants.{Kept, Spent};
 ghost use Rattle.qcow2_image.specs.declared.prepared.Share.TheVariants.{InPlace};
-ghost use Rattle.qcow2_alloc.specs.declared.error.ImageError.TheVariants.{Failed, ForeignState, Limit, TablePrepared};
+ghost use Rattle.qcow2_alloc.specs.declared.error.ImageError.TheVariants.{Failed, ForeignState, TablePrepared};
 
 use crate::prepared::Share;
 use crate::{CommitRefused, Place, Prepared, Qcow2};
@@ -169,7 +175,7 @@ impl<S: Storage, F: WrappedFormat<S>> Qcow2<S, F> {
             (NeedsFarEntry self.old offset)) }
         ensures limit { refuses_to_prepare self.old offset length ≡ None → 0 < length → (out : List (Option Prepared))
             → (abstract_of S.view F.backing self.old out).is_sound
-            → IfErr result (λ e. e ≡ Limit → LacksPlaceFor S.view offset length self.old self.new) }
+            → IfLimit result (IsLimited S.view F.backing (offset + 1) self.old) }
         ensures nothing { refuses_to_prepare self.old offset 0 ≡ None → length ≡ 0 → IsOk result
             × IfOk result IsOfNothing × (self.new ≡ self.old) }
         ensures taken { refuses_to_prepare self.old offset length ≡ None → (out : List (Option Prepared))
@@ -181,8 +187,8 @@ impl<S: Storage, F: WrappedFormat<S>> Qcow2<S, F> {
         ensures behind { IfOk result (λ p. 0 < length → cluster_size self.new.file.header.fields ≤ offset_of p) }
         ensures end { IfOk result (λ p. offset + length < 2 ^ 64) }
         ensures sees { Prepares S.view F.backing self.old self.new offset length overwrite result }
-        ensures listed { refuses_to_prepare self.old offset length ≡ None → 0 < length → (out : List (Option Prepared))
-            → (abstract_of S.view F.backing self.old out).is_sound → PreparesList offset self.old self.new result }
+        ensures freed { refuses_to_prepare self.old offset length ≡ None → 0 < length → (out : List (Option Prepared))
+            → (abstract_of S.view F.backing self.old out).is_sound → IfErr result (FreesRefused self.new) }
         ensures freeing { (out : List (Option Prepared)) → (abstract_of S.view F.backing self.old out).is_sound
             → IfOk result (λ p. IsNone (table_of p) → ListsNoMore self.old self.new) }
         ensures maps { 0 < length → (out : List (Option Prepared))
@@ -248,15 +254,14 @@ impl<S: Storage, F: WrappedFormat<S>> Qcow2<S, F> {
         ensures fails { ImageFails S.view F.backing self.old self.new result IsMetPreparing }
         ensures sound { 0 < length → (out : List (Option Prepared))
             → ImageInvariant S.view F.backing (pending_in S.view F.backing self.old out) self.old out
-            → PreparesSoundly S.view F.backing offset length overwrite self.old self.new out result
-            (LacksPlaceFor S.view offset length self.old self.new) }
+            → PreparesSoundly S.view F.backing offset length overwrite self.old self.new out result }
         ensures l1_place { l1_index_of self.old.file.header.fields offset < entry_count self.old.l1_table
             → OnOk result (KeepsL1Place self.old.file.header.fields self.new.file.header.fields) }
         ensures own { IfOk result (λ p. image_of p ≡ number_of self.old) }
         ensures some { IfOk result (λ p. 0 < length → HasBytesBehind self.new.file.header.fields p) }
-        ensures listed { 0 < length → (out : List (Option Prepared))
+        ensures freed { 0 < length → (out : List (Option Prepared))
             → ImageInvariant S.view F.backing (pending_in S.view F.backing self.old out) self.old out
-            → PreparesList offset self.old self.new result }
+            → IfErr result (FreesRefused self.new) }
         ensures pinned { HasOwnTable self.old offset → PreparesUnpinned self.old offset result }
     {
         match self.prepare_range(offset, length, overwrite) {
@@ -277,15 +282,11 @@ impl<S: Storage, F: WrappedFormat<S>> Qcow2<S, F> {
         ensures fails { ImageFails S.view F.backing self.old self.new result IsMetPreparing }
         ensures sound { 0 < length → (out : List (Option Prepared))
             → ImageInvariant S.view F.backing (pending_in S.view F.backing self.old out) self.old out
-            → PreparesSoundly S.view F.backing offset length overwrite self.old self.new out result
-            (LacksRange S.view offset length self.old self.new) }
+            → PreparesSoundly S.view F.backing offset length overwrite self.old self.new out result }
         ensures l1_place { l1_index_of self.old.file.header.fields offset < entry_count self.old.l1_table
             → OnOk result (KeepsL1Place self.old.file.header.fields self.new.file.header.fields) }
         ensures own { IfOk result (λ p. image_of p ≡ number_of self.old) }
         ensures some { IfOk result (λ p. 0 < length → HasBytesBehind self.new.file.header.fields p) }
-        ensures tables { (out : List (Option Prepared))
-            → ImageInvariant S.view F.backing (pending_in S.view F.backing self.old out) self.old out
-            → OnOk result (PreparesTable offset self.old self.new) }
         ensures pinned { HasOwnTable self.old offset → PreparesUnpinned self.old offset result }
     {
         let table = self.table_for(offset)?;
@@ -295,22 +296,19 @@ impl<S: Storage, F: WrappedFormat<S>> Qcow2<S, F> {
         }
     }
 
-    // Frees the clusters that are to be freed after a refusal; the refusal that is answered. Nothing is freed after a fault, nor where a table is under another mapping.
+    // Frees the clusters that are to be freed after a refusal; the refusal that is answered. Nothing is freed after a fault, nor
+    // where a table is under another mapping.
     pub(crate) fn free_after(&mut self, refusal: ImageError) -> ImageError
         ensures step { ImageStep S.view self.old self.new }
         ensures keeps_rest { KeepsRest self.old self.new }
         ensures table { self.new.l1_table ≡ self.old.l1_table }
         ensures cause { IsMetPreparing refusal → IsMetPreparing result }
-        ensures limit { (out : List (Option Prepared))
-            → ImageInvariant S.view F.backing (pending_in S.view F.backing self.old out) self.old out
-            → result ≡ ImageError.Limit → (refusal ≡ ImageError.Limit) × FreesJustListed S.view self.old self.new }
         ensures taken { IsMetPreparing refusal → result ≡ TablePrepared → refusal ≡ TablePrepared }
         ensures fault { IsFault refusal → (result ≡ refusal) × (self.new ≡ self.old) }
         ensures idle { HasNothingToFree self.old → (result ≡ refusal) × (self.new ≡ self.old) }
         ensures told { (out : List (Option Prepared))
             → ImageInvariant S.view F.backing (pending_in S.view F.backing self.old out) self.old out
             → (result ≡ refusal) ⊎ IsFault result }
-        ensures handed { (result ≡ refusal) ⊎ IsOfTables result }
         ensures emptied { IsTrue (is_writable self.old) → (out : List (Option Prepared))
             → ImageInvariant S.view F.backing (pending_in S.view F.backing self.old out) self.old out
             → FreesRefused self.new result }
@@ -383,10 +381,6 @@ impl<S: Storage, F: WrappedFormat<S>> Qcow2<S, F> {
             → ImageInvariant S.view F.backing (pending_in S.view F.backing self.old out) self.old out
             → HoldsTable S.view F.backing self.old offset table → IfOk result (Reaches S.view self.new offset length) }
         ensures header { KeepsHeader self.old.file.header self.new.file.header }
-        ensures former { OnOk result (ListsFormer self.old self.new) }
-        ensures under { (out : List (Option Prepared)) (k : ℕ) → slice_get out k ≡ Some None
-            → ImageInvariant S.view F.backing (pending_in S.view F.backing self.old out) self.old out
-            → HoldsTable S.view F.backing self.old offset table → OnOk result (own_table self.new offset ≡ table) }
     {
         let mut prepared = self.prepare_first(table, offset, length, overwrite)?;
         match self.prepare_rest(&mut prepared, table, length, overwrite) {
@@ -438,7 +432,6 @@ impl<S: Storage, F: WrappedFormat<S>> Qcow2<S, F> {
         ensures list { IfOk result (λ list. list ≡ listed_run (named_run self.now.file.header.fields.cluster_bits mapping.now)) }
         ensures cause { IfErr result IsMet }
         ensures fault { IfErr result IsFault }
-        ensures limited { IfErr result IsUnlimited }
         ensures faults { IfErr result IsNotOfStorage }
     {
         let mut list = ClustersToFreeList::new();

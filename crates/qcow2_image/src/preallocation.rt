@@ -1,7 +1,8 @@
 //! Preallocation: zeros behind the end of a disk, before its size grows.
 ghost use Rattle.qcow2_image.specs.SoundParts.{FillsPart};
 ghost use Rattle.qcow2_image.specs.ImageSteps.{FailsUnlimited, ImageFails, ImageStep};
-ghost use Rattle.std.specs.Prelude.{ℕ, List, Option, ◌≡◌, ◌%◌, ◌^◌, ◌<◌, ◌≤◌, Err, IfOk, IfErr, IsTrue, OnOk, max, replicate, slice_get, slice_set, None, Ok, Some};
+ghost use Rattle.std.specs.Prelude.{ℕ, List, Option, ◌≡◌, ◌%◌, ◌^◌, ◌<◌, ◌≤◌, Err, IfOk, IfErr, IsTrue, OnOk, max};
+ghost use Rattle.std.specs.Prelude.{replicate, slice_get, slice_set, None, Ok, Some};
 ghost use Rattle.qcow2_alloc.specs.ImageFile.{known_in};
 ghost use Rattle.qcow2_image.specs.Backings.{HasPrepared};
 ghost use Rattle.qcow2_alloc.specs.ImageError.{IsFault};
@@ -17,8 +18,9 @@ ghost use Rattle.qcow2_image.specs.declared.prepared.Prepared.{Prepared};
 ghost use Rattle.qcow2_image.specs.CallParts.{WritesBytes};
 ghost use Rattle.qcow2_image.specs.Image.{HasNothingToFree, is_writable, size_of};
 ghost use Rattle.qcow2_image.specs.ImageInvariant.{ImageInvariant, pending_in};
-ghost use Rattle.qcow2_image.specs.Preallocation.{AreZeros, CommitsWhole, FillsFirst, FillsGrownOrRefuses, FillsOrRefuses, IsWholeRange, most_of};
-ghost use Rattle.qcow2_image.specs.Refusals.{FreesRefused, IsMet, IsMetPreparing, IsUnlimited};
+ghost use Rattle.qcow2_image.specs.Preallocation.{AreZeros, CommitsWhole, FillsFirst, FillsGrownOrRefuses};
+ghost use Rattle.qcow2_image.specs.Preallocation.{FillsOrRefuses, IsWholeRange, most_of};
+ghost use Rattle.qcow2_image.specs.Refusals.{FreesRefused, IsMet, IsMetPreparing};
 ghost use Rattle.qcow2_image.specs.Faults.{IsNotOfStorage, SameFaults};
 
 use crate::discarding::{Clearance, rounded_up};
@@ -49,7 +51,6 @@ impl ZeroWrites {
         ensures zeros { IfOk result AreZeros }
         ensures cause { IfErr result IsMet }
         ensures fault { IfErr result IsFault }
-        ensures limited { IfErr result IsUnlimited }
         ensures faults { IfErr result IsNotOfStorage }
     {
         let zeros = vec![in alloc; 0; count]?;
@@ -90,7 +91,8 @@ impl ZeroWrites {
 
 #[tactic(auto, using(crate::proofs::Call::MetErrors::tables_met, crate::proofs::Call::MetErrors::storage_met, crate::proofs::Call::MetErrors::metadata_met, crate::proofs::Call::MetErrors::metadata_of_tables))]
 impl<S: Storage, F: WrappedFormat<S>> Qcow2<S, F> {
-    // Puts zeros behind the end of a disk that is to have a larger size, up to the end of its last cluster, as a mode asks. Where that is refused, the clusters that are to be freed are freed, but after a fault and under another mapping.
+    // Puts zeros behind the end of a disk that is to have a larger size, up to the end of its last cluster, as a mode asks. Where
+    // that is refused, the clusters that are to be freed are freed, but after a fault and under another mapping.
     pub(crate) fn fill_grown(
         &mut self,
         old: u64,

@@ -1,25 +1,24 @@
 //! The clusters of a prepared range behind its first one.
+ghost use Rattle.qcow2_image.specs.Limits.{IfLimit, IsLimited};
 ghost use Rattle.qcow2_image.specs.SoundParts.{BehindSoundly, FillsSoundly, RestSoundly};
 ghost use Rattle.qcow2_image.specs.ImageSteps.{ImageFails, ImageStep};
-ghost use Rattle.qcow2_image.specs.LackedPlaces.{CantTake, CantTakeAt};
-ghost use Rattle.qcow2_alloc.specs.declared.error.ImageError.TheVariants.{Limit};
-ghost use Rattle.std.specs.Prelude.{ℕ, List, Option, ◌≡◌, ◌≢◌, ◌+◌, ◌-◌, ◌*◌, ◌%◌, ◌<◌, min, true, Some, None, Ok, slice_get, vec_len, vec_capacity, IfOk, IfErr, OnOk, IsTrue, IsSome, ◌/◌};
+ghost use Rattle.std.specs.Prelude.{ℕ, List, Option, ◌≡◌, ◌≢◌, ◌+◌, ◌-◌, ◌*◌, ◌%◌, ◌<◌, min, true, Some, None, Ok};
+ghost use Rattle.std.specs.Prelude.{slice_get, vec_len, vec_capacity, IfOk, IfErr, IsTrue, IsSome, ◌/◌};
 ghost use Rattle.qcow2_image.specs.MetAlone.{IsCopiedCompressed, IsMetAlone};
 ghost use Rattle.qcow2_metadata.specs.L2Mapping.{IsHostCluster, IsInReach};
 ghost use Rattle.qcow2_metadata.specs.Header.{cluster_size};
 ghost use Rattle.qcow2_disk.specs.Found.{rest_of_table};
 ghost use Rattle.qcow2_laws.specs.CrashInvariant.{Pending};
 ghost use Rattle.qcow2_alloc.specs.ImageFile.{KeepsHeader};
-ghost use Rattle.qcow2_alloc.specs.LowestRuns.{StaysUsed};
 ghost use Rattle.qcow2_image.specs.Image.{is_writable};
-ghost use Rattle.qcow2_image.specs.ListedClusters.{ListsFormer};
 ghost use Rattle.qcow2_image.specs.Refusals.{IsMet, IsFaultOrLimit};
 ghost use Rattle.qcow2_image.specs.declared.prepared.Prepared.{Prepared};
 ghost use Rattle.qcow2_image.specs.declared.image.Qcow2.{Qcow2};
 ghost use Rattle.qcow2_image.specs.CallParts.{IsReadied};
 ghost use Rattle.qcow2_image.specs.ImageInvariant.{pending_in, ImageInvariant};
 ghost use Rattle.qcow2_image.specs.UnseenSteps.{HoldsAll, ListGrows};
-ghost use Rattle.qcow2_image.specs.Ranges.{FindsBehind, GainsAt, GoesNext, GoesOn, HasRoomForRange, IsLongerMapping, IsNext, EndsWithCluster, MayGoOn, SharesAt, TakesDataAt};
+ghost use Rattle.qcow2_image.specs.Ranges.{FindsBehind, GainsAt, GoesNext, GoesOn, HasRoomForRange, IsLongerMapping};
+ghost use Rattle.qcow2_image.specs.Ranges.{IsNext, EndsWithCluster, MayGoOn, SharesAt, TakesDataAt};
 
 use crate::mappings::{copied_place, keeps};
 use crate::prepared::Share;
@@ -63,7 +62,6 @@ impl<S: Storage, F: WrappedFormat<S>> Qcow2<S, F> {
             → RestSoundly S.view F.backing length overwrite prepared.old prepared.new self.old self.new result
             (GoesOn S.view F.backing start self.new out k length overwrite prepared.new result) }
         ensures longer { IsLongerMapping self.old.file.header.fields length prepared.old prepared.new }
-        ensures former { OnOk result (ListsFormer self.old self.new) }
     {
         let end = length.min(self.rest_of_table(prepared.guest));
         while prepared.length < end {
@@ -95,7 +93,6 @@ impl<S: Storage, F: WrappedFormat<S>> Qcow2<S, F> {
         ensures same { result ≢ Ok true → prepared.new ≡ prepared.old }
         ensures room { vec_capacity prepared.new.shares ≡ vec_capacity prepared.old.shares }
         ensures next { result ≡ Ok true → IsNext self.old.file.header.fields length prepared.old prepared.new }
-        ensures former { OnOk result (ListsFormer self.old self.new) }
     {
         let Some(share) = self.share_behind(prepared, table, length, overwrite)? else {
             return Ok(false);
@@ -123,7 +120,6 @@ impl<S: Storage, F: WrappedFormat<S>> Qcow2<S, F> {
             → ImageInvariant S.view F.backing (pending_in S.view F.backing self.old out) self.old out
             → BehindSoundly S.view F.backing prepared.now length overwrite self.old self.new result
             (FindsBehind S.view F.backing self.old self.new out length overwrite prepared.now result) }
-        ensures former { OnOk result (ListsFormer self.old self.new) }
     {
         let Some(next) = prepared.guest.checked_add(prepared.length) else {
             return Err(ImageError::Overflow);
@@ -164,14 +160,10 @@ impl<S: Storage, F: WrappedFormat<S>> Qcow2<S, F> {
             → IfErr result (IsMetAlone (IsCopiedCompressed self.old.file.header.fields old.now offset length overwrite)
             ⊥) }
         ensures limit { (p : Pending) (out : List (Option Prepared)) → ImageInvariant S.view F.backing p self.old out
-            → HoldsAll S.view F.backing p out
-            → IfErr result (λ e. e ≡ Limit → CantTakeAt S.view host self.old self.new) }
+            → HoldsAll S.view F.backing p out → IfLimit result (IsLimited S.view F.backing 1 self.old) }
         ensures shares { (p : Pending) (out : List (Option Prepared)) → ImageInvariant S.view F.backing p self.old out
             → HoldsAll S.view F.backing p out
             → SharesAt S.view F.backing p self.old self.new out offset length overwrite old.now host result }
-        ensures former { OnOk result (ListsFormer self.old self.new) }
-        ensures uses { (p : Pending) (out : List (Option Prepared)) → ImageInvariant S.view F.backing p self.old out
-            → HoldsAll S.view F.backing p out → OnOk result (StaysUsed S.view self.old.file self.new.file) }
     {
         let bits = self.file.header.cluster_bits();
         let Some(cluster) = HostOffset::new(host).checked_cluster(bits) else {
@@ -186,7 +178,8 @@ impl<S: Storage, F: WrappedFormat<S>> Qcow2<S, F> {
         Ok(Some(Share::New { taken, old_data }))
     }
 
-    // Takes a cluster for the one at an offset, of which the old mapping is known; None where it can't be taken. Fills it with the old bytes, where they aren't announced as overwritten.
+    // Takes a cluster for the one at an offset, of which the old mapping is known; None where it can't be taken. Fills it with the
+    // old bytes, where they aren't announced as overwritten.
     fn new_cluster_at(
         &mut self,
         cluster: HostCluster,
@@ -203,10 +196,8 @@ impl<S: Storage, F: WrappedFormat<S>> Qcow2<S, F> {
         ensures sound { (p : Pending) (out : List (Option Prepared)) → ImageInvariant S.view F.backing p self.old out
             → HoldsAll S.view F.backing p out
             → FillsSoundly S.view F.backing old.now offset length overwrite self.old self.new result
-            (GainsAt S.view F.backing p self.old self.new out offset length overwrite old.now cluster result)
-            (CantTake S.view cluster self.old self.new) }
+            (GainsAt S.view F.backing p self.old self.new out offset length overwrite old.now cluster result) }
         ensures nameable { IfOk result (λ run. IsSome run → IsHostCluster self.old.file.header.fields.cluster_bits cluster) }
-        ensures former { OnOk result (ListsFormer self.old self.new) }
     {
         let Some(pending) = self.take_data_at(cluster)? else {
             return Ok(None);
@@ -229,14 +220,11 @@ impl<S: Storage, F: WrappedFormat<S>> Qcow2<S, F> {
         ensures fault { (p : Pending) (out : List (Option Prepared)) → ImageInvariant S.view F.backing p self.old out
             → IfErr result IsFaultOrLimit }
         ensures limit { (p : Pending) (out : List (Option Prepared)) → ImageInvariant S.view F.backing p self.old out
-            → IfErr result (λ e. e ≡ Limit → CantTake S.view cluster self.old self.new) }
+            → HoldsAll S.view F.backing p out → IfLimit result (IsLimited S.view F.backing 1 self.old) }
         ensures nameable { IfOk result (λ run. IsSome run → IsHostCluster self.old.file.header.fields.cluster_bits cluster) }
         ensures list { ListGrows self.old self.new }
         ensures takes { (p : Pending) (out : List (Option Prepared)) → ImageInvariant S.view F.backing p self.old out
             → HoldsAll S.view F.backing p out → TakesDataAt S.view F.backing p self.old self.new out cluster result }
-        ensures former { ListsFormer self.old self.new }
-        ensures uses { (p : Pending) (out : List (Option Prepared)) → ImageInvariant S.view F.backing p self.old out
-            → HoldsAll S.view F.backing p out → OnOk result (StaysUsed S.view self.old.file self.new.file) }
     {
         let Some(allocator) = &mut self.allocator else {
             unreachable!();

@@ -1,32 +1,37 @@
 //! A disk of another size: what lies behind a smaller one is dropped first, and the size is written last.
+ghost use Rattle.qcow2_image.specs.Limits.{IfLimit, IsLimited};
+ghost use Rattle.qcow2_image.specs.L1Entries.{IsPlacedNear};
 ghost use Rattle.qcow2_image.specs.SoundParts.{GrowsSoundly};
 ghost use Rattle.qcow2_image.specs.ImageSteps.{ImageFails, ImageStep, MarkedStep};
 ghost use Rattle.qcow2_image.specs.BehindHeader.{StaysBehindHeader};
 ghost use Rattle.qcow2_image.specs.Noted.{ChangesRose, NotesChanges, NotesPart};
 ghost use Rattle.qcow2_alloc.specs.KeptMarks.{HaveRisen, KeepsFileNotes};
-ghost use Rattle.std.specs.Prelude.{ℕ, List, Option, ◌≡◌, ◌↔◌, ◌⊎◌, ◌+◌, ◌-◌, ◌<◌, ◌≤◌, max, [], Some, None, Ok, Err, IfOk, IfErr, IfSome, OnOk, OnErr, IsTrue, MatchOption, false};
-ghost use Rattle.qcow2_image.specs.LackedPlaces.{IsPlacedNear};
+ghost use Rattle.std.specs.Prelude.{List, Option, ◌≡◌, ◌↔◌, ◌⊎◌, ◌+◌, ◌-◌, ◌<◌, ◌≤◌, max, [], Some, None, Ok, Err};
+ghost use Rattle.std.specs.Prelude.{IfOk, IfErr, IfSome, OnOk, OnErr, IsTrue, MatchOption, false};
 ghost use Rattle.qcow2_image.specs.MetAlone.{IsMetGrowing};
 ghost use Rattle.image_access.specs.Moments.{IsLeftBy, EachMomentSince};
 ghost use Rattle.qcow2_metadata.specs.EntryTable.{entry_count};
-ghost use Rattle.qcow2_metadata.specs.TableBytes.{entry_at};
 ghost use Rattle.qcow2_image.specs.Found.{l1_index_of};
 ghost use Rattle.qcow2_metadata.specs.Header.{cluster_size, with_fields, with_size, rounded_up};
 ghost use Rattle.qcow2_laws.specs.CrashInvariant.{Pending};
-ghost use Rattle.qcow2_alloc.specs.declared.error.ImageError.TheVariants.{Limit, MappingPrepared, Preallocation};
+ghost use Rattle.qcow2_alloc.specs.declared.error.ImageError.TheVariants.{MappingPrepared, Preallocation};
 ghost use Rattle.qcow2_alloc.specs.ImageError.{IsFault};
 ghost use Rattle.qcow2_alloc.specs.ImageFile.{view_in, known_in};
 ghost use Rattle.qcow2_alloc.specs.ImageStorage.{is_changed_of};
 ghost use Rattle.qcow2_image.specs.Backings.{HasPrepared};
 ghost use Rattle.qcow2_image.specs.declared.prepared.Prepared.{Prepared};
 ghost use Rattle.qcow2_image.specs.Growing.{Resizes};
-ghost use Rattle.qcow2_image.specs.Image.{HasNothingToFree, IsSameImage, has_noted_change, is_failed, is_writable, size_of, with_marks};
+ghost use Rattle.qcow2_image.specs.Image.{HasNothingToFree, IsSameImage, has_noted_change, is_failed, is_writable};
+ghost use Rattle.qcow2_image.specs.Image.{size_of, with_marks};
 ghost use Rattle.qcow2_image.specs.ImageInvariant.{ImageInvariant, abstract_of, pending_in};
-ghost use Rattle.qcow2_image.specs.LackedTables.{CantGrowDisk, LacksTableReaching};
 ghost use Rattle.qcow2_image.specs.LongerTables.{MakesEntry};
 ghost use Rattle.qcow2_image.specs.PinnedTables.{HasPinnedTable};
-ghost use Rattle.qcow2_image.specs.Refusals.{FreesRefused, IsFaultOrLimit, IsMet, IsMetPreparing, MarksFailed, MarksRefused};
-ghost use Rattle.qcow2_image.specs.Resizing.{CantUncover, EndsTail, FreesTurn, GrowsTables, GrowsTo, IsFaultOrCantUncover, IsMetShrinking, IsResized, Shrinks, UncoversClusters, UncoversNext, UncoversTail, WritesSize, WritesSizeLast, boundary_in, refuses_to_resize, size_after, takes_over};
+ghost use Rattle.qcow2_image.specs.Refusals.{FreesRefused, IsFaultOrLimit, IsMet, IsMetPreparing, MarksFailed};
+ghost use Rattle.qcow2_image.specs.Refusals.{MarksRefused};
+ghost use Rattle.qcow2_image.specs.Resizing.{CantUncover, EndsTail, FreesTurn, GrowsTables, GrowsTo};
+ghost use Rattle.qcow2_image.specs.Resizing.{IsFaultOrCantUncover, IsMetShrinking, IsResized, Shrinks};
+ghost use Rattle.qcow2_image.specs.Resizing.{UncoversClusters, UncoversNext, UncoversTail, WritesSize, WritesSizeLast};
+ghost use Rattle.qcow2_image.specs.Resizing.{boundary_in, refuses_to_resize, size_after, takes_over};
 ghost use Rattle.qcow2_image.specs.Faults.{CountsImageFaults, NoFewerFaults, TellsEachIn, TellsFault};
 
 use crate::Qcow2;
@@ -154,7 +159,8 @@ impl<S: Storage, F: WrappedFormat<S>> Qcow2<S, F> {
         (at, None)
     }
 
-    // Uncovers the whole clusters from an offset on, as far as one L2 table goes. Answers where the next turn begins. Refused, the clusters that are to be freed are freed, but after a fault.
+    // Uncovers the whole clusters from an offset on, as far as one L2 table goes. Answers where the next turn begins. Refused, the
+    // clusters that are to be freed are freed, but after a fault.
     fn uncover_from(&mut self, at: u64) -> Result<u64, ImageError>
         requires usable { is_failed self.old ≡ false }
         requires inside { at < size_of self.old }
@@ -240,7 +246,7 @@ impl<S: Storage, F: WrappedFormat<S>> Qcow2<S, F> {
             (known_in S.view self.old.file) e ⊎ ((e ≡ Preallocation) × IsTrue (takes_over self.old mode))) }
         ensures limit { refuses_to_resize self.old ≡ None → size_of self.old < size → (out : List (Option Prepared))
             → (abstract_of S.view F.backing self.old out).is_sound
-            → IfErr result (λ e. e ≡ Limit → CantGrowDisk S.view F.backing mode size self.old self.new out) }
+            → IfLimit result (IsLimited S.view F.backing (boundary_in self.old size) self.old) }
         ensures image { size_of self.old < size → IsResized (size_after result (size_of self.old) size) self.old self.new }
         ensures sees { GrowsTo S.view F.backing self.old self.new size mode result }
         ensures last { (out : List (Option Prepared)) → (abstract_of S.view F.backing self.old out).is_sound
@@ -310,7 +316,8 @@ impl<S: Storage, F: WrappedFormat<S>> Qcow2<S, F> {
         self.mark_failure(done)
     }
 
-    // Makes a new L1 table that has an entry for an offset, with all old entries. The clusters of the old one are freed then. Where that is refused, those that are to be freed are freed, but after a fault.
+    // Makes a new L1 table that has an entry for an offset, with all old entries. The clusters of the old one are freed then. Where
+    // that is refused, those that are to be freed are freed, but after a fault.
     #[tactic(auto, using(crate::proofs::Call::MetErrors::tables_met))]
     fn renew_l1_table(&mut self, offset: u64) -> Result<(), ImageError>
         requires writable { IsTrue (is_writable self.old) }
@@ -321,13 +328,12 @@ impl<S: Storage, F: WrappedFormat<S>> Qcow2<S, F> {
             → OnOk result (IsPlacedNear self.new.l1_table) }
         ensures limit { (out : List (Option Prepared))
             → ImageInvariant S.view F.backing (pending_in S.view F.backing self.old out) self.old out
-            → IfErr result (λ e. e ≡ Limit → LacksTableReaching S.view offset self.old self.new) }
+            → IfLimit result (IsLimited S.view F.backing (offset + 1) self.old) }
         ensures fault { (out : List (Option Prepared))
             → ImageInvariant S.view F.backing (pending_in S.view F.backing self.old out) self.old out
             → IfErr result IsFaultOrLimit }
         ensures length { OnOk result (entry_count self.new.l1_table ≡ max (entry_count self.old.l1_table)
             (l1_index_of self.old.file.header.fields offset + 1)) }
-        ensures kept { OnOk result ((i : ℕ) → entry_at self.new.l1_table.bytes i ≡ entry_at self.old.l1_table.bytes i) }
         ensures emptied { OnOk result (HasNothingToFree self.new) }
         ensures makes { (out : List (Option Prepared))
             → ImageInvariant S.view F.backing (pending_in S.view F.backing self.old out) self.old out
@@ -353,13 +359,12 @@ impl<S: Storage, F: WrappedFormat<S>> Qcow2<S, F> {
             → OnOk result (IsPlacedNear self.new.l1_table) }
         ensures limit { (out : List (Option Prepared))
             → ImageInvariant S.view F.backing (pending_in S.view F.backing self.old out) self.old out
-            → IfErr result (λ e. e ≡ Limit → LacksTableReaching S.view offset self.old self.new) }
+            → IfLimit result (IsLimited S.view F.backing (offset + 1) self.old) }
         ensures fault { (out : List (Option Prepared))
             → ImageInvariant S.view F.backing (pending_in S.view F.backing self.old out) self.old out
             → IfErr result IsFaultOrLimit }
         ensures length { OnOk result (entry_count self.new.l1_table ≡ max (entry_count self.old.l1_table)
             (l1_index_of self.old.file.header.fields offset + 1)) }
-        ensures kept { OnOk result ((i : ℕ) → entry_at self.new.l1_table.bytes i ≡ entry_at self.old.l1_table.bytes i) }
         ensures emptied { OnOk result (HasNothingToFree self.new) }
         ensures makes { (out : List (Option Prepared))
             → ImageInvariant S.view F.backing (pending_in S.view F.backing self.old out) self.old out
@@ -370,7 +375,8 @@ impl<S: Storage, F: WrappedFormat<S>> Qcow2<S, F> {
         self.free_listed()
     }
 
-    // A fault or want of memory refused a call, since whose begin so many changes were counted. It marks the image as failed, where the storage failed or there are more since.
+    // A fault or want of memory refused a call, since whose begin so many changes were counted. It marks the image as failed, where
+    // the storage failed or there are more since.
     fn mark_refused(&mut self, refusal: &ImageError, before: (u64, u64))
         requires { IsFault refusal.now }
         ensures image { IsSameImage self.old self.new }

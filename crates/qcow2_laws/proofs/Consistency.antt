@@ -68,6 +68,7 @@ module _ (h : HeaderFields) (d : Direction) (p : Pending) (on_storage known : By
   pub consistent : Consistent h on_storage
   consistent = record {
     header_reads = crash_invariant.top.header_reads;
+    reftable_fits = crash_invariant.top.reftable_fits;
     l1_reads = crash_invariant.top.l1_reads;
     reftable_reads = crash_invariant.top.reftable_reads;
     no_snapshots = crash_invariant.top.no_snapshots;

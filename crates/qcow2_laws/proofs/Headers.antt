@@ -151,6 +151,7 @@ module _ (h : HeaderFields) (size autoclear : ℕ) (d : Direction) (p : Pending)
   resized_top = record {
     header_is = writes.is;
     header_reads = writes.reads;
+    reftable_fits = crash_invariant.top.reftable_fits;
     l1_reads = λ i lt. subst L1EntryReads (resized_l1 i) (crash_invariant.top.l1_reads i lt);
     reftable_reads = λ k lt. subst ReftableEntryReads (resized_reftable k) (crash_invariant.top.reftable_reads k lt);
     no_snapshots = crash_invariant.top.no_snapshots;

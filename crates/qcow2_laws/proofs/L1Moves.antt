@@ -74,6 +74,7 @@ module _ (h : HeaderFields) (offset entries : ℕ) (d : Direction) (p : Pending)
   top_now = record {
     header_is = writes.is;
     header_reads = writes.reads;
+    reftable_fits = crash_invariant.top.reftable_fits;
     l1_reads = λ i lt. each_l1 L1EntryReads zero_reads crash_invariant.top.l1_reads i;
     reftable_reads = λ k lt. subst ReftableEntryReads (now_reftable k) (crash_invariant.top.reftable_reads k lt);
     no_snapshots = crash_invariant.top.no_snapshots;

@@ -146,6 +146,7 @@ module _ (h : HeaderFields) (d : Direction) (p p' : Pending) (on_storage known o
   top_now = record {
     header_is = sym (header-first h on_storage on_storage' sizes first) ∙ crash_invariant.top.header_is;
     header_reads = HeaderReads-same h on_storage on_storage' first crash_invariant.top.header_reads;
+    reftable_fits = crash_invariant.top.reftable_fits;
     l1_reads = λ i lt. subst L1EntryReads (l1 i) (crash_invariant.top.l1_reads i lt);
     reftable_reads = λ k lt. each_block ReftableEntryReads new.reads k (crash_invariant.top.reftable_reads k lt);
     no_snapshots = crash_invariant.top.no_snapshots;

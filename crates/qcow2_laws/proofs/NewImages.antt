@@ -8,7 +8,7 @@ use Rattle.std.proofs.Math.Pow.{pow_mono}
 use Rattle.std.proofs.Math.Nat.{mod-eq_of_lt, div-one}
 use Rattle.qcow2_metadata.specs.Bytes.{Bytes, one_if}
 use Rattle.qcow2_metadata.specs.declared.header.HeaderFields.{HeaderFields}
-use Rattle.qcow2_metadata.specs.Header.{header, cluster_size, entries_per_cluster, reftable_entries, count_width, counts_per_block}
+use Rattle.qcow2_metadata.specs.Header.{ReftableFits, cluster_size, entries_per_cluster, reftable_entries, count_width, counts_per_block}
 use Rattle.qcow2_metadata.specs.Entries.{reftable_entry, count, block_count, block_offset, ReftableEntryReads}
 use Rattle.qcow2_metadata.specs.Named.{in_cluster, table_in, named, named_for_tables, named_by_reftable, named_by_l1_table, named_by_l2_tables}
 use Rattle.qcow2_metadata.specs.Consistent.{Consistent, IsConsistent, IsAligned}
@@ -180,9 +180,17 @@ module _ (h : HeaderFields) (b : Bytes) (new : IsNewImage h b) where
         count_none h b c none ∙ sym (cond-false {A = ℕ} (ltb c 3) 1 0 (le-ltb c 3 (omega arith)))
   ]
 
+  fits : ReftableFits h
+  fits =
+      let begins = new.reftable_offset in
+      let entries = new.reads.within_limits.few_reftable_entries in
+      let size : 2 ^ h.cluster_bits ≤ 2 ^ 21 = pow_mono new.reads.well_formed.in_range.cluster_bits.1 in
+      omega (arith, begins, entries, size)
+
   pub new_consistent : Consistent h b
   new_consistent = record {
     header_reads = new.reads;
+    reftable_fits = fits;
     l1_reads = λ i lt. absurd (omega (arith, new.no_l1_table.0));
     reftable_reads = λ k lt. each_entry ReftableEntryReads refl block_reads k;
     no_snapshots = new.no_snapshots;

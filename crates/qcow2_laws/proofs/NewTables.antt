@@ -156,6 +156,7 @@ module _ (h : HeaderFields) (d : Direction) (p : Pending) (on_storage known on_s
   top_now = record {
     header_is = sym (header-first h on_storage on_storage' sizes first) ∙ crash_invariant.top.header_is;
     header_reads = HeaderReads-same h on_storage on_storage' first crash_invariant.top.header_reads;
+    reftable_fits = crash_invariant.top.reftable_fits;
     l1_reads = λ i lt. each_l1 L1EntryReads new.reads i (crash_invariant.top.l1_reads i lt);
     reftable_reads = λ k lt. subst ReftableEntryReads (reftable k) (crash_invariant.top.reftable_reads k lt);
     no_snapshots = crash_invariant.top.no_snapshots;

@@ -108,6 +108,7 @@ module _ (h : HeaderFields) (b : Bytes) (ok : Consistent h b) where
     top = record {
       header_is = is;
       header_reads = ok.header_reads;
+      reftable_fits = ok.reftable_fits;
       l1_reads = ok.l1_reads;
       reftable_reads = ok.reftable_reads;
       no_snapshots = ok.no_snapshots;

@@ -164,6 +164,7 @@ module _ (h : HeaderFields) (offset clusters : ℕ) (blocks counted : ℕ → �
   top_now = record {
     header_is = writes.is;
     header_reads = writes.reads;
+    reftable_fits = new.fits;
     l1_reads = λ i lt. subst L1EntryReads (now_l1 i) (crash_invariant.top.l1_reads i lt);
     reftable_reads = λ k lt. subst ReftableEntryReads (now_reftable k) (new.reads k);
     no_snapshots = crash_invariant.top.no_snapshots;

@@ -148,6 +148,7 @@ entry_reads entry (inr some) = rw some (refl, refl)
 pub consistent : Consistent h b
 consistent = record {
   header_reads = reads;
+  reftable_fits = lit≤ tt;
   l1_reads = λ i lt. absurd (omega arith);
   reftable_reads = λ k lt. (entry_reads _ (entry-cases k lt)).0;
   no_snapshots = refl;

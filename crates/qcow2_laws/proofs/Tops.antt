@@ -88,6 +88,7 @@ IsTop-top h b c same top =
     record {
       header_is = sym (header-first h b c (Sizes-from h b top.header_reads) same.first_cluster) ∙ top.header_is;
       header_reads = HeaderReads-same h b c same.first_cluster top.header_reads;
+      reftable_fits = top.reftable_fits;
       l1_reads = λ i lt. subst L1EntryReads (same.l1 i) (top.l1_reads i lt);
       reftable_reads = λ k lt. subst ReftableEntryReads (same.reftable k) (top.reftable_reads k lt);
       no_snapshots = top.no_snapshots;

@@ -2,7 +2,7 @@
 use Rattle.std.specs.Prelude.{ℕ, ◌+◌, ◌/◌, ◌<◌, ◌≤◌, ◌≡◌, ◌⊎◌, max}
 use Rattle.qcow2_metadata.specs.Bytes.{Bytes, SameFrom}
 use Rattle.qcow2_metadata.specs.declared.header.HeaderFields.{HeaderFields}
-use Rattle.qcow2_metadata.specs.Header.{header, HeaderReads, cluster_size, reftable_entries}
+use Rattle.qcow2_metadata.specs.Header.{header, HeaderReads, ReftableFits, cluster_size, reftable_entries}
 use Rattle.qcow2_metadata.specs.Entries.{l1_entry, reftable_entry, count, block_offset, L1EntryReads, ReftableEntryReads}
 use Rattle.qcow2_metadata.specs.Cover.{cover}
 use Rattle.qcow2_metadata.specs.Named.{named_for_tables}
@@ -14,6 +14,7 @@ use Rattle.qcow2_laws.specs.Guests.{over_guests, names, marks, named_in_either, 
 pub record IsTop (h : HeaderFields) (b : Bytes) : Type 0 where
   pub header_is : header b ≡ h
   pub header_reads : HeaderReads h b
+  pub reftable_fits : ReftableFits h
   pub l1_reads : (i : ℕ) → i < h.l1_entries → L1EntryReads (l1_entry h b i)
   pub reftable_reads : (k : ℕ) → k < reftable_entries h → ReftableEntryReads (reftable_entry h b k)
   pub no_snapshots : h.snapshots ≡ 0

@@ -1,18 +1,12 @@
 -- What is pending as an image is opened: nothing. What is counted more than named is surplus.
-use Rattle.std.specs.Prelude.{ℕ, ◌-◌, ◌≡◌}
+use Rattle.std.specs.Prelude.{ℕ, ◌≡◌}
 use Rattle.qcow2_metadata.specs.Bytes.{Bytes}
-use Rattle.qcow2_metadata.specs.declared.header.HeaderFields.{HeaderFields}
-use Rattle.qcow2_metadata.specs.Entries.{count}
 use Rattle.qcow2_metadata.specs.Header.{header}
-use Rattle.qcow2_metadata.specs.Named.{named}
+pub use Rattle.qcow2_disk.specs.AbstractImages.{surplus_of}
 use Rattle.qcow2_laws.specs.CrashInvariant.{Pending}
 
 abbrev pub nothing_pending : (ℕ → ℕ) → Pending
 nothing_pending surplus = record { new_data = λ c. 0; new_tables = λ c. 0; old_tables = λ c. 0; old_data = λ c. 0; surplus = surplus }
-
--- how much more often each cluster is counted than named
-abbrev pub surplus_of : HeaderFields → Bytes → ℕ → ℕ
-surplus_of h b c = count h b c - named h b c
 
 -- no cluster is counted more often than it is named
 abbrev pub HasNoLeaks : Bytes → Type 0

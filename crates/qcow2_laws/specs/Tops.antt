@@ -2,7 +2,7 @@
 use Rattle.std.specs.Prelude.{ℕ, ◌+◌, ◌*◌, ◌/◌, ◌%◌, ◌<◌, ◌≤◌, ◌≡◌, ◌≢◌, ◌⊎◌}
 use Rattle.qcow2_metadata.specs.Bytes.{Bytes, SameFrom}
 use Rattle.qcow2_metadata.specs.declared.header.HeaderFields.{HeaderFields}
-use Rattle.qcow2_metadata.specs.Header.{header, HeaderReads, cluster_size, entries_per_cluster, reftable_entries, count_width, counts_per_block}
+use Rattle.qcow2_metadata.specs.Header.{header, HeaderReads, ReftableFits, cluster_size, entries_per_cluster, reftable_entries, count_width, counts_per_block}
 use Rattle.qcow2_metadata.specs.Entries.{l1_entry, l2_entry, reftable_entry, count, block_count, host_offset, block_offset, L1EntryReads, ReftableEntryReads}
 use Rattle.qcow2_metadata.specs.Cover.{cover, entry_cover}
 use Rattle.qcow2_metadata.specs.Named.{in_run, named_by_reftable}
@@ -123,6 +123,7 @@ pub record IsNewL1 (h : HeaderFields) (d : Direction) (p : Pending) (on_storage 
 -- how often new refblocks count it, which no old one does. Each cluster of the table and of new refblocks is one of new tables, counted on the storage, or counted by new refblocks.
 pub record IsNewReftable (h : HeaderFields) (d : Direction) (p : Pending) (on_storage known : Bytes) (offset clusters : ℕ) (blocks counted : ℕ → ℕ) : Type 0 where
   pub aligned : IsAligned h offset
+  pub fits : ReftableFits (with_places h (with_reftable_at h offset clusters))
   pub same : (k : ℕ) → block_offset (reftable_entry h on_storage k) ≢ 0 → reftable_entry (with_places h (with_reftable_at h offset clusters)) on_storage k ≡ reftable_entry h on_storage k
   pub known_same : (k : ℕ) → reftable_entry (with_places h (with_reftable_at h offset clusters)) known k ≡ reftable_entry (with_places h (with_reftable_at h offset clusters)) on_storage k
   pub reads : (k : ℕ) → ReftableEntryReads (reftable_entry (with_places h (with_reftable_at h offset clusters)) on_storage k)

@@ -1,7 +1,7 @@
 -- When an image is consistent.
 use Rattle.std.specs.Prelude.{ℕ, ◌/◌, ◌≡◌, ◌≢◌, ◌<◌, ◌≤◌, Bool, IsTrue, Option, Some, None, ⊤}
 use Rattle.qcow2_metadata.specs.Bytes.{Bytes}
-use Rattle.qcow2_metadata.specs.Header.{HeaderFields, header, HeaderReads, cluster_size, entries_per_cluster, reftable_entries}
+use Rattle.qcow2_metadata.specs.Header.{HeaderFields, header, HeaderReads, ReftableFits, cluster_size, entries_per_cluster, reftable_entries}
 pub use Rattle.qcow2_metadata.specs.Header.{IsAligned}
 use Rattle.qcow2_metadata.specs.Entries.{l1_entry, l2_entry, reftable_entry, count, host_offset, block_offset, is_copied, L1EntryReads, ReftableEntryReads}
 use Rattle.qcow2_metadata.specs.Cover.{entry_cover}
@@ -42,6 +42,7 @@ EachCover h b P =
 
 pub record Consistent (h : HeaderFields) (b : Bytes) : Type 0 where
   pub header_reads : HeaderReads h b
+  pub reftable_fits : ReftableFits h
   pub l1_reads : (i : ℕ) → i < h.l1_entries → L1EntryReads (l1_entry h b i)
   pub reftable_reads : (k : ℕ) → k < reftable_entries h → ReftableEntryReads (reftable_entry h b k)
   pub no_snapshots : h.snapshots ≡ 0

@@ -1,5 +1,5 @@
 -- The header's numbers at their places, its extensions and names, and when a header reads.
-use Rattle.std.specs.Prelude.{ℕ, ◌+◌, ◌-◌, ◌*◌, ◌/◌, ◌%◌, ◌^◌, ◌≡◌, ◌≢◌, ◌≤◌, ◌⊎◌, Bool, ◌==◌, List, [], ◌∷◌, length, Option, Some, None, ⊤, if◌then◌else◌}
+use Rattle.std.specs.Prelude.{ℕ, ◌+◌, ◌-◌, ◌*◌, ◌/◌, ◌%◌, ◌^◌, ◌≡◌, ◌≢◌, ◌<◌, ◌≤◌, ◌⊎◌, Bool, ◌==◌, List, [], ◌∷◌, length, Option, Some, None, ⊤, if◌then◌else◌}
 use Rattle.std.specs.Str.{IsUtf8}
 pub use Rattle.qcow2_metadata.specs.declared.header.HeaderFields.{HeaderFields}
 use Rattle.qcow2_metadata.specs.Bytes.{Bytes, bytes_from, number_at, has_bit}
@@ -141,6 +141,10 @@ pub record IsWithinLimits (h : HeaderFields) : Type 0 where
 pub record HeaderReads (h : HeaderFields) (b : Bytes) : Type 0 where
   pub well_formed : IsWellFormed h b
   pub within_limits : IsWithinLimits h
+
+-- 64 bits hold the end of the reftable
+abbrev pub ReftableFits : HeaderFields → Type 0
+ReftableFits h = h.reftable_offset + 8 * reftable_entries h < 2 ^ 64
 
 -- ---- what a contract sees of a header in memory: its numbers and its names
 pub record HeaderView : Type 0 where

@@ -1,9 +1,9 @@
 //! The header and its tables as they stand in a file, wherever they lie: what doesn't begin on a cluster is read there too.
 
-ghost use Rattle.std.specs.Prelude.{◌≡◌, ℕ, ◌+◌, ◌*◌, ◌^◌, ◌<◌, ◌≤◌, length, IfOk, IfErr};
+ghost use Rattle.std.specs.Prelude.{◌≡◌, ℕ, ◌+◌, ◌*◌, ◌^◌, ◌<◌, ◌≤◌, length, IfOk, IfErr, OnOk};
 ghost use Rattle.image_access.specs.Contents.{bytes_at};
 ghost use Rattle.qcow2_metadata.specs.Bytes.{byte_at};
-ghost use Rattle.qcow2_metadata.specs.Header.{header, reftable_entries as reftable_entries_of, HeaderReads, IsInRange, IsWithinLimits};
+ghost use Rattle.qcow2_metadata.specs.Header.{header, reftable_entries as reftable_entries_of, HeaderReads, IsInRange, IsWithinLimits, ReftableFits};
 ghost use Rattle.qcow2_metadata.specs.HeaderLoad.{IsReasonNotToRead};
 ghost use Rattle.qcow2_metadata.specs.Entries.{l1_entry, reftable_entry, L1EntryReads, ReftableEntryReads};
 ghost use Rattle.qcow2_metadata.specs.MetadataError.{OnlyReads};
@@ -28,6 +28,7 @@ fn load_entries<S: Storage>(
     ensures length { IfOk result (λ bytes. length bytes.items ≡ 8 * entries) }
     ensures bytes { (S.view storage.old).is_honest
         → IfOk result (λ bytes. bytes.items ≡ bytes_at (S.view storage.old).contents at (8 * entries)) }
+    ensures fits { OnOk result (at + 8 * entries < 2 ^ 64) }
     ensures reads { IfOk result (λ bytes. EachReads (IsClear reserved) bytes.items) }
     ensures err { IfErr result (IsReasonNotToLoad (2 ^ 64 ≤ at + 8 * entries)
         ((S.view storage.old).is_honest → SomeUnread (IsClear reserved) (bytes_at (S.view storage.old).contents at (8 * entries)))) }
@@ -110,6 +111,7 @@ impl HeaderFields {
         ensures length { IfOk result (λ bytes. length bytes.items ≡ 8 * reftable_entries_of self.now) }
         ensures entries { (S.view storage.old).is_honest → IfOk result (λ bytes. (i : ℕ)
             → entry_at bytes.items i ≡ reftable_entry self.now (byte_at (S.view storage.old).contents) i) }
+        ensures fits { OnOk result (ReftableFits self.now) }
         ensures reads { IfOk result (λ bytes. EachReads ReftableEntryReads bytes.items) }
         ensures err { IfErr result (IsReasonNotToLoad
             (2 ^ 64 ≤ self.now.reftable_offset + 8 * reftable_entries_of self.now)

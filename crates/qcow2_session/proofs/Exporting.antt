@@ -1,5 +1,5 @@
 -- A raw disk is made as an image's disk is, range by range.
-use Rattle.std.proofs.Common.{◌≡◌, false, inl, inr, ℕ, ◌+◌, ◌-◌, ◌<◌, ◌≤◌, List, [], length, replicate, sym, ap, ◌∙◌, subst, arith}
+use Rattle.std.proofs.Common.{◌≡◌, false, inl, inr, ℕ, ◌+◌, ◌-◌, ◌/◌, ◌<◌, ◌≤◌, Bool, List, [], is_some, length, refl, replicate, sym, ap, ◌∙◌, subst, arith}
 use Rattle.std.proofs.lemmas.Bool.{cases_lt}
 use Rattle.std.proofs.lemmas.Grind.{common_steps}
 use Rattle.std.proofs.lemmas.List.{length-replicate, get_or-replicate}
@@ -10,10 +10,16 @@ use Rattle.image_access.specs.Contents.{overwritten, resized}
 use Rattle.image_access.specs.Moments.{StorageView}
 use Rattle.image_access.proofs.Bytes.{length-resized, byte_at-resized, byte_at-resized_past, length-overwritten_within, byte_at-overwritten, byte_at-overwritten_below, byte_at-overwritten_behind}
 use Rattle.qcow2_metadata.specs.Bytes.{byte_at}
+use Rattle.qcow2_metadata.specs.Cover.{cover}
 use Rattle.qcow2_metadata.specs.Guest.{known_byte}
+use Rattle.qcow2_metadata.specs.Header.{cluster_size}
+use Rattle.qcow2_metadata.specs.declared.header.HeaderFields.{HeaderFields}
 use Rattle.qcow2_disk.specs.Disk.{Disk}
 use Rattle.qcow2_disk.specs.AbstractImages.{Guest, guest_of}
 use Rattle.qcow2_disk.specs.Calls.{AnsweredEffect, Shows, IsSame}
+use Rattle.qcow2_disk.specs.Found.{Kind, IsFoundIn, IsFound as IsFoundOf}
+use Rattle.qcow2_disk.specs.Found as K
+use Rattle.qcow2_alloc.specs.ImageFile.{known_in, state_in}
 use Rattle.qcow2_alloc.specs.declared.error.ImageError.{ImageError}
 use Rattle.qcow2_alloc.specs.declared.error.ImageError.TheVariants as I
 use Rattle.qcow2_image.specs.Calls.{refusal_of}
@@ -21,7 +27,9 @@ use Rattle.qcow2_image.specs.Image.{IsSameImage, is_failed, size_of}
 use Rattle.qcow2_image.specs.Refusals.{passes, refuse_if, refuses_to_read, unusable}
 use Rattle.qcow2_image.specs.declared.image.Qcow2.{Qcow2}
 use Rattle.qcow2_image.specs.declared.prepared.Prepared.{Prepared}
-use Rattle.qcow2_image.specs.ImageInvariant.{abstract_of}
+use Rattle.qcow2_image.specs.ImageInvariant.{ImageInvariant, abstract_of, backing_bytes, disk_of, pending_in}
+use Rattle.qcow2_image.proofs.HiddenBytes.{header_is}
+use Rattle.qcow2_image.proofs.Map.Reading.{none_below, zero_shown}
 use Rattle.qcow2_session.specs.Conversions.{RefusedConversion, IsRawOf, IsUnchanged, IsFilledUpTo, Fills}
 use Rattle.qcow2_session.proofs.Causing.{then_none}
 use Rattle.qcow2_session.proofs.Parts.{not_failed_yet, part_reads}
@@ -100,3 +108,20 @@ part_of_disk old mid same at n fits works none =
   where
     all_within : (size : ℕ) → passes size 0 size ≡ false
     all_within size = grind (arith, common_steps)
+
+-- zeros that the tables tell of, as the disk has them
+module _ {S F : Type 0} (view : S → StorageView) (backing : F → BackingView) (image : Qcow2 S F) (out : List (Option Prepared)) (sound : ImageInvariant view backing (pending_in view backing image out) image out) where
+  pub zeros_there : (at max n : ℕ) (explicit : Bool) → IsFoundIn (known_in view image.file) (is_some image.backing) at max (K.zeros explicit) n → Shows (disk_of view backing image) at (replicate n 0)
+  zeros_there at max n explicit is i lt =
+      let h = image.file.header.fields in
+      let known = known_in view image.file in
+      let below = backing_bytes view backing image.backing in
+      let found : IsFoundOf h known (is_some image.backing) at max (K.zeros explicit) n = subst (λ (h : HeaderFields). IsFoundOf h known (is_some image.backing) at max (K.zeros explicit) n) (header_is view backing image out sound) is in
+      let inside : i < n = omega (arith, lt, length-replicate {A = ℕ} n 0) in
+      elim (cases_lt at h.size) [
+        | inl lies ↦ let run = found.run lies in
+            zero_shown (state_in view image.file (pending_in view backing image out)) sound.file.caches.kept.kept.crash_invariant at n run.longest.alike (is_some image.backing) below
+            (cover h known (at / cluster_size h)) refl (none_below view backing image.backing) explicit run.kind_is i inside
+            ∙ ap known_byte (sym (get_or-replicate n i 0 0 inside))
+        | inr past ↦ let never = (found.past past).0 in absurd cc
+      ]

@@ -1,5 +1,6 @@
 pub mod Turns
 mod Opening
+mod FirstWrites
 mod Places
 mod Bytes
 mod Beyond

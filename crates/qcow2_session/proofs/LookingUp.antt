@@ -1,12 +1,20 @@
 -- The lookups that a run of an image that was just opened begins with.
 use Rattle.std.proofs.Common.{◌≡◌, inl, inr, List, [], ◌∷◌, Bool, false, sym, ap, ◌∙◌, subst, ℕ, map}
+use Rattle.image_access.specs.Backing.{BackingView}
+use Rattle.image_access.specs.Moments.{StorageView}
 use Rattle.qcow2_metadata.specs.Bytes.{Bytes}
 use Rattle.qcow2_disk.specs.Found.{Kind, IsFoundIn}
-use Rattle.qcow2_disk.specs.AbstractImages.{Setting, Abstraction}
-use Rattle.qcow2_disk.specs.Runs.{Command, Reply, State, CommandStep, Run, RefinesAlong, get_mapping, mapping_is}
-use Rattle.qcow2_session.specs.Commands.{reply_of}
+use Rattle.qcow2_disk.specs.AbstractImages.{Setting}
+use Rattle.qcow2_disk.specs.Runs.{Command, State, CommandStep, get_mapping, mapping_is}
+use Rattle.qcow2_alloc.specs.ImageFile.{known_in}
+use Rattle.qcow2_image.specs.Found.{found_kind}
+use Rattle.qcow2_session.specs.Commands.{command_of, reply_of}
 use Rattle.qcow2_session.specs.Sessions.{LooksUp}
+use Rattle.qcow2_session.specs.Told.{RunPoint, StepsAlong}
+use Rattle.qcow2_session.specs.declared.session.Command.{Command as SessionCommand}
+use Rattle.qcow2_session.specs.declared.session.Command.TheVariants as C
 use Rattle.qcow2_session.specs.declared.session.Reply.{Reply as SessionReply}
+use Rattle.qcow2_session.specs.declared.session.Reply.TheVariants as R
 
 none_looked : (b : Bytes) (is_backed : Bool) (commands : List Command) → LooksUp b is_backed commands []
 none_looked b is_backed [] = tt
@@ -23,12 +31,13 @@ still_works x s t place offset max from kind n (inl (failed, answer, same)) ok =
 still_works x s t place offset max from kind n (inr (inl (works, may, answered, (guest, means, is)))) ok = ap (λ (u : State). u.is_failed) is
 still_works x s t place offset max from kind n (inr (inr (works, may, fault, is))) ok = absurd fault
 
-module _ {D P : Type 0} (spec : Abstraction D P) (x : Setting) (before : ℕ → ℕ) (leaked : ℕ) (b : Bytes) where
-  pub looked_up : (old new : D) (s end : State) (commands : List Command) (replies : List Reply) (run : Run x s commands replies end) → RefinesAlong spec x before leaked old new s end commands replies run
-      → s.is_failed ≡ false → spec.known old ≡ b → LooksUp b x.is_backed commands replies
-  looked_up old new s end (get_mapping place offset max ∷ commands) (mapping_is from kind n ∷ replies) run along ok same =
-      let works = still_works x s run.0 place offset max from kind n run.1 ok in
-      let finds = along.3.told works in
-      let known : spec.known along.0 ≡ b = finds.1 ∙ same in
-      (subst (λ (k : Bytes). IsFoundIn k x.is_backed offset max kind n) known finds.0, looked_up along.0 new run.0 end commands replies run.2 along.4 works known)
-  looked_up old new s end commands replies run along ok same = tt
+module _ {S F : Type 0} (view : S → StorageView) (backing : F → BackingView) (x : Setting) (b : Bytes) where
+  pub looked_up : (first : RunPoint S F) (s end : State) (commands : List SessionCommand) (replies : List SessionReply) (points : List (RunPoint S F)) → StepsAlong view backing x first s commands replies points end
+      → s.is_failed ≡ false → known_in view first.image.file ≡ b → LooksUp b x.is_backed (map command_of commands) (map reply_of replies)
+  looked_up first s end (C.GetMapping slot offset max ∷ commands) (R.Mapping m ∷ replies) (next ∷ points) steps ok same =
+      let works = still_works x s steps.0.end slot offset max m.offset (found_kind m.kind) m.length steps.0.step ok in
+      let finds = steps.0.interval.told works in
+      let known : known_in view next.image.file ≡ b = finds.1 ∙ same in
+      (subst (λ (k : Bytes). IsFoundIn k x.is_backed offset max (found_kind m.kind) m.length) known finds.0, looked_up next steps.0.end end commands replies points steps.1 works known)
+  looked_up first s end (C.GetMapping slot offset max ∷ commands) (R.Mapping m ∷ replies) [] steps ok same = absurd steps
+  looked_up first s end commands replies points steps ok same = tt

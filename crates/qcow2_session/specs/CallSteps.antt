@@ -1,17 +1,16 @@
 -- What a command, a read or a conversion leaves of an image as it was, whatever the contents are, and what it counts.
-use Rattle.std.specs.Prelude.{◌≡◌, ℕ, true, List, Option, Result, IfErr}
+use Rattle.std.specs.Prelude.{◌≡◌, ◌+◌, ℕ, true, List, Option, Result, IfErr}
 use Rattle.image_access.specs.Backing.{BackingView}
 use Rattle.image_access.specs.Moments.{StorageView}
 use Rattle.qcow2_alloc.specs.ImageFile.{known_in}
 use Rattle.qcow2_alloc.specs.declared.error.ImageError.{ImageError}
-use Rattle.qcow2_alloc.specs.declared.error.ImageError.TheVariants.{Limit}
 use Rattle.qcow2_image.specs.Backings.{HasPrepared}
 use Rattle.qcow2_image.specs.BehindHeader.{StaysBehindHeader}
 use Rattle.qcow2_image.specs.Clearing.{IsUnderMapping}
 use Rattle.qcow2_image.specs.Faults.{CountsImageFaults, SameFaults}
 use Rattle.qcow2_image.specs.Image.{IsSameImage, KeepsWholeHeader, is_failed}
 use Rattle.qcow2_image.specs.L1Entries.{NeedsFarEntry}
-use Rattle.qcow2_image.specs.LackedPlaces.{LacksPlaceFor}
+use Rattle.qcow2_image.specs.Limits.{IfLimit, IsLimited}
 use Rattle.qcow2_image.specs.MetAlone.{CopiesCompressed, IsMetTaking}
 use Rattle.qcow2_image.specs.Unwritten.{ReadsQuietly}
 use Rattle.qcow2_image.specs.declared.image.Qcow2.{Qcow2}
@@ -39,11 +38,11 @@ module _ {S F : Type 0} (view : S → StorageView) (backing : F → BackingView)
     pub marks : is_failed new ≡ is_failed old
     pub quiet : ReadsQuietly view old new
 
-  -- The first bytes of a range are written to a sound image. A refusal has its cause; 9 (table prepared) and an answer heed the mappings that are out; 13 (limit) comes for want of a place.
+  -- The first bytes of a range are written to a sound image. A refusal has its cause; 9 (table prepared) and an answer heed the mappings that are out; 13 (limit) comes where a limit was met.
   pub record WritesSoundly (offset n : ℕ) (out : List (Option Prepared)) (result : Result ℕ ImageError) : Type 0 where
     pub met : IfErr result (IsMetTaking (HasPrepared out) (IsUnderMapping old.file.header.fields offset out) (CopiesCompressed offset n true new.file.header.fields (known_in view new.file)) (NeedsFarEntry old offset))
     pub taken : HeedsFirst view backing old out offset n result
-    pub limit : IfErr result (λ e. e ≡ Limit → LacksPlaceFor view offset n old new)
+    pub limit : IfLimit result (IsLimited view backing (offset + n) old)
 
   module _ {T : Type 0} (result : Result T ImageError) where
     -- A read of several parts leaves the header in memory too, and writes nothing where no cached table is modified.

@@ -30,7 +30,8 @@ use Rattle.qcow2_image.specs.declared.mapping.MappingKind.TheVariants.{Raw}
 use Rattle.qcow2_image.specs.declared.mapping.Place.TheVariants.{Image}
 use Rattle.qcow2_image.specs.declared.prepared.Prepared.{Prepared}
 use Rattle.qcow2_session.specs.CountedFaults.{refusal_in}
-use Rattle.qcow2_session.specs.Sessions.{HeedsMappings, LacksPlaceToWrite, NeedsFarToWrite}
+use Rattle.qcow2_image.specs.Limits.{IsLimited}
+use Rattle.qcow2_session.specs.Sessions.{HeedsMappings, NeedsFarToWrite}
 use Rattle.qcow2_session.specs.declared.session.Command.{Command}
 use Rattle.qcow2_session.specs.declared.session.Reply.{Reply}
 
@@ -62,9 +63,11 @@ module _ {S F : Type 0} (image : Qcow2 S F) where
   first_cause (C.ReadvSpecial offset n) = unusable image
   first_cause (C.TryReadvSpecial offset n) = unusable image
   first_cause C.Flush = refuse_if (is_failed image) I.Failed
+  first_cause C.Sync = refuse_if (is_failed image) I.Failed
   first_cause (C.ResizeGrow size mode) = refuses_to_grow size mode
   first_cause (C.ResizeShrink size) = refuses_to_resize image
   first_cause C.Size = None
+  first_cause C.Leaked = None
 
 -- its slot is taken or empty, or the range passes the end of the mapping there, or of what was looked up there
 abbrev pub IsMisused : List (Option Prepared) → (found : ℕ → Option Mapping) → Command → Type 0
@@ -94,9 +97,11 @@ MayMeet (C.DiscardToAny offset n) e = IsMetPreparing e
 MayMeet (C.DiscardToBacking offset n) e = IsMetPreparing e
 MayMeet (C.ReadvSpecial offset n) e = IsMet e ⊎ (e ≡ I.NotCompressed offset)
 MayMeet C.Flush e = IsOfTables e
+MayMeet C.Sync e = IsFault e
 MayMeet (C.ResizeGrow size mode) e = IsMetPreparing e
 MayMeet (C.ResizeShrink size) e = IsFault e ⊎ (e ≡ I.MappingPrepared)
 MayMeet C.Size e = ⊥
+MayMeet C.Leaked e = ⊥
 MayMeet command e = IsMet e
 
 module _ {S F : Type 0} (view : S → StorageView) (old new : Qcow2 S F) (before : List (Option Prepared)) where
@@ -168,9 +173,9 @@ module _ {S F : Type 0} (view : S → StorageView) (backing : F → BackingView)
   abbrev pub IsMetPuttingAt : (slot at : ℕ) → ImageError → Type 0
   IsMetPuttingAt slot at e = (p : Prepared) × (slice_get before slot ≡ Some (Some p)) × IsMetPutting (IsCacheHeld old before) p at e
 
-  -- A write is refused for a limit only where the rest of its range has that cause, behind the bytes that are told as written. So it is of 20. What is prepared is heeded by each of its parts.
+  -- A write is refused for a limit only where it met one. It is refused 20 only where the rest of its range has that cause, behind the bytes that are told as written. What is prepared is heeded by each of its parts.
   abbrev pub StopsRightly : (offset : ℕ) → List ℕ → Reply → Type 0
-  StopsRightly offset bytes (R.WriteRefused e n) = (e ≡ I.Limit → LacksPlaceToWrite view backing old new offset bytes n) × HeedsMappings view backing old before offset bytes (Err (e, n)) × (e ≡ I.Overflow → NeedsFarToWrite view backing old offset bytes n)
+  StopsRightly offset bytes (R.WriteRefused e n) = (e ≡ I.Limit → IsLimited view backing (offset + length bytes) old) × HeedsMappings view backing old before offset bytes (Err (e, n)) × (e ≡ I.Overflow → NeedsFarToWrite view backing old offset bytes n)
   StopsRightly offset bytes R.Done = HeedsMappings view backing old before offset bytes (Ok tt)
   StopsRightly offset bytes reply = Unit {0}
 

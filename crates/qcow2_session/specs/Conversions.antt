@@ -1,5 +1,5 @@
 -- What converting does: an image's disk is made as a raw disk is, or a raw disk as an image's disk is.
-use Rattle.std.specs.Prelude.{ℕ, false, ◌+◌, ◌%◌, ◌≡◌, ◌⊎◌, ◌≤◌, ◌<◌, IsTrue, List, [], ◌∷◌, length, Option, Some, Result, Ok, Err}
+use Rattle.std.specs.Prelude.{ℕ, false, ◌%◌, ◌≡◌, ◌⊎◌, ◌≤◌, ◌<◌, IsTrue, List, [], ◌∷◌, length, Option, Some, Result, Ok, Err}
 use Rattle.image_access.specs.Backing.{BackingView}
 use Rattle.image_access.specs.Moments.{StorageView, Rose}
 use Rattle.qcow2_metadata.specs.Bytes.{byte_at}
@@ -17,12 +17,12 @@ use Rattle.qcow2_image.specs.declared.prepared.Prepared.{Prepared}
 use Rattle.qcow2_image.specs.Backings.{HasPrepared}
 use Rattle.qcow2_image.specs.Calls.{refusal_of}
 use Rattle.qcow2_image.specs.Image.{is_writable, size_of}
-use Rattle.qcow2_image.specs.LackedPlaces.{LacksPlaceFor}
+use Rattle.qcow2_image.specs.Limits.{IsLimited}
 use Rattle.qcow2_image.specs.MetAlone.{HasCompressedIn}
 use Rattle.qcow2_image.specs.Preallocation.{IsUnderMappingIn}
 use Rattle.qcow2_image.specs.Refusals.{IsFaultOrLimit, IsMet}
 use Rattle.qcow2_image.specs.ImageInvariant.{abstract_of}
-use Rattle.qcow2_session.specs.Sessions.{HasWritten, IsOfWriting, Writes, cluster_size_of}
+use Rattle.qcow2_session.specs.Sessions.{HasWritten, IsOfWriting, cluster_size_of}
 
 -- the bytes of a disk below its size are these
 abbrev pub IsRawOf : Disk → List ℕ → Type 0
@@ -94,21 +94,10 @@ module _ {S F : Type 0} (view : S → StorageView) (backing : F → BackingView)
   abbrev pub ImportsAnyAt : (at n : ℕ) → Result (Unit {0}) ImageError → Type 0
   ImportsAnyAt at n result = (bytes : List ℕ) × (length bytes ≡ n) × ImportsAt at bytes result
 
-  -- Why a range isn't made as a raw disk is for a limit, 13. There is an image `before` a part of it. Some bytes are written there, from the range's begin up to that part, and nothing else of the disk changed. Of that image the next n bytes can't be prepared, of which there are no more than a cluster has.
-  pub record LacksPlaceToImport (from to : ℕ) : Type 0 where
-    pub before : Qcow2 S F
-    pub done : ℕ
-    pub written : (bytes : List ℕ) × (length bytes ≡ done) × Writes view backing old before from bytes (Ok tt)
-    pub n : ℕ
-    pub some : 0 < n
-    pub few : n ≤ cluster_size_of old
-    pub within : from + done + n ≤ to
-    pub lacks : LacksPlaceFor view (from + done) n before new
-
-  -- Why a range isn't written that may be read: what the work meets, with its cause where that is a limit. Or that the image isn't to be written, or that an L2 table of the range is kept for a mapping.
+  -- Why a range isn't written that may be read: what the work meets, which may be a limit. Or that the image isn't to be written, or that an L2 table of the range is kept for a mapping.
   abbrev pub IsReasonNotToWrite : (from to : ℕ) → List (Option Prepared) → ImageError → Type 0
   IsReasonNotToWrite from to out e =
-      (IsMet e × (e ≡ Limit → LacksPlaceToImport from to)) ⊎ (((e ≡ ReadOnly) × (is_writable old ≡ false)) ⊎ ((e ≡ TablePrepared) × IsUnderMappingIn old.file.header.fields from to out))
+      (IsMet e × (e ≡ Limit → IsLimited view backing to old)) ⊎ (((e ≡ ReadOnly) × (is_writable old ≡ false)) ⊎ ((e ≡ TablePrepared) × IsUnderMappingIn old.file.header.fields from to out))
 
   -- the guest sees what it saw
   abbrev pub IsUnchanged : {A : Type 0} → Result A ImageError → Type 0

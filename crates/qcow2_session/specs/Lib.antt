@@ -5,6 +5,7 @@ pub mod Sessions
 pub mod Causes
 pub mod Told
 pub mod Opening
+pub mod Recorded
 pub mod Boxes
 pub mod Marks
 pub mod CallSteps

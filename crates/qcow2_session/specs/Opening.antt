@@ -10,7 +10,6 @@ use Rattle.qcow2_disk.specs.Headline.{IsHeadline}
 use Rattle.qcow2_disk.specs.Runs.{RefinesState, started}
 use Rattle.qcow2_alloc.specs.declared.error.ImageError.{ImageError}
 use Rattle.qcow2_alloc.specs.declared.error.ImageError.TheVariants as I
-use Rattle.qcow2_alloc.specs.LoadedTables.{ReftableFits}
 use Rattle.qcow2_image.specs.BehindHeader.{LiesBehindHeader, NamesTablesBehind, StaysBehindHeader}
 use Rattle.qcow2_image.specs.CountedOpening.{OpeningCounts}
 use Rattle.qcow2_image.specs.declared.image.Missing.{Missing}
@@ -19,7 +18,7 @@ use Rattle.qcow2_image.specs.declared.image.Qcow2.{Qcow2}
 use Rattle.qcow2_image.specs.Image.{is_failed, is_writable, number_of, storage_of_image}
 use Rattle.qcow2_image.specs.Opened.{IsKeptSince, IsOpenedFrom, LeavesStorage, NeedsMissing}
 use Rattle.qcow2_image.specs.ImageInvariant.{IsHonestBacking, abstract_of, image_abstraction}
-use Rattle.qcow2_image.specs.Readable.{OpensRightly}
+use Rattle.qcow2_image.specs.Readable.{IsRefusedRightly, OpensRightly}
 use Rattle.qcow2_image.specs.Unwritten.{ContentsStayThroughout}
 use Rattle.qcow2_session.specs.Commands.{command_of, reply_of}
 use Rattle.qcow2_session.specs.CountedFaults.{RunCounts}
@@ -42,13 +41,17 @@ abbrev pub bytes_below : {F : Type 0} → (F → BackingView) → Option F → O
 bytes_below backing None = None
 bytes_below backing (Some disk) = Some (byte_at (backing disk).bytes)
 
--- Why a consistent image isn't opened for writing: memory was refused, or the storage failed; a file is missing that it needs; or its reftable would end past 64 bits.
+-- Why a consistent image isn't opened for writing: memory was refused, or the storage failed; or a file is missing that it needs.
 abbrev pub MayRefuseToOpen : List ℕ → Missing → ImageError → Type 0
 MayRefuseToOpen contents missing I.Memory = Unit {0}
 MayRefuseToOpen contents missing I.Storage = Unit {0}
 MayRefuseToOpen contents missing I.Dependency = NeedsMissing missing contents
-MayRefuseToOpen contents missing I.Limit = ¬ ReftableFits (header (byte_at contents))
 MayRefuseToOpen contents missing e = ⊥
+
+-- An image with these contents opens again for writing: it is consistent, and whichever files are missing then, what opening refuses it for by its contents is one of these few reasons.
+pub record OpensAgain (contents : List ℕ) : Type 0 where
+  pub consistent : IsConsistent (byte_at contents)
+  pub refused : (missing : Missing) (e : ImageError) → IsRefusedRightly contents true missing e → MayRefuseToOpen contents missing e
 
 module _ {S F : Type 0} (view : S → StorageView) (backing : F → BackingView) (before : StorageView) (below : Option F) where
   -- there was no room for the replies, and nothing was called
@@ -60,6 +63,15 @@ module _ {S F : Type 0} (view : S → StorageView) (backing : F → BackingView)
   Headline commands (Ok run) = before.is_honest → IsConsistent (byte_at before.contents) → IsHonestBacking view backing below
       → HadNoRoom run.0 run.1.items ⊎ IsHeadline (image_abstraction view backing) before (bytes_below backing below) run.0 (map command_of commands) (map reply_of run.1.items)
   Headline commands (Err refused) = before.is_honest → IsConsistent (byte_at before.contents) → MayRefuseToOpen before.contents (missing_beside below) refused.1 × IsKeptSince before (view refused.0)
+
+  -- Where a consistent image stood on an honest storage, and the disk below is honest, whatever this storage held since then opens again.
+  abbrev pub OpensAgainSince : StorageView → Type 0
+  OpensAgainSince new = before.is_honest → IsConsistent (byte_at before.contents) → IsHonestBacking view backing below → (c : List ℕ) → new.had_since before.moment c → OpensAgain c
+
+  -- so it is where it was opened, and where it was refused
+  abbrev pub EachMomentOpensAgain : Result (Qcow2 S F × Vec Reply Global) (S × ImageError) → Type 0
+  EachMomentOpensAgain (Ok run) = OpensAgainSince (view (storage_of_image run.0))
+  EachMomentOpensAgain (Err refused) = OpensAgainSince (view refused.0)
 
   -- The image that was opened, whatever the contents were, is over the disk below, has its number, is to be written and works. Opening changed the autoclear field alone, and the replies tell of it.
   -- Where the header names its tables behind cluster 0, none stands there as it is opened. Then the run leaves the bytes there alone, but for the header's numbers.

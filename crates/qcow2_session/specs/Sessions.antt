@@ -25,7 +25,6 @@ use Rattle.qcow2_image.specs.CallParts.{AreCopied}
 use Rattle.qcow2_image.specs.Found.{l1_index_of}
 use Rattle.qcow2_image.specs.Image.{size_of}
 use Rattle.qcow2_image.specs.L1Entries.{NeedsFarEntry}
-use Rattle.qcow2_image.specs.LackedPlaces.{LacksPlaceFor}
 use Rattle.qcow2_image.specs.Prepared.{length_of, offset_of}
 use Rattle.qcow2_image.specs.Preparing.{IsTaken}
 use Rattle.qcow2_image.specs.Refusals.{passes, IsMet}
@@ -155,10 +154,6 @@ module _ {S F : Type 0} (view : S → StorageView) (backing : F → BackingView)
   HeedsFirst out offset n (Err e) = e ≡ TablePrepared → (0 < n) × IsTaken old.file.header.fields (known_in view old.file) offset n out
 
 module _ {S F : Type 0} (view : S → StorageView) (backing : F → BackingView) (old new : Qcow2 S F) where
-  -- Why a write is refused 13, behind so many bytes: the rest of its range can't be prepared from there on.
-  abbrev pub LacksPlaceToWrite : (offset : ℕ) → List ℕ → (done : ℕ) → Type 0
-  LacksPlaceToWrite = StopsFor view backing old (λ at n before. LacksPlaceFor view at n before new)
-
   -- one command is one step of each run that the image stands at with these mappings
   abbrev pub CommandSteps : Slots → Slots → Command → Reply → Type 0
   CommandSteps slots slots' command reply = (x : Setting) (s : State) → let v = abstract_of view backing old slots.prepared.items in let w = abstract_of view backing new slots'.prepared.items in

@@ -12,7 +12,7 @@ use Rattle.qcow2_image.specs.declared.image.Qcow2.{Qcow2}
 use Rattle.qcow2_image.specs.declared.mapping.Mapping.{Mapping}
 use Rattle.qcow2_image.specs.declared.mapping.MappingKind.TheVariants.{Eof}
 use Rattle.qcow2_image.specs.declared.prepared.Prepared.{Prepared}
-use Rattle.qcow2_image.specs.Image.{is_external, is_failed, is_writable, number_of, size_of}
+use Rattle.qcow2_image.specs.Image.{is_external, is_failed, is_writable, leaked_in, number_of, size_of}
 use Rattle.qcow2_image.specs.ImageInvariant.{abstract_of, meaning}
 use Rattle.qcow2_image.specs.ListedClusters.{ListsNoMore}
 use Rattle.qcow2_image.specs.Prepared.{length_of, offset_of, table_of}
@@ -108,7 +108,7 @@ module _ {S F : Type 0} (view : S → StorageView) (backing : F → BackingView)
     TellsRange offset n reply = Unit {0}
 
     -- A mapping is looked up so, and a range cleared so. A range that isn't compressed begins at its own offset, and is named if it has bytes. A size that isn't smaller leaves the old one.
-    -- The size is the one that the header in memory has, also on a failed image. In the slot of a range that was prepared stands such a mapping. An answered write of a sound image leaves to be freed what was, or nothing. A refused one tells how many bytes it wrote.
+    -- The size is the one that the header in memory has, also on a failed image, and the number of leaks the one that it has counted. In the slot of a range that was prepared stands such a mapping. An answered write of a sound image leaves to be freed what was, or nothing. A refused one tells how many bytes it wrote.
     abbrev pub TellsOfImage : (before after : List (Option Prepared)) → Command → Reply → Type 0
     TellsOfImage before after (C.GetMapping slot offset max) (R.Mapping m) = IsLookup offset max m
     TellsOfImage before after (C.EnsureZeroMapping offset n) reply = TellsRange offset n reply
@@ -118,6 +118,7 @@ module _ {S F : Type 0} (view : S → StorageView) (backing : F → BackingView)
     TellsOfImage before after (C.TryReadvSpecial offset n) (R.NotCompressed plain) = MatchOption plain (n ≡ 0) (λ at. at ≡ offset)
     TellsOfImage before after (C.ResizeShrink size) (R.Shrunk answer) = size_of old ≤ size → answer ≡ size_of old
     TellsOfImage before after C.Size (R.Size n) = n ≡ size_of new
+    TellsOfImage before after C.Leaked (R.Leaked n) = n ≡ leaked_in new
     TellsOfImage before after (C.PrepareDataMapping slot offset n overwrite) (R.Prepared host count existing) =
         (abstract_of view backing old before).is_sound → (p : Prepared) × (slice_get after slot ≡ Some (Some p)) × IsMappingFor offset n p
     TellsOfImage before after (C.Write offset bytes) (R.Refused e) = ⊥

@@ -1,7 +1,7 @@
 //! Runs over storages and disks below of any types, each in a box.
 ghost use Rattle.qcow2_image.specs.Opened.{NeedsMissing};
 ghost use Rattle.qcow2_session.specs.Boxes.{IsOnceClosed, IsClosedAsRefused};
-ghost use Rattle.qcow2_session.specs.Opening.{CountsSinceBefore, Headline, TellsOfOpened, missing_beside};
+ghost use Rattle.qcow2_session.specs.Opening.{CountsSinceBefore, EachMomentOpensAgain, Headline, TellsOfOpened, missing_beside};
 
 use crate::headline::open_and_run;
 use crate::session::{Command, Reply};
@@ -22,6 +22,9 @@ pub fn run_in_boxes(
     ensures headline { IsOnceClosed result
         (Headline (λ b. (DynStorage-box b).Storage.view b.value) (λ d. (BackingDisk-box d).backing d.value)
         ((DynStorage-box storage).Storage.view storage.value) below commands.now) }
+    ensures again { IsOnceClosed result
+        (EachMomentOpensAgain (λ b. (DynStorage-box b).Storage.view b.value) (λ d. (BackingDisk-box d).backing d.value)
+        ((DynStorage-box storage).Storage.view storage.value) below) }
     ensures tells { IsOnceClosed result
         (TellsOfOpened (λ b. (DynStorage-box b).Storage.view b.value) (λ d. (BackingDisk-box d).backing d.value)
         ((DynStorage-box storage).Storage.view storage.value) below number commands.now) }
@@ -45,6 +48,7 @@ fn run_and_close<S: Storage, F: WrappedFormat<S>>(
     commands: &[Command],
 ) -> (S, Result<Vec<Reply>, ImageError>)
     ensures headline { IsOnceClosed result (Headline S.view F.backing (S.view storage) below commands.now) }
+    ensures again { IsOnceClosed result (EachMomentOpensAgain S.view F.backing (S.view storage) below) }
     ensures tells { IsOnceClosed result (TellsOfOpened S.view F.backing (S.view storage) below number commands.now) }
     ensures faults { IsOnceClosed result (CountsSinceBefore S.view F.backing (S.view storage) below) }
     ensures another { (S.view storage).is_honest → NeedsMissing (missing_beside below) (S.view storage).contents

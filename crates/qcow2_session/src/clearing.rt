@@ -8,7 +8,8 @@ ghost use Rattle.qcow2_session.specs.Causes.{IsRightlyRefused};
 ghost use Rattle.qcow2_session.specs.Commands.{reply_of_clearing};
 ghost use Rattle.qcow2_session.specs.Sessions.{CommandSteps, Finds};
 ghost use Rattle.qcow2_session.specs.Told.{TellsOfImage};
-ghost use Rattle.qcow2_session.specs.declared.session.Command.TheVariants.{EnsureZeroMapping, DiscardToZero, DiscardToAny, DiscardToBacking};
+ghost use Rattle.qcow2_session.specs.declared.session.Command.TheVariants.{EnsureZeroMapping, DiscardToZero};
+ghost use Rattle.qcow2_session.specs.declared.session.Command.TheVariants.{DiscardToAny, DiscardToBacking};
 ghost use Rattle.qcow2_session.specs.declared.slots.Slots.{Slots};
 
 use crate::session::Reply;

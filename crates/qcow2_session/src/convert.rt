@@ -1,8 +1,11 @@
 //! Images of raw disks, and raw disks of images.
-ghost use Rattle.qcow2_session.specs.CallSteps.{ExportStep, ImportStep};
-ghost use Rattle.std.specs.Prelude.{◌≡◌, ◌≢◌, ◌⊎◌, ◌↔◌, ◌+◌, ◌-◌, ◌<◌, ◌≤◌, List, Option, None, Err, length, replicate, IfSome, IfErr, IfOk, OnOk, IsTrue};
+ghost use Rattle.qcow2_session.specs.CallSteps.{ExportStep, ImportStep, ReadingParts};
+ghost use Rattle.std.specs.Prelude.{◌≡◌, ◌≢◌, ◌⊎◌, ◌↔◌, ◌+◌, ◌-◌, ◌<◌, ◌≤◌, List, [], Option, None, Err, length, replicate};
+ghost use Rattle.std.specs.Prelude.{IfSome, IfErr, IfOk, OnOk, IsTrue};
 ghost use Rattle.image_access.specs.Contents.{bytes_at};
+ghost use Rattle.qcow2_disk.specs.Calls.{Shows};
 ghost use Rattle.qcow2_alloc.specs.ImageFile.{known_in};
+ghost use Rattle.qcow2_image.specs.Calls.{AnswersCall};
 ghost use Rattle.qcow2_image.specs.Image.{HasNothingToFree, is_writable, size_of};
 ghost use Rattle.qcow2_image.specs.ImageInvariant.{abstract_of};
 ghost use Rattle.qcow2_image.specs.declared.prepared.Prepared.{Prepared};
@@ -10,11 +13,13 @@ ghost use Rattle.qcow2_image.specs.MetAlone.{IsMetReadingRange};
 ghost use Rattle.qcow2_image.specs.Refusals.{refuses_to_read};
 ghost use Rattle.qcow2_alloc.specs.declared.error.ImageError.TheVariants.{InvalidOption};
 ghost use Rattle.qcow2_session.specs.Sessions.{IsOfReading, IsOfWriting, cluster_size_of};
-ghost use Rattle.qcow2_session.specs.Conversions.{DiffersWhereKept, IsMetImporting, IsOfImporting, IsReasonNotToWrite, IsRefusedUnequal, Imports, ImportsAll, ImportsAt, ImportsAny, ImportsAnyAt, ImportsAnyOf, Fills, Exports};
+ghost use Rattle.qcow2_session.specs.Conversions.{DiffersWhereKept, IsMetImporting, IsOfImporting, IsReasonNotToWrite};
+ghost use Rattle.qcow2_session.specs.Conversions.{IsRefusedUnequal, Imports, ImportsAll, ImportsAt, ImportsAny};
+ghost use Rattle.qcow2_session.specs.Conversions.{ImportsAnyAt, ImportsAnyOf, Fills, Exports};
 
 use crate::session::{read_into, write};
 use image_access::{Storage, StoragePreallocate, WrappedFormat};
-use qcow2_image::{ImageError, Qcow2};
+use qcow2_image::{ImageError, MappingKind, Qcow2};
 use std::alloc::Global;
 
 /// Makes an image's disk as a raw disk of the same size is, cluster by cluster, and flushes the image. The answer is the number of bytes.
@@ -108,7 +113,7 @@ fn import_at<R: Storage, S: Storage, F: WrappedFormat<S>>(
         (bytes_at (R.view raw.old).contents at (length wanted.old)) result }
     ensures any { ImportsAnyAt S.view F.backing image.old image.new at (length wanted.old) result }
     ensures late { refuses_to_read image.old at (length wanted.old) ≡ None
-        → length wanted.old ≤ cluster_size_of image.old → (out : List (Option Prepared))
+        → (out : List (Option Prepared))
         → (abstract_of S.view F.backing image.old out).is_sound
         → IfErr result (IsReasonNotToWrite S.view F.backing image.old image.new at (at + length wanted.old) out) }
     ensures met { refuses_to_read image.old at (length wanted.old) ≡ None → (out : List (Option Prepared))
@@ -130,8 +135,8 @@ fn import_at<R: Storage, S: Storage, F: WrappedFormat<S>>(
 }
 
 /// Makes a raw disk as an image's disk is, cluster by cluster. It is resized to no bytes, then to the disk's size, and each cluster that
-/// isn't all zeros is written. The answer is the number of bytes. What the image's guest sees stays, and an image that was opened for
-/// reading isn't written.
+/// isn't all zeros is written. Zeros that the tables tell of aren't read: each L2 table that the disk could have is looked up once. The
+/// answer is the number of bytes. What the image's guest sees stays, and an image that was opened for reading isn't written.
 /// Before any work it is refused 16 (failed), 12 (dependency), then 14 (memory) where two clusters have no room. Where the work meets
 /// them: 4 (unaligned table), 7 (compressed), 8 (everything is in use), 14 (memory), 15 (storage). The raw disk may have any bytes then.
 pub fn to_raw<S: Storage, F: WrappedFormat<S>, R: Storage>(
@@ -179,11 +184,63 @@ fn export_all<S: Storage, F: WrappedFormat<S>, R: Storage>(
 {
     let mut at = 0;
     while at < size {
-        let count = bytes.len().min((size - at) as usize);
-        export_at(image, raw, at, &mut bytes[..count], &zeros[..count])?;
-        at += count as u64;
+        let count = export_some(image, raw, at, size - at, bytes, zeros)?;
+        at += count;
     }
     Ok(())
+}
+
+// Passes over zeros that the tables tell of, up to a limit, or else writes the next cluster, unless it is zeros. The answer is the number
+// of bytes. The buffers are of one cluster each.
+fn export_some<S: Storage, F: WrappedFormat<S>, R: Storage>(
+    image: &mut Qcow2<S, F>,
+    raw: &mut R,
+    at: u64,
+    max: u64,
+    bytes: &mut [u8],
+    zeros: &[u8],
+) -> Result<u64, ImageError>
+    requires some { (0 < length bytes.old) × (0 < max) }
+    requires zeros { zeros.now ≡ replicate (length bytes.old) 0 }
+    ensures step { ExportStep S.view F.backing image.old image.new (R.view raw.old) (R.view raw.new) result }
+    ensures some { IfOk result (λ n. 0 < n) }
+    ensures within { IfOk result (λ n. n ≤ max) }
+    ensures sees { (R.view raw.old).is_honest
+        → IfOk result (λ n. Fills S.view F.backing image.old at (at + n) (R.view raw.old).contents
+        (R.view raw.new).contents) }
+    ensures cause { IfErr result IsOfReading }
+    ensures met { refuses_to_read image.old at max ≡ None → (out : List (Option Prepared))
+        → (abstract_of S.view F.backing image.old out).is_sound
+        → IfErr result (IsMetReadingRange out at (at + max) image.old.file.header.fields (known_in S.view image.old.file)) }
+{
+    let passed = zero_run(image, at, max)?;
+    if passed > 0 {
+        return Ok(passed);
+    }
+    let count = bytes.len().min(max as usize);
+    export_at(image, raw, at, &mut bytes[..count], &zeros[..count])?;
+    Ok(count as u64)
+}
+
+// How many bytes from an offset on are zeros as the tables tell, up to a limit and within one L2 table. No data are read.
+fn zero_run<S: Storage, F: WrappedFormat<S>>(
+    image: &mut Qcow2<S, F>,
+    at: u64,
+    max: u64,
+) -> Result<u64, ImageError>
+    ensures step { ReadingParts S.view F.backing image.old image.new result }
+    ensures within { IfOk result (λ n. n ≤ max) }
+    ensures sees { AnswersCall S.view F.backing image.old image.new []
+        (λ n old new. Shows old.disk at (replicate n 0) × (new ≡ old)) result }
+    ensures cause { IfErr result IsOfReading }
+    ensures met { (out : List (Option Prepared)) → (abstract_of S.view F.backing image.old out).is_sound
+        → IfErr result (IsMetReadingRange out at (at + max) image.old.file.header.fields (known_in S.view image.old.file)) }
+{
+    let (mapping, found) = image.get_mapping(at, max)?;
+    match mapping.kind {
+        MappingKind::Zero { .. } => Ok(found),
+        _ => Ok(0),
+    }
 }
 
 // Writes a range, unless it is zeros.

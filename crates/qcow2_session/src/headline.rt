@@ -1,5 +1,5 @@
 //! The headline: commands on an image that is opened from the bytes of a storage.
-ghost use Rattle.std.specs.Prelude.{◌≡◌, IfOk, false, true};
+ghost use Rattle.std.specs.Prelude.{◌≡◌, IfOk, None, Some, false, option_map, true};
 ghost use Rattle.qcow2_metadata.specs.Bytes.{byte_at};
 ghost use Rattle.qcow2_metadata.specs.Consistent.{IsConsistent};
 ghost use Rattle.qcow2_metadata.specs.Header.{header};
@@ -8,19 +8,21 @@ ghost use Rattle.qcow2_image.specs.CountedOpening.{OpeningCounts};
 ghost use Rattle.qcow2_image.specs.Growing.{SameFormat};
 ghost use Rattle.qcow2_image.specs.Image.{is_failed, is_writable, number_of};
 ghost use Rattle.qcow2_image.specs.ImageInvariant.{IsHonestBacking};
-ghost use Rattle.qcow2_image.specs.Opened.{IsKeptSince, IsRefusedAlone, LeavesStorage, NeedsMissing, Opens, storage_after};
+ghost use Rattle.qcow2_image.specs.Opened.{IsKeptSince, IsRefusedAlone, LeavesStorage, NeedsMissing, Opens};
+ghost use Rattle.qcow2_image.specs.Opened.{storage_after};
 ghost use Rattle.qcow2_image.specs.Readable.{OpensRightly};
 ghost use Rattle.qcow2_image.specs.Unwritten.{ContentsStayThroughout};
-ghost use Rattle.qcow2_session.specs.Opening.{CountsSinceBefore, Headline, IsLeftAlone, TellsOfOpened, missing_beside};
+ghost use Rattle.qcow2_session.specs.Opening.{CountsSinceBefore, EachMomentOpensAgain, Headline, IsLeftAlone, TellsOfOpened, missing_beside};
 
 use crate::session::{Command, Reply, run};
 use image_access::{Storage, WrappedFormat};
-use qcow2_image::{ImageError, Qcow2};
+use qcow2_image::{ImageError, Qcow2, Qcow2OpenBuilder};
 use std::alloc::Global;
 
 /// Opens an image for writing, over the disk below where one is given, and answers each command as `run` does. With none the image is
 /// to need no other file; with one, no file but that disk. Tables that are still modified stay in memory until a `flush`. A refused
-/// opening hands the storage back; images that are open together have different numbers.
+/// opening hands the storage back; images that are open together have different numbers. A consistent image opens again wherever this
+/// was stopped: whatever the storage held since is consistent too.
 /// Refused for the header 19 (metadata), 13 (limit), 4 (unaligned table), in this order. Then 12 (dependency) for an image that needs
 /// a file which is missing: it stays as it is. For its tables 13 (limit), 19 (metadata), and where the work meets them 14 (memory),
 /// 15 (storage).
@@ -37,6 +39,7 @@ pub fn open_and_run<S: Storage, F: WrappedFormat<S>>(
     ensures faults { CountsSinceBefore S.view F.backing (S.view storage) below result }
     ensures tells { TellsOfOpened S.view F.backing (S.view storage) below number commands.now result }
     ensures headline { Headline S.view F.backing (S.view storage) below commands.now result }
+    ensures again { EachMomentOpensAgain S.view F.backing (S.view storage) below result }
 {
     let mut image = match open_over(alloc, storage, below, number) {
         Ok(image) => image,
@@ -67,15 +70,19 @@ fn open_over<S: Storage, F: WrappedFormat<S>>(
         → IsRefusedAlone result × ContentsStayThroughout (S.view storage) (S.view (storage_after result)) }
     ensures cause { OpensRightly (S.view storage) true (missing_beside below) result }
 {
-    let Some(disk) = below else {
-        return Qcow2::open_alone(alloc, storage, true, number);
-    };
-    let mut image = match Qcow2::open_with_own_data(alloc, storage, true, number) {
-        Ok(image) => image,
-        Err((storage, refusal)) => return Err((storage, refusal)),
-    };
-    if let Err((_disk, refusal)) = image.set_backing(Some(disk)) {
-        return Err((image.into_storage(), refusal));
+    over_disk(Qcow2OpenBuilder::new(storage, number).write(true), below).open(alloc)
+}
+
+// The builder with this disk below, where there is one.
+fn over_disk<S: Storage, F: WrappedFormat<S>>(
+    builder: Qcow2OpenBuilder<S, F>,
+    below: Option<F>,
+) -> Qcow2OpenBuilder<S, F>
+    requires { builder.backing ≡ None }
+    ensures { result ≡ record builder { backing = option_map Some below } }
+{
+    match below {
+        None => builder,
+        Some(disk) => builder.backing(Some(disk)),
     }
-    Ok(image)
 }

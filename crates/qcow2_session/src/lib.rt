@@ -5,6 +5,7 @@ mod boxes;
 mod clearing;
 pub mod convert;
 mod headline;
+mod recorded;
 pub mod session;
 mod sizing;
 mod slots;
@@ -12,5 +13,6 @@ mod special;
 
 pub use boxes::run_in_boxes;
 pub use headline::open_and_run;
-pub use qcow2_check::{Breach, Kind, Leak, Report, check};
+pub use qcow2_check::{Breach, Kind, Leak, Leaks, Report, check};
+pub use recorded::open_and_run_recorded;
 pub use session::{Command, Reply, read, read_into, run, write};

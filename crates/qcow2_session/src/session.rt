@@ -1,28 +1,39 @@
 //! Commands, one after the other, on one image.
-ghost use Rattle.qcow2_session.specs.CallSteps.{CommandStep, ReadingParts, ReleasingStep, SpecialStep, WritesSoundly, WritingParts};
-ghost use Rattle.std.specs.Prelude.{◌≡◌, ◌+◌, ◌^◌, ◌≤◌, ◌⊎◌, ◌<◌, ◌++◌, ◌∷◌, ℕ, List, [], length, vec_len, IfSome, IfErr, IfOk, IsTrue, MatchResult, OnOk, Option, None, Some, Err, true, false, ◌-◌};
-ghost use Rattle.qcow2_alloc.specs.declared.error.ImageError.TheVariants.{Limit, Memory, OutdatedMapping, TablePrepared};
+ghost use Rattle.qcow2_session.specs.CallSteps.{CommandStep, ReadingParts, ReleasingStep, SpecialStep, WritesSoundly};
+ghost use Rattle.qcow2_session.specs.CallSteps.{WritingParts};
+ghost use Rattle.std.specs.Prelude.{◌≡◌, ◌+◌, ◌^◌, ◌≤◌, ◌⊎◌, ◌<◌, ◌++◌, ◌∷◌, ℕ, List, [], length, vec_len, IfSome};
+ghost use Rattle.std.specs.Prelude.{IfErr, IfOk, IsTrue, MatchResult, OnOk, Option, None, Some, Err, true, false, ◌-◌};
+ghost use Rattle.qcow2_alloc.specs.declared.error.ImageError.TheVariants.{Limit, Memory, OutdatedMapping};
+ghost use Rattle.qcow2_alloc.specs.declared.error.ImageError.TheVariants.{TablePrepared};
 ghost use Rattle.qcow2_alloc.specs.ImageFile.{known_in};
 ghost use Rattle.qcow2_image.specs.Backings.{HasPrepared};
 ghost use Rattle.qcow2_image.specs.BehindHeader.{StaysBehindHeader};
 ghost use Rattle.qcow2_image.specs.Found.{IsFoundWhole, further_by};
+ghost use Rattle.qcow2_image.specs.Limits.{IsLimited};
 ghost use Rattle.qcow2_image.specs.ListedClusters.{ListsNoMore};
-ghost use Rattle.qcow2_image.specs.MetAlone.{CopiesCompressed, IsCacheHeld, IsMetMapped, IsMetReadingRange, IsMetTaking};
+ghost use Rattle.qcow2_image.specs.MetAlone.{CopiesCompressed, IsCacheHeld, IsMetMapped, IsMetReadingRange};
+ghost use Rattle.qcow2_image.specs.MetAlone.{IsMetTaking};
 ghost use Rattle.qcow2_image.specs.Preallocation.{IsUnderMappingIn};
 ghost use Rattle.qcow2_image.specs.Image.{IsSameImage, is_failed, is_writable, number_of, size_of, KeepsWholeHeader};
 ghost use Rattle.qcow2_image.specs.Prepared.{image_of};
 ghost use Rattle.qcow2_image.specs.ImageInvariant.{abstract_of};
 ghost use Rattle.qcow2_image.specs.Calls.{Discards};
-ghost use Rattle.qcow2_image.specs.Refusals.{IsMet, IsMetPreparing, unusable, refuses_mapping, refuses_to_read, refuses_to_prepare};
+ghost use Rattle.qcow2_image.specs.Refusals.{IsMet, IsMetPreparing, unusable, refuses_mapping, refuses_to_read};
+ghost use Rattle.qcow2_image.specs.Refusals.{refuses_to_prepare};
 ghost use Rattle.qcow2_image.specs.Faults.{NoFewerFaults, SameFaults, TellsEachBy, TellsFault};
 ghost use Rattle.qcow2_session.specs.Causes.{IsRightlyRefused};
 ghost use Rattle.qcow2_session.specs.CountedFaults.{CommandCounts, RunCounts, refusal_in};
 ghost use Rattle.qcow2_session.specs.Marks.{MarksBy, MarksInParts};
-ghost use Rattle.qcow2_session.specs.Sessions.{IsRightlyBeyond, IsOfReading, IsOfWriting, LacksPlaceToWrite, LeavesCopied, NeedsFarToWrite, EndsCluster, Reads, ReadsInto, ReadsFirst, Writes, WritesFirst, CommandSteps, Finds, ReleasesMappings, RunsThrough, RunRefinesDisk, LookupsFindContents, mappings_in, HeedsMappings};
+ghost use Rattle.qcow2_session.specs.Sessions.{IsRightlyBeyond, IsOfReading, IsOfWriting};
+ghost use Rattle.qcow2_session.specs.Sessions.{LeavesCopied, NeedsFarToWrite, EndsCluster, Reads, ReadsInto};
+ghost use Rattle.qcow2_session.specs.Sessions.{ReadsFirst, Writes, WritesFirst, CommandSteps, Finds, ReleasesMappings};
+ghost use Rattle.qcow2_session.specs.Sessions.{RunsThrough, RunRefinesDisk, LookupsFindContents, mappings_in};
+ghost use Rattle.qcow2_session.specs.Sessions.{HeedsMappings};
 ghost use Rattle.qcow2_image.specs.declared.mapping.Mapping.{Mapping};
 ghost use Rattle.qcow2_image.specs.Ranges.{ReleasesOneMapping};
 ghost use Rattle.qcow2_image.specs.Unwritten.{ReadsQuietly};
-ghost use Rattle.qcow2_session.specs.Told.{KeepsItself, LeavesQuietly, SlotsAfter, StaysQuiet, TellsOfImage, TellsThrough};
+ghost use Rattle.qcow2_session.specs.Told.{KeepsItself, LeavesQuietly, SlotsAfter, StaysQuiet, TellsOfImage};
+ghost use Rattle.qcow2_session.specs.Told.{TellsThrough};
 ghost use Rattle.qcow2_image.specs.declared.prepared.Prepared.{Prepared};
 
 use crate::clearing::{discard_to_any, discard_to_backing, discard_to_zero, ensure_zero};
@@ -112,6 +123,8 @@ pub enum Command {
     },
     /// `flush`. Replied `Done`.
     Flush,
+    /// `sync`. Replied `Done`.
+    Sync,
     /// `resize_grow` to a size, in a mode. Replied `Done`.
     ResizeGrow {
         size: u64,
@@ -123,6 +136,8 @@ pub enum Command {
     },
     /// `size`, which is never refused. Replied `Size`.
     Size,
+    /// `leaked_clusters`, which is never refused. Replied `Leaked`.
+    Leaked,
 }
 
 /// What a command is answered.
@@ -151,6 +166,8 @@ pub enum Reply {
     Shrunk(u64),
     /// The size of the guest's disk, in bytes.
     Size(u64),
+    /// How many clusters couldn't be freed.
+    Leaked(u64),
     /// The call was refused, by a number and a name.
     Refused(ImageError),
     /// A write was refused after so many leading bytes were written.
@@ -294,8 +311,7 @@ pub fn write<S: Storage, F: WrappedFormat<S>>(
         → HeedsMappings S.view F.backing image.old out offset bytes.now result }
     ensures limit { refuses_to_prepare image.old offset (length bytes.now) ≡ None → (out : List (Option Prepared))
         → (abstract_of S.view F.backing image.old out).is_sound
-        → IfErr result (λ (e, n). e ≡ Limit
-        → LacksPlaceToWrite S.view F.backing image.old image.new offset bytes.now n) }
+        → IfErr result (λ (e, n). e ≡ Limit → IsLimited S.view F.backing (offset + length bytes.now) image.old) }
     ensures freeing { (out : List (Option Prepared)) → (abstract_of S.view F.backing image.old out).is_sound
         → OnOk result (ListsNoMore image.old image.new) }
     ensures within { IfErr result (λ (e, n). n ≤ length bytes.now) }
@@ -471,9 +487,11 @@ fn step<S: Storage, F: WrappedFormat<S>>(
             try_readv_special(alloc, image, *offset, *length)
         }
         Command::Flush => flush(image),
+        Command::Sync => sync(image),
         Command::ResizeGrow { size, mode } => grow(image, *size, *mode),
         Command::ResizeShrink { size } => shrink(image, *size),
         Command::Size => Reply::Size(image.size()),
+        Command::Leaked => Reply::Leaked(image.leaked_clusters()),
     }
 }
 
@@ -689,6 +707,20 @@ fn flush<S: Storage, F: WrappedFormat<S>>(image: &mut Qcow2<S, F>) -> Reply
     ensures quiet { StaysQuiet S.view image.old image.new }
 {
     if let Err(refusal) = image.flush() {
+        return Reply::Refused(refusal);
+    }
+    Reply::Done
+}
+
+fn sync<S: Storage, F: WrappedFormat<S>>(image: &mut Qcow2<S, F>) -> Reply
+    ensures step { CommandStep S.view F.backing image.old image.new result }
+    ensures causes { (before : List (Option Prepared)) (found : ℕ → Option Mapping)
+        → IsRightlyRefused S.view F.backing image.old image.new before found Command.Sync result }
+    ensures command_step { (slots : Slots) → CommandSteps S.view F.backing image.old image.new slots slots Command.Sync result }
+    ensures finds { (slots : Slots) → Finds slots slots Command.Sync result }
+    ensures quiet { ReadsQuietly S.view image.old image.new }
+{
+    if let Err(refusal) = image.sync() {
         return Reply::Refused(refusal);
     }
     Reply::Done

@@ -1,5 +1,6 @@
 //! The slots of a run, in which mappings stand.
-ghost use Rattle.std.specs.Prelude.{◌≡◌, ℕ, length, replicate, IfSome, MatchOption, Option, Some, None, slice_get, slice_set};
+ghost use Rattle.std.specs.Prelude.{◌≡◌, ℕ, length, replicate, IfSome, MatchOption, Option, Some, None, slice_get};
+ghost use Rattle.std.specs.Prelude.{slice_set};
 ghost use Rattle.qcow2_image.specs.Prepared.{image_of};
 ghost use Rattle.qcow2_image.specs.declared.mapping.Mapping.{Mapping};
 ghost use Rattle.qcow2_image.specs.declared.prepared.Prepared.{Prepared};

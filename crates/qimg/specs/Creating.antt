@@ -1,5 +1,5 @@
 -- What a `create` has done to the storage that it was handed.
-use Rattle.std.specs.Prelude.{◌≡◌, ℕ}
+use Rattle.std.specs.Prelude.{◌≡◌, ℕ, None}
 use Rattle.image_access.specs.Moments.{StorageView}
 use Rattle.image_access.specs.declared.storage.PreallocateMode.{PreallocateMode}
 use Rattle.qcow2_image.specs.Created.{IsAllowed, IsCreated, StopsCreating}
@@ -9,7 +9,7 @@ use Rattle.qimg.specs.declared.words.Invocation.TheVariants as I
 
 -- the builder of an image of that size, with those clusters and counts, in that mode
 abbrev pub builder_on : {S : Type 0} → S → ℕ → ℕ → ℕ → PreallocateMode → Qcow2CreateBuilder S
-builder_on image size cluster width mode = record { image = image; size = size; preallocate = mode; cluster_size = cluster; refcount_width = width }
+builder_on image size cluster width mode = record { image = image; size = size; preallocate = mode; cluster_size = cluster; refcount_width = width; backing_name = None; backing_format = None }
 
 -- It ended well: the words asked for an image, and on an honest storage that new image stands.
 abbrev pub HasCreated : {S : Type 0} → (S → StorageView) → S → S → Invocation → Type 0

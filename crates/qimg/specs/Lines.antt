@@ -28,6 +28,8 @@ pub data Order : Type 0 where
   shrinks : (size : ℕ) → Order
   flushes : Order
   sizes : Order
+  syncs : Order
+  leaks : Order
   -- what no line asks for
   other : Order
 
@@ -48,6 +50,8 @@ order_of_command (C.ResizeGrow size mode) = grows size mode
 order_of_command (C.ResizeShrink size) = shrinks size
 order_of_command C.Flush = flushes
 order_of_command C.Size = sizes
+order_of_command C.Sync = syncs
+order_of_command C.Leaked = leaks
 order_of_command _ = other
 
 -- the length of a `read`, a `fill` or a `special`, at most 1 MiB
@@ -222,6 +226,8 @@ order_of_words (name ∷ operands) =
     else if bytes_eq name (codes "shrink") then shrink_of operands
     else if bytes_eq name (codes "flush") then order_alone flushes operands
     else if bytes_eq name (codes "size") then order_alone sizes operands
+    else if bytes_eq name (codes "sync") then order_alone syncs operands
+    else if bytes_eq name (codes "leaks") then order_alone leaks operands
     else None
 
 -- a line without its end: words separated by one space

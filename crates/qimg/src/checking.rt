@@ -32,7 +32,7 @@ fn tell<W: Write>(output: &mut W, report: &Report) -> u8
     ensures bound { result ≤ 1 }
     ensures consistent { result ≡ 0 → (report.now.breaches.items ≡ [])
         × Appends (W.contents output.old) (W.contents output.new)
-        (text_of_report report.now.breaches.items report.now.leaks.items) }
+        (text_of_report report.now.breaches.items report.now.leaks) }
 {
     let printed = print_report(output, report);
     let status = end(printed, output);

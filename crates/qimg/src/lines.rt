@@ -76,6 +76,8 @@ fn parse_words(alloc: Global, words: &[&str]) -> Result<Command, LineError>
         "shrink" => shrink_command(operands),
         "flush" => alone(Command::Flush, operands),
         "size" => alone(Command::Size, operands),
+        "sync" => alone(Command::Sync, operands),
+        "leaks" => alone(Command::Leaked, operands),
         _ => Err(LineError::Unreadable),
     }
 }

@@ -29,6 +29,7 @@ pub fn print_reply<W: Write>(output: &mut W, reply: &Reply) -> io::Result<()>
         Reply::Range { offset, length } => writeln!(output, "range {offset} {length}"),
         Reply::Shrunk(offset) => writeln!(output, "shrunk {offset}"),
         Reply::Size(size) => writeln!(output, "size {size}"),
+        Reply::Leaked(clusters) => writeln!(output, "leaks {clusters}"),
         Reply::Refused(e) | Reply::WriteRefused(e, 0) => print_refusal(output, e),
         Reply::WriteRefused(e, written) => {
             let (number, name) = (e.number(), e.name());

@@ -1,2 +1,4 @@
+pub mod Compared
 pub mod Digits
+pub mod Layouts
 pub mod Statuses

@@ -1,11 +1,12 @@
 -- The exit status of a check.
-use Rattle.std.specs.Prelude.{ℕ, ◌≡◌, List, [], ◌∷◌, Option}
+use Rattle.std.specs.Prelude.{ℕ, ◌≡◌, ◌≢◌, ◌⊎◌, ◌%◌, List, [], ◌∷◌, Option}
 use Rattle.std.specs.Io.KnownBytes.{Appends}
 use Rattle.qcow2_metadata.specs.Bytes.{Bytes}
 use Rattle.qcow2_metadata.specs.Consistent.{IsConsistent}
 use Rattle.qcow2_metadata.specs.Header.{header}
+use Rattle.qcow2_metadata.specs.declared.header.HeaderFields.{HeaderFields}
 use Rattle.qcow2_metadata.specs.declared.error.MetadataError.{MetadataError}
-use Rattle.qcow2_alloc.specs.ImageError.{of_metadata}
+use Rattle.qcow2_alloc.specs.ImageError.{of_metadata, IsFault}
 use Rattle.qcow2_check.specs.Report.{IsReasonNotToCheck, breach_lines, leak_lines}
 use Rattle.qcow2_check.specs.declared.report.Breach.{Breach}
 use Rattle.qcow2_check.specs.declared.report.Leak.{Leak}
@@ -23,9 +24,15 @@ status_of (breach ∷ breaches) leaks = 2
 abbrev pub IsStatusOfLines : Bytes → ℕ → Type 0
 IsStatusOfLines image status = status ≡ status_of (breach_lines (header image) image) (leak_lines (header image) image)
 
+-- there are no snapshots, no bitmaps that are valid, and no feature that a reader must know
+pub record IsCovered (h : HeaderFields) : Type 0 where
+  pub no_snapshots : h.snapshots ≡ 0
+  pub no_data_file : h.incompatible ≡ 0
+  pub no_bitmaps : h.autoclear % 2 ≡ 0
+
 -- what a status says of the image in these bytes
 pub record IsStatusOf (image : Bytes) (status : ℕ) : Type 0 where
-  pub clean : status ≡ 0 → IsConsistent image × (leak_lines (header image) image ≡ [])
+  pub clean : status ≡ 0 → IsCovered (header image) → IsConsistent image × (leak_lines (header image) image ≡ [])
   pub broken : status ≡ 2 → ¬ IsConsistent image
   pub leaking : status ≡ 3 → IsConsistent image × ¬ (leak_lines (header image) image ≡ [])
 
@@ -37,3 +44,13 @@ IsReported image old new = Appends old new (text_of_report (breach_lines (header
 abbrev pub IsReasonForNoStatus : Bytes → Failure → Type 0
 IsReasonForNoStatus image (Refused e) = (reason : MetadataError) × (e ≡ of_metadata reason) × IsReasonNotToCheck (header image) image reason
 IsReasonForNoStatus image (Unprinted cause) = Unit {0}
+
+-- the status for errors that were chosen among these breaches
+pub record IsStatusOfErrors (breaches : List Breach) (status : ℕ) : Type 0 where
+  pub some : (status ≡ 0) ⊎ (status ≡ 2)
+  pub broken : status ≡ 2 → breaches ≢ []
+
+-- what the work may meet
+abbrev pub IsOfWork : Failure → Type 0
+IsOfWork (Refused e) = IsFault e
+IsOfWork (Unprinted cause) = Unit {0}

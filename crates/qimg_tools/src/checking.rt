@@ -2,29 +2,30 @@
 ghost use Rattle.std.specs.Prelude.{◌≡◌, ◌≤◌, IfErr, IfOk, OnOk};
 ghost use Rattle.image_access.specs.Moments.{ContentsStay};
 ghost use Rattle.qcow2_metadata.specs.Bytes.{byte_at};
-ghost use Rattle.qimg_tools.specs.Statuses.{status_of, IsReasonForNoStatus, IsStatusOf, IsStatusOfLines, IsReported};
+ghost use Rattle.qcow2_metadata.specs.Header.{header};
+ghost use Rattle.qimg_tools.specs.Statuses.{status_of, IsCovered, IsReasonForNoStatus, IsStatusOf, IsStatusOfLines, IsReported};
 ghost use Rattle.qimg_tools.specs.declared.words.Form.TheVariants.{Text};
 
 use crate::failures::Failure;
 use crate::json::print_text;
+use crate::uncovered::{BROKEN, check_partly, is_covered};
 use crate::words::Form;
 use image_access::Storage;
 use program_parts::print_report;
 use qcow2_image::ImageError;
-use qcow2_session::{Breach, Kind, Leak, Report, check as report_of};
+use qcow2_metadata::HeaderFields;
+use qcow2_session::{Breach, Kind, Leak, Leaks, Report, check as report_of};
 use std::alloc::Global;
 use std::io;
 use std::io::Write;
-
-/// The exit status of an image that isn't consistent.
-const BROKEN: u8 = 2;
 
 /// The exit status of a consistent image with leaked clusters.
 const LEAKING: u8 = 3;
 
 /// Prints the report of an image, which is only read, and answers the exit status. That is 0 where it is consistent without leaked
-/// clusters, 3 with some, and 2 where it isn't consistent. Refused 19 (metadata), 13 (limit) for a header, L1 table or reftable that
-/// doesn't read. Where the work meets them: 14 (memory), 15 (storage), and `Unprinted`.
+/// clusters, 3 with some, and 2 where it isn't consistent. Of an image with snapshots, bitmaps or a data file it is 2 where there is an
+/// error in what is known, and else 0, and what isn't covered is named. Refused 19 (metadata), 13 (limit) for a header, L1 table or
+/// reftable that doesn't read. Where the work meets them: 14 (memory), 15 (storage), and `Unprinted`.
 pub fn check<S: Storage, W: Write>(
     alloc: Global,
     storage: &mut S,
@@ -34,17 +35,33 @@ pub fn check<S: Storage, W: Write>(
 ) -> Result<u8, Failure>
     ensures bound { IfOk result (λ status. status ≤ 3) }
     ensures status { (S.view storage.old).is_honest → IfOk result (IsStatusOf (byte_at (S.view storage.old).contents)) }
-    ensures lines { (S.view storage.old).is_honest → IfOk result (IsStatusOfLines (byte_at (S.view storage.old).contents)) }
+    ensures lines { (S.view storage.old).is_honest → IsCovered (header (byte_at (S.view storage.old).contents))
+        → IfOk result (IsStatusOfLines (byte_at (S.view storage.old).contents)) }
     ensures cause { (S.view storage.old).is_honest → IfErr result (IsReasonForNoStatus (byte_at (S.view storage.old).contents)) }
-    ensures printed { (S.view storage.old).is_honest → form ≡ Text
+    ensures printed { (S.view storage.old).is_honest → IsCovered (header (byte_at (S.view storage.old).contents)) → form ≡ Text
         → OnOk result (IsReported (byte_at (S.view storage.old).contents) (W.contents output.old)
         (W.contents output.new)) }
     ensures reading { ContentsStay (S.view storage.old) (S.view storage.new) }
 {
+    let header = match HeaderFields::load(alloc, storage) {
+        Ok(header) => header,
+        Err(cause) => return Err(Failure::Refused(ImageError::from(cause))),
+    };
     let report = match report_of(alloc, storage) {
         Ok(report) => report,
         Err(e) => return Err(Failure::Refused(ImageError::from(e))),
     };
+    if !is_covered(&header) {
+        return check_partly(
+            alloc,
+            storage,
+            &header,
+            &report.breaches,
+            file,
+            form,
+            output,
+        );
+    }
     match form {
         Form::Text => print_report(output, &report)?,
         Form::Json => print_object(output, file, &report)?,
@@ -53,7 +70,7 @@ pub fn check<S: Storage, W: Write>(
 }
 
 fn status_of(report: &Report) -> u8
-    ensures { result ≡ status_of report.now.breaches.items report.now.leaks.items }
+    ensures { result ≡ status_of report.now.breaches.items report.now.leaks }
 {
     if !report.breaches.is_empty() {
         BROKEN
@@ -64,21 +81,27 @@ fn status_of(report: &Report) -> u8
     }
 }
 
-fn print_object<W: Write>(output: &mut W, file: &str, report: &Report) -> io::Result<()> {
-    let breaches = report.breaches.len();
-    let leaks = report.leaks.len();
+/// Prints the members that each report of a check has.
+pub fn begin_object<W: Write>(output: &mut W, file: &str, breaches: usize) -> io::Result<()> {
     write!(output, "{{\n    \"filename\": ")?;
     print_text(output, file)?;
     writeln!(output, ",\n    \"format\": \"qcow2\",")?;
     writeln!(output, "    \"check-errors\": 0,")?;
-    writeln!(output, "    \"corruptions\": {breaches},")?;
+    writeln!(output, "    \"corruptions\": {breaches},")
+}
+
+fn print_object<W: Write>(output: &mut W, file: &str, report: &Report) -> io::Result<()> {
+    let breaches = report.breaches.len();
+    let leaks = report.leaks.len();
+    begin_object(output, file, breaches)?;
     writeln!(output, "    \"leaks\": {leaks},")?;
     print_breaches(output, &report.breaches)?;
     print_leaks(output, &report.leaks)?;
     writeln!(output, "}}")
 }
 
-fn print_breaches<W: Write>(output: &mut W, breaches: &[Breach]) -> io::Result<()> {
+/// Prints the member of an object that names breaches, each with its numbers.
+pub fn print_breaches<W: Write>(output: &mut W, breaches: &[Breach]) -> io::Result<()> {
     write!(output, "    \"breaches\": [")?;
     let mut between = "\n";
     for breach in breaches {
@@ -89,16 +112,16 @@ fn print_breaches<W: Write>(output: &mut W, breaches: &[Breach]) -> io::Result<(
     writeln!(output, "{}],", end_of_list(breaches.is_empty()))
 }
 
-fn print_leaks<W: Write>(output: &mut W, leaks: &[Leak]) -> io::Result<()> {
+fn print_leaks<W: Write>(output: &mut W, leaks: &Leaks) -> io::Result<()> {
     write!(output, "    \"leaked-clusters\": [")?;
     let mut between = "\n";
-    for leak in leaks {
+    for leak in leaks.iter() {
         write!(output, "{between}        ")?;
         let Leak {
             cluster,
             count,
             named,
-        } = *leak;
+        } = leak;
         print_counted(output, "leak", cluster, count, named)?;
         between = ",\n";
     }

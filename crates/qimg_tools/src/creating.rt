@@ -1,19 +1,18 @@
 //! New images.
-ghost use Rattle.std.specs.Prelude.{◌≡◌, ◌<◌, Err, IfErr, IfOk};
-ghost use Rattle.image_access.specs.declared.storage.PreallocateMode.TheVariants.{None};
+ghost use Rattle.std.specs.Prelude.{◌≡◌, ◌<◌, false, Err, IfErr, IfOk, IsTrue};
 ghost use Rattle.qcow2_alloc.specs.Faults.{FaultsTold};
-ghost use Rattle.qcow2_alloc.specs.declared.error.ImageError.TheVariants.{InvalidOption, Limit};
-ghost use Rattle.qcow2_image.specs.Created.{IsAllowed, IsCreated, IsReasonNotToCreate, StopsCreating, longest_disk};
-ghost use Rattle.qimg_tools.specs.Layouts.{builder_of};
+ghost use Rattle.qcow2_alloc.specs.declared.error.ImageError.TheVariants.{InvalidOption, Limit, Preallocation};
+ghost use Rattle.qcow2_image.specs.Created.{IsAllowed, IsCreated, IsReasonNotToCreate, StopsCreating, allocates_over, longest_disk};
+ghost use Rattle.qimg_tools.specs.Layouts.{builder_of, builder_over};
 
 use crate::words::Layout;
 use image_access::Storage;
 use qcow2_image::{ImageError, Qcow2CreateBuilder};
 use std::alloc::Global;
 
-/// Makes an image with a disk of so many bytes, which are zeros, and hands its storage back. A layout that images don't have is refused
-/// 5 (invalid option), and then a size past the longest L1 table 13 (limit). Nothing was written then. Where the work meets them:
-/// 13 (limit), 14 (memory), 15 (storage).
+/// Makes an image with a disk of so many bytes, which are zeros, and hands its storage back. The layout says what place they take. A
+/// layout that images don't have is refused 5 (invalid option), and then a size past the longest L1 table 13 (limit). Nothing was written
+/// then. Where the work meets them: 13 (limit), 14 (memory), 15 (storage).
 pub fn create<S: Storage>(
     alloc: Global,
     storage: S,
@@ -24,13 +23,50 @@ pub fn create<S: Storage>(
     ensures refused { ¬ IsAllowed (builder_of storage size layout) → (result.1 ≡ Err InvalidOption) × (result.0 ≡ storage) }
     ensures limit { IsAllowed (builder_of storage size layout) → longest_disk layout.cluster_size < size
         → (result.1 ≡ Err Limit) × (result.0 ≡ storage) }
-    ensures stops { (S.view storage).is_honest → StopsCreating None size (S.view storage) (S.view result.0) }
-    ensures cause { (S.view storage).is_honest → IfErr result.1 (IsReasonNotToCreate S.view (builder_of storage size layout) result.0) }
+    ensures stops { (S.view storage).is_honest → StopsCreating layout.preallocate size (S.view storage) (S.view result.0) }
+    ensures cause { (S.view storage).is_honest → IfErr result.1 (IsReasonNotToCreate S.view (builder_of storage size layout)) }
     ensures faults { FaultsTold (S.view storage).faults (S.view result.0).faults result.1 }
+{
+    let builder = laid_out(storage, size, layout);
+    builder.create(alloc)
+}
+
+/// Makes an image over a backing file, whose name and format it is to give, and hands its storage back. Its disk has so many bytes, and
+/// the backing file shows in it. Refused as `create` is, and 5 (invalid option) also for names that don't fit into a cluster, and then
+/// 6 (preallocation) for a layout that takes place. Nothing was written then.
+pub fn create_over<S: Storage>(
+    alloc: Global,
+    storage: S,
+    size: u64,
+    layout: Layout,
+    name: String,
+    format: String,
+) -> (S, Result<(), ImageError>)
+    ensures created { (S.view storage).is_honest
+        → IfOk result.1 (λ done. IsCreated (builder_over storage size layout name format) (S.view result.0)) }
+    ensures refused { ¬ IsAllowed (builder_over storage size layout name format)
+        → (result.1 ≡ Err InvalidOption) × (result.0 ≡ storage) }
+    ensures over { IsAllowed (builder_over storage size layout name format)
+        → IsTrue (allocates_over (builder_over storage size layout name format))
+        → (result.1 ≡ Err Preallocation) × (result.0 ≡ storage) }
+    ensures limit { IsAllowed (builder_over storage size layout name format)
+        → allocates_over (builder_over storage size layout name format) ≡ false
+        → longest_disk layout.cluster_size < size → (result.1 ≡ Err Limit) × (result.0 ≡ storage) }
+    ensures stops { (S.view storage).is_honest → StopsCreating layout.preallocate size (S.view storage) (S.view result.0) }
+    ensures cause { (S.view storage).is_honest
+        → IfErr result.1 (IsReasonNotToCreate S.view (builder_over storage size layout name format)) }
+    ensures faults { FaultsTold (S.view storage).faults (S.view result.0).faults result.1 }
+{
+    let builder = laid_out(storage, size, layout).backing(name, format);
+    builder.create(alloc)
+}
+
+fn laid_out<S: Storage>(storage: S, size: u64, layout: Layout) -> Qcow2CreateBuilder<S>
+    ensures { result ≡ builder_of storage size layout }
 {
     Qcow2CreateBuilder::new(storage)
         .size(size)
         .cluster_size(layout.cluster_size)
         .refcount_width(layout.refcount_bits)
-        .create(alloc)
+        .preallocate(layout.preallocate)
 }

@@ -1,14 +1,16 @@
 //! What an image is, by its header.
+ghost use Rattle.std.specs.Prelude.{◌≤◌};
 ghost use Rattle.image_access.specs.Moments.{ContentsStay};
 
 use crate::failures::Failure;
+use crate::headers::{Unread, numbers_of_unread};
 use crate::json::print_text;
 use crate::plain::print_plain;
 use crate::sizes::Human;
 use crate::words::Form;
 use image_access::Storage;
 use qcow2_image::ImageError;
-use qcow2_metadata::Header;
+use qcow2_metadata::{Header, MetadataError};
 use std::alloc::Global;
 use std::io;
 use std::io::Write;
@@ -25,8 +27,25 @@ pub struct File<'a> {
     pub room: Option<u64>,
 }
 
-/// Prints what the header of an image says. The image is only read. Refused for its header 19 (metadata), 13 (limit),
-/// 4 (unaligned table). Where the work meets them: 14 (memory), 15 (storage), and `Unprinted`.
+/// What the header of an image says.
+#[derive(Clone, Copy)]
+struct Facts<'a> {
+    version: u32,
+    size: u64,
+    cluster_size: u64,
+    refcount_bits: u64,
+    is_encrypted: bool,
+    incompatible: u64,
+    compatible: u64,
+    autoclear: u64,
+    is_zstd: bool,
+    backing_name: Option<&'a str>,
+    backing_format: Option<&'a str>,
+    data_file_name: Option<&'a str>,
+}
+
+/// Prints what the header of an image says, also of one whose features aren't known. The image is only read. Refused for its header
+/// 19 (metadata), 13 (limit), 4 (unaligned table). Where the work meets them: 14 (memory), 15 (storage), and `Unprinted`.
 pub fn info<S: Storage, W: Write>(
     alloc: Global,
     storage: &mut S,
@@ -36,32 +55,103 @@ pub fn info<S: Storage, W: Write>(
 ) -> Result<(), Failure>
     ensures reading { ContentsStay (S.view storage.old) (S.view storage.new) }
 {
-    let header = match Header::load(alloc, storage, false) {
-        Ok(header) => header,
-        Err(e) => return Err(Failure::Refused(ImageError::from(e))),
+    let refusal = match Header::load(alloc, storage, false) {
+        Ok(header) => {
+            print(output, file, form, &facts_of(&header))?;
+            return Ok(());
+        }
+        Err(refusal) => refusal,
     };
-    match form {
-        Form::Text => print_lines(output, file, &header)?,
-        Form::Json => print_object(output, file, &header)?,
+    if refusal == MetadataError::Format {
+        if let Some(found) = numbers_of_unread(alloc, storage) {
+            print(output, file, form, &facts_of_unread(&found))?;
+            return Ok(());
+        }
     }
-    Ok(())
+    Err(Failure::Refused(ImageError::from(refusal)))
 }
 
-fn print_lines<W: Write>(output: &mut W, file: &File<'_>, header: &Header) -> io::Result<()> {
-    let name = file.name;
-    let size = header.size();
+fn facts_of(header: &Header) -> Facts<'_> {
+    Facts {
+        version: header.version(),
+        size: header.size(),
+        cluster_size: header.cluster_size(),
+        refcount_bits: 1 << header.refcount_order(),
+        is_encrypted: false,
+        incompatible: header.incompatible(),
+        compatible: header.compatible(),
+        autoclear: header.autoclear(),
+        is_zstd: false,
+        backing_name: text(header.backing_name()),
+        backing_format: text(header.backing_format()),
+        data_file_name: text(header.data_file_name()),
+    }
+}
+
+fn facts_of_unread(found: &Unread) -> Facts<'_>
+    requires bits { found.now.cluster_bits ≤ 21 }
+    requires order { found.now.refcount_order ≤ 6 }
+{
+    Facts {
+        version: found.version,
+        size: found.size,
+        cluster_size: 1 << found.cluster_bits,
+        refcount_bits: 1 << found.refcount_order,
+        is_encrypted: found.is_encrypted,
+        incompatible: found.incompatible,
+        compatible: found.compatible,
+        autoclear: 0,
+        is_zstd: found.is_zstd,
+        backing_name: text(found.backing_name.as_ref()),
+        backing_format: None,
+        data_file_name: None,
+    }
+}
+
+fn text(name: Option<&String>) -> Option<&str> {
+    match name {
+        Some(name) => Some(name.as_str()),
+        None => None,
+    }
+}
+
+fn print<W: Write>(
+    output: &mut W,
+    file: &File<'_>,
+    form: Form,
+    facts: &Facts<'_>,
+) -> io::Result<()> {
+    match form {
+        Form::Text => print_lines(output, file, facts),
+        Form::Json => print_object(output, file, facts),
+    }
+}
+
+fn print_lines<W: Write>(output: &mut W, file: &File<'_>, facts: &Facts<'_>) -> io::Result<()> {
+    let size = facts.size;
     let human = Human(size);
-    let cluster = header.cluster_size();
-    print_line(output, "image: ", name)?;
+    let cluster = facts.cluster_size;
+    print_line(output, "image: ", file.name)?;
     writeln!(output, "file format: qcow2")?;
     writeln!(output, "virtual size: {human} ({size} bytes)")?;
     if let Some(room) = file.room {
         let human = Human(room);
         writeln!(output, "disk size: {human}")?;
     }
+    if facts.is_encrypted {
+        writeln!(output, "encrypted: yes")?;
+    }
     writeln!(output, "cluster_size: {cluster}")?;
-    print_names(output, header)?;
-    print_features(output, header)
+    if is_dirty(facts) {
+        writeln!(output, "cleanly shut down: no")?;
+    }
+    if let Some(name) = facts.backing_name {
+        print_line(output, "backing file: ", name)?;
+    }
+    if let Some(format) = facts.backing_format {
+        print_line(output, "backing file format: ", format)?;
+    }
+    print_features(output, facts)
 }
 
 // A line with a name, which an image's maker chose.
@@ -71,47 +161,41 @@ fn print_line<W: Write>(output: &mut W, key: &str, name: &str) -> io::Result<()>
     writeln!(output)
 }
 
-fn print_names<W: Write>(output: &mut W, header: &Header) -> io::Result<()> {
-    if let Some(name) = header.backing_name() {
-        print_line(output, "backing file: ", name.as_str())?;
-    }
-    if let Some(format) = header.backing_format() {
-        print_line(output, "backing file format: ", format.as_str())?;
-    }
-    Ok(())
-}
-
-fn print_features<W: Write>(output: &mut W, header: &Header) -> io::Result<()> {
-    let compat = compat_of(header);
-    let bits = refcount_bits(header);
+fn print_features<W: Write>(output: &mut W, facts: &Facts<'_>) -> io::Result<()> {
+    let compat = compat_of(facts);
+    let compression = compression_of(facts);
+    let bits = facts.refcount_bits;
     writeln!(output, "Format specific information:")?;
     writeln!(output, "    compat: {compat}")?;
-    writeln!(output, "    compression type: zlib")?;
-    if header.version() < 3 {
+    writeln!(output, "    compression type: {compression}")?;
+    if facts.version < 3 {
         return writeln!(output, "    refcount bits: {bits}");
     }
-    let lazy = has_lazy_counts(header);
+    let lazy = has_lazy_counts(facts);
+    let corrupt = is_corrupt(facts);
+    let extended = has_extended_entries(facts);
     writeln!(output, "    lazy refcounts: {lazy}")?;
     writeln!(output, "    refcount bits: {bits}")?;
-    print_data_file(output, header)?;
-    writeln!(output, "    corrupt: false")?;
-    writeln!(output, "    extended l2: false")
+    print_data_file(output, facts)?;
+    writeln!(output, "    corrupt: {corrupt}")?;
+    writeln!(output, "    extended l2: {extended}")
 }
 
-fn print_data_file<W: Write>(output: &mut W, header: &Header) -> io::Result<()> {
-    if let Some(name) = header.data_file_name() {
-        print_line(output, "    data file: ", name.as_str())?;
+fn print_data_file<W: Write>(output: &mut W, facts: &Facts<'_>) -> io::Result<()> {
+    if let Some(name) = facts.data_file_name {
+        print_line(output, "    data file: ", name)?;
     }
-    if header.has_data_file() {
-        let raw = is_raw_data(header);
+    if has_data_file(facts) {
+        let raw = is_raw_data(facts);
         writeln!(output, "    data file raw: {raw}")?;
     }
     Ok(())
 }
 
-fn print_object<W: Write>(output: &mut W, file: &File<'_>, header: &Header) -> io::Result<()> {
-    let size = header.size();
-    let cluster = header.cluster_size();
+fn print_object<W: Write>(output: &mut W, file: &File<'_>, facts: &Facts<'_>) -> io::Result<()> {
+    let size = facts.size;
+    let cluster = facts.cluster_size;
+    let dirty = is_dirty(facts);
     writeln!(output, "{{")?;
     print_named(output, "    \"filename\": ", file.name)?;
     writeln!(output, "    \"format\": \"qcow2\",")?;
@@ -120,43 +204,52 @@ fn print_object<W: Write>(output: &mut W, file: &File<'_>, header: &Header) -> i
     if let Some(room) = file.room {
         writeln!(output, "    \"actual-size\": {room},")?;
     }
-    if let Some(name) = header.backing_name() {
-        print_named(output, "    \"backing-filename\": ", name.as_str())?;
+    if facts.is_encrypted {
+        writeln!(output, "    \"encrypted\": true,")?;
     }
-    if let Some(format) = header.backing_format() {
-        print_named(output, "    \"backing-filename-format\": ", format.as_str())?;
+    if let Some(name) = facts.backing_name {
+        print_named(output, "    \"backing-filename\": ", name)?;
+    }
+    if let Some(format) = facts.backing_format {
+        print_named(output, "    \"backing-filename-format\": ", format)?;
     }
     writeln!(output, "    \"format-specific\": {{")?;
     writeln!(output, "        \"type\": \"qcow2\",")?;
-    print_features_object(output, header)?;
+    print_features_object(output, facts)?;
     writeln!(output, "    }},")?;
-    writeln!(output, "    \"dirty-flag\": false")?;
+    writeln!(output, "    \"dirty-flag\": {dirty}")?;
     writeln!(output, "}}")
 }
 
-fn print_features_object<W: Write>(output: &mut W, header: &Header) -> io::Result<()> {
-    let compat = compat_of(header);
-    let bits = refcount_bits(header);
+fn print_features_object<W: Write>(output: &mut W, facts: &Facts<'_>) -> io::Result<()> {
+    let compat = compat_of(facts);
+    let compression = compression_of(facts);
+    let bits = facts.refcount_bits;
     writeln!(output, "        \"data\": {{")?;
     writeln!(output, "            \"compat\": \"{compat}\",")?;
-    writeln!(output, "            \"compression-type\": \"zlib\",")?;
-    if header.version() >= 3 {
-        let lazy = has_lazy_counts(header);
+    writeln!(
+        output,
+        "            \"compression-type\": \"{compression}\","
+    )?;
+    if facts.version >= 3 {
+        let lazy = has_lazy_counts(facts);
+        let corrupt = is_corrupt(facts);
+        let extended = has_extended_entries(facts);
         writeln!(output, "            \"lazy-refcounts\": {lazy},")?;
-        print_data_file_object(output, header)?;
-        writeln!(output, "            \"corrupt\": false,")?;
-        writeln!(output, "            \"extended-l2\": false,")?;
+        print_data_file_object(output, facts)?;
+        writeln!(output, "            \"corrupt\": {corrupt},")?;
+        writeln!(output, "            \"extended-l2\": {extended},")?;
     }
     writeln!(output, "            \"refcount-bits\": {bits}")?;
     writeln!(output, "        }}")
 }
 
-fn print_data_file_object<W: Write>(output: &mut W, header: &Header) -> io::Result<()> {
-    if let Some(name) = header.data_file_name() {
-        print_named(output, "            \"data-file\": ", name.as_str())?;
+fn print_data_file_object<W: Write>(output: &mut W, facts: &Facts<'_>) -> io::Result<()> {
+    if let Some(name) = facts.data_file_name {
+        print_named(output, "            \"data-file\": ", name)?;
     }
-    if header.has_data_file() {
-        let raw = is_raw_data(header);
+    if has_data_file(facts) {
+        let raw = is_raw_data(facts);
         writeln!(output, "            \"data-file-raw\": {raw},")?;
     }
     Ok(())
@@ -169,19 +262,35 @@ fn print_named<W: Write>(output: &mut W, key: &str, text: &str) -> io::Result<()
 }
 
 // The version, as QEMU's tools name it.
-fn compat_of(header: &Header) -> &'static str {
-    if header.version() < 3 { "0.10" } else { "1.1" }
+fn compat_of(facts: &Facts<'_>) -> &'static str {
+    if facts.version < 3 { "0.10" } else { "1.1" }
 }
 
-fn refcount_bits(header: &Header) -> u64 {
-    1 << header.refcount_order()
+fn compression_of(facts: &Facts<'_>) -> &'static str {
+    if facts.is_zstd { "zstd" } else { "zlib" }
 }
 
-fn has_lazy_counts(header: &Header) -> bool {
-    header.compatible() & LAZY_COUNTS != 0
+fn has_lazy_counts(facts: &Facts<'_>) -> bool {
+    facts.compatible & LAZY_COUNTS != 0
+}
+
+fn is_dirty(facts: &Facts<'_>) -> bool {
+    facts.incompatible & 1 != 0
+}
+
+fn is_corrupt(facts: &Facts<'_>) -> bool {
+    facts.incompatible & 2 != 0
+}
+
+fn has_data_file(facts: &Facts<'_>) -> bool {
+    facts.incompatible & 4 != 0
+}
+
+fn has_extended_entries(facts: &Facts<'_>) -> bool {
+    facts.incompatible & 16 != 0
 }
 
 // Whether the bytes of the data file are the disk's, each at its place.
-fn is_raw_data(header: &Header) -> bool {
-    header.autoclear() & 2 != 0
+fn is_raw_data(facts: &Facts<'_>) -> bool {
+    facts.autoclear & 2 != 0
 }

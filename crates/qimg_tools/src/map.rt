@@ -50,7 +50,8 @@ struct Page<'a> {
 
 /// Prints what each run of an image's disk is mapped to. The image is opened for reading alone, and without the disk below it, and its
 /// storage is handed back. Refused as `open_image` is: 19 (metadata), 13 (limit), 4 (unaligned table). An image whose data stand in
-/// another file is refused 12 (dependency). Nothing is printed before all of it was looked up. Where the work meets them: 4 (unaligned table), 14 (memory), 15 (storage), and `Unprinted`.
+/// another file is refused 12 (dependency). All runs are looked up before any is printed. Where the work meets them: 4 (unaligned table),
+/// 14 (memory), 15 (storage), and `Unprinted`.
 pub fn map<S: Storage, W: Write>(
     alloc: Global,
     storage: S,

@@ -50,6 +50,29 @@ fn number_of_digits(digits: &[u8]) -> Option<u64>
     }
 }
 
+/// What a disk's size is to be.
+#[derive(Clone, Copy)]
+pub enum SizeChange {
+    /// A number of bytes.
+    To(u64),
+    /// So many more than now.
+    More(u64),
+    /// So many fewer than now.
+    Fewer(u64),
+}
+
+/// What a word asks for of a disk's size: a size, or one behind `+` or `-` by which it grows or shrinks. None where it is something else,
+/// or passes 64 bits.
+pub fn size_change(word: &str) -> Option<SizeChange> {
+    if let Some(more) = word.strip_prefix('+') {
+        return Some(SizeChange::More(size(more)?));
+    }
+    if let Some(fewer) = word.strip_prefix('-') {
+        return Some(SizeChange::Fewer(size(fewer)?));
+    }
+    Some(SizeChange::To(size(word)?))
+}
+
 /// A number of bytes as people read it, in the form of QEMU's tools: in three digits of a unit of which it has a thousand at most.
 #[derive(Clone, Copy)]
 pub struct Human(pub u64);

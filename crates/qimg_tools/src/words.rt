@@ -1,16 +1,29 @@
 //! The words of the command line.
 
 use crate::sizes::size;
+use image_access::PreallocateMode;
+
+// Why an option isn't taken.
+const NO_OPTION: &str = "this command has no such option";
 
 /// What is printed for `--help`.
 pub const USAGE: &str = "usage: qimg-tools info [-f qcow2] [--output human|json] FILE
        qimg-tools map [-f qcow2] [--output human|json] FILE
        qimg-tools check [-f qcow2] [--output human|json] FILE
-       qimg-tools convert [-p] [-f raw|qcow2] [-O raw|qcow2] [-o cluster_size=SIZE,refcount_bits=N] SOURCE TARGET
-       qimg-tools create [-f qcow2] [-o cluster_size=SIZE,refcount_bits=N] FILE SIZE
+       qimg-tools vet [--max-size SIZE] [--output human|json] FILE
+       qimg-tools compare [-q] [-f raw|qcow2] [-F raw|qcow2] FILE OTHER
+       qimg-tools convert [-p] [-q] [-f raw|qcow2] [-O raw|qcow2] [-o OPTIONS] [--verify] SOURCE TARGET
+       qimg-tools create [-q] [-f qcow2] [-o OPTIONS] [-b FILE -F raw|qcow2] FILE [SIZE]
+       qimg-tools resize [-q] [-f qcow2] [--shrink] [--preallocation MODE] FILE [+|-]SIZE
        qimg-tools [COMMAND] --help | --version
-SIZE is a number of bytes, or of units of 1024 as in 64k, 512M and 10G. Of the formats one is raw and the other qcow2: -O raw is taken where none is given.
-The status is 0, or 1 where something is refused. Of check it is 2 for an image that isn't consistent, 3 for one that only has leaked clusters, and 63 for a file that is no qcow2 image.";
+SIZE is a number of bytes, or of units of 1024 as in 64k, 512M and 10G.
+OPTIONS are cluster_size=SIZE and refcount_bits=N, and for create preallocation=MODE, with commas between them.
+MODE is off, metadata, falloc or full. -b names a backing file, whose size is taken where none is given. Words behind -- are files and sizes. --json is --output json.
+vet tells whether a stranger's image may be taken in: its bytes are consistent and name no other file.
+convert takes a file that begins as a qcow2 image as one, unless -f raw is given; -O raw is the default.
+The status is 0, or 1 if something is refused. check also returns 2 for an image that is not consistent,
+3 for an image that only has leaked clusters, and 63 for a file that is no qcow2 image. vet returns 2 for
+an image that may not be taken in. compare returns 1 for disks that differ, and 2 if it cannot compare them.";
 
 /// Why the words can't be read: one of them, and what is wrong with it.
 #[derive(Clone, Copy)]
@@ -30,10 +43,16 @@ pub enum Command {
     Map,
     /// Tell whether an image is consistent.
     Check,
-    /// Make an image of a raw disk, or a raw disk of an image.
+    /// Tell whether a stranger's image may be taken in.
+    Vet,
+    /// Tell whether two disks are the same.
+    Compare,
+    /// Make an image or a raw disk of another one.
     Convert,
     /// Make an image.
     Create,
+    /// Give an image's disk another size.
+    Resize,
     /// Print the usage.
     Help,
     /// Print the version.
@@ -58,13 +77,15 @@ pub enum DiskFormat {
     Qcow2,
 }
 
-/// How a new image is laid out: the bytes of a cluster, and the bits of its count.
+/// How a new image is laid out: the bytes of a cluster, the bits of its count, and what place is taken for the disk.
 #[derive(Clone, Copy)]
 pub struct Layout {
     /// The bytes of a cluster: 65,536 where none are asked for. Images have powers of two from 512 to 2,097,152.
     pub cluster_size: u64,
     /// The bits of a count: 16 where none are asked for. Images have powers of two from 1 to 64.
     pub refcount_bits: u64,
+    /// What place is taken for the disk: none where nothing is asked for.
+    pub preallocate: PreallocateMode,
 }
 
 /// What the words beside the command ask for.
@@ -72,20 +93,41 @@ pub struct Layout {
 pub struct Settings<'a> {
     /// How the answer is printed: as text where nothing is asked for.
     pub form: Form,
-    /// The format of the disk that is converted; None where nothing is asked for.
+    /// The format of the disk that is read, or of the first one; None where nothing is asked for.
     pub source: Option<DiskFormat>,
+    /// The format of the second disk that is compared, or of a backing file; None where nothing is asked for.
+    pub other: Option<DiskFormat>,
+    /// The backing file of a new image; None where it is to have none.
+    pub below: Option<&'a str>,
     /// The format of the disk that is made: raw where nothing is asked for.
     pub target: DiskFormat,
     /// How a new image is laid out.
     pub layout: Layout,
     /// Whether the words say how.
     pub has_layout: bool,
-    /// Whether the begin and the end of a conversion are told.
-    pub shows_progress: bool,
-    /// Whether the words of the command are to be explained, and nothing done.
-    pub wants_help: bool,
+    /// What place a larger disk takes: none where nothing is asked for.
+    pub preallocate: PreallocateMode,
+    /// How many bytes the disk of an image that is taken in may have; any number where nothing is asked for.
+    pub max_size: u64,
+    /// Which of the words that stand alone were given.
+    pub flags: Flags,
     /// The files, or the file and the size, in their order; at most two.
     pub operands: (Option<&'a str>, Option<&'a str>),
+}
+
+/// Options that have no value.
+#[derive(Clone, Copy)]
+pub struct Flags {
+    /// `-p`: how far a conversion is.
+    pub shows_progress: bool,
+    /// `-q`: nothing is printed that the status says.
+    pub is_quiet: bool,
+    /// `--verify`: a conversion ends with a comparison.
+    pub verifies: bool,
+    /// `--shrink`: a disk may lose its last bytes.
+    pub shrinks: bool,
+    /// `--help`: the words of the command are to be explained, and nothing done.
+    pub wants_help: bool,
 }
 
 // An option that has a value.
@@ -93,15 +135,20 @@ pub struct Settings<'a> {
 enum Setting {
     Output,
     Source,
+    Other,
+    Below,
     Target,
     Layout,
+    MaxSize,
+    Preallocation,
 }
 
-// The settings that words ask for, up to one of them, and the option whose value comes next.
+// The settings that words ask for, up to one of them, the option whose value comes next, and whether all further words are operands.
 #[derive(Clone, Copy)]
 struct Reading<'a> {
     settings: Settings<'a>,
     awaited: Option<(Setting, &'a str)>,
+    is_past_options: bool,
 }
 
 /// Reads the words after the program's name. Refused with the word that can't be read.
@@ -115,6 +162,7 @@ pub fn read_words(words: &[String]) -> Result<(Command, Settings<'_>), BadWord<'
     let mut reading = Reading {
         settings: default_settings(),
         awaited: None,
+        is_past_options: false,
     };
     for word in words {
         reading = with_word(command, reading, word.as_str())?;
@@ -124,6 +172,13 @@ pub fn read_words(words: &[String]) -> Result<(Command, Settings<'_>), BadWord<'
     }
     if reading.settings.has_layout && makes_raw_disk(command, &reading.settings) {
         return bad("-o", "a raw disk has no layout: -O qcow2 makes an image");
+    }
+    if matches!(command, Command::Create) {
+        match (reading.settings.below, reading.settings.other) {
+            (Some(_), None) => return bad("-b", "-F is to say the format of the backing file"),
+            (None, Some(_)) => return bad("-F", "-b is to name a backing file"),
+            _ => {}
+        }
     }
     Ok((command, reading.settings))
 }
@@ -137,14 +192,24 @@ fn default_settings() -> Settings<'static> {
     Settings {
         form: Form::Text,
         source: None,
+        other: None,
+        below: None,
         target: DiskFormat::Raw,
         layout: Layout {
             cluster_size: 65536,
             refcount_bits: 16,
+            preallocate: PreallocateMode::None,
         },
         has_layout: false,
-        shows_progress: false,
-        wants_help: false,
+        preallocate: PreallocateMode::None,
+        max_size: u64::MAX,
+        flags: Flags {
+            shows_progress: false,
+            is_quiet: false,
+            verifies: false,
+            shrinks: false,
+            wants_help: false,
+        },
         operands: (None, None),
     }
 }
@@ -158,8 +223,11 @@ fn command_of(word: &str) -> Option<Command> {
         b"info" => Some(Command::Info),
         b"map" => Some(Command::Map),
         b"check" => Some(Command::Check),
+        b"vet" => Some(Command::Vet),
+        b"compare" => Some(Command::Compare),
         b"convert" => Some(Command::Convert),
         b"create" => Some(Command::Create),
+        b"resize" => Some(Command::Resize),
         b"--help" | b"-h" | b"help" => Some(Command::Help),
         b"--version" | b"-V" => Some(Command::Version),
         _ => None,
@@ -172,45 +240,100 @@ fn with_word<'a>(
     reading: Reading<'a>,
     word: &'a str,
 ) -> Result<Reading<'a>, BadWord<'a>> {
-    let Reading { settings, awaited } = reading;
-    if let Some((setting, _)) = awaited {
+    let settings = reading.settings;
+    if let Some((setting, _)) = reading.awaited {
         return with_value(command, settings, setting, word, word);
     }
-    if !word.starts_with('-') {
-        return with_operand(settings, word);
+    if reading.is_past_options || !is_option(command, word) {
+        return with_operand(reading, word);
     }
-    if let Some(("--output", value)) = word.split_once('=') {
-        return with_value(command, settings, Setting::Output, value, word);
+    if let Some((name, value)) = word.split_once('=') {
+        return match setting_of(name) {
+            Some(setting) if name.starts_with("--") => with_value(
+                command, settings, setting, value, word,
+            ),
+            _ => bad(word, NO_OPTION),
+        };
     }
-    let settings = match word.as_bytes() {
-        b"-p" if matches!(command, Command::Convert) => Settings {
+    if word == "--" {
+        return Ok(Reading {
+            is_past_options: true,
+            ..reading
+        });
+    }
+    match with_flag(command, settings, word) {
+        Some(settings) => Ok(Reading {
+            settings,
+            ..reading
+        }),
+        None => with_option(command, reading, word),
+    }
+}
+
+// Sizes by which a disk is to become smaller begin as options do.
+fn is_option(command: Command, word: &str) -> bool {
+    match word.as_bytes() {
+        [b'-', b'0'..=b'9', ..] => !matches!(command, Command::Resize),
+        [b'-', ..] => true,
+        _ => false,
+    }
+}
+
+// The settings with an option that has no value; None where the command has no such option.
+fn with_flag<'a>(command: Command, settings: Settings<'a>, word: &str) -> Option<Settings<'a>> {
+    let flags = settings.flags;
+    let flags = match word.as_bytes() {
+        b"-p" if matches!(command, Command::Convert) => Flags {
             shows_progress: true,
-            ..settings
+            ..flags
         },
-        b"--help" | b"-h" if !matches!(command, Command::Help | Command::Version) => Settings {
+        b"--verify" if matches!(command, Command::Convert) => Flags {
+            verifies: true,
+            ..flags
+        },
+        b"--shrink" if matches!(command, Command::Resize) => Flags {
+            shrinks: true,
+            ..flags
+        },
+        b"-q" if takes_quiet(command) => Flags {
+            is_quiet: true,
+            ..flags
+        },
+        b"--json" if takes(command, Setting::Output) => {
+            return Some(Settings {
+                form: Form::Json,
+                ..settings
+            });
+        }
+        b"--help" | b"-h" if !matches!(command, Command::Help | Command::Version) => Flags {
             wants_help: true,
-            ..settings
+            ..flags
         },
-        _ => return with_option(command, settings, word),
+        _ => return None,
     };
-    Ok(Reading {
-        settings,
-        awaited: None,
-    })
+    Some(Settings { flags, ..settings })
+}
+
+// Whether the status says all that the command prints.
+fn takes_quiet(command: Command) -> bool {
+    matches!(
+        command,
+        Command::Compare | Command::Convert | Command::Create | Command::Resize
+    )
 }
 
 // The settings as they are, and an option that awaits its value.
 fn with_option<'a>(
     command: Command,
-    settings: Settings<'a>,
+    reading: Reading<'a>,
     word: &'a str,
 ) -> Result<Reading<'a>, BadWord<'a>> {
     match setting_of(word) {
         Some(setting) if takes(command, setting) => Ok(Reading {
-            settings,
             awaited: Some((setting, word)),
+            ..reading
         }),
-        _ => bad(word, "this command has no such option"),
+        _ => bad(word, NO_OPTION),
     }
 }
 
@@ -218,8 +341,12 @@ fn setting_of(word: &str) -> Option<Setting> {
     match word.as_bytes() {
         b"--output" => Some(Setting::Output),
         b"-f" => Some(Setting::Source),
+        b"-F" => Some(Setting::Other),
+        b"-b" => Some(Setting::Below),
         b"-O" => Some(Setting::Target),
         b"-o" => Some(Setting::Layout),
+        b"--max-size" => Some(Setting::MaxSize),
+        b"--preallocation" => Some(Setting::Preallocation),
         _ => None,
     }
 }
@@ -227,10 +354,17 @@ fn setting_of(word: &str) -> Option<Setting> {
 // Whether an option belongs to a command.
 fn takes(command: Command, setting: Setting) -> bool {
     match setting {
-        Setting::Output => matches!(command, Command::Info | Command::Map | Command::Check),
+        Setting::Output => matches!(
+            command,
+            Command::Info | Command::Map | Command::Check | Command::Vet
+        ),
         Setting::Source => !matches!(command, Command::Help | Command::Version),
+        Setting::Other => matches!(command, Command::Compare | Command::Create),
+        Setting::Below => matches!(command, Command::Create),
         Setting::Target => matches!(command, Command::Convert),
         Setting::Layout => matches!(command, Command::Convert | Command::Create),
+        Setting::MaxSize => matches!(command, Command::Vet),
+        Setting::Preallocation => matches!(command, Command::Resize),
     }
 }
 
@@ -239,24 +373,50 @@ fn with_value<'a>(
     command: Command,
     settings: Settings<'a>,
     setting: Setting,
-    value: &str,
+    value: &'a str,
     word: &'a str,
 ) -> Result<Reading<'a>, BadWord<'a>> {
     if !takes(command, setting) {
-        return bad(word, "this command has no such option");
+        return bad(word, NO_OPTION);
     }
-    let found = match setting {
-        Setting::Output => with_form(settings, value),
-        Setting::Source => with_source(command, settings, value),
-        Setting::Target => with_target(settings, value),
-        Setting::Layout => with_layout(settings, value),
-    };
-    match found {
+    match value_of(command, settings, setting, value) {
         Some(settings) => Ok(Reading {
             settings,
             awaited: None,
+            is_past_options: false,
         }),
         None => bad(word, wanted(command, setting)),
+    }
+}
+
+// The settings with a value; None where it can't be read.
+fn value_of<'a>(
+    command: Command,
+    settings: Settings<'a>,
+    setting: Setting,
+    value: &'a str,
+) -> Option<Settings<'a>> {
+    match setting {
+        Setting::Output => with_form(settings, value),
+        Setting::Source => with_source(command, settings, value),
+        Setting::Other => Some(Settings {
+            other: Some(format_of(value)?),
+            ..settings
+        }),
+        Setting::Below => Some(Settings {
+            below: Some(value),
+            ..settings
+        }),
+        Setting::Target => with_target(settings, value),
+        Setting::Layout => with_layout(command, settings, value),
+        Setting::MaxSize => Some(Settings {
+            max_size: size(value)?,
+            ..settings
+        }),
+        Setting::Preallocation => Some(Settings {
+            preallocate: mode_of(value)?,
+            ..settings
+        }),
     }
 }
 
@@ -264,9 +424,15 @@ fn with_value<'a>(
 fn wanted(command: Command, setting: Setting) -> &'static str {
     match setting {
         Setting::Output => "the form of an answer is human or json",
-        Setting::Source if !matches!(command, Command::Convert) => "the only format here is qcow2",
-        Setting::Source | Setting::Target => "the format of a disk is raw or qcow2",
+        Setting::Source if !takes_raw_disks(command) => "the only format here is qcow2",
+        Setting::Below => "a backing file has a name",
+        Setting::Source | Setting::Other | Setting::Target =>
+            "the format of a disk is raw or qcow2",
+        Setting::Layout if matches!(command, Command::Create) =>
+            "the options of an image are cluster_size=SIZE, refcount_bits=N and preallocation=off|metadata|falloc|full, with commas",
         Setting::Layout => "a layout is cluster_size=SIZE or refcount_bits=N, or both with a comma",
+        Setting::MaxSize => "not a size of 64 bits",
+        Setting::Preallocation => "a mode is off, metadata, falloc or full",
     }
 }
 
@@ -279,10 +445,13 @@ fn with_form<'a>(settings: Settings<'a>, word: &str) -> Option<Settings<'a>> {
     Some(Settings { form, ..settings })
 }
 
-// Only a conversion takes raw disks.
+fn takes_raw_disks(command: Command) -> bool {
+    matches!(command, Command::Convert | Command::Compare)
+}
+
 fn with_source<'a>(command: Command, settings: Settings<'a>, word: &str) -> Option<Settings<'a>> {
     let source = format_of(word)?;
-    if !matches!(command, Command::Convert) && matches!(source, DiskFormat::Raw) {
+    if !takes_raw_disks(command) && matches!(source, DiskFormat::Raw) {
         return None;
     }
     Some(Settings {
@@ -304,8 +473,19 @@ fn format_of(word: &str) -> Option<DiskFormat> {
     }
 }
 
-fn with_layout<'a>(settings: Settings<'a>, list: &str) -> Option<Settings<'a>> {
-    let layout = layout_of(settings.layout, list)?;
+// What place the modes of QEMU take.
+fn mode_of(word: &str) -> Option<PreallocateMode> {
+    match word.as_bytes() {
+        b"off" => Some(PreallocateMode::None),
+        b"metadata" => Some(PreallocateMode::FormatAllocate),
+        b"falloc" => Some(PreallocateMode::FullAllocate),
+        b"full" => Some(PreallocateMode::WriteData),
+        _ => None,
+    }
+}
+
+fn with_layout<'a>(command: Command, settings: Settings<'a>, list: &str) -> Option<Settings<'a>> {
+    let layout = layout_of(command, settings.layout, list)?;
     Some(Settings {
         layout,
         has_layout: true,
@@ -314,22 +494,24 @@ fn with_layout<'a>(settings: Settings<'a>, list: &str) -> Option<Settings<'a>> {
 }
 
 // A layout with the values of a list of names and values.
-fn layout_of(layout: Layout, list: &str) -> Option<Layout> {
+fn layout_of(command: Command, layout: Layout, list: &str) -> Option<Layout> {
     let mut layout = layout;
     for part in list.split(',') {
         let (name, value) = part.split_once('=')?;
-        let value = size(value)?;
         match name.as_bytes() {
-            b"cluster_size" => layout.cluster_size = value,
-            b"refcount_bits" => layout.refcount_bits = value,
+            b"cluster_size" => layout.cluster_size = size(value)?,
+            b"refcount_bits" => layout.refcount_bits = size(value)?,
+            b"preallocation" if matches!(command, Command::Create) => {
+                layout.preallocate = mode_of(value)?;
+            }
             _ => return None,
         }
     }
     Some(layout)
 }
 
-fn with_operand<'a>(settings: Settings<'a>, word: &'a str) -> Result<Reading<'a>, BadWord<'a>> {
-    let operands = match settings.operands {
+fn with_operand<'a>(reading: Reading<'a>, word: &'a str) -> Result<Reading<'a>, BadWord<'a>> {
+    let operands = match reading.settings.operands {
         (None, None) => (Some(word), None),
         (Some(first), None) => (Some(first), Some(word)),
         _ => return bad(word, "it is one word too many"),
@@ -337,8 +519,8 @@ fn with_operand<'a>(settings: Settings<'a>, word: &'a str) -> Result<Reading<'a>
     Ok(Reading {
         settings: Settings {
             operands,
-            ..settings
+            ..reading.settings
         },
-        awaited: None,
+        ..reading
     })
 }

@@ -1,13 +1,17 @@
 -- An entry that is there already.
-use Rattle.std.proofs.Common.{◌≡◌, ℕ, Bool, true, false, eqb, List, Option, Some, None, Result, Ok, IsSome, refl, sym, ap, ◌∙◌}
+use Rattle.std.proofs.Common.{◌≡◌, inl, inr, ℕ, Bool, true, false, eqb, List, [], ◌∷◌, Option, Some, None, Result, Ok, IsSome, refl, sym, ap, ◌∙◌}
 use Rattle.std.specs.Cmp.{IsEquivalence}
-use Rattle.std.specs.Option.{option_map}
+use Rattle.std.specs.Option.{option_map, IsNone}
 use Rattle.std.specs.Map.{lookup}
 use Rattle.std.proofs.lemmas.Bool.{eq-eqb, eqb-true}
 use Rattle.lru.specs.LruCache.{promoted}
 use Rattle.qcow2_alloc.specs.declared.async_lru_cache.slot.Slot.{Slot}
-use Rattle.qcow2_alloc.specs.AsyncLruCache.{value_at}
+use Rattle.qcow2_alloc.specs.declared.async_lru_cache.error.CacheError.{CacheError}
+use Rattle.qcow2_alloc.specs.AsyncLruCache.{value_at, IsInFront}
+use Rattle.qcow2_alloc.specs.AsyncLruCacheBackend.{Steps}
+use Rattle.qcow2_alloc.specs.CacheAnswers.{GetsNew}
 use Rattle.qcow2_alloc.proofs.CachedEntries.Knowing.{lookup-promoted}
+use Rattle.qcow2_alloc.proofs.KeptTables.Fetching.{none_or_some}
 
 slot_there : {V : Type 0} (o : Option (Slot V)) → IsSome (option_map (λ s. s.value) o) → IsSome o
 slot_there None there = absurd (cc)
@@ -32,3 +36,17 @@ pub got_there : {S V E : Type 0} (key : ℕ) (es fs : List (ℕ × Slot V)) (s t
 got_there key es fs s t answer hit there =
     let got = hit (slot_there (lookup (eqb key) es) there) in
     (got.0, got.2, λ c. ap (λ l. value_at (eqb c) l) got.1 ∙ ap (option_map (λ s. s.value)) (lookup-promoted eqb_laws es key c))
+
+-- what is in front is held
+pub held_in_front : {V : Type 0} (key : ℕ) (es : List (ℕ × Slot V)) → IsInFront (eqb key) es → IsSome (value_at (eqb key) es)
+held_in_front key [] front = absurd front
+held_in_front key (e ∷ es) front = rw front refl
+
+-- a call that may flush doesn't wait for another one
+pub got_at_last : {S V E : Type 0} (steps : Steps S ℕ V E) (size key : ℕ) (s t : S) (es fs : List (ℕ × Slot V)) (answer : Result Bool (CacheError ℕ E)) (b : Bool) → answer ≡ Ok b
+    → (IsSome (lookup (eqb key) es) → (answer ≡ Ok true) × (fs ≡ promoted (eqb key) es) × (t ≡ s)) → (IsNone (lookup (eqb key) es) → GetsNew steps eqb size true key s es answer t fs) → answer ≡ Ok true
+got_at_last steps size key s t es fs answer true is hit miss = is
+got_at_last steps size key s t es fs answer false is hit miss = elim (none_or_some (lookup (eqb key) es)) [
+  | inl there ↦ (hit there).0
+  | inr missing ↦ absurd (let bad : true ≡ false = (rw is at (miss missing)).1 in cc)
+]

@@ -80,7 +80,7 @@ module _ {K V : Type 0} where
   ]) refl
 
   -- the oldest entry with no pin has none
-  oldest_unpinned : (es : List (K × Slot V)) (e : K × Slot V) → oldest_free es ≡ Some e → is_pinned e.1 ≡ false
+  pub oldest_unpinned : (es : List (K × Slot V)) (e : K × Slot V) → oldest_free es ≡ Some e → is_pinned e.1 ≡ false
   oldest_unpinned [] e h = absurd (cc)
   oldest_unpinned (f ∷ es) e h =
       (elim (is_pinned f.1) as (λ b. is_pinned f.1 ≡ b → option_or (oldest_free es) (cond b None (Some f)) ≡ Some e → is_pinned e.1 ≡ false) [

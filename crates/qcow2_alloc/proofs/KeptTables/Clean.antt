@@ -9,7 +9,7 @@ use Rattle.qcow2_metadata.specs.L2Table.{L2TableView}
 use Rattle.qcow2_metadata.specs.RefBlock.{RefBlockView}
 use Rattle.qcow2_metadata.specs.Tables.{CachedTable, overlays}
 use Rattle.qcow2_laws.specs.Clusters.{Direction, Neither, L2DependsOnRb, RbDependsOnL2}
-use Rattle.qcow2_laws.specs.Caches.{IsFreeAt, AreClean, BlocksMayGo}
+use Rattle.qcow2_laws.specs.Caches.{IsFreeAt, AreClean, BlocksMayGo, TablesMayGo}
 use Rattle.qcow2_laws.proofs.Lists.{unmodified_over}
 use Rattle.qcow2_alloc.specs.declared.async_lru_cache.slot.Slot.{Slot}
 use Rattle.qcow2_alloc.specs.declared.async_lru_cache.error.CacheError.{CacheError}
@@ -158,6 +158,11 @@ pub blocks_go : (d : Direction) (ts ts' : List CachedTable) → (AreClean ts →
 blocks_go Neither ts ts' clean may = tt
 blocks_go L2DependsOnRb ts ts' clean may = tt
 blocks_go RbDependsOnL2 ts ts' clean may = clean may
+
+pub tables_go : (d : Direction) (ts ts' : List CachedTable) → (AreClean ts → AreClean ts') → TablesMayGo d ts → TablesMayGo d ts'
+tables_go Neither ts ts' clean may = tt
+tables_go L2DependsOnRb ts ts' clean may = clean may
+tables_go RbDependsOnL2 ts ts' clean may = tt
 
 -- an L2 table that isn't modified is put in
 module _ {S : Type 0} (view : S → StorageView) (old new : ImageStorage S) (caches : MetadataCaches S) (may_flush : Bool) (key : ℕ) (l2 : Cache (L2CacheBackend S) ℕ L2TableView)

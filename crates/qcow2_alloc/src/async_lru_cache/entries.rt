@@ -1,5 +1,6 @@
 //! Work on the entries of a cache.
-ghost use Rattle.std.specs.Prelude.{slice_get, ◌≡◌, ◌-◌, ◌<◌, ◌≤◌, ◌^◌, length, option_map, All, IsSome, IfOk, OnErr, IfSome, Ok, None, true, false};
+ghost use Rattle.std.specs.Prelude.{slice_get, ◌≡◌, ◌-◌, ◌<◌, ◌≤◌, ◌^◌, length, option_map, All, IsSome, IfOk, OnErr};
+ghost use Rattle.std.specs.Prelude.{IfSome, Ok, None, true, false};
 ghost use Rattle.std.specs.List.{IsDistinct};
 ghost use Rattle.std.specs.Map.{keys_of, lookup, lookup_entry, remove_entry};
 ghost use Rattle.std.specs.Result.{result_err};

@@ -1,5 +1,6 @@
 //! What loads and flushes the cached tables.
 use crate::async_lru_cache::AsyncLruCacheBackend;
+use crate::table_cache::TableBackend;
 use crate::{ImageStorage, WriteKind};
 use image_access::{Storage, StorageError};
 use qcow2_metadata::{Header, HostCluster, L2Table, MetadataError, RefBlock};
@@ -94,6 +95,23 @@ impl<S: Storage> AsyncLruCacheBackend for L2CacheBackend<S> {
     ghost keeps_same = { λ s. (kept_same s, met_same s) };
 
     ghost keeps_then = { λ s t u first then. (kept_then s t u first.0 then.0, met_then s t u first.1 then.1) };
+}
+
+impl<S: Storage> TableBackend for L2CacheBackend<S> {
+    ghost use Rattle.std.specs.Prelude.{false};
+    ghost use Rattle.std.proofs.Common.{ap};
+    ghost use Rattle.qcow2_metadata.specs.L2Table.{L2TableView};
+    ghost use Rattle.qcow2_alloc.specs.ImageStorage.{storage_of};
+    ghost use Rattle.qcow2_alloc.specs.TableCaches.{cleared_l2, IsTableOf};
+    ghost use Rattle.qcow2_alloc.specs.TableLaws.{same_number, table_rests};
+
+    fn is_modified(value: &L2Table) -> bool {
+        value.is_modified()
+    }
+
+    ghost exact = { λ j k h. same_number j k h };
+
+    ghost rests = { λ b s k v h. table_rests (λ s. S.view (storage_of s)) b.header.fields.cluster_bits (λ (v : L2TableView). v.bytes) (λ v. v.is_modified) cleared_l2 (IsTableOf b.header.fields) s k v h (ap (λ m. record v { is_modified = m }) h) };
 }
 
 impl<S> L2CacheBackend<S> {
@@ -198,6 +216,23 @@ impl<S: Storage> AsyncLruCacheBackend for RefBlockCacheBackend<S> {
     ghost keeps_same = { λ s. (kept_same s, met_same s) };
 
     ghost keeps_then = { λ s t u first then. (kept_then s t u first.0 then.0, met_then s t u first.1 then.1) };
+}
+
+impl<S: Storage> TableBackend for RefBlockCacheBackend<S> {
+    ghost use Rattle.std.specs.Prelude.{false};
+    ghost use Rattle.std.proofs.Common.{ap};
+    ghost use Rattle.qcow2_metadata.specs.RefBlock.{RefBlockView};
+    ghost use Rattle.qcow2_alloc.specs.ImageStorage.{storage_of};
+    ghost use Rattle.qcow2_alloc.specs.TableCaches.{cleared_rb, IsBlockOf};
+    ghost use Rattle.qcow2_alloc.specs.TableLaws.{same_number, table_rests};
+
+    fn is_modified(value: &RefBlock) -> bool {
+        value.is_modified()
+    }
+
+    ghost exact = { λ j k h. same_number j k h };
+
+    ghost rests = { λ b s k v h. table_rests (λ s. S.view (storage_of s)) b.header.fields.cluster_bits (λ (v : RefBlockView). v.bytes) (λ v. v.is_modified) cleared_rb (IsBlockOf b.header.fields) s k v h (ap (λ m. record v { is_modified = m }) h) };
 }
 
 impl<S> RefBlockCacheBackend<S> {

@@ -1,17 +1,19 @@
 //! The writes to an image's storage. Each demands that the storage was told before what it is for.
-ghost use Rattle.std.specs.Prelude.{◌≡◌, ◌≢◌, ◌+◌, ◌*◌, ◌^◌, ◌<◌, false, IfSome, IsFalse, IsOk, IsSome, IsTrue, OnErr, OnOk};
+ghost use Rattle.std.specs.Prelude.{◌≡◌, ◌≢◌, ◌+◌, ◌*◌, ◌^◌, ◌<◌, false, IfSome, IsFalse, IsOk, IsSome, IsTrue, OnErr};
+ghost use Rattle.std.specs.Prelude.{OnOk};
 ghost use Rattle.image_access.specs.Contents.{overwritten, resized, zeroed};
 ghost use Rattle.image_access.specs.Moments.{Calls, Changes};
 ghost use Rattle.std.specs.Int.{w64, to_be_bytes};
 ghost use Rattle.qcow2_metadata.specs.Header.{with_fields, without_autoclear};
 ghost use Rattle.qcow2_metadata.specs.HeaderLoad.{IsHeaderIn};
-ghost use Rattle.qcow2_metadata.specs.HeaderWrite.{autoclear_cleared, header_written, l1_table_pointer_written, reftable_pointer_written, size_written, HasNewNames};
+ghost use Rattle.qcow2_metadata.specs.HeaderWrite.{autoclear_cleared, header_written, l1_table_pointer_written};
+ghost use Rattle.qcow2_metadata.specs.HeaderWrite.{reftable_pointer_written, size_written, HasNewNames};
 ghost use Rattle.qcow2_metadata.specs.Bytes.{byte_at};
 ghost use Rattle.qcow2_metadata.specs.RefBlock.{IsRefBlockAt};
 ghost use Rattle.qcow2_metadata.specs.TableBytes.{HasPlace, entry_at};
 ghost use Rattle.qcow2_metadata.specs.EntryTable.{entry_count, HasRoomIfPlaced};
 ghost use Rattle.qcow2_alloc.specs.HeaderClusters.{KeepsHeaderCluster};
-ghost use Rattle.qcow2_alloc.specs.ImageStorage.{storage_of, NotesFault, NotesWrite};
+ghost use Rattle.qcow2_alloc.specs.ImageStorage.{storage_of, NotesWrite, WritesBytes};
 ghost use Rattle.qcow2_alloc.specs.WriteKinds.{IsToldData, IsToldL2Table, IsToldRefBlock, IsToldOther};
 
 use crate::ImageStorage;
@@ -62,12 +64,10 @@ impl<S: Storage> ImageStorage<S> {
     ) -> Result<(), StorageError>
         requires place { HasPlace table.old.cluster_bits cluster }
         requires told { IsToldL2Table self.old }
-        ensures written { IsTrue table.old.is_modified → Changes (S.view (storage_of self.old)) (S.view (storage_of self.new)) result
-            (λ b. overwritten b (cluster * 2 ^ table.old.cluster_bits) table.old.bytes) }
+        ensures written { IsTrue table.old.is_modified
+            → WritesBytes S.view self.old self.new (cluster * 2 ^ table.old.cluster_bits) table.old.bytes result }
         ensures idle { IsFalse table.old.is_modified → IsOk result × (self.new ≡ self.old) }
         ensures calls { Calls (S.view (storage_of self.old)) (S.view (storage_of self.new)) result }
-        ensures noted { IsTrue table.old.is_modified → NotesWrite self.old self.new result }
-        ensures faults { IsTrue table.old.is_modified → NotesFault self.old self.new result }
         ensures ok { OnOk result (table.new ≡ record table.old { is_modified = false }) }
         ensures err { OnErr result (table.new ≡ table.old) }
     {
@@ -84,12 +84,10 @@ impl<S: Storage> ImageStorage<S> {
     ) -> Result<(), StorageError>
         requires place { HasPlace block.old.cluster_bits cluster }
         requires told { IsToldRefBlock self.old }
-        ensures written { IsTrue block.old.is_modified → Changes (S.view (storage_of self.old)) (S.view (storage_of self.new)) result
-            (λ b. overwritten b (cluster * 2 ^ block.old.cluster_bits) block.old.bytes) }
+        ensures written { IsTrue block.old.is_modified
+            → WritesBytes S.view self.old self.new (cluster * 2 ^ block.old.cluster_bits) block.old.bytes result }
         ensures idle { IsFalse block.old.is_modified → IsOk result × (self.new ≡ self.old) }
         ensures calls { Calls (S.view (storage_of self.old)) (S.view (storage_of self.new)) result }
-        ensures noted { IsTrue block.old.is_modified → NotesWrite self.old self.new result }
-        ensures faults { IsTrue block.old.is_modified → NotesFault self.old self.new result }
         ensures ok { OnOk result (block.new ≡ record block.old { is_modified = false }) }
         ensures err { OnErr result (block.new ≡ block.old) }
     {

@@ -69,6 +69,29 @@ fn none_is_taken_past_the_greatest_offset(rt: HostRuntime) -> Result<(), Fail> {
     Ok(())
 }
 
+// Clusters of 512 bytes and counts of 64 bits: a refblock counts 64 clusters, so a reftable of the greatest length counts 67,108,864.
+fn three_wide_counts(alloc: Global) -> Result<TraceStorage, AllocError> {
+    let mut bytes = vec![in alloc; 0u8; 1536]?;
+    bytes[518] = 4;
+    bytes[1031] = 1;
+    bytes[1039] = 1;
+    bytes[1047] = 1;
+    TraceStorage::new(alloc, bytes)
+}
+
+#[test]
+fn none_is_taken_behind_those_that_a_reftable_can_count(rt: HostRuntime) -> Result<(), Fail> {
+    let alloc = rt.alloc();
+    let storage = three_wide_counts(alloc)?;
+    let mut file = file_of(alloc, storage, Header::new(9, 6, None, None, None))?;
+    let mut allocator = Allocator::new(&mut file)?;
+    assert_eq!(rt; asked(&mut allocator, &mut file, 1 << 26)?, None);
+    assert_eq!(rt; asked(&mut allocator, &mut file, 3)?, Some((3, 1)));
+    let last = asked(&mut allocator, &mut file, (1 << 26) - 1);
+    assert!(rt; matches!(last, Err(ImageError::Limit)));
+    Ok(())
+}
+
 // The cluster that is taken for data, the refblocks are dropped, and the one that is taken then.
 fn taken_and_forgotten<S: Storage>(alloc: Global, storage: S) -> Result<[u64; 2], ImageError> {
     let mut file = file_of(alloc, storage, Header::new(9, 4, None, None, None))?;

@@ -10,6 +10,7 @@ use Rattle.qcow2_alloc.specs.ImageError.{IsFault, of_metadata, of_storage}
 use Rattle.qcow2_alloc.specs.declared.cache.MetadataCaches.{MetadataCaches}
 use Rattle.qcow2_alloc.specs.declared.error.ImageError.{ImageError}
 use Rattle.qcow2_alloc.specs.declared.error.ImageError.TheVariants as I
+use Rattle.qcow2_image.specs.MetAlone.{IsMetLooking}
 use Rattle.qcow2_image.specs.Refusals.{IsUnlimited}
 
 pub storage_fault : (e : StorageError) → IsFault (of_storage e)
@@ -30,6 +31,10 @@ fault_unlimited e (inr is) = subst IsUnlimited (sym is) tt
 pub in_use_unlimited : {S : Type 0} (caches : MetadataCaches S) (e : ImageError) → IsInUseOrFault caches e → IsUnlimited e
 in_use_unlimited caches e (inl used) = subst IsUnlimited (sym used.0) tt
 in_use_unlimited caches e (inr fault) = fault_unlimited e fault
+
+pub looking_unlimited : {Held : Type 0} (e : ImageError) → IsMetLooking Held e → IsUnlimited e
+looking_unlimited e (inl fault) = fault_unlimited e fault
+looking_unlimited e (inr used) = subst IsUnlimited (sym used.0) tt
 
 -- memory was wanted, where no limit was passed
 pub short_fault : (Past : Type 0) → (Past → ⊥) → (e : MetadataError) → IsOfLengthOrMemory Past e → IsFault (of_metadata e)

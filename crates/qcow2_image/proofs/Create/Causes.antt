@@ -13,30 +13,28 @@ use Rattle.image_access.proofs.EachMomentSince.{rose_since}
 use Rattle.qcow2_alloc.specs.declared.error.ImageError.{ImageError}
 use Rattle.qcow2_alloc.specs.declared.error.ImageError.TheVariants as I
 use Rattle.qcow2_metadata.specs.Bytes.{byte_at}
-use Rattle.qcow2_metadata.specs.Header.{HeaderReads, HeaderView, header}
+use Rattle.qcow2_metadata.specs.Header.{HeaderView, header}
 use Rattle.qcow2_metadata.specs.HeaderWrite.{CanBeNew, new_header}
 use Rattle.qcow2_metadata.specs.Consistent.{IsConsistent}
 use Rattle.qcow2_laws.specs.NewImages.{IsNewImage}
+use Rattle.qcow2_laws.proofs.NewImages.{new_image_consistent}
 use Rattle.qcow2_disk.specs.AbstractImages.{IsOpened}
 use Rattle.qcow2_alloc.specs.Faults.{FaultsTold}
 use Rattle.qcow2_image.proofs.Prepare.Lacked.{limits_as}
 use Rattle.qcow2_image.proofs.Sizes.{sound_is_usable}
 use Rattle.qcow2_alloc.specs.ImageError.{IsFault}
-use Rattle.qcow2_alloc.specs.LoadedTables.{ReftableFits}
 use Rattle.qcow2_image.specs.declared.image.Missing.TheVariants as N
 use Rattle.qcow2_image.specs.declared.image.Qcow2.{Qcow2}
 use Rattle.qcow2_image.specs.CountedOpening.{OpeningCounts}
 use Rattle.qcow2_image.specs.Faults.{CountsImageFaults}
 use Rattle.qcow2_image.specs.Image.{is_writable, storage_of_image}
 use Rattle.qcow2_image.specs.ImageInvariant.{abstract_of, faults_below}
-use Rattle.qcow2_image.specs.Created.{CantEnlarge, IsAllowed, IsCreated, IsReasonNotToCreate, IsReasonNotToCreateOpen, LacksPlaceCreating, longest_disk, none_below}
+use Rattle.qcow2_image.specs.Created.{CantEnlarge, HasLogarithms, IsAllowed, IsReasonAgainst, backing_format_in, backing_name_in, IsCreated, IsReasonNotToCreate, IsReasonNotToCreateOpen, LacksPlaceCreating, longest_disk, none_below}
 use Rattle.qcow2_image.specs.declared.builder.Qcow2CreateBuilder.{Qcow2CreateBuilder}
 use Rattle.qcow2_image.specs.Readable.{IsRefusedRightly, OpensRightly}
 use Rattle.qcow2_image.specs.Refusals.{IsFaultOrLimit, IsMet, IsUnlimited, refuse_if}
 use Rattle.qcow2_image.specs.Resizing.{refuses_to_resize}
 use Rattle.qcow2_metadata.specs.declared.header.HeaderFields.{HeaderFields}
-use Rattle.qcow2_image.specs.Opened.{LeavesStorage, StandsRefused}
-use Rattle.qcow2_image.proofs.Create.Creating.{created_still}
 use Rattle.qcow2_image.proofs.Create.Faults.{opening_fault}
 use Rattle.qcow2_image.proofs.Create.NewDisks.{new_disk_consistent}
 
@@ -47,25 +45,17 @@ pub faults_met : {T : Type 0} (r : Result T ImageError) → IfErr r IsFault → 
 faults_met (Ok x) fault = tt
 faults_met (Err e) fault = fault_met e fault
 
--- an opening is refused for a limit only where 64 bits don't hold the end of the reftable, if the header reads
-limit_far : (contents : _) → HeaderReads (header (byte_at contents)) (byte_at contents) → IsRefusedRightly contents true N.Nothing I.Limit → ReftableFits (header (byte_at contents)) → ⊥
-limit_far contents reads why fits = elim why [
-  | inl limits ↦ limits.1 reads.within_limits
-  | inr refused ↦ elim refused.1 [ inl none ↦ absurd none | inr past ↦ let far = past.2 in absurd (omega (arith, far, fits)) ]
+-- the opening of a consistent image isn't refused for a limit
+no_limit : (contents : _) → IsConsistent (byte_at contents) → IsRefusedRightly contents true N.Nothing I.Limit → ⊥
+no_limit contents consistent why = elim why [
+  | inl limits ↦ limits.1 consistent.header_reads.within_limits
+  | inr refused ↦ elim refused.1 [ inl none ↦ absurd none | inr past ↦ let far = past.2 in let fits = consistent.reftable_fits in absurd (omega (arith, far, fits)) ]
 ]
-
--- a new image's reftable ends within 64 bits
-new_fits : (contents : _) → IsNewImage (header (byte_at contents)) (byte_at contents) → ReftableFits (header (byte_at contents))
-new_fits contents new =
-    let at = new.reftable_offset in
-    let few = new.reads.within_limits.few_reftable_entries in
-    let bits : 2 ^ (header (byte_at contents)).cluster_bits ≤ 2 ^ 21 = pow_mono new.reads.well_formed.in_range.cluster_bits.1 in
-    omega (arith, at, few, bits)
 
 -- a new image isn't refused for a limit
 pub opening_unlimited : (contents : _) (e : ImageError) → IsNewImage (header (byte_at contents)) (byte_at contents) → IsRefusedRightly contents true N.Nothing e → IsUnlimited e
 opening_unlimited contents I.Metadata new why = tt
-opening_unlimited contents I.Limit new why = limit_far contents new.reads why (new_fits contents new)
+opening_unlimited contents I.Limit new why = no_limit contents (new_image_consistent (header (byte_at contents)) (byte_at contents) new) why
 opening_unlimited contents I.UnalignedTable new why = tt
 opening_unlimited contents I.Memory new why = tt
 opening_unlimited contents I.Storage new why = tt
@@ -125,39 +115,58 @@ no_power n other bits lt is =
     ]
 
 module _ {S : Type 0} (builder : Qcow2CreateBuilder S) where
-  pub no_such_header : (bits order : ℕ) → builder.cluster_size ≡ 2 ^ bits → builder.refcount_width ≡ 2 ^ order → ¬ CanBeNew bits order None None None → ¬ IsAllowed builder
+  pub no_such_header : (bits order : ℕ) → builder.cluster_size ≡ 2 ^ bits → builder.refcount_width ≡ 2 ^ order → ¬ CanBeNew bits order (backing_name_in builder) (backing_format_in builder) None → ¬ IsAllowed builder
   no_such_header bits order clusters counts none allowed =
       let same : allowed.cluster_bits ≡ bits = same_power allowed.cluster_bits bits (sym allowed.cluster_size_is ∙ clusters) in
       let same_order : allowed.refcount_order ≡ order = same_power allowed.refcount_order order (sym allowed.refcount_width_is ∙ counts) in
       let low : 9 ≤ bits = (let l = allowed.no_smaller in omega (arith, l, same)) in
-      let long : 2 ^ 9 ≤ 2 ^ bits = pow_mono low in
       none (record {
         low = low;
         high = (let h = allowed.no_larger in omega (arith, h, same));
         order = (let o = allowed.no_wider in omega (arith, o, same_order));
-        room = omega (arith, long);
+        room = (let room = allowed.room in omega (arith, room, clusters));
       })
+
+  -- and where one is, they are allowed
+  pub is_allowed : (logarithms : ℕ × ℕ) → HasLogarithms builder logarithms → IsAllowed builder
+  is_allowed logarithms has = record {
+    cluster_bits = logarithms.0;
+    refcount_order = logarithms.1;
+    cluster_size_is = has.clusters;
+    refcount_width_is = has.counts;
+    no_smaller = has.can_be_new.low;
+    no_larger = has.can_be_new.high;
+    no_wider = has.can_be_new.order;
+    room = (let room = has.can_be_new.room in let size = has.clusters in omega (arith, room, size));
+  }
 
   -- the disk is too long, or not
   pub too_long : (size : ℕ) → builder.cluster_size ≡ size → ¬ (builder.size ≤ longest_disk size) → longest_disk builder.cluster_size < builder.size
   too_long size is not = subst (λ n. longest_disk n < builder.size) (sym is) (elim (cases_lt (longest_disk size) builder.size) [ inl past ↦ past | inr le ↦ absurd (not le) ])
 
   module _ (view : S → StorageView) where
-    pub fault_reason : (storage : S) (e : ImageError) → IsFault e → IsReasonNotToCreate view builder storage e
-    fault_reason storage e (inl is) = subst (λ (x : ImageError). IsReasonNotToCreate view builder storage x) (sym is) tt
-    fault_reason storage e (inr is) = subst (λ (x : ImageError). IsReasonNotToCreate view builder storage x) (sym is) tt
+    pub fault_reason : (e : ImageError) → IsFault e → IsReasonNotToCreate view builder e
+    fault_reason e (inl is) = subst (λ (x : ImageError). IsReasonNotToCreate view builder x) (sym is) tt
+    fault_reason e (inr is) = subst (λ (x : ImageError). IsReasonNotToCreate view builder x) (sym is) tt
 
-    reason_of : (storage : S) (e : ImageError) → IsFaultOrLimit e → (e ≡ I.Limit → LacksPlaceCreating view builder storage) → IsReasonNotToCreate view builder storage e
-    reason_of storage e (inl fault) lacks = fault_reason storage e fault
-    reason_of storage e (inr is) lacks = subst (λ (x : ImageError). IsReasonNotToCreate view builder storage x) (sym is) (inr (lacks is))
+    -- what is refused before any work
+    pub reason_against : (e : ImageError) → IsReasonAgainst builder e → IsReasonNotToCreate view builder e
+    reason_against I.InvalidOption why = why
+    reason_against I.Preallocation why = why
+    reason_against I.Limit why = inl why
+    reason_against e why = absurd why
 
-    pub reasons_of : {T : Type 0} (storage : S) (r : Result T ImageError) → IfErr r IsFaultOrLimit → IfErr r (λ e. e ≡ I.Limit → LacksPlaceCreating view builder storage) → IfErr r (IsReasonNotToCreate view builder storage)
-    reasons_of storage (Ok x) why lacks = tt
-    reasons_of storage (Err e) why lacks = reason_of storage e why lacks
+    reason_of : (e : ImageError) → IsFaultOrLimit e → (e ≡ I.Limit → LacksPlaceCreating view builder) → IsReasonNotToCreate view builder e
+    reason_of e (inl fault) lacks = fault_reason e fault
+    reason_of e (inr is) lacks = subst (λ (x : ImageError). IsReasonNotToCreate view builder x) (sym is) (inr (lacks is))
+
+    pub reasons_of : {T : Type 0} (r : Result T ImageError) → IfErr r IsFaultOrLimit → IfErr r (λ e. e ≡ I.Limit → LacksPlaceCreating view builder) → IfErr r (IsReasonNotToCreate view builder)
+    reasons_of (Ok x) why lacks = tt
+    reasons_of (Err e) why lacks = reason_of e why lacks
 
     -- a new image stands, and its disk can't be made larger
-    module _ (bits order : ℕ) (v : HeaderView) (is : v ≡ new_header bits order None None None) (contents : List ℕ) (new_image : IsNewImage v.fields (byte_at contents)) where
-      header_new : header (byte_at contents) ≡ (new_header bits order None None None).fields
+    module _ (bits order : ℕ) (v : HeaderView) (is : v ≡ new_header bits order (backing_name_in builder) (backing_format_in builder) None) (contents : List ℕ) (new_image : IsNewImage v.fields (byte_at contents)) where
+      header_new : header (byte_at contents) ≡ (new_header bits order (backing_name_in builder) (backing_format_in builder) None).fields
       header_new = new_image.header_is ∙ ap (λ (w : HeaderView). w.fields) is
 
       pub stands_new : IsNewImage (header (byte_at contents)) (byte_at contents)
@@ -169,11 +178,11 @@ module _ {S : Type 0} (builder : Qcow2CreateBuilder S) where
       pub stands_uncleared : (header (byte_at contents)).autoclear ≡ 0
       stands_uncleared = ap (λ (h : HeaderFields). h.autoclear) header_new
 
-      pub lacks_creating : builder.cluster_size ≡ 2 ^ bits → builder.refcount_width ≡ 2 ^ order → {T : Type 0} (storage : S) (r : Result T ImageError) → IfErr r (λ e. e ≡ I.Limit → CantEnlarge view none_below builder.preallocate builder.size contents storage)
-          → IfErr r (λ e. e ≡ I.Limit → LacksPlaceCreating view builder storage)
-      lacks_creating clusters counts storage r lacks =
-          limits_as (λ e. CantEnlarge view none_below builder.preallocate builder.size contents storage) (λ e. LacksPlaceCreating view builder storage) r
-          (λ e cant. record {
+      pub lacks_creating : builder.cluster_size ≡ 2 ^ bits → builder.refcount_width ≡ 2 ^ order → {T : Type 0} (r : Result T ImageError) → IfErr r (λ e. e ≡ I.Limit → CantEnlarge view none_below builder.size contents)
+          → IfErr r (λ e. e ≡ I.Limit → LacksPlaceCreating view builder)
+      lacks_creating clusters counts r lacks =
+          limits_as r
+          (λ cant. record {
             contents = contents;
             new_image = stands_new;
             clusters = ap (λ (h : HeaderFields). 2 ^ h.cluster_bits) header_new ∙ sym clusters;
@@ -182,35 +191,22 @@ module _ {S : Type 0} (builder : Qcow2CreateBuilder S) where
           }) lacks
 
     -- the image that was made is opened
-    module _ (storage last : S) (made : IsCreated builder (view storage)) (honest : (view last).is_honest) where
+    module _ (storage last : S) (made : IsCreated builder (view storage)) where
       consistent : IsConsistent (byte_at (view storage).contents)
       consistent = new_disk_consistent builder.preallocate builder.size (byte_at (view storage).contents) made.new_disk
 
-      far_reason : StandsRefused true (view storage) (view last) I.Limit → IsRefusedRightly (view storage).contents true N.Nothing I.Limit → IsReasonNotToCreateOpen view builder (last, I.Limit)
-      far_reason stands why =
-          let same : (view last).contents ≡ (view storage).contents = elim stands [ inl same ↦ same | inr fault ↦ absurd (let no : I.Limit ≡ I.Storage = fault.0 in cc) ] in
-          let far = limit_far (view storage).contents consistent.header_reads why in
-          inr (refl, record { created = created_still builder (view storage) (view last) made honest same; far = λ fits. far (subst (λ (l : List ℕ). ReftableFits (header (byte_at l))) same fits) })
-
-      opening_reason : (e : ImageError) → StandsRefused true (view storage) (view last) e → IsRefusedRightly (view storage).contents true N.Nothing e → IsReasonNotToCreateOpen view builder (last, e)
-      opening_reason e stands why = elim (opening_fault (view storage).contents consistent e why) [
-        | inl fault ↦ inl (fault_reason last e fault)
-        | inr is ↦
-            let stands_so = subst (λ (x : ImageError). StandsRefused true (view storage) (view last) x) is stands in
-            let why_so = subst (λ (x : ImageError). IsRefusedRightly (view storage).contents true N.Nothing x) is why in
-            subst (λ (x : ImageError). IsReasonNotToCreateOpen view builder (last, x)) (sym is) (far_reason stands_so why_so)
+      opening_reason : (e : ImageError) → IsRefusedRightly (view storage).contents true N.Nothing e → IsReasonNotToCreateOpen view builder (last, e)
+      opening_reason e why = elim (opening_fault (view storage).contents consistent e why) [
+        | inl fault ↦ fault_reason e fault
+        | inr is ↦ absurd (no_limit (view storage).contents consistent (subst (λ (x : ImageError). IsRefusedRightly (view storage).contents true N.Nothing x) is why))
       ]
 
-    pub opening_reasons : {F : Type 0} (storage : S) (r : Result (Qcow2 S F) (S × ImageError)) → IsCreated builder (view storage) → LeavesStorage view true (view storage) r → OpensRightly (view storage) true N.Nothing r
+    pub opening_reasons : {F : Type 0} (storage : S) (r : Result (Qcow2 S F) (S × ImageError)) → IsCreated builder (view storage) → OpensRightly (view storage) true N.Nothing r
         → IfErr r (IsReasonNotToCreateOpen view builder)
-    opening_reasons storage (Ok image) made left rightly = tt
-    opening_reasons storage (Err refused) made left rightly = opening_reason storage refused.0 made (left.honest made.honest) refused.1 (left.contents made.honest) (rightly.1 made.honest)
+    opening_reasons storage (Ok image) made rightly = tt
+    opening_reasons storage (Err refused) made rightly = opening_reason storage refused.0 made refused.1 (rightly.1 made.honest)
 
 module _ {S : Type 0} (view : S → StorageView) where
-  -- an image that is made isn't opened
-  pub counts_refused : {F T : Type 0} (before : ℕ) (storage : S) (e : ImageError) (r : Result T ImageError) → r ≡ Err e → FaultsTold before (view storage).faults r → OpeningCounts {F = F} view before (Err (storage, e))
-  counts_refused before storage e r is told = record { no_fewer = told.no_fewer; rose = λ storage. told.rose (is ∙ ap Err storage); told = λ other. (subst (λ (x : Result _ ImageError). FaultsTold before (view storage).faults x) is told).told other }
-
-  -- it is
+  -- an image that is made is opened
   pub counts_opened : {F : Type 0} (before mid : ℕ) (r : Result (Qcow2 S F) (S × ImageError)) → mid ≡ before → OpeningCounts view mid r → OpeningCounts view before r
   counts_opened before mid r same counts = subst (λ n. OpeningCounts view n r) same counts

@@ -1,18 +1,19 @@
 -- An unwritten image is opened, made larger and flushed: what a stop leaves on the way, and what stands then.
-use Rattle.std.proofs.Common.{◌≡◌, ◌⊎◌, inl, inr, ⊎_elim, ℕ, ◌^◌, max, List, [], ◌∷◌, ◌++◌, None, Result, Ok, Err, true, refl, sym, ap, ◌∙◌, subst, arith, false}
-use Rattle.std.specs.Prelude.{IfOk, OnOk}
+use Rattle.std.proofs.Common.{◌≡◌, ◌⊎◌, inl, inr, ⊎_elim, ℕ, ◌^◌, max, List, [], ◌∷◌, ◌++◌, None, Some, Result, Ok, Err, refl, sym, ap, ◌∙◌, subst, arith, false}
+use Rattle.std.specs.Prelude.{IfOk, OnOk, Option, is_some, option_map}
+use Rattle.std.specs.String.{string_bytes}
 use Rattle.image_access.specs.Backing.{BackingView}
 use Rattle.image_access.specs.Moments.{StorageView}
 use Rattle.image_access.specs.declared.storage.PreallocateMode.{PreallocateMode}
 use Rattle.image_access.specs.declared.storage.PreallocateMode.TheVariants as Mode
 use Rattle.image_access.proofs.EachMomentSince.{passes_on, passes_if}
-use Rattle.qcow2_image.proofs.Open.SameHeaders.{alone_still, not_needed}
+use Rattle.qcow2_image.proofs.Open.SameHeaders.{alone_still, names_still, not_needed}
 use Rattle.qcow2_metadata.specs.HeaderLoad.{IsHeaderIn}
 use Rattle.qcow2_disk.specs.HeaderRest.{KeepsHeaderRest}
 use Rattle.qcow2_metadata.specs.Bytes.{Bytes, byte_at}
 use Rattle.qcow2_metadata.specs.Consistent.{IsConsistent}
 use Rattle.qcow2_metadata.specs.declared.header.HeaderFields.{HeaderFields}
-use Rattle.qcow2_metadata.specs.Header.{HeaderView, cluster_size, count_width, header}
+use Rattle.qcow2_metadata.specs.Header.{HeaderView, cluster_size, header}
 use Rattle.qcow2_metadata.specs.HeaderWrite.{new_header, new_fields, HasNewNames}
 use Rattle.qcow2_disk.specs.Disk.{disk, disk_with}
 use Rattle.qcow2_disk.specs.Stops.{SafeThroughout, Checkpoint, checkpoint_at, checkpoint_with, IsAsked, StopOkEverywhere, LeavesKept}
@@ -26,13 +27,12 @@ use Rattle.qcow2_alloc.specs.ImageFile.{nothing_given, view_in}
 use Rattle.qcow2_image.specs.declared.builder.Qcow2CreateBuilder.{Qcow2CreateBuilder}
 use Rattle.qcow2_image.specs.declared.image.Missing.TheVariants as N
 use Rattle.qcow2_image.specs.declared.image.Qcow2.{Qcow2}
-use Rattle.qcow2_image.specs.Created.{IsNewDisk, IsPreallocated, IsUnwritten, ShowsZeros, IsStopOfCreating, StopsCreating, StaysCreating, IsNewHeader, IsCreated, Enlarges, HasLostNone}
+use Rattle.qcow2_image.specs.Created.{backing_format_in, backing_name_in, IsNewDisk, IsUnwritten, ShowsZeros, IsStopOfCreating, StopsCreating, StaysCreating, IsNewHeader, IsCreated, Enlarges, HasLostNone}
 use Rattle.qcow2_image.specs.Growing.{FitsSize, SameFormat, GrowsWhole, ReachesSize}
 use Rattle.qcow2_image.specs.Image.{size_of, storage_of_image}
-use Rattle.qcow2_image.specs.Opened.{IsKeptSince, LeavesStorage, Opens, storage_after, NeedsAnother, needs_another}
+use Rattle.qcow2_image.specs.Opened.{IsKeptSince, Opens, storage_after, needs_another}
 use Rattle.qcow2_image.specs.ImageInvariant.{abstract_of}
 use Rattle.qcow2_disk.proofs.HeaderRest.{header_rest_same, header_rest_then}
-use Rattle.qcow2_image.proofs.Open.Left.{opened_none}
 use Rattle.qcow2_image.proofs.Create.NewDisks.{new_disk_consistent, unwritten_covers, unwritten_new, starts_unwritten}
 use Rattle.qcow2_image.proofs.Create.ThreeWrites.{new_unwritten}
 
@@ -168,13 +168,14 @@ module _ {S F : Type 0} (view : S → StorageView) (backing : F → BackingView)
 pub stops_at_none : (mode : PreallocateMode) (n : ℕ) (old new : StorageView) → StopsCreating Mode.None 0 old new → StopsCreating mode n old new
 stops_at_none mode n old new stops = passes_if (λ c. IsStopOfCreating mode n (byte_at c)) (λ c stop. ⊎_elim (λ none. inl none) (λ either. inr (inl (unwritten_new mode 0 (byte_at c) (⊎_elim (λ u. u) (λ u. u) either)))) stop) stops
 
-pub new_header_is : (v : HeaderView) (bits order : ℕ) → v ≡ new_header bits order None None None → HasNewNames v → IsNewHeader v
-new_header_is v bits order is names = record {
-  is = is ∙ ap (λ b. new_header b order None None None) (sym (ap (λ (w : HeaderView). w.fields.cluster_bits) is)) ∙ ap (λ o. new_header v.fields.cluster_bits o None None None) (sym (ap (λ (w : HeaderView). w.fields.refcount_order) is));
+pub new_header_is : (v : HeaderView) (bits order : ℕ) (name format : Option (List ℕ)) → v ≡ new_header bits order name format None → HasNewNames v → IsNewHeader v
+new_header_is v bits order name format is names = record {
+  is = is ∙ sym (ap (λ (w : HeaderView). new_header w.fields.cluster_bits w.fields.refcount_order w.backing_name w.backing_format w.data_file_name) is);
+  own_data = ap (λ (w : HeaderView). w.data_file_name) is;
   names = names;
 }
 
-module _ {S : Type 0} (view : S → StorageView) (builder : Qcow2CreateBuilder S) (bits order : ℕ) (v : HeaderView) (is : v ≡ new_header bits order None None None) (start mid last : S) (same : start ≡ builder.image)
+module _ {S : Type 0} (view : S → StorageView) (builder : Qcow2CreateBuilder S) (bits order : ℕ) (v : HeaderView) (is : v ≡ new_header bits order (backing_name_in builder) (backing_format_in builder) None) (start mid last : S) (same : start ≡ builder.image)
     (three : StaysCreating Mode.None 0 (view start) (view mid) × IsNewImage v.fields (byte_at (view mid).contents)) where
   pub unwritten : IsUnwritten 0 (byte_at (view mid).contents)
   unwritten = new_unwritten v.fields (byte_at (view mid).contents) three.1 (ap (λ (w : HeaderView). w.fields.size) is)
@@ -189,7 +190,7 @@ module _ {S : Type 0} (view : S → StorageView) (builder : Qcow2CreateBuilder S
       stops_of (Err e) stops = stops
 
   -- the header keeps what it was made of
-  header_then : SameFormat (header (byte_at (view mid).contents)) (header (byte_at (view last).contents)) → header (byte_at (view last).contents) ≡ with_places (new_fields bits order None None None) (places_of (header (byte_at (view last).contents)))
+  header_then : SameFormat (header (byte_at (view mid).contents)) (header (byte_at (view last).contents)) → header (byte_at (view last).contents) ≡ with_places (new_fields bits order (backing_name_in builder) (backing_format_in builder) None) (places_of (header (byte_at (view last).contents)))
   header_then format = format ∙ ap (λ h. with_places h (places_of (header (byte_at (view last).contents)))) (three.1.header_is ∙ ap (λ (w : HeaderView). w.fields) is)
 
   pub created_so : builder.cluster_size ≡ 2 ^ bits → builder.refcount_width ≡ 2 ^ order → (r : Result (Unit {0}) ImageError) → Enlarges builder.preallocate builder.size (view mid) (view last) r → OnOk r (HasNoLeaks (byte_at (view last).contents)) → IsHeaderIn v (view mid).contents → IfOk r (λ done. IsCreated builder (view last))
@@ -205,11 +206,18 @@ module _ {S : Type 0} (view : S → StorageView) (builder : Qcow2CreateBuilder S
         let new_is = three.1.header_is ∙ ap (λ (w : HeaderView). w.fields) is in
         done.l1_length (ap (λ (k : HeaderFields). k.autoclear) new_is) (subst FitsSize (sym new_is) (λ _. refl, λ some. absurd (omega (arith, some))));
     no_leaks = exact;
-    no_backing_file = ap (λ (k : HeaderFields). k.backing_offset) h;
+    names = record {
+      header = record v { fields = header (byte_at (view last).contents) };
+      stands = names_still (view mid).contents (view last).contents (new_disk_consistent builder.preallocate builder.size (byte_at (view last).contents) done.new_disk) done.rest v stands;
+      backing_is = ap (λ (w : HeaderView). w.backing_name) is;
+      format_is = ap (λ (w : HeaderView). w.backing_format) is;
+      data_file_is = ap (λ (w : HeaderView). w.data_file_name) is;
+    };
+    no_backing_file = λ none. ap (λ (k : HeaderFields). k.backing_offset) h ∙ ap (λ (o : Option _). (new_fields bits order (option_map string_bytes o) (backing_format_in builder) None).backing_offset) none;
     no_autoclear = done.no_autoclear (ap (λ (k : HeaderFields). k.autoclear) (three.1.header_is ∙ ap (λ (w : HeaderView). w.fields) is));
     no_compatible = ap (λ (k : HeaderFields). k.compatible) h;
-    alone =
-        let none : needs_another v ≡ false = ap (λ (w : HeaderView). needs_another w) is in
+    alone = λ unnamed.
+        let none : needs_another v ≡ false = ap (λ (w : HeaderView). needs_another w) is ∙ ap (λ (o : Option _). is_some (option_map string_bytes o)) unnamed in
         alone_still (view mid).contents (view last).contents unwritten.consistent (new_disk_consistent builder.preallocate builder.size (byte_at (view last).contents) done.new_disk) done.rest (not_needed N.OtherFiles v (view mid).contents stands none);
   }
   created_so clusters counts (Err e) stops exact stands = tt
@@ -225,42 +233,10 @@ new_still Mode.WriteData n b c disk_is kept = zeros_still n b c disk_is kept
 new_opened : (mode : PreallocateMode) (n : ℕ) (old new : StorageView) → IsNewDisk mode n (byte_at old.contents) → IsKeptSince old new → IsNewDisk mode n (byte_at new.contents)
 new_opened mode n old new disk_is since = new_still mode n (byte_at old.contents) (byte_at new.contents) disk_is (λ backing m ok. since.contents backing m ok ok)
 
-opening_new_stops : (mode : PreallocateMode) (n : ℕ) (old new : StorageView) → IsNewDisk mode n (byte_at old.contents) → IsKeptSince old new → StopsCreating mode n old new
-opening_new_stops mode n old new disk_is since =
-    passes_if (λ c. IsStopOfCreating mode n (byte_at c)) (λ c kept. inr (inr (new_still mode n (byte_at old.contents) (byte_at c) disk_is (λ backing m ok. kept backing m ok ok)))) since.moments
-
-pub created_still : {S : Type 0} (builder : Qcow2CreateBuilder S) (old new : StorageView) → IsCreated builder old → new.is_honest → new.contents ≡ old.contents → IsCreated builder new
-created_still builder old new made honest same =
-    let still : (P : Bytes → Type 0) → P (byte_at old.contents) → P (byte_at new.contents) = λ P there. subst (λ (l : List ℕ). P (byte_at l)) (sym same) there in record {
-      honest = honest;
-      new_disk = still (IsNewDisk builder.preallocate builder.size) made.new_disk;
-      covers = still (IsPreallocated builder.preallocate builder.size) made.covers;
-      version = still (λ b. (header b).version ≡ 3) made.version;
-      clusters = still (λ b. cluster_size (header b) ≡ builder.cluster_size) made.clusters;
-      counts = still (λ b. count_width (header b) ≡ builder.refcount_width) made.counts;
-      reaches = still (λ b. ReachesSize (header b)) made.reaches;
-      l1_length = still (λ b. FitsSize (header b)) made.l1_length;
-      no_leaks = still HasNoLeaks made.no_leaks;
-      no_backing_file = still (λ b. (header b).backing_offset ≡ 0) made.no_backing_file;
-      no_autoclear = still (λ b. (header b).autoclear ≡ 0) made.no_autoclear;
-      no_compatible = still (λ b. (header b).compatible ≡ 0) made.no_compatible;
-      alone = λ needs. made.alone (subst (λ (l : List ℕ). NeedsAnother l) same needs);
-    }
-
--- what was created is left so, and so it is on the way
+-- what was created is opened
 module _ {S : Type 0} (view : S → StorageView) (builder : Qcow2CreateBuilder S) (storage last : S) (made : IsCreated builder (view storage)) where
   whole : IsConsistent (byte_at (view storage).contents)
   whole = new_disk_consistent builder.preallocate builder.size (byte_at (view storage).contents) made.new_disk
-
-  pub stops_opened : StopsCreating builder.preallocate builder.size (view builder.image) (view storage) → ((view storage).is_honest → IsConsistent (byte_at (view storage).contents) → IsKeptSince (view storage) (view last))
-      → StopsCreating builder.preallocate builder.size (view builder.image) (view last)
-  stops_opened first since =
-      passes_on (λ c. IsStopOfCreating builder.preallocate builder.size (byte_at c)) first (opening_new_stops builder.preallocate builder.size (view storage) (view last) made.new_disk (since made.honest whole)) (λ c is. is)
-
-  pub created_opened : {F : Type 0} (result : Result (Qcow2 S F) (S × ImageError)) → LeavesStorage view true (view storage) result → IfOk result (λ image. IsCreated builder (view (storage_of_image image)))
-  created_opened (Ok image) left =
-      created_still builder (view storage) (view (storage_of_image image)) made (left.honest made.honest) ((left.contents made.honest).contents ∙ opened_none true (view storage).contents made.no_autoclear)
-  created_opened (Err e) left = tt
 
   pub none_lost : {F : Type 0} (backing : F → BackingView) (result : Result (Qcow2 S F) (S × ImageError)) → IfOk result (Opens view backing (view storage)) → IfOk result (λ image. HasLostNone (abstract_of view backing image []))
   none_lost backing (Ok image) opens = let opened = opens made.honest whole in record { counted = λ k. ap (λ (f : ℕ → ℕ). f k) opened.surplus ∙ made.no_leaks k; leaks = opened.leaks }
@@ -269,8 +245,8 @@ module _ {S : Type 0} (view : S → StorageView) (builder : Qcow2CreateBuilder S
 pub made_so : {S : Type 0} (view : S → StorageView) (builder : Qcow2CreateBuilder S) (storage : S) (done : Result (Unit {0}) ImageError) (x : Unit {0}) → done ≡ Ok x → IfOk done (λ d. IsCreated builder (view storage)) → IsCreated builder (view storage)
 made_so view builder storage done x is created = subst (λ (r : Result (Unit {0}) ImageError). IfOk r (λ d. IsCreated builder (view storage))) is created
 
-pub refused_open : {S F : Type 0} (storage image : S) (refusal : ImageError) (done : Result (Unit {0}) ImageError) → done ≡ Err refusal → (done ≡ Err I.InvalidOption) × (storage ≡ image) → ◌≡◌ {A = Result (Qcow2 S F) (S × ImageError)} (Err (storage, refusal)) (Err (image, I.InvalidOption))
-refused_open storage image refusal done is refused = let told = refused.0 in let same = refused.1 in cc
+pub refused_open : {S F : Type 0} (storage image : S) (refusal reason : ImageError) (done : Result (Unit {0}) ImageError) → done ≡ Err refusal → (done ≡ Err reason) × (storage ≡ image) → ◌≡◌ {A = Result (Qcow2 S F) (Option S × ImageError)} (Err (Some storage, refusal)) (Err (Some image, reason))
+refused_open storage image refusal reason done is refused = let told = refused.0 in let same = refused.1 in cc
 
 pub opened_new : {S F : Type 0} (view : S → StorageView) (backing : F → BackingView) (builder : Qcow2CreateBuilder S) (storage : S) (done : Result (Unit {0}) ImageError) (x : Unit {0}) → done ≡ Ok x → IfOk done (λ d. IsCreated builder (view storage))
     → (result : Result (Qcow2 S F) (S × ImageError)) → IfOk result (Opens view backing (view storage)) → ((view storage).is_honest → IsConsistent (byte_at (view storage).contents) → IsKeptSince (view storage) (view (storage_after result)))

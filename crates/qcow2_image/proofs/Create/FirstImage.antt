@@ -1,6 +1,6 @@
 -- The three clusters of a new image: before the header is there it is no image, and then it is a new one.
-use Rattle.std.proofs.Common.{◌≡◌, inl, inr, ℕ, ◌+◌, ◌*◌, ◌/◌, ◌%◌, ◌^◌, ◌<◌, ◌≤◌, false, List, [], ◌++◌, length, replicate, None, sym, ap, ◌∙◌, subst, arith, lit<}
-use Rattle.std.specs.Prelude.{◌==◌, ◌&&◌, ◌||◌}
+use Rattle.std.proofs.Common.{◌≡◌, inl, inr, ℕ, ◌+◌, ◌*◌, ◌/◌, ◌%◌, ◌^◌, ◌<◌, ◌≤◌, false, List, [], ◌++◌, length, replicate, Option, sym, ap, ◌∙◌, subst, arith, lit<}
+use Rattle.std.specs.Prelude.{◌==◌, ◌&&◌, ◌||◌, if◌then◌else◌, is_some, unwrap_or}
 use Rattle.std.proofs.lemmas.Bool.{cases_lt, cond-false, ne_eqb}
 use Rattle.std.proofs.lemmas.List.{length-append}
 use Rattle.std.proofs.lemmas.Nat.{le-div, div-mul-add, mod-mul-add}
@@ -8,14 +8,14 @@ use Rattle.image_access.specs.Contents.{overwritten}
 use Rattle.image_access.proofs.Bytes.{byte_at-overwritten_below, byte_at-overwritten_behind}
 use Rattle.qcow2_metadata.specs.Bytes.{byte_at, number_at}
 use Rattle.qcow2_metadata.specs.declared.header.HeaderFields.{HeaderFields}
-use Rattle.qcow2_metadata.specs.Header.{HeaderView, HeaderReads, cluster_size, count_width, counts_per_block, entries_per_cluster, reftable_entries}
+use Rattle.qcow2_metadata.specs.Header.{HeaderView, HeaderReads, backing_format_kind, cluster_size, data_file_kind, count_width, counts_per_block, entries_per_cluster, reftable_entries}
 use Rattle.qcow2_metadata.specs.HeaderLoad.{IsHeaderIn}
-use Rattle.qcow2_metadata.specs.HeaderWrite.{numbers_of, bytes_of_numbers, header_bytes, header_written, new_fields}
+use Rattle.qcow2_metadata.specs.HeaderWrite.{numbers_of, bytes_of_numbers, extension_size, header_bytes, header_written, name_extension, name_place, new_fields}
 use Rattle.qcow2_metadata.specs.Entries.{reftable_entry, block_count}
 use Rattle.qcow2_metadata.specs.EntryTable.{EntryTableView, entry_count}
 use Rattle.qcow2_metadata.specs.RefBlock.{RefBlockView, IsRefBlockAt, count_at, counts_of}
 use Rattle.qcow2_metadata.specs.TableBytes.{entry_at}
-use Rattle.qcow2_metadata.proofs.ReadBack.{length-numbers}
+use Rattle.qcow2_metadata.proofs.ReadBack.{length-name_extension, length-numbers}
 use Rattle.qcow2_metadata.proofs.WrittenTables.{IsRefTableOf-written}
 use Rattle.qcow2_laws.specs.NewImages.{IsNewImage}
 use Rattle.qcow2_laws.proofs.Places.{Sizes, Sizes-from, reftable-same, block_count-moved}
@@ -37,23 +37,28 @@ blank_still c at bytes far blank i lt = byte_at-overwritten_below c at bytes i (
 
 -- ---- with the header
 
--- it has no names
-plain_length : (f : HeaderFields) → length (header_bytes (record { fields = f; backing_name = None; backing_format = None; data_file_name = None })) ≡ 112
+-- it is as long as its names make it
+written_length : (v : HeaderView) → length (header_bytes v) ≡ name_place v.backing_format v.data_file_name + length (unwrap_or v.backing_name [])
 unfolding header_bytes
-plain_length f =
-    let front : List ℕ = bytes_of_numbers (numbers_of f) in
-    let zeros : List ℕ = replicate 8 0 in
-    omega (arith, length-numbers f, length-append front [], length-append (front ++ []) [], length-append ((front ++ []) ++ []) zeros, length-append (((front ++ []) ++ []) ++ zeros) [])
+written_length v =
+    let n : List ℕ = bytes_of_numbers (numbers_of v.fields) in
+    let f : List ℕ = name_extension backing_format_kind v.backing_format in
+    let d : List ℕ = name_extension data_file_kind v.data_file_name in
+    let z : List ℕ = replicate 8 0 in
+    let t : List ℕ = unwrap_or v.backing_name [] in
+    let f_len : length (n ++ f) ≡ 104 + extension_size v.backing_format = omega (arith, length-append n f, length-numbers v.fields, length-name_extension backing_format_kind v.backing_format) in
+    let d_len : length (n ++ f ++ d) ≡ 104 + extension_size v.backing_format + extension_size v.data_file_name = omega (arith, length-append (n ++ f) d, f_len, length-name_extension data_file_kind v.data_file_name) in
+    omega (arith, length-append (n ++ f ++ d) z, length-append (n ++ f ++ d ++ z) t, d_len)
 
 module _ (v : HeaderView) (new : IsNewHeader v) where
   abbrev h : HeaderFields
   h = v.fields
 
-  fields : v.fields ≡ new_fields v.fields.cluster_bits v.fields.refcount_order None None None
+  fields : v.fields ≡ new_fields v.fields.cluster_bits v.fields.refcount_order v.backing_name v.backing_format v.data_file_name
   fields = ap (λ (w : HeaderView). w.fields) new.is
 
-  header_length : length (header_bytes v) ≡ 112
-  header_length = ap (λ (w : HeaderView). length (header_bytes w)) new.is ∙ plain_length (new_fields v.fields.cluster_bits v.fields.refcount_order None None None)
+  header_fits : length (header_bytes v) ≤ cluster_size h
+  header_fits = omega (arith, written_length v, new.names.room)
 
   module _ (block : RefBlockView) (counts : CountsThree v.fields block) (t : EntryTableView) (names : NamesOne v.fields t) (c1 c2 : List ℕ) (first : IsRefBlockAt (byte_at c1) (2 * cluster_size v.fields) block)
       (second : c2 ≡ overwritten c1 (cluster_size v.fields) t.bytes) (there : IsHeaderIn v (header_written v c2)) where
@@ -74,7 +79,7 @@ module _ (v : HeaderView) (new : IsNewHeader v) where
 
     -- behind the header all stays
     behind : (o : ℕ) → cluster_size h ≤ o → byte_at c3 o ≡ byte_at c2 o
-    behind o past = let long = header_length in let large = sizes.large in byte_at-overwritten_behind c2 0 (header_bytes v) o (omega (arith, long, large, past))
+    behind o past = let fits = header_fits in byte_at-overwritten_behind c2 0 (header_bytes v) o (omega (arith, fits, past))
 
     entries_are : reftable_entries h ≡ entry_count t
     entries_are =
@@ -120,7 +125,7 @@ module _ (v : HeaderView) (new : IsNewHeader v) where
       reftable_offset = offset;
       reftable_clusters = clusters;
       no_snapshots = ap (λ (f : HeaderFields). f.snapshots) fields;
-      no_data_file = ap (λ (f : HeaderFields). f.incompatible) fields;
+      no_data_file = ap (λ (f : HeaderFields). f.incompatible) fields ∙ ap (λ (d : Option (List ℕ)). if is_some d then 4 else 0) new.own_data;
       refblock = entry_is 0 ∙ names.entries 0;
       no_other = λ k other. entry_is k ∙ names.entries k ∙ cond-false {A = ℕ} (k == 0) (2 * cluster_size h) 0 (ne_eqb k 0 other);
       counts = λ i lt. count_is i lt ∙ counts.counts i;

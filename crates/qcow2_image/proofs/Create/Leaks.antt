@@ -1,6 +1,7 @@
 -- A new image has no leaks: growing and flushing leave each surplus, and at the end nothing is pending.
+use Rattle.qcow2_image.specs.Limits.{IfLimit}
 use Rattle.std.proofs.Common.{◌≡◌, inl, inr, ℕ, ◌+◌, ◌-◌, ◌<◌, ◌≤◌, List, [], Result, Ok, Err, ap, ◌∙◌, subst, arith}
-use Rattle.std.specs.Prelude.{IfErr, IsTrue, OnOk}
+use Rattle.std.specs.Prelude.{IsTrue, OnOk}
 use Rattle.std.proofs.lemmas.Bool.{cases_lt}
 use Rattle.image_access.specs.Backing.{BackingView}
 use Rattle.image_access.specs.Moments.{StorageView}
@@ -8,20 +9,22 @@ use Rattle.image_access.specs.declared.storage.PreallocateMode.{PreallocateMode}
 use Rattle.qcow2_metadata.specs.Bytes.{Bytes, byte_at}
 use Rattle.qcow2_metadata.specs.Entries.{count}
 use Rattle.qcow2_metadata.specs.Named.{named}
-use Rattle.qcow2_disk.specs.Calls.{IsRefusalByFault}
 use Rattle.qcow2_laws.specs.Opened.{HasNoLeaks, surplus_of}
 use Rattle.qcow2_alloc.specs.declared.clusters_to_free.ClustersToFreeEntry.{ClustersToFreeEntry}
 use Rattle.qcow2_alloc.specs.declared.error.ImageError.{ImageError}
 use Rattle.qcow2_alloc.specs.declared.error.ImageError.TheVariants as I
 use Rattle.qcow2_alloc.specs.ImageFile.{known_in, view_in}
-use Rattle.qcow2_image.specs.Calls.{FlushesImage, refusal_of}
-use Rattle.qcow2_image.specs.Created.{CantGrowBy}
+use Rattle.qcow2_image.specs.Calls.{FlushesImage}
 use Rattle.qcow2_image.specs.declared.image.Qcow2.{Qcow2}
 use Rattle.qcow2_image.specs.Growing.{KeepsSurplus}
-use Rattle.qcow2_image.specs.LackedTables.{CantGrowDisk}
 use Rattle.qcow2_image.specs.Image.{HasNothingToFree, is_writable, size_of}
 use Rattle.qcow2_image.specs.ImageInvariant.{abstract_of, new_data_by, of_data, of_tables, over_all, surplus_in, to_free}
 use Rattle.qcow2_image.specs.Resizing.{GrowsTo, IsResized, size_after}
+
+-- a larger disk alone is refused
+pub taking_limited : (C : Type 0) (old size : ℕ) (r : Result (Unit {0}) ImageError) → (size ≤ old → r ≡ Ok tt) → (old < size → IfLimit r C) → IfLimit r C
+taking_limited C old size (Ok x) no_larger limit = tt
+taking_limited C old size (Err e) no_larger limit = limit (elim (cases_lt old size) [ inl lt ↦ lt | inr le ↦ absurd (let no : Err e ≡ Ok tt = no_larger le in cc) ])
 
 module _ {S F : Type 0} (view : S → StorageView) (backing : F → BackingView) where
   -- place is taken
@@ -35,17 +38,6 @@ module _ {S F : Type 0} (view : S → StorageView) (backing : F → BackingView)
         surplus = ((sees []).acts.works sound).surplus now;
       }
   surplus_taken old new size mode (Err e) sound no_larger image sees = tt
-
-  -- a limit refused it, which is no fault
-  pub taking_limited : (old new : Qcow2 S F) (size : ℕ) (mode : PreallocateMode) (r : Result (Unit {0}) ImageError) → (abstract_of view backing old []).is_sound → (size ≤ size_of old → (r ≡ Ok tt) × (new ≡ old))
-      → (size_of old < size → IsResized (size_after r (size_of old) size) old new) → GrowsTo view backing old new size mode r → (size_of old < size → IfErr r (λ e. e ≡ I.Limit → CantGrowDisk view backing mode size old new []))
-      → IfErr r (λ e. e ≡ I.Limit → CantGrowBy view backing mode size old new)
-  taking_limited old new size mode (Ok x) sound no_larger image sees limit = tt
-  taking_limited old new size mode (Err e) sound no_larger image sees limit = λ is.
-      let larger : size_of old < size = elim (cases_lt (size_of old) size) [ inl lt ↦ lt | inr le ↦ absurd (let no : Err e ≡ Ok tt = (no_larger le).0 in cc) ] in
-      let works = (sees []).acts.works sound in
-      let now : (abstract_of view backing new []).is_sound = elim ((sees []).answer sound) [ inl still ↦ still.0 | inr fault ↦ absurd (subst (λ (x : ImageError). IsRefusalByFault (refusal_of x)) is fault.0) ] in
-      (limit larger is, (record { sound = now; writable = (image larger).writable; surplus = works.surplus now }, works.leaks))
 
   -- what is counted more than named is the surplus, where nothing is prepared or to be freed
   stored : (image : Qcow2 S F) (b : Bytes) (k : ℕ) → surplus_in view backing image [] k ≡ 0 → known_in view image.file ≡ b → HasNothingToFree image → surplus_of image.file.header.fields b k ≡ 0

@@ -1,6 +1,6 @@
 -- Parts of growing after one another, and the L1 table in the place of the former one.
 use Rattle.std.proofs.Common.{◌≡◌, inl, inr, ⊎_elim, ℕ, ◌+◌, ◌-◌, ◌*◌, ◌/◌, ◌^◌, ◌<◌, ◌≤◌, List, [], ◌∷◌, ◌++◌, Result, Ok, Err, Bool, max, refl, sym, ap, ◌∙◌, subst, arith}
-use Rattle.std.specs.Prelude.{IfErr, OnOk}
+use Rattle.std.specs.Prelude.{OnOk}
 use Rattle.std.proofs.Math.Nat.{div-lt_iff_lt-mul}
 use Rattle.image_access.specs.Backing.{BackingView}
 use Rattle.image_access.specs.Moments.{StorageView}
@@ -21,11 +21,9 @@ use Rattle.qcow2_image.specs.declared.image.Qcow2.{Qcow2}
 use Rattle.qcow2_image.specs.LongerTables.{RefusedMove, UnseenMove}
 use Rattle.qcow2_image.proofs.Grow.Lengths.{fits_grown, reaches_begun, reaches_told}
 use Rattle.qcow2_image.specs.L1Entries.{ReachesOffset}
-use Rattle.qcow2_image.specs.Growing.{FitsSize, Lasts, Extends, Resizes, GrowsDisk, KeepsSurplus, LosesNone, WritesBack, ReachesSize, GrowsWhole}
+use Rattle.qcow2_image.specs.Growing.{FitsSize, Lasts, Extends, Resizes, GrowsDisk, KeepsSurplus, WritesBack, ReachesSize, GrowsWhole}
 use Rattle.qcow2_image.specs.Image.{size_of, is_failed, is_writable}
-use Rattle.qcow2_image.proofs.Call.Marked.{MayMark, MayMarkBy}
-use Rattle.qcow2_image.proofs.Call.Unlimited.{fault_unlimited}
-use Rattle.qcow2_image.proofs.Prepare.Lacked.{other_limit}
+use Rattle.qcow2_image.proofs.Call.Marked.{MayMarkBy}
 use Rattle.qcow2_alloc.specs.FreeList.{with_listed}
 use Rattle.qcow2_image.proofs.Flush.Freeing.{all_listed, beside}
 use Rattle.qcow2_image.specs.UnseenSteps.{UnseenFreeingStep, FreesListed, UnseenStep, ListGrows, pending_with_listed}
@@ -48,10 +46,6 @@ module _ {S F : Type 0} (view : S → StorageView) (backing : F → BackingView)
   -- where that was refused, what was kept is kept
   pub lasts_refused : (p : Pending) (a b : Qcow2 S F) (e : ImageError) → RefusedMove view backing p a b [] e → Lasts view a b []
   lasts_refused p a b e left = ⊎_elim (λ keeps. keeps.since) (λ interruption. interruption.interrupted.since) left
-
-  -- where a limit refused it, no guest sees it
-  pub unseen_limited : (p : Pending) (a b : Qcow2 S F) (e : ImageError) → RefusedMove view backing p a b [] e → e ≡ I.Limit → UnseenStep view backing p (pending_with_listed p a b) a b []
-  unseen_limited p a b e left is = ⊎_elim (λ keeps. keeps) (λ interruption. other_limit _ e (fault_unlimited e interruption.interrupted.fault) is) left
 
   pub extends_keeping : (p q : Pending) (a b : Qcow2 S F) → UnseenStep view backing p q a b [] → Extends view backing p q a b []
   extends_keeping p q a b keeps = record {
@@ -167,20 +161,6 @@ module _ {S F : Type 0} (view : S → StorageView) (backing : F → BackingView)
     surplus_grown writable new done r answer rest marks resizes grows =
         subst (λ (s : Result (Unit {0}) ImageError). OnOk s (KeepsSurplus view backing old new)) (sym answer)
         (subst (λ (i : Qcow2 S F). OnOk done (KeepsSurplus view backing old i)) (sym rest) (kept done (is_failed new) writable resizes grows marks))
-
-    -- a limit refused it, and then nothing is marked
-    limited : (C D : Type 0) (r : Result (Unit {0}) ImageError) (failed : Bool) → is_writable big ≡ is_writable old → MayMarkBy r (is_failed big) failed → (C → D)
-        → IfErr r (λ e. e ≡ I.Limit → C × UnseenStep view backing p (pending_with_listed p mid big) mid big []) → IfErr r (λ e. e ≡ I.Limit → D × LosesNone view backing old (record big { is_failed = failed }))
-    limited C D (Ok x) failed writable marks to left = tt
-    limited C D (Err e) failed writable marks to left = λ is.
-        let it = left is in
-        (to it.0, (same_surplus failed (subst (λ (x : ImageError). MayMark x (is_failed big) failed) is marks) writable it.1.sound it.1.list, it.1.leaks ∙ begun.leaks))
-
-    pub limited_so : (C D : Type 0) → is_writable big ≡ is_writable old → (new : Qcow2 S F) (done r : Result (Unit {0}) ImageError) → r ≡ done → new ≡ record big { is_failed = is_failed new } → MayMarkBy done (is_failed big) (is_failed new) → (C → D)
-        → IfErr done (λ e. e ≡ I.Limit → C × UnseenStep view backing p (pending_with_listed p mid big) mid big []) → IfErr r (λ e. e ≡ I.Limit → D × LosesNone view backing old new)
-    limited_so C D writable new done r answer rest marks to left =
-        subst (λ (s : Result (Unit {0}) ImageError). IfErr s (λ e. e ≡ I.Limit → D × LosesNone view backing old new)) (sym answer)
-        (subst (λ (i : Qcow2 S F). IfErr done (λ e. e ≡ I.Limit → D × LosesNone view backing old i)) (sym rest) (limited C D done (is_failed new) writable marks to left))
 
   -- ---- what is listed is freed, and all tables are written
   extends_tidying : (p q : Pending) (a b : Qcow2 S F) → UnseenFreeingStep view backing p q a b [] → Extends view backing p q a b []

@@ -1,6 +1,7 @@
 -- Tables are loaded and evicted, and bytes are read, of an image of which no cached table is modified: nothing is written, whatever it holds.
-use Rattle.std.proofs.Common.{◌≡◌, Bool, Result, sym, ap, subst}
-use Rattle.image_access.specs.Moments.{StorageView, ContentsStay, QuietCalls}
+use Rattle.std.proofs.Common.{◌≡◌, Bool, Result, sym, ap, subst, ◌∙◌}
+use Rattle.image_access.specs.Moments.{StorageView, ContentsStay, EachMomentSince, IsLeftBy, QuietCalls}
+use Rattle.image_access.proofs.EachMomentSince.{passes_if}
 use Rattle.image_access.specs.declared.error.StorageError.{StorageError}
 use Rattle.qcow2_alloc.specs.declared.image_file.ImageFile.{ImageFile}
 use Rattle.qcow2_alloc.specs.declared.image_storage.ImageStorage.{ImageStorage}
@@ -11,7 +12,11 @@ use Rattle.qcow2_alloc.proofs.KeptTables.AllWritten.{written_none, written_then}
 use Rattle.qcow2_alloc.proofs.KeptTables.Quiet.{quiet_none, quiet_read}
 use Rattle.qcow2_image.specs.declared.image.Qcow2.{Qcow2}
 use Rattle.qcow2_image.specs.Image.{IsBegun}
-use Rattle.qcow2_image.specs.Unwritten.{ReadsQuietly}
+use Rattle.qcow2_image.specs.Unwritten.{ContentsStayThroughout, ReadsQuietly}
+
+-- a call of the storage that leaves its contents: it had them at each moment
+pub kept_throughout : (old new : StorageView) → EachMomentSince old new (IsLeftBy new) → ContentsStay old new → old.is_honest → ContentsStayThroughout old new
+kept_throughout old new time same honest = (same, passes_if (IsLeftBy old) (λ c is. is ∙ same honest) time)
 
 module _ {S F : Type 0} (view : S → StorageView) where
   -- no call at all

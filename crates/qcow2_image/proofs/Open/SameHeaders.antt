@@ -1,13 +1,13 @@
 -- The header that stands in an image's bytes is one alone; and an image that needs another file is refused for that.
-use Rattle.std.proofs.Common.{◌≡◌, ◌≢◌, ◌⊎◌, ◌<◌, Result, ◌/◌, ◌%◌, ℕ, ◌+◌, is_some, List, [], ◌∷◌, true, false, length, Bool, refl, sym, ap, ◌∙◌, subst, inl, inr}
-use Rattle.std.specs.Prelude.{◌&&◌, ◌||◌, ◌==◌}
+use Rattle.std.proofs.Common.{◌≡◌, ◌≢◌, ◌⊎◌, Result, ◌/◌, ◌%◌, ℕ, is_some, List, true, false, Bool, refl, sym, ap, ◌∙◌, subst, inl, inr}
+use Rattle.std.specs.Prelude.{◌||◌, ◌==◌}
 use Rattle.image_access.specs.Moments.{StorageView}
-use Rattle.qcow2_metadata.specs.Bytes.{Bytes, byte_at, bytes_from}
+use Rattle.qcow2_metadata.specs.Bytes.{Bytes, byte_at}
 use Rattle.qcow2_metadata.specs.Consistent.{IsConsistent}
 use Rattle.qcow2_disk.specs.HeaderRest.{KeepsHeaderRest}
 use Rattle.qcow2_disk.proofs.HeaderRest.{header_rest_back}
 use Rattle.qcow2_disk.proofs.HeaderNames.{names_stay}
-use Rattle.qcow2_metadata.specs.Header.{header, HeaderView, HeaderReads, AreExtensions, IsExtension, behind_extension, first_of_kind, data_file_kind, has_data_file}
+use Rattle.qcow2_metadata.specs.Header.{header, HeaderView, HeaderReads, has_data_file}
 use Rattle.qcow2_metadata.specs.declared.header.HeaderFields.{HeaderFields}
 use Rattle.qcow2_metadata.specs.HeaderLoad.{IsHeaderIn, IsReasonToRefuse}
 use Rattle.qcow2_metadata.specs.MetadataError.{OnlyReads}
@@ -23,36 +23,12 @@ use Rattle.qcow2_image.specs.declared.image.Missing.TheVariants as N
 use Rattle.qcow2_image.specs.Refusals.{IsMet}
 use Rattle.qcow2_image.specs.Unwritten.{ContentsStayThroughout}
 
-abbrev made : ℕ → List ℕ → ℕ × List ℕ
-made kind bytes = (kind, bytes)
-
-same_pair : (k k' : ℕ) (d d' : List ℕ) → k ≡ k' → d ≡ d' → made k d ≡ made k' d'
-same_pair k k' d d' kinds texts = ap (λ (n : ℕ). made n d) kinds ∙ ap (made k') texts
-
--- one extension stands at a place
-one_extension : (b : Bytes) (limit place : ℕ) (e f : ℕ × List ℕ) → IsExtension b limit place e → IsExtension b limit place f → e ≡ f
-one_extension b limit place (k, d) (k', d') is it =
-    let long : length d ≡ length d' = sym is.size ∙ it.size in
-    same_pair k k' d d' (sym is.kind ∙ it.kind) (sym is.bytes ∙ ap (bytes_from b (place + 8)) long ∙ it.bytes)
-
--- and one list of them
-pub one_list : (b : Bytes) (limit place : ℕ) (l m : List (ℕ × List ℕ)) → AreExtensions b limit place l → AreExtensions b limit place m → l ≡ m
-one_list b limit place [] [] are they = refl
-one_list b limit place [] (f ∷ s) are they = absurd (they.0.not_the_end (sym they.0.kind ∙ are.1))
-one_list b limit place (e ∷ r) [] are they = absurd (are.0.not_the_end (sym are.0.kind ∙ they.1))
-one_list b limit place (e ∷ r) (f ∷ s) are they =
-    let same = one_extension b limit place e f are.0 they.0 in
-    let rest = one_list b limit (behind_extension place (length e.1)) r s are.2 (subst (λ (x : ℕ × List ℕ). AreExtensions b limit (behind_extension place (length x.1)) s) (sym same) they.2) in
-    ap (λ (x : ℕ × List ℕ). x ∷ r) same ∙ ap (λ (t : List (ℕ × List ℕ)). f ∷ t) rest
-
 -- what it needs is the same for both
 pub needs_so : (v w : HeaderView) (contents : List ℕ) → IsHeaderIn v contents → IsHeaderIn w contents → needs_another v ≡ needs_another w
 needs_so v w contents is it =
     let b = byte_at contents in
     let fields : v.fields ≡ w.fields = is.fields ∙ sym it.fields in
     let below : v.backing_name ≡ w.backing_name = is.backing_name ∙ sym it.backing_name in
-    let list = one_list _ _ _ is.reads.well_formed.extensions.list it.reads.well_formed.extensions.list is.reads.well_formed.extensions.stand it.reads.well_formed.extensions.stand in
-    let file : v.data_file_name ≡ w.data_file_name = is.data_file_name ∙ ap (first_of_kind data_file_kind) list ∙ sym it.data_file_name in
     cc
 
 -- no header that reads is refused but for an offset, a fault or want of memory
@@ -86,24 +62,28 @@ not_needed missing v contents is none needs = let same = lacks_so missing v need
 pub stays_so : {S T : Type 0} (view : S → StorageView) (old mid last out : S) (result : Result T MetadataError) → mid ≡ old → out ≡ last → OnlyReads (view mid) (view last) result → (view old).is_honest → ContentsStayThroughout (view old) (view out)
 stays_so view old mid last out result is at reads = subst (λ s. (view s).is_honest → ContentsStayThroughout (view s) (view out)) is (subst (λ s. (view mid).is_honest → ContentsStayThroughout (view mid) (view s)) (sym at) (λ honest. (reads.same, reads.time honest)))
 
+-- the names stay while the rest of the header does
+pub names_still : (old new : List ℕ) → IsConsistent (byte_at new) → KeepsHeaderRest (byte_at old) (byte_at new) → (v : HeaderView) → IsHeaderIn v old → IsHeaderIn (record v { fields = header (byte_at new) }) new
+names_still old new after rest v stands =
+    let read = stands.reads.well_formed in
+    let same = names_stay (byte_at old) (byte_at new) stands.reads rest in
+    let is = after.header_reads in
+    record {
+      fields = refl;
+      reads = record { well_formed = record is.well_formed { extensions = record { list = read.extensions.list; stand = same.extensions read.extensions.list read.extensions.stand } }; within_limits = is.within_limits };
+      backing_name = stands.backing_name ∙ sym same.backing_name;
+      backing_format = stands.backing_format;
+      data_file_name = stands.data_file_name;
+    }
+
 -- A consistent image that needs no other file needs none while the rest of its header stays.
 pub alone_still : (old new : List ℕ) → IsConsistent (byte_at old) → IsConsistent (byte_at new) → KeepsHeaderRest (byte_at old) (byte_at new) → (NeedsAnother old → ⊥) → NeedsAnother new → ⊥
 alone_still old new before after rest alone needs =
     let v = needs.header in
-    let stands = needs.stands in
-    let read = stands.reads.well_formed in
-    let same = names_stay (byte_at new) (byte_at old) stands.reads (header_rest_back (byte_at old) (byte_at new) rest) in
-    let was = before.header_reads in
-    let none : v.fields.incompatible ≡ 0 = ap (λ (h : HeaderFields). h.incompatible) stands.fields ∙ after.no_data_file in
-    let still : needs_another (record v { fields = header (byte_at old) }) ≡ needs_another v = ap (λ n. n / 4 % 2 == 1 || is_some v.data_file_name || is_some v.backing_name) (before.no_data_file ∙ sym none) in
+    let none : v.fields.incompatible ≡ 0 = ap (λ (h : HeaderFields). h.incompatible) needs.stands.fields ∙ after.no_data_file in
+    let still : needs_another (record v { fields = header (byte_at old) }) ≡ needs_another v = ap (λ n. n / 4 % 2 == 1 || is_some v.backing_name) (before.no_data_file ∙ sym none) in
     alone (record {
       header = record v { fields = header (byte_at old) };
-      stands = record {
-        fields = refl;
-        reads = record { well_formed = record was.well_formed { extensions = record { list = read.extensions.list; stand = same.extensions read.extensions.list read.extensions.stand } }; within_limits = was.within_limits };
-        backing_name = stands.backing_name ∙ sym same.backing_name;
-        backing_format = stands.backing_format;
-        data_file_name = stands.data_file_name;
-      };
+      stands = names_still new old before (header_rest_back (byte_at old) (byte_at new) rest) v needs.stands;
       needs = still ∙ needs.needs;
     })

@@ -1,4 +1,5 @@
 -- Parts of preallocation, one after another.
+use Rattle.qcow2_image.specs.Limits.{GoesTo}
 use Rattle.std.proofs.Common.{◌≡◌, ◌⊎◌, ⊎_elim, inl, inr, ℕ, ◌+◌, ◌-◌, ◌%◌, ◌^◌, ◌<◌, ◌≤◌, min, true, false, List, [], ◌∷◌, refl, sym, ap, ◌∙◌, subst, arith}
 use Rattle.std.specs.Prelude.{IsTrue, Option, Result, Ok, Err}
 use Rattle.image_access.specs.Backing.{BackingView}
@@ -16,7 +17,7 @@ use Rattle.qcow2_alloc.specs.ImageError.{IsFault as FaultOfTables}
 use Rattle.qcow2_alloc.specs.ImageFile.{known_in}
 use Rattle.qcow2_alloc.specs.declared.error.ImageError.{ImageError}
 use Rattle.qcow2_alloc.specs.declared.error.ImageError.TheVariants as I
-use Rattle.qcow2_image.specs.Image.{HasNothingToFree, has_noted_change}
+use Rattle.qcow2_image.specs.Image.{has_noted_change}
 use Rattle.qcow2_image.specs.CallParts.{RefusedCall, UnseenCall}
 use Rattle.qcow2_image.specs.Clearing.{ClearsPart, IsUnderMapping}
 use Rattle.qcow2_image.specs.declared.discarding.Clearance.TheVariants.{KeptZeros}
@@ -24,19 +25,16 @@ use Rattle.qcow2_image.specs.declared.image.Qcow2.{Qcow2}
 use Rattle.qcow2_image.specs.declared.prepared.Prepared.{Prepared}
 use Rattle.qcow2_image.specs.ImageInvariant.{ImageInvariant, abstract_of, disk_of, pending_in}
 use Rattle.qcow2_image.specs.Found.{l1_index_of}
-use Rattle.qcow2_image.specs.LackedPlaces.{LacksPlaceFor, LacksTableFor}
-use Rattle.qcow2_image.specs.ListedClusters.{KeepsReftable, SomeGaveWay}
 use Rattle.qcow2_image.specs.MetAlone.{KeepsL1Place}
 use Rattle.qcow2_image.specs.MovedTables.{MovesTables}
-use Rattle.qcow2_image.specs.Preallocation.{ChangesFree, FilledCovers, FillsOrRefuses, FillsPart, FillsSome, InterruptedGiving, IsUnderMappingIn, LacksPlaceOnWay, MayBeZero, RefusedFill, given_by_zeros}
+use Rattle.qcow2_image.specs.Preallocation.{ChangesFree, FilledCovers, FillsOrRefuses, FillsPart, FillsSome, InterruptedGiving, IsUnderMappingIn, MayBeZero, RefusedFill, given_by_zeros}
 use Rattle.qcow2_image.specs.Refusals.{IsMet, IsUnlimited}
 use Rattle.qcow2_image.proofs.Call.Called.{works_none}
 use Rattle.qcow2_image.proofs.Clear.ClearCalls.{under_before}
 use Rattle.qcow2_image.proofs.Clear.Ranges.{table_end, table_whole}
 use Rattle.qcow2_image.proofs.Grow.Lengths.{place_same, reaching_stays, reaching_stays_shorter, reaching_stays_then}
 use Rattle.qcow2_image.proofs.Moved.{file_step_then}
-use Rattle.qcow2_image.proofs.Prepare.Lacked.{other_limit}
-use Rattle.qcow2_image.proofs.Prepare.Listing.{giving_kept, giving_none, giving_then}
+use Rattle.qcow2_image.proofs.Prepare.Lacked.{limited_since, other_limit}
 use Rattle.std.proofs.lemmas.Nat.{pow_pos}
 use Rattle.qcow2_image.proofs.Preallocate.Covers.{covers_before, covers_cleared, covers_from, covers_none, covers_stay, covers_then}
 use Rattle.qcow2_image.proofs.Preallocate.Pieces.{none_of}
@@ -106,7 +104,6 @@ module _ {S F : Type 0} (view : S → StorageView) (backing : F → BackingView)
     shows = ap (λ (d : Disk). with_disk (guest_of (abstract_of view backing image out)) d) (sym (zeroed_none (disk_of view backing image) from from (omega arith)));
     header = refl;
     l1_table = λ within. (refl, refl);
-    reftables = giving_none image;
     covers = covers_none (cluster_size image.file.header.fields) (pow_pos image.file.header.fields.cluster_bits) first from image.file.header.fields (known_in view image.file);
     free = untaken_none (cluster_size image.file.header.fields) (pow_pos image.file.header.fields.cluster_bits) out first from image.file.header.fields (known_in view image.file);
   }
@@ -133,27 +130,9 @@ module _ {S F : Type 0} (view : S → StorageView) (backing : F → BackingView)
   }
 
   -- refused before anything was done
-  pub refused_here : (image : Qcow2 S F) (first from to : ℕ) (e : ImageError) → (e ≡ I.TablePrepared → ⊥) → (e ≡ I.Limit → ⊥) → ImageInvariant view backing (pending_in view backing image out) image out
-      → RefusedFill view backing first from to image image out e
-  refused_here image first from to e other unlimited sound = record { left = inl (some_none image from to sound); taken = λ is. absurd (other is); limit = λ is. absurd (unlimited is) }
-
-  -- the first bytes of a range lack a place
-  pub lacks_here : (old new : Qcow2 S F) (first from to n : ℕ) → ImageInvariant view backing (pending_in view backing old out) old out → 0 < n → from + n ≤ to → LacksPlaceFor view from n old new
-      → (first ≤ from → LacksTableFor view from old new) → HasNothingToFree new
-      → LacksPlaceOnWay view backing first from to old new out
-  lacks_here old new first from to n sound some high lacks zeros emptied = record {
-    mid = old;
-    so_far = some_none old from to sound;
-    listed = λ none. none;
-    offset = from;
-    n = n;
-    low = omega arith;
-    some = some;
-    high = high;
-    lacks = lacks;
-    zeros = zeros;
-    emptied = emptied;
-  }
+  pub refused_here : (image : Qcow2 S F) (from to : ℕ) (e : ImageError) → (e ≡ I.TablePrepared → ⊥) → (e ≡ I.Limit → ⊥) → ImageInvariant view backing (pending_in view backing image out) image out
+      → RefusedFill view backing from to image image out e
+  refused_here image from to e other unlimited sound = record { left = inl (some_none image from to sound); taken = λ is. absurd (other is); limit = λ is. absurd (unlimited is) }
 
   -- ---- one part after another
   module _ (a b c : Qcow2 S F) (zeros from mid to : ℕ) (low : from ≤ mid) (high : mid ≤ to) where
@@ -171,7 +150,6 @@ module _ {S F : Type 0} (view : S → StorageView) (backing : F → BackingView)
       sound = then.sound;
       shows = then.shows ∙ ap (λ (g : Guest). with_disk g (zeroed_between g.disk mid to)) first.shows ∙ ap (λ (d : Disk). with_disk (guest_of (abstract_of view backing a out)) d) (zeroed_then (disk_of view backing a) from mid to low high);
       header = file_step_then a.file.header.fields b.file.header.fields c.file.header.fields first.header then.header;
-      reftables = giving_then a b c first.reftables then.reftables;
       l1_table = reaching_stays_then a.file.header.fields b.file.header.fields c.file.header.fields to first.header (reaching_stays_shorter a.file.header.fields b.file.header.fields mid to high first.l1_table) then.l1_table;
       covers = covers_then (cluster_size a.file.header.fields) (pow_pos a.file.header.fields.cluster_bits) zeros a.file.header.fields (known_in view a.file) b.file.header.fields (known_in view b.file) c.file.header.fields (known_in view c.file) from mid to low high first.covers
           (as_large mid to first.header then.covers);
@@ -186,7 +164,6 @@ module _ {S F : Type 0} (view : S → StorageView) (backing : F → BackingView)
       sound = then.sound;
       shows = then.shows ∙ ap (λ (g : Guest). with_disk g (zeroed_between g.disk from mid)) first.shows ∙ ap (λ (d : Disk). with_disk (guest_of (abstract_of view backing a out)) d) (zeroed_before (disk_of view backing a) from mid to low high);
       header = file_step_then a.file.header.fields b.file.header.fields c.file.header.fields first.header then.header;
-      reftables = giving_then a b c first.reftables then.reftables;
       l1_table = reaching_stays_then a.file.header.fields b.file.header.fields c.file.header.fields to first.header first.l1_table (reaching_stays_shorter b.file.header.fields c.file.header.fields mid to high then.l1_table);
       covers = covers_before (cluster_size a.file.header.fields) (pow_pos a.file.header.fields.cluster_bits) zeros a.file.header.fields (known_in view a.file) b.file.header.fields (known_in view b.file) c.file.header.fields (known_in view c.file) from mid to low high first.covers
           (as_large from mid first.header then.covers);
@@ -218,62 +195,43 @@ module _ {S F : Type 0} (view : S → StorageView) (backing : F → BackingView)
         → FillsSome view backing from to a c out ⊎ InterruptedGiving view backing (given_by_zeros from to ∷ []) a c out e
     left_after e left = ⊎_elim (λ (some : FillsSome view backing x' y' b c out). inl (some_after some)) (λ (broken : InterruptedGiving view backing (given_by_zeros x' y' ∷ []) b c out e). inr (broken_after e broken)) left
 
-  -- it lacks a place for a limit
-  module _ (a b c : Qcow2 S F) (zeros from to x y x' y' : ℕ) (low : from ≤ x) (high : y ≤ to) (low' : from ≤ x') (high' : y' ≤ to) (first : FillsPart view backing zeros x y a b out) (inner : ℕ) (within : inner ≤ zeros) (keeps : HasNothingToFree a → HasNothingToFree b) where
-    lacks_after : LacksPlaceOnWay view backing inner x' y' b c out → LacksPlaceOnWay view backing zeros from to a c out
-    lacks_after lacks = let l = lacks.low in let h = lacks.high in record {
-      mid = lacks.mid;
-      so_far = some_after a b lacks.mid zeros from to x y x' y' low high low' high' first lacks.so_far;
-      listed = λ none. lacks.listed (keeps none);
-      offset = lacks.offset;
-      n = lacks.n;
-      low = omega (arith, low', l);
-      some = lacks.some;
-      high = omega (arith, high', h);
-      lacks = lacks.lacks;
-      zeros = λ past. lacks.zeros (omega (arith, within, past));
-      emptied = lacks.emptied;
-    }
-
-    pub refused_after : (e : ImageError) → RefusedFill view backing inner x' y' b c out e → RefusedFill view backing zeros from to a c out e
-    refused_after e then = record {
-      left = left_after a b c zeros from to x y x' y' low high low' high' first e then.left;
+    pub refused_after : GoesTo view a b → (e : ImageError) → RefusedFill view backing x' y' b c out e → RefusedFill view backing from to a c out e
+    refused_after goes e then = record {
+      left = left_after e then.left;
       taken = λ is. taken_wider a.file.header.fields b.file.header.fields x' y' from to out first.header low' high' (then.taken is);
-      limit = λ is. lacks_after (then.limit is);
+      limit = λ is. limited_since high' goes (then.limit is);
     }
 
   -- a part, and then clusters are freed, which no guest sees
   module _ (a b c : Qcow2 S F) (zeros from to : ℕ) (first : FillsPart view backing zeros from to a b out) where
-    pub fills_stays : UnseenCall view backing b c out → c.file.header ≡ b.file.header → KeepsReftable b c → FillsPart view backing zeros from to a c out
-    fills_stays then same keeps = record {
+    pub fills_stays : UnseenCall view backing b c out → c.file.header ≡ b.file.header → FillsPart view backing zeros from to a c out
+    fills_stays then same = record {
       works = works_then (abstract_of view backing a out) (abstract_of view backing b out) (abstract_of view backing c out) (given_by_zeros from to ∷ []) [] first.sound first.works (none_of _ _ (given_by_zeros from to ∷ []) then.works);
       sound = then.sound;
       shows = then.same ∙ first.shows;
       header = file_step_then a.file.header.fields b.file.header.fields c.file.header.fields first.header then.header;
       l1_table = λ within. place_same a.file.header.fields b.file.header c.file.header same (first.l1_table within);
-      reftables = giving_kept a b c first.reftables keeps;
       covers = covers_stay (cluster_size a.file.header.fields) (pow_pos a.file.header.fields.cluster_bits) zeros a.file.header.fields (known_in view a.file) b.file.header.fields (known_in view b.file) c.file.header.fields (known_in view c.file) from to first.covers then.covers;
       free = first.free;
     }
 
     -- that is refused
-    pub fills_refused : (to' : ℕ) (e : ImageError) → to ≤ to' → IsMet e → IsUnlimited e → RefusedCall view backing b c out e → c.file.header ≡ b.file.header → RefusedFill view backing zeros from to' a c out e
+    pub fills_refused : (to' : ℕ) (e : ImageError) → to ≤ to' → IsMet e → IsUnlimited e → RefusedCall view backing b c out e → c.file.header ≡ b.file.header → RefusedFill view backing from to' a c out e
     fills_refused to' e high met unlimited then same = record {
       left = left_after a b c zeros from to' from to from to' (omega arith) high (omega arith) (omega arith) first e (fill_unseen b c from to' e then);
       taken = met_taken e met;
-      limit = other_limit (LacksPlaceOnWay view backing zeros from to' a c out) e unlimited;
+      limit = other_limit _ e unlimited;
     }
 
   -- whole clusters are cleared
-  pub cleared_fills : (old new : Qcow2 S F) (from to : ℕ) → from < to → (entries : ℕ) → entries ≡ old.file.header.fields.l1_entries → (l1_index_of old.file.header.fields from < entries → KeepsL1Place old.file.header.fields new.file.header.fields) → SomeGaveWay old new → from % cluster_size old.file.header.fields ≡ 0 → ClearsPart view backing KeptZeros from to old new out
+  pub cleared_fills : (old new : Qcow2 S F) (from to : ℕ) → from < to → (entries : ℕ) → entries ≡ old.file.header.fields.l1_entries → (l1_index_of old.file.header.fields from < entries → KeepsL1Place old.file.header.fields new.file.header.fields) → from % cluster_size old.file.header.fields ≡ 0 → ClearsPart view backing KeptZeros from to old new out
       → ChangesFree (cluster_size old.file.header.fields) 0 from to old.file.header.fields (known_in view old.file) out → FillsPart view backing 0 from to old new out
-  cleared_fills old new from to lt entries count stays gave whole part free = record {
+  cleared_fills old new from to lt entries count stays whole part free = record {
     works = works_less (abstract_of view backing old out) (abstract_of view backing new out) _ (given_by_zeros from to ∷ []) [] (λ o w given. inr (shown_zeros (disk_of view backing old) from to o w given)) (touches_part (cluster_size old.file.header.fields) _ _ _ _ (omega arith) (omega arith)) part.works;
     sound = part.sound;
     shows = part.shows;
     header = part.header;
     l1_table = reaching_stays old.file.header.fields new.file.header.fields from to entries lt count stays;
-    reftables = λ before is. gave;
     covers = covers_cleared old.file.header.fields new.file.header.fields (known_in view old.file) (known_in view new.file) from to whole part.covers;
     free = free;
   }
@@ -286,7 +244,6 @@ module _ {S F : Type 0} (view : S → StorageView) (backing : F → BackingView)
     shows = part.shows;
     header = part.header;
     l1_table = part.l1_table;
-    reftables = part.reftables;
     covers = covers_from (cluster_size old.file.header.fields) (pow_pos old.file.header.fields.cluster_bits) from to old.file.header.fields (known_in view old.file) new.file.header.fields (known_in view new.file) whole part.covers;
     free = untaken_zeros (cluster_size old.file.header.fields) (pow_pos old.file.header.fields.cluster_bits) out from from to old.file.header.fields (known_in view old.file) part.free;
   }
@@ -301,7 +258,6 @@ module _ {S F : Type 0} (view : S → StorageView) (backing : F → BackingView)
         shows = part.shows;
         header = part.header;
         l1_table = part.l1_table;
-        reftables = part.reftables;
         covers = record {
           beside = part.covers.beside;
           zeros = λ g t at. part.covers.zeros g t (omega arith);
@@ -313,7 +269,7 @@ module _ {S F : Type 0} (view : S → StorageView) (backing : F → BackingView)
   -- the answer of one part is that of both
   module _ (a b c : Qcow2 S F) (zeros from mid to : ℕ) (low : from ≤ mid) (high : mid ≤ to) (first : FillsPart view backing zeros from mid a b out) where
     -- the last part clears whole clusters
-    pub fills_or_refuses : (HasNothingToFree a → HasNothingToFree b) → zeros ≤ mid → mid % cluster_size b.file.header.fields ≡ 0 → (r : Result (Unit {0}) ImageError) → FillsOrRefuses view backing 0 mid to b c out r
+    pub fills_or_refuses : GoesTo view a b → zeros ≤ mid → mid % cluster_size b.file.header.fields ≡ 0 → (r : Result (Unit {0}) ImageError) → FillsOrRefuses view backing 0 mid to b c out r
         → FillsOrRefuses view backing zeros from to a c out r
-    fills_or_refuses keeps le whole (Ok done) then = fills_then a b c zeros from mid to low high first (zeros_all b c zeros mid to whole le then)
-    fills_or_refuses keeps le whole (Err e) then = refused_after a b c zeros from to from mid mid to (omega arith) high low (omega arith) first 0 (omega arith) keeps e then
+    fills_or_refuses goes le whole (Ok done) then = fills_then a b c zeros from mid to low high first (zeros_all b c zeros mid to whole le then)
+    fills_or_refuses goes le whole (Err e) then = refused_after a b c zeros from to from mid mid to (omega arith) high low (omega arith) first goes e then

@@ -48,10 +48,6 @@ module _ {S F : Type 0} (view : S → StorageView) (backing : F → BackingView)
           | inr broken ↦ let is = fault broken.fault in inr (subst (λ (x : ImageError). InterruptedGiving view backing given old new out x) (sym is.0) (subst (λ (image : Qcow2 S F). InterruptedGiving view backing given old image out e) (sym is.1) broken))
         ]
 
-    -- a limit that refuses then had refused the filling
-    pub limit_before : (ImageInvariant view backing (pending_in view backing mid out) mid out → e' ≡ I.Limit → e ≡ I.Limit) → e' ≡ I.Limit → e ≡ I.Limit
-    limit_before told is = elim left [ inl part ↦ told part.sound is | inr broken ↦ sym (fault broken.fault).0 ∙ is ]
-
     -- nothing is left to be freed then
     pub grown_left : (ImageInvariant view backing (pending_in view backing mid out) mid out → FreesRefused new e') → FreesRefused new e'
     grown_left empties = elim left [

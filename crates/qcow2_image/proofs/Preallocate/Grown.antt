@@ -21,7 +21,7 @@ use Rattle.qcow2_image.specs.declared.image.Qcow2.{Qcow2}
 use Rattle.qcow2_image.specs.declared.prepared.Prepared.{Prepared}
 use Rattle.qcow2_image.specs.Image.{size_of}
 use Rattle.qcow2_image.specs.ImageInvariant.{ImageInvariant, abstract_of, disk_of, pending_in}
-use Rattle.qcow2_image.specs.Preallocation.{ChangesFree, FilledCovers, first_zeros, FillsGrown, FillsGrownInPart, FillsGrownOrRefuses, FillsOrRefuses, FillsPart, FillsSome, InterruptedGiving, IsUnderMappingIn, LacksPlaceOnWay, RefusedFill, RefusedGrown, filled_to, given_by_zeros, all_given_by_growing}
+use Rattle.qcow2_image.specs.Preallocation.{ChangesFree, FilledCovers, first_zeros, FillsGrown, FillsGrownInPart, FillsGrownOrRefuses, FillsOrRefuses, FillsPart, FillsSome, InterruptedGiving, IsUnderMappingIn, RefusedFill, RefusedGrown, filled_to, given_by_zeros, all_given_by_growing}
 use Rattle.qcow2_image.specs.Refusals.{IsMet, IsUnlimited}
 use Rattle.qcow2_image.proofs.Call.Called.{works_none}
 use Rattle.qcow2_image.proofs.Preallocate.Filled.{met_taken, refused_here}
@@ -29,7 +29,6 @@ use Rattle.qcow2_image.proofs.Preallocate.Covers.{boundary}
 use Rattle.qcow2_image.proofs.Preallocate.Pieces.{none_of}
 use Rattle.qcow2_image.proofs.Preallocate.Zeros.{zeros_shown}
 use Rattle.qcow2_image.proofs.Prepare.Lacked.{limited_not}
-use Rattle.qcow2_image.proofs.Prepare.Listing.{giving_none}
 use Rattle.qcow2_image.proofs.Sizes.{disk_size}
 use Rattle.qcow2_image.proofs.UngivenCovers.{touches_part}
 
@@ -81,7 +80,6 @@ module _ {S F : Type 0} (view : S → StorageView) (backing : F → BackingView)
     shows = ap (λ (e : Disk). with_disk (guest_of (abstract_of view backing old out)) e) (subst (λ (x : PreallocateMode). d ≡ filled_to (cluster_size old.file.header.fields) d size x) (sym none) refl);
     header = refl;
     l1_table = λ within. (refl, refl);
-    reftables = giving_none old;
     covers = record { filled = λ hides. absurd (let no : true ≡ false = sym (ap shows_old none) ∙ hides in cc); same = λ _ g. refl };
     free = λ hides. absurd (let no : true ≡ false = sym (ap shows_old none) ∙ hides in cc);
   }
@@ -105,7 +103,6 @@ module _ {S F : Type 0} (view : S → StorageView) (backing : F → BackingView)
         shows = part.shows ∙ ap (λ (e : Disk). with_disk (guest_of (abstract_of view backing old out)) e) (ap (λ n. zeroed_between d n end) size_is ∙ sym (cond-false (shows_old mode) d (zeroed_between d d.size end) hides));
         header = part.header;
         l1_table = part.l1_table;
-        reftables = part.reftables;
         covers = record {
           filled = λ _. subst (λ f. FilledCovers (cluster_size old.file.header.fields) f (size_of old) end old.file.header.fields (known_in view old.file) new.file.header.fields (known_in view new.file)) begins part.covers;
           same = λ shows. absurd (let no : true ≡ false = sym shows ∙ hides in cc);
@@ -133,22 +130,19 @@ module _ {S F : Type 0} (view : S → StorageView) (backing : F → BackingView)
         works = works_less (abstract_of view backing old out) (abstract_of view backing (record new { is_failed = true }) out) (given_by_zeros (size_of old) end ∷ []) (all_given_by_growing view backing old size mode) [] (λ o w given. inr (given_zeros o w given)) zeros_touched interrupted.works;
       }
 
-      pub grown_refused : (first : ℕ) → first ≡ first_zeros (cluster_size old.file.header.fields) (size_of old) size mode → (e : ImageError) → RefusedFill view backing first (size_of old) end old new out e
+      pub grown_refused : (e : ImageError) → RefusedFill view backing (size_of old) end old new out e
           → RefusedGrown view backing size mode old new out e
-      grown_refused first begins e refused = record {
+      grown_refused e refused = record {
         left = ⊎_elim (λ (part : FillsSome view backing (size_of old) end old new out). inl (in_part part)) (λ (interrupted : InterruptedGiving view backing (given_by_zeros (size_of old) end ∷ []) old new out e). inr (broken e interrupted)) refused.left;
         taken = λ is. (hides, subst (λ n. IsUnderMappingIn old.file.header.fields n end out) size_is (refused.taken is));
-        limit = λ is. subst (λ f. LacksPlaceOnWay view backing f (size_of old) end old new out) begins (refused.limit is);
+        limit = refused.limit;
       }
 
       pub grown_or_refused : (first from : ℕ) → first ≡ first_zeros (cluster_size old.file.header.fields) from size mode → from ≡ size_of old → (r : Result (Unit {0}) ImageError) → FillsOrRefuses view backing first from end old new out r → FillsGrownOrRefuses view backing size mode old new out r
       grown_or_refused first from begins here (Ok done) fills =
           grown_all first (begins ∙ ap (λ n. first_zeros (cluster_size old.file.header.fields) n size mode) here) (subst (λ n. FillsPart view backing first n end old new out) here fills)
-      grown_or_refused first from begins here (Err e) refused =
-          grown_refused first (begins ∙ ap (λ n. first_zeros (cluster_size old.file.header.fields) n size mode) here) e (subst (λ n. RefusedFill view backing first n end old new out e) here refused)
+      grown_or_refused first from begins here (Err e) refused = grown_refused e (subst (λ n. RefusedFill view backing n end old new out e) here refused)
 
     -- refused before anything was done
     pub early_refused : (e : ImageError) → IsMet e → IsUnlimited e → RefusedGrown view backing size mode old old out e
-    early_refused e met unlimited =
-        let first = first_zeros (cluster_size old.file.header.fields) (size_of old) size mode in
-        grown_refused old first refl e (refused_here view backing out old first (size_of old) end e (λ is. met_taken e met is) (limited_not e unlimited) sound)
+    early_refused e met unlimited = grown_refused old e (refused_here view backing out old (size_of old) end e (λ is. met_taken e met is) (limited_not e unlimited) sound)

@@ -28,8 +28,7 @@ use Rattle.qcow2_image.specs.CallParts.{UnseenCall}
 use Rattle.qcow2_image.specs.Clearing.{IsUnderMapping}
 use Rattle.qcow2_image.specs.Found.{l1_index_of}
 use Rattle.qcow2_image.specs.ImageInvariant.{ImageInvariant}
-use Rattle.qcow2_image.specs.L1Entries.{NeedsFarEntry, ReachesOffset}
-use Rattle.qcow2_image.specs.LackedPlaces.{IsPlacedNear}
+use Rattle.qcow2_image.specs.L1Entries.{NeedsFarEntry, ReachesOffset, IsPlacedNear}
 use Rattle.qcow2_image.specs.MetAlone.{copied_end, CopiesCompressed, HasCompressedIn, HasNearEntries, IsMetGrowing, IsMetTaking, KeepsL1Place}
 use Rattle.qcow2_image.specs.MovedTables.{MovesTables}
 use Rattle.qcow2_image.specs.Preallocation.{FillsPart}

@@ -31,7 +31,6 @@ use Rattle.qcow2_image.specs.Ranges.{ReleasesOneMapping}
 use Rattle.qcow2_image.specs.declared.prepared.Share.TheVariants.{InPlace}
 use Rattle.qcow2_image.specs.ImageInvariant.{ImageInvariant, IsPending, IsReadyWith, cluster_of, abstract_of, disk_of, image_abstraction, meaning, pending_in}
 use Rattle.qcow2_image.specs.L1Entries.{ReachingStays}
-use Rattle.qcow2_image.specs.ListedClusters.{MayGiveWay, SomeGaveWay}
 use Rattle.qcow2_image.specs.MetAlone.{KeepsL1Place}
 use Rattle.qcow2_image.specs.MovedTables.{MovesTables}
 use Rattle.qcow2_image.specs.Preallocation.{ChangesFree, FilledCovers, Touches, CommitsWhole, FillsPart, FillsSome, InterruptedGiving, given_by_zeros}
@@ -47,7 +46,6 @@ use Rattle.qcow2_image.proofs.Commit.Copied.{stands_entered, stands_released}
 use Rattle.qcow2_image.proofs.Free.{free_places}
 use Rattle.qcow2_image.proofs.Preallocate.Covers.{boundary, covers_own}
 use Rattle.qcow2_image.proofs.Grow.Lengths.{index_moved, place_same, reaching_stays}
-use Rattle.qcow2_image.proofs.Prepare.Listing.{giving_still}
 use Rattle.qcow2_image.proofs.Preallocate.Filled.{given_broken}
 use Rattle.qcow2_image.proofs.Preallocate.Pieces.{filled_shows, filled_sound, filled_works, gone_same, gone_works, none_of}
 use Rattle.qcow2_image.proofs.Preallocate.Untaken.{never_two, same_row}
@@ -256,9 +254,9 @@ module _ {S F : Type 0} (view : S → StorageView) (backing : F → BackingView)
 
     -- they are there, and the mapping is committed
     pub piece_filled : (mid2 new : Qcow2 S F) → PutsPart view backing mid mid2 (Some p ∷ out) 0 p 0 (zeros_of p.length) (Ok tt) → CommitsWhole view backing mid2 new (Some p ∷ out) 0 p (None ∷ out) → mid2.file.header ≡ mid.file.header → mid2.allocator ≡ mid.allocator → new.file.header ≡ mid2.file.header
-        → ReachingStays (from + p.length) old.file.header.fields mid.file.header.fields → MayGiveWay old mid → (first : ℕ) → FilledCovers (cluster_size old.file.header.fields) first from (from + p.length) old.file.header.fields (known_in view old.file) new.file.header.fields (known_in view new.file)
+        → ReachingStays (from + p.length) old.file.header.fields mid.file.header.fields → (first : ℕ) → FilledCovers (cluster_size old.file.header.fields) first from (from + p.length) old.file.header.fields (known_in view old.file) new.file.header.fields (known_in view new.file)
         → ChangesFree (cluster_size old.file.header.fields) first from (from + p.length) old.file.header.fields (known_in view old.file) out → FillsPart view backing first from (from + p.length) old new out
-    piece_filled mid2 new put commits header2 same header3 long gave first covers free =
+    piece_filled mid2 new put commits header2 same header3 long first covers free =
         let cs = (abstract_of view backing mid2 (Some p ∷ out)).setting.cluster_size in
         record {
           works = filled_works (image_abstraction view backing) (free_places view backing) (λ _. refl) old mid p out (cluster_size old.file.header.fields) from n sound ready.sound ready.works ready.prepared ready.is fits mid2 put.sound put.works put.is new cs commits.sound commits.works commits.shows refl (pow_pos mid2.file.header.fields.cluster_bits);
@@ -266,7 +264,6 @@ module _ {S F : Type 0} (view : S → StorageView) (backing : F → BackingView)
           shows = filled_shows (image_abstraction view backing) (free_places view backing) (λ _. refl) old mid p out (cluster_size old.file.header.fields) from n sound ready.sound ready.works ready.prepared ready.is fits mid2 put.sound put.works put.is new cs commits.sound commits.works commits.shows;
           header = subst (λ (h : HeaderFields). MovesTables old.file.header.fields h) (ap (λ x. x.fields) (sym (header3 ∙ header2))) ready.header;
           l1_table = λ within. place_same old.file.header.fields mid.file.header new.file.header (header3 ∙ header2) (long within);
-          reftables = giving_still old mid new gave (commits.allocator ∙ same);
           covers = covers;
           free = free;
         }
@@ -378,10 +375,10 @@ module _ {S F : Type 0} (view : S → StorageView) (backing : F → BackingView)
             (subst (λ s. g * s < p.guest + p.length) (sym size3) (subst (λ f. g * cluster_size old.file.header.fields < f + p.length) (sym from_is) up))) first high
 
     pub all_filled : 0 < p.length → (mid2 new : Qcow2 S F) → WritesBytes view mid mid2 p.offset (replicate count 0) (Ok tt) → ((o : List (Option Prepared)) (k : ℕ) → slice_get o k ≡ Some (Some p) → ImageInvariant view backing (pending_in view backing mid2 o) mid2 o → CommitsWhole view backing mid2 new o k p (slice_set o k None))
-        → new.file.header ≡ mid2.file.header → (l1_index_of old.file.header.fields from < entry_count old.l1_table → KeepsL1Place old.file.header.fields mid.file.header.fields) → SomeGaveWay old mid → FillsPart view backing to from (from + p.length) old new out
-    all_filled some mid2 new w commits header stays gave =
+        → new.file.header ≡ mid2.file.header → (l1_index_of old.file.header.fields from < entry_count old.l1_table → KeepsL1Place old.file.header.fields mid.file.header.fields) → FillsPart view backing to from (from + p.length) old new out
+    all_filled some mid2 new w commits header stays =
         let put = all_put mid2 (Ok tt) w in
         let done = commits (Some p ∷ out) 0 refl put.sound in
         piece_filled out old mid p from n sound ready answered all_fits mid2 new put done (all_header mid2 (Ok tt) w) (ap (λ (image : Qcow2 S F). image.allocator) w.rest) header
-        (reaching_stays old.file.header.fields mid.file.header.fields from (from + p.length) (entry_count old.l1_table) (omega (arith, some)) sound.l1_table.count stays) (λ before is. gave) to (all_covers some mid2 new w done to all_within)
+        (reaching_stays old.file.header.fields mid.file.header.fields from (from + p.length) (entry_count old.l1_table) (omega (arith, some)) sound.l1_table.count stays) to (all_covers some mid2 new w done to all_within)
         (piece_untaken out old mid p from n sound ready answered all_fits some to all_within)

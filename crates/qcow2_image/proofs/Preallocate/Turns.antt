@@ -7,9 +7,10 @@ use Rattle.qcow2_metadata.specs.Header.{cluster_size}
 use Rattle.qcow2_alloc.specs.declared.error.ImageError.{ImageError}
 use Rattle.qcow2_image.specs.declared.image.Qcow2.{Qcow2}
 use Rattle.qcow2_image.specs.declared.prepared.Prepared.{Prepared}
-use Rattle.qcow2_image.specs.Image.{HasNothingToFree, ImageStays}
+use Rattle.qcow2_image.specs.Image.{ImageStays}
 use Rattle.qcow2_image.specs.ImageInvariant.{ImageInvariant, abstract_of, pending_in}
 use Rattle.qcow2_image.specs.MovedTables.{MovesTables}
+use Rattle.qcow2_image.specs.BehindHeader.{StaysBehindHeader}
 use Rattle.qcow2_image.specs.Preallocation.{FillsPart, IsWholeRange, RefusedFill}
 use Rattle.qcow2_image.proofs.Call.Called.{works_none}
 use Rattle.qcow2_image.proofs.Preallocate.Filled.{fills_none, fills_then, refused_after}
@@ -72,16 +73,16 @@ module _ {S F : Type 0} (view : S → StorageView) (backing : F → BackingView)
           );
     }
 
-    pub zeroed_refused : (HasNothingToFree old → HasNothingToFree now) → (e : ImageError)
-        → ((out : List (Option Prepared)) → ImageInvariant view backing (pending_in view backing now out) now out → at ≤ to → IsWholeRange now.file.header.fields at to → 3 ≤ now.file.header.fields.version → RefusedFill view backing 0 at to now new out e)
+    pub zeroed_refused : StaysBehindHeader view old now → (e : ImageError)
+        → ((out : List (Option Prepared)) → ImageInvariant view backing (pending_in view backing now out) now out → at ≤ to → IsWholeRange now.file.header.fields at to → 3 ≤ now.file.header.fields.version → RefusedFill view backing at to now new out e)
         → (out : List (Option Prepared)) → ImageInvariant view backing (pending_in view backing old out) old out → from ≤ to → IsWholeRange old.file.header.fields from to → 3 ≤ old.file.header.fields.version
-        → RefusedFill view backing 0 from to old new out e
-    zeroed_refused keeps e refused out sound first whole version =
+        → RefusedFill view backing from to old new out e
+    zeroed_refused behind e refused out sound first whole version =
         let so = before.so_far out sound first whole version in
         let file_step = so.0.header in
         let here : IsWholeRange now.file.header.fields at to = (still_at old.file.header.fields now.file.header.fields at file_step so.1, still_at old.file.header.fields now.file.header.fields to file_step whole.1) in
         let low = before.low in
-        refused_after view backing out old now new 0 from to from at at to (omega arith) (omega (arith, lt)) low (omega arith) so.0 0 (omega arith) keeps e
+        refused_after view backing out old now new 0 from to from at at to (omega arith) (omega (arith, lt)) low (omega arith) so.0 (record { image = before.stays.image; header_cluster = behind }) e
         (refused out so.0.sound (omega (arith, lt)) here (subst (λ v. 3 ≤ v) (sym (same_version old.file.header.fields now.file.header.fields file_step)) version))
 
   -- so far zeros stand in a range, which has clusters of its own
@@ -106,10 +107,10 @@ module _ {S F : Type 0} (view : S → StorageView) (backing : F → BackingView)
           fills_then view backing out old now new to from at next low (omega (arith, more)) so (fills out so.sound (still_at old.file.header.fields now.file.header.fields to so.header whole));
     }
 
-    pub filled_refused : (HasNothingToFree old → HasNothingToFree now) → (e : ImageError)
-        → ((out : List (Option Prepared)) → ImageInvariant view backing (pending_in view backing now out) now out → to % cluster_size now.file.header.fields ≡ 0 → RefusedFill view backing to at to now new out e)
-        → (out : List (Option Prepared)) → ImageInvariant view backing (pending_in view backing old out) old out → to % cluster_size old.file.header.fields ≡ 0 → RefusedFill view backing to from to old new out e
-    filled_refused keeps e refused out sound whole =
+    pub filled_refused : StaysBehindHeader view old now → (e : ImageError)
+        → ((out : List (Option Prepared)) → ImageInvariant view backing (pending_in view backing now out) now out → to % cluster_size now.file.header.fields ≡ 0 → RefusedFill view backing at to now new out e)
+        → (out : List (Option Prepared)) → ImageInvariant view backing (pending_in view backing old out) old out → to % cluster_size old.file.header.fields ≡ 0 → RefusedFill view backing from to old new out e
+    filled_refused behind e refused out sound whole =
         let so = before.so_far out sound whole in
         let low = before.low in
-        refused_after view backing out old now new to from to from at at to (omega arith) (omega (arith, lt)) low (omega arith) so to (omega arith) keeps e (refused out so.sound (still_at old.file.header.fields now.file.header.fields to so.header whole))
+        refused_after view backing out old now new to from to from at at to (omega arith) (omega (arith, lt)) low (omega arith) so (record { image = before.stays.image; header_cluster = behind }) e (refused out so.sound (still_at old.file.header.fields now.file.header.fields to so.header whole))

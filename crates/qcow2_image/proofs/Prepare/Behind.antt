@@ -16,6 +16,7 @@ use Rattle.qcow2_metadata.specs.L2Mapping.{IsHostCluster, IsInReach, named_run}
 use Rattle.qcow2_laws.specs.Changes.{with_new_data}
 use Rattle.qcow2_disk.specs.Mappings.{is_copied_data}
 use Rattle.qcow2_laws.proofs.Formats.{cover_format, size_format}
+use Rattle.qcow2_alloc.specs.Limits.{IsPastLimits}
 use Rattle.qcow2_alloc.specs.declared.clusters_to_free.ClustersToFreeEntry.{ClustersToFreeEntry}
 use Rattle.qcow2_alloc.specs.declared.error.ImageError.{ImageError}
 use Rattle.qcow2_alloc.specs.MetadataCaches.{IsEntryAt}
@@ -217,6 +218,6 @@ module _ {S F : Type 0} (view : S → StorageView) (backing : F → BackingView)
       ∙ cover_format h hn is.0.header (known_in view new.file) (cluster_of h p + count) ∙ sym (is.0.covers (cluster_of h p + count)) ∙ covered in
       let ends : Ends view new p = record {
         cluster = ap (λ s. (p.guest + p.length) % s) same ∙ next_begins;
-        because = inr (inr (not_own (λ own. never (sym here ∙ own)) (subst (λ (x : HeaderFields). (IsHostCluster x.cluster_bits ((p.offset + p.length) / cluster_size x) → ⊥) ⊎ (count_of new.file.header.fields (known_in view new.file) ((p.offset + p.length) / cluster_size x) ≢ 0)) (sym is.0.header) is.1)));
+        because = inr (inr (not_own (λ own. never (sym here ∙ own)) (subst (λ (x : HeaderFields). IsPastLimits x ((p.offset + p.length) / cluster_size x) ⊎ (count_of new.file.header.fields (known_in view new.file) ((p.offset + p.length) / cluster_size x) ≢ 0)) (sym is.0.header) is.1)));
       } in (image_step_stays view backing out old new sound is.0, ends)
   finds_shared new mapping reach other never covered (Err e) is = back_refused view backing out old new e sound is

@@ -13,6 +13,7 @@ use Rattle.qcow2_metadata.specs.Guest.{known_byte}
 use Rattle.qcow2_laws.specs.Unseen.{KeepsFormat}
 use Rattle.qcow2_laws.proofs.SafeSteps.{pending_safe_throughout}
 use Rattle.qcow2_laws.proofs.Steps.{pending_is_changed}
+use Rattle.qcow2_alloc.specs.Limits.{IsPastLimits}
 use Rattle.qcow2_alloc.specs.Allocation.{run_at, Allocates, AllocatesAt, RefusedGrowth}
 use Rattle.qcow2_alloc.specs.CachePins.{KeepsPinsAndNotes}
 use Rattle.qcow2_alloc.specs.declared.allocation.Allocator.{Allocator}
@@ -30,7 +31,6 @@ use Rattle.qcow2_alloc.proofs.KeptAllocators.{refused_kept}
 use Rattle.qcow2_image.specs.declared.image.Qcow2.{Qcow2}
 use Rattle.qcow2_image.specs.declared.prepared.Prepared.{Prepared}
 use Rattle.qcow2_alloc.specs.LowestRuns.{IsUsed, NoFreeBelowHint, KeepsNoFreeBelowHint, BrokeOff}
-use Rattle.qcow2_metadata.specs.L2Mapping.{IsHostCluster}
 use Rattle.qcow2_alloc.proofs.FileInvariants.{file_invariant_of}
 use Rattle.qcow2_image.specs.Ranges.{TakesDataAt}
 use Rattle.qcow2_image.specs.UnseenSteps.{pending_with_listed, is_announced, IsFilled, UnseenFillingStep, RefusedFillingStep, HoldsAll, ListGrows, TakesData}
@@ -86,7 +86,7 @@ module _ {S F : Type 0} (view : S → StorageView) (backing : F → BackingView)
 
     -- so does a cluster that was asked for
     pub takes_data_at : (cluster : ℕ) (r : Result (Option ClustersToFreeEntry) ImageError) → AllocatesAt view p old.file a file since cluster r
-        → IfOk r (λ run. IsNone run → (IsHostCluster old.file.header.fields.cluster_bits cluster → ⊥) ⊎ IsUsed view file cluster) → KeepsNoFreeBelowHint view a file r → TakesDataAt view backing p old taken out cluster r
+        → IfOk r (λ run. IsNone run → IsPastLimits old.file.header.fields cluster ⊎ IsUsed view file cluster) → KeepsNoFreeBelowHint view a file r → TakesDataAt view backing p old taken out cluster r
     takes_data_at cluster (Ok (Some n)) is none hint =
         let run : run_at cluster 1 ≡ run_of n = ap (λ c. run_at c 1) (sym is.0) ∙ ap (λ m. run_at n.first_cluster m) (sym is.1) in (
           is.0,

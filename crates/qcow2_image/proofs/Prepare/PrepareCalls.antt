@@ -12,11 +12,9 @@ use Rattle.qcow2_image.specs.declared.image.Qcow2.{Qcow2}
 use Rattle.qcow2_image.specs.declared.prepared.Prepared.{Prepared}
 use Rattle.qcow2_image.specs.Calls.{Prepares}
 use Rattle.qcow2_image.specs.Image.{number_of, is_failed, has_noted_change}
-use Rattle.qcow2_image.specs.ListedClusters.{PreparesList}
 use Rattle.qcow2_image.specs.CallParts.{IsExisting, IsReadied, PreparesRange}
 use Rattle.qcow2_image.proofs.Call.Marked.{MayMarkBy}
 use Rattle.qcow2_image.specs.ImageInvariant.{pending_in, abstract_of, meaning, ImageInvariant}
-use Rattle.qcow2_image.proofs.Prepare.Listing.{lists_as}
 use Rattle.qcow2_image.proofs.Prepare.Preparing.{readied_existing}
 use Rattle.qcow2_image.proofs.Call.CallOutcomes.{outcome_answered}
 use Rattle.qcow2_image.proofs.Call.Refused.{refuses_left}
@@ -40,13 +38,3 @@ module _ {S F : Type 0} (view : S → StorageView) (backing : F → BackingView)
         AnsweredEffect v w [] [] (IsPrepared v.setting.cluster_size (guest_of v).disk offset n overwrite (meaning view backing (record new { is_failed = f }) p) × (guest_of w ≡ with_slot (guest_of v) k (Some (meaning view backing (record new { is_failed = f }) p))))) (sym marks)
         (outcome_answered view backing old new out (slice_set out k (Some p)) [] (λ sound. (ready sound).works) (λ sound. (ready sound).sound) number usable (λ sound. ((ready sound).prepared, (ready sound).is)))
     prepares_with_outcome offset n overwrite (Err e) marks memory readies = λ out. refuses_left view backing out old usable new marked number e marks memory (readies out)
-
--- ---- the list of clusters to be freed
-module _ {S F : Type 0} where
-  -- a call notes anew whether anything changes, prepares a range, and perhaps marks the image as failed
-  pub lists_begun : (old begun new : Qcow2 S F) (failed : Bool) (offset : ℕ) (r : Result Prepared ImageError) → begun ≡ record old { file = record old.file { storage = begun.file.storage; caches = begun.file.caches } }
-      → PreparesList offset begun new r → PreparesList offset old (record new { is_failed = failed }) r
-  lists_begun old begun new failed offset (Ok p) rest lists = record {
-    lists = lists_as offset old begun new failed rest lists.lists;
-  }
-  lists_begun old begun new failed offset (Err e) rest lists = lists

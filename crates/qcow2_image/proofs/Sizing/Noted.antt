@@ -1,5 +1,5 @@
 -- What a call noted is seen by no guest: what it did, it did also to the image with other notes.
-use Rattle.std.proofs.Common.{◌≡◌, ◌-◌, Bool, Option, Some, None, List, ℕ, inl, inr, refl, sym, subst}
+use Rattle.std.proofs.Common.{◌≡◌, Bool, Option, Some, None, List, ℕ, inl, inr, refl, sym, subst}
 use Rattle.std.specs.Prelude.{IfSome, Result, Ok, Err}
 use Rattle.image_access.specs.Backing.{BackingView}
 use Rattle.image_access.specs.Moments.{StorageView}
@@ -19,7 +19,6 @@ use Rattle.qcow2_image.specs.Image.{is_failed, with_marks}
 use Rattle.qcow2_image.specs.ImageInvariant.{ImageInvariant, abstract_of, pending_in}
 use Rattle.qcow2_image.specs.Resizing.{GrowsTables, GrowsTo, RefusesUnchanged, Shrinks}
 use Rattle.qcow2_image.proofs.Call.FaultCounts.{counted_since, counted_still}
-use Rattle.qcow2_image.proofs.Sizing.LackedTables.{reaching_marked}
 
 module _ {S F : Type 0} (view : S → StorageView) (backing : F → BackingView) where
   reftable_noted : (image : Qcow2 S F) (noted : Bool) (o : Option Allocator) → IfSome o (IsAllocatorOf view image.file) → IfSome o (IsAllocatorOf view (with_marks image noted (is_failed image)).file)
@@ -92,7 +91,7 @@ module _ {S F : Type 0} (view : S → StorageView) (backing : F → BackingView)
         zeros = λ zero lacks. unchanged_noted out e (tables.zeros zero lacks);
         version = λ zero lacks. elim (tables.version zero lacks) [
           | inl is ↦ inl is
-          | inr other ↦ elim other [ inl fault ↦ inr (inl fault) | inr limit ↦ inr (inr (limit.0, reaching_marked view old image noted (is_failed image) (size - 1) limit.1)) ]
+          | inr other ↦ inr other
         ];
       }
 

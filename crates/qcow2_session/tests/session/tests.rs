@@ -5,6 +5,7 @@ mod flushes;
 mod images;
 mod mappings;
 mod overlays;
+mod recorded;
 mod sizes;
 mod writes;
 

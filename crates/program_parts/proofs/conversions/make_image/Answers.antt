@@ -17,7 +17,7 @@ use Rattle.qcow2_alloc.proofs.AllocationSteps.{fault_of_storage}
 use Rattle.qcow2_alloc.specs.ImageError.{IsFault}
 use Rattle.qcow2_alloc.specs.declared.error.ImageError.TheVariants.{InvalidOption, Limit}
 use Rattle.qcow2_image.specs.Created.{IsReasonNotToCreate, IsReasonNotToCreateOpen, longest_disk}
-use Rattle.program_parts.proofs.Refused.{asked_so, err_then, header_is, met_once_created, no_layout, not_refused, of_err, of_layout, opening_refused, untouched}
+use Rattle.program_parts.proofs.Refused.{allocates_alone, asked_so, err_then, header_is, met_once_created, no_layout, not_refused, of_err, of_layout, opening_refused, unnamed, untouched}
 use Rattle.program_parts.proofs.conversions.make_image.Goals as goal
 
 pub returns-in-Ok-open_alone-clause-image : goal.returns-in-Ok-open_alone-clause-image
@@ -35,16 +35,16 @@ returns-in-Ok-open_alone-clause-image g c = λ raw_honest honest.
     let width_is : c.refcount_width.result.refcount_width ≡ c.args.width = ap (λ (b : Qcow2CreateBuilder g.row.S.Denot). b.refcount_width) built in
     let made = of_ok _ c.create-storage.result.1 c.in_default.field-0 c.in_default.is (c.create-storage.ensures.created (subst (λ s. (view s).is_honest) (sym image_is) honest)) in
     let first : IsImageOfSize c.refcount_width.result.size (byte_at (view c.create-storage.result.0).contents) = new_image c.refcount_width.result.preallocate _ _ made.new_disk in
-    let since = c.in-Ok-open_alone.ensures.since made.honest first.consistent in
+    let since = c.in-Ok-open_alone.ensures.step.since made.honest first.consistent in
     let then : IsImageOfSize c.refcount_width.result.size (byte_at (view (storage_of_image c.in-Ok-open_alone.image)).contents) = once_opened c.refcount_width.result.size (view c.create-storage.result.0) (view (storage_of_image c.in-Ok-open_alone.image)) first since in
     let from = c.in-Ok-open_alone.ensures.opens made.honest (new_disk_consistent c.refcount_width.result.preallocate c.refcount_width.result.size (byte_at (view c.create-storage.result.0).contents) made.new_disk) in
-    let writable = c.in-Ok-open_alone.ensures.ok.2 in
+    let writable = c.in-Ok-open_alone.ensures.image.writable_is in
     ok_both c.fill-imported.result (λ n imports empty.
     subst (λ b. IsImageOf (view c.into_storage.result) b c.args.cluster c.args.width) (c.size.ensures.same raw_honest)
     (subst (λ s. IsImageOf (view s) bytes c.args.cluster c.args.width) (sym c.into_storage.ensures)
     (subst (λ k. IsImageOf (view (storage_of_image c.fill-imported.new.image)) bytes k c.args.width) (made.clusters ∙ clusters_are)
     (has_image view _ c.in-Ok-open_alone.image c.fill-imported.new.image bytes n c.args.width (header (byte_at (view c.create-storage.result.0).contents))
-    (counts_imported view _ c.in-Ok-open_alone.image c.fill-imported.new.image c.refcount_width.result.size bytes (Ok n) imports from.opened then ∙ counts_opened c.refcount_width.result.size _ _ first since ∙ made.counts ∙ width_is) from.opened c.in-Ok-open_alone.ensures.below (c.in-Ok-open_alone.ensures.format made.honest) writable
+    (counts_imported view _ c.in-Ok-open_alone.image c.fill-imported.new.image c.refcount_width.result.size bytes (Ok n) imports from.opened then ∙ counts_opened c.refcount_width.result.size _ _ first since ∙ made.counts ∙ width_is) from.opened c.in-Ok-open_alone.ensures.below (c.in-Ok-open_alone.ensures.image.format made.honest) writable
     (λ k. ap (λ (f : ℕ → ℕ). f k) from.surplus ∙ made.no_leaks k) c.fill-imported.ensures.image empty imports))))
     (c.fill-imported.ensures.sees (c.size.ensures.calls.honest raw_honest)) (c.fill-imported.ensures.emptied writable)
 
@@ -74,7 +74,7 @@ returns-in-Err-open_alone-clause-faults g c =
     in
     let first = ap (λ s. (view s).faults) image_is in
     let made = (subst (λ (r : Result _ _). FaultsTold (view c.refcount_width.result.image).faults (view c.create-storage.result.0).faults r) c.in_default.is c.create-storage.ensures.faults).told in
-    image_refused _ _ _ _ _ c.in-Err-open_alone.e (made ∙ first) c.in-Ok.ensures.calls.cause.told (told_opening view (view c.create-storage.result.0).faults c.in-Err-open_alone.storage c.in-Err-open_alone.e c.in-Err-open_alone.ensures.faults)
+    image_refused _ _ _ _ _ c.in-Err-open_alone.e (made ∙ first) c.in-Ok.ensures.calls.cause.told (told_opening view (view c.create-storage.result.0).faults c.in-Err-open_alone.storage c.in-Err-open_alone.e c.in-Err-open_alone.ensures.step.faults)
 
 pub returns-in-Ok-open_alone-clause-faults : goal.returns-in-Ok-open_alone-clause-faults
 returns-in-Ok-open_alone-clause-faults g c =
@@ -85,7 +85,7 @@ returns-in-Ok-open_alone-clause-faults g c =
     in
     let first = ap (λ s. (view s).faults) image_is in
     let made = (subst (λ (r : Result _ _). FaultsTold (view c.refcount_width.result.image).faults (view c.create-storage.result.0).faults r) c.in_default.is c.create-storage.ensures.faults).told in
-    both_since _ _ _ _ _ _ _ (c.in-Ok-open_alone.ensures.faults.told ∙ made ∙ first) c.in-Ok.ensures.calls.cause.told (both_of view _ (λ b. refl) c.in-Ok-open_alone.image c.fill-imported.new.image c.into_storage.result _ _ c.fill-imported.result c.fill-imported.ensures.faults c.into_storage.ensures)
+    both_since _ _ _ _ _ _ _ (c.in-Ok-open_alone.ensures.step.faults.told ∙ made ∙ first) c.in-Ok.ensures.calls.cause.told (both_of view _ (λ b. refl) c.in-Ok-open_alone.image c.fill-imported.new.image c.into_storage.result _ _ c.fill-imported.result c.fill-imported.ensures.faults c.into_storage.ensures)
 
 pub returns-in-Err-created-clause-stops : goal.returns-in-Err-created-clause-stops
 returns-in-Err-created-clause-stops g c = λ raw_honest honest.
@@ -123,7 +123,7 @@ returns-in-Err-open_alone-clause-stops g c = λ raw_honest honest.
     let from = subst (λ s. (view s).is_honest) (sym image_is) honest in
     let created = of_ok _ c.create-storage.result.1 c.in_default.field-0 c.in_default.is (c.create-storage.ensures.created from) in
     let first : IsImageOfSize n (byte_at made.contents) = new_image c.refcount_width.result.preallocate n _ created.new_disk in
-    let since = c.in-Err-open_alone.ensures.since created.honest first.consistent in
+    let since = c.in-Err-open_alone.ensures.step.since created.honest first.consistent in
     subst (λ s. EachMomentSince (view s) opened (λ b. IsStopOfMaking (length raw) (byte_at b))) image_is
     (subst (λ n. EachMomentSince start opened (λ b. IsStopOfMaking n (byte_at b))) size_is
     (then_opened n start made opened (while_created c.refcount_width.result.preallocate n start made (c.create-storage.ensures.stops from)) (while_opened n made opened first since)))
@@ -148,7 +148,7 @@ returns-in-Ok-open_alone-clause-stops g c = λ raw_honest honest.
     let from = subst (λ s. (view s).is_honest) (sym image_is) honest in
     let created = of_ok _ c.create-storage.result.1 c.in_default.field-0 c.in_default.is (c.create-storage.ensures.created from) in
     let first : IsImageOfSize n (byte_at made.contents) = new_image c.refcount_width.result.preallocate n _ created.new_disk in
-    let since = c.in-Ok-open_alone.ensures.since created.honest first.consistent in
+    let since = c.in-Ok-open_alone.ensures.step.since created.honest first.consistent in
     let filling = c.fill-imported.ensures.stops n (c.in-Ok-open_alone.ensures.opens created.honest first.consistent).opened (once_opened n made opened first since) in
     subst (λ s. EachMomentSince (view c.args.storage) (view s) (λ b. IsStopOfMaking (length raw) (byte_at b))) (sym c.into_storage.ensures)
     (subst (λ s. EachMomentSince (view s) filled (λ b. IsStopOfMaking (length raw) (byte_at b))) image_is
@@ -172,7 +172,7 @@ returns-in-Err-created-clause-limit g c = λ honest layout long.
     let asked = asked_so c.args.storage c.in-Ok.size c.args.cluster c.args.width c.new.result c.size-2.result c.cluster_size.result c.refcount_width.result c.new.ensures c.size-2.ensures c.cluster_size.ensures c.refcount_width.ensures in
     let built = c.refcount_width.result in
     let far : longest_disk built.cluster_size < built.size = subst (λ (b : Qcow2CreateBuilder g.row.S.Denot). longest_disk b.cluster_size < b.size) (sym asked) (subst (λ n. longest_disk c.args.cluster < n) (sym (c.in-Ok.ensures.size honest)) long) in
-    untouched c.args.storage c.in-Ok.size c.args.cluster c.args.width c.refcount_width.result asked c.create-storage.result.0 c.create-storage.result.1 c.in-Err-created.e Limit c.in-Err-created.is (c.create-storage.ensures.limit (of_layout c.args.storage c.in-Ok.size c.args.cluster c.args.width c.refcount_width.result asked layout) far)
+    untouched c.args.storage c.in-Ok.size c.args.cluster c.args.width c.refcount_width.result asked c.create-storage.result.0 c.create-storage.result.1 c.in-Err-created.e Limit c.in-Err-created.is (c.create-storage.ensures.limit (of_layout c.args.storage c.in-Ok.size c.args.cluster c.args.width c.refcount_width.result asked layout) (allocates_alone c.args.storage c.in-Ok.size c.args.cluster c.args.width c.refcount_width.result asked) far)
 
 pub returns-in-Err-open_alone-clause-refused : goal.returns-in-Err-open_alone-clause-refused
 returns-in-Err-open_alone-clause-refused g c = λ none.
@@ -184,7 +184,7 @@ returns-in-Err-open_alone-clause-limit g c = λ honest layout long.
     let asked = asked_so c.args.storage c.in-Ok.size c.args.cluster c.args.width c.new.result c.size-2.result c.cluster_size.result c.refcount_width.result c.new.ensures c.size-2.ensures c.cluster_size.ensures c.refcount_width.ensures in
     let built = c.refcount_width.result in
     let far : longest_disk built.cluster_size < built.size = subst (λ (b : Qcow2CreateBuilder g.row.S.Denot). longest_disk b.cluster_size < b.size) (sym asked) (subst (λ n. longest_disk c.args.cluster < n) (sym (c.in-Ok.ensures.size honest)) long) in
-    not_refused c.create-storage.result.1 c.in_default.field-0 Limit c.in_default.is (c.create-storage.ensures.limit (of_layout c.args.storage c.in-Ok.size c.args.cluster c.args.width c.refcount_width.result asked layout) far)
+    not_refused c.create-storage.result.1 c.in_default.field-0 Limit c.in_default.is (c.create-storage.ensures.limit (of_layout c.args.storage c.in-Ok.size c.args.cluster c.args.width c.refcount_width.result asked layout) (allocates_alone c.args.storage c.in-Ok.size c.args.cluster c.args.width c.refcount_width.result asked) far)
 
 pub returns-in-Ok-open_alone-clause-refused : goal.returns-in-Ok-open_alone-clause-refused
 returns-in-Ok-open_alone-clause-refused g c = λ none.
@@ -196,11 +196,11 @@ returns-in-Ok-open_alone-clause-limit g c = λ honest layout long.
     let asked = asked_so c.args.storage c.in-Ok.size c.args.cluster c.args.width c.new.result c.size-2.result c.cluster_size.result c.refcount_width.result c.new.ensures c.size-2.ensures c.cluster_size.ensures c.refcount_width.ensures in
     let built = c.refcount_width.result in
     let far : longest_disk built.cluster_size < built.size = subst (λ (b : Qcow2CreateBuilder g.row.S.Denot). longest_disk b.cluster_size < b.size) (sym asked) (subst (λ n. longest_disk c.args.cluster < n) (sym (c.in-Ok.ensures.size honest)) long) in
-    not_refused c.create-storage.result.1 c.in_default.field-0 Limit c.in_default.is (c.create-storage.ensures.limit (of_layout c.args.storage c.in-Ok.size c.args.cluster c.args.width c.refcount_width.result asked layout) far)
+    not_refused c.create-storage.result.1 c.in_default.field-0 Limit c.in_default.is (c.create-storage.ensures.limit (of_layout c.args.storage c.in-Ok.size c.args.cluster c.args.width c.refcount_width.result asked layout) (allocates_alone c.args.storage c.in-Ok.size c.args.cluster c.args.width c.refcount_width.result asked) far)
 
 pub returns-in-Err-clause-cause : goal.returns-in-Err-clause-cause
 returns-in-Err-clause-cause g c = λ raw_honest honest.
-    inl (inl (fault_reason (asked_for c.args.storage (length (g.R.Storage.view c.args.raw.now).contents) c.args.cluster c.args.width) g.S.Storage.view c.args.storage _ (subst IsFault (sym c.from.ensures) (fault_of_storage c.in-Err.e))))
+    inl (fault_reason (asked_for c.args.storage (length (g.R.Storage.view c.args.raw.now).contents) c.args.cluster c.args.width) g.S.Storage.view _ (subst IsFault (sym c.from.ensures) (fault_of_storage c.in-Err.e)))
 
 pub returns-in-Err-created-clause-cause : goal.returns-in-Err-created-clause-cause
 returns-in-Err-created-clause-cause g c = λ raw_honest honest.
@@ -208,8 +208,8 @@ returns-in-Err-created-clause-cause g c = λ raw_honest honest.
     let asked = asked_so c.args.storage c.in-Ok.size c.args.cluster c.args.width c.new.result c.size-2.result c.cluster_size.result c.refcount_width.result c.new.ensures c.size-2.ensures c.cluster_size.ensures c.refcount_width.ensures ∙ ap (λ n. asked_for c.args.storage n c.args.cluster c.args.width) (c.in-Ok.ensures.size raw_honest) in
     let from = subst (λ (b : Qcow2CreateBuilder g.row.S.Denot). (view b.image).is_honest) (sym asked) honest in
     let e = c.in-Err-created.e in
-    inl (inl (subst (λ (b : Qcow2CreateBuilder g.row.S.Denot). IsReasonNotToCreate view b c.create-storage.result.0 e) asked
-    (of_err (IsReasonNotToCreate view c.refcount_width.result c.create-storage.result.0) c.create-storage.result.1 e c.in-Err-created.is (c.create-storage.ensures.cause from))))
+    inl (subst (λ (b : Qcow2CreateBuilder g.row.S.Denot). IsReasonNotToCreate view b e) asked
+    (of_err (IsReasonNotToCreate view c.refcount_width.result) c.create-storage.result.1 e c.in-Err-created.is (c.create-storage.ensures.cause from)))
 
 pub returns-in-Err-open_alone-clause-cause : goal.returns-in-Err-open_alone-clause-cause
 returns-in-Err-open_alone-clause-cause g c = λ raw_honest honest.
@@ -218,7 +218,7 @@ returns-in-Err-open_alone-clause-cause g c = λ raw_honest honest.
     let from = subst (λ (b : Qcow2CreateBuilder g.row.S.Denot). (view b.image).is_honest) (sym asked) honest in
     let made = of_ok _ c.create-storage.result.1 c.in_default.field-0 c.in_default.is (c.create-storage.ensures.created from) in
     inl (subst (λ (b : Qcow2CreateBuilder g.row.S.Denot). IsReasonNotToCreateOpen view b (c.in-Err-open_alone.storage, c.in-Err-open_alone.e)) asked
-    (opening_refused view c.refcount_width.result c.create-storage.result.0 (c.in-Err-open_alone.storage, c.in-Err-open_alone.e) made c.in-Err-open_alone.ensures.storage c.in-Err-open_alone.ensures.cause))
+    (opening_refused view c.refcount_width.result c.create-storage.result.0 (c.in-Err-open_alone.storage, c.in-Err-open_alone.e) (unnamed c.args.storage _ c.args.cluster c.args.width c.refcount_width.result asked) made c.in-Err-open_alone.ensures.step.cause))
 
 pub returns-in-Ok-open_alone-clause-cause : goal.returns-in-Ok-open_alone-clause-cause
 returns-in-Ok-open_alone-clause-cause g c = λ raw_honest honest.
@@ -233,8 +233,8 @@ returns-in-Ok-open_alone-clause-cause g c = λ raw_honest honest.
     let created = of_ok _ c.create-storage.result.1 c.in_default.field-0 c.in_default.is (c.create-storage.ensures.created from) in
     let first : IsImageOfSize n (byte_at made.contents) = new_image c.refcount_width.result.preallocate n _ created.new_disk in
     let is = (c.in-Ok-open_alone.ensures.opens created.honest first.consistent).opened in
-    let then = once_opened n made opened first (c.in-Ok-open_alone.ensures.since created.honest first.consistent) in
+    let then = once_opened n made opened first (c.in-Ok-open_alone.ensures.step.since created.honest first.consistent) in
     let sized = ap (λ (h : HeaderFields). h.size) (header_is view _ image is opened.contents refl) ∙ then.size in
     err_then c.fill-imported.result (λ e met. inr (subst (λ k. IsMetOnceCreated view k c.into_storage.result e) size_is met))
-    (met_once_created view n image c.fill-imported.new.image c.into_storage.result c.fill-imported.result c.into_storage.ensures sized c.in-Ok-open_alone.ensures.ok.2 c.fill-imported.ensures.image (c.fill-imported.ensures.stands n is then)
+    (met_once_created view n image c.fill-imported.new.image c.into_storage.result c.fill-imported.result c.into_storage.ensures sized c.in-Ok-open_alone.ensures.image.writable_is c.fill-imported.ensures.image (c.fill-imported.ensures.stands n is then)
     (c.fill-imported.ensures.met (c.size.ensures.calls.honest raw_honest) (ap length (c.size.ensures.same raw_honest) ∙ sym size_is ∙ sym sized) is))

@@ -90,7 +90,7 @@ finish view q old new t block at (Err e) allocator_step faults first new_data st
 
 pub returns-in_err-flush_rb-clause-sound : goal.returns-in_err-flush_rb-clause-sound
 returns-in_err-flush_rb-clause-sound g c = λ p d t range at sound place fits is.
-    let one = counted g.S.Storage.view d p range at c.args.file.now t c.flush_rb.new.storage c.flush_rb.new.self sound c.flush_rb.ensures.keeps c.flush_rb.ensures.marks in
+    let one = counted g.S.Storage.view d p range at c.args.file.now t c.flush_rb.new.storage c.flush_rb.new.self sound c.flush_rb.ensures.sound.keeps c.flush_rb.ensures.step.marks.pins in
     handed_on (WritesBlock g.S.Storage.view (placing d p at) c.args.file.now t (record c.args.file.now { storage = c.flush_rb.new.storage; caches = c.flush_rb.new.self }) c.args.block at)
     c.from_residual.result c.in_err-flush_rb.field-0.0 c.from_residual.ensures
     (c.in_err-flush_rb.ensures.faults c.args.file.now.header.fields (placing d p at) sound.sound.honest sound.sound.caches sound.sound.named_blocks, inl (one.file_step, one.reftable))
@@ -98,8 +98,8 @@ returns-in_err-flush_rb-clause-sound g c = λ p d t range at sound place fits is
 pub returns-in_err-place_refblock-clause-sound : goal.returns-in_err-place_refblock-clause-sound
 returns-in_err-place_refblock-clause-sound g c = λ p d t range at sound place fits is.
     let whole = subst (λ (b : RefBlockView). length b.bytes ≡ 2 ^ b.cluster_bits) c.block.view_is c.block.invariant.whole.whole in
-    let two = still g.S.Storage.view d p range at c.args.file.now t c.flush_rb.new.storage c.flush_rb.new.self sound c.flush_rb.ensures.keeps c.flush_rb.ensures.marks (storage_of c.will_write.new.self) c.place_refblock.new.self
-    c.args.block c.place_refblock.result c.in_ok-flush_rb.ensures.first place fits is whole c.will_write.ensures.storage c.place_refblock.ensures.written c.place_refblock.ensures.calls in
+    let two = still g.S.Storage.view d p range at c.args.file.now t c.flush_rb.new.storage c.flush_rb.new.self sound c.flush_rb.ensures.sound.keeps c.flush_rb.ensures.step.marks.pins (storage_of c.will_write.new.self) c.place_refblock.new.self
+    c.args.block c.place_refblock.result c.in_ok-flush_rb.ensures.flushes.first place fits is whole c.will_write.ensures.storage c.place_refblock.ensures.written c.place_refblock.ensures.calls in
     handed_on (WritesBlock g.S.Storage.view (placing d p at) c.args.file.now t (record c.args.file.now { storage = c.place_refblock.new.self; caches = c.flush_rb.new.self }) c.args.block at)
     c.from_residual-in_err-place_refblock.result (of_storage c.in_err-place_refblock.field-0.0) c.from_residual-in_err-place_refblock.ensures (fault_of_storage c.in_err-place_refblock.field-0.0, inl (two.file_step, two.reftable))
 
@@ -109,58 +109,63 @@ returns-clause-sound g c = λ p d t range at sound place fits is.
     let whole = subst (λ (b : RefBlockView). length b.bytes ≡ 2 ^ b.cluster_bits) c.block.view_is c.block.invariant.whole.whole in
     let long = whole ∙ ap (λ n. 2 ^ n) fits.bits in
     let f2 : ImageFile g.row.S.Denot = record c.args.file.now { storage = c.place_refblock.new.self; caches = c.flush_rb.new.self } in
-    let two = still g.S.Storage.view d p range at c.args.file.now t c.flush_rb.new.storage c.flush_rb.new.self sound c.flush_rb.ensures.keeps c.flush_rb.ensures.marks (storage_of c.will_write.new.self) c.place_refblock.new.self
-    c.args.block c.place_refblock.result c.in_ok-flush_rb.ensures.first place fits is whole c.will_write.ensures.storage c.place_refblock.ensures.written c.place_refblock.ensures.calls in
-    let stands = stand_there g.S.Storage.view d p range at c.args.file.now t c.flush_rb.new.storage c.flush_rb.new.self sound c.flush_rb.ensures.keeps c.flush_rb.ensures.marks (storage_of c.will_write.new.self) c.place_refblock.new.self
-    c.args.block c.place_refblock.result c.in_ok-flush_rb.ensures.first place fits is whole c.will_write.ensures.storage c.place_refblock.ensures.written c.place_refblock.ensures.calls c.in_ok-place_refblock.field-0 c.in_ok-place_refblock.was in
+    let two = still g.S.Storage.view d p range at c.args.file.now t c.flush_rb.new.storage c.flush_rb.new.self sound c.flush_rb.ensures.sound.keeps c.flush_rb.ensures.step.marks.pins (storage_of c.will_write.new.self) c.place_refblock.new.self
+    c.args.block c.place_refblock.result c.in_ok-flush_rb.ensures.flushes.first place fits is whole c.will_write.ensures.storage c.place_refblock.ensures.written c.place_refblock.ensures.calls in
+    let stands = stand_there g.S.Storage.view d p range at c.args.file.now t c.flush_rb.new.storage c.flush_rb.new.self sound c.flush_rb.ensures.sound.keeps c.flush_rb.ensures.step.marks.pins (storage_of c.will_write.new.self) c.place_refblock.new.self
+    c.args.block c.place_refblock.result c.in_ok-flush_rb.ensures.flushes.first place fits is whole c.will_write.ensures.storage c.place_refblock.ensures.written c.place_refblock.ensures.calls c.in_ok-place_refblock.field-0 c.in_ok-place_refblock.was in
     let room : HasPlaceFor d h t.reftable range at = record { none = place.none; first = place.first } in
     let cleared : IsBlockOf h (cleared_rb c.args.block) = record { bits = fits.bits; order = fits.order } in
-    let known = holds_known g.S.Storage.view d p range at f2 t.reftable two.file_step.sound two.reftable c.in_ok-flush_rb.ensures.first room c.args.block fits long stands in
-    let keeps = subst (λ (b : RefBlockView). PutSound g.S.Storage.view c.place_refblock.new.self c.flush_rb.new.self c.rb_insert.new.storage c.rb_insert.new.self (λ h. IsBlockOf h b) b.cluster b.bytes b.is_modified) c.clear_modified.ensures c.rb_insert.ensures.keeps in
+    let known = holds_known g.S.Storage.view d p range at f2 t.reftable two.file_step.sound two.reftable c.in_ok-flush_rb.ensures.flushes.first room c.args.block fits long stands in
+    let keeps = subst (λ (b : RefBlockView). PutSound g.S.Storage.view c.place_refblock.new.self c.flush_rb.new.self c.rb_insert.new.storage c.rb_insert.new.self (λ h. IsBlockOf h b) b.cluster b.bytes b.is_modified) c.clear_modified.ensures c.rb_insert.ensures.sound.keeps in
     let faults = subst (λ (b : RefBlockView). PutRefusesBy IsFault g.S.Storage.view c.place_refblock.new.self c.flush_rb.new.self (λ h. IsBlockOf h b) b.cluster b.bytes b.is_modified c.rb_insert.result) c.clear_modified.ensures (c.rb_insert.ensures.faults two.file_step.sound.room) in
     let stays = keeps h (placing d p at) two.file_step.sound.honest two.file_step.sound.caches cleared refl (rw is known) in
-    let three = allocator_step_cached g.S.Storage.view (placing d p at) f2 t c.rb_insert.new.storage c.rb_insert.new.self (is_sound_now g.S.Storage.view (placing d p at) (placing d p at) c.args.file.now f2 t two) stays c.rb_insert.ensures.marks in
+    let three = allocator_step_cached g.S.Storage.view (placing d p at) f2 t c.rb_insert.new.storage c.rb_insert.new.self (is_sound_now g.S.Storage.view (placing d p at) (placing d p at) c.args.file.now f2 t two) stays c.rb_insert.ensures.step.marks.pins in
     finish g.S.Storage.view (placing d p at) c.args.file.now (record f2 { storage = c.rb_insert.new.storage; caches = c.rb_insert.new.self }) t c.args.block at c.rb_insert.result
     (allocator_step_then g.S.Storage.view (placing d p at) (placing d p at) c.args.file.now f2 (record f2 { storage = c.rb_insert.new.storage; caches = c.rb_insert.new.self }) t t two three)
     (faults h (placing d p at) two.file_step.sound.honest two.file_step.sound.caches two.file_step.sound.named_blocks cleared refl (rw is known))
-    (c.rb_insert.ensures.first c.in_ok-flush_rb.ensures.first)
+    (c.rb_insert.ensures.written.first c.in_ok-flush_rb.ensures.flushes.first)
     (subst (λ (o : Option ℕ). OnOk c.rb_insert.result (IfSome o (λ k. rb_at c.rb_insert.new.self k ≡ Some (cleared_rb c.args.block)))) is
-    (subst (λ (b : RefBlockView). OnOk c.rb_insert.result (IfSome b.cluster (λ k. rb_at c.rb_insert.new.self k ≡ Some b))) c.clear_modified.ensures c.rb_insert.ensures.cached))
-    (λ first. still_stands g.S.Storage.view d p range at f2 t.reftable two.file_step.sound two.reftable c.in_ok-flush_rb.ensures.first room c.args.block fits long stands c.rb_insert.new.storage c.rb_insert.new.self stays c.rb_insert.ensures.marks first)
+    (subst (λ (b : RefBlockView). OnOk c.rb_insert.result (IfSome b.cluster (λ k. rb_at c.rb_insert.new.self k ≡ Some b))) c.clear_modified.ensures c.rb_insert.ensures.puts.cached))
+    (λ first. still_stands g.S.Storage.view d p range at f2 t.reftable two.file_step.sound two.reftable c.in_ok-flush_rb.ensures.flushes.first room c.args.block fits long stands c.rb_insert.new.storage c.rb_insert.new.self stays c.rb_insert.ensures.step.marks.pins first)
 
-pub returns-in_err-flush_rb-clause-header_cluster : goal.returns-in_err-flush_rb-clause-header_cluster
-returns-in_err-flush_rb-clause-header_cluster g c = λ r bits. spares_cached r c.args.file.now c.flush_rb.new.storage c.flush_rb.new.self c.flush_rb.ensures.header_cluster
+pub returns-in_err-flush_rb-clause-step : goal.returns-in_err-flush_rb-clause-step
+returns-in_err-flush_rb-clause-step g c = record {
+  header = refl;
+  list = refl;
+  marks = c.flush_rb.ensures.step.marks;
+  header_cluster = λ r bits. spares_cached r c.args.file.now c.flush_rb.new.storage c.flush_rb.new.self c.flush_rb.ensures.step.header_cluster;
+}
 
-pub returns-in_err-place_refblock-clause-header_cluster : goal.returns-in_err-place_refblock-clause-header_cluster
-returns-in_err-place_refblock-clause-header_cluster g c = λ r bits. spares_then (spares_cached r c.args.file.now c.flush_rb.new.storage c.flush_rb.new.self c.flush_rb.ensures.header_cluster) (spares_written r (record c.args.file.now { storage = c.flush_rb.new.storage; caches = c.flush_rb.new.self }) c.args.block.cluster_bits c.place_refblock.new.self bits (subst (λ s. KeepsHeaderCluster c.args.block.cluster_bits (g.S.Storage.view s) (g.S.Storage.view (storage_of c.place_refblock.new.self))) c.will_write.ensures.storage c.place_refblock.ensures.header_cluster))
+pub returns-in_err-place_refblock-clause-step : goal.returns-in_err-place_refblock-clause-step
+returns-in_err-place_refblock-clause-step g c = record {
+  header = refl;
+  list = refl;
+  marks = kept_marks_then c.flush_rb.ensures.step.marks (marks_of_storage refl (placed_kept c.flush_rb.new.storage c.will_write.new.self c.place_refblock.new.self c.place_refblock.result c.will_write.ensures.storage c.will_write.ensures.changed c.args.block.cluster _ c.requires.placed c.place_refblock.ensures.written c.place_refblock.ensures.calls c.place_refblock.ensures.noted));
+  header_cluster = λ r bits. spares_then (spares_cached r c.args.file.now c.flush_rb.new.storage c.flush_rb.new.self c.flush_rb.ensures.step.header_cluster) (spares_written r (record c.args.file.now { storage = c.flush_rb.new.storage; caches = c.flush_rb.new.self }) c.args.block.cluster_bits c.place_refblock.new.self bits (subst (λ s. KeepsHeaderCluster c.args.block.cluster_bits (g.S.Storage.view s) (g.S.Storage.view (storage_of c.place_refblock.new.self))) c.will_write.ensures.storage c.place_refblock.ensures.header_cluster));
+}
 
-pub returns-clause-header_cluster : goal.returns-clause-header_cluster
-returns-clause-header_cluster g c = λ r bits.
-    let f2 : ImageFile g.row.S.Denot = record c.args.file.now { storage = c.place_refblock.new.self; caches = c.flush_rb.new.self } in
-    let put_in = at_place c.args.block.cluster c.requires.placed c.requires.elsewhere
-    (subst (λ (b : RefBlockView). IfSome b.cluster (λ k. 0 < k → CachesSpareHeader g.S.Storage.view c.place_refblock.new.self c.flush_rb.new.self c.rb_insert.new.storage c.rb_insert.new.self)) c.clear_modified.ensures c.rb_insert.ensures.header_cluster) in
-    spares_then (spares_then (spares_cached r c.args.file.now c.flush_rb.new.storage c.flush_rb.new.self c.flush_rb.ensures.header_cluster) (spares_written r (record c.args.file.now { storage = c.flush_rb.new.storage; caches = c.flush_rb.new.self }) c.args.block.cluster_bits c.place_refblock.new.self bits (subst (λ s. KeepsHeaderCluster c.args.block.cluster_bits (g.S.Storage.view s) (g.S.Storage.view (storage_of c.place_refblock.new.self))) c.will_write.ensures.storage c.place_refblock.ensures.header_cluster))) (spares_cached r f2 c.rb_insert.new.storage c.rb_insert.new.self put_in)
-
-pub returns-in_err-flush_rb-clause-marks : goal.returns-in_err-flush_rb-clause-marks
-returns-in_err-flush_rb-clause-marks g c = marks_of_both c.flush_rb.ensures.marks c.flush_rb.ensures.order c.flush_rb.ensures.notes
-
-pub returns-in_err-place_refblock-clause-marks : goal.returns-in_err-place_refblock-clause-marks
-returns-in_err-place_refblock-clause-marks g c = kept_marks_then (marks_of_both c.flush_rb.ensures.marks c.flush_rb.ensures.order c.flush_rb.ensures.notes) (marks_of_storage refl (placed_kept c.flush_rb.new.storage c.will_write.new.self c.place_refblock.new.self c.place_refblock.result c.will_write.ensures.storage c.will_write.ensures.changed c.args.block.cluster _ c.requires.placed c.place_refblock.ensures.written c.place_refblock.ensures.calls c.place_refblock.ensures.noted))
-
-pub returns-clause-marks : goal.returns-clause-marks
-returns-clause-marks g c =
-    kept_marks_then (kept_marks_then (marks_of_both c.flush_rb.ensures.marks c.flush_rb.ensures.order c.flush_rb.ensures.notes) (marks_of_storage refl (placed_kept c.flush_rb.new.storage c.will_write.new.self c.place_refblock.new.self c.place_refblock.result c.will_write.ensures.storage c.will_write.ensures.changed c.args.block.cluster _ c.requires.placed c.place_refblock.ensures.written c.place_refblock.ensures.calls c.place_refblock.ensures.noted)))
-    (marks_of_both c.rb_insert.ensures.marks c.rb_insert.ensures.order c.rb_insert.ensures.notes)
+pub returns-clause-step : goal.returns-clause-step
+returns-clause-step g c = record {
+  header = refl;
+  list = refl;
+  marks = kept_marks_then (kept_marks_then c.flush_rb.ensures.step.marks (marks_of_storage refl (placed_kept c.flush_rb.new.storage c.will_write.new.self c.place_refblock.new.self c.place_refblock.result c.will_write.ensures.storage c.will_write.ensures.changed c.args.block.cluster _ c.requires.placed c.place_refblock.ensures.written c.place_refblock.ensures.calls c.place_refblock.ensures.noted)))
+      c.rb_insert.ensures.step.marks;
+  header_cluster = λ r bits.
+      let f2 : ImageFile g.row.S.Denot = record c.args.file.now { storage = c.place_refblock.new.self; caches = c.flush_rb.new.self } in
+      let put_in = at_place c.args.block.cluster c.requires.placed c.requires.elsewhere
+      (subst (λ (b : RefBlockView). IfSome b.cluster (λ k. 0 < k → CachesSpareHeader g.S.Storage.view c.place_refblock.new.self c.flush_rb.new.self c.rb_insert.new.storage c.rb_insert.new.self)) c.clear_modified.ensures c.rb_insert.ensures.step.header_cluster) in
+      spares_then (spares_then (spares_cached r c.args.file.now c.flush_rb.new.storage c.flush_rb.new.self c.flush_rb.ensures.step.header_cluster) (spares_written r (record c.args.file.now { storage = c.flush_rb.new.storage; caches = c.flush_rb.new.self }) c.args.block.cluster_bits c.place_refblock.new.self bits (subst (λ s. KeepsHeaderCluster c.args.block.cluster_bits (g.S.Storage.view s) (g.S.Storage.view (storage_of c.place_refblock.new.self))) c.will_write.ensures.storage c.place_refblock.ensures.header_cluster))) (spares_cached r f2 c.rb_insert.new.storage c.rb_insert.new.self put_in);
+}
 
 pub returns-clause-noted : goal.returns-clause-noted
-returns-clause-noted g c = on_ok _ c.rb_insert.result (c.rb_insert.ensures.notes.changes.noted c.in_ok-place_refblock.ensures.noted.0)
+returns-clause-noted g c = on_ok _ c.rb_insert.result (c.rb_insert.ensures.step.marks.notes.changes.noted c.in_ok-place_refblock.ensures.noted.0)
 
 pub returns-in_err-flush_rb-clause-fails : goal.returns-in_err-flush_rb-clause-fails
-returns-in_err-flush_rb-clause-fails g c = fails_on c.from_residual.result c.in_err-flush_rb.field-0.0 c.from_residual.ensures (fails_of (Err c.in_err-flush_rb.field-0.0) c.in_err-flush_rb.ensures.storage_faults c.in_err-flush_rb.ensures.cause)
+returns-in_err-flush_rb-clause-fails g c = fails_on c.from_residual.result c.in_err-flush_rb.field-0.0 c.from_residual.ensures c.in_err-flush_rb.ensures.fails
 
 pub returns-in_err-place_refblock-clause-fails : goal.returns-in_err-place_refblock-clause-fails
 returns-in_err-place_refblock-clause-fails g c =
-    fails_since (same_faults g.S.Storage.view c.will_write.ensures.storage ∙ c.in_ok-flush_rb.ensures.storage_faults.told) (fails_storage c.from_residual-in_err-place_refblock.result c.in_err-place_refblock.field-0.0 c.from_residual-in_err-place_refblock.ensures c.in_err-place_refblock.ensures.calls.cause)
+    fails_since (same_faults g.S.Storage.view c.will_write.ensures.storage ∙ c.in_ok-flush_rb.ensures.fails.told) (fails_storage c.from_residual-in_err-place_refblock.result c.in_err-place_refblock.field-0.0 c.from_residual-in_err-place_refblock.ensures c.in_err-place_refblock.ensures.calls.cause)
 
 pub returns-clause-fails : goal.returns-clause-fails
-returns-clause-fails g c = fails_since (c.in_ok-place_refblock.ensures.calls.cause.told ∙ (same_faults g.S.Storage.view c.will_write.ensures.storage ∙ c.in_ok-flush_rb.ensures.storage_faults.told)) (fails_of c.rb_insert.result c.rb_insert.ensures.storage_faults c.rb_insert.ensures.cause)
+returns-clause-fails g c = fails_since (c.in_ok-place_refblock.ensures.calls.cause.told ∙ (same_faults g.S.Storage.view c.will_write.ensures.storage ∙ c.in_ok-flush_rb.ensures.fails.told)) c.rb_insert.ensures.fails

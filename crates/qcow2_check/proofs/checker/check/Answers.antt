@@ -1,5 +1,5 @@
 use Rattle.std.proofs.Common.{◌∙◌}
-use Rattle.qcow2_check.specs.Tallies.{tally_in}
+use Rattle.qcow2_check.specs.Counted.{counted_in}
 use Rattle.qcow2_check.proofs.Reported.{all_breaches, all_leaks}
 use Rattle.qcow2_check.proofs.NoBreaches.{all_end, breaches_told}
 use Rattle.qcow2_check.proofs.checker.check.Goals as goal
@@ -9,19 +9,19 @@ returns-clause-breaches g c honest =
     let honest1 = c.in_ok-header.ensures.reading.honest honest in
     all_breaches _ _ _ _ _ _ _ _ (c.in_ok-findings.ensures.tallies honest1) (c.in_ok-header.ensures.reading.same honest) (c.in_ok-header.ensures.fields honest) _ _ _ _
     c.new-breaches.ensures.items c.in_ok-add_header_lines.ensures c.in_ok-add_unaligned.ensures
-    (c.in_ok-add_breaches.ensures (tally_in c.in_ok-findings.findings.names.clusters) (c.deref.ensures.value ∙ c.in_ok-told.ensures))
+    (c.in_ok-add_breaches.ensures (counted_in c.in_ok-findings.findings.names.clusters c.in_ok-findings.findings.counts) (c.deref.ensures.value ∙ c.in_ok-told.ensures))
 
 pub returns-clause-leaks : goal.returns-clause-leaks
 returns-clause-leaks g c honest =
     let honest1 = c.in_ok-header.ensures.reading.honest honest in
-    all_leaks _ _ _ _ _ _ _ _ (c.in_ok-findings.ensures.tallies honest1) (c.in_ok-header.ensures.reading.same honest) (c.in_ok-header.ensures.fields honest) _ _
-    c.new-leaks.ensures.items (c.in_ok-add_leaks.ensures (tally_in c.in_ok-findings.findings.names.clusters) (c.deref-2.ensures.value ∙ c.in_ok-told.ensures))
+    all_leaks _ _ _ _ _ _ _ _ (c.in_ok-findings.ensures.tallies honest1) (c.in_ok-header.ensures.reading.same honest) (c.in_ok-header.ensures.fields honest) _
+    c.new-leaks.ensures
 
 pub returns-clause-consistent : goal.returns-clause-consistent
 returns-clause-consistent g c honest =
     let honest1 = c.in_ok-header.ensures.reading.honest honest in
     let found = c.in_ok-findings.findings in
     breaches_told _ _ _ _ _ (c.in_ok-header.ensures.reading.same honest) (c.in_ok-header.ensures.fields honest)
-    (c.in_ok-header.ensures.ok honest) (c.in_ok-findings.ensures.tables honest1)
-    (all_end _ _ found.names.clusters found.offsets.l2_tables.clusters found.offsets.refblocks.clusters found.offsets.data.clusters (c.in_ok-findings.ensures.tallies honest1) found.names.near found.offsets.l2_tables.near found.offsets.refblocks.near found.offsets.data.near)
+    (c.in_ok-header.ensures.ok honest) c.in_ok-findings.ensures.fits (c.in_ok-findings.ensures.tables honest1)
+    (all_end _ _ found.names.clusters found.offsets.l2_tables.clusters found.offsets.refblocks.clusters found.offsets.data.clusters found.counts (c.in_ok-findings.ensures.tallies honest1) found.names.near found.offsets.l2_tables.near found.offsets.refblocks.near found.offsets.data.near)
     (returns-clause-breaches g c honest)

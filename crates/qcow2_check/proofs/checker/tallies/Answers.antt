@@ -3,8 +3,8 @@ use Rattle.std.proofs.lemmas.Result.{err_from_is_err_and}
 use Rattle.qcow2_metadata.specs.Bytes.{byte_at}
 use Rattle.qcow2_metadata.specs.Entries.{l1_entry, reftable_entry, count, L1EntryReads, ReftableEntryReads}
 use Rattle.qcow2_metadata.specs.TableBytes.{entry_at}
-use Rattle.qcow2_check.specs.declared.tally.Tally.{Tally}
-use Rattle.qcow2_check.specs.Tallies.{TalliesGrow, CountsAll}
+use Rattle.qcow2_check.specs.Tallies.{TalliesGrow}
+use Rattle.qcow2_check.specs.Counted.{count_in}
 use Rattle.qcow2_check.specs.Offsets.{tables_off, blocks_off, off_l2_tables, off_refblocks, data_off_below}
 use Rattle.qcow2_check.proofs.OffsetSteps.{counted_off, all_tables_off, all_blocks_off}
 use Rattle.qcow2_check.specs.Marks.{named_below, tables_below, marked_below}
@@ -40,14 +40,11 @@ returns-in_err-names_of_l1_table-clause-refused g c honest =
     let p = err_from_is_err_and c.from_residual-in_err-names_of_l1_table.result c.from_residual-in_err-names_of_l1_table.ensures.1 in
     rw (p.1, p.2) (uncounted _ _ _ c.in_err-names_of_l1_table.ensures.causes)
 
-pub counts_of_reftable-requires-clause-fresh : goal.counts_of_reftable-requires-clause-fresh
-counts_of_reftable-requires-clause-fresh g c q = ap (λ (t : Tally). t.count) (c.new-names.ensures.none q)
-
-pub returns-in_err-counts_of_reftable-clause-refused :
-    goal.returns-in_err-counts_of_reftable-clause-refused
-returns-in_err-counts_of_reftable-clause-refused g c honest =
-    let p = err_from_is_err_and c.from_residual-in_err-counts_of_reftable.result c.from_residual-in_err-counts_of_reftable.ensures.1 in
-    rw (p.1, p.2) (uncounted _ _ _ c.in_err-counts_of_reftable.ensures.causes)
+pub returns-in_err-counts-clause-refused :
+    goal.returns-in_err-counts-clause-refused
+returns-in_err-counts-clause-refused g c honest =
+    let p = err_from_is_err_and c.from_residual-in_err-counts.result c.from_residual-in_err-counts.ensures.1 in
+    rw (p.1, p.2) (uncounted _ _ _ c.in_err-counts.ensures.causes)
 
 pub returns-clause-tallies : goal.returns-clause-tallies
 returns-clause-tallies g c honest =
@@ -57,10 +54,10 @@ returns-clause-tallies g c honest =
     let blocks = c.deref-4.result.now in
     let honest1 = c.in_ok-l1.ensures.reading.honest honest in
     let honest2 = c.in_ok-reftable.ensures.reading.honest honest1 in
-    let honest3 = c.in_ok-counts_of_reftable.ensures.reading.honest honest2 in
+    let honest3 = c.in_ok-counts.ensures.reading.honest honest2 in
     let same1 : (g.S.Storage.view c.load_l1_entries.new.storage).contents ≡ b = c.in_ok-l1.ensures.reading.same honest in
     let same2 : (g.S.Storage.view c.load_reftable_entries.new.storage).contents ≡ b = c.in_ok-reftable.ensures.reading.same honest1 ∙ same1 in
-    let same3 : (g.S.Storage.view c.counts_of_reftable.new.storage).contents ≡ b = c.in_ok-counts_of_reftable.ensures.reading.same honest2 ∙ same2 in
+    let same3 : (g.S.Storage.view c.load.new.storage).contents ≡ b = c.in_ok-counts.ensures.reading.same honest2 ∙ same2 in
     let L1 : List ℕ → Type 0 = λ b. (i : ℕ) → entry_at l1 i ≡ l1_entry h (byte_at b) i in
     let l1_is : L1 b = λ i. ap (λ t. entry_at t i) c.deref-5.ensures.value ∙ c.in_ok-l1.ensures.entries honest i in
     let R : List ℕ → List ℕ → Type 0 = λ t b. (k : ℕ) → entry_at t k ≡ reftable_entry h (byte_at b) k in
@@ -68,7 +65,7 @@ returns-clause-tallies g c honest =
     let blocks_are : R blocks b = subst (λ t. R t b) (sym c.deref-4.ensures.value) reftable_is in
     let counts_are : R c.deref-3.result.now b = subst (λ t. R t b) (sym c.deref-3.ensures.value) reftable_is in
     let G : List ℕ → Type 0 = λ b. TalliesGrow c.names_of_reftable.new.names.clusters c.names_of_l1_table.new.names.clusters (named_below h (byte_at b) (length l1 / 8)) (tables_below h (byte_at b) (length l1 / 8)) (marked_below h (byte_at b) (length l1 / 8)) in
-    let C : List ℕ → Type 0 = λ b. CountsAll c.new-names.result.clusters c.counts_of_reftable.new.names.clusters (count h (byte_at b)) in
+    let C : List ℕ → Type 0 = λ b. (q : ℕ) → count_in c.in_ok-counts.counts q ≡ count h (byte_at b) q in
     let T : List ℕ → Type 0 = λ b. TalliesGrow c.new-offsets.result.data.clusters c.names_of_l1_table.new.offsets.clusters (data_off_below h (byte_at b) (length l1 / 8)) (λ _. 0) (λ _. 0) in
     let l1_long : length l1 / 8 ≡ h.l1_entries = omega (arith, c.in_ok-l1.ensures.length, ap length c.deref-5.ensures.value) in
     let head_l1 : (i : ℕ) → entry_at c.deref.result.now i ≡ l1_entry h (byte_at b) i = λ i. ap (λ t. entry_at t i) c.deref.ensures.value ∙ c.in_ok-l1.ensures.entries honest i in
@@ -82,7 +79,7 @@ returns-clause-tallies g c honest =
           (omega (arith, c.in_ok-reftable.ensures.length, ap length c.deref-4.ensures.value))
           blocks_are
           c.new-names.ensures.none
-          (subst C same2 (c.in_ok-counts_of_reftable.ensures.counts honest2 (subst (R c.deref-3.result.now) (sym same2) counts_are)))
+          (subst C same2 (c.in_ok-counts.ensures.counts honest2 (subst (R c.deref-3.result.now) (sym same2) counts_are)))
           c.in_ok-names_of_header.ensures.grows c.in_ok-names_of_reftable.ensures.grows
           (subst G same3 (c.in_ok-names_of_l1_table.ensures.grows honest3 (subst L1 (sym same3) l1_is)));
       l2_tables_are = counted_off (tables_off h c.deref.result.now (length c.deref.result.now / 8)) (off_l2_tables h (byte_at b)) _ _ c.new-offsets.ensures.l2_tables

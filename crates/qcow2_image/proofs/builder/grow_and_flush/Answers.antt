@@ -2,7 +2,7 @@ use Rattle.std.proofs.Common.{[], refl, subst}
 use Rattle.qcow2_image.proofs.Call.FaultCounts.{counted_on, counted_since, untouched}
 use Rattle.qcow2_alloc.specs.ImageFile.{view_in}
 use Rattle.qcow2_alloc.proofs.AllocationSteps.{handed_on}
-use Rattle.qcow2_image.specs.Created.{CantGrowBy, Enlarges, GrowsBy}
+use Rattle.qcow2_image.specs.Created.{Enlarges, GrowsBy}
 use Rattle.qcow2_image.proofs.Create.Causes.{usable_opened}
 use Rattle.qcow2_image.proofs.Create.Leaks.{no_leaks_flushed}
 use Rattle.qcow2_image.proofs.Create.TakingPlace.{grown_by, refused_by}
@@ -51,10 +51,10 @@ returns-clause-leaks g c = λ opened writable none.
 
 pub returns-in_err-grow_by-clause-limit : goal.returns-in_err-grow_by-clause-limit
 returns-in_err-grow_by-clause-limit g c = λ usable sound.
-    hands_limit (λ e. CantGrowBy g.S.Storage.view g.F.BackingDisk.backing c.args.mode c.args.size c.args.image.now c.grow_by.new.image) c.from_residual.result c.in_err-grow_by.field-0.0 c.from_residual.ensures
+    hands_limit c.from_residual.result c.in_err-grow_by.field-0.0 c.from_residual.ensures
     (c.in_err-grow_by.ensures.limit usable sound)
 
 pub returns-clause-limit : goal.returns-clause-limit
 returns-clause-limit g c = λ usable sound.
     let grew = c.in_ok-grow_by.ensures.surplus usable sound in
-    unlimited_all c.flush.result (λ e. CantGrowBy g.S.Storage.view g.F.BackingDisk.backing c.args.mode c.args.size c.args.image.now c.flush.new.self) (faults_unlimited c.flush.result (c.flush.ensures.fault [] grew.sound))
+    unlimited_all c.flush.result _ (faults_unlimited c.flush.result (c.flush.ensures.fault [] grew.sound))

@@ -1,12 +1,15 @@
-use Rattle.std.proofs.Common.{[], inl, ◌-◌, sym, subst}
-use Rattle.qcow2_image.specs.Created.{CantGrowBy, GrowsBy}
-use Rattle.qcow2_image.specs.Growing.{LosesNone}
-use Rattle.qcow2_image.specs.LackedTables.{LacksTableReaching}
+use Rattle.qcow2_image.proofs.Prepare.Lacked.{goes_step, limits_since}
+use Rattle.qcow2_image.proofs.Call.ImageSteps.{step_none}
+use Rattle.qcow2_image.proofs.Preallocate.Grown.{up_least}
+use Rattle.std.proofs.lemmas.Nat.{pow_pos}
+use Rattle.qcow2_metadata.specs.Header.{cluster_size}
+use Rattle.qcow2_image.specs.Image.{size_of}
+use Rattle.std.proofs.Common.{[], ◌-◌, sym, subst}
+use Rattle.qcow2_image.specs.Created.{GrowsBy}
 use Rattle.qcow2_image.proofs.Create.Faults.{grown_fault}
 use Rattle.qcow2_image.proofs.Sizing.ShrinkCalls.{resize_works}
 use Rattle.qcow2_image.proofs.Create.Leaks.{surplus_taken, taking_limited}
 use Rattle.qcow2_image.proofs.Create.TakingPlace.{takes_by}
-use Rattle.qcow2_image.proofs.Prepare.Lacked.{limits_as}
 use Rattle.qcow2_image.proofs.builder.grow_by.Goals as goal
 
 pub returns-in-None-clause-grows : goal.returns-in-None-clause-grows
@@ -37,13 +40,8 @@ returns-in_default-clause-surplus g c = λ usable sound.
 
 pub returns-in-None-clause-limit : goal.returns-in-None-clause-limit
 returns-in-None-clause-limit g c = λ usable sound.
-    let view = g.S.Storage.view in
-    let old = c.args.image.now in
-    let new = c.grow.new.self in
-    let below = g.F.BackingDisk.backing in
-    limits_as (λ e. LacksTableReaching view (c.args.size - 1) old new × LosesNone view below old new) (λ e. CantGrowBy view below c.args.mode c.args.size old new) c.grow.result (λ e lacks. (inl lacks.0, lacks.1)) (c.grow.ensures.limit sound)
+    let h = c.args.image.now.file.header.fields in
+    limits_since _ c.grow.result (up_least (cluster_size h) c.args.size (pow_pos h.cluster_bits)) (goes_step step_none) (c.grow.ensures.limit sound)
 
 pub returns-in_default-clause-limit : goal.returns-in_default-clause-limit
-returns-in_default-clause-limit g c = λ usable sound.
-    let does = c.resize_grow.ensures in
-    taking_limited g.S.Storage.view g.F.BackingDisk.backing c.args.image.now c.resize_grow.new.self c.args.size c.args.mode c.resize_grow.result sound (does.no_larger usable) does.image does.sees (λ lt. does.limit usable lt [] sound)
+returns-in_default-clause-limit g c = λ usable sound. taking_limited _ (size_of c.args.image.now) c.args.size c.resize_grow.result (λ le. (c.resize_grow.ensures.no_larger usable le).0) (λ lt. c.resize_grow.ensures.limit usable lt [] sound)

@@ -5,7 +5,6 @@ use Rattle.qcow2_metadata.specs.Header.{header}
 use Rattle.qcow2_alloc.specs.ImageFile.{view_in}
 use Rattle.qcow2_alloc.specs.ImageStorage.{storage_of}
 use Rattle.qcow2_laws.specs.Opened.{HasNoLeaks}
-use Rattle.qcow2_image.specs.Created.{CantEnlarge, CantGrowBy}
 use Rattle.qcow2_image.proofs.Create.Causes.{opening_unlimited, told_closed, told_opening, usable_opened}
 use Rattle.qcow2_image.proofs.Create.Faults.{opening_fault, unmapped_opened}
 use Rattle.qcow2_image.proofs.Create.Creating.{opening_stops, opens_unwritten, enlarged_so, unwritten_mid}
@@ -14,51 +13,51 @@ use Rattle.qcow2_image.proofs.Prepare.Lacked.{limits_as, other_limit}
 use Rattle.qcow2_image.proofs.builder.grow_new_image.Goals as goal
 
 pub returns-in-Err-clause-enlarges : goal.returns-in-Err-clause-enlarges
-returns-in-Err-clause-enlarges g c = λ honest unwritten. opening_stops c.args.mode c.args.size (g.S.Storage.view (storage_of c.args.storage)) (g.S.Storage.view c.in-Err.storage) unwritten (c.in-Err.ensures.since honest unwritten.consistent)
+returns-in-Err-clause-enlarges g c = λ honest unwritten. opening_stops c.args.mode c.args.size (g.S.Storage.view (storage_of c.args.storage)) (g.S.Storage.view c.in-Err.storage) unwritten (c.in-Err.ensures.step.since honest unwritten.consistent)
 
 pub returns-in-Ok-clause-enlarges : goal.returns-in-Ok-clause-enlarges
 returns-in-Ok-clause-enlarges g c = λ honest unwritten.
     let view = g.S.Storage.view in
     let below = g.F.BackingDisk.backing in
     let opened = (c.in-Ok.ensures.opens honest unwritten.consistent).opened in
-    let since = c.in-Ok.ensures.since honest unwritten.consistent in
-    let format = c.in-Ok.ensures.format honest in
-    let uncleared : (header (byte_at (view (storage_of c.args.storage)).contents)).autoclear ≡ 0 → (view_in view c.in-Ok.image.file).contents ≡ (view (storage_of c.args.storage)).contents = λ none. (c.in-Ok.ensures.storage.contents honest).contents ∙ opened_none true (view (storage_of c.args.storage)).contents none in
+    let since = c.in-Ok.ensures.step.since honest unwritten.consistent in
+    let format = c.in-Ok.ensures.image.format honest in
+    let uncleared : (header (byte_at (view (storage_of c.args.storage)).contents)).autoclear ≡ 0 → (view_in view c.in-Ok.image.file).contents ≡ (view (storage_of c.args.storage)).contents = λ none. (c.in-Ok.ensures.step.storage.contents honest).contents ∙ opened_none true (view (storage_of c.args.storage)).contents none in
     let mid = unwritten_mid view below c.args.mode c.args.size (storage_of c.args.storage) c.in-Ok.image unwritten since opened format uncleared in
     enlarged_so view below c.args.mode c.args.size (storage_of c.args.storage) c.in-Ok.image unwritten since opened format uncleared c.grow_and_flush-done.new.image c.into_storage.result c.grow_and_flush-done.result
-    c.into_storage.ensures (c.grow_and_flush-done.ensures.enlarges opened c.in-Ok.ensures.ok.2 c.in-Ok.ensures.below mid)
+    c.into_storage.ensures (c.grow_and_flush-done.ensures.enlarges opened c.in-Ok.ensures.image.writable_is c.in-Ok.ensures.below mid)
 
 pub returns-in-Err-clause-fault : goal.returns-in-Err-clause-fault
-returns-in-Err-clause-fault g c = λ honest unwritten third. opening_fault (g.S.Storage.view (storage_of c.args.storage)).contents unwritten.consistent c.in-Err.refusal (c.in-Err.ensures.cause.1 honest)
+returns-in-Err-clause-fault g c = λ honest unwritten third. opening_fault (g.S.Storage.view (storage_of c.args.storage)).contents unwritten.consistent c.in-Err.refusal (c.in-Err.ensures.step.cause.1 honest)
 
 pub returns-in-Err-clause-faults : goal.returns-in-Err-clause-faults
-returns-in-Err-clause-faults g c = λ none. told_opening g.S.Storage.view (g.S.Storage.view (storage_of c.args.storage)).faults c.in-Err.storage c.in-Err.refusal c.in-Err.ensures.faults
+returns-in-Err-clause-faults g c = λ none. told_opening g.S.Storage.view (g.S.Storage.view (storage_of c.args.storage)).faults c.in-Err.storage c.in-Err.refusal c.in-Err.ensures.step.faults
 
 pub returns-in-Ok-clause-fault : goal.returns-in-Ok-clause-fault
 returns-in-Ok-clause-fault g c = λ honest unwritten third.
     let view = g.S.Storage.view in
     let below = g.F.BackingDisk.backing in
     let opened = (c.in-Ok.ensures.opens honest unwritten.consistent).opened in
-    let still = opens_unwritten 0 (view (storage_of c.args.storage)) (view_in view c.in-Ok.image.file) unwritten (c.in-Ok.ensures.since honest unwritten.consistent) in
-    let unmapped = unmapped_opened view below c.in-Ok.image (header (byte_at (view (storage_of c.args.storage)).contents)) 0 opened still third (c.in-Ok.ensures.format honest) in
-    c.grow_and_flush-done.ensures.fault (usable_opened view below c.in-Ok.image opened c.in-Ok.ensures.ok.2) c.in-Ok.ensures.ok.2 c.in-Ok.ensures.below opened.sound unmapped
+    let still = opens_unwritten 0 (view (storage_of c.args.storage)) (view_in view c.in-Ok.image.file) unwritten (c.in-Ok.ensures.step.since honest unwritten.consistent) in
+    let unmapped = unmapped_opened view below c.in-Ok.image (header (byte_at (view (storage_of c.args.storage)).contents)) 0 opened still third (c.in-Ok.ensures.image.format honest) in
+    c.grow_and_flush-done.ensures.fault (usable_opened view below c.in-Ok.image opened c.in-Ok.ensures.image.writable_is) c.in-Ok.ensures.image.writable_is c.in-Ok.ensures.below opened.sound unmapped
 
 pub returns-in-Ok-clause-faults : goal.returns-in-Ok-clause-faults
 returns-in-Ok-clause-faults g c = λ none.
-    told_closed g.S.Storage.view g.F.BackingDisk.backing none (g.S.Storage.view (storage_of c.args.storage)).faults c.in-Ok.image c.grow_and_flush-done.new.image c.into_storage.result c.grow_and_flush-done.result c.in-Ok.ensures.faults.told
+    told_closed g.S.Storage.view g.F.BackingDisk.backing none (g.S.Storage.view (storage_of c.args.storage)).faults c.in-Ok.image c.grow_and_flush-done.new.image c.into_storage.result c.grow_and_flush-done.result c.in-Ok.ensures.step.faults.told
     c.grow_and_flush-done.ensures.faults c.into_storage.ensures
 
 pub returns-in-Ok-clause-leaks : goal.returns-in-Ok-clause-leaks
 returns-in-Ok-clause-leaks g c = λ honest unwritten none.
     let opens = c.in-Ok.ensures.opens honest unwritten.consistent in
-    let flushed = c.grow_and_flush-done.ensures.leaks opens.opened c.in-Ok.ensures.ok.2 (λ k. ap (λ (f : ℕ → ℕ). f k) opens.surplus ∙ none k) in
+    let flushed = c.grow_and_flush-done.ensures.leaks opens.opened c.in-Ok.ensures.image.writable_is (λ k. ap (λ (f : ℕ → ℕ). f k) opens.surplus ∙ none k) in
     subst (λ s. OnOk c.grow_and_flush-done.result (HasNoLeaks (byte_at (g.S.Storage.view s).contents))) (sym c.into_storage.ensures) flushed
 
 pub returns-in-Err-clause-limit : goal.returns-in-Err-clause-limit
 returns-in-Err-clause-limit g c = λ honest unwritten new_image uncleared.
     let view = g.S.Storage.view in
     let contents = (view (storage_of c.args.storage)).contents in
-    other_limit (CantEnlarge view g.F.BackingDisk.backing c.args.mode c.args.size contents _) c.in-Err.refusal (opening_unlimited contents c.in-Err.refusal new_image (c.in-Err.ensures.cause.1 honest))
+    other_limit _ c.in-Err.refusal (opening_unlimited contents c.in-Err.refusal new_image (c.in-Err.ensures.step.cause.1 honest))
 
 pub returns-in-Ok-clause-limit : goal.returns-in-Ok-clause-limit
 returns-in-Ok-clause-limit g c = λ honest unwritten new_image uncleared.
@@ -66,18 +65,13 @@ returns-in-Ok-clause-limit g c = λ honest unwritten new_image uncleared.
     let below = g.F.BackingDisk.backing in
     let contents = (view (storage_of c.args.storage)).contents in
     let image = c.in-Ok.image in
-    let left = c.grow_and_flush-done.new.image in
     let is = (c.in-Ok.ensures.opens honest unwritten.consistent).opened in
-    limits_as (λ e. CantGrowBy view below c.args.mode c.args.size image left) (λ e. CantEnlarge view below c.args.mode c.args.size contents c.into_storage.result) c.grow_and_flush-done.result
-    (λ e lacks. record {
+    limits_as c.grow_and_flush-done.result
+    (λ met. record {
       opened = image;
       is_opened = is;
-      stands = (c.in-Ok.ensures.storage.contents honest).contents ∙ opened_none true contents uncleared;
+      stands = (c.in-Ok.ensures.step.storage.contents honest).contents ∙ opened_none true contents uncleared;
       emptied = c.in-Ok.ensures.list honest unwritten.consistent;
-      left = left;
-      is_left = sym c.into_storage.ensures;
-      lacks = lacks.0;
-      keeps = lacks.1.0;
-      leaks = lacks.1.1;
+      limit = met;
     })
-    (c.grow_and_flush-done.ensures.limit (usable_opened view below image is c.in-Ok.ensures.ok.2) is.sound)
+    (c.grow_and_flush-done.ensures.limit (usable_opened view below image is c.in-Ok.ensures.image.writable_is) is.sound)

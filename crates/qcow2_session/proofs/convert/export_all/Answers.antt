@@ -1,5 +1,4 @@
-use Rattle.std.proofs.Common.{◌≡◌, ◌∙◌, ◌+◌, ◌≤◌, refl, sym, [], length, take, subst, arith, rules}
-use Rattle.std.proofs.lemmas.Grind.{common_steps}
+use Rattle.std.proofs.Common.{◌≡◌, ◌∙◌, ◌+◌, ◌-◌, ◌≤◌, refl, sym, [], subst, arith, rules}
 use Rattle.qcow2_image.specs.ImageInvariant.{abstract_of}
 use Rattle.qcow2_session.specs.Conversions.{Fills}
 use Rattle.qcow2_session.proofs.Counting.{converted, converting_part, so_far_none, so_far_part, so_far_then}
@@ -34,18 +33,17 @@ loop-at-preserved g c =
     let view = g.S.Storage.view in
     let below = g.F.BackingDisk.backing in
     record {
-      behind = behind_then c.loop-at.invariant.behind c.export_at.ensures.step.header_cluster;
-      faults = so_far_then g.S.Storage.view g.F.BackingDisk.backing c.args.image.now c.loop-at.image c.export_at.new.image c.loop-at.invariant.faults (so_far_part g.S.Storage.view g.F.BackingDisk.backing c.loop-at.image c.export_at.new.image _ _ c.in_ok-export_at.ensures.step.faults);
-      counted = c.in_ok-export_at.ensures.step.faults.told.1 ∙ c.loop-at.invariant.counted;
-      within = grind (arith, common_steps);
-      image = same_then c.loop-at.invariant.image c.export_at.ensures.step.image;
-      quiet = written_then g.S.Storage.view c.loop-at.invariant.quiet c.export_at.ensures.step.quiet;
-      honest = λ h. c.export_at.ensures.step.honest (c.loop-at.invariant.honest h);
-      same = λ out. does_if (λ h. h.1 ∙ h.0) (does_then {more = []} (λ _ _. none_within (abstract_of view below c.loop-at.image out) []) (c.loop-at.invariant.same out) (c.in_ok-export_at.ensures.step.same out));
+      behind = behind_then c.loop-at.invariant.behind c.export_some.ensures.step.header_cluster;
+      faults = so_far_then g.S.Storage.view g.F.BackingDisk.backing c.args.image.now c.loop-at.image c.export_some.new.image c.loop-at.invariant.faults (so_far_part g.S.Storage.view g.F.BackingDisk.backing c.loop-at.image c.export_some.new.image _ _ c.in_ok-count.ensures.step.faults);
+      counted = c.in_ok-count.ensures.step.faults.told.1 ∙ c.loop-at.invariant.counted;
+      within = omega (arith, c.in_ok-count.ensures.within, c.loop-at-test.true);
+      image = same_then c.loop-at.invariant.image c.export_some.ensures.step.image;
+      quiet = written_then g.S.Storage.view c.loop-at.invariant.quiet c.export_some.ensures.step.quiet;
+      honest = λ h. c.export_some.ensures.step.honest (c.loop-at.invariant.honest h);
+      same = λ out. does_if (λ h. h.1 ∙ h.0) (does_then {more = []} (λ _ _. none_within (abstract_of view below c.loop-at.image out) []) (c.loop-at.invariant.same out) (c.in_ok-count.ensures.step.same out));
       filled = λ h.
-          let long : length (take c.min-count.result c.loop-at.bytes) ≡ c.min-count.result = grind (arith, common_steps) in
-          fills_more view below c.args.image.now c.loop-at.image 0 c.loop-at.at (length (take c.min-count.result c.loop-at.bytes)) c.min-count.result (g.R.Storage.view c.args.raw.now).contents (g.R.Storage.view c.loop-at.raw).contents (g.R.Storage.view c.export_at.new.raw).contents
-          c.loop-at.invariant.same (c.loop-at.invariant.filled h) (c.in_ok-export_at.ensures.sees (c.loop-at.invariant.honest h)) long;
+          fills_more view below c.args.image.now c.loop-at.image 0 c.loop-at.at c.in_ok-count.count c.in_ok-count.count (g.R.Storage.view c.args.raw.now).contents (g.R.Storage.view c.loop-at.raw).contents (g.R.Storage.view c.export_some.new.raw).contents
+          c.loop-at.invariant.same (c.loop-at.invariant.filled h) (c.in_ok-count.ensures.sees (c.loop-at.invariant.honest h)) refl;
     }
 
 pub returns-clause-sees : goal.returns-clause-sees
@@ -53,35 +51,33 @@ returns-clause-sees g c = λ h.
     let done : c.loop-at.at ≡ c.args.size = omega (arith, c.loop-at.invariant.within, c.loop-at-test.false) in
     subst (λ k. Fills g.S.Storage.view g.F.BackingDisk.backing c.args.image.now 0 k (g.R.Storage.view c.args.raw.now).contents (g.R.Storage.view c.loop-at.raw).contents) done (c.loop-at.invariant.filled h)
 
-pub returns-in_err-export_at-clause-met : goal.returns-in_err-export_at-clause-met
-returns-in_err-export_at-clause-met g c = λ none size out sound.
+pub returns-in_err-count-clause-met : goal.returns-in_err-count-clause-met
+returns-in_err-count-clause-met g c = λ none size out sound.
     let view = g.S.Storage.view in
     let below = g.F.BackingDisk.backing in
     let old = c.args.image.now in
     let mid = c.loop-at.image in
-    let e = c.in_err-export_at.field-0.0 in
+    let e = c.in_err-count.field-0.0 in
     let at = c.loop-at.at in
-    let count = length (take c.min-count.result c.loop-at.bytes) in
-    let long : count ≡ c.min-count.result = grind (arith, common_steps) in
-    let upto : at + count ≤ c.args.size = omega (arith, c.min-count.ensures, c.loop-at-test.true, long) in
+    let upto : at + (c.args.size - at) ≤ c.args.size = omega (arith, c.loop-at-test.true) in
     let so_far = c.loop-at.invariant.same out in
     let still = (so_far.answer sound).0 in
     subst (λ r. IfErr r (IsMetReadingRange out 0 c.args.size c.args.image.now.file.header.fields (known_in g.S.Storage.view c.args.image.now.file))) (sym (refused_is _ e c.from_residual.ensures))
-    (reads_part view below out old mid sound still (so_far.acts.works sound) 0 c.args.size at (at + count) e (omega arith) upto
-    (c.in_err-export_at.ensures.met (part_of_disk old mid c.loop-at.invariant.image at count (omega (arith, upto, size)) still.works none) out still))
+    (reads_part view below out old mid sound still (so_far.acts.works sound) 0 c.args.size at (at + (c.args.size - at)) e (omega arith) upto
+    (c.in_err-count.ensures.met (part_of_disk old mid c.loop-at.invariant.image at (c.args.size - at) (omega (arith, upto, size)) still.works none) out still))
 
-pub returns-in_err-export_at-clause-step : goal.returns-in_err-export_at-clause-step
-returns-in_err-export_at-clause-step g c = record {
+pub returns-in_err-count-clause-step : goal.returns-in_err-count-clause-step
+returns-in_err-count-clause-step g c = record {
   image = search rules;
   honest = search rules;
   same = let view = g.S.Storage.view in
       let below = g.F.BackingDisk.backing in
-      unchanged_refused view below c.args.image.now c.export_at.new.image c.in_err-export_at.field-0.0 _ (refused_is _ c.in_err-export_at.field-0.0 c.from_residual.ensures)
-      (λ out. interrupted_if (λ h. h.1 ∙ h.0) (interrupted_then {more = []} (λ _ _. none_within (abstract_of view below c.loop-at.image out) []) (c.loop-at.invariant.same out) (c.in_err-export_at.ensures.step.same out)));
-  faults = converting_part g.S.Storage.view g.F.BackingDisk.backing c.args.image.now c.loop-at.image c.export_at.new.image (g.R.Storage.view c.args.raw.now).faults (g.R.Storage.view c.loop-at.raw).faults (g.R.Storage.view c.export_at.new.raw).faults c.loop-at.invariant.faults c.loop-at.invariant.counted
-      c.export_at.result c.in_err-export_at.field-0.0 _ c.export_at.ensures.step.faults c.in_err-export_at.was (refused_is _ c.in_err-export_at.field-0.0 c.from_residual.ensures);
-  header_cluster = behind_then c.loop-at.invariant.behind c.export_at.ensures.step.header_cluster;
-  quiet = written_then g.S.Storage.view c.loop-at.invariant.quiet c.export_at.ensures.step.quiet;
+      unchanged_refused view below c.args.image.now c.export_some.new.image c.in_err-count.field-0.0 _ (refused_is _ c.in_err-count.field-0.0 c.from_residual.ensures)
+      (λ out. interrupted_if (λ h. h.1 ∙ h.0) (interrupted_then {more = []} (λ _ _. none_within (abstract_of view below c.loop-at.image out) []) (c.loop-at.invariant.same out) (c.in_err-count.ensures.step.same out)));
+  faults = converting_part g.S.Storage.view g.F.BackingDisk.backing c.args.image.now c.loop-at.image c.export_some.new.image (g.R.Storage.view c.args.raw.now).faults (g.R.Storage.view c.loop-at.raw).faults (g.R.Storage.view c.export_some.new.raw).faults c.loop-at.invariant.faults c.loop-at.invariant.counted
+      c.export_some.result c.in_err-count.field-0.0 _ c.export_some.ensures.step.faults c.in_err-count.was (refused_is _ c.in_err-count.field-0.0 c.from_residual.ensures);
+  header_cluster = behind_then c.loop-at.invariant.behind c.export_some.ensures.step.header_cluster;
+  quiet = written_then g.S.Storage.view c.loop-at.invariant.quiet c.export_some.ensures.step.quiet;
 }
 
 pub returns-clause-step : goal.returns-clause-step

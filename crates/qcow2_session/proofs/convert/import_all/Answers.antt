@@ -1,3 +1,4 @@
+use Rattle.qcow2_image.proofs.Prepare.Lacked.{limited_since}
 use Rattle.qcow2_session.proofs.convert.import_all.Goals as goal
 use Rattle.std.proofs.Common.{sym, ◌≡◌, ◌+◌, ◌-◌, ◌%◌, ◌<◌, ◌≤◌, ◌++◌, drop, length, take, refl, ap, ◌∙◌, subst, arith, min, ℕ, rules}
 use Rattle.std.proofs.Math.Nat.{zero-mod, add-mod_right}
@@ -8,12 +9,10 @@ use Rattle.qcow2_disk.specs.Disk.{with_bytes}
 use Rattle.qcow2_disk.specs.AbstractImages.{guest_of, Setting}
 use Rattle.qcow2_image.specs.ImageInvariant.{abstract_of}
 use Rattle.std.specs.Prelude.{IfErr, Ok}
-use Rattle.qcow2_session.specs.Sessions.{cluster_size_of}
 use Rattle.qcow2_session.specs.Conversions.{ImportsAnyOf, IsMetImporting, IsReasonNotToWrite}
 use Rattle.qcow2_session.proofs.Counting.{converted, converting_part, so_far_none, so_far_part, so_far_then}
 use Rattle.qcow2_session.proofs.Differing.{part_kept}
 use Rattle.qcow2_session.proofs.Exporting.{part_of_disk}
-use Rattle.qcow2_session.proofs.ImportLimits.{part_lacks}
 use Rattle.qcow2_session.proofs.Reasons.{importing_within, reason_within}
 use Rattle.qcow2_session.proofs.Converting.{any_more, any_none, any_refused, imports_none, all_more, all_refused, same_range}
 use Rattle.qcow2_session.proofs.Told.{same_then}
@@ -107,13 +106,11 @@ returns-in_err-import_at-clause-late g c = λ none size out sound.
     let first = c.loop-at.invariant.any.2 out in
     let now = (first.answer sound).0 in
     let upto : c.loop-at.at + count ≤ c.args.size = omega (arith, c.min-count.ensures, c.loop-at-test.true, long) in
-    let clusters : cluster_size_of c.loop-at.image ≡ cluster_size_of c.args.image.now = ap (λ (x : Setting). x.cluster_size) (first.acts.works sound).setting in
-    let few : count ≤ cluster_size_of c.loop-at.image = omega (arith, c.min-count.ensures, long, clusters, c.loop-at.auto.wanted, c.requires.wanted) in
     subst (λ r. IfErr r (IsReasonNotToWrite g.S.Storage.view g.F.BackingDisk.backing c.args.image.now c.import_at.new.image 0 c.args.size out)) (sym (refused_is _ c.in_err-import_at.field-0.0 c.from_residual.ensures))
     (reason_within g.S.Storage.view g.F.BackingDisk.backing c.args.image.now c.loop-at.image c.import_at.new.image c.loop-at.invariant.image (ap (λ (x : Setting). x.cluster_size) (first.acts.works sound).setting) 0 c.args.size c.loop-at.at (c.loop-at.at + count)
     (omega arith) (omega (arith, c.min-count.ensures, c.loop-at-test.true, long)) out c.in_err-import_at.field-0.0
-    (part_lacks g.S.Storage.view g.F.BackingDisk.backing c.args.image.now c.loop-at.image c.import_at.new.image c.loop-at.at (c.loop-at.at + count) c.args.size c.loop-at.invariant.any upto clusters)
-    (c.in_err-import_at.ensures.late (part_of_disk c.args.image.now c.loop-at.image c.loop-at.invariant.image c.loop-at.at count (omega (arith, c.min-count.ensures, c.loop-at-test.true, long, size)) now.works none) few out now))
+    (limited_since upto (record { image = c.loop-at.invariant.image; header_cluster = c.loop-at.invariant.behind }))
+    (c.in_err-import_at.ensures.late (part_of_disk c.args.image.now c.loop-at.image c.loop-at.invariant.image c.loop-at.at count (omega (arith, c.min-count.ensures, c.loop-at-test.true, long, size)) now.works none) out now))
 
 pub returns-in_err-import_at-clause-met : goal.returns-in_err-import_at-clause-met
 returns-in_err-import_at-clause-met g c = λ none size out sound.

@@ -7,8 +7,8 @@ use Rattle.qcow2_image.specs.Refusals.{refuses_to_read}
 use Rattle.qcow2_image.proofs.Call.FaultCounts.{faults_then}
 use Rattle.qcow2_image.proofs.Call.MetErrors.{storage_met}
 use Rattle.qcow2_image.proofs.Call.Unlimited.{storage_unlimited}
-use Rattle.qcow2_image.proofs.Prepare.Lacked.{other_limit}
-use Rattle.qcow2_session.proofs.ImportLimits.{left_some, reading_unlimited, write_lacks}
+use Rattle.qcow2_image.proofs.Prepare.Lacked.{limited_since, other_limit}
+use Rattle.qcow2_session.proofs.ImportLimits.{reading_unlimited}
 use Rattle.qcow2_alloc.proofs.AllocationSteps.{fault_of_storage}
 use Rattle.qcow2_alloc.specs.ImageFile.{known_in}
 use Rattle.qcow2_image.specs.MetAlone.{IsMetReadingRange}
@@ -87,12 +87,12 @@ returns-in-Err-clause-any g c = (
 )
 
 pub returns-in_err-read-clause-late : goal.returns-in_err-read-clause-late
-returns-in_err-read-clause-late g c = λ none few out sound.
+returns-in_err-read-clause-late g c = λ none out sound.
     subst (λ r. IfErr r (IsReasonNotToWrite g.S.Storage.view g.F.BackingDisk.backing c.args.image.now c.args.image.now c.args.at (c.args.at + length c.args.wanted.now) out)) (sym (refused_is _ (of_storage c.in_err-read.field-0.0) c.from_residual.ensures))
     (inl (storage_met c.in_err-read.field-0.0, other_limit _ (of_storage c.in_err-read.field-0.0) (storage_unlimited c.in_err-read.field-0.0)))
 
 pub returns-in_err-read_into-clause-late : goal.returns-in_err-read_into-clause-late
-returns-in_err-read_into-clause-late g c = λ none few out sound.
+returns-in_err-read_into-clause-late g c = λ none out sound.
     let old = c.args.image.now in
     let e = c.in_err-read_into.field-0.0 in
     let free = subst (λ n. refuses_to_read c.args.image.now c.args.at n ≡ None) (sym c.requires) none in
@@ -100,19 +100,16 @@ returns-in_err-read_into-clause-late g c = λ none few out sound.
     (inl ((c.in_err-read_into.ensures.late free).0, other_limit _ e (reading_unlimited out c.args.at _ old.file.header.fields (known_in g.S.Storage.view old.file) e (c.in_err-read_into.ensures.met free out sound))))
 
 pub returns-in-Err-clause-late : goal.returns-in-Err-clause-late
-returns-in-Err-clause-late g c = λ none few out sound.
+returns-in-Err-clause-late g c = λ none out sound.
     let first = c.in_ok-read_into.ensures.sees out in
     let now = (first.answer sound).0 in
     let long : length c.read.new.buf ≡ length c.args.wanted.now = grind (arith, common_steps) in
     let view = g.S.Storage.view in
     let below = g.F.BackingDisk.backing in
-    let old = c.args.image.now in
-    let mid = c.read_into.new.image in
-    let new = c.write.new.image in
     subst (λ n. IsReasonNotToWrite view below c.args.image.now c.write.new.image c.args.at (c.args.at + n) out c.in-Err.refusal) long
     (write_reason view below c.args.image.now c.read_into.new.image c.write.new.image c.in_ok-read_into.ensures.step.image (ap (λ (x : Setting). x.cluster_size) (first.acts.works sound).setting) c.args.at (length c.read.new.buf) now.works
     (subst (λ n. refuses_to_read c.args.image.now c.args.at n ≡ None) (sym long) none) out c.in-Err.refusal _ _ c.in-Err.ensures.early c.in-Err.ensures.late (λ free t. c.in-Err.ensures.taken free out now t)
-    (λ free is. write_lacks view below old mid new c.args.at c.read_into.new.bytes c.read.new.buf _ c.in_ok-read_into.ensures.sees (left_some (c.in-Err.ensures.late free).1 (c.in-Err.ensures.ends out now)) (omega (arith, few, long)) (c.in-Err.ensures.limit free out now is)))
+    (λ free is. limited_since (omega arith) (record { image = c.read_into.ensures.step.image; header_cluster = c.read_into.ensures.step.header_cluster }) (c.in-Err.ensures.limit free out now is)))
 
 pub returns-in_err-read-clause-met : goal.returns-in_err-read-clause-met
 returns-in_err-read-clause-met g c = λ none out sound.

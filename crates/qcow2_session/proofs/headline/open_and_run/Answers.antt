@@ -3,10 +3,10 @@ use Rattle.image_access.specs.Backing.{BackingView}
 use Rattle.image_access.specs.Moments.{StorageView}
 use Rattle.qcow2_metadata.specs.Bytes.{Bytes, byte_at}
 use Rattle.qcow2_metadata.specs.Header.{cluster_size}
-use Rattle.qcow2_disk.specs.Headline.{setting_in, shown_below}
-use Rattle.qcow2_disk.specs.Runs.{RefinesDisk}
+use Rattle.qcow2_disk.specs.Headline.{setting_in, shown_below, IsHeadline}
+use Rattle.qcow2_disk.specs.Runs.{RefinesDisk, started}
 use Rattle.qcow2_disk.proofs.RunSteps.{begins}
-use Rattle.qcow2_disk.proofs.Headline.{from_bytes}
+use Rattle.qcow2_disk.proofs.Headline.{from_bytes, stop_consistent}
 use Rattle.qcow2_image.specs.ImageInvariant.{abstract_of, backing_bytes, image_abstraction}
 use Rattle.qcow2_image.proofs.Free.{whole}
 use Rattle.qcow2_image.specs.Opened.{IsKeptSince}
@@ -14,7 +14,7 @@ use Rattle.qcow2_image.specs.Image.{storage_of_image}
 use Rattle.qcow2_session.specs.Commands.{command_of, reply_of}
 use Rattle.qcow2_session.specs.Opening.{bytes_below, missing_beside}
 use Rattle.qcow2_session.specs.Sessions.{IsUntouched}
-use Rattle.qcow2_session.proofs.Opening.{refused_consistent}
+use Rattle.qcow2_session.proofs.Opening.{refused_consistent, kept_opens_again, opens_again}
 use Rattle.qcow2_session.proofs.headline.open_and_run.Goals as goal
 
 -- the bytes of the disk below are those that show where the image has nothing
@@ -43,7 +43,8 @@ returns-clause-headline g c = λ honest consistent stays.
     let opened = c.in-Ok.image in
     let new = c.run-replies.new.image in
     let bytes : Option Bytes = bytes_below below c.args.below in
-    let is = (c.in-Ok.ensures.opens stays honest consistent).opened in
+    let opens = c.in-Ok.ensures.opens stays honest consistent in
+    let is = opens.opened in
     let since : IsKeptSince before (view (storage_of_image opened)) = c.in-Ok.ensures.since honest consistent in
     let setting : (image_abstraction view below).setting opened ≡ setting_in bytes (byte_at before.contents) = λ i. record {
       cluster_size = ap cluster_size (c.in-Ok.ensures.format honest) i;
@@ -53,8 +54,23 @@ returns-clause-headline g c = λ honest consistent stays.
     ⊎_elim
     (λ (none : IsUntouched view below opened new c.run-replies.result.items). inl (none.0, subst (λ (image : _). IsKeptSince before (view (storage_of_image image))) (sym none.1) since))
     (λ (refines : RefinesDisk (image_abstraction view below) opened new (map command_of c.args.commands.now) (map reply_of c.run-replies.result.items)).
-    inr (from_bytes (image_abstraction view below) before bytes opened new _ _ consistent (g.S.Storage.only_now c.args.storage) since is.clean refl setting refines))
+    inr (from_bytes (image_abstraction view below) before bytes opened new _ _ consistent (g.S.Storage.only_now c.args.storage) since is.clean refl setting is.sound opens.surplus opens.leaks refines))
     (c.run-replies.ensures.means is)
+
+pub returns-clause-again : goal.returns-clause-again
+returns-clause-again g c = λ honest consistent stays k had.
+    let view = g.S.Storage.view in
+    let below = g.F.BackingDisk.backing in
+    let before = view c.args.storage in
+    let new = c.run-replies.new.image in
+    let commands = map command_of c.args.commands.now in
+    let replies = map reply_of c.run-replies.result.items in
+    ⊎_elim
+    (λ (none : (c.run-replies.result.items ≡ []) × IsKeptSince before (view (storage_of_image new))).
+    kept_opens_again before (view (storage_of_image new)) consistent (g.S.Storage.only_now c.args.storage) none.1 k had)
+    (λ (all : IsHeadline (image_abstraction view below) before (bytes_below below c.args.below) new commands replies).
+    opens_again k (stop_consistent ((image_abstraction view below).setting all.opened) (started (abstract_of view below all.opened [])) all.refines.end commands replies all.refines.run (byte_at k) (all.stops k had)))
+    (returns-clause-headline g c honest consistent stays)
 
 pub returns-clause-tells : goal.returns-clause-tells
 returns-clause-tells g c =
@@ -85,3 +101,7 @@ returns-in-Err-clause-tells g c = (c.in-Err.ensures.cause, c.in-Err.ensures.stor
 pub returns-in-Err-clause-headline : goal.returns-in-Err-clause-headline
 returns-in-Err-clause-headline g c = λ honest consistent.
     (refused_consistent (g.S.Storage.view c.args.storage).contents (missing_beside c.args.below) _ consistent (c.in-Err.ensures.cause.1 honest), c.in-Err.ensures.since honest consistent)
+
+pub returns-in-Err-clause-again : goal.returns-in-Err-clause-again
+returns-in-Err-clause-again g c = λ honest consistent stays k had.
+    kept_opens_again (g.S.Storage.view c.args.storage) (g.S.Storage.view c.in-Err.refused.0) consistent (g.S.Storage.only_now c.args.storage) (c.in-Err.ensures.since honest consistent) k had

@@ -1,82 +1,81 @@
-use Rattle.std.proofs.Common.{◌≡◌, ◌∙◌, ap, refl, sym, subst, false, true, [], None, Option, Some, is_some, Result, Ok, Err}
-use Rattle.std.specs.Prelude.{IsErr}
+use Rattle.std.proofs.Common.{◌≡◌, ◌∙◌, ap, refl, subst, ℕ, None, Option, Some, true}
+use Rattle.std.specs.Prelude.{Err, IfOk, Ok, Result, false, option_map}
+use Rattle.std.specs.Option.{option_flatten}
+use Rattle.image_access.specs.Backing.{BackingView}
 use Rattle.image_access.specs.Moments.{StorageView}
-use Rattle.qcow2_metadata.specs.Bytes.{byte_at}
-use Rattle.qcow2_metadata.specs.Header.{header}
 use Rattle.qcow2_alloc.specs.declared.error.ImageError.{ImageError}
+use Rattle.qcow2_image.specs.declared.image.Missing.{Missing}
 use Rattle.qcow2_image.specs.declared.image.Qcow2.{Qcow2}
-use Rattle.qcow2_image.specs.BehindHeader.{LiesBehindHeader, NamesTablesBehind}
-use Rattle.qcow2_image.specs.CountedOpening.{OpeningCounts}
-use Rattle.qcow2_image.specs.Growing.{SameFormat}
-use Rattle.qcow2_image.specs.Image.{is_failed, is_writable, number_of, storage_of_image}
+use Rattle.qcow2_image.specs.declared.opening.Qcow2OpenBuilder.{Qcow2OpenBuilder}
 use Rattle.qcow2_image.specs.ImageInvariant.{IsHonestBacking}
-use Rattle.qcow2_image.specs.Opened.{IsKeptSince, LeavesStorage, NeedsMissing}
-use Rattle.qcow2_image.specs.Readable.{OpensRightly}
+use Rattle.qcow2_image.specs.Opened.{Opens}
+use Rattle.qcow2_image.specs.Readable.{IsNewlyOpened, OpeningStep, files_missing}
 use Rattle.qcow2_image.proofs.Map.Loading.{if_ok}
 use Rattle.qcow2_session.specs.Opening.{missing_beside}
 use Rattle.qcow2_session.proofs.headline.open_over.Goals as goal
 
-none_there : {X : Type 0} (o : Option X) → is_some o ≡ false → o ≡ None
-none_there None e = refl
-none_there (Some x) e = absurd cc
+-- the builder that opens a storage for writing, over this disk where there is one
+abbrev builder_over : {S F : Type 0} → S → ℕ → Option F → Qcow2OpenBuilder S F
+builder_over storage number below = record { image = storage; number = number; writable = true; backing = option_map Some below }
 
--- an image that was put over a disk stands in the same storage, which its opening counted and left so
-counts_still : {S F : Type 0} (view : S → StorageView) (before : StorageView) (image : Qcow2 S F) (below : Option F) → OpeningCounts view before.faults (Ok image) → OpeningCounts view before.faults (Ok (record image { backing = below }))
-counts_still view before image below counts = record { no_fewer = counts.no_fewer; rose = counts.rose; told = counts.told }
+missing_is : {F : Type 0} (below : Option F) → files_missing (option_map Some below) ≡ missing_beside below
+missing_is None = refl
+missing_is (Some disk) = refl
 
-left_still : {S F : Type 0} (view : S → StorageView) (before : StorageView) (image : Qcow2 S F) (below : Option F) → LeavesStorage view true before (Ok image) → LeavesStorage view true before (Ok (record image { backing = below }))
-left_still view before image below left = record { honest = left.honest; at_once = left.at_once; contents = left.contents }
+given_is : {F : Type 0} (below : Option F) → option_flatten (option_map Some below) ≡ below
+given_is None = refl
+given_is (Some disk) = refl
 
--- what is refused for a file that is missing beside this disk
-refused_beside : {S F : Type 0} (before : StorageView) (given below : Option F) → given ≡ below → (refused : S × ImageError)
-    → OpensRightly {S = S} {F = F} before true (missing_beside below) (Err refused) → OpensRightly {S = S} {F = F} before true (missing_beside given) (Err refused)
-refused_beside {S} {F} before given below is refused rightly = subst (λ disk. OpensRightly {S = S} {F = F} before true (missing_beside disk) (Err refused)) (sym is) rightly
+made_so : {S F : Type 0} (storage : S) (number : ℕ) (below : Option F) (new written over : Qcow2OpenBuilder S F) → new ≡ record { image = storage; number = number; writable = false; backing = None } → written ≡ record new { writable = true }
+    → over ≡ record written { backing = option_map Some below } → over ≡ builder_over storage number below
+made_so storage number below new written over is write set =
+    set ∙ ap (λ (b : Qcow2OpenBuilder _ _). record b { backing = option_map Some below }) (write ∙ ap (λ (b : Qcow2OpenBuilder _ _). record b { writable = true }) is)
 
--- ---- with no disk below
+module _ {S F : Type 0} (view : S → StorageView) (storage : S) (number : ℕ) (below : Option F) (b : Qcow2OpenBuilder S F) (is : b ≡ builder_over storage number below) (result : Result (Qcow2 S F) (S × ImageError)) where
+  step_by : OpeningStep view (view b.image) b.writable (files_missing b.backing) result → OpeningStep view (view storage) true (missing_beside below) result
+  step_by step = subst (λ (m : Missing). OpeningStep view (view storage) true m result) (missing_is below) (subst (λ (x : Qcow2OpenBuilder S F). OpeningStep view (view x.image) x.writable (files_missing x.backing) result) is step)
 
-pub returns-in_default-clause-opens : goal.returns-in_default-clause-opens
-returns-in_default-clause-opens g c = if_ok c.open_alone.result (λ image opens stays. opens) c.open_alone.ensures.opens
+  image_by : IfOk result (IsNewlyOpened (view b.image) b.writable b.number) → IfOk result (IsNewlyOpened (view storage) true number)
+  image_by image = subst (λ (x : Qcow2OpenBuilder S F). IfOk result (IsNewlyOpened (view x.image) x.writable x.number)) is image
 
-pub returns-in_default-clause-over : goal.returns-in_default-clause-over
-returns-in_default-clause-over g c = if_ok c.open_alone.result (λ image none. none_there image.backing none ∙ sym c.in_default.is) c.open_alone.ensures.below
+  over_by : IfOk result (λ image. image.backing ≡ option_flatten b.backing) → IfOk result (λ image. image.backing ≡ below)
+  over_by over = subst (λ disk. IfOk result (λ image. image.backing ≡ disk)) (given_is below) (subst (λ (x : Qcow2OpenBuilder S F). IfOk result (λ image. image.backing ≡ option_flatten x.backing)) is over)
 
-pub returns-in_default-clause-another : goal.returns-in_default-clause-another
-returns-in_default-clause-another g c = λ honest needs. c.open_alone.ensures.another honest (subst (λ (below : Option _). NeedsMissing (missing_beside below) (g.S.Storage.view c.args.storage).contents) c.in_default.is needs)
+  opens_by : (backing : F → BackingView) → (IsHonestBacking view backing (option_flatten b.backing) → IfOk result (Opens view backing (view b.image))) → IsHonestBacking view backing below → IfOk result (Opens view backing (view storage))
+  opens_by backing opens = subst (λ (disk : Option F). IsHonestBacking view backing disk → IfOk result (Opens view backing (view storage))) (given_is below)
+      (subst (λ (x : Qcow2OpenBuilder S F). IsHonestBacking view backing (option_flatten x.backing) → IfOk result (Opens view backing (view x.image))) is opens)
 
-pub returns-in_default-clause-cause : goal.returns-in_default-clause-cause
-returns-in_default-clause-cause g c = subst (λ (below : Option _). OpensRightly (g.S.Storage.view c.args.storage) true (missing_beside below) c.open_alone.result) (sym c.in_default.is) c.open_alone.ensures.cause
+-- what is so of each answer under a premise
+if_ok_under : {A E P : Type 0} (Q : A → Type 0) (result : Result A E) → (P → IfOk result Q) → IfOk result (λ a. P → Q a)
+if_ok_under Q (Ok a) holds = holds
+if_ok_under Q (Err e) holds = tt
 
--- ---- over a disk
+pub returns-clause-since : goal.returns-clause-since
+returns-clause-since g c = (step_by g.S.Storage.view c.args.storage c.args.number c.args.below c.over_disk.result (made_so c.args.storage c.args.number c.args.below c.new.result c.write.result c.over_disk.result c.new.ensures c.write.ensures c.over_disk.ensures) c.open.result c.open.ensures.step).since
 
-pub returns-in-Err-clause-another : goal.returns-in-Err-clause-another
-returns-in-Err-clause-another g c = λ honest needs. c.in-Err.ensures.another honest (subst (λ (below : Option _). NeedsMissing (missing_beside below) (g.S.Storage.view c.args.storage).contents) c.in-Some.is needs)
+pub returns-clause-faults : goal.returns-clause-faults
+returns-clause-faults g c = (step_by g.S.Storage.view c.args.storage c.args.number c.args.below c.over_disk.result (made_so c.args.storage c.args.number c.args.below c.new.result c.write.result c.over_disk.result c.new.ensures c.write.ensures c.over_disk.ensures) c.open.result c.open.ensures.step).faults
 
-pub returns-in-Err-clause-cause : goal.returns-in-Err-clause-cause
-returns-in-Err-clause-cause g c = refused_beside (g.S.Storage.view c.args.storage) c.args.below (Some c.in-Some.disk) c.in-Some.is (c.in-Err.storage, c.in-Err.refusal) c.in-Err.ensures.cause
+pub returns-clause-storage : goal.returns-clause-storage
+returns-clause-storage g c = (step_by g.S.Storage.view c.args.storage c.args.number c.args.below c.over_disk.result (made_so c.args.storage c.args.number c.args.below c.new.result c.write.result c.over_disk.result c.new.ensures c.write.ensures c.over_disk.ensures) c.open.result c.open.ensures.step).storage
 
--- no table has a pin yet
-pub returns-in-Err-set_backing : goal.returns-in-Err-set_backing
-returns-in-Err-set_backing g c = absurd (c.in-Ok.ensures.unpinned ((c.set_backing.ensures.pinned c.in-Ok.ensures.ok.1).0 (subst (λ (r : Result _ _). IsErr r) (sym c.in-Err-set_backing.is) refl)))
+pub returns-clause-another : goal.returns-clause-another
+returns-clause-another g c = (step_by g.S.Storage.view c.args.storage c.args.number c.args.below c.over_disk.result (made_so c.args.storage c.args.number c.args.below c.new.result c.write.result c.over_disk.result c.new.ensures c.write.ensures c.over_disk.ensures) c.open.result c.open.ensures.step).another
 
-pub returns : goal.returns
-returns g c =
-    let view = g.S.Storage.view in
-    let before = view c.args.storage in
-    let image = c.in-Ok.image in
-    let set = c.in_default-set_backing.ensures in
-    let done = sym set.done in
-    record {
-      opens = λ stays honest consistent.
-          let was = c.in-Ok.ensures.opens honest consistent in
-          let over = set.sees [] was.opened.sound (subst (λ (disk : Option _). IsHonestBacking view g.F.BackingDisk.backing disk) c.in-Some.is stays) in
-          record { opened = record { sound = over.sound; clean = over.known ∙ was.opened.clean ∙ sym over.contents }; surplus = over.surplus ∙ was.surplus; leaks = over.leaks ∙ was.leaks };
-      since = λ honest consistent. subst (λ (i : Qcow2 _ _). IsKeptSince before (view (storage_of_image i))) done (c.in-Ok.ensures.since honest consistent);
-      format = λ honest. subst (λ (i : Qcow2 _ _). SameFormat (header (byte_at before.contents)) i.file.header.fields) done (c.in-Ok.ensures.format honest);
-      ok = subst (λ (i : Qcow2 _ _). (number_of i ≡ c.args.number) × (is_failed i ≡ false) × (is_writable i ≡ true)) done c.in-Ok.ensures.ok;
-      faults = subst (λ (i : Qcow2 _ _). OpeningCounts view before.faults (Ok i)) done (counts_still view before image _ c.in-Ok.ensures.faults);
-      header_cluster = subst (λ (i : Qcow2 _ _). NamesTablesBehind i.file.header.fields → LiesBehindHeader i) done c.in-Ok.ensures.header_cluster;
-      over = ap (λ (i : Qcow2 _ _). i.backing) set.done ∙ sym c.in-Some.is;
-      storage = subst (λ (i : Qcow2 _ _). LeavesStorage view true before (Ok i)) done (left_still view before image _ c.in-Ok.ensures.storage);
-      another = λ honest needs. absurd ((c.in-Ok.ensures.another honest (subst (λ (disk : Option _). NeedsMissing (missing_beside disk) before.contents) c.in-Some.is needs)).0);
-      cause = λ honest. subst (λ (disk : Option _). OpensRightly {S = _} {F = _} before true (missing_beside disk) (Ok image)) (sym c.in-Some.is) c.in-Ok.ensures.cause honest;
-    }
+pub returns-clause-cause : goal.returns-clause-cause
+returns-clause-cause g c = (step_by g.S.Storage.view c.args.storage c.args.number c.args.below c.over_disk.result (made_so c.args.storage c.args.number c.args.below c.new.result c.write.result c.over_disk.result c.new.ensures c.write.ensures c.over_disk.ensures) c.open.result c.open.ensures.step).cause
+
+pub returns-clause-format : goal.returns-clause-format
+returns-clause-format g c = λ honest. if_ok c.open.result (λ image is. is.format honest) (image_by g.S.Storage.view c.args.storage c.args.number c.args.below c.over_disk.result (made_so c.args.storage c.args.number c.args.below c.new.result c.write.result c.over_disk.result c.new.ensures c.write.ensures c.over_disk.ensures) c.open.result c.open.ensures.image)
+
+pub returns-clause-ok : goal.returns-clause-ok
+returns-clause-ok g c = if_ok c.open.result (λ image is. (is.number_is, is.works, is.writable_is)) (image_by g.S.Storage.view c.args.storage c.args.number c.args.below c.over_disk.result (made_so c.args.storage c.args.number c.args.below c.new.result c.write.result c.over_disk.result c.new.ensures c.write.ensures c.over_disk.ensures) c.open.result c.open.ensures.image)
+
+pub returns-clause-header_cluster : goal.returns-clause-header_cluster
+returns-clause-header_cluster g c = if_ok c.open.result (λ image is. is.header_cluster) (image_by g.S.Storage.view c.args.storage c.args.number c.args.below c.over_disk.result (made_so c.args.storage c.args.number c.args.below c.new.result c.write.result c.over_disk.result c.new.ensures c.write.ensures c.over_disk.ensures) c.open.result c.open.ensures.image)
+
+pub returns-clause-over : goal.returns-clause-over
+returns-clause-over g c = over_by g.S.Storage.view c.args.storage c.args.number c.args.below c.over_disk.result (made_so c.args.storage c.args.number c.args.below c.new.result c.write.result c.over_disk.result c.new.ensures c.write.ensures c.over_disk.ensures) c.open.result c.open.ensures.over
+
+pub returns-clause-opens : goal.returns-clause-opens
+returns-clause-opens g c = if_ok_under (Opens g.S.Storage.view g.F.BackingDisk.backing (g.S.Storage.view c.args.storage)) c.open.result (opens_by g.S.Storage.view c.args.storage c.args.number c.args.below c.over_disk.result (made_so c.args.storage c.args.number c.args.below c.new.result c.write.result c.over_disk.result c.new.ensures c.write.ensures c.over_disk.ensures) c.open.result g.F.BackingDisk.backing c.open.ensures.opens)

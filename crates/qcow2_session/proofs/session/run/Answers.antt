@@ -14,7 +14,7 @@ use Rattle.qcow2_session.proofs.Places.{surplus_none}
 use Rattle.qcow2_session.proofs.Runs.{GoesOn, first_of_all, command_step_on, map_more}
 use Rattle.qcow2_session.specs.Told.{IsToldRun, RunPoint, first_point}
 use Rattle.qcow2_session.proofs.Told.{IsToldSoFar, first_told, image_itself, itself_then, same_itself, told_more}
-use Rattle.qcow2_session.specs.Sessions.{mappings_in, range_of}
+use Rattle.qcow2_session.specs.Sessions.{mappings_in, range_of, IsUntouched}
 use Rattle.qcow2_session.proofs.Unwritten.{existing_none}
 use Rattle.qcow2_session.specs.CountedFaults.{RunCounts}
 use Rattle.qcow2_session.proofs.Counting.{none_counted, run_counts_more, run_counts_still}
@@ -110,18 +110,6 @@ pub returns-in_default-new-clause-maps : goal.returns-in_default-new-clause-maps
 returns-in_default-new-clause-maps g c = λ opened.
     none_said (contents_in g.S.Storage.view c.args.image.now.file) (is_some c.args.image.now.backing) (map command_of c.args.commands.now) c.new-in_default-new.result.items c.new-in_default-new.ensures.items
 
-pub returns-clause-maps : goal.returns-clause-maps
-returns-clause-maps g c = λ opened.
-    let view = g.S.Storage.view in
-    let old = c.args.image.now in
-    let spec = image_abstraction view g.F.BackingDisk.backing in
-    let b = contents_in view old.file in
-    let commands = map command_of c.args.commands.now in
-    let replies = c.loop-command.replies.items in
-    ⊎_elim (λ untouched. none_said b (is_some old.backing) commands replies untouched.0)
-    (λ means. looked_up spec (spec.setting old) (spec.surplus old []) (spec.leaked old) b old means.last (started (abstract_of view g.F.BackingDisk.backing old [])) means.end commands (map reply_of replies) means.run means.along refl opened.clean)
-    (returns-clause-means g c opened)
-
 pub returns-in_default-clause-faults : goal.returns-in_default-clause-faults
 returns-in_default-clause-faults g c = subst (λ l. RunCounts g.S.Storage.view g.F.BackingDisk.backing c.args.image.now c.args.image.now l) (sym c.new.ensures.items) (none_counted g.S.Storage.view g.F.BackingDisk.backing c.args.image.now)
 
@@ -158,3 +146,20 @@ pub returns-clause-quiet : goal.returns-clause-quiet
 returns-clause-quiet g c = λ reading.
     let told = c.loop-command.invariant.told in
     written_then g.S.Storage.view (along_quietly g.S.Storage.view g.F.BackingDisk.backing (first_point c.args.image.now) (take c.loop-command.command-index c.args.commands.now) c.loop-command.replies.items told.points _ told.along reading existing_none) c.discard_all.ensures.step.quiet
+
+pub returns-clause-maps : goal.returns-clause-maps
+returns-clause-maps g c = λ opened.
+    let view = g.S.Storage.view in
+    let below = g.F.BackingDisk.backing in
+    let old = c.args.image.now in
+    let new = c.discard_all.new.image in
+    let b = contents_in view old.file in
+    let commands = c.args.commands.now in
+    let replies = c.loop-command.replies.items in
+    let before = abstract_of view below old [] in
+    ⊎_elim
+    (λ (untouched : IsUntouched view below old new replies). none_said b (is_some old.backing) (map command_of commands) replies untouched.0)
+    (λ (told : IsToldRun view below old new commands replies).
+    let steps = told.steps before.setting (started before) (begins before opened.sound (whole view below old [] opened.sound) opened.clean) in
+    looked_up view below before.setting b (first_point old) (begun (started before)) steps.0 commands replies told.points steps.1 refl opened.clean)
+    (returns-clause-tells g c)

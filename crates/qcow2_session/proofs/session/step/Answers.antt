@@ -7,9 +7,9 @@ use Rattle.qcow2_session.specs.Commands.{command_of}
 use Rattle.qcow2_session.specs.Sessions.{CommandSteps, mappings_in}
 use Rattle.qcow2_session.proofs.Answering.{reading_first, error_is, write_error_is, not_both, reads_answer, writes_answer, write_refused_answer}
 use Rattle.qcow2_session.specs.Told.{SlotsAfter, TellsOfImage}
-use Rattle.qcow2_session.specs.declared.session.Reply.TheVariants.{Bytes, Done, Refused, Size, WriteRefused}
+use Rattle.qcow2_session.specs.declared.session.Reply.TheVariants.{Bytes, Done, Leaked, Refused, Size, WriteRefused}
 use Rattle.qcow2_session.specs.Causes.{IsRightlyRefused}
-use Rattle.qcow2_session.proofs.Causing.{read_answered, read_refused, size_answered, write_answered, write_refused_for}
+use Rattle.qcow2_session.proofs.Causing.{read_answered, leaks_answered, read_refused, size_answered, write_answered, write_refused_for}
 use Rattle.qcow2_image.proofs.Call.BehindHeader.{behind_none}
 use Rattle.qcow2_image.proofs.Map.Quiet.{reads_none}
 use Rattle.qcow2_session.proofs.Copied.{rightly_written}
@@ -33,8 +33,14 @@ returns-in-Err-write-clause-command_step g c = λ x s stands founds. refused_as 
 pub returns-in-Flush-clause-command_step : goal.returns-in-Flush-clause-command_step
 returns-in-Flush-clause-command_step g c = subst (λ q. CommandSteps g.S.Storage.view g.F.BackingDisk.backing c.args.image.now c.flush.new.image c.args.slots.now c.args.slots.now q c.flush.result) (sym c.in-Flush.is) (c.flush.ensures.command_step c.args.slots.now)
 
+pub returns-in-Sync-clause-command_step : goal.returns-in-Sync-clause-command_step
+returns-in-Sync-clause-command_step g c = subst (λ q. CommandSteps g.S.Storage.view g.F.BackingDisk.backing c.args.image.now c.sync.new.image c.args.slots.now c.args.slots.now q c.sync.result) (sym c.in-Sync.is) (c.sync.ensures.command_step c.args.slots.now)
+
 pub returns-in-Size-clause-command_step : goal.returns-in-Size-clause-command_step
 returns-in-Size-clause-command_step g c = λ x s stands founds. none_as x _ s _ _ _ (ap command_of c.in-Size.is) stands (record { sized = λ _. tt; failed = λ _. tt; may = λ _. tt }) (λ sound. (c.size.ensures.sees c.args.slots.now.prepared.items sound, refl)) (λ f. f) (λ _ _. refl) tt
+
+pub returns-in-Leaked-clause-command_step : goal.returns-in-Leaked-clause-command_step
+returns-in-Leaked-clause-command_step g c = λ x s stands founds. none_as x _ s _ _ _ (ap command_of c.in-Leaked.is) stands (record { sized = λ _. tt; failed = λ _. tt; may = λ _. tt }) (λ sound. refl) (λ f. f) (λ _ _. refl) tt
 
 pub returns-in-GetMapping-clause-command_step : goal.returns-in-GetMapping-clause-command_step
 returns-in-GetMapping-clause-command_step g c = subst (λ q. CommandSteps g.S.Storage.view g.F.BackingDisk.backing c.args.image.now c.get_mapping.new.image c.args.slots.now c.get_mapping.new.slots q c.get_mapping.result) (sym c.in-GetMapping.is) c.get_mapping.ensures.command_step
@@ -93,8 +99,14 @@ returns-in-Err-write-clause-tells g c = subst (λ q. TellsOfImage g.S.Storage.vi
 pub returns-in-Flush-clause-tells : goal.returns-in-Flush-clause-tells
 returns-in-Flush-clause-tells g c = subst (λ q. TellsOfImage g.S.Storage.view g.F.BackingDisk.backing c.args.image.now c.flush.new.image c.args.slots.now.prepared.items c.args.slots.now.prepared.items q c.flush.result) (sym c.in-Flush.is) tt
 
+pub returns-in-Sync-clause-tells : goal.returns-in-Sync-clause-tells
+returns-in-Sync-clause-tells g c = subst (λ q. TellsOfImage g.S.Storage.view g.F.BackingDisk.backing c.args.image.now c.sync.new.image c.args.slots.now.prepared.items c.args.slots.now.prepared.items q c.sync.result) (sym c.in-Sync.is) tt
+
 pub returns-in-Size-clause-tells : goal.returns-in-Size-clause-tells
 returns-in-Size-clause-tells g c = subst (λ q. TellsOfImage g.S.Storage.view g.F.BackingDisk.backing c.args.image.now c.args.image.now c.args.slots.now.prepared.items c.args.slots.now.prepared.items q (Size c.size.result)) (sym c.in-Size.is) c.size.ensures.value
+
+pub returns-in-Leaked-clause-tells : goal.returns-in-Leaked-clause-tells
+returns-in-Leaked-clause-tells g c = subst (λ q. TellsOfImage g.S.Storage.view g.F.BackingDisk.backing c.args.image.now c.args.image.now c.args.slots.now.prepared.items c.args.slots.now.prepared.items q (Leaked c.leaked_clusters.result)) (sym c.in-Leaked.is) c.leaked_clusters.ensures
 
 pub returns-in-GetMapping-clause-tells : goal.returns-in-GetMapping-clause-tells
 returns-in-GetMapping-clause-tells g c = subst (λ q. TellsOfImage g.S.Storage.view g.F.BackingDisk.backing c.args.image.now c.get_mapping.new.image c.args.slots.now.prepared.items c.get_mapping.new.slots.prepared.items q c.get_mapping.result) (sym c.in-GetMapping.is) c.get_mapping.ensures.tells
@@ -158,6 +170,9 @@ returns-in-Err-write-clause-causes g c = subst (λ q. IsRightlyRefused g.S.Stora
 pub returns-in-Size-clause-causes : goal.returns-in-Size-clause-causes
 returns-in-Size-clause-causes g c = subst (λ q. IsRightlyRefused g.S.Storage.view g.F.BackingDisk.backing c.args.image.now c.args.image.now c.args.slots.now.prepared.items (mappings_in c.args.slots.now.mappings.items) q (Size c.size.result)) (sym c.in-Size.is) (size_answered g.S.Storage.view g.F.BackingDisk.backing c.args.image.now c.args.image.now c.args.slots.now.prepared.items c.size.result)
 
+pub returns-in-Leaked-clause-causes : goal.returns-in-Leaked-clause-causes
+returns-in-Leaked-clause-causes g c = subst (λ q. IsRightlyRefused g.S.Storage.view g.F.BackingDisk.backing c.args.image.now c.args.image.now c.args.slots.now.prepared.items (mappings_in c.args.slots.now.mappings.items) q (Leaked c.leaked_clusters.result)) (sym c.in-Leaked.is) (leaks_answered g.S.Storage.view g.F.BackingDisk.backing c.args.image.now c.args.image.now c.args.slots.now.prepared.items c.leaked_clusters.result)
+
 pub returns-in-GetMapping-clause-causes : goal.returns-in-GetMapping-clause-causes
 returns-in-GetMapping-clause-causes g c = subst (λ q. IsRightlyRefused g.S.Storage.view g.F.BackingDisk.backing c.args.image.now c.get_mapping.new.image c.args.slots.now.prepared.items (mappings_in c.args.slots.now.mappings.items) q c.get_mapping.result) (sym c.in-GetMapping.is) c.get_mapping.ensures.causes
 
@@ -197,6 +212,9 @@ returns-in-TryReadvSpecial-clause-causes g c = subst (λ q. IsRightlyRefused g.S
 pub returns-in-Flush-clause-causes : goal.returns-in-Flush-clause-causes
 returns-in-Flush-clause-causes g c = subst (λ q. IsRightlyRefused g.S.Storage.view g.F.BackingDisk.backing c.args.image.now c.flush.new.image c.args.slots.now.prepared.items (mappings_in c.args.slots.now.mappings.items) q c.flush.result) (sym c.in-Flush.is) (c.flush.ensures.causes c.args.slots.now.prepared.items (mappings_in c.args.slots.now.mappings.items))
 
+pub returns-in-Sync-clause-causes : goal.returns-in-Sync-clause-causes
+returns-in-Sync-clause-causes g c = subst (λ q. IsRightlyRefused g.S.Storage.view g.F.BackingDisk.backing c.args.image.now c.sync.new.image c.args.slots.now.prepared.items (mappings_in c.args.slots.now.mappings.items) q c.sync.result) (sym c.in-Sync.is) (c.sync.ensures.causes c.args.slots.now.prepared.items (mappings_in c.args.slots.now.mappings.items))
+
 pub returns-in-ResizeGrow-clause-causes : goal.returns-in-ResizeGrow-clause-causes
 returns-in-ResizeGrow-clause-causes g c = subst (λ q. IsRightlyRefused g.S.Storage.view g.F.BackingDisk.backing c.args.image.now c.grow.new.image c.args.slots.now.prepared.items (mappings_in c.args.slots.now.mappings.items) q c.grow.result) (sym c.in-ResizeGrow.is) (c.grow.ensures.causes c.args.slots.now.prepared.items (mappings_in c.args.slots.now.mappings.items))
 
@@ -218,8 +236,14 @@ returns-in-Err-write-clause-after g c = subst (λ q. SlotsAfter c.args.slots.now
 pub returns-in-Flush-clause-after : goal.returns-in-Flush-clause-after
 returns-in-Flush-clause-after g c = subst (λ q. SlotsAfter c.args.slots.now.prepared.items q c.flush.result c.args.slots.now.prepared.items) (sym c.in-Flush.is) refl
 
+pub returns-in-Sync-clause-after : goal.returns-in-Sync-clause-after
+returns-in-Sync-clause-after g c = subst (λ q. SlotsAfter c.args.slots.now.prepared.items q c.sync.result c.args.slots.now.prepared.items) (sym c.in-Sync.is) refl
+
 pub returns-in-Size-clause-after : goal.returns-in-Size-clause-after
 returns-in-Size-clause-after g c = subst (λ q. SlotsAfter c.args.slots.now.prepared.items q (Size c.size.result) c.args.slots.now.prepared.items) (sym c.in-Size.is) refl
+
+pub returns-in-Leaked-clause-after : goal.returns-in-Leaked-clause-after
+returns-in-Leaked-clause-after g c = subst (λ q. SlotsAfter c.args.slots.now.prepared.items q (Leaked c.leaked_clusters.result) c.args.slots.now.prepared.items) (sym c.in-Leaked.is) refl
 
 pub returns-in-GetMapping-clause-after : goal.returns-in-GetMapping-clause-after
 returns-in-GetMapping-clause-after g c = subst (λ q. SlotsAfter c.args.slots.now.prepared.items q c.get_mapping.result c.get_mapping.new.slots.prepared.items) (sym c.in-GetMapping.is) c.get_mapping.ensures.after
@@ -266,6 +290,9 @@ returns-in-ResizeShrink-clause-after g c = subst (λ q. SlotsAfter c.args.slots.
 pub returns-in-Size-clause-header_cluster : goal.returns-in-Size-clause-header_cluster
 returns-in-Size-clause-header_cluster g c = behind_none
 
+pub returns-in-Leaked-clause-header_cluster : goal.returns-in-Leaked-clause-header_cluster
+returns-in-Leaked-clause-header_cluster g c = behind_none
+
 pub returns-in-Ok-clause-quiet : goal.returns-in-Ok-clause-quiet
 returns-in-Ok-clause-quiet g c = λ reading existing. record { reading = c.read.ensures.step.image.writable ∙ reading; quiet = c.read.ensures.step.quiet; existing = existing }
 
@@ -281,6 +308,9 @@ returns-in-Err-write-clause-quiet g c = λ reading existing. record { reading = 
 pub returns-in-Flush-clause-quiet : goal.returns-in-Flush-clause-quiet
 returns-in-Flush-clause-quiet g c = λ reading existing. record { reading = c.flush.ensures.step.image.writable ∙ reading; quiet = c.flush.ensures.quiet reading; existing = existing }
 
+pub returns-in-Sync-clause-quiet : goal.returns-in-Sync-clause-quiet
+returns-in-Sync-clause-quiet g c = λ reading existing. record { reading = c.sync.ensures.step.image.writable ∙ reading; quiet = c.sync.ensures.quiet; existing = existing }
+
 pub returns-in-ReadMapped-clause-quiet : goal.returns-in-ReadMapped-clause-quiet
 returns-in-ReadMapped-clause-quiet g c = λ reading existing. record { reading = c.read_mapped.ensures.step.image.writable ∙ reading; quiet = c.read_mapped.ensures.quiet; existing = existing }
 
@@ -292,6 +322,9 @@ returns-in-TryReadvSpecial-clause-quiet g c = λ reading existing. record { read
 
 pub returns-in-Size-clause-quiet : goal.returns-in-Size-clause-quiet
 returns-in-Size-clause-quiet g c = λ reading existing. record { reading = reading; quiet = reads_none g.S.Storage.view c.args.image.now; existing = existing }
+
+pub returns-in-Leaked-clause-quiet : goal.returns-in-Leaked-clause-quiet
+returns-in-Leaked-clause-quiet g c = λ reading existing. record { reading = reading; quiet = reads_none g.S.Storage.view c.args.image.now; existing = existing }
 
 pub returns-in-GetMapping-clause-quiet : goal.returns-in-GetMapping-clause-quiet
 returns-in-GetMapping-clause-quiet g c = c.get_mapping.ensures.quiet
@@ -377,6 +410,9 @@ returns-in-TryReadvSpecial-clause-marks g c = subst (λ q. MarksBy g.S.Storage.v
 pub returns-in-Flush-clause-marks : goal.returns-in-Flush-clause-marks
 returns-in-Flush-clause-marks g c = subst (λ q. MarksBy g.S.Storage.view c.args.image.now c.flush.new.image q (refusal_in c.flush.result)) (sym c.in-Flush.is) c.flush.ensures.step.marks
 
+pub returns-in-Sync-clause-marks : goal.returns-in-Sync-clause-marks
+returns-in-Sync-clause-marks g c = subst (λ q. MarksBy g.S.Storage.view c.args.image.now c.sync.new.image q (refusal_in c.sync.result)) (sym c.in-Sync.is) c.sync.ensures.step.marks
+
 pub returns-in-ResizeGrow-clause-marks : goal.returns-in-ResizeGrow-clause-marks
 returns-in-ResizeGrow-clause-marks g c = subst (λ q. MarksBy g.S.Storage.view c.args.image.now c.grow.new.image q (refusal_in c.grow.result)) (sym c.in-ResizeGrow.is) c.grow.ensures.marks
 
@@ -385,3 +421,6 @@ returns-in-ResizeShrink-clause-marks g c = subst (λ q. MarksBy g.S.Storage.view
 
 pub returns-in-Size-clause-marks : goal.returns-in-Size-clause-marks
 returns-in-Size-clause-marks g c = subst (λ q. MarksBy g.S.Storage.view c.args.image.now c.args.image.now q (None)) (sym c.in-Size.is) (at_rest g.S.Storage.view None c.args.image.now refl)
+
+pub returns-in-Leaked-clause-marks : goal.returns-in-Leaked-clause-marks
+returns-in-Leaked-clause-marks g c = subst (λ q. MarksBy g.S.Storage.view c.args.image.now c.args.image.now q (None)) (sym c.in-Leaked.is) (at_rest g.S.Storage.view None c.args.image.now refl)

@@ -14,7 +14,7 @@ use Rattle.qcow2_session.proofs.Heeding.{heeded_first, heeded_more}
 use Rattle.qcow2_session.proofs.WrittenParts.{first_given, never_first, no_more_then, stops_behind, stops_first, writes_on}
 use Rattle.qcow2_session.specs.Sessions.{LeavesCopied, Writes, cluster_size_of}
 use Rattle.qcow2_image.specs.L1Entries.{NeedsFarEntry}
-use Rattle.qcow2_image.specs.LackedPlaces.{LacksPlaceFor}
+use Rattle.qcow2_image.proofs.Prepare.Lacked.{limited_since}
 use Rattle.qcow2_image.specs.Preparing.{IsTaken}
 use Rattle.qcow2_session.proofs.Beyond.{part_refused}
 use Rattle.qcow2_session.proofs.Turns.{does_less, refuses_here, refuses_if, nothing_refused}
@@ -43,8 +43,6 @@ loop-done-preserved g c = record {
   image = same_then c.loop-done.invariant.image c.write_some-in-loop-done.ensures.step.image;
   quiet = λ reading. written_then g.S.Storage.view (c.loop-done.invariant.quiet reading) (c.write_some-in-loop-done.ensures.step.quiet (c.loop-done.invariant.image.writable ∙ reading));
   ends = λ out sound more.
-      let view = g.S.Storage.view in
-      let below = g.F.BackingDisk.backing in
       let still = (c.loop-done.invariant.written out).answer sound in
       let rest : c.in-Ok-write_some.count < length (drop c.loop-done.done c.args.bytes.now) = grind (arith, common_steps) in
       ends_on c.args.image.now c.loop-done.image (ap (λ (x : Setting). x.cluster_size) ((c.loop-done.invariant.written out).acts.works sound).setting) c.args.offset c.loop-done.done c.in-Ok-write_some.count c.in-Some.at c.in-Some.ensures.1
@@ -211,9 +209,7 @@ returns-clause-freeing g c = λ out sound. c.loop-done.invariant.freeing out sou
 -- ---- the part at which it was refused
 
 pub returns-in-Err-clause-limit : goal.returns-in-Err-clause-limit
-returns-in-Err-clause-limit g c = λ none out sound is.
-    let view = g.S.Storage.view in
-    stops_first view g.F.BackingDisk.backing c.args.image.now (λ at n before. LacksPlaceFor view at n before c.write_some.new.image) c.args.offset c.args.bytes.now ((c.in-Err.ensures.sound none out sound).limit is)
+returns-in-Err-clause-limit g c = λ none out sound. (c.in-Err.ensures.sound none out sound).limit
 
 pub returns-in-Err-clause-taken_part : goal.returns-in-Err-clause-taken_part
 returns-in-Err-clause-taken_part g c = λ none out sound.
@@ -230,14 +226,13 @@ returns-in_default-clause-taken_part g c = λ none out sound. absurd (c.in_defau
 
 pub returns-in-Err-write_some-clause-limit : goal.returns-in-Err-write_some-clause-limit
 returns-in-Err-write_some-clause-limit g c = λ none out sound is.
-    let view = g.S.Storage.view in
     let old = c.args.image.now in
     let mid = c.loop-done.image in
     let n = length c.args.bytes.now in
     let rest = length (drop c.loop-done.done c.args.bytes.now) in
     let still = ((c.loop-done.invariant.written out).answer sound).0 in
-    stops_behind view g.F.BackingDisk.backing old (λ at k before. LacksPlaceFor view at k before c.write_some-in-loop-done.new.image) c.args.offset c.args.bytes.now c.loop-done.done c.in-Some.at mid c.in-Some.ensures.1 c.loop-done.invariant.written
-    (never_first c.loop-done.done (c.loop-done.invariant.some_done (omega (arith, c.loop-done-test.true))))
+    let within : c.in-Some.at + rest ≤ c.args.offset + n = let at = c.in-Some.ensures.1 in grind (arith, common_steps) in
+    limited_since within (record { image = c.loop-done.invariant.image; header_cluster = c.loop-done.invariant.behind })
     (((rw (take_rest c.args.bytes.now c.loop-done.done) at c.in-Err-write_some.ensures.sound)
     (part_prepares old mid c.loop-done.invariant.image c.args.offset n c.in-Some.at rest (grind (arith, common_steps)) (grind (arith, common_steps)) still.works (omega (arith, c.loop-done-test.true)) none) out still).limit is)
 

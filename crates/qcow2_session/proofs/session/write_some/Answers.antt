@@ -31,7 +31,6 @@ use Rattle.qcow2_image.specs.Preparing.{IsOfNothing}
 use Rattle.qcow2_image.specs.declared.prepared.Prepared.{Prepared}
 use Rattle.std.proofs.lemmas.Grind.{common_steps}
 use Rattle.qcow2_alloc.specs.declared.error.ImageError.{ImageError}
-use Rattle.qcow2_alloc.specs.declared.error.ImageError.TheVariants.{Limit}
 use Rattle.qcow2_image.proofs.Call.FaultCounts.{counted_still, faults_then}
 use Rattle.qcow2_session.proofs.Counting.{commit_since}
 use Rattle.qcow2_session.proofs.Parts.{mapping_usable, not_failed_yet, prepares_usable, prepares_within, prepares_writable, put_met, under_taken}
@@ -44,10 +43,10 @@ use Rattle.qcow2_session.proofs.Quiet.{quiet_commit, quiet_image, quiet_release}
 use Rattle.qcow2_session.proofs.Copied.{existing_or_not, kept_data, part_copied}
 use Rattle.qcow2_alloc.specs.ImageFile.{known_in}
 use Rattle.qcow2_image.proofs.Call.Unlimited.{fault_unlimited}
-use Rattle.qcow2_image.proofs.Prepare.Lacked.{other_limit}
+use Rattle.qcow2_image.proofs.Prepare.Lacked.{limited_upto, other_limit}
 use Rattle.qcow2_image.proofs.Sizing.Shrinking.{fault_of}
 use Rattle.qcow2_image.specs.L1Entries.{NeedsFarEntry}
-use Rattle.qcow2_image.specs.LackedPlaces.{LacksPlaceFor}
+use Rattle.qcow2_image.specs.Limits.{IfLimit, IsLimited}
 use Rattle.qcow2_image.specs.MetAlone.{CopiesCompressed, IsCacheHeld, IsMetTaking}
 use Rattle.qcow2_session.proofs.MetOnSound.{existing_found, existing_long, existing_near, put_unlimited, compressed_behind, put_looking}
 use Rattle.qcow2_image.specs.Backings.{HasPrepared}
@@ -398,8 +397,8 @@ returns-in_err-prepared-clause-sound g c = λ none out sound.
             ],
             c.in_err-prepared.ensures.taken none out sound is,
           ));
-      limit = subst (λ r. IfErr r (λ (e : ImageError). e ≡ Limit → LacksPlaceFor g.S.Storage.view c.args.offset n old c.prepare_data_mapping.new.self)) (sym (refused_is _ c.in_err-prepared.field-0.0 c.from_residual.ensures))
-          (c.in_err-prepared.ensures.limit none some out sound);
+      limit = subst (λ r. IfLimit r (IsLimited view g.F.BackingDisk.backing (c.args.offset + n) old)) (sym (refused_is _ e c.from_residual.ensures))
+          (λ is. limited_upto (omega (arith, some)) (c.in_err-prepared.ensures.limit none some out sound is));
     }
 
 pub returns-in-Ok-clause-sound : goal.returns-in-Ok-clause-sound

@@ -1,10 +1,10 @@
 //! That calls take storages and disks below of all types, in boxes.
-use super::made;
+use super::{made, opened};
 use crate::boxes::run_in_boxes;
 use crate::headline::open_and_run;
 use crate::session::{Command, Reply};
 use image_access::{BackingDisk, DynStorage, MemBacking, MemStorage, Storage, TraceStorage};
-use qcow2_image::ImageError;
+use qcow2_image::{ImageError, Qcow2};
 use std::alloc::{AllocError, Global};
 use std::test::Fail;
 
@@ -78,6 +78,31 @@ fn an_image_in_a_box_shows_the_disk_in_a_box_below(rt: HostRuntime) -> Result<()
         let (_storage, replies) = run_in_boxes(alloc, storage, None, 2, &commands[2..3]);
         let kept = [0x55, 0x33, 0x33, 0x55].to_vec(alloc)?;
         assert_eq!(rt; replies?.as_slice(), [Reply::Bytes(kept)].as_slice());
+    }
+    Ok(())
+}
+
+// What an image in a storage is printed as, and the names of the storages that it is over.
+fn names<S: Storage>(alloc: Global, storage: S) -> Result<(String, Vec<String>), ImageError> {
+    let image: Qcow2<S> = opened(alloc, storage, false)?;
+    let mut names = Vec::new(alloc);
+    for storage in image.collect_storage_dependencies(alloc)? {
+        names.push(storage.name().to_string(alloc)?)?;
+    }
+    Ok((image.to_string(alloc)?, names))
+}
+
+#[test]
+fn an_image_is_printed_by_the_name_of_its_storage(rt: HostRuntime) -> Result<(), Fail> {
+    let alloc = rt.alloc();
+    for (storage, printed) in mixed(alloc)?
+        .into_iter()
+        .zip([("qcow2[mem]", "mem"), ("qcow2[trace]", "trace")])
+    {
+        let (image, storages) = names(alloc, storage)?;
+        assert_eq!(rt; image.as_str(), printed.0);
+        assert_eq!(rt; storages.len(), 1);
+        assert_eq!(rt; storages[0].as_str(), printed.1);
     }
     Ok(())
 }

@@ -1,4 +1,4 @@
-//! That an image's flush flushes its storage.
+//! That an image's flush flushes its storage, and its sync syncs it.
 ghost use Rattle.std.specs.Prelude.{◌≡◌};
 ghost use Rattle.image_access.specs.Changes.{counts_all, only_all};
 ghost use Rattle.image_access.specs.TraceStorage.{view_of_trace};
@@ -10,12 +10,13 @@ use qcow2_image::{ImageError, Qcow2};
 use std::alloc::{AllocError, Global};
 use std::test::Fail;
 
-// A recording storage that keeps how many changes it had at each flush, or fails at all of them.
+// A recording storage that keeps how many changes it had at each flush and how often it was synced, or fails at all of them.
 #[derive(Drop)]
 struct FlushedStorage {
     inner: TraceStorage,
     fails: bool,
     flushed_at: Vec<usize>,
+    syncs: usize,
 }
 
 impl FlushedStorage {
@@ -24,6 +25,7 @@ impl FlushedStorage {
             inner,
             fails,
             flushed_at: Vec::new(alloc),
+            syncs: 0,
         }
     }
 
@@ -81,6 +83,10 @@ impl Storage for FlushedStorage {
     }
 
     fn sync(&mut self) -> Result<(), StorageError> {
+        self.syncs += 1;
+        if self.fails {
+            self.inner.fail_at(1);
+        }
         self.inner.sync()
     }
 
@@ -127,6 +133,49 @@ fn each_flush_flushes_the_storage(rt: HostRuntime) -> Result<(), Fail> {
         assert_eq!(rt; replies.as_slice(), [Reply::Done, Reply::Done].as_slice());
         assert_eq!(rt; storage.told(), (2, true));
     }
+    Ok(())
+}
+
+#[test]
+fn each_sync_syncs_the_storage(rt: HostRuntime) -> Result<(), Fail> {
+    let alloc = rt.alloc();
+    for writable in [false, true] {
+        let commands = vec![in alloc; Command::Sync, Command::Flush, Command::Sync]?;
+        let (storage, replies) = left_by(alloc, flushed(alloc, false)?, writable, &commands)?;
+        assert_eq!(rt;
+            replies.as_slice(),
+            [Reply::Done, Reply::Done, Reply::Done].as_slice()
+        );
+        assert_eq!(rt; storage.syncs, 2);
+        assert_eq!(rt; storage.told(), (1, true));
+    }
+    Ok(())
+}
+
+// A sync writes nothing that is cached, and a failed one fails the image.
+#[test]
+fn an_image_fails_where_its_storage_is_not_synced(rt: HostRuntime) -> Result<(), Fail> {
+    let alloc = rt.alloc();
+    let commands = vec![in alloc;
+        a_write(alloc)?,
+        Command::Sync,
+        Command::Sync,
+        Command::Flush,
+        Command::Size,
+        Command::Leaked,
+    ]?;
+    let refused = [
+        Reply::Refused(ImageError::Storage),
+        Reply::Refused(ImageError::Failed),
+        Reply::Refused(ImageError::Failed),
+        Reply::Size(65536),
+        Reply::Leaked(0),
+    ];
+    let (storage, all) = left_by(alloc, flushed(alloc, true)?, true, &commands)?;
+    assert_eq!(rt; all.first(), Some(&Reply::Done));
+    assert_eq!(rt; &all[1..], refused.as_slice());
+    assert_eq!(rt; storage.syncs, 1);
+    assert_eq!(rt; storage.told(), (0, false));
     Ok(())
 }
 

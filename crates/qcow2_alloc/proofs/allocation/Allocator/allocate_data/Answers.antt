@@ -1,4 +1,4 @@
-use Rattle.std.proofs.Common.{◌≡◌, ◌≢◌, ◌⊎◌, inl, inr, refl, sym, subst, Result, ◌∙◌, Err}
+use Rattle.std.proofs.Common.{◌≡◌, ◌≢◌, ◌⊎◌, inl, inr, refl, sym, subst, Result, ◌∙◌}
 use Rattle.qcow2_laws.specs.CrashInvariant.{Pending}
 use Rattle.qcow2_alloc.specs.declared.clusters_to_free.ClusterKind.TheVariants.{Data}
 use Rattle.qcow2_alloc.specs.declared.image_file.ImageFile.{ImageFile}
@@ -19,7 +19,7 @@ use Rattle.qcow2_metadata.specs.Entries.{count}
 use Rattle.qcow2_alloc.specs.TurnedCaches.{IsOfTurning, TurnsAlone}
 use Rattle.image_access.specs.Moments.{StorageView}
 use Rattle.std.specs.Result.{IsErrAnd}
-use Rattle.qcow2_alloc.proofs.Steps.{data_then, fails_of, fails_on, fails_since, data_cached}
+use Rattle.qcow2_alloc.proofs.Steps.{data_then, fails_on, fails_since, data_cached}
 use Rattle.qcow2_alloc.proofs.allocation.Allocator.allocate_data.Goals as goal
 
 -- the caches were turned before
@@ -29,10 +29,10 @@ behind_turned view old file new Why r alone refused =
     (why_as Why (λ e. IsOfTurning old.caches e ⊎ Why e) r (λ e why. inr why) refused.0, subst (TurnsAlone view old) (sym refused.1) alone)
 
 pub returns-in_err-l2_depends_on_rb-clause-step : goal.returns-in_err-l2_depends_on_rb-clause-step
-returns-in_err-l2_depends_on_rb-clause-step g c = data_cached c.l2_depends_on_rb.ensures.marks c.l2_depends_on_rb.ensures.notes c.l2_depends_on_rb.ensures.header_cluster
+returns-in_err-l2_depends_on_rb-clause-step g c = data_cached c.l2_depends_on_rb.ensures.step.marks.pins c.l2_depends_on_rb.ensures.step.marks.notes c.l2_depends_on_rb.ensures.step.header_cluster
 
 pub returns-in_err-l2_depends_on_rb-clause-fails : goal.returns-in_err-l2_depends_on_rb-clause-fails
-returns-in_err-l2_depends_on_rb-clause-fails g c = fails_on c.from_residual.result c.in_err-l2_depends_on_rb.field-0.0 c.from_residual.ensures (fails_of (Err c.in_err-l2_depends_on_rb.field-0.0) c.in_err-l2_depends_on_rb.ensures.storage_faults c.in_err-l2_depends_on_rb.ensures.cause)
+returns-in_err-l2_depends_on_rb-clause-fails g c = fails_on c.from_residual.result c.in_err-l2_depends_on_rb.field-0.0 c.from_residual.ensures c.in_err-l2_depends_on_rb.ensures.fails
 
 pub returns-in_err-l2_depends_on_rb-clause-nameable : goal.returns-in_err-l2_depends_on_rb-clause-nameable
 returns-in_err-l2_depends_on_rb-clause-nameable g c = if_no_ok _ c.from_residual.result c.in_err-l2_depends_on_rb.field-0.0 c.from_residual.ensures
@@ -47,10 +47,10 @@ pub returns-in_err-l2_depends_on_rb-clause-order : goal.returns-in_err-l2_depend
 returns-in_err-l2_depends_on_rb-clause-order g c = on_no_ok _ c.from_residual.result c.in_err-l2_depends_on_rb.field-0.0 c.from_residual.ensures
 
 pub returns-clause-step : goal.returns-clause-step
-returns-clause-step g c = data_then (data_cached c.l2_depends_on_rb.ensures.marks c.l2_depends_on_rb.ensures.notes c.l2_depends_on_rb.ensures.header_cluster) c.allocate.ensures.step
+returns-clause-step g c = data_then (data_cached c.l2_depends_on_rb.ensures.step.marks.pins c.l2_depends_on_rb.ensures.step.marks.notes c.l2_depends_on_rb.ensures.step.header_cluster) c.allocate.ensures.step
 
 pub returns-clause-fails : goal.returns-clause-fails
-returns-clause-fails g c = fails_since c.in_ok-l2_depends_on_rb.ensures.storage_faults.told c.allocate.ensures.fails
+returns-clause-fails g c = fails_since c.in_ok-l2_depends_on_rb.ensures.fails.told c.allocate.ensures.fails
 
 pub returns-clause-noted : goal.returns-clause-noted
 returns-clause-noted g c = c.allocate.ensures.noted
@@ -62,12 +62,12 @@ pub returns-clause-elsewhere : goal.returns-clause-elsewhere
 returns-clause-elsewhere g c = c.allocate.ensures.elsewhere
 
 pub returns-clause-order : goal.returns-clause-order
-returns-clause-order g c = on_ok _ c.allocate.result (c.allocate.ensures.step.marks.order ∙ c.in_ok-l2_depends_on_rb.ensures.order)
+returns-clause-order g c = on_ok _ c.allocate.result (c.allocate.ensures.step.marks.order ∙ c.in_ok-l2_depends_on_rb.ensures.turns.order)
 
 pub returns-in_err-l2_depends_on_rb-clause-sound : goal.returns-in_err-l2_depends_on_rb-clause-sound
 returns-in_err-l2_depends_on_rb-clause-sound g c = λ p sound.
     let file : ImageFile g.row.S.Denot = record c.args.file.now { storage = c.l2_depends_on_rb.new.storage; caches = c.l2_depends_on_rb.new.self } in
-    let one = allocator_step_cached g.S.Storage.view p c.args.file.now c.args.self.now c.l2_depends_on_rb.new.storage c.l2_depends_on_rb.new.self sound (c.l2_depends_on_rb.ensures.keeps c.args.file.now.header.fields p sound.sound.honest sound.sound.caches) c.l2_depends_on_rb.ensures.marks in
+    let one = allocator_step_cached g.S.Storage.view p c.args.file.now c.args.self.now c.l2_depends_on_rb.new.storage c.l2_depends_on_rb.new.self sound (c.l2_depends_on_rb.ensures.sound.keeps c.args.file.now.header.fields p sound.sound.honest sound.sound.caches) c.l2_depends_on_rb.ensures.step.marks.pins in
     record {
       found = record {
         takes = handed_on (Allocates g.S.Storage.view p c.args.file.now c.args.self.now file (pending_then p c.args.file.now.free_list c.args.file.now.free_list) Data c.args.count) c.from_residual.result c.in_err-l2_depends_on_rb.field-0.0 c.from_residual.ensures
@@ -79,28 +79,28 @@ returns-in_err-l2_depends_on_rb-clause-sound g c = λ p sound.
             (inl (c.in_err-l2_depends_on_rb.ensures.faults c.args.file.now.header.fields p sound.sound.honest sound.sound.caches sound.sound.named_blocks));
       };
       leaks = refl;
-      made = let known = (c.l2_depends_on_rb.ensures.keeps c.args.file.now.header.fields p sound.sound.honest sound.sound.caches).known in
+      made = let known = (c.l2_depends_on_rb.ensures.sound.keeps c.args.file.now.header.fields p sound.sound.honest sound.sound.caches).known in
           let alone = alone_none g.S.Storage.view c.args.file.now file refl known in
           handed_on (TakesAlone g.S.Storage.view run_of (IsMadeInTurn c.args.file.now.header.fields c.args.self.now.reftable c.args.self.now.reftable c.args.file.now.free_list c.args.file.now.free_list) c.args.file.now file) c.from_residual.result c.in_err-l2_depends_on_rb.field-0.0 c.from_residual.ensures (inl ((λ k used. inl (alone.0 k used)), alone.1));
     }
 
 pub returns-clause-sound : goal.returns-clause-sound
 returns-clause-sound g c = λ p sound.
-    let one = allocator_step_cached g.S.Storage.view p c.args.file.now c.args.self.now c.l2_depends_on_rb.new.storage c.l2_depends_on_rb.new.self sound (c.l2_depends_on_rb.ensures.keeps c.args.file.now.header.fields p sound.sound.honest sound.sound.caches) c.l2_depends_on_rb.ensures.marks in
+    let one = allocator_step_cached g.S.Storage.view p c.args.file.now c.args.self.now c.l2_depends_on_rb.new.storage c.l2_depends_on_rb.new.self sound (c.l2_depends_on_rb.ensures.sound.keeps c.args.file.now.header.fields p sound.sound.honest sound.sound.caches) c.l2_depends_on_rb.ensures.step.marks.pins in
     let file : ImageFile g.row.S.Denot = record c.args.file.now { storage = c.l2_depends_on_rb.new.storage; caches = c.l2_depends_on_rb.new.self } in
-    let known = (c.l2_depends_on_rb.ensures.keeps c.args.file.now.header.fields p sound.sound.honest sound.sound.caches).known in
+    let known = (c.l2_depends_on_rb.ensures.sound.keeps c.args.file.now.header.fields p sound.sound.honest sound.sound.caches).known in
     record {
       found = record {
         takes = allocates_then g.S.Storage.view p (pending_then p c.args.file.now.free_list c.allocate.new.file.free_list) c.args.file.now file c.allocate.new.file c.args.self.now c.allocate.new.self Data c.args.count c.allocate.result (on_of g.S.Storage.view p p c.args.file.now file c.args.self.now one)
-            ((c.allocate.ensures.sound p (is_sound_now g.S.Storage.view p p c.args.file.now file c.args.self.now one) c.in_ok-l2_depends_on_rb.ensures.order).takes);
+            ((c.allocate.ensures.sound p (is_sound_now g.S.Storage.view p p c.args.file.now file c.args.self.now one) c.in_ok-l2_depends_on_rb.ensures.turns.order).takes);
         uses = ok_as (StaysUsed g.S.Storage.view file c.allocate.new.file) (StaysUsed g.S.Storage.view c.args.file.now c.allocate.new.file) c.allocate.result (λ uses k used. uses k (subst (λ b. count c.args.file.now.header.fields b k ≢ 0) (sym known) used))
-            ((c.allocate.ensures.sound p (is_sound_now g.S.Storage.view p p c.args.file.now file c.args.self.now one) c.in_ok-l2_depends_on_rb.ensures.order).uses);
-        hint = λ hint. (c.allocate.ensures.sound p (is_sound_now g.S.Storage.view p p c.args.file.now file c.args.self.now one) c.in_ok-l2_depends_on_rb.ensures.order).hint (hint_stays g.S.Storage.view p c.args.file.now file c.args.self.now c.args.self.now one refl hint);
-        lowest = λ hint. (c.allocate.ensures.sound p (is_sound_now g.S.Storage.view p p c.args.file.now file c.args.self.now one) c.in_ok-l2_depends_on_rb.ensures.order).lowest (hint_stays g.S.Storage.view p c.args.file.now file c.args.self.now c.args.self.now one refl hint);
-        limit = λ hint some. (c.allocate.ensures.sound p (is_sound_now g.S.Storage.view p p c.args.file.now file c.args.self.now one) c.in_ok-l2_depends_on_rb.ensures.order).limit (hint_stays g.S.Storage.view p c.args.file.now file c.args.self.now c.args.self.now one refl hint) some;
+            ((c.allocate.ensures.sound p (is_sound_now g.S.Storage.view p p c.args.file.now file c.args.self.now one) c.in_ok-l2_depends_on_rb.ensures.turns.order).uses);
+        hint = λ hint. (c.allocate.ensures.sound p (is_sound_now g.S.Storage.view p p c.args.file.now file c.args.self.now one) c.in_ok-l2_depends_on_rb.ensures.turns.order).hint (hint_stays g.S.Storage.view p c.args.file.now file c.args.self.now c.args.self.now one refl hint);
+        lowest = λ hint. (c.allocate.ensures.sound p (is_sound_now g.S.Storage.view p p c.args.file.now file c.args.self.now one) c.in_ok-l2_depends_on_rb.ensures.turns.order).lowest (hint_stays g.S.Storage.view p c.args.file.now file c.args.self.now c.args.self.now one refl hint);
+        limit = λ hint some. (c.allocate.ensures.sound p (is_sound_now g.S.Storage.view p p c.args.file.now file c.args.self.now one) c.in_ok-l2_depends_on_rb.ensures.turns.order).limit (hint_stays g.S.Storage.view p c.args.file.now file c.args.self.now c.args.self.now one refl hint) some;
       };
       leaks = c.allocate.ensures.leaks p (is_sound_now g.S.Storage.view p p c.args.file.now file c.args.self.now one);
       made = let now = is_sound_now g.S.Storage.view p p c.args.file.now file c.args.self.now one in
           alone_since g.S.Storage.view c.args.file.now file refl known run_of (IsMadeInTurn c.args.file.now.header.fields c.args.self.now.reftable c.allocate.new.self.reftable c.args.file.now.free_list c.allocate.new.file.free_list) c.allocate.new.file c.allocate.result
-          (made_run g.S.Storage.view p file c.allocate.new.file c.args.self.now c.allocate.new.self now c.allocate.ensures.step.list c.allocate.ensures.step.former Data c.args.count c.allocate.result ((c.allocate.ensures.sound p now c.in_ok-l2_depends_on_rb.ensures.order).takes));
+          (made_run g.S.Storage.view p file c.allocate.new.file c.args.self.now c.allocate.new.self now c.allocate.ensures.step.list c.allocate.ensures.step.former Data c.args.count c.allocate.result ((c.allocate.ensures.sound p now c.in_ok-l2_depends_on_rb.ensures.turns.order).takes));
     }

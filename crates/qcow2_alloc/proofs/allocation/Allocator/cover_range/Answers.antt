@@ -1,6 +1,7 @@
 use Rattle.std.proofs.Common.{◌≡◌, mul-pos, inl, true, false, ◌*◌, ◌<◌, ◌^◌, sym, ap, ◌∙◌, arith, Result, IsTrue, refl, subst}
 use Rattle.qcow2_metadata.specs.Header.{counts_per_block}
 use Rattle.qcow2_alloc.specs.Allocation.{GetsBlock}
+use Rattle.qcow2_alloc.specs.declared.allocation.Allocator.{Allocator}
 use Rattle.qcow2_alloc.proofs.Hints.{lacking_above}
 use Rattle.qcow2_alloc.proofs.AllocationSteps.{named_covered, none_named, handed_on, gets_placed, gets_then, is_sound_now, none_in_memory, stands_none}
 use Rattle.std.specs.Prelude.{IfErr}
@@ -66,13 +67,13 @@ returns-then-not-can_name-clause-sound g c = λ p sound.
 
 pub returns-clause-step : goal.returns-clause-step
 returns-clause-step g c = record {
-  header = c.place_block.ensures.header ∙ c.load_block.ensures.step.header;
-  list = c.place_block.ensures.list ∙ c.load_block.ensures.step.list;
+  header = c.place_block.ensures.step.header ∙ c.load_block.ensures.step.header;
+  list = c.place_block.ensures.step.list ∙ c.load_block.ensures.step.list;
   named = named_covered c.args.self.now.reftable c.place_block.new.self.reftable c.args.range
       (none_named c.args.file.now.header.fields c.args.self.now.reftable c.args.range c.in_ok-load_block.field-0 (sym c.is_some.ensures ∙ c.if-is_some.false) c.in_ok-load_block.ensures.finds.names)
-      c.place_block.ensures.entries;
-  marks = kept_marks_then c.load_block.ensures.step.marks c.place_block.ensures.marks;
-  header_cluster = spares_then c.load_block.ensures.step.header_cluster c.place_block.ensures.header_cluster;
+      c.place_block.ensures.step.named;
+  marks = kept_marks_then c.load_block.ensures.step.marks c.place_block.ensures.step.marks;
+  header_cluster = spares_then c.load_block.ensures.step.header_cluster c.place_block.ensures.step.header_cluster;
 }
 
 pub returns-clause-fails : goal.returns-clause-fails
@@ -111,22 +112,21 @@ pub returns-then-not-can_name-clause-entries : goal.returns-then-not-can_name-cl
 returns-then-not-can_name-clause-entries g c = entries_none _ c.args.self.now.reftable
 
 pub returns-clause-first : goal.returns-clause-first
-returns-clause-first g c = c.place_block.ensures.first
+returns-clause-first g c = (ap (λ (a : Allocator). a.first_free_cluster) c.place_block.ensures.rest)
 
 pub returns-clause-entries : goal.returns-clause-entries
-returns-clause-entries g c = c.place_block.ensures.entries
+returns-clause-entries g c = c.place_block.ensures.step.named
 
-pub place_block-requires-clause-within : goal.place_block-requires-clause-within
-place_block-requires-clause-within g c = c.can_name.ensures.within c.if-not-can_name.false
-
-pub place_block-requires-clause-placed : goal.place_block-requires-clause-placed
-place_block-requires-clause-placed g c = c.can_name.ensures.placed c.if-not-can_name.false
-
-pub place_block-requires-clause-elsewhere : goal.place_block-requires-clause-elsewhere
-place_block-requires-clause-elsewhere g c = subst (λ n. 0 < n) c.new.ensures (c.can_name.ensures.elsewhere c.if-not-can_name.false)
-
-pub place_block-requires-clause-nameable : goal.place_block-requires-clause-nameable
-place_block-requires-clause-nameable g c = subst (IsHostCluster c.args.self.now.reftable.cluster_bits) c.new.ensures (c.can_name.ensures.nameable c.if-not-can_name.false)
+pub place_block-requires : goal.place_block-requires
+place_block-requires g c = record {
+  place = record {
+    within = c.can_name.ensures.within c.if-not-can_name.false;
+    placed = c.can_name.ensures.placed c.if-not-can_name.false;
+    elsewhere = subst (λ n. 0 < n) c.new.ensures (c.can_name.ensures.elsewhere c.if-not-can_name.false);
+    nameable = subst (IsHostCluster c.args.self.now.reftable.cluster_bits) c.new.ensures (c.can_name.ensures.nameable c.if-not-can_name.false);
+    nameable_here = subst (IsHostCluster c.load_block.new.file.header.fields.cluster_bits) c.new.ensures (subst (λ b. IsHostCluster b c.new.result) c.cluster_bits-bits.ensures.value (c.can_name.ensures.nameable_here c.if-not-can_name.false));
+  };
+}
 
 pub returns-in_err-load_block-clause-has : goal.returns-in_err-load_block-clause-has
 returns-in_err-load_block-clause-has g c = on_no_ok _ c.from_residual.result c.in_err-load_block.field-0.0 c.from_residual.ensures

@@ -5,6 +5,7 @@ use Rattle.qcow2_laws.specs.Changes.{one_at}
 use Rattle.qcow2_alloc.specs.Allocation.{LacksFirst, taken_as, HasNone, GetsBlock, IsUnaligned}
 use Rattle.qcow2_alloc.specs.ImageFile.{IsFault}
 use Rattle.qcow2_alloc.specs.LowestRuns.{KeepsNoFreeBelowHint}
+use Rattle.qcow2_alloc.specs.declared.allocation.Allocator.{Allocator}
 use Rattle.qcow2_alloc.proofs.FileSteps.{leaves_then}
 use Rattle.qcow2_alloc.proofs.Hints.{lacking_above, hint_got, hint_placed, hint_refused, hint_stays, ok_as, range_as, not_broken}
 use Rattle.qcow2_alloc.proofs.AllocationSteps.{named_then, named_covered, none_named, handed_on, allocator_step_then, gets_then, gets_taken, is_sound_now, none_in_memory, stands_none, still_sound}
@@ -93,8 +94,8 @@ returns-then-is_fault-clause-sound g c = λ p sound.
 
 pub returns-in-Ok-Some-clause-step : goal.returns-in-Ok-Some-clause-step
 returns-in-Ok-Some-clause-step g c = record {
-  header = c.place_block.ensures.header ∙ c.take_lowest_below.ensures.step.header ∙ c.load_block.ensures.step.header;
-  list = c.place_block.ensures.list ∙ c.take_lowest_below.ensures.step.list ∙ c.load_block.ensures.step.list;
+  header = c.place_block.ensures.step.header ∙ c.take_lowest_below.ensures.step.header ∙ c.load_block.ensures.step.header;
+  list = c.place_block.ensures.step.list ∙ c.take_lowest_below.ensures.step.list ∙ c.load_block.ensures.step.list;
   named = let range = c.args.cluster / 2 ^ c.rb_bits-bits.result in
       let none = none_named c.args.file.now.header.fields c.args.self.now.reftable range c.in_ok-load_block.field-0 (sym c.is_some.ensures ∙ c.if-is_some.false) c.in_ok-load_block.ensures.finds.names in
       let counts : counts_per_block c.load_block.new.file.header.fields ≡ 2 ^ c.rb_bits-bits.result = ap (λ h. counts_per_block h.fields) c.load_block.ensures.step.header ∙ c.rb_bits-bits.ensures.counts in
@@ -102,9 +103,9 @@ returns-in-Ok-Some-clause-step g c = record {
       let past : c.args.cluster / 2 ^ c.rb_bits-bits.result * 2 ^ c.rb_bits-bits.result % 18446744073709551616 ≤ c.args.cluster / 2 ^ c.rb_bits-bits.result * counts_per_block c.load_block.new.file.header.fields = omega (arith, e) in
       let still : HasNone c.take_lowest_below.new.self.reftable range = ap block_offset (c.in-Ok-Some.ensures.entries.others range past) ∙ none in
       named_then c.args.self.now.reftable c.take_lowest_below.new.self.reftable c.place_block.new.self.reftable c.take_lowest_below.ensures.step.named
-      (named_covered c.take_lowest_below.new.self.reftable c.place_block.new.self.reftable range still c.place_block.ensures.entries);
-  marks = kept_marks_then (kept_marks_then c.load_block.ensures.step.marks c.take_lowest_below.ensures.step.marks) c.place_block.ensures.marks;
-  header_cluster = spares_then (spares_then c.load_block.ensures.step.header_cluster c.take_lowest_below.ensures.step.header_cluster) c.place_block.ensures.header_cluster;
+      (named_covered c.take_lowest_below.new.self.reftable c.place_block.new.self.reftable range still c.place_block.ensures.step.named);
+  marks = kept_marks_then (kept_marks_then c.load_block.ensures.step.marks c.take_lowest_below.ensures.step.marks) c.place_block.ensures.step.marks;
+  header_cluster = spares_then (spares_then c.load_block.ensures.step.header_cluster c.take_lowest_below.ensures.step.header_cluster) c.place_block.ensures.step.header_cluster;
 }
 
 pub returns-in-Ok-Some-clause-fails : goal.returns-in-Ok-Some-clause-fails
@@ -122,10 +123,10 @@ returns-in-Ok-Some-clause-sound g c = λ p sound.
     let taken = allocator_step_then g.S.Storage.view p (taken_as false p (one_at c.in-Ok-Some.at)) c.args.file.now c.load_block.new.file c.take_lowest_below.new.file c.args.self.now c.take_lowest_below.new.self l.0 two in
     record {
       gets = let noted = rw c.in-Ok-Some.field-0-is at c.in-Ok-Some.ensures.noted in
-          gets_taken g.S.Storage.view p c.args.file.now c.take_lowest_below.new.file c.place_block.new.file c.take_lowest_below.new.self c.place_block.new.self _ c.in-Ok-Some.at c.place_block.result taken (c.place_block.ensures.marks.pins.changes.noted (noted refl))
+          gets_taken g.S.Storage.view p c.args.file.now c.take_lowest_below.new.file c.place_block.new.file c.take_lowest_below.new.self c.place_block.new.self _ c.in-Ok-Some.at c.place_block.result taken (c.place_block.ensures.step.marks.pins.changes.noted (noted refl))
           (c.place_block.ensures.sound p (is_sound_now g.S.Storage.view p (taken_as false p (one_at c.in-Ok-Some.at)) c.args.file.now c.take_lowest_below.new.file c.take_lowest_below.new.self taken) (record { none = still; first = tt }));
       hint = λ hint. let here = hint_stays g.S.Storage.view p c.args.file.now c.load_block.new.file c.args.self.now c.args.self.now l.0 refl hint in
-          hint_placed g.S.Storage.view p c.take_lowest_below.new.file c.place_block.new.file c.take_lowest_below.new.self c.place_block.new.self (c.args.cluster / 2 ^ c.rb_bits-bits.result) c.in-Ok-Some.at c.place_block.result c.place_block.ensures.first
+          hint_placed g.S.Storage.view p c.take_lowest_below.new.file c.place_block.new.file c.take_lowest_below.new.self c.place_block.new.self (c.args.cluster / 2 ^ c.rb_bits-bits.result) c.in-Ok-Some.at c.place_block.result (ap (λ (a : Allocator). a.first_free_cluster) c.place_block.ensures.rest)
           (c.place_block.ensures.sound p (is_sound_now g.S.Storage.view p (taken_as false p (one_at c.in-Ok-Some.at)) c.args.file.now c.take_lowest_below.new.file c.take_lowest_below.new.self taken) (record { none = still; first = tt }))
           (c.in-Ok-Some.ensures.hint p (is_sound_now g.S.Storage.view p p c.args.file.now c.load_block.new.file c.args.self.now l.0) here);
       fault = λ within near. placed_fault g.S.Storage.view (taken_as false p (one_at c.in-Ok-Some.at)) p c.take_lowest_below.new.file c.place_block.new.file c.place_block.new.self (c.args.cluster / 2 ^ c.rb_bits-bits.result) c.in-Ok-Some.at c.place_block.result
@@ -211,20 +212,16 @@ cover_range-requires-in-Err g c = range_small c.args.cluster (2 ^ c.rb_bits-bits
 pub take_lowest_below-requires : goal.take_lowest_below-requires
 take_lowest_below-requires g c = begin_small c.args.cluster (2 ^ c.rb_bits-bits.result) c.requires
 
-pub place_block-requires-clause-within : goal.place_block-requires-clause-within
-place_block-requires-clause-within g c = subst (λ k. c.args.cluster / 2 ^ c.rb_bits-bits.result < k) (sym c.take_lowest_below.ensures.entries.count) (c.can_name.ensures.within c.if-not-can_name.false)
-
-pub place_block-requires-clause-placed : goal.place_block-requires-clause-placed
-place_block-requires-clause-placed g c = subst IsSome (sym c.take_lowest_below.ensures.entries.cluster) (c.can_name.ensures.placed c.if-not-can_name.false)
-
-pub place_block-requires-clause-elsewhere : goal.place_block-requires-clause-elsewhere
-place_block-requires-clause-elsewhere g c = let is = (rw c.in-Ok-Some.field-0-is at c.in-Ok-Some.ensures.below) in is.0
-
-pub place_block-requires-clause-nameable : goal.place_block-requires-clause-nameable
-place_block-requires-clause-nameable g c = subst (λ b. IsHostCluster b c.in-Ok-Some.at) (sym c.take_lowest_below.ensures.entries.bits) (host_below c.args.self.now.reftable.cluster_bits c.in-Ok-Some.at c.new-first.result (let is = (rw c.in-Ok-Some.field-0-is at c.in-Ok-Some.ensures.below) in below_first c.in-Ok-Some.at _ c.new-first.result is.1 c.new-first.ensures) (c.can_name.ensures.nameable c.if-not-can_name.false))
-
-pub place_block-requires-clause-nameable_here : goal.place_block-requires-clause-nameable_here
-place_block-requires-clause-nameable_here g c = subst (λ b. IsHostCluster b c.in-Ok-Some.at) (c.cluster_bits.ensures.value ∙ sym (ap (λ h. h.fields.cluster_bits) c.take_lowest_below.ensures.step.header)) (host_below c.cluster_bits.result c.in-Ok-Some.at c.new-first.result (let is = (rw c.in-Ok-Some.field-0-is at c.in-Ok-Some.ensures.below) in below_first c.in-Ok-Some.at _ c.new-first.result is.1 c.new-first.ensures) (c.can_name.ensures.nameable_here c.if-not-can_name.false))
+pub place_block-requires : goal.place_block-requires
+place_block-requires g c = record {
+  place = record {
+    within = subst (λ k. c.args.cluster / 2 ^ c.rb_bits-bits.result < k) (sym c.take_lowest_below.ensures.entries.count) (c.can_name.ensures.within c.if-not-can_name.false);
+    placed = subst IsSome (sym c.take_lowest_below.ensures.entries.cluster) (c.can_name.ensures.placed c.if-not-can_name.false);
+    elsewhere = let is = (rw c.in-Ok-Some.field-0-is at c.in-Ok-Some.ensures.below) in is.0;
+    nameable = subst (λ b. IsHostCluster b c.in-Ok-Some.at) (sym c.take_lowest_below.ensures.entries.bits) (host_below c.args.self.now.reftable.cluster_bits c.in-Ok-Some.at c.new-first.result (let is = (rw c.in-Ok-Some.field-0-is at c.in-Ok-Some.ensures.below) in below_first c.in-Ok-Some.at _ c.new-first.result is.1 c.new-first.ensures) (c.can_name.ensures.nameable c.if-not-can_name.false));
+    nameable_here = subst (λ b. IsHostCluster b c.in-Ok-Some.at) (c.cluster_bits.ensures.value ∙ sym (ap (λ h. h.fields.cluster_bits) c.take_lowest_below.ensures.step.header)) (host_below c.cluster_bits.result c.in-Ok-Some.at c.new-first.result (let is = (rw c.in-Ok-Some.field-0-is at c.in-Ok-Some.ensures.below) in below_first c.in-Ok-Some.at _ c.new-first.result is.1 c.new-first.ensures) (c.can_name.ensures.nameable_here c.if-not-can_name.false));
+  };
+}
 
 pub returns-in_err-load_block-clause-has : goal.returns-in_err-load_block-clause-has
 returns-in_err-load_block-clause-has g c = on_no_ok _ c.from_residual.result c.in_err-load_block.field-0.0 c.from_residual.ensures

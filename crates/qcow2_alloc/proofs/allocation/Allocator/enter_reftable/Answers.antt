@@ -10,12 +10,15 @@ use Rattle.qcow2_alloc.specs.declared.error.ImageError.{ImageError}
 use Rattle.qcow2_alloc.specs.declared.image_file.ImageFile.{ImageFile}
 use Rattle.qcow2_alloc.specs.Allocation.{NamesLacking, UnseenAllocatorStep}
 use Rattle.qcow2_alloc.specs.Growing.{IsCloneOf}
-use Rattle.qcow2_alloc.specs.FreeList.{FillsClusters}
 use Rattle.qcow2_alloc.specs.GrownTables.{with_run, EntersReftable, NamesReftable}
 use Rattle.qcow2_alloc.specs.ImageFile.{AllocatorInvariant, KeepsHeader}
 use Rattle.qcow2_alloc.specs.Limits.{IsFaultOr, nameable_clusters, HasNoRoomBelow, HasNoRoomFor, LiesLowest}
 use Rattle.qcow2_alloc.specs.LowestRuns.{KeepsUsed, IsUsed}
 use Rattle.qcow2_alloc.specs.Rooms.{IsLonger, room_length, opened}
+use Rattle.qcow2_alloc.specs.Steps.{EntersRoom, EntersTable}
+use Rattle.qcow2_alloc.specs.declared.allocation.Allocator.{Allocator}
+use Rattle.qcow2_alloc.specs.declared.free_room.Room.{Room}
+use Rattle.qcow2_metadata.specs.declared.header.HeaderFields.{HeaderFields}
 use Rattle.qcow2_alloc.proofs.AllocationSteps.{handed_on, is_sound_now, leaves_as}
 use Rattle.qcow2_alloc.proofs.FullRooms.{no_room_for, lies_lowest, lowest_entered}
 use Rattle.qcow2_alloc.proofs.Limits.{cause_as}
@@ -34,14 +37,27 @@ few_clusters n bits few high = let pow : 2 ^ bits ≤ 2 ^ 24 = pow_mono high in 
 lesser : (a a' b b' end e : ℕ) → a < 2 ^ 64 → a ≡ a' → b ≡ b' → end ≡ min (a % 2 ^ 64) b → e ≤ a' → e ≤ b' → e ≤ end
 lesser a a' b b' end e fits same_a same_b is low near = omega arith
 
--- a table of whole clusters fills those, and behind the header's cluster where its room lies behind that
-fills_room : (r : Result (Unit {0}) ImageError) (old table t : EntryTableView) (bits first blocks : ℕ) → 0 < first → table.cluster_bits ≡ bits → OnOk r (t.cluster ≡ Some (first + blocks)) → OnOk r (entry_count t ≡ entry_count table) → OnOk r (NamesLacking old table t)
-    → entry_count table % (2 ^ bits / 8) ≡ 0 → OnOk r (FillsClusters t)
-fills_room (Ok done) old table t bits first blocks above same is count lacking whole = record {
-  whole = subst (λ n. n % (2 ^ t.cluster_bits / 8) ≡ 0) (sym count) (subst (λ b. entry_count table % (2 ^ b / 8) ≡ 0) (sym (lacking.behind.bits ∙ same)) whole);
-  elsewhere = subst (λ (v : Option ℕ). IfSome v (λ c. 0 < c)) (sym is) (omega (arith, above));
-}
-fills_room (Err e) old table t bits first blocks above same is count lacking whole = tt
+-- what is said of the table that was entered in a room: a table of whole clusters fills those, and stands behind the header's cluster where its room does
+entered_place : {S : Type 0} (r : Result (Unit {0}) ImageError) (reftable table t : EntryTableView) (room : Room) (new : ImageFile S) → OnOk r (EntersRoom reftable table t room new) → OnOk r (t.cluster ≡ Some (room.first + room.blocks))
+entered_place (Ok done) reftable table t room new entered = entered.place
+entered_place (Err e) reftable table t room new entered = tt
+
+entered_count : {S : Type 0} (r : Result (Unit {0}) ImageError) (reftable table t : EntryTableView) (room : Room) (new : ImageFile S) → OnOk r (EntersRoom reftable table t room new) → OnOk r (entry_count t ≡ entry_count table)
+entered_count (Ok done) reftable table t room new entered = entered.entered.count
+entered_count (Err e) reftable table t room new entered = tt
+
+enters_table : {S : Type 0} (r : Result (Unit {0}) ImageError) (h : HeaderFields) (reftable' reftable table t : EntryTableView) (room : Room) (new : ImageFile S) → reftable' ≡ reftable → 0 < room.first → table.cluster_bits ≡ h.cluster_bits
+    → OnOk r (EntersRoom reftable' table t room new) → OnOk r (EntersTable h reftable table t new)
+enters_table (Ok done) h reftable' reftable table t room new is above same entered =
+    let so = entered.entered in
+    record {
+      entered = record { count = so.count; lacking = subst (λ (x : EntryTableView). NamesLacking x table t) is so.lacking; noted = so.noted };
+      fills = λ whole. record {
+        whole = subst (λ n. n % (2 ^ t.cluster_bits / 8) ≡ 0) (sym so.count) (subst (λ b. entry_count table % (2 ^ b / 8) ≡ 0) (sym (so.lacking.behind.bits ∙ same)) whole);
+        elsewhere = subst (λ (v : Option ℕ). IfSome v (λ c. 0 < c)) (sym entered.place) (omega (arith, above));
+      };
+    }
+enters_table (Err e) h reftable' reftable table t room new is above same entered = tt
 
 pub returns-in_err-room-clause-sound : goal.returns-in_err-room-clause-sound
 returns-in_err-room-clause-sound g c = λ p sound clone whole.
@@ -80,14 +96,14 @@ returns-clause-sound g c = λ p sound clone whole.
     let now = is_sound_now view p (with_run p b.header.fields t first n) a b u (room_now view p a b c.write_reftable.new.file u c.write_reftable.new.self t first n c.take_room.ensures.step.header room) in
     let same = c.take_room.ensures.reftable in
     let longer : IsLonger b.header.fields c.take_room.new.self.reftable c.args.table c.in_ok-room.room.clusters = clone_is_longer view (with_run p b.header.fields t first n) b u.reftable c.args.table c.in_ok-room.room.clusters now.sound now.reftable (subst (λ (x : EntryTableView). IsCloneOf x c.args.table) (sym same) clone)
-    (ap (λ (h : HeaderView). entry_count c.args.table % entries_per_cluster h.fields) c.take_room.ensures.step.header ∙ whole) (c.in_ok-room.ensures.clusters ∙ c.value.ensures ∙ c.cluster_count.ensures) in
+    (ap (λ (h : HeaderView). entry_count c.args.table % entries_per_cluster h.fields) c.take_room.ensures.step.header ∙ whole) (c.in_ok-room.ensures.room.clusters ∙ c.value.ensures ∙ c.cluster_count.ensures) in
     let sound_now = subst (λ (x : EntryTableView). AllocatorInvariant view u (with_run p b.header.fields x first n) b) (sym same) now in
     record {
       enters = entered view p a b c.write_reftable.new.file u c.write_reftable.new.self t first n c.take_room.ensures.step.header room c.write_reftable.result
-          (still_noted a.header.fields t first n b.caches.is_changed c.write_reftable.new.file.caches.is_changed c.write_reftable.ensures.step.marks.pins.changes.noted c.in_ok-room.ensures.noted)
-          (subst (λ (x : EntryTableView). NamesReftable view (with_run p b.header.fields x first n) p b c.write_reftable.new.self c.write_reftable.new.file c.write_reftable.result) same (c.write_reftable.ensures.sound p sound_now longer));
-      uses = uses_entered view p a b c.write_reftable.new.file u c.write_reftable.new.self t first n c.take_room.ensures.step.header room c.write_reftable.result (c.write_reftable.ensures.uses p sound_now longer);
-      lowest = λ hint. let uses = c.write_reftable.ensures.uses p sound_now longer in
+          (still_noted a.header.fields t first n b.caches.is_changed c.write_reftable.new.file.caches.is_changed c.write_reftable.ensures.step.marks.pins.changes.noted c.in_ok-room.ensures.room.noted)
+          (subst (λ (x : EntryTableView). NamesReftable view (with_run p b.header.fields x first n) p b c.write_reftable.new.self c.write_reftable.new.file c.write_reftable.result) same ((c.write_reftable.ensures.sound p sound_now longer).names));
+      uses = uses_entered view p a b c.write_reftable.new.file u c.write_reftable.new.self t first n c.take_room.ensures.step.header room c.write_reftable.result ((c.write_reftable.ensures.sound p sound_now longer).uses);
+      lowest = λ hint. let uses = (c.write_reftable.ensures.sound p sound_now longer).uses in
           let new = c.write_reftable.new.file in
           let length : ℕ = entry_count c.args.table in
           let keeps : KeepsHeader a.header new.header = header_then a.header b.header new.header (header_same a.header b.header c.take_room.ensures.step.header) c.write_reftable.ensures.step.header in
@@ -97,12 +113,12 @@ returns-clause-sound g c = λ p sound clone whole.
           let named : c.len.result * 2 ^ c.rb_bits.result ≡ length * counts_per_block new.header.fields = ap (λ n. n * 2 ^ c.rb_bits.result) c.len.ensures.value ∙ ap (λ n. length * n) (sym c.rb_bits.ensures.counts) ∙ ap (λ n. length * n) (sym per) in
           let nameable : greatest_offset / 2 ^ c.cluster_bits-bits.result + 1 ≡ nameable_clusters new.header.fields = ap (λ n. greatest_offset / 2 ^ n + 1) c.cluster_bits-bits.ensures.value ∙ ap (λ (k : HeaderView). nameable_clusters k.fields) (sym keeps) in
           let fits = few_clusters c.len.result c.rb_bits.result c.len.ensures.limit c.rb_bits.ensures.high in
-          let lacks : c.in_ok-room.room.blocks ≡ opened t (counts_per_block new.header.fields) first (c.in_ok-room.room.blocks + c.value.result) = c.in_ok-room.ensures.blocks ∙ ap (λ m. opened t m first n) (sym per) ∙ ap (λ m. opened t (counts_per_block new.header.fields) first (c.in_ok-room.room.blocks + m)) c.in_ok-room.ensures.clusters in
+          let lacks : c.in_ok-room.room.blocks ≡ opened t (counts_per_block new.header.fields) first (c.in_ok-room.room.blocks + c.value.result) = c.in_ok-room.ensures.room.blocks ∙ ap (λ m. opened t m first n) (sym per) ∙ ap (λ m. opened t (counts_per_block new.header.fields) first (c.in_ok-room.room.blocks + m)) c.in_ok-room.ensures.room.clusters in
           let lowest = (c.in_ok-room.ensures.sound p sound).lowest hint in
-          lies_lowest view new t c.write_reftable.new.self.reftable first c.in_ok-room.room.blocks c.value.result c.min-end.result c.write_reftable.result length c.in_ok-room.ensures.above c.write_reftable.ensures.place c.write_reftable.ensures.table clusters lacks
+          lies_lowest view new t c.write_reftable.new.self.reftable first c.in_ok-room.room.blocks c.value.result c.min-end.result c.write_reftable.result length c.in_ok-room.ensures.room.above (entered_place c.write_reftable.result c.take_room.new.self.reftable c.args.table c.write_reftable.new.self.reftable c.in_ok-room.room c.write_reftable.new.file c.write_reftable.ensures.entered) (entered_count c.write_reftable.result c.take_room.new.self.reftable c.args.table c.write_reftable.new.self.reftable c.in_ok-room.room c.write_reftable.new.file c.write_reftable.ensures.entered) clusters lacks
           (λ e low near. lesser (c.len.result * 2 ^ c.rb_bits.result) (length * counts_per_block new.header.fields) (greatest_offset / 2 ^ c.cluster_bits-bits.result + 1) (nameable_clusters new.header.fields) c.min-end.result e fits named nameable c.min-end.ensures low near)
           (lowest_entered view b new t c.value.result c.min-end.result first c.write_reftable.result (per ∙ ap (λ (h : HeaderView). counts_per_block h.fields) (sym c.take_room.ensures.step.header)) uses lowest);
-      limit = λ hint. names_fault view (with_run p b.header.fields c.take_room.new.self.reftable first n) p b c.write_reftable.new.file c.write_reftable.new.self _ c.write_reftable.result (c.write_reftable.ensures.sound p sound_now longer);
+      limit = λ hint. names_fault view (with_run p b.header.fields c.take_room.new.self.reftable first n) p b c.write_reftable.new.file c.write_reftable.new.self _ c.write_reftable.result ((c.write_reftable.ensures.sound p sound_now longer).names);
     }
 
 pub returns-in_err-room-clause-step : goal.returns-in_err-room-clause-step
@@ -111,14 +127,8 @@ returns-in_err-room-clause-step g c = pointer_step_on c.take_room.ensures.step
 pub returns-in_err-room-clause-fails : goal.returns-in_err-room-clause-fails
 returns-in_err-room-clause-fails g c = fails_on c.from_residual.result c.in_err-room.field-0.0 c.from_residual.ensures c.in_err-room.ensures.fails
 
-pub returns-in_err-room-clause-noted : goal.returns-in_err-room-clause-noted
-returns-in_err-room-clause-noted g c = on_no_ok _ c.from_residual.result c.in_err-room.field-0.0 c.from_residual.ensures
-
-pub returns-in_err-room-clause-table : goal.returns-in_err-room-clause-table
-returns-in_err-room-clause-table g c = on_no_ok _ c.from_residual.result c.in_err-room.field-0.0 c.from_residual.ensures
-
-pub returns-in_err-room-clause-list : goal.returns-in_err-room-clause-list
-returns-in_err-room-clause-list g c = c.take_room.ensures.step.list
+pub returns-in_err-room-clause-entered : goal.returns-in_err-room-clause-entered
+returns-in_err-room-clause-entered g c = on_no_ok _ c.from_residual.result c.in_err-room.field-0.0 c.from_residual.ensures
 
 pub returns-in_err-room-clause-first : goal.returns-in_err-room-clause-first
 returns-in_err-room-clause-first g c = c.take_room.ensures.first
@@ -132,34 +142,16 @@ returns-clause-step g c = pointer_step_then (pointer_step_on c.take_room.ensures
 pub returns-clause-fails : goal.returns-clause-fails
 returns-clause-fails g c = fails_since c.in_ok-room.ensures.fails.told c.write_reftable.ensures.fails
 
-pub returns-clause-noted : goal.returns-clause-noted
-returns-clause-noted g c = c.write_reftable.ensures.noted
-
-pub returns-clause-list : goal.returns-clause-list
-returns-clause-list g c = c.write_reftable.ensures.list ∙ c.take_room.ensures.step.list
-
-pub returns-clause-table : goal.returns-clause-table
-returns-clause-table g c = c.write_reftable.ensures.table
+pub returns-clause-entered : goal.returns-clause-entered
+returns-clause-entered g c =
+    enters_table c.write_reftable.result c.args.file.now.header.fields c.take_room.new.self.reftable c.args.self.now.reftable c.args.table c.write_reftable.new.self.reftable c.in_ok-room.room c.write_reftable.new.file
+    c.take_room.ensures.reftable c.in_ok-room.ensures.room.above (sym c.cluster_bits.ensures.value ∙ c.if-cluster_bits-bits.false ∙ c.cluster_bits-bits.ensures.value) c.write_reftable.ensures.entered
 
 pub returns-clause-first : goal.returns-clause-first
-returns-clause-first g c = c.write_reftable.ensures.first ∙ c.take_room.ensures.first
-
-pub returns-in_err-room-clause-lacking : goal.returns-in_err-room-clause-lacking
-returns-in_err-room-clause-lacking g c = on_no_ok _ c.from_residual.result c.in_err-room.field-0.0 c.from_residual.ensures
-
-pub returns-clause-lacking : goal.returns-clause-lacking
-returns-clause-lacking g c =
-    subst (λ (t : EntryTableView). OnOk c.write_reftable.result (NamesLacking t c.args.table c.write_reftable.new.self.reftable)) c.take_room.ensures.reftable c.write_reftable.ensures.lacking
+returns-clause-first g c = ap (λ (a : Allocator). a.first_free_cluster) c.write_reftable.ensures.rest ∙ c.take_room.ensures.first
 
 pub returns-in_err-room-clause-leaks : goal.returns-in_err-room-clause-leaks
 returns-in_err-room-clause-leaks g c = λ p sound. (c.take_room.ensures.sound p sound).leaks
 
 pub returns-clause-leaks : goal.returns-clause-leaks
-returns-clause-leaks g c = λ p sound. c.write_reftable.ensures.leaks ∙ (c.take_room.ensures.sound p sound).leaks
-
-pub returns-in_err-room-clause-fills : goal.returns-in_err-room-clause-fills
-returns-in_err-room-clause-fills g c = λ _. on_no_ok _ c.from_residual.result c.in_err-room.field-0.0 c.from_residual.ensures
-
-pub returns-clause-fills : goal.returns-clause-fills
-returns-clause-fills g c = fills_room c.write_reftable.result c.take_room.new.self.reftable c.args.table c.write_reftable.new.self.reftable c.args.file.now.header.fields.cluster_bits c.in_ok-room.room.first c.in_ok-room.room.blocks c.in_ok-room.ensures.above (sym c.cluster_bits.ensures.value ∙ c.if-cluster_bits-bits.false ∙ c.cluster_bits-bits.ensures.value)
-    c.write_reftable.ensures.place c.write_reftable.ensures.table c.write_reftable.ensures.lacking
+returns-clause-leaks g c = λ p sound. ap (λ (a : Allocator). a.leaked_clusters) c.write_reftable.ensures.rest ∙ (c.take_room.ensures.sound p sound).leaks

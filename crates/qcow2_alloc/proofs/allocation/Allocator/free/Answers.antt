@@ -1,4 +1,4 @@
-use Rattle.std.proofs.Common.{refl, inl, ap, ◌∙◌, Err}
+use Rattle.std.proofs.Common.{refl, inl, ap, ◌∙◌}
 use Rattle.qcow2_laws.specs.CrashInvariant.{Pending}
 use Rattle.qcow2_alloc.specs.declared.clusters_to_free.ClusterKind.TheVariants.{Data}
 use Rattle.qcow2_alloc.specs.declared.image_file.ImageFile.{ImageFile}
@@ -12,7 +12,7 @@ use Rattle.qcow2_alloc.proofs.Outcomes.{on_no_ok}
 use Rattle.std.proofs.Math.Nat.{le_trans}
 use Rattle.qcow2_metadata.specs.Header.{HeaderView}
 use Rattle.qcow2_alloc.proofs.UnalignedLeaks.{leaks_as, leaks_then}
-use Rattle.qcow2_alloc.proofs.Steps.{fails_of, fails_ok, fails_on, fails_since, free_in_turn, turn_cached, turn_then}
+use Rattle.qcow2_alloc.proofs.Steps.{fails_ok, fails_on, fails_since, free_in_turn, turn_cached, turn_then}
 use Rattle.qcow2_alloc.proofs.allocation.Allocator.free.Goals as goal
 
 pub returns-clause-emptied : goal.returns-clause-emptied
@@ -31,14 +31,14 @@ returns-clause-sound g c = λ p sound.
     let s = one.file_step.sound in
     let turned : ImageFile g.row.S.Denot = record c.free_kind.new.file { storage = c.rb_depends_on_l2.new.storage; caches = c.rb_depends_on_l2.new.self } in
     let two = allocator_step_cached view now c.free_kind.new.file c.free_kind.new.self c.rb_depends_on_l2.new.storage c.rb_depends_on_l2.new.self (is_sound_now view q now c.args.file.now c.free_kind.new.file c.free_kind.new.self one)
-    (c.rb_depends_on_l2.ensures.keeps c.free_kind.new.file.header.fields now s.honest s.caches) c.rb_depends_on_l2.ensures.marks in
+    (c.rb_depends_on_l2.ensures.sound.keeps c.free_kind.new.file.header.fields now s.honest s.caches) c.rb_depends_on_l2.ensures.step.marks.pins in
     let both = allocator_step_on view q now now c.args.file.now c.free_kind.new.file turned c.free_kind.new.self c.free_kind.new.self (λ k some. some) one two in
     record {
       gives = frees_then view q now (with_listed p c.free_kind-2.new.file.free_list) c.args.file.now turned c.free_kind-2.new.file c.free_kind.new.self c.free_kind-2.new.self c.free_kind-2.result (λ k some. some) both
-          ((c.free_kind-2.ensures.sound p (is_sound_now view q now c.args.file.now turned c.free_kind.new.self both) c.in_ok-rb_depends_on_l2.ensures.order).gives);
-      leaks = (c.free_kind-2.ensures.sound p (is_sound_now view q now c.args.file.now turned c.free_kind.new.self both) c.in_ok-rb_depends_on_l2.ensures.order).leaks ∙ (c.free_kind.ensures.sound p sound tt).leaks;
+          ((c.free_kind-2.ensures.sound p (is_sound_now view q now c.args.file.now turned c.free_kind.new.self both) c.in_ok-rb_depends_on_l2.ensures.turns.order).gives);
+      leaks = (c.free_kind-2.ensures.sound p (is_sound_now view q now c.args.file.now turned c.free_kind.new.self both) c.in_ok-rb_depends_on_l2.ensures.turns.order).leaks ∙ (c.free_kind.ensures.sound p sound tt).leaks;
       hint = λ hint. let still = hint_stays view now c.free_kind.new.file turned c.free_kind.new.self c.free_kind.new.self two refl ((c.in_ok-free_kind.ensures.sound p sound tt).hint hint) in
-          (c.free_kind-2.ensures.sound p (is_sound_now view q now c.args.file.now turned c.free_kind.new.self both) c.in_ok-rb_depends_on_l2.ensures.order).hint still;
+          (c.free_kind-2.ensures.sound p (is_sound_now view q now c.args.file.now turned c.free_kind.new.self both) c.in_ok-rb_depends_on_l2.ensures.turns.order).hint still;
     }
 
 pub returns-in_err-free_kind-clause-sound : goal.returns-in_err-free_kind-clause-sound
@@ -68,7 +68,7 @@ returns-in_err-rb_depends_on_l2-clause-sound g c = λ p sound.
     let s = one.file_step.sound in
     let turned : ImageFile g.row.S.Denot = record c.free_kind.new.file { storage = c.rb_depends_on_l2.new.storage; caches = c.rb_depends_on_l2.new.self } in
     let two = allocator_step_cached view now c.free_kind.new.file c.free_kind.new.self c.rb_depends_on_l2.new.storage c.rb_depends_on_l2.new.self (is_sound_now view q now c.args.file.now c.free_kind.new.file c.free_kind.new.self one)
-    (c.rb_depends_on_l2.ensures.keeps h now s.honest s.caches) c.rb_depends_on_l2.ensures.marks in
+    (c.rb_depends_on_l2.ensures.sound.keeps h now s.honest s.caches) c.rb_depends_on_l2.ensures.step.marks.pins in
     record {
       gives = handed_on (Frees view q c.args.file.now c.free_kind.new.self turned now) c.from_residual-in_err-rb_depends_on_l2.result c.in_err-rb_depends_on_l2.field-0.0 c.from_residual-in_err-rb_depends_on_l2.ensures (
         c.in_err-rb_depends_on_l2.ensures.faults h now s.honest s.caches s.named_blocks,
@@ -89,10 +89,10 @@ pub returns-in_err-free_kind-clause-emptied : goal.returns-in_err-free_kind-clau
 returns-in_err-free_kind-clause-emptied g c = on_no_ok _ c.from_residual.result c.in_err-free_kind.field-0.0 c.from_residual.ensures
 
 pub returns-in_err-rb_depends_on_l2-clause-step : goal.returns-in_err-rb_depends_on_l2-clause-step
-returns-in_err-rb_depends_on_l2-clause-step g c = turn_then (free_in_turn c.free_kind.ensures.step) (turn_cached c.rb_depends_on_l2.ensures.marks c.rb_depends_on_l2.ensures.notes c.rb_depends_on_l2.ensures.header_cluster)
+returns-in_err-rb_depends_on_l2-clause-step g c = turn_then (free_in_turn c.free_kind.ensures.step) (turn_cached c.rb_depends_on_l2.ensures.step.marks.pins c.rb_depends_on_l2.ensures.step.marks.notes c.rb_depends_on_l2.ensures.step.header_cluster)
 
 pub returns-in_err-rb_depends_on_l2-clause-fails : goal.returns-in_err-rb_depends_on_l2-clause-fails
-returns-in_err-rb_depends_on_l2-clause-fails g c = fails_on c.from_residual-in_err-rb_depends_on_l2.result c.in_err-rb_depends_on_l2.field-0.0 c.from_residual-in_err-rb_depends_on_l2.ensures (fails_since c.in_ok-free_kind.ensures.fails.told (fails_of (Err c.in_err-rb_depends_on_l2.field-0.0) c.in_err-rb_depends_on_l2.ensures.storage_faults c.in_err-rb_depends_on_l2.ensures.cause))
+returns-in_err-rb_depends_on_l2-clause-fails g c = fails_on c.from_residual-in_err-rb_depends_on_l2.result c.in_err-rb_depends_on_l2.field-0.0 c.from_residual-in_err-rb_depends_on_l2.ensures (fails_since c.in_ok-free_kind.ensures.fails.told c.in_err-rb_depends_on_l2.ensures.fails)
 
 pub returns-in_err-rb_depends_on_l2-clause-emptied : goal.returns-in_err-rb_depends_on_l2-clause-emptied
 returns-in_err-rb_depends_on_l2-clause-emptied g c = on_no_ok _ c.from_residual-in_err-rb_depends_on_l2.result c.in_err-rb_depends_on_l2.field-0.0 c.from_residual-in_err-rb_depends_on_l2.ensures
@@ -113,10 +113,10 @@ pub returns-in_err-rb_depends_on_l2-clause-grows : goal.returns-in_err-rb_depend
 returns-in_err-rb_depends_on_l2-clause-grows g c = c.free_kind.ensures.grows
 
 pub returns-clause-step : goal.returns-clause-step
-returns-clause-step g c = turn_then (turn_then (free_in_turn c.free_kind.ensures.step) (turn_cached c.rb_depends_on_l2.ensures.marks c.rb_depends_on_l2.ensures.notes c.rb_depends_on_l2.ensures.header_cluster)) (free_in_turn c.free_kind-2.ensures.step)
+returns-clause-step g c = turn_then (turn_then (free_in_turn c.free_kind.ensures.step) (turn_cached c.rb_depends_on_l2.ensures.step.marks.pins c.rb_depends_on_l2.ensures.step.marks.notes c.rb_depends_on_l2.ensures.step.header_cluster)) (free_in_turn c.free_kind-2.ensures.step)
 
 pub returns-clause-fails : goal.returns-clause-fails
-returns-clause-fails g c = fails_since (c.in_ok-rb_depends_on_l2.ensures.storage_faults.told ∙ c.in_ok-free_kind.ensures.fails.told) c.free_kind-2.ensures.fails
+returns-clause-fails g c = fails_since (c.in_ok-rb_depends_on_l2.ensures.fails.told ∙ c.in_ok-free_kind.ensures.fails.told) c.free_kind-2.ensures.fails
 
 pub returns-clause-grows : goal.returns-clause-grows
 returns-clause-grows g c = le_trans c.free_kind.ensures.grows c.free_kind-2.ensures.grows

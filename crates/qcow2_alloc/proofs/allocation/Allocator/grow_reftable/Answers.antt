@@ -7,9 +7,10 @@ use Rattle.qcow2_laws.specs.CrashInvariant.{Pending}
 use Rattle.qcow2_alloc.specs.declared.clusters_to_free.ClustersToFreeEntry.{ClustersToFreeEntry}
 use Rattle.qcow2_alloc.specs.Allocation.{UnseenAllocatorGrowth, RefusedGrowth, GrowsTable}
 use Rattle.qcow2_alloc.specs.declared.error.ImageError.{ImageError}
-use Rattle.qcow2_alloc.specs.FreeList.{pending_then, GivesWay}
-use Rattle.qcow2_alloc.specs.Growing.{IsLongEnough}
+use Rattle.qcow2_alloc.specs.FreeList.{pending_then}
+use Rattle.qcow2_alloc.specs.Growing.{IsLeastLength, IsLongEnough}
 use Rattle.qcow2_alloc.specs.Limits.{IsFaultOr, HasNoRoomFor, CantGrow}
+use Rattle.qcow2_alloc.proofs.SparedHeaders.{spares_listed}
 use Rattle.qcow2_alloc.proofs.AllocationSteps.{handed_on, lacking_clone, on_none}
 use Rattle.qcow2_alloc.proofs.FullRooms.{cant_grow}
 use Rattle.qcow2_alloc.proofs.Limits.{cause_as}
@@ -18,59 +19,44 @@ use Rattle.qcow2_alloc.proofs.GrownReftables.{grown}
 use Rattle.qcow2_alloc.proofs.Outcomes.{on_no_ok}
 use Rattle.qcow2_alloc.specs.MadeClusters.{IsMadeOnTheWay, TakesAlone}
 use Rattle.qcow2_alloc.proofs.MadeClusters.{made_entered, made_unentered}
-use Rattle.qcow2_alloc.proofs.Steps.{pointer_step_listed, pointer_step_none, fails_by, fails_ok, fails_on}
+use Rattle.qcow2_alloc.proofs.Steps.{growth_step_none, growth_step_on, fails_by, fails_ok, fails_on}
 use Rattle.qcow2_alloc.proofs.allocation.Allocator.grow_reftable.Goals as goal
 
 pub returns-in_err-table-clause-step : goal.returns-in_err-table-clause-step
-returns-in_err-table-clause-step g c = pointer_step_none
+returns-in_err-table-clause-step g c = growth_step_none c.from_residual.result c.in_err-table.field-0.0 c.from_residual.ensures
 
 pub returns-in_err-former-clause-step : goal.returns-in_err-former-clause-step
-returns-in_err-former-clause-step g c = pointer_step_none
+returns-in_err-former-clause-step g c = growth_step_none c.from_residual-in_err-former.result c.in_err-former.field-0.0 c.from_residual-in_err-former.ensures
 
 pub returns-in-Ok-clause-step : goal.returns-in-Ok-clause-step
-returns-in-Ok-clause-step g c = pointer_step_listed c.hand_back.new.list c.enter_reftable.ensures.step
+returns-in-Ok-clause-step g c =
+    let clone = c.in_ok-table.ensures.entries in
+    let names = lacking_clone c.args.self.now.reftable c.in_ok-table.table c.enter_reftable.new.self.reftable clone.bits clone.entries c.in-Ok.ensures.entered.entered.lacking in
+    record {
+      header = c.enter_reftable.ensures.step.header;
+      list = record {
+        more = c.in_ok-former.former ∷ [];
+        is = c.hand_back.ensures ∙ ap (λ (l : List ClustersToFreeEntry). l ++ c.in_ok-former.former ∷ []) c.enter_reftable.ensures.step.list;
+        tables = rw c.in_ok-former.ensures.kind refl;
+      };
+      former = (
+        c.in_ok-former.former,
+        c.in_ok-former.ensures.of_table,
+        c.hand_back.ensures ∙ ap (λ (l : List ClustersToFreeEntry). l ++ c.in_ok-former.former ∷ []) c.enter_reftable.ensures.step.list,
+        c.in-Ok.ensures.entered.fills c.in_ok-table.ensures.length.enough.whole,
+        names.0,
+        names.1,
+      );
+      marks = c.enter_reftable.ensures.step.marks;
+      header_cluster = spares_listed c.hand_back.new.list (c.enter_reftable.ensures.step.header_cluster tt);
+    }
 
 pub returns-in-Err-clause-step : goal.returns-in-Err-clause-step
-returns-in-Err-clause-step g c = c.enter_reftable.ensures.step
-
-pub returns-in_err-table-clause-former : goal.returns-in_err-table-clause-former
-returns-in_err-table-clause-former g c =
-    handed_on (GivesWay c.args.self.now.reftable c.args.self.now.reftable c.args.file.now.free_list c.args.file.now.free_list) c.from_residual.result c.in_err-table.field-0.0 c.from_residual.ensures (refl, refl)
-
-pub returns-in_err-former-clause-former : goal.returns-in_err-former-clause-former
-returns-in_err-former-clause-former g c =
-    handed_on (GivesWay c.args.self.now.reftable c.args.self.now.reftable c.args.file.now.free_list c.args.file.now.free_list) c.from_residual-in_err-former.result c.in_err-former.field-0.0 c.from_residual-in_err-former.ensures (refl, refl)
-
-pub returns-in-Ok-clause-former : goal.returns-in-Ok-clause-former
-returns-in-Ok-clause-former g c =
-    let clone = c.in_ok-table.ensures.entries in
-    let names = lacking_clone c.args.self.now.reftable c.in_ok-table.table c.enter_reftable.new.self.reftable clone.bits clone.entries c.in-Ok.ensures.lacking in (
-      c.in_ok-former.former,
-      c.in_ok-former.ensures.of_table,
-      c.hand_back.ensures ∙ ap (λ (l : List ClustersToFreeEntry). l ++ c.in_ok-former.former ∷ []) c.enter_reftable.ensures.list,
-      c.in-Ok.ensures.fills c.in_ok-table.ensures.length.enough.whole,
-      names.0,
-      names.1,
-    )
-
-pub returns-in-Err-clause-former : goal.returns-in-Err-clause-former
-returns-in-Err-clause-former g c = (c.in-Err.ensures.kept, c.enter_reftable.ensures.list)
-
-pub returns-in_err-table-clause-elsewhere : goal.returns-in_err-table-clause-elsewhere
-returns-in_err-table-clause-elsewhere g c = on_no_ok _ c.from_residual.result c.in_err-table.field-0.0 c.from_residual.ensures
-
-pub returns-in_err-former-clause-elsewhere : goal.returns-in_err-former-clause-elsewhere
-returns-in_err-former-clause-elsewhere g c = on_no_ok _ c.from_residual-in_err-former.result c.in_err-former.field-0.0 c.from_residual-in_err-former.ensures
-
-pub returns-in-Ok-clause-elsewhere : goal.returns-in-Ok-clause-elsewhere
-returns-in-Ok-clause-elsewhere g c = (c.in-Ok.ensures.fills c.in_ok-table.ensures.length.enough.whole).elsewhere
-
-pub returns-in-Err-clause-elsewhere : goal.returns-in-Err-clause-elsewhere
-returns-in-Err-clause-elsewhere g c = tt
+returns-in-Err-clause-step g c = growth_step_on (Err c.in-Err.refusal) c.enter_reftable.ensures.step (c.in-Err.ensures.kept, c.enter_reftable.ensures.step.list)
 
 pub returns-in-Ok-clause-sound : goal.returns-in-Ok-clause-sound
 returns-in-Ok-clause-sound g c = λ p sound.
-    let list = c.hand_back.ensures ∙ ap (λ (l : List ClustersToFreeEntry). l ++ c.in_ok-former.former ∷ []) c.enter_reftable.ensures.list in
+    let list = c.hand_back.ensures ∙ ap (λ (l : List ClustersToFreeEntry). l ++ c.in_ok-former.former ∷ []) c.enter_reftable.ensures.step.list in
     record {
       grows = let view = g.S.Storage.view in
           let old = c.args.file.now in
@@ -80,8 +66,8 @@ returns-in-Ok-clause-sound g c = λ p sound.
           (grown view p old c.enter_reftable.new.file c.enter_reftable.new.self c.args.self.now.reftable _ c.in_ok-former.former sound.sound sound.reftable c.in_ok-former.ensures.is_table sound.reftable.cluster run allocator_step old.free_list);
       leaks = c.enter_reftable.ensures.leaks p sound;
       made = let clone = c.in_ok-table.ensures.entries in
-          let names = lacking_clone c.args.self.now.reftable c.in_ok-table.table c.enter_reftable.new.self.reftable clone.bits clone.entries c.in-Ok.ensures.lacking in
-          let count = c.in-Ok.ensures.table in
+          let names = lacking_clone c.args.self.now.reftable c.in_ok-table.table c.enter_reftable.new.self.reftable clone.bits clone.entries c.in-Ok.ensures.entered.entered.lacking in
+          let count = c.in-Ok.ensures.entered.entered.count in
           let longer = c.in_ok-table.ensures.length.enough.longer in
           made_entered g.S.Storage.view p c.args.file.now c.enter_reftable.new.file c.args.self.now c.enter_reftable.new.self sound c.in_ok-former.former c.hand_back.new.list c.in_ok-former.ensures.of_table list (omega (arith, count, longer)) names.1
           ((c.in-Ok.ensures.sound p sound clone c.in_ok-table.ensures.length.enough.whole).enters) tt;
@@ -95,10 +81,10 @@ pub returns-in-Err-clause-sound : goal.returns-in-Err-clause-sound
 returns-in-Err-clause-sound g c = λ p sound.
     record {
       grows = subst (λ (q : Pending). RefusedGrowth g.S.Storage.view p c.args.file.now c.enter_reftable.new.self c.enter_reftable.new.file q c.in-Err.refusal)
-          (sym (listed_after_same p c.args.file.now.free_list c.enter_reftable.new.file.free_list c.enter_reftable.ensures.list))
+          (sym (listed_after_same p c.args.file.now.free_list c.enter_reftable.new.file.free_list c.enter_reftable.ensures.step.list))
           ((c.in-Err.ensures.sound p sound c.in_ok-table.ensures.entries c.in_ok-table.ensures.length.enough.whole).enters);
       leaks = c.enter_reftable.ensures.leaks p sound;
-      made = made_unentered g.S.Storage.view p c.args.file.now c.enter_reftable.new.file c.args.self.now c.enter_reftable.new.self sound c.in-Err.refusal c.enter_reftable.ensures.list c.in-Err.ensures.kept ((c.in-Err.ensures.sound p sound c.in_ok-table.ensures.entries c.in_ok-table.ensures.length.enough.whole).enters);
+      made = made_unentered g.S.Storage.view p c.args.file.now c.enter_reftable.new.file c.args.self.now c.enter_reftable.new.self sound c.in-Err.refusal c.enter_reftable.ensures.step.list c.in-Err.ensures.kept ((c.in-Err.ensures.sound p sound c.in_ok-table.ensures.entries c.in_ok-table.ensures.length.enough.whole).enters);
       uses = (c.in-Err.ensures.sound p sound c.in_ok-table.ensures.entries c.in_ok-table.ensures.length.enough.whole).uses;
       lowest = λ _. tt;
       limit = λ hint. let view = g.S.Storage.view in
@@ -163,3 +149,16 @@ returns-in-Ok-clause-fails g c = fails_ok c.in-Ok.ensures.fails.told
 
 pub returns-in-Err-clause-fails : goal.returns-in-Err-clause-fails
 returns-in-Err-clause-fails g c = c.in-Err.ensures.fails
+
+pub returns-in_err-table-clause-grown : goal.returns-in_err-table-clause-grown
+returns-in_err-table-clause-grown g c = on_no_ok _ c.from_residual.result c.in_err-table.field-0.0 c.from_residual.ensures
+
+pub returns-in_err-former-clause-grown : goal.returns-in_err-former-clause-grown
+returns-in_err-former-clause-grown g c = on_no_ok _ c.from_residual-in_err-former.result c.in_err-former.field-0.0 c.from_residual-in_err-former.ensures
+
+pub returns-in-Ok-clause-grown : goal.returns-in-Ok-clause-grown
+returns-in-Ok-clause-grown g c = record {
+  length = subst (IsLeastLength (entry_count c.args.self.now.reftable) c.args.index (entries_per_cluster c.args.file.now.header.fields) (counts_per_block c.args.file.now.header.fields)) (sym c.in-Ok.ensures.entered.entered.count) c.in_ok-table.ensures.length;
+  elsewhere = (c.in-Ok.ensures.entered.fills c.in_ok-table.ensures.length.enough.whole).elsewhere;
+  noted = c.in-Ok.ensures.entered.entered.noted;
+}

@@ -2,10 +2,9 @@ use Rattle.std.proofs.Common.{refl, inl, ◌^◌}
 use Rattle.qcow2_alloc.specs.Allocation.{LoadsBlock}
 use Rattle.qcow2_alloc.proofs.FileSteps.{file_step_cached, reftable_cached}
 use Rattle.qcow2_alloc.proofs.AllocationSteps.{handed_on, place_fits, stands}
-use Rattle.qcow2_alloc.proofs.KeptMarks.{marks_of_both}
 use Rattle.qcow2_alloc.proofs.AlignedBlocks.{not_off}
 use Rattle.qcow2_alloc.proofs.SparedHeaders.{not_first}
-use Rattle.qcow2_alloc.proofs.Steps.{fails_of, fails_ok, fails_on, table_step_cached, table_step_none}
+use Rattle.qcow2_alloc.proofs.Steps.{fails_ok, fails_on, table_step_cached, table_step_none}
 use Rattle.qcow2_alloc.proofs.allocation.Allocator.load_block.Goals as goal
 
 pub returns-in_err-rb_get_or_insert-clause-sound : goal.returns-in_err-rb_get_or_insert-clause-sound
@@ -15,16 +14,16 @@ returns-in_err-rb_get_or_insert-clause-sound g c = λ p sound.
       c.in_err-rb_get_or_insert.ensures.faults sound.sound.room c.args.file.now.header.fields
           (place_fits g.S.Storage.view _ c.in-Some.offset c.in-Some-checked_cluster.cluster c.cluster_bits.result c.args.file.now.header.fields.cluster_bits c.in-Some.ensures.offset c.in-Some-checked_cluster.ensures.cluster c.cluster_bits.ensures.value)
           p sound.sound.honest sound.sound.caches sound.sound.named_blocks,
-      inl (file_step_cached g.S.Storage.view p c.args.file.now c.rb_get_or_insert.new.storage c.rb_get_or_insert.new.self sound.sound (c.rb_get_or_insert.ensures.keeps c.args.file.now.header.fields p sound.sound.honest sound.sound.caches) c.rb_get_or_insert.ensures.marks, reftable_cached g.S.Storage.view p c.args.file.now c.rb_get_or_insert.new.storage c.rb_get_or_insert.new.self sound.sound (c.rb_get_or_insert.ensures.keeps c.args.file.now.header.fields p sound.sound.honest sound.sound.caches) c.args.self.now.reftable sound.reftable),
+      inl (file_step_cached g.S.Storage.view p c.args.file.now c.rb_get_or_insert.new.storage c.rb_get_or_insert.new.self sound.sound (c.rb_get_or_insert.ensures.sound.keeps c.args.file.now.header.fields p sound.sound.honest sound.sound.caches) c.rb_get_or_insert.ensures.step.marks.pins, reftable_cached g.S.Storage.view p c.args.file.now c.rb_get_or_insert.new.storage c.rb_get_or_insert.new.self sound.sound (c.rb_get_or_insert.ensures.sound.keeps c.args.file.now.header.fields p sound.sound.honest sound.sound.caches) c.args.self.now.reftable sound.reftable),
     )
 
 pub returns-clause-sound : goal.returns-clause-sound
 returns-clause-sound g c = λ p sound.
-    let file_step = file_step_cached g.S.Storage.view p c.args.file.now c.rb_get_or_insert.new.storage c.rb_get_or_insert.new.self sound.sound (c.rb_get_or_insert.ensures.keeps c.args.file.now.header.fields p sound.sound.honest sound.sound.caches) c.rb_get_or_insert.ensures.marks in
-    let reftable = reftable_cached g.S.Storage.view p c.args.file.now c.rb_get_or_insert.new.storage c.rb_get_or_insert.new.self sound.sound (c.rb_get_or_insert.ensures.keeps c.args.file.now.header.fields p sound.sound.honest sound.sound.caches) c.args.self.now.reftable sound.reftable in (
+    let file_step = file_step_cached g.S.Storage.view p c.args.file.now c.rb_get_or_insert.new.storage c.rb_get_or_insert.new.self sound.sound (c.rb_get_or_insert.ensures.sound.keeps c.args.file.now.header.fields p sound.sound.honest sound.sound.caches) c.rb_get_or_insert.ensures.step.marks.pins in
+    let reftable = reftable_cached g.S.Storage.view p c.args.file.now c.rb_get_or_insert.new.storage c.rb_get_or_insert.new.self sound.sound (c.rb_get_or_insert.ensures.sound.keeps c.args.file.now.header.fields p sound.sound.honest sound.sound.caches) c.args.self.now.reftable sound.reftable in (
       record { file_step = file_step; reftable = reftable },
       stands g.S.Storage.view p (record c.args.file.now { storage = c.rb_get_or_insert.new.storage; caches = c.rb_get_or_insert.new.self }) c.args.self.now.reftable file_step.sound reftable c.args.range c.in-Some.offset c.in-Some-checked_cluster.cluster c.cluster_bits.result
-          c.in-Some.ensures.offset c.in-Some.ensures.some c.in-Some-checked_cluster.ensures.cluster c.cluster_bits.ensures.value c.in_ok-rb_get_or_insert.ensures.cached,
+          c.in-Some.ensures.offset c.in-Some.ensures.some c.in-Some-checked_cluster.ensures.cluster c.cluster_bits.ensures.value c.in_ok-rb_get_or_insert.ensures.gets.cached,
     )
 
 pub returns-in_default-clause-none : goal.returns-in_default-clause-none
@@ -37,12 +36,12 @@ pub returns-clause-unaligned : goal.returns-clause-unaligned
 returns-clause-unaligned g c = λ u. not_off c.args.file.now.header.fields c.args.self.now.reftable c.args.range c.in-Some-checked_cluster.cluster c.cluster_bits.result c.in-Some.offset c.in-Some.ensures.offset c.in-Some-checked_cluster.ensures.cluster c.cluster_bits.ensures.value u
 
 pub returns-in_err-rb_get_or_insert-clause-step : goal.returns-in_err-rb_get_or_insert-clause-step
-returns-in_err-rb_get_or_insert-clause-step g c = table_step_cached (marks_of_both c.rb_get_or_insert.ensures.marks c.rb_get_or_insert.ensures.order c.rb_get_or_insert.ensures.notes)
-    (c.rb_get_or_insert.ensures.header_cluster (not_first c.in-Some-checked_cluster.cluster (2 ^ c.cluster_bits.result) c.in-Some.offset c.in-Some.ensures.some c.in-Some-checked_cluster.ensures.cluster))
+returns-in_err-rb_get_or_insert-clause-step g c = table_step_cached c.rb_get_or_insert.ensures.step.marks
+    (c.rb_get_or_insert.ensures.step.header_cluster (not_first c.in-Some-checked_cluster.cluster (2 ^ c.cluster_bits.result) c.in-Some.offset c.in-Some.ensures.some c.in-Some-checked_cluster.ensures.cluster))
 
 pub returns-clause-step : goal.returns-clause-step
-returns-clause-step g c = table_step_cached (marks_of_both c.rb_get_or_insert.ensures.marks c.rb_get_or_insert.ensures.order c.rb_get_or_insert.ensures.notes)
-    (c.rb_get_or_insert.ensures.header_cluster (not_first c.in-Some-checked_cluster.cluster (2 ^ c.cluster_bits.result) c.in-Some.offset c.in-Some.ensures.some c.in-Some-checked_cluster.ensures.cluster))
+returns-clause-step g c = table_step_cached c.rb_get_or_insert.ensures.step.marks
+    (c.rb_get_or_insert.ensures.step.header_cluster (not_first c.in-Some-checked_cluster.cluster (2 ^ c.cluster_bits.result) c.in-Some.offset c.in-Some.ensures.some c.in-Some-checked_cluster.ensures.cluster))
 
 pub returns-in_default-clause-step : goal.returns-in_default-clause-step
 returns-in_default-clause-step g c = table_step_none
@@ -51,7 +50,7 @@ pub returns-in_default-checked_cluster-clause-step : goal.returns-in_default-che
 returns-in_default-checked_cluster-clause-step g c = table_step_none
 
 pub returns-in_err-rb_get_or_insert-clause-fails : goal.returns-in_err-rb_get_or_insert-clause-fails
-returns-in_err-rb_get_or_insert-clause-fails g c = fails_on c.from_residual.result c.in_err-rb_get_or_insert.field-0.0 c.from_residual.ensures (fails_of _ c.in_err-rb_get_or_insert.ensures.storage_faults c.in_err-rb_get_or_insert.ensures.cause)
+returns-in_err-rb_get_or_insert-clause-fails g c = fails_on c.from_residual.result c.in_err-rb_get_or_insert.field-0.0 c.from_residual.ensures c.in_err-rb_get_or_insert.ensures.fails
 
 pub returns-clause-fails : goal.returns-clause-fails
-returns-clause-fails g c = fails_ok c.in_ok-rb_get_or_insert.ensures.storage_faults.told
+returns-clause-fails g c = fails_ok c.in_ok-rb_get_or_insert.ensures.fails.told

@@ -1,5 +1,6 @@
+use Rattle.qcow2_alloc.proofs.Outcomes.{if_no_ok}
 use Rattle.qcow2_alloc.proofs.AllocationSteps.{table_loaded, handed_on}
-use Rattle.std.proofs.Common.{◌≡◌, inl, inr, ℕ, ◌+◌, ◌*◌, ◌<◌, ◌≤◌, ◌^◌, Ok, Result, Some, sym, ap, ◌∙◌, subst, refl, arith}
+use Rattle.std.proofs.Common.{◌≡◌, inl, inr, ℕ, ◌+◌, ◌*◌, ◌<◌, ◌≤◌, ◌^◌, Ok, Result, Some, sym, ap, ◌∙◌, subst, refl, arith, rules}
 use Rattle.std.specs.Prelude.{MatchResult}
 use Rattle.image_access.specs.Contents.{bytes_at}
 use Rattle.qcow2_metadata.specs.Bytes.{byte_at}
@@ -18,12 +19,6 @@ use Rattle.qcow2_alloc.proofs.SparedHeaders.{not_first, placed_above}
 use Rattle.qcow2_alloc.proofs.Steps.{fails_by, fails_loaded, fails_ok}
 use Rattle.qcow2_alloc.specs.declared.error.ImageError.TheVariants as I
 use Rattle.qcow2_alloc.proofs.allocation.Allocator.new.Goals as goal
-
-pub returns-clause-reftable : goal.returns-clause-reftable
-returns-clause-reftable g c = λ honest.
-    table_loaded g.S.Storage.view c.args.file.now c.load.new.storage c.in_ok-reftable.reftable c.in-Some.cluster c.cluster_bits-bits.result c.reftable_entries-entries.result c.reftable_offset.result
-    c.in_ok-reftable.ensures.table c.in_ok-reftable.ensures.length c.cluster_bits-bits.ensures.value c.in-Some.ensures.cluster c.reftable_offset.ensures c.reftable_entries-entries.ensures.value
-    (c.in_ok-reftable.ensures.of_image honest) (c.load.ensures.same honest)
 
 pub returns-clause-why : goal.returns-clause-why
 returns-clause-why g c = λ honest.
@@ -55,25 +50,6 @@ returns-in_err-reftable-clause-why g c = λ honest.
     handed_on (λ (r : Result Allocator ImageError). MatchResult r (λ a. ReftableReads h b) (IsReasonAgainstReftable h b)) c.from_residual.result (of_metadata e) c.from_residual.ensures
     (subst (λ m. IsReasonAgainst h h.reftable_offset (2 ^ 64 ≤ h.reftable_offset + 8 * m) ((h.reftable_offset + 8 * m < 2 ^ 64) × HasUnreadEntry m (λ k. ReftableEntryReads (reftable_entry h b k))) (of_metadata e)) entries why)
 
-pub returns-clause-header_cluster : goal.returns-clause-header_cluster
-returns-clause-header_cluster g c = λ named are.
-    let h = c.args.file.now.header.fields in
-    let at : c.in-Some.cluster * 2 ^ c.cluster_bits-bits.result ≡ h.reftable_offset = c.in-Some.ensures.cluster ∙ c.reftable_offset.ensures in
-    let above : 0 < entry_count c.in_ok-reftable.reftable → 0 < c.in-Some.cluster = λ has. elim named [
-      | inl none ↦
-          let entries : c.reftable_entries-entries.result ≡ reftable_entries h = c.reftable_entries-entries.ensures.value in
-          let empty : reftable_entries h ≡ 0 * entries_per_cluster h = ap (λ n. n * entries_per_cluster h) none in
-          let long = c.in_ok-reftable.ensures.length in
-          absurd (omega (arith, has, long, entries, empty))
-      | inr some ↦ not_first c.in-Some.cluster (2 ^ c.cluster_bits-bits.result) h.reftable_offset some at
-    ] in
-    record {
-      header = refl;
-      caches = are;
-      reftable_bits = ap (λ (x : EntryTableView). x.cluster_bits) c.in_ok-reftable.ensures.table;
-      elsewhere = λ has is. placed_above (Some c.in-Some.cluster) (above has) (sym (ap (λ (x : EntryTableView). x.cluster) c.in_ok-reftable.ensures.table) ∙ is);
-    }
-
 pub returns-in_default-clause-fails : goal.returns-in_default-clause-fails
 returns-in_default-clause-fails g c = fails_by I.UnalignedTable (λ bad. absurd cc) refl tt
 
@@ -82,3 +58,42 @@ returns-in_err-reftable-clause-fails g c = fails_loaded EntryTableView c.from_re
 
 pub returns-clause-fails : goal.returns-clause-fails
 returns-clause-fails g c = fails_ok c.in_ok-reftable.ensures.calls.cause.told
+
+pub returns-in_default-clause-step : goal.returns-in_default-clause-step
+returns-in_default-clause-step g c = record { rest = refl; honest = search rules; same = search rules; time = search rules }
+
+pub returns-in_err-reftable-clause-step : goal.returns-in_err-reftable-clause-step
+returns-in_err-reftable-clause-step g c = record { rest = refl; honest = c.in_err-reftable.ensures.calls.honest; same = c.load.ensures.same; time = c.in_err-reftable.ensures.calls.time }
+
+pub returns-clause-step : goal.returns-clause-step
+returns-clause-step g c = record { rest = refl; honest = c.in_ok-reftable.ensures.calls.honest; same = c.load.ensures.same; time = c.in_ok-reftable.ensures.calls.time }
+
+pub returns-in_err-reftable-clause-begins : goal.returns-in_err-reftable-clause-begins
+returns-in_err-reftable-clause-begins g c = if_no_ok _ c.from_residual.result (of_metadata c.in_err-reftable.field-0.0) c.from_residual.ensures
+
+pub returns-clause-begins : goal.returns-clause-begins
+returns-clause-begins g c = record {
+  first = refl;
+  leaks = refl;
+  reftable = λ honest.
+      table_loaded g.S.Storage.view c.args.file.now c.load.new.storage c.in_ok-reftable.reftable c.in-Some.cluster c.cluster_bits-bits.result c.reftable_entries-entries.result c.reftable_offset.result
+      c.in_ok-reftable.ensures.table c.in_ok-reftable.ensures.length c.cluster_bits-bits.ensures.value c.in-Some.ensures.cluster c.reftable_offset.ensures c.reftable_entries-entries.ensures.value
+      (c.in_ok-reftable.ensures.of_image honest) (c.load.ensures.same honest);
+  header_cluster = λ named are.
+      let h = c.args.file.now.header.fields in
+      let at : c.in-Some.cluster * 2 ^ c.cluster_bits-bits.result ≡ h.reftable_offset = c.in-Some.ensures.cluster ∙ c.reftable_offset.ensures in
+      let above : 0 < entry_count c.in_ok-reftable.reftable → 0 < c.in-Some.cluster = λ has. elim named [
+        | inl none ↦
+            let entries : c.reftable_entries-entries.result ≡ reftable_entries h = c.reftable_entries-entries.ensures.value in
+            let empty : reftable_entries h ≡ 0 * entries_per_cluster h = ap (λ n. n * entries_per_cluster h) none in
+            let long = c.in_ok-reftable.ensures.length in
+            absurd (omega (arith, has, long, entries, empty))
+        | inr some ↦ not_first c.in-Some.cluster (2 ^ c.cluster_bits-bits.result) h.reftable_offset some at
+      ] in
+      record {
+        header = refl;
+        caches = are;
+        reftable_bits = ap (λ (x : EntryTableView). x.cluster_bits) c.in_ok-reftable.ensures.table;
+        elsewhere = λ has is. placed_above (Some c.in-Some.cluster) (above has) (sym (ap (λ (x : EntryTableView). x.cluster) c.in_ok-reftable.ensures.table) ∙ is);
+      };
+}

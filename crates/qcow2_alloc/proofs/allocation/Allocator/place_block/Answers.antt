@@ -27,8 +27,8 @@ use Rattle.qcow2_alloc.proofs.FileSteps.{file_step_then, interrupted_then}
 use Rattle.qcow2_alloc.proofs.AllocationSteps.{entered_has, handed_on, entries_entered, fault_of_storage, is_sound_now, stands}
 use Rattle.qcow2_alloc.proofs.NamedBlocks.{entry_write_as, real, safe_throughout_named, named_so}
 use Rattle.qcow2_alloc.proofs.Outcomes.{on_no_ok, entries_none}
-use Rattle.qcow2_alloc.proofs.SparedHeaders.{spares_then, spares_entry}
-use Rattle.qcow2_alloc.proofs.KeptMarks.{kept_marks_then, placed_kept, marks_of_storage}
+use Rattle.qcow2_alloc.proofs.SparedHeaders.{spares_then, spares_entry, spares_none}
+use Rattle.qcow2_alloc.proofs.KeptMarks.{kept_marks_then, placed_kept, marks_of_storage, kept_marks_none}
 use Rattle.qcow2_alloc.proofs.KeptNotes.{note_kept}
 use Rattle.std.proofs.lemmas.Bool.{or_left}
 use Rattle.qcow2_alloc.proofs.Steps.{fails_on, fails_by, fails_ok, fails_since, fails_storage, memory_other, other_as, same_faults}
@@ -108,9 +108,9 @@ returns-in_err-write_reftable_entry-clause-sound g c = λ p sound place.
     handed_on (PlacesBlock g.S.Storage.view (placing c.args.counts_itself p c.args.at) c.args.file.now (record c.args.self.now { reftable = c.enter_refblock.new.self }) (record c.write_block.new.file { storage = c.write_reftable_entry.new.self }) p c.args.range c.args.at)
     c.from_residual-in_err-write_reftable_entry.result (of_storage c.in_err-write_reftable_entry.field-0.0) c.from_residual-in_err-write_reftable_entry.ensures
     (not_placed g.S.Storage.view c.args.counts_itself p c.args.range c.args.at c.args.file.now c.write_block.new.file c.args.self.now c.enter_refblock.new.self c.write_reftable_entry.new.self (storage_of c.will_write.new.self) c.in_ok-block.block c.write_reftable_entry.result
-    three c.in_ok-write_block.ensures.counted c.in_ok-write_block.ensures.first (subst (λ h. HasPlaceFor c.args.counts_itself h c.args.self.now.reftable c.args.range c.args.at) (sym (ap (λ x. x.fields) c.write_block.ensures.header)) place)
-    c.requires.within c.enter_refblock.ensures.rest (subst (λ k. ChangesEntry c.args.self.now.reftable.bytes c.enter_refblock.new.self.bytes c.args.range (k * 2 ^ c.args.self.now.reftable.cluster_bits)) c.new-cluster.ensures c.enter_refblock.ensures.entry)
-    (c.enter_refblock.ensures.offset ∙ ap (λ k. k * 2 ^ c.args.self.now.reftable.cluster_bits) c.new-cluster.ensures) c.write_reftable_entry.ensures.fits c.in_ok-block.ensures.whole (subst (λ h. IsBlockOf h c.in_ok-block.block) (sym (ap (λ x. x.fields) c.write_block.ensures.header)) c.in_ok-block.ensures.format)
+    three c.in_ok-write_block.ensures.counted c.in_ok-write_block.ensures.first (subst (λ h. HasPlaceFor c.args.counts_itself h c.args.self.now.reftable c.args.range c.args.at) (sym (ap (λ x. x.fields) c.write_block.ensures.step.header)) place)
+    c.requires.place.within c.enter_refblock.ensures.rest (subst (λ k. ChangesEntry c.args.self.now.reftable.bytes c.enter_refblock.new.self.bytes c.args.range (k * 2 ^ c.args.self.now.reftable.cluster_bits)) c.new-cluster.ensures c.enter_refblock.ensures.entry)
+    (c.enter_refblock.ensures.offset ∙ ap (λ k. k * 2 ^ c.args.self.now.reftable.cluster_bits) c.new-cluster.ensures) c.write_reftable_entry.ensures.fits c.in_ok-block.ensures.whole (subst (λ h. IsBlockOf h c.in_ok-block.block) (sym (ap (λ x. x.fields) c.write_block.ensures.step.header)) c.in_ok-block.ensures.format)
     c.in_ok-block.ensures.counts c.will_write.ensures.storage c.write_reftable_entry.ensures.written c.write_reftable_entry.ensures.calls (note_kept c.will_write.new.self c.write_reftable_entry.new.self c.write_reftable_entry.result c.write_reftable_entry.ensures.noted (c.will_write.ensures.changed.note ∙ c.in_ok-write_block.ensures.noted)) (of_storage c.in_err-write_reftable_entry.field-0.0) (fault_of_storage c.in_err-write_reftable_entry.field-0.0))
 
 pub returns-clause-sound : goal.returns-clause-sound
@@ -118,13 +118,19 @@ returns-clause-sound g c = λ p sound place.
     let is = c.in_ok-block.ensures.cluster ∙ ap Some c.new-cluster.ensures in
     let three = c.in_ok-write_block.ensures.sound p c.args.counts_itself c.args.self.now c.args.range c.args.at sound place c.in_ok-block.ensures.format is in
     is_placed g.S.Storage.view c.args.counts_itself p c.args.range c.args.at c.args.file.now c.write_block.new.file c.args.self.now c.enter_refblock.new.self c.write_reftable_entry.new.self (storage_of c.will_write.new.self) c.in_ok-block.block c.write_reftable_entry.result
-    three c.in_ok-write_block.ensures.counted c.in_ok-write_block.ensures.first (subst (λ h. HasPlaceFor c.args.counts_itself h c.args.self.now.reftable c.args.range c.args.at) (sym (ap (λ x. x.fields) c.write_block.ensures.header)) place)
-    c.requires.within c.enter_refblock.ensures.rest (subst (λ k. ChangesEntry c.args.self.now.reftable.bytes c.enter_refblock.new.self.bytes c.args.range (k * 2 ^ c.args.self.now.reftable.cluster_bits)) c.new-cluster.ensures c.enter_refblock.ensures.entry)
-    (c.enter_refblock.ensures.offset ∙ ap (λ k. k * 2 ^ c.args.self.now.reftable.cluster_bits) c.new-cluster.ensures) c.write_reftable_entry.ensures.fits c.in_ok-block.ensures.whole (subst (λ h. IsBlockOf h c.in_ok-block.block) (sym (ap (λ x. x.fields) c.write_block.ensures.header)) c.in_ok-block.ensures.format)
+    three c.in_ok-write_block.ensures.counted c.in_ok-write_block.ensures.first (subst (λ h. HasPlaceFor c.args.counts_itself h c.args.self.now.reftable c.args.range c.args.at) (sym (ap (λ x. x.fields) c.write_block.ensures.step.header)) place)
+    c.requires.place.within c.enter_refblock.ensures.rest (subst (λ k. ChangesEntry c.args.self.now.reftable.bytes c.enter_refblock.new.self.bytes c.args.range (k * 2 ^ c.args.self.now.reftable.cluster_bits)) c.new-cluster.ensures c.enter_refblock.ensures.entry)
+    (c.enter_refblock.ensures.offset ∙ ap (λ k. k * 2 ^ c.args.self.now.reftable.cluster_bits) c.new-cluster.ensures) c.write_reftable_entry.ensures.fits c.in_ok-block.ensures.whole (subst (λ h. IsBlockOf h c.in_ok-block.block) (sym (ap (λ x. x.fields) c.write_block.ensures.step.header)) c.in_ok-block.ensures.format)
     c.in_ok-block.ensures.counts c.will_write.ensures.storage c.write_reftable_entry.ensures.written c.write_reftable_entry.ensures.calls c.in_ok-write_reftable_entry.field-0 c.in_ok-write_reftable_entry.was
 
-pub returns-in_err-write_block-clause-marks : goal.returns-in_err-write_block-clause-marks
-returns-in_err-write_block-clause-marks g c = c.write_block.ensures.marks
+pub returns-in_err-write_block-clause-step : goal.returns-in_err-write_block-clause-step
+returns-in_err-write_block-clause-step g c = record {
+  header = c.write_block.ensures.step.header;
+  list = c.write_block.ensures.step.list;
+  named = entries_none _ c.args.self.now.reftable;
+  marks = c.write_block.ensures.step.marks;
+  header_cluster = c.write_block.ensures.step.header_cluster c.args.self.now.reftable c.in_ok-block.ensures.format.bits;
+}
 
 pub returns-in_err-write_block-clause-fails : goal.returns-in_err-write_block-clause-fails
 returns-in_err-write_block-clause-fails g c = fails_on c.from_residual-in_err-write_block.result c.in_err-write_block.field-0.0 c.from_residual-in_err-write_block.ensures c.in_err-write_block.ensures.fails
@@ -132,65 +138,30 @@ returns-in_err-write_block-clause-fails g c = fails_on c.from_residual-in_err-wr
 pub returns-in_err-write_block-clause-noted : goal.returns-in_err-write_block-clause-noted
 returns-in_err-write_block-clause-noted g c = on_no_ok _ c.from_residual-in_err-write_block.result c.in_err-write_block.field-0.0 c.from_residual-in_err-write_block.ensures
 
-pub returns-in_err-write_block-clause-header : goal.returns-in_err-write_block-clause-header
-returns-in_err-write_block-clause-header g c = c.write_block.ensures.header
+pub returns-in_err-write_reftable_entry-clause-step : goal.returns-in_err-write_reftable_entry-clause-step
+returns-in_err-write_reftable_entry-clause-step g c = record {
+  header = c.write_block.ensures.step.header;
+  list = c.write_block.ensures.step.list;
+  named = entries_entered c.args.self.now.reftable c.enter_refblock.new.self c.args.range c.new-cluster.result (subst (λ n. 0 < n) (sym c.new-cluster.ensures) c.requires.place.elsewhere) c.enter_refblock.ensures.rest c.enter_refblock.ensures.entry c.enter_refblock.ensures.offset;
+  marks = kept_marks_then c.write_block.ensures.step.marks
+      (marks_of_storage refl (placed_kept c.write_block.new.file.storage c.will_write.new.self c.write_reftable_entry.new.self c.write_reftable_entry.result c.will_write.ensures.storage c.will_write.ensures.changed c.enter_refblock.new.self.cluster _
+      (subst (λ (x : EntryTableView). IsSome x.cluster) (sym c.enter_refblock.ensures.rest) c.requires.place.placed) c.write_reftable_entry.ensures.written c.write_reftable_entry.ensures.calls c.write_reftable_entry.ensures.noted));
+  header_cluster = spares_then (c.write_block.ensures.step.header_cluster c.args.self.now.reftable c.in_ok-block.ensures.format.bits) (spares_entry g.S.Storage.view c.args.self.now.reftable c.enter_refblock.new.self c.write_block.new.file c.write_block.new.file.caches (storage_of c.will_write.new.self) c.write_reftable_entry.new.self _ _ c.write_reftable_entry.result (λ bits are. are) (ap (λ (t : EntryTableView). t.cluster_bits) c.enter_refblock.ensures.rest) (ap (λ (t : EntryTableView). t.cluster) c.enter_refblock.ensures.rest) c.will_write.ensures.storage c.write_reftable_entry.ensures.written c.write_reftable_entry.ensures.calls (let within = c.requires.place.within in omega (arith, within)) (subst (λ (t : EntryTableView). IsSome t.cluster) (sym c.enter_refblock.ensures.rest) c.requires.place.placed));
+}
 
-pub returns-in_err-write_block-clause-list : goal.returns-in_err-write_block-clause-list
-returns-in_err-write_block-clause-list g c = c.write_block.ensures.list
-
-pub returns-in_err-write_block-clause-first : goal.returns-in_err-write_block-clause-first
-returns-in_err-write_block-clause-first g c = refl
-
-pub returns-in_err-write_block-clause-entries : goal.returns-in_err-write_block-clause-entries
-returns-in_err-write_block-clause-entries g c = entries_none _ c.args.self.now.reftable
-
-pub returns-in_err-write_reftable_entry-clause-marks : goal.returns-in_err-write_reftable_entry-clause-marks
-returns-in_err-write_reftable_entry-clause-marks g c =
-    kept_marks_then c.write_block.ensures.marks
-    (marks_of_storage refl (placed_kept c.write_block.new.file.storage c.will_write.new.self c.write_reftable_entry.new.self c.write_reftable_entry.result c.will_write.ensures.storage c.will_write.ensures.changed c.enter_refblock.new.self.cluster _
-    (subst (λ (x : EntryTableView). IsSome x.cluster) (sym c.enter_refblock.ensures.rest) c.requires.placed) c.write_reftable_entry.ensures.written c.write_reftable_entry.ensures.calls c.write_reftable_entry.ensures.noted))
-
-pub returns-in_err-write_reftable_entry-clause-header : goal.returns-in_err-write_reftable_entry-clause-header
-returns-in_err-write_reftable_entry-clause-header g c = c.write_block.ensures.header
-
-pub returns-in_err-write_reftable_entry-clause-list : goal.returns-in_err-write_reftable_entry-clause-list
-returns-in_err-write_reftable_entry-clause-list g c = c.write_block.ensures.list
-
-pub returns-in_err-write_reftable_entry-clause-first : goal.returns-in_err-write_reftable_entry-clause-first
-returns-in_err-write_reftable_entry-clause-first g c = refl
-
-pub returns-clause-marks : goal.returns-clause-marks
-returns-clause-marks g c =
-    kept_marks_then c.write_block.ensures.marks
-    (marks_of_storage refl (placed_kept c.write_block.new.file.storage c.will_write.new.self c.write_reftable_entry.new.self c.write_reftable_entry.result c.will_write.ensures.storage c.will_write.ensures.changed c.enter_refblock.new.self.cluster _
-    (subst (λ (x : EntryTableView). IsSome x.cluster) (sym c.enter_refblock.ensures.rest) c.requires.placed) c.write_reftable_entry.ensures.written c.write_reftable_entry.ensures.calls c.write_reftable_entry.ensures.noted))
-
-pub returns-clause-header : goal.returns-clause-header
-returns-clause-header g c = c.write_block.ensures.header
-
-pub returns-clause-list : goal.returns-clause-list
-returns-clause-list g c = c.write_block.ensures.list
-
-pub returns-clause-first : goal.returns-clause-first
-returns-clause-first g c = refl
+pub returns-clause-step : goal.returns-clause-step
+returns-clause-step g c = record {
+  header = c.write_block.ensures.step.header;
+  list = c.write_block.ensures.step.list;
+  named = entries_entered c.args.self.now.reftable c.enter_refblock.new.self c.args.range c.new-cluster.result (subst (λ n. 0 < n) (sym c.new-cluster.ensures) c.requires.place.elsewhere) c.enter_refblock.ensures.rest c.enter_refblock.ensures.entry c.enter_refblock.ensures.offset;
+  marks = kept_marks_then c.write_block.ensures.step.marks
+      (marks_of_storage refl (placed_kept c.write_block.new.file.storage c.will_write.new.self c.write_reftable_entry.new.self c.write_reftable_entry.result c.will_write.ensures.storage c.will_write.ensures.changed c.enter_refblock.new.self.cluster _
+      (subst (λ (x : EntryTableView). IsSome x.cluster) (sym c.enter_refblock.ensures.rest) c.requires.place.placed) c.write_reftable_entry.ensures.written c.write_reftable_entry.ensures.calls c.write_reftable_entry.ensures.noted));
+  header_cluster = spares_then (c.write_block.ensures.step.header_cluster c.args.self.now.reftable c.in_ok-block.ensures.format.bits) (spares_entry g.S.Storage.view c.args.self.now.reftable c.enter_refblock.new.self c.write_block.new.file c.write_block.new.file.caches (storage_of c.will_write.new.self) c.write_reftable_entry.new.self _ _ c.write_reftable_entry.result (λ bits are. are) (ap (λ (t : EntryTableView). t.cluster_bits) c.enter_refblock.ensures.rest) (ap (λ (t : EntryTableView). t.cluster) c.enter_refblock.ensures.rest) c.will_write.ensures.storage c.write_reftable_entry.ensures.written c.write_reftable_entry.ensures.calls (let within = c.requires.place.within in omega (arith, within)) (subst (λ (t : EntryTableView). IsSome t.cluster) (sym c.enter_refblock.ensures.rest) c.requires.place.placed));
+}
 
 pub returns-in_err-write_reftable_entry-clause-noted : goal.returns-in_err-write_reftable_entry-clause-noted
 returns-in_err-write_reftable_entry-clause-noted g c = on_no_ok _ c.from_residual-in_err-write_reftable_entry.result (of_storage c.in_err-write_reftable_entry.field-0.0) c.from_residual-in_err-write_reftable_entry.ensures
-
-pub returns-in_err-write_reftable_entry-clause-entries : goal.returns-in_err-write_reftable_entry-clause-entries
-returns-in_err-write_reftable_entry-clause-entries g c = entries_entered c.args.self.now.reftable c.enter_refblock.new.self c.args.range c.new-cluster.result (subst (λ n. 0 < n) (sym c.new-cluster.ensures) c.requires.elsewhere) c.enter_refblock.ensures.rest c.enter_refblock.ensures.entry c.enter_refblock.ensures.offset
-
-pub returns-clause-entries : goal.returns-clause-entries
-returns-clause-entries g c = entries_entered c.args.self.now.reftable c.enter_refblock.new.self c.args.range c.new-cluster.result (subst (λ n. 0 < n) (sym c.new-cluster.ensures) c.requires.elsewhere) c.enter_refblock.ensures.rest c.enter_refblock.ensures.entry c.enter_refblock.ensures.offset
-
-pub returns-in_err-write_block-clause-header_cluster : goal.returns-in_err-write_block-clause-header_cluster
-returns-in_err-write_block-clause-header_cluster g c = c.write_block.ensures.header_cluster c.args.self.now.reftable c.in_ok-block.ensures.format.bits
-
-pub returns-in_err-write_reftable_entry-clause-header_cluster : goal.returns-in_err-write_reftable_entry-clause-header_cluster
-returns-in_err-write_reftable_entry-clause-header_cluster g c = spares_then (c.write_block.ensures.header_cluster c.args.self.now.reftable c.in_ok-block.ensures.format.bits) (spares_entry g.S.Storage.view c.args.self.now.reftable c.enter_refblock.new.self c.write_block.new.file c.write_block.new.file.caches (storage_of c.will_write.new.self) c.write_reftable_entry.new.self _ _ c.write_reftable_entry.result (λ bits are. are) (ap (λ (t : EntryTableView). t.cluster_bits) c.enter_refblock.ensures.rest) (ap (λ (t : EntryTableView). t.cluster) c.enter_refblock.ensures.rest) c.will_write.ensures.storage c.write_reftable_entry.ensures.written c.write_reftable_entry.ensures.calls (let within = c.requires.within in omega (arith, within)) (subst (λ (t : EntryTableView). IsSome t.cluster) (sym c.enter_refblock.ensures.rest) c.requires.placed))
-
-pub returns-clause-header_cluster : goal.returns-clause-header_cluster
-returns-clause-header_cluster g c = spares_then (c.write_block.ensures.header_cluster c.args.self.now.reftable c.in_ok-block.ensures.format.bits) (spares_entry g.S.Storage.view c.args.self.now.reftable c.enter_refblock.new.self c.write_block.new.file c.write_block.new.file.caches (storage_of c.will_write.new.self) c.write_reftable_entry.new.self _ _ c.write_reftable_entry.result (λ bits are. are) (ap (λ (t : EntryTableView). t.cluster_bits) c.enter_refblock.ensures.rest) (ap (λ (t : EntryTableView). t.cluster) c.enter_refblock.ensures.rest) c.will_write.ensures.storage c.write_reftable_entry.ensures.written c.write_reftable_entry.ensures.calls (let within = c.requires.within in omega (arith, within)) (subst (λ (t : EntryTableView). IsSome t.cluster) (sym c.enter_refblock.ensures.rest) c.requires.placed))
 
 pub returns-in_err-write_block-clause-has : goal.returns-in_err-write_block-clause-has
 returns-in_err-write_block-clause-has g c = on_no_ok _ c.from_residual-in_err-write_block.result c.in_err-write_block.field-0.0 c.from_residual-in_err-write_block.ensures
@@ -199,7 +170,7 @@ pub returns-in_err-write_reftable_entry-clause-has : goal.returns-in_err-write_r
 returns-in_err-write_reftable_entry-clause-has g c = on_no_ok _ c.from_residual-in_err-write_reftable_entry.result (of_storage c.in_err-write_reftable_entry.field-0.0) c.from_residual-in_err-write_reftable_entry.ensures
 
 pub returns-clause-has : goal.returns-clause-has
-returns-clause-has g c = entered_has c.enter_refblock.new.self c.args.range c.new-cluster.result c.args.self.now.reftable.cluster_bits (subst (λ n. 0 < n) (sym c.new-cluster.ensures) c.requires.elsewhere) c.enter_refblock.ensures.offset
+returns-clause-has g c = entered_has c.enter_refblock.new.self c.args.range c.new-cluster.result c.args.self.now.reftable.cluster_bits (subst (λ n. 0 < n) (sym c.new-cluster.ensures) c.requires.place.elsewhere) c.enter_refblock.ensures.offset
 
 pub returns-clause-noted : goal.returns-clause-noted
 returns-clause-noted g c = or_left (is_changed_of c.write_reftable_entry.new.self) c.write_block.new.file.caches.is_changed (note_kept c.will_write.new.self c.write_reftable_entry.new.self c.write_reftable_entry.result c.write_reftable_entry.ensures.noted (c.will_write.ensures.changed.note ∙ c.in_ok-write_block.ensures.noted))
@@ -213,3 +184,18 @@ returns-in_err-write_reftable_entry-clause-fails g c =
 
 pub returns-clause-fails : goal.returns-clause-fails
 returns-clause-fails g c = fails_ok (c.in_ok-write_reftable_entry.ensures.calls.cause.told ∙ (same_faults g.S.Storage.view c.will_write.ensures.storage ∙ c.in_ok-write_block.ensures.fails.told))
+
+pub returns-in_err-block-clause-step : goal.returns-in_err-block-clause-step
+returns-in_err-block-clause-step g c = record { header = refl; list = refl; named = entries_none _ c.args.self.now.reftable; marks = kept_marks_none; header_cluster = spares_none }
+
+pub returns-in_err-block-clause-rest : goal.returns-in_err-block-clause-rest
+returns-in_err-block-clause-rest g c = refl
+
+pub returns-in_err-write_block-clause-rest : goal.returns-in_err-write_block-clause-rest
+returns-in_err-write_block-clause-rest g c = refl
+
+pub returns-in_err-write_reftable_entry-clause-rest : goal.returns-in_err-write_reftable_entry-clause-rest
+returns-in_err-write_reftable_entry-clause-rest g c = refl
+
+pub returns-clause-rest : goal.returns-clause-rest
+returns-clause-rest g c = refl

@@ -104,7 +104,7 @@ placing-preserved g c =
         lacking = subst (NamesLacking t c.args.table.now) (sym w.table-is) (lacking_more t c.args.table.now c.placing.table w.enter_refblock.new.self (c.placing.cluster / 2 ^ c.rb_bits-bits.result)
             (opens_range t (2 ^ c.rb_bits-bits.result) first c.placing.cluster (sym c.opens_range.ensures ∙ w.if-opens_range.true)).1 inv.lacking
             (entries_entered c.placing.table w.enter_refblock.new.self (c.placing.cluster / 2 ^ c.rb_bits-bits.result) w.new-place.result
-            (let is = w.new-place.ensures in let low = inv.low in let above = c.requires.above in omega (arith, is, low, above)) w.enter_refblock.ensures.rest w.enter_refblock.ensures.entry w.enter_refblock.ensures.offset));
+            (let is = w.new-place.ensures in let low = inv.low in let above = c.requires.room.above in omega (arith, is, low, above)) w.enter_refblock.ensures.rest w.enter_refblock.ensures.entry w.enter_refblock.ensures.offset));
         counts = inv.counts;
         bits = inv.bits;
         end_is = inv.end_is;
@@ -122,15 +122,15 @@ placing-preserved g c =
             let wrote = wrote_ok view p first n a c.placing.file w.write_new_block.new.file w.new-place.result w.in_ok-block.block h (ap (λ x. x.fields) inv.step.header) w.in_ok-write_new_block.field-0
             (λ s fits. w.in_ok-write_new_block.ensures.sound p first n a s may_now at_in fits) (is_sound_now view q q old c.placing.file a before.0) w.in_ok-block.ensures.format in
             let header_same = ap (λ x. x.fields) inv.step.header in
-            let t_bits = ap (λ (x : EntryTableView). x.cluster_bits) inv.rest ∙ c.requires.bits in
+            let t_bits = ap (λ (x : EntryTableView). x.cluster_bits) inv.rest ∙ c.requires.room.bits in
             let format = subst (λ (k : HeaderFields). IsBlockOf k w.in_ok-block.block) header_same w.in_ok-block.ensures.format in
             let run_is : c.args.room.first + c.args.room.blocks + c.args.room.clusters - first ≡ n = omega arith in
             let begin_is : (c.placing.cluster / 2 ^ c.rb_bits-bits.result * 2 ^ c.rb_bits-bits.result) % 18446744073709551616 ≡ (c.placing.cluster / 2 ^ c.rb_bits-bits.result * 2 ^ c.rb_bits-bits.result) =
-            (let e = div-add-mod' c.placing.cluster (2 ^ c.rb_bits-bits.result) in let lt = c.placing-test.true in let end = inv.end_is in let near = c.requires.near in let le = div-le_self greatest_offset (2 ^ c.args.file.now.header.fields.cluster_bits) in
+            (let e = div-add-mod' c.placing.cluster (2 ^ c.rb_bits-bits.result) in let lt = c.placing-test.true in let end = inv.end_is in let near = c.requires.room.near in let le = div-le_self greatest_offset (2 ^ c.args.file.now.header.fields.cluster_bits) in
             omega (arith, e, lt, end, near, le)) in
             let counts = counts_as c.placing.file.header.fields h w.in_ok-block.block ((c.placing.cluster / 2 ^ c.rb_bits-bits.result * 2 ^ c.rb_bits-bits.result) % 18446744073709551616) (c.placing.cluster / 2 ^ c.rb_bits-bits.result * 2 ^ c.rb_bits-bits.result) first _ n header_same begin_is run_is w.in_ok-block.ensures.counts in
             let within = range_within c.placing.cluster (first + n) (entry_count c.placing.table) (counts_per_block h)
-            (let lt = c.placing-test.true in let end = inv.end_is in omega (arith, lt, end)) (subst (λ m. first + n ≤ m / 8 * counts_per_block h) (sym inv.as_long) c.requires.within) in
+            (let lt = c.placing-test.true in let end = inv.end_is in omega (arith, lt, end)) (subst (λ m. first + n ≤ m / 8 * counts_per_block h) (sym inv.as_long) c.requires.room.within) in
             let sizes = file_sizes view q old sound.sound in
             let enter = subst (λ m. ChangesEntry c.placing.table.bytes w.enter_refblock.new.self.bytes (c.placing.cluster / 2 ^ c.rb_bits-bits.result) (m * 2 ^ c.placing.table.cluster_bits)) at_same w.enter_refblock.ensures.entry in
             let offset = w.enter_refblock.ensures.offset ∙ ap (λ m. m * 2 ^ c.placing.table.cluster_bits) at_same in
@@ -143,11 +143,11 @@ placing-preserved g c =
             c.if-opens_range.file w.write_new_block.new.file c.if-opens_range.table w.enter_refblock.new.self c.if-opens_range.at (c.placing.at + 1) w.file-is w.table-is w.at-is (
               allocator_step_then view q q old c.placing.file w.write_new_block.new.file a a before.0 wrote.0,
               room_enters view h sizes t c.args.table.now c.placing.table w.enter_refblock.new.self c.placing.file w.write_new_block.new.file first n c.placing.at c.placing.cluster c.rb_bits-bits.result w.in_ok-block.block
-                  c.requires.above inv.low from inv.counts t_bits longer.entries open_here within enter offset before.1 before.2 before.3 w.in_ok-block.ensures.whole format counts stands outside gone others,
+                  c.requires.room.above inv.low from inv.counts t_bits longer.entries open_here within enter offset before.1 before.2 before.3 w.in_ok-block.ensures.whole format counts stands outside gone others,
               room_counts view h sizes t c.args.table.now c.placing.table w.enter_refblock.new.self c.placing.file w.write_new_block.new.file first n c.placing.at c.placing.cluster c.rb_bits-bits.result w.in_ok-block.block
-                  c.requires.above inv.low from inv.counts t_bits longer.entries open_here within enter offset before.1 before.2 before.3 w.in_ok-block.ensures.whole format counts stands outside gone others,
+                  c.requires.room.above inv.low from inv.counts t_bits longer.entries open_here within enter offset before.1 before.2 before.3 w.in_ok-block.ensures.whole format counts stands outside gone others,
               room_uncached view h sizes t c.args.table.now c.placing.table w.enter_refblock.new.self c.placing.file w.write_new_block.new.file first n c.placing.at c.placing.cluster c.rb_bits-bits.result w.in_ok-block.block
-                  c.requires.above inv.low from inv.counts t_bits longer.entries open_here within enter offset before.1 before.2 before.3 w.in_ok-block.ensures.whole format counts stands outside gone others,
+                  c.requires.room.above inv.low from inv.counts t_bits longer.entries open_here within enter offset before.1 before.2 before.3 w.in_ok-block.ensures.whole format counts stands outside gone others,
             );
       }
       | else-opens_range w ↦ record {
@@ -183,13 +183,13 @@ returns-clause-sound g c = λ p sound may longer.
     let inv = c.placing.invariant in
     let before = inv.sound p sound may longer in
     let at_end : c.placing.cluster ≡ first + n = (let past = c.placing-test.false in let le = c.placing.auto.cluster-end in let end = inv.end_is in omega (arith, past, le, end)) in
-    let blocks : c.placing.at - first ≡ c.args.room.blocks = inv.placed ∙ ap (opened t (counts_per_block h) first) (let e : c.placing.cluster - first ≡ n = omega (arith, at_end) in e) ∙ sym c.requires.blocks in
+    let blocks : c.placing.at - first ≡ c.args.room.blocks = inv.placed ∙ ap (opened t (counts_per_block h) first) (let e : c.placing.cluster - first ≡ n = omega (arith, at_end) in e) ∙ sym c.requires.room.blocks in
     let enters = subst (λ m. EntersSo h t c.args.table.now c.placing.table first m c.placing.cluster) blocks before.1 in
     record {
       allocator_step = before.0;
       grown = record {
         cluster = refl;
-        bits = ap (λ (x : EntryTableView). x.cluster_bits) inv.rest ∙ c.requires.bits;
+        bits = ap (λ (x : EntryTableView). x.cluster_bits) inv.rest ∙ c.requires.room.bits;
         whole = ap (λ m. 8 * (m / 8)) inv.as_long ∙ longer.whole;
         keeps = enters.keeps;
         aligned = enters.aligned;
@@ -210,7 +210,7 @@ at_fits at cluster first n end greatest size low lt is near = fits_below at grea
 pub run_block-requires-clause-place : goal.run_block-requires-clause-place
 run_block-requires-clause-place g c =
     let inv = c.placing.invariant in
-    let fits = at_fits c.placing.at c.placing.cluster c.args.room.first (room_length c.args.room) _ greatest_offset (2 ^ c.args.file.now.header.fields.cluster_bits) inv.high c.placing-test.true inv.end_is c.requires.near in
+    let fits = at_fits c.placing.at c.placing.cluster c.args.room.first (room_length c.args.room) _ greatest_offset (2 ^ c.args.file.now.header.fields.cluster_bits) inv.high c.placing-test.true inv.end_is c.requires.room.near in
     let below : c.placing.at * 2 ^ c.args.file.now.header.fields.cluster_bits < 2 ^ 64 = omega arith in
     subst (λ (m : ℕ). HasPlace c.placing.file.header.fields.cluster_bits m) (sym c.new-place.ensures) (subst (λ (x : HeaderView). HasPlace x.fields.cluster_bits c.placing.at) (sym inv.step.header) below)
 
@@ -221,14 +221,14 @@ enter_refblock-requires-clause-within g c =
     let first = c.args.room.first in
     let n = room_length c.args.room in
     let within = range_within c.placing.cluster (first + n) (entry_count c.placing.table) (counts_per_block h)
-    (let lt = c.placing-test.true in let end = inv.end_is in omega (arith, lt, end)) (subst (λ m. first + n ≤ m / 8 * counts_per_block h) (sym inv.as_long) c.requires.within) in
+    (let lt = c.placing-test.true in let end = inv.end_is in omega (arith, lt, end)) (subst (λ m. first + n ≤ m / 8 * counts_per_block h) (sym inv.as_long) c.requires.room.within) in
     subst (λ (m : ℕ). c.placing.cluster / m < entry_count c.placing.table) inv.counts within
 
 pub enter_refblock-requires-clause-cluster : goal.enter_refblock-requires-clause-cluster
 enter_refblock-requires-clause-cluster g c =
     let inv = c.placing.invariant in
-    let fits = at_fits c.placing.at c.placing.cluster c.args.room.first (room_length c.args.room) _ greatest_offset (2 ^ c.args.file.now.header.fields.cluster_bits) inv.high c.placing-test.true inv.end_is c.requires.near in
-    let bits = ap (λ (x : EntryTableView). x.cluster_bits) inv.rest ∙ c.requires.bits in
+    let fits = at_fits c.placing.at c.placing.cluster c.args.room.first (room_length c.args.room) _ greatest_offset (2 ^ c.args.file.now.header.fields.cluster_bits) inv.high c.placing-test.true inv.end_is c.requires.room.near in
+    let bits = ap (λ (x : EntryTableView). x.cluster_bits) inv.rest ∙ c.requires.room.bits in
     subst (λ (m : ℕ). IsHostCluster c.placing.table.cluster_bits m) (sym c.new-place.ensures) (subst (λ (b : ℕ). IsHostCluster b c.placing.at) (sym bits) fits)
 
 pub returns-in_err-block-clause-fails : goal.returns-in_err-block-clause-fails
@@ -249,3 +249,12 @@ returns-in_err-write_new_block-clause-step g c = part_then c.placing.invariant.s
 
 pub returns-clause-step : goal.returns-clause-step
 returns-clause-step g c = c.placing.invariant.step
+
+pub returns-in_err-block-clause-table : goal.returns-in_err-block-clause-table
+returns-in_err-block-clause-table g c = record { rest = c.placing.invariant.rest; as_long = c.placing.invariant.as_long; lacking = c.placing.invariant.lacking }
+
+pub returns-in_err-write_new_block-clause-table : goal.returns-in_err-write_new_block-clause-table
+returns-in_err-write_new_block-clause-table g c = record { rest = c.placing.invariant.rest; as_long = c.placing.invariant.as_long; lacking = c.placing.invariant.lacking }
+
+pub returns-clause-table : goal.returns-clause-table
+returns-clause-table g c = record { rest = c.placing.invariant.rest; as_long = c.placing.invariant.as_long; lacking = c.placing.invariant.lacking }

@@ -25,7 +25,7 @@ returns-in_default-clause-step g c = c.load_block.ensures.step
 
 pub returns-clause-step : goal.returns-clause-step
 returns-clause-step g c = elim c.if-rb_is_zero.branch [
-  | then-rb_is_zero w ↦ table_step_as refl w.file-is (table_step_then c.load_block.ensures.step (table_step_tables (marks_of_caches w.rb_increment.ensures.marks w.rb_increment.ensures.order) w.rb_increment.ensures.header_cluster))
+  | then-rb_is_zero w ↦ table_step_as refl w.file-is (table_step_then c.load_block.ensures.step (table_step_tables (marks_of_caches w.rb_increment.ensures.step.marks w.rb_increment.ensures.step.order) w.rb_increment.ensures.step.header_cluster))
   | else-rb_is_zero w ↦ table_step_as refl w.file-is c.load_block.ensures.step
 ]
 
@@ -60,10 +60,10 @@ returns-clause-sound g c = λ p is_data sound may.
     elim c.if-rb_is_zero.branch [
       | then-rb_is_zero w ↦
           let zero = zero_of (count h (known_in view c.load_block.new.file) k) (sym tells ∙ w.if-rb_is_zero.true) in
-          let raised = w.rb_increment.ensures.made h p (contents_in view c.load_block.new.file) k l.0.file_step.sound.caches at l.1.2 zero in
+          let raised = w.rb_increment.ensures.sound.made h p (contents_in view c.load_block.new.file) k l.0.file_step.sound.caches at l.1.2 zero in
           of_equal (λ f r. TakesOneSoundly view p is_data c.args.self.now c.args.file.now c.args.self.now f k (Ok r)) c.if-rb_is_zero.file (record c.load_block.new.file { caches = w.rb_increment.new.self }) c.if-rb_is_zero.result true w.file-is (w.result-is ∙ raised) (record {
-            takes = taken_one view p c.args.file.now c.load_block.new.file c.args.self.now l.0 k c.in-Some.block c.rb_index-index.result at w.rb_increment.new.self w.rb_increment.ensures.order w.rb_increment.ensures.marks
-                is_data may c.load_block.ensures.step.marks.order zero (w.rb_increment.ensures.counted raised);
+            takes = taken_one view p c.args.file.now c.load_block.new.file c.args.self.now l.0 k c.in-Some.block c.rb_index-index.result at w.rb_increment.new.self w.rb_increment.ensures.step.order w.rb_increment.ensures.step.marks
+                is_data may c.load_block.ensures.step.marks.order zero (w.rb_increment.ensures.sound.counted raised);
             fault = tt;
             used = λ has none. absurd (not_both true refl none);
             free = λ taken used. used_stays view p p c.args.file.now c.load_block.new.file c.args.self.now k l.0 (omega arith) used zero;

@@ -1,10 +1,11 @@
-use Rattle.std.proofs.Common.{sym, ap, subst, ◌/◌, arith, ◌^◌, ◌∙◌, Result}
+use Rattle.std.proofs.Common.{sym, ap, subst, ◌/◌, arith, ◌^◌, ◌∙◌, Result, refl, Ok}
 use Rattle.qcow2_laws.specs.CrashInvariant.{Pending}
 use Rattle.qcow2_metadata.specs.Header.{counts_per_block}
 use Rattle.qcow2_alloc.specs.Allocation.{GrowsTable}
 use Rattle.qcow2_alloc.specs.FreeList.{pending_then}
 use Rattle.qcow2_alloc.specs.LowestRuns.{KeepsNoFreeBelowHint, KeepsUsed, IsUsed}
-use Rattle.qcow2_alloc.proofs.AllocationSteps.{handed_on, is_sound_on}
+use Rattle.qcow2_alloc.proofs.PlacedRooms.{has_some}
+use Rattle.qcow2_alloc.proofs.AllocationSteps.{handed_on, is_sound_on, on_none}
 use Rattle.qcow2_alloc.proofs.ListedAfter.{listed_after_same, grows_none, grows_on, header_counts, header_bits}
 use Rattle.qcow2_alloc.proofs.Hints.{hint_used, ok_as, range_as, uses_got, uses_then, hint_or_interruption}
 use Rattle.qcow2_alloc.specs.Limits.{CantCount, IsFaultOr}
@@ -13,9 +14,9 @@ use Rattle.std.specs.Prelude.{IfErr}
 use Rattle.qcow2_metadata.specs.L2Mapping.{IsHostCluster}
 use Rattle.qcow2_metadata.specs.EntryTable.{entry_count}
 use Rattle.qcow2_alloc.specs.declared.error.ImageError.{ImageError}
-use Rattle.qcow2_alloc.proofs.Outcomes.{on_no_ok}
+use Rattle.qcow2_alloc.proofs.Outcomes.{on_no_ok, entries_none}
 use Rattle.qcow2_alloc.proofs.MadeClusters.{lists_used_none, lists_used_one, lists_used_still}
-use Rattle.qcow2_alloc.proofs.Steps.{fails_on, fails_since, step_on, step_then, step_grown}
+use Rattle.qcow2_alloc.proofs.Steps.{fails_on, fails_since, step_on, step_then, step_grown, step_none, fails_ok}
 use Rattle.qcow2_alloc.proofs.FormerReftables.{former_none, former_one, former_still}
 use Rattle.qcow2_alloc.proofs.allocation.Allocator.reach_block.Goals as goal
 
@@ -27,10 +28,10 @@ returns-then-in_bounds-clause-fails g c = c.ensure_block.ensures.fails
 
 pub returns-clause-step : goal.returns-clause-step
 returns-clause-step g c =
-    let gave = c.in_ok-grow_reftable.ensures.former in
+    let gave = c.in_ok-grow_reftable.ensures.step.former in
     let past = not_below (c.args.cluster / 2 ^ c.rb_bits.result) (entry_count c.args.self.now.reftable) c.in_bounds.result c.in_bounds.ensures c.if-in_bounds.false in
-    let within = c.in_ok-grow_reftable.ensures.length.enough.above in
-    step_then (step_grown c.grow_reftable.ensures.step c.grow_reftable.ensures.list
+    let within = c.in_ok-grow_reftable.ensures.grown.length.enough.above in
+    step_then (step_grown c.grow_reftable.ensures.step
     (former_one c.args.self.now.reftable c.grow_reftable.new.self.reftable gave.0 c.args.file.now.free_list c.grow_reftable.new.file.free_list gave.1 (omega (arith, past, within)) gave.3 gave.4 gave.5 gave.2))
     (step_on c.ensure_block-2.ensures.step)
 
@@ -42,8 +43,8 @@ returns-then-in_bounds-clause-has g c = c.ensure_block.ensures.has
 
 pub returns-in_err-grow_reftable-clause-step : goal.returns-in_err-grow_reftable-clause-step
 returns-in_err-grow_reftable-clause-step g c =
-    let stays = c.in_err-grow_reftable.ensures.former in
-    step_grown c.grow_reftable.ensures.step c.grow_reftable.ensures.list
+    let stays = c.in_err-grow_reftable.ensures.step.former in
+    step_grown c.grow_reftable.ensures.step
     (former_still c.args.self.now.reftable c.args.self.now.reftable c.grow_reftable.new.self.reftable c.args.file.now.free_list c.args.file.now.free_list c.grow_reftable.new.file.free_list (former_none c.args.self.now.reftable c.args.file.now.free_list) stays.0 stays.1)
 
 pub returns-in_err-grow_reftable-clause-fails : goal.returns-in_err-grow_reftable-clause-fails
@@ -82,7 +83,7 @@ returns-in_err-grow_reftable-clause-sound g c = λ p sound.
       reaches = handed_on (GrowsTable g.S.Storage.view p c.args.file.now c.grow_reftable.new.self c.grow_reftable.new.file (pending_then p c.args.file.now.free_list c.grow_reftable.new.file.free_list))
           c.from_residual.result c.in_err-grow_reftable.field-0.0 c.from_residual.ensures ((c.in_err-grow_reftable.ensures.sound p sound).grows);
       leaks = (c.grow_reftable.ensures.sound p sound).leaks;
-      listed = lists_used_none g.S.Storage.view c.args.file.now c.grow_reftable.new.file c.in_err-grow_reftable.ensures.former.1;
+      listed = lists_used_none g.S.Storage.view c.args.file.now c.grow_reftable.new.file c.in_err-grow_reftable.ensures.step.former.1;
       uses = handed_on (KeepsUsed g.S.Storage.view c.args.file.now c.grow_reftable.new.file) c.from_residual.result c.in_err-grow_reftable.field-0.0 c.from_residual.ensures ((c.in_err-grow_reftable.ensures.sound p sound).uses);
       hint = λ hint. handed_on (KeepsNoFreeBelowHint g.S.Storage.view c.grow_reftable.new.self c.grow_reftable.new.file) c.from_residual.result c.in_err-grow_reftable.field-0.0 c.from_residual.ensures
           (hint_or_interruption g.S.Storage.view c.args.file.now c.grow_reftable.new.file c.args.self.now c.grow_reftable.new.self c.in_err-grow_reftable.field-0.0 c.grow_reftable.ensures.first ((c.in_err-grow_reftable.ensures.sound p sound).uses) hint);
@@ -101,7 +102,7 @@ returns-clause-sound g c = λ p sound.
           (grows_on g.S.Storage.view p q c.args.file.now c.grow_reftable.new.file c.ensure_block-2.new.file c.grow_reftable.new.self c.ensure_block-2.new.self c.ensure_block-2.result (λ k some. some) grown
           ((c.ensure_block-2.ensures.sound q (is_sound_on g.S.Storage.view p q c.args.file.now c.grow_reftable.new.file c.grow_reftable.new.self grown)).gets));
       leaks = c.ensure_block-2.ensures.leaks ∙ (c.grow_reftable.ensures.sound p sound).leaks;
-      listed = let gave = c.in_ok-grow_reftable.ensures.former in
+      listed = let gave = c.in_ok-grow_reftable.ensures.step.former in
           lists_used_still g.S.Storage.view c.args.file.now c.grow_reftable.new.file c.ensure_block-2.new.file
           (lists_used_one g.S.Storage.view p c.args.file.now c.grow_reftable.new.file c.args.self.now.reftable gave.0 sound.sound sound.reftable gave.1 gave.2) c.ensure_block-2.ensures.step.list;
       uses = uses_then g.S.Storage.view c.args.file.now c.grow_reftable.new.file c.ensure_block-2.new.file c.ensure_block-2.result ((c.in_ok-grow_reftable.ensures.sound p sound).uses)
@@ -112,6 +113,32 @@ returns-clause-sound g c = λ p sound.
       limit = λ hint near. let counts = header_counts c.args.file.now.header c.grow_reftable.new.file.header c.grow_reftable.ensures.step.header ∙ c.rb_bits.ensures.counts in
           fault_or c.ensure_block-2.result (CantCount (IsUsed g.S.Storage.view c.ensure_block-2.new.file) c.ensure_block-2.new.file.header.fields (λ k. 0) c.ensure_block-2.new.self c.args.cluster)
           ((c.ensure_block-2.ensures.sound q (is_sound_on g.S.Storage.view p q c.args.file.now c.grow_reftable.new.file c.grow_reftable.new.self ((c.in_ok-grow_reftable.ensures.sound p sound).grows))).fault
-          (let within = c.in_ok-grow_reftable.ensures.length.enough.above in let range = ap (λ n. c.args.cluster / n) counts in omega (arith, within, range))
+          (let within = c.in_ok-grow_reftable.ensures.grown.length.enough.above in let range = ap (λ n. c.args.cluster / n) counts in omega (arith, within, range))
           (subst (λ n. IsHostCluster n c.args.cluster) (sym (header_bits c.args.file.now.header c.grow_reftable.new.file.header c.grow_reftable.ensures.step.header)) near));
+    }
+
+pub returns-then-not-lacks_block-clause-step : goal.returns-then-not-lacks_block-clause-step
+returns-then-not-lacks_block-clause-step g c = step_none
+
+pub returns-then-not-lacks_block-clause-fails : goal.returns-then-not-lacks_block-clause-fails
+returns-then-not-lacks_block-clause-fails g c = fails_ok refl
+
+pub returns-then-not-lacks_block-clause-has : goal.returns-then-not-lacks_block-clause-has
+returns-then-not-lacks_block-clause-has g c =
+    range_as c.args.self.now.reftable c.args.cluster (2 ^ c.rb_bits.result) (counts_per_block c.args.file.now.header.fields) c.rb_bits.ensures.counts
+    (has_some c.args.self.now.reftable (c.args.cluster / 2 ^ c.rb_bits.result) (sym c.lacks_block.ensures ∙ c.if-not-lacks_block.true))
+
+pub returns-then-not-lacks_block-clause-named : goal.returns-then-not-lacks_block-clause-named
+returns-then-not-lacks_block-clause-named g c = λ within. entries_none _ c.args.self.now.reftable
+
+pub returns-then-not-lacks_block-clause-sound : goal.returns-then-not-lacks_block-clause-sound
+returns-then-not-lacks_block-clause-sound g c = λ p sound.
+    record {
+      reaches = subst (λ (q : Pending). GrowsTable g.S.Storage.view p c.args.file.now c.args.self.now c.args.file.now q (Ok tt)) (sym (listed_after_same p c.args.file.now.free_list c.args.file.now.free_list refl))
+          (on_none g.S.Storage.view p c.args.file.now c.args.self.now sound);
+      leaks = refl;
+      listed = lists_used_none g.S.Storage.view c.args.file.now c.args.file.now refl;
+      uses = λ k used. used;
+      hint = λ hint. hint;
+      limit = λ _ _. tt;
     }

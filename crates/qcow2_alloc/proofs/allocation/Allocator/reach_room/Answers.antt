@@ -32,21 +32,29 @@ reaching-init g c = record {
 
 pub returns-in_err-take_if_free-clause-sound : goal.returns-in_err-take_if_free-clause-sound
 returns-in_err-take_if_free-clause-sound g c = λ p sound.
-    let before = c.reaching.invariant.sound p sound in
-    let q : Pending = with_run p c.args.file.now.header.fields c.args.self.now.reftable c.args.first c.reaching.taken in
-    let back = c.in_err-take_if_free.ensures.sound q (is_sound_now g.S.Storage.view p q c.args.file.now c.reaching.file c.reaching.self before) in
-    handed_on (ReachesRoom g.S.Storage.view p c.args.file.now c.take_if_free.new.self c.take_if_free.new.file c.args.self.now.reftable c.args.first) c.from_residual.result c.in_err-take_if_free.field-0.0 c.from_residual.ensures (
-      back.0,
-      ends_room g.S.Storage.view p c.args.self.now.reftable c.args.first c.reaching.taken c.args.file.now c.reaching.file c.take_if_free.new.file c.reaching.self c.take_if_free.new.self c.in_err-take_if_free.field-0.0 before
-          (still_noted c.args.file.now.header.fields c.args.self.now.reftable c.args.first c.reaching.taken c.reaching.file.caches.is_changed c.take_if_free.new.file.caches.is_changed c.take_if_free.ensures.step.marks.pins.changes.noted c.reaching.invariant.noted) back.0 back.1,
-    )
+    record {
+      reaches = let before = c.reaching.invariant.sound p sound in
+          let q : Pending = with_run p c.args.file.now.header.fields c.args.self.now.reftable c.args.first c.reaching.taken in
+          let back = c.in_err-take_if_free.ensures.sound q (is_sound_now g.S.Storage.view p q c.args.file.now c.reaching.file c.reaching.self before) in
+          handed_on (ReachesRoom g.S.Storage.view p c.args.file.now c.take_if_free.new.self c.take_if_free.new.file c.args.self.now.reftable c.args.first) c.from_residual.result c.in_err-take_if_free.field-0.0 c.from_residual.ensures (
+            back.0,
+            ends_room g.S.Storage.view p c.args.self.now.reftable c.args.first c.reaching.taken c.args.file.now c.reaching.file c.take_if_free.new.file c.reaching.self c.take_if_free.new.self c.in_err-take_if_free.field-0.0 before
+                (still_noted c.args.file.now.header.fields c.args.self.now.reftable c.args.first c.reaching.taken c.reaching.file.caches.is_changed c.take_if_free.new.file.caches.is_changed c.take_if_free.ensures.step.marks.pins.changes.noted c.reaching.invariant.noted) back.0 back.1,
+          );
+      stopped = if_no_ok _ c.from_residual.result c.in_err-take_if_free.field-0.0 c.from_residual.ensures;
+    }
 
 pub returns-then-not-branch-clause-sound : goal.returns-then-not-branch-clause-sound
 returns-then-not-branch-clause-sound g c = λ p sound.
-    let before = c.reaching.invariant.sound p sound in
-    let q : Pending = with_run p c.args.file.now.header.fields c.args.self.now.reftable c.args.first c.reaching.taken in
-    run_not_taken g.S.Storage.view p c.args.self.now.reftable c.args.first c.reaching.taken (c.args.first + c.reaching.taken) c.args.file.now c.reaching.file c.take_if_free.new.file c.reaching.self c.take_if_free.new.self c.reaching.self.reftable
-    c.in_ok-take_if_free.field-0 before c.if-not-branch.true (c.in_ok-take_if_free.ensures.sound q (is_sound_now g.S.Storage.view p q c.args.file.now c.reaching.file c.reaching.self before))
+    record {
+      reaches = let before = c.reaching.invariant.sound p sound in
+          let q : Pending = with_run p c.args.file.now.header.fields c.args.self.now.reftable c.args.first c.reaching.taken in
+          run_not_taken g.S.Storage.view p c.args.self.now.reftable c.args.first c.reaching.taken (c.args.first + c.reaching.taken) c.args.file.now c.reaching.file c.take_if_free.new.file c.reaching.self c.take_if_free.new.self c.reaching.self.reftable
+          c.in_ok-take_if_free.field-0 before c.if-not-branch.true (c.in_ok-take_if_free.ensures.sound q (is_sound_now g.S.Storage.view p q c.args.file.now c.reaching.file c.reaching.self before));
+      stopped = λ some within. let before = c.reaching.invariant.sound p sound in
+          let q : Pending = with_run p c.args.file.now.header.fields c.args.self.now.reftable c.args.first c.reaching.taken in
+          c.in_ok-take_if_free.ensures.used q (is_sound_now g.S.Storage.view p q c.args.file.now c.reaching.file c.reaching.self before) c.if-not-branch.true;
+    }
 
 pub reaching-preserved : goal.reaching-preserved
 reaching-preserved g c =
@@ -77,28 +85,15 @@ reaching-preserved g c =
       short = more_short t (counts_per_block h) c.args.first c.reaching.taken c.reaching.blocks c.args.clusters c.reaching.invariant.blocks c.reaching-test.true c.reaching.invariant.short;
     }
 
-pub returns-then-not-branch-clause-short : goal.returns-then-not-branch-clause-short
-returns-then-not-branch-clause-short g c = λ some n le.
-    more_short c.args.self.now.reftable (counts_per_block c.args.file.now.header.fields) c.args.first c.reaching.taken c.reaching.blocks c.args.clusters c.reaching.invariant.blocks c.reaching-test.true c.reaching.invariant.short n (omega (arith, le))
-
-pub returns-then-not-branch-clause-stopped : goal.returns-then-not-branch-clause-stopped
-returns-then-not-branch-clause-stopped g c = λ p sound some within.
-    let before = c.reaching.invariant.sound p sound in
-    let q : Pending = with_run p c.args.file.now.header.fields c.args.self.now.reftable c.args.first c.reaching.taken in
-    c.in_ok-take_if_free.ensures.used q (is_sound_now g.S.Storage.view p q c.args.file.now c.reaching.file c.reaching.self before) c.if-not-branch.true
-
-pub returns-clause-short : goal.returns-clause-short
-returns-clause-short g c = λ some n le. elim c.reaching-test.branch [
-  | then-reaching-test+else-taken-end w ↦
-      more_short c.args.self.now.reftable (counts_per_block c.args.file.now.header.fields) c.args.first c.reaching.taken c.reaching.blocks c.args.clusters c.reaching.invariant.blocks w.reaching-test.true c.reaching.invariant.short n (omega (arith, le))
-  | else-reaching-test w ↦ absurd (some (let up_to = c.reaching.invariant.up_to in let past = w.reaching-test.false in omega (arith, up_to, past)))
-]
-
-pub returns-clause-stopped : goal.returns-clause-stopped
-returns-clause-stopped g c = λ p sound some within. elim c.reaching-test.branch [
-  | then-reaching-test+else-taken-end w ↦ absurd (let past = w.if-taken-end.false in omega (arith, past, within))
-  | else-reaching-test w ↦ absurd (some (let up_to = c.reaching.invariant.up_to in let past = w.reaching-test.false in omega (arith, up_to, past)))
-]
+pub returns-clause-sound : goal.returns-clause-sound
+returns-clause-sound g c = λ p sound.
+    record {
+      reaches = c.reaching.invariant.sound p sound;
+      stopped = λ some within. elim c.reaching-test.branch [
+        | then-reaching-test+else-taken-end w ↦ absurd (let past = w.if-taken-end.false in omega (arith, past, within))
+        | else-reaching-test w ↦ absurd (some (let up_to = c.reaching.invariant.up_to in let past = w.reaching-test.false in omega (arith, up_to, past)))
+      ];
+    }
 
 pub returns-in_err-take_if_free-clause-step : goal.returns-in_err-take_if_free-clause-step
 returns-in_err-take_if_free-clause-step g c = table_step_then c.reaching.invariant.step c.take_if_free.ensures.step
@@ -106,23 +101,8 @@ returns-in_err-take_if_free-clause-step g c = table_step_then c.reaching.invaria
 pub returns-in_err-take_if_free-clause-fails : goal.returns-in_err-take_if_free-clause-fails
 returns-in_err-take_if_free-clause-fails g c = fails_on c.from_residual.result c.in_err-take_if_free.field-0.0 c.from_residual.ensures (fails_since c.reaching.invariant.faults c.in_err-take_if_free.ensures.fails)
 
-pub returns-in_err-take_if_free-clause-noted : goal.returns-in_err-take_if_free-clause-noted
-returns-in_err-take_if_free-clause-noted g c = if_no_ok _ c.from_residual.result c.in_err-take_if_free.field-0.0 c.from_residual.ensures
-
-pub returns-in_err-take_if_free-clause-blocks : goal.returns-in_err-take_if_free-clause-blocks
-returns-in_err-take_if_free-clause-blocks g c = if_no_ok _ c.from_residual.result c.in_err-take_if_free.field-0.0 c.from_residual.ensures
-
-pub returns-in_err-take_if_free-clause-within : goal.returns-in_err-take_if_free-clause-within
-returns-in_err-take_if_free-clause-within g c = if_no_ok _ c.from_residual.result c.in_err-take_if_free.field-0.0 c.from_residual.ensures
-
-pub returns-in_err-take_if_free-clause-few : goal.returns-in_err-take_if_free-clause-few
-returns-in_err-take_if_free-clause-few g c = if_no_ok _ c.from_residual.result c.in_err-take_if_free.field-0.0 c.from_residual.ensures
-
-pub returns-in_err-take_if_free-clause-short : goal.returns-in_err-take_if_free-clause-short
-returns-in_err-take_if_free-clause-short g c = if_no_ok _ c.from_residual.result c.in_err-take_if_free.field-0.0 c.from_residual.ensures
-
-pub returns-in_err-take_if_free-clause-stopped : goal.returns-in_err-take_if_free-clause-stopped
-returns-in_err-take_if_free-clause-stopped g c = λ _ _. if_no_ok _ c.from_residual.result c.in_err-take_if_free.field-0.0 c.from_residual.ensures
+pub returns-in_err-take_if_free-clause-reach : goal.returns-in_err-take_if_free-clause-reach
+returns-in_err-take_if_free-clause-reach g c = if_no_ok _ c.from_residual.result c.in_err-take_if_free.field-0.0 c.from_residual.ensures
 
 pub returns-in_err-take_if_free-clause-same : goal.returns-in_err-take_if_free-clause-same
 returns-in_err-take_if_free-clause-same g c = c.take_if_free.ensures.same ∙ c.reaching.invariant.same
@@ -136,24 +116,6 @@ returns-then-not-branch-clause-fails g c = fails_ok (c.in_ok-take_if_free.ensure
 pub returns-then-not-branch-clause-same : goal.returns-then-not-branch-clause-same
 returns-then-not-branch-clause-same g c = c.take_if_free.ensures.same ∙ c.reaching.invariant.same
 
-pub returns-then-not-branch-clause-blocks : goal.returns-then-not-branch-clause-blocks
-returns-then-not-branch-clause-blocks g c = c.reaching.invariant.blocks
-
-pub returns-clause-blocks : goal.returns-clause-blocks
-returns-clause-blocks g c = c.reaching.invariant.blocks
-
-pub returns-then-not-branch-clause-within : goal.returns-then-not-branch-clause-within
-returns-then-not-branch-clause-within g c = c.reaching.invariant.within
-
-pub returns-clause-within : goal.returns-clause-within
-returns-clause-within g c = c.reaching.invariant.within
-
-pub returns-then-not-branch-clause-few : goal.returns-then-not-branch-clause-few
-returns-then-not-branch-clause-few g c = c.reaching.invariant.few
-
-pub returns-clause-few : goal.returns-clause-few
-returns-clause-few g c = c.reaching.invariant.few
-
 pub returns-clause-step : goal.returns-clause-step
 returns-clause-step g c = c.reaching.invariant.step
 
@@ -163,9 +125,25 @@ returns-clause-fails g c = fails_ok c.reaching.invariant.faults
 pub returns-clause-same : goal.returns-clause-same
 returns-clause-same g c = c.reaching.invariant.same
 
-pub returns-clause-noted : goal.returns-clause-noted
-returns-clause-noted g c = c.reaching.invariant.noted
+pub returns-clause-reach : goal.returns-clause-reach
+returns-clause-reach g c = record {
+  within = c.reaching.invariant.within;
+  few = c.reaching.invariant.few;
+  blocks = c.reaching.invariant.blocks;
+  short = λ some n le. elim c.reaching-test.branch [
+    | then-reaching-test+else-taken-end w ↦
+        more_short c.args.self.now.reftable (counts_per_block c.args.file.now.header.fields) c.args.first c.reaching.taken c.reaching.blocks c.args.clusters c.reaching.invariant.blocks w.reaching-test.true c.reaching.invariant.short n (omega (arith, le))
+    | else-reaching-test w ↦ absurd (some (let up_to = c.reaching.invariant.up_to in let past = w.reaching-test.false in omega (arith, up_to, past)))
+  ];
+  noted = c.reaching.invariant.noted;
+}
 
-pub returns-then-not-branch-clause-noted : goal.returns-then-not-branch-clause-noted
-returns-then-not-branch-clause-noted g c =
-    still_noted c.args.file.now.header.fields c.args.self.now.reftable c.args.first c.reaching.taken c.reaching.file.caches.is_changed c.take_if_free.new.file.caches.is_changed c.take_if_free.ensures.step.marks.pins.changes.noted c.reaching.invariant.noted
+pub returns-then-not-branch-clause-reach : goal.returns-then-not-branch-clause-reach
+returns-then-not-branch-clause-reach g c = record {
+  within = c.reaching.invariant.within;
+  few = c.reaching.invariant.few;
+  blocks = c.reaching.invariant.blocks;
+  short = λ some n le.
+      more_short c.args.self.now.reftable (counts_per_block c.args.file.now.header.fields) c.args.first c.reaching.taken c.reaching.blocks c.args.clusters c.reaching.invariant.blocks c.reaching-test.true c.reaching.invariant.short n (omega (arith, le));
+  noted = still_noted c.args.file.now.header.fields c.args.self.now.reftable c.args.first c.reaching.taken c.reaching.file.caches.is_changed c.take_if_free.new.file.caches.is_changed c.take_if_free.ensures.step.marks.pins.changes.noted c.reaching.invariant.noted;
+}

@@ -49,10 +49,10 @@ search-preserved g c = record {
   sound = λ p sound.
       let view = g.S.Storage.view in
       let before = c.search.invariant.sound p sound in
-      let reached = c.in_ok-reach.ensures.sound p (is_sound_now view p p c.args.file.now c.search.file c.search.self before) in
+      let reached = (c.in_ok-reach.ensures.sound p (is_sound_now view p p c.args.file.now c.search.file c.search.self before)).reaches in
       let t_same : c.search.self.reftable ≡ c.reach_room.new.self.reftable = ap (λ a. a.reftable) (sym c.reach_room.ensures.same) in
       let same = run_of_same p c.search.file.header.fields c.search.file.header.fields c.search.self.reftable c.reach_room.new.self.reftable c.search.first c.in_ok-reach.reach.taken c.in_ok-reach.reach.taken refl t_same refl in
-      let noted = noted_of_same c.search.file.header.fields c.search.self.reftable c.reach_room.new.self.reftable c.search.first c.in_ok-reach.reach.taken c.reach_room.new.file.caches.is_changed t_same c.in_ok-reach.ensures.noted in
+      let noted = noted_of_same c.search.file.header.fields c.search.self.reftable c.reach_room.new.self.reftable c.search.first c.in_ok-reach.reach.taken c.reach_room.new.file.caches.is_changed t_same c.in_ok-reach.ensures.reach.noted in
       let back = ((c.in_ok-leave_run.ensures.sound p c.search.file (sym c.reach_room.ensures.step.header) (subst (λ (r : Pending). UnseenAllocatorStep view p c.search.file c.reach_room.new.self c.reach_room.new.file r) same reached)).gives noted) in
       let mid = allocator_step_then view p p c.args.file.now c.search.file c.leave_run.new.file c.search.self c.leave_run.new.self before back in
       let there = is_sound_now view p p c.args.file.now c.leave_run.new.file c.leave_run.new.self mid in
@@ -60,7 +60,7 @@ search-preserved g c = record {
   leaks = λ p sound.
       let view = g.S.Storage.view in
       let before = c.search.invariant.sound p sound in
-      let reached = c.in_ok-reach.ensures.sound p (is_sound_now view p p c.args.file.now c.search.file c.search.self before) in
+      let reached = (c.in_ok-reach.ensures.sound p (is_sound_now view p p c.args.file.now c.search.file c.search.self before)).reaches in
       let t_same : c.search.self.reftable ≡ c.reach_room.new.self.reftable = ap (λ a. a.reftable) (sym c.reach_room.ensures.same) in
       let same = run_of_same p c.search.file.header.fields c.search.file.header.fields c.search.self.reftable c.reach_room.new.self.reftable c.search.first c.in_ok-reach.reach.taken c.in_ok-reach.reach.taken refl t_same refl in
       (c.leave_run.ensures.sound p c.search.file (sym c.reach_room.ensures.step.header) (subst (λ (r : Pending). UnseenAllocatorStep view p c.search.file c.reach_room.new.self c.reach_room.new.file r) same reached)).leaks
@@ -73,10 +73,10 @@ search-preserved g c = record {
       let taken = c.in_ok-reach.reach.taken in
       let before = c.search.invariant.sound p sound in
       let now = is_sound_now view p p c.args.file.now c.search.file c.search.self before in
-      let reached = c.in_ok-reach.ensures.sound p now in
+      let reached = (c.in_ok-reach.ensures.sound p now).reaches in
       let t_same : c.search.self.reftable ≡ c.reach_room.new.self.reftable = ap (λ a. a.reftable) (sym c.reach_room.ensures.same) in
       let same = run_of_same p c.search.file.header.fields c.search.file.header.fields c.search.self.reftable c.reach_room.new.self.reftable first taken taken refl t_same refl in
-      let noted = noted_of_same c.search.file.header.fields c.search.self.reftable c.reach_room.new.self.reftable first taken c.reach_room.new.file.caches.is_changed t_same c.in_ok-reach.ensures.noted in
+      let noted = noted_of_same c.search.file.header.fields c.search.self.reftable c.reach_room.new.self.reftable first taken c.reach_room.new.file.caches.is_changed t_same c.in_ok-reach.ensures.reach.noted in
       let run = subst (λ (r : Pending). UnseenAllocatorStep view p c.search.file c.reach_room.new.self c.reach_room.new.file r) same reached in
       let back = ((c.in_ok-leave_run.ensures.sound p c.search.file (sym c.reach_room.ensures.step.header) run).gives noted) in
       let opened_same = λ (n : ℕ). ap (λ (h : HeaderView). opened c.search.self.reftable (counts_per_block h.fields) first n) c.search.invariant.step.header ∙ ap (λ (x : EntryTableView). opened x per first n) c.search.invariant.reftable in
@@ -85,9 +85,9 @@ search-preserved g c = record {
       full_passed view c.behind_used.new.file t per c.args.clusters c.args.end (first + (taken + 1)) c.in_ok-first.first (let behind = c.in_ok-first.ensures.behind in omega (arith, behind)) (let many = c.requires.some in omega (arith, many)) (λ k low high. passed.1 k (omega (arith, low)) high)
       (full_stays view c.leave_run.new.file c.behind_used.new.file t per c.args.clusters c.args.end (first + (taken + 1)) (λ k used. used_stays view p p c.leave_run.new.file c.behind_used.new.file c.leave_run.new.self k passed.0 (omega arith) used)
       (full_behind view c.leave_run.new.file t per c.args.clusters c.args.end first taken
-      (λ n le. let lt = c.in_ok-reach.ensures.short c.if-reach-clusters.false n le in let e = opened_same n in omega (arith, lt, e))
+      (λ n le. let lt = c.in_ok-reach.ensures.reach.short c.if-reach-clusters.false n le in let e = opened_same n in omega (arith, lt, e))
       (λ within. (c.in_ok-leave_run.ensures.sound p c.search.file (sym c.reach_room.ensures.step.header) run).kept (first + taken) (run_after first taken (first + taken) (omega arith))
-      (c.in_ok-reach.ensures.stopped p now c.if-reach-clusters.false within))
+      ((c.in_ok-reach.ensures.sound p now).stopped c.if-reach-clusters.false within))
       (full_stays view c.search.file c.leave_run.new.file t per c.args.clusters c.args.end first (λ k used. used_stays view p p c.search.file c.leave_run.new.file c.leave_run.new.self k back (omega arith) used)
       (c.search.invariant.full p sound hint))));
 }
@@ -104,53 +104,17 @@ returns-in_err-first-clause-reftable g c = c.leave_run.ensures.reftable ∙ ap (
 pub returns-in_err-first-clause-first : goal.returns-in_err-first-clause-first
 returns-in_err-first-clause-first g c = c.leave_run.ensures.first ∙ ap (λ (a : Allocator). a.first_free_cluster) c.reach_room.ensures.same ∙ c.search.invariant.first_free
 
-pub returns-in_err-first-clause-blocks : goal.returns-in_err-first-clause-blocks
-returns-in_err-first-clause-blocks g c = if_no_ok _ c.from_residual-in_err-first.result c.in_err-first.field-0.0 c.from_residual-in_err-first.ensures
-
-pub returns-in_err-first-clause-clusters : goal.returns-in_err-first-clause-clusters
-returns-in_err-first-clause-clusters g c = if_no_ok _ c.from_residual-in_err-first.result c.in_err-first.field-0.0 c.from_residual-in_err-first.ensures
-
-pub returns-in_err-first-clause-above : goal.returns-in_err-first-clause-above
-returns-in_err-first-clause-above g c = if_no_ok _ c.from_residual-in_err-first.result c.in_err-first.field-0.0 c.from_residual-in_err-first.ensures
-
-pub returns-in_err-first-clause-below : goal.returns-in_err-first-clause-below
-returns-in_err-first-clause-below g c = if_no_ok _ c.from_residual-in_err-first.result c.in_err-first.field-0.0 c.from_residual-in_err-first.ensures
-
 pub returns-in_err-reach-clause-step : goal.returns-in_err-reach-clause-step
 returns-in_err-reach-clause-step g c = table_step_then c.search.invariant.step c.reach_room.ensures.step
 
 pub returns-in_err-reach-clause-fails : goal.returns-in_err-reach-clause-fails
 returns-in_err-reach-clause-fails g c = fails_on c.from_residual.result c.in_err-reach.field-0.0 c.from_residual.ensures (fails_since c.search.invariant.faults c.in_err-reach.ensures.fails)
 
-pub returns-in_err-reach-clause-blocks : goal.returns-in_err-reach-clause-blocks
-returns-in_err-reach-clause-blocks g c = if_no_ok _ c.from_residual.result c.in_err-reach.field-0.0 c.from_residual.ensures
-
-pub returns-in_err-reach-clause-clusters : goal.returns-in_err-reach-clause-clusters
-returns-in_err-reach-clause-clusters g c = if_no_ok _ c.from_residual.result c.in_err-reach.field-0.0 c.from_residual.ensures
-
-pub returns-in_err-reach-clause-above : goal.returns-in_err-reach-clause-above
-returns-in_err-reach-clause-above g c = if_no_ok _ c.from_residual.result c.in_err-reach.field-0.0 c.from_residual.ensures
-
-pub returns-in_err-reach-clause-below : goal.returns-in_err-reach-clause-below
-returns-in_err-reach-clause-below g c = if_no_ok _ c.from_residual.result c.in_err-reach.field-0.0 c.from_residual.ensures
-
 pub returns-in_err-leave_run-clause-step : goal.returns-in_err-leave_run-clause-step
 returns-in_err-leave_run-clause-step g c = table_step_then (table_step_then c.search.invariant.step c.reach_room.ensures.step) c.leave_run.ensures.step
 
 pub returns-in_err-leave_run-clause-fails : goal.returns-in_err-leave_run-clause-fails
 returns-in_err-leave_run-clause-fails g c = fails_on c.from_residual-in_err-leave_run.result c.in_err-leave_run.field-0.0 c.from_residual-in_err-leave_run.ensures (fails_since (c.in_ok-reach.ensures.fails.told ∙ c.search.invariant.faults) c.in_err-leave_run.ensures.fails)
-
-pub returns-in_err-leave_run-clause-blocks : goal.returns-in_err-leave_run-clause-blocks
-returns-in_err-leave_run-clause-blocks g c = if_no_ok _ c.from_residual-in_err-leave_run.result c.in_err-leave_run.field-0.0 c.from_residual-in_err-leave_run.ensures
-
-pub returns-in_err-leave_run-clause-clusters : goal.returns-in_err-leave_run-clause-clusters
-returns-in_err-leave_run-clause-clusters g c = if_no_ok _ c.from_residual-in_err-leave_run.result c.in_err-leave_run.field-0.0 c.from_residual-in_err-leave_run.ensures
-
-pub returns-in_err-leave_run-clause-above : goal.returns-in_err-leave_run-clause-above
-returns-in_err-leave_run-clause-above g c = if_no_ok _ c.from_residual-in_err-leave_run.result c.in_err-leave_run.field-0.0 c.from_residual-in_err-leave_run.ensures
-
-pub returns-in_err-leave_run-clause-below : goal.returns-in_err-leave_run-clause-below
-returns-in_err-leave_run-clause-below g c = if_no_ok _ c.from_residual-in_err-leave_run.result c.in_err-leave_run.field-0.0 c.from_residual-in_err-leave_run.ensures
 
 pub returns-in_err-reach-clause-reftable : goal.returns-in_err-reach-clause-reftable
 returns-in_err-reach-clause-reftable g c = ap (λ (a : Allocator). a.reftable) c.reach_room.ensures.same ∙ c.search.invariant.reftable
@@ -176,9 +140,6 @@ returns-in_err-leave_run-clause-reftable g c = c.leave_run.ensures.reftable ∙ 
 pub returns-in_err-leave_run-clause-first : goal.returns-in_err-leave_run-clause-first
 returns-in_err-leave_run-clause-first g c = c.leave_run.ensures.first ∙ ap (λ (a : Allocator). a.first_free_cluster) c.reach_room.ensures.same ∙ c.search.invariant.first_free
 
-pub returns-then-reach-clusters-clause-above : goal.returns-then-reach-clusters-clause-above
-returns-then-reach-clusters-clause-above g c = c.search.invariant.some
-
 pub returns-clause-step : goal.returns-clause-step
 returns-clause-step g c = c.search.invariant.step
 
@@ -195,10 +156,10 @@ pub returns-in_err-leave_run-clause-sound : goal.returns-in_err-leave_run-clause
 returns-in_err-leave_run-clause-sound g c = λ p sound.
     let view = g.S.Storage.view in
     let before = c.search.invariant.sound p sound in
-    let reached = c.in_ok-reach.ensures.sound p (is_sound_now view p p c.args.file.now c.search.file c.search.self before) in
+    let reached = (c.in_ok-reach.ensures.sound p (is_sound_now view p p c.args.file.now c.search.file c.search.self before)).reaches in
     let t_same : c.search.self.reftable ≡ c.reach_room.new.self.reftable = ap (λ a. a.reftable) (sym c.reach_room.ensures.same) in
     let same = run_of_same p c.search.file.header.fields c.search.file.header.fields c.search.self.reftable c.reach_room.new.self.reftable c.search.first c.in_ok-reach.reach.taken c.in_ok-reach.reach.taken refl t_same refl in
-    let noted = noted_of_same c.search.file.header.fields c.search.self.reftable c.reach_room.new.self.reftable c.search.first c.in_ok-reach.reach.taken c.reach_room.new.file.caches.is_changed t_same c.in_ok-reach.ensures.noted in
+    let noted = noted_of_same c.search.file.header.fields c.search.self.reftable c.reach_room.new.self.reftable c.search.first c.in_ok-reach.reach.taken c.reach_room.new.file.caches.is_changed t_same c.in_ok-reach.ensures.reach.noted in
     let back = ((c.in_err-leave_run.ensures.sound p c.search.file (sym c.reach_room.ensures.step.header) (subst (λ (r : Pending). UnseenAllocatorStep view p c.search.file c.reach_room.new.self c.reach_room.new.file r) same reached)).gives noted) in
     record {
       takes = handed_on (TakesRoom view p c.args.file.now c.leave_run.new.self c.leave_run.new.file c.args.self.now.reftable) c.from_residual-in_err-leave_run.result c.in_err-leave_run.field-0.0 c.from_residual-in_err-leave_run.ensures
@@ -214,10 +175,10 @@ pub returns-in_err-first-clause-sound : goal.returns-in_err-first-clause-sound
 returns-in_err-first-clause-sound g c = λ p sound.
     let view = g.S.Storage.view in
     let before = c.search.invariant.sound p sound in
-    let reached = c.in_ok-reach.ensures.sound p (is_sound_now view p p c.args.file.now c.search.file c.search.self before) in
+    let reached = (c.in_ok-reach.ensures.sound p (is_sound_now view p p c.args.file.now c.search.file c.search.self before)).reaches in
     let t_same : c.search.self.reftable ≡ c.reach_room.new.self.reftable = ap (λ a. a.reftable) (sym c.reach_room.ensures.same) in
     let same = run_of_same p c.search.file.header.fields c.search.file.header.fields c.search.self.reftable c.reach_room.new.self.reftable c.search.first c.in_ok-reach.reach.taken c.in_ok-reach.reach.taken refl t_same refl in
-    let noted = noted_of_same c.search.file.header.fields c.search.self.reftable c.reach_room.new.self.reftable c.search.first c.in_ok-reach.reach.taken c.reach_room.new.file.caches.is_changed t_same c.in_ok-reach.ensures.noted in
+    let noted = noted_of_same c.search.file.header.fields c.search.self.reftable c.reach_room.new.self.reftable c.search.first c.in_ok-reach.reach.taken c.reach_room.new.file.caches.is_changed t_same c.in_ok-reach.ensures.reach.noted in
     let back = ((c.in_ok-leave_run.ensures.sound p c.search.file (sym c.reach_room.ensures.step.header) (subst (λ (r : Pending). UnseenAllocatorStep view p c.search.file c.reach_room.new.self c.reach_room.new.file r) same reached)).gives noted) in
     let mid = allocator_step_then view p p c.args.file.now c.search.file c.leave_run.new.file c.search.self c.leave_run.new.self before back in
     let there = is_sound_now view p p c.args.file.now c.leave_run.new.file c.leave_run.new.self mid in
@@ -238,11 +199,11 @@ returns-in_err-reach-clause-sound g c = λ p sound.
     record {
       takes = handed_on (TakesRoom view p c.args.file.now c.reach_room.new.self c.reach_room.new.file c.args.self.now.reftable) c.from_residual.result c.in_err-reach.field-0.0 c.from_residual.ensures
           (leaves_then view p c.args.file.now c.search.file c.reach_room.new.file c.reach_room.new.self c.in_err-reach.field-0.0 before.file_step
-          (c.in_err-reach.ensures.sound p (is_sound_now view p p c.args.file.now c.search.file c.search.self before)).1);
+          (c.in_err-reach.ensures.sound p (is_sound_now view p p c.args.file.now c.search.file c.search.self before)).reaches.1);
       leaks = ap (λ (a : Allocator). a.leaked_clusters) c.reach_room.ensures.same ∙ c.search.invariant.leaks p sound;
       lowest = λ _. if_no_ok _ c.from_residual.result c.in_err-reach.field-0.0 c.from_residual.ensures;
       limit = λ hint. handed_on (λ (r : Result Room ImageError). IfErr r (IsFaultOr (HasNoRoomBelow (IsUsed view c.reach_room.new.file) c.reach_room.new.file.header.fields (λ k. 0) c.args.self.now.reftable c.args.clusters c.args.end))) c.from_residual.result c.in_err-reach.field-0.0 c.from_residual.ensures
-          (inl (c.in_err-reach.ensures.sound p (is_sound_now view p p c.args.file.now c.search.file c.search.self before)).0);
+          (inl (c.in_err-reach.ensures.sound p (is_sound_now view p p c.args.file.now c.search.file c.search.self before)).reaches.0);
     }
 
 pub returns-then-reach-clusters-clause-sound : goal.returns-then-reach-clusters-clause-sound
@@ -251,14 +212,14 @@ returns-then-reach-clusters-clause-sound g c = λ p sound.
     let before = c.search.invariant.sound p sound in
     let t = c.args.self.now.reftable in
     record {
-      takes = let reached = c.in_ok-reach.ensures.sound p (is_sound_now view p p c.args.file.now c.search.file c.search.self before) in
+      takes = let reached = (c.in_ok-reach.ensures.sound p (is_sound_now view p p c.args.file.now c.search.file c.search.self before)).reaches in
           let h = c.args.file.now.header.fields in
           let same = run_of_same p c.search.file.header.fields h c.search.self.reftable t c.search.first c.in_ok-reach.reach.taken (c.in_ok-reach.reach.blocks + c.args.clusters) (ap (λ x. x.fields) c.search.invariant.step.header) c.search.invariant.reftable c.if-reach-clusters.true in
           allocator_step_then view p (with_run p h t c.search.first (c.in_ok-reach.reach.blocks + c.args.clusters)) c.args.file.now c.search.file c.reach_room.new.file c.search.self c.reach_room.new.self before
           (subst (λ (r : Pending). UnseenAllocatorStep view p c.search.file c.reach_room.new.self c.reach_room.new.file r) same reached);
       leaks = ap (λ (a : Allocator). a.leaked_clusters) c.reach_room.ensures.same ∙ c.search.invariant.leaks p sound;
       lowest = λ hint. let now = is_sound_now view p p c.args.file.now c.search.file c.search.self before in
-          let reached = c.in_ok-reach.ensures.sound p now in
+          let reached = (c.in_ok-reach.ensures.sound p now).reaches in
           let per = ap (λ (h : HeaderView). counts_per_block h.fields) (c.reach_room.ensures.step.header ∙ c.search.invariant.step.header) in
           let full = full_stays view c.search.file c.reach_room.new.file t (counts_per_block c.args.file.now.header.fields) c.args.clusters c.args.end c.search.first
           (λ k used. used_stays view p (with_run p c.search.file.header.fields c.search.self.reftable c.search.first c.in_ok-reach.reach.taken) c.search.file c.reach_room.new.file c.reach_room.new.self k reached (omega arith) used) (c.search.invariant.full p sound hint) in
@@ -284,16 +245,23 @@ returns-clause-sound g c = λ p sound.
           );
     }
 
-pub returns-then-reach-clusters-clause-noted : goal.returns-then-reach-clusters-clause-noted
-returns-then-reach-clusters-clause-noted g c =
-    noted_of_room c.search.file.header.fields c.args.file.now.header.fields c.search.self.reftable c.args.self.now.reftable c.search.first c.in_ok-reach.reach.taken (c.in_ok-reach.reach.blocks + c.args.clusters) c.reach_room.new.file.caches.is_changed
-    (ap (λ x. x.fields) c.search.invariant.step.header) c.search.invariant.reftable c.if-reach-clusters.true c.in_ok-reach.ensures.noted
+pub returns-then-reach-clusters-clause-room : goal.returns-then-reach-clusters-clause-room
+returns-then-reach-clusters-clause-room g c = record {
+  above = c.search.invariant.some;
+  below = let within = c.in_ok-reach.ensures.reach.within in let is = c.if-reach-clusters.true in omega (arith, within, is);
+  clusters = refl;
+  blocks = c.in_ok-reach.ensures.reach.blocks ∙ ap (λ m. opened c.search.self.reftable (counts_per_block c.search.file.header.fields) c.search.first m) c.if-reach-clusters.true
+      ∙ ap (λ (h : HeaderView). opened c.search.self.reftable (counts_per_block h.fields) c.search.first (c.in_ok-reach.reach.blocks + c.args.clusters)) c.search.invariant.step.header
+      ∙ ap (λ (x : EntryTableView). opened x (counts_per_block c.args.file.now.header.fields) c.search.first (c.in_ok-reach.reach.blocks + c.args.clusters)) c.search.invariant.reftable;
+  noted = noted_of_room c.search.file.header.fields c.args.file.now.header.fields c.search.self.reftable c.args.self.now.reftable c.search.first c.in_ok-reach.reach.taken (c.in_ok-reach.reach.blocks + c.args.clusters) c.reach_room.new.file.caches.is_changed
+      (ap (λ x. x.fields) c.search.invariant.step.header) c.search.invariant.reftable c.if-reach-clusters.true c.in_ok-reach.ensures.reach.noted;
+}
 
-pub returns-in_err-reach-clause-noted : goal.returns-in_err-reach-clause-noted
-returns-in_err-reach-clause-noted g c = if_no_ok _ c.from_residual.result c.in_err-reach.field-0.0 c.from_residual.ensures
+pub returns-in_err-reach-clause-room : goal.returns-in_err-reach-clause-room
+returns-in_err-reach-clause-room g c = if_no_ok _ c.from_residual.result c.in_err-reach.field-0.0 c.from_residual.ensures
 
-pub returns-in_err-leave_run-clause-noted : goal.returns-in_err-leave_run-clause-noted
-returns-in_err-leave_run-clause-noted g c = if_no_ok _ c.from_residual-in_err-leave_run.result c.in_err-leave_run.field-0.0 c.from_residual-in_err-leave_run.ensures
+pub returns-in_err-leave_run-clause-room : goal.returns-in_err-leave_run-clause-room
+returns-in_err-leave_run-clause-room g c = if_no_ok _ c.from_residual-in_err-leave_run.result c.in_err-leave_run.field-0.0 c.from_residual-in_err-leave_run.ensures
 
-pub returns-in_err-first-clause-noted : goal.returns-in_err-first-clause-noted
-returns-in_err-first-clause-noted g c = if_no_ok _ c.from_residual-in_err-first.result c.in_err-first.field-0.0 c.from_residual-in_err-first.ensures
+pub returns-in_err-first-clause-room : goal.returns-in_err-first-clause-room
+returns-in_err-first-clause-room g c = if_no_ok _ c.from_residual-in_err-first.result c.in_err-first.field-0.0 c.from_residual-in_err-first.ensures

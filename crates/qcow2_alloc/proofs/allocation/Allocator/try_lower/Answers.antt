@@ -31,11 +31,11 @@ returns-clause-sound g c = λ p owed sound may.
     let l = rw c.in-Some.is at (c.in_ok-block.ensures.sound (owed_as owed p (one_at c.args.cluster)) sound) in
     let at = counted_at g.S.Storage.view c.load_block.new.file c.args.file.now.header.fields (ap (λ x. x.fields) c.load_block.ensures.step.header) c.args.cluster _ c.in-Some.block c.rb_index-index.result c.rb_bits-bits.result l.1 c.rb_bits-bits.ensures.counts refl (c.rb_index-index.ensures.value ∙ ap (λ n. n % 2 ^ c.rb_bits-bits.result) c.new.ensures) in
     let some = owed_counted g.S.Storage.view owed p c.args.cluster (owed_as owed p (one_at c.args.cluster)) c.load_block.new.file refl l.0.file_step.sound in
-    let lowered = c.rb_decrement-lowered.ensures.made c.load_block.new.file.header.fields (owed_as owed p (one_at c.args.cluster)) (contents_in g.S.Storage.view c.load_block.new.file) c.args.cluster l.0.file_step.sound.caches at l.1.2 some in
+    let lowered = c.rb_decrement-lowered.ensures.sound.made c.load_block.new.file.header.fields (owed_as owed p (one_at c.args.cluster)) (contents_in g.S.Storage.view c.load_block.new.file) c.args.cluster l.0.file_step.sound.caches at l.1.2 some in
     of_equal (λ f r. LowersOne g.S.Storage.view (owed_as owed p (one_at c.args.cluster)) c.args.file.now c.note_lowered.new.self f p (Ok r)) (record c.load_block.new.file { caches = c.rb_decrement-lowered.new.self }) (record c.load_block.new.file { caches = c.rb_decrement-lowered.new.self }) c.rb_decrement-lowered.result true refl lowered
     (allocator_step_as g.S.Storage.view (owed_as owed p (one_at c.args.cluster)) p c.args.file.now (record c.load_block.new.file { caches = c.rb_decrement-lowered.new.self }) c.args.self.now c.note_lowered.new.self c.note_lowered.ensures.reftable
-    (given_one g.S.Storage.view (owed_as owed p (one_at c.args.cluster)) c.args.file.now c.load_block.new.file c.args.self.now l.0 c.args.cluster c.in-Some.block c.rb_index-index.result at c.rb_decrement-lowered.new.self c.rb_decrement-lowered.ensures.order c.rb_decrement-lowered.ensures.marks
-    owed p (may_lower_still owed c.args.file.now c.load_block.new.file c.load_block.ensures.step.marks.order may) refl (c.rb_decrement-lowered.ensures.counted lowered)))
+    (given_one g.S.Storage.view (owed_as owed p (one_at c.args.cluster)) c.args.file.now c.load_block.new.file c.args.self.now l.0 c.args.cluster c.in-Some.block c.rb_index-index.result at c.rb_decrement-lowered.new.self c.rb_decrement-lowered.ensures.step.order c.rb_decrement-lowered.ensures.step.marks
+    owed p (may_lower_still owed c.args.file.now c.load_block.new.file c.load_block.ensures.step.marks.order may) refl (c.rb_decrement-lowered.ensures.sound.counted lowered)))
 
 pub returns-in_err-block-clause-hint : goal.returns-in_err-block-clause-hint
 returns-in_err-block-clause-hint g c = λ p owed sound may hint.
@@ -50,7 +50,7 @@ returns-clause-hint g c = λ p owed sound may hint.
     let l = rw c.in-Some.is at (c.in_ok-block.ensures.sound (owed_as owed p (one_at c.args.cluster)) sound) in
     let at = counted_at g.S.Storage.view c.load_block.new.file c.args.file.now.header.fields (ap (λ x. x.fields) c.load_block.ensures.step.header) c.args.cluster _ c.in-Some.block c.rb_index-index.result c.rb_bits-bits.result l.1 c.rb_bits-bits.ensures.counts refl (c.rb_index-index.ensures.value ∙ ap (λ n. n % 2 ^ c.rb_bits-bits.result) c.new.ensures) in
     let some = owed_counted g.S.Storage.view owed p c.args.cluster (owed_as owed p (one_at c.args.cluster)) c.load_block.new.file refl l.0.file_step.sound in
-    let lowered = c.rb_decrement-lowered.ensures.made c.load_block.new.file.header.fields (owed_as owed p (one_at c.args.cluster)) (contents_in g.S.Storage.view c.load_block.new.file) c.args.cluster l.0.file_step.sound.caches at l.1.2 some in
+    let lowered = c.rb_decrement-lowered.ensures.sound.made c.load_block.new.file.header.fields (owed_as owed p (one_at c.args.cluster)) (contents_in g.S.Storage.view c.load_block.new.file) c.args.cluster l.0.file_step.sound.caches at l.1.2 some in
     let file = record c.load_block.new.file { caches = c.rb_decrement-lowered.new.self } in
     let now = lowered_so g.S.Storage.view (owed_as owed p (one_at c.args.cluster)) p c.args.file.now file c.note_lowered.new.self c.rb_decrement-lowered.result lowered (returns-clause-sound g c p owed sound may) in
     let stands = stands_still g.S.Storage.view (owed_as owed p (one_at c.args.cluster)) p c.load_block.new.file c.rb_decrement-lowered.new.self (c.args.cluster / 2 ^ c.rb_bits-bits.result) c.in-Some.block l.0.file_step.sound now.file_step.sound (c.rb_decrement-lowered.ensures.cached lowered) l.1 in
@@ -78,7 +78,7 @@ pub returns-in_default-clause-fails : goal.returns-in_default-clause-fails
 returns-in_default-clause-fails g c = fails_ok c.in_ok-block.ensures.fails.told
 
 pub returns-clause-step : goal.returns-clause-step
-returns-clause-step g c = table_step_as c.note_lowered.ensures.reftable refl (table_step_then c.load_block.ensures.step (table_step_tables (marks_of_caches c.rb_decrement-lowered.ensures.marks c.rb_decrement-lowered.ensures.order) c.rb_decrement-lowered.ensures.header_cluster))
+returns-clause-step g c = table_step_as c.note_lowered.ensures.reftable refl (table_step_then c.load_block.ensures.step (table_step_tables (marks_of_caches c.rb_decrement-lowered.ensures.step.marks c.rb_decrement-lowered.ensures.step.order) c.rb_decrement-lowered.ensures.step.header_cluster))
 
 pub returns-clause-fails : goal.returns-clause-fails
 returns-clause-fails g c = fails_ok c.in_ok-block.ensures.fails.told

@@ -1,6 +1,6 @@
-use Rattle.std.proofs.Common.{◌≡◌, ℕ, ◌+◌, ◌*◌, ◌<◌, ◌≤◌, sym, ap, ◌∙◌, subst, arith, Some, refl, inl, Err}
+use Rattle.std.proofs.Common.{◌≡◌, ℕ, ◌+◌, ◌*◌, ◌/◌, ◌<◌, ◌≤◌, sym, ap, ◌∙◌, subst, arith, Some, refl, inl, Err}
 use Rattle.qcow2_metadata.specs.declared.header.HeaderFields.{HeaderFields}
-use Rattle.qcow2_metadata.specs.EntryTable.{EntryTableView}
+use Rattle.qcow2_metadata.specs.EntryTable.{EntryTableView, entry_count}
 use Rattle.qcow2_metadata.specs.Header.{cluster_size, HeaderView}
 use Rattle.qcow2_laws.specs.Caches.{AreClean}
 use Rattle.qcow2_alloc.specs.declared.cache.MetadataCaches.{MetadataCaches}
@@ -10,6 +10,7 @@ use Rattle.qcow2_alloc.specs.ImageFile.{contents_in, AllocatorInvariant}
 use Rattle.qcow2_alloc.specs.LowestRuns.{KeepsUsed}
 use Rattle.qcow2_alloc.specs.MetadataCaches.{order_of, l2_tables, refblocks, rb_at}
 use Rattle.qcow2_alloc.specs.Rooms.{room_length, placed_at}
+use Rattle.qcow2_alloc.specs.Steps.{EntersRoom}
 use Rattle.qcow2_alloc.proofs.AllocationSteps.{handed_on, allocator_step_cached, allocator_step_then, is_sound_now}
 use Rattle.qcow2_alloc.proofs.FileSteps.{leaves_then}
 use Rattle.qcow2_alloc.proofs.PlacedBlocks.{file_sizes}
@@ -17,12 +18,12 @@ use Rattle.qcow2_alloc.proofs.PlacedRooms.{Counting}
 use Rattle.qcow2_alloc.proofs.RoomSteps.{may_go}
 use Rattle.qcow2_alloc.proofs.RoomTables.{counting_beside, table_err, table_ok, stands_ready, names_then, uses_after}
 use Rattle.qcow2_alloc.proofs.Hints.{ok_as, uses_refused}
-use Rattle.qcow2_alloc.proofs.Outcomes.{on_no_ok, on_err, on_ok}
+use Rattle.qcow2_alloc.proofs.Outcomes.{on_no_ok, on_err}
 use Rattle.std.proofs.lemmas.Bool.{or_left}
 use Rattle.qcow2_alloc.specs.ImageStorage.{is_changed_of}
 use Rattle.std.specs.Prelude.{IfSome}
 use Rattle.qcow2_alloc.proofs.KeptMarks.{marks_of_both}
-use Rattle.qcow2_alloc.proofs.Steps.{fails_of, fails_on, fails_since, pointer_step_on, pointer_step_then, table_step_cached, table_step_then, table_step_part}
+use Rattle.qcow2_alloc.proofs.Steps.{fails_of, fails_on, fails_since, pointer_step_on, pointer_step_then, table_step_cached, table_step_then, table_step_part, pointer_step_to}
 use Rattle.qcow2_alloc.proofs.allocation.Allocator.write_reftable.Goals as goal
 
 pub returns-in_err-flush_rb-clause-sound : goal.returns-in_err-flush_rb-clause-sound
@@ -32,21 +33,14 @@ returns-in_err-flush_rb-clause-sound g c = λ p sound longer.
     let a = c.args.self.now in
     let h = c.args.file.now.header.fields in
     let q = with_run p c.args.file.now.header.fields c.args.self.now.reftable c.args.room.first (room_length c.args.room) in
-    let one = allocator_step_cached view q old a c.flush_rb.new.storage c.flush_rb.new.self sound (c.flush_rb.ensures.keeps h q sound.sound.honest sound.sound.caches) c.flush_rb.ensures.marks in
+    let one = allocator_step_cached view q old a c.flush_rb.new.storage c.flush_rb.new.self sound (c.flush_rb.ensures.sound.keeps h q sound.sound.honest sound.sound.caches) c.flush_rb.ensures.step.marks.pins in
     let f1 = record old { storage = c.flush_rb.new.storage; caches = c.flush_rb.new.self } in
-    handed_on (NamesReftable view q p old a f1) c.from_residual.result c.in_err-flush_rb.field-0.0 c.from_residual.ensures
-    (c.in_err-flush_rb.ensures.faults h q sound.sound.honest sound.sound.caches sound.sound.named_blocks, inl (one.file_step, one.reftable))
-
-pub returns-in_err-flush_rb-clause-uses : goal.returns-in_err-flush_rb-clause-uses
-returns-in_err-flush_rb-clause-uses g c = λ p sound longer.
-    let view = g.S.Storage.view in
-    let old = c.args.file.now in
-    let a = c.args.self.now in
-    let q = with_run p c.args.file.now.header.fields c.args.self.now.reftable c.args.room.first (room_length c.args.room) in
-    let one = allocator_step_cached view q old a c.flush_rb.new.storage c.flush_rb.new.self sound (c.flush_rb.ensures.keeps c.args.file.now.header.fields q sound.sound.honest sound.sound.caches) c.flush_rb.ensures.marks in
-    let f1 = record old { storage = c.flush_rb.new.storage; caches = c.flush_rb.new.self } in
-    handed_on (KeepsUsed view old f1) c.from_residual.result c.in_err-flush_rb.field-0.0 c.from_residual.ensures
-    (uses_refused view q old f1 a c.in_err-flush_rb.field-0.0 (inl (one.file_step, one.reftable)))
+    record {
+      names = handed_on (NamesReftable view q p old a f1) c.from_residual.result c.in_err-flush_rb.field-0.0 c.from_residual.ensures
+          (c.in_err-flush_rb.ensures.faults h q sound.sound.honest sound.sound.caches sound.sound.named_blocks, inl (one.file_step, one.reftable));
+      uses = handed_on (KeepsUsed view old f1) c.from_residual.result c.in_err-flush_rb.field-0.0 c.from_residual.ensures
+          (uses_refused view q old f1 a c.in_err-flush_rb.field-0.0 (inl (one.file_step, one.reftable)));
+    }
 
 pub returns-in_err-place_blocks-clause-sound : goal.returns-in_err-place_blocks-clause-sound
 returns-in_err-place_blocks-clause-sound g c = λ p sound longer.
@@ -54,23 +48,15 @@ returns-in_err-place_blocks-clause-sound g c = λ p sound longer.
     let old = c.args.file.now in
     let a = c.args.self.now in
     let q = with_run p c.args.file.now.header.fields c.args.self.now.reftable c.args.room.first (room_length c.args.room) in
-    let one = allocator_step_cached view q old a c.flush_rb.new.storage c.flush_rb.new.self sound (c.flush_rb.ensures.keeps c.args.file.now.header.fields q sound.sound.honest sound.sound.caches) c.flush_rb.ensures.marks in
+    let one = allocator_step_cached view q old a c.flush_rb.new.storage c.flush_rb.new.self sound (c.flush_rb.ensures.sound.keeps c.args.file.now.header.fields q sound.sound.honest sound.sound.caches) c.flush_rb.ensures.step.marks.pins in
     let f1 = record old { storage = c.flush_rb.new.storage; caches = c.flush_rb.new.self } in
-    let refused = c.in_err-place_blocks.ensures.sound p (is_sound_now view q q old f1 a one) c.in_ok-flush_rb.ensures.first longer in
-    handed_on (NamesReftable view q p old a c.place_blocks.new.file) c.from_residual-in_err-place_blocks.result c.in_err-place_blocks.field-0.0 c.from_residual-in_err-place_blocks.ensures
-    (refused.0, leaves_then view q old f1 c.place_blocks.new.file a c.in_err-place_blocks.field-0.0 one.file_step refused.1)
-
-pub returns-in_err-place_blocks-clause-uses : goal.returns-in_err-place_blocks-clause-uses
-returns-in_err-place_blocks-clause-uses g c = λ p sound longer.
-    let view = g.S.Storage.view in
-    let old = c.args.file.now in
-    let a = c.args.self.now in
-    let q = with_run p c.args.file.now.header.fields c.args.self.now.reftable c.args.room.first (room_length c.args.room) in
-    let one = allocator_step_cached view q old a c.flush_rb.new.storage c.flush_rb.new.self sound (c.flush_rb.ensures.keeps c.args.file.now.header.fields q sound.sound.honest sound.sound.caches) c.flush_rb.ensures.marks in
-    let f1 = record old { storage = c.flush_rb.new.storage; caches = c.flush_rb.new.self } in
-    let refused = c.in_err-place_blocks.ensures.sound p (is_sound_now view q q old f1 a one) c.in_ok-flush_rb.ensures.first longer in
-    handed_on (KeepsUsed view old c.place_blocks.new.file) c.from_residual-in_err-place_blocks.result c.in_err-place_blocks.field-0.0 c.from_residual-in_err-place_blocks.ensures
-    (uses_refused view q old c.place_blocks.new.file a c.in_err-place_blocks.field-0.0 (leaves_then view q old f1 c.place_blocks.new.file a c.in_err-place_blocks.field-0.0 one.file_step refused.1))
+    let refused = c.in_err-place_blocks.ensures.sound p (is_sound_now view q q old f1 a one) c.in_ok-flush_rb.ensures.flushes.first longer in
+    record {
+      names = handed_on (NamesReftable view q p old a c.place_blocks.new.file) c.from_residual-in_err-place_blocks.result c.in_err-place_blocks.field-0.0 c.from_residual-in_err-place_blocks.ensures
+          (refused.0, leaves_then view q old f1 c.place_blocks.new.file a c.in_err-place_blocks.field-0.0 one.file_step refused.1);
+      uses = handed_on (KeepsUsed view old c.place_blocks.new.file) c.from_residual-in_err-place_blocks.result c.in_err-place_blocks.field-0.0 c.from_residual-in_err-place_blocks.ensures
+          (uses_refused view q old c.place_blocks.new.file a c.in_err-place_blocks.field-0.0 (leaves_then view q old f1 c.place_blocks.new.file a c.in_err-place_blocks.field-0.0 one.file_step refused.1));
+    }
 
 pub returns-in_err-place_table-clause-sound : goal.returns-in_err-place_table-clause-sound
 returns-in_err-place_table-clause-sound g c = λ p sound longer.
@@ -81,48 +67,26 @@ returns-in_err-place_table-clause-sound g c = λ p sound longer.
     let first = c.args.room.first in
     let n = room_length c.args.room in
     let q = with_run p c.args.file.now.header.fields c.args.self.now.reftable c.args.room.first (room_length c.args.room) in
-    let one = allocator_step_cached view q old a c.flush_rb.new.storage c.flush_rb.new.self sound (c.flush_rb.ensures.keeps h q sound.sound.honest sound.sound.caches) c.flush_rb.ensures.marks in
+    let one = allocator_step_cached view q old a c.flush_rb.new.storage c.flush_rb.new.self sound (c.flush_rb.ensures.sound.keeps h q sound.sound.honest sound.sound.caches) c.flush_rb.ensures.step.marks.pins in
     let f1 = record old { storage = c.flush_rb.new.storage; caches = c.flush_rb.new.self } in
-    let placed = c.in_ok-place_blocks.ensures.sound p (is_sound_now view q q old f1 a one) c.in_ok-flush_rb.ensures.first longer in
+    let placed = c.in_ok-place_blocks.ensures.sound p (is_sound_now view q q old f1 a one) c.in_ok-flush_rb.ensures.flushes.first longer in
     let f2 = c.place_blocks.new.file in
     let two = allocator_step_then view q q old f1 f2 a a one placed.allocator_step in
     let header_two = ap (λ x. x.fields) c.place_blocks.ensures.step.header in
-    let may_two = may_go f1 f2 c.place_blocks.ensures.step.marks.order c.place_blocks.ensures.tables c.in_ok-flush_rb.ensures.first in
+    let may_two = may_go f1 f2 c.place_blocks.ensures.step.marks.order c.place_blocks.ensures.tables c.in_ok-flush_rb.ensures.flushes.first in
     let at_is = c.new.ensures in
     let low : c.args.room.first ≤ c.new.result = omega (arith, at_is) in
     let high : c.new.result + c.args.room.clusters ≤ c.args.room.first + room_length c.args.room = omega (arith, at_is) in
-    let bits = ap (λ (x : EntryTableView). x.cluster_bits) c.place_blocks.ensures.rest ∙ c.requires.bits ∙ sym (ap (λ (k : HeaderFields). k.cluster_bits) header_two) in
-    let long = c.place_blocks.ensures.as_long ∙ longer.long ∙ sym (ap (λ (k : HeaderFields). c.args.room.clusters * cluster_size k) header_two) in
+    let bits = ap (λ (x : EntryTableView). x.cluster_bits) c.place_blocks.ensures.table.rest ∙ c.requires.room.bits ∙ sym (ap (λ (k : HeaderFields). k.cluster_bits) header_two) in
+    let long = c.place_blocks.ensures.table.as_long ∙ longer.long ∙ sym (ap (λ (k : HeaderFields). c.args.room.clusters * cluster_size k) header_two) in
     let refused = table_err view p first n a f2 c.place_table.new.file c.new.result c.args.room.clusters c.place_blocks.new.table.bytes h header_two c.in_err-place_table.field-0.0
     (λ s. c.in_err-place_table.ensures.sound p first n c.args.room.clusters a s may_two low high bits long) (is_sound_now view q q old f2 a two) in
-    handed_on (NamesReftable view q p old a c.place_table.new.file) c.from_residual-in_err-place_table.result c.in_err-place_table.field-0.0 c.from_residual-in_err-place_table.ensures
-    (refused.0, leaves_then view q old f2 c.place_table.new.file a c.in_err-place_table.field-0.0 two.file_step refused.1)
-
-pub returns-in_err-place_table-clause-uses : goal.returns-in_err-place_table-clause-uses
-returns-in_err-place_table-clause-uses g c = λ p sound longer.
-    let view = g.S.Storage.view in
-    let old = c.args.file.now in
-    let a = c.args.self.now in
-    let h = c.args.file.now.header.fields in
-    let first = c.args.room.first in
-    let n = room_length c.args.room in
-    let q = with_run p c.args.file.now.header.fields c.args.self.now.reftable c.args.room.first (room_length c.args.room) in
-    let one = allocator_step_cached view q old a c.flush_rb.new.storage c.flush_rb.new.self sound (c.flush_rb.ensures.keeps h q sound.sound.honest sound.sound.caches) c.flush_rb.ensures.marks in
-    let f1 = record old { storage = c.flush_rb.new.storage; caches = c.flush_rb.new.self } in
-    let placed = c.in_ok-place_blocks.ensures.sound p (is_sound_now view q q old f1 a one) c.in_ok-flush_rb.ensures.first longer in
-    let f2 = c.place_blocks.new.file in
-    let two = allocator_step_then view q q old f1 f2 a a one placed.allocator_step in
-    let header_two = ap (λ x. x.fields) c.place_blocks.ensures.step.header in
-    let may_two = may_go f1 f2 c.place_blocks.ensures.step.marks.order c.place_blocks.ensures.tables c.in_ok-flush_rb.ensures.first in
-    let at_is = c.new.ensures in
-    let low : c.args.room.first ≤ c.new.result = omega (arith, at_is) in
-    let high : c.new.result + c.args.room.clusters ≤ c.args.room.first + room_length c.args.room = omega (arith, at_is) in
-    let bits = ap (λ (x : EntryTableView). x.cluster_bits) c.place_blocks.ensures.rest ∙ c.requires.bits ∙ sym (ap (λ (k : HeaderFields). k.cluster_bits) header_two) in
-    let long = c.place_blocks.ensures.as_long ∙ longer.long ∙ sym (ap (λ (k : HeaderFields). c.args.room.clusters * cluster_size k) header_two) in
-    let refused = table_err view p first n a f2 c.place_table.new.file c.new.result c.args.room.clusters c.place_blocks.new.table.bytes h header_two c.in_err-place_table.field-0.0
-    (λ s. c.in_err-place_table.ensures.sound p first n c.args.room.clusters a s may_two low high bits long) (is_sound_now view q q old f2 a two) in
-    handed_on (KeepsUsed view old c.place_table.new.file) c.from_residual-in_err-place_table.result c.in_err-place_table.field-0.0 c.from_residual-in_err-place_table.ensures
-    (uses_refused view q old c.place_table.new.file a c.in_err-place_table.field-0.0 (leaves_then view q old f2 c.place_table.new.file a c.in_err-place_table.field-0.0 two.file_step refused.1))
+    record {
+      names = handed_on (NamesReftable view q p old a c.place_table.new.file) c.from_residual-in_err-place_table.result c.in_err-place_table.field-0.0 c.from_residual-in_err-place_table.ensures
+          (refused.0, leaves_then view q old f2 c.place_table.new.file a c.in_err-place_table.field-0.0 two.file_step refused.1);
+      uses = handed_on (KeepsUsed view old c.place_table.new.file) c.from_residual-in_err-place_table.result c.in_err-place_table.field-0.0 c.from_residual-in_err-place_table.ensures
+          (uses_refused view q old c.place_table.new.file a c.in_err-place_table.field-0.0 (leaves_then view q old f2 c.place_table.new.file a c.in_err-place_table.field-0.0 two.file_step refused.1));
+    }
 
 pub returns-clause-sound : goal.returns-clause-sound
 returns-clause-sound g c = λ p sound longer.
@@ -133,18 +97,18 @@ returns-clause-sound g c = λ p sound longer.
     let first = c.args.room.first in
     let n = room_length c.args.room in
     let q = with_run p c.args.file.now.header.fields c.args.self.now.reftable c.args.room.first (room_length c.args.room) in
-    let one = allocator_step_cached view q old a c.flush_rb.new.storage c.flush_rb.new.self sound (c.flush_rb.ensures.keeps h q sound.sound.honest sound.sound.caches) c.flush_rb.ensures.marks in
+    let one = allocator_step_cached view q old a c.flush_rb.new.storage c.flush_rb.new.self sound (c.flush_rb.ensures.sound.keeps h q sound.sound.honest sound.sound.caches) c.flush_rb.ensures.step.marks.pins in
     let f1 = record old { storage = c.flush_rb.new.storage; caches = c.flush_rb.new.self } in
-    let placed = c.in_ok-place_blocks.ensures.sound p (is_sound_now view q q old f1 a one) c.in_ok-flush_rb.ensures.first longer in
+    let placed = c.in_ok-place_blocks.ensures.sound p (is_sound_now view q q old f1 a one) c.in_ok-flush_rb.ensures.flushes.first longer in
     let f2 = c.place_blocks.new.file in
     let two = allocator_step_then view q q old f1 f2 a a one placed.allocator_step in
     let header_two = ap (λ x. x.fields) c.place_blocks.ensures.step.header in
-    let may_two = may_go f1 f2 c.place_blocks.ensures.step.marks.order c.place_blocks.ensures.tables c.in_ok-flush_rb.ensures.first in
+    let may_two = may_go f1 f2 c.place_blocks.ensures.step.marks.order c.place_blocks.ensures.tables c.in_ok-flush_rb.ensures.flushes.first in
     let at_is = c.new.ensures in
     let low : c.args.room.first ≤ c.new.result = omega (arith, at_is) in
     let high : c.new.result + c.args.room.clusters ≤ c.args.room.first + room_length c.args.room = omega (arith, at_is) in
-    let bits = ap (λ (x : EntryTableView). x.cluster_bits) c.place_blocks.ensures.rest ∙ c.requires.bits ∙ sym (ap (λ (k : HeaderFields). k.cluster_bits) header_two) in
-    let long = c.place_blocks.ensures.as_long ∙ longer.long ∙ sym (ap (λ (k : HeaderFields). c.args.room.clusters * cluster_size k) header_two) in
+    let bits = ap (λ (x : EntryTableView). x.cluster_bits) c.place_blocks.ensures.table.rest ∙ c.requires.room.bits ∙ sym (ap (λ (k : HeaderFields). k.cluster_bits) header_two) in
+    let long = c.place_blocks.ensures.table.as_long ∙ longer.long ∙ sym (ap (λ (k : HeaderFields). c.args.room.clusters * cluster_size k) header_two) in
     let wrote = table_ok view p first n a f2 c.place_table.new.file c.new.result c.args.room.clusters c.place_blocks.new.table.bytes h header_two c.in_ok-place_table.field-0
     (λ s. c.in_ok-place_table.ensures.sound p first n c.args.room.clusters a s may_two low high bits long) (is_sound_now view q q old f2 a two) in
     let f3 = c.place_table.new.file in
@@ -155,7 +119,7 @@ returns-clause-sound g c = λ p sound longer.
     let outside = λ (k : ℕ) (none : run_at (c.args.room.first + c.args.room.blocks) c.args.room.clusters k ≡ 0). wrote.2 k (ap (λ m. run_at m c.args.room.clusters k) at_is ∙ none) in
     let counts = counting_beside h sizes (contents_in view f2) (contents_in view f3) a.reftable t' first c.args.room.blocks c.args.room.clusters n placed.grown
     (subst (λ (k : HeaderFields). Counting k (contents_in view f2) a.reftable c.place_blocks.new.table first n) header_two placed.counts) outside in
-    let clean = subst (λ (x : MetadataCaches _). AreClean (refblocks x)) (sym c.place_table.ensures.caches) (c.place_blocks.ensures.clean c.in_ok-flush_rb.ensures.written) in
+    let clean = subst (λ (x : MetadataCaches _). AreClean (refblocks x)) (sym c.place_table.ensures.caches) (c.place_blocks.ensures.clean c.in_ok-flush_rb.ensures.flushes.written) in
     let may_three = may_go f2 f3 (ap order_of c.place_table.ensures.caches) (ap l2_tables c.place_table.ensures.caches) may_two in
     let uncached = λ (k : ℕ) (some : 0 < run_at c.args.room.first c.args.room.blocks k). ap (λ x. rb_at x k) c.place_table.ensures.caches ∙ placed.uncached k some in
     let stands = subst (λ m. StandAt (contents_in view f3) (m * cluster_size h) c.place_blocks.new.table.bytes) at_is wrote.1 in
@@ -163,166 +127,89 @@ returns-clause-sound g c = λ p sound longer.
     let ready = stands_ready view f3 h a.reftable t' first c.args.room.blocks c.args.room.clusters (sym header_three) placed.grown stands counts clean may_three uncached in
     let ready_table = subst (λ (x : EntryTableView). StandsGrown view f3 a.reftable x first c.args.room.blocks c.args.room.clusters) (sym table_is) ready in
     let sound_three = subst (λ (k : HeaderFields). AllocatorInvariant view a (with_run p k a.reftable first n) f3) (sym header_three) (is_sound_now view q q old f3 a three) in
-    names_then view p old f3 c.name_reftable.new.file a c.name_reftable.new.self a.reftable first n header_three c.name_reftable.result three
-    (c.name_reftable.ensures.names p first c.args.room.blocks c.args.room.clusters sound_three ready_table)
-
-pub returns-clause-uses : goal.returns-clause-uses
-returns-clause-uses g c = λ p sound longer.
-    let view = g.S.Storage.view in
-    let old = c.args.file.now in
-    let a = c.args.self.now in
-    let h = c.args.file.now.header.fields in
-    let first = c.args.room.first in
-    let n = room_length c.args.room in
-    let q = with_run p c.args.file.now.header.fields c.args.self.now.reftable c.args.room.first (room_length c.args.room) in
-    let one = allocator_step_cached view q old a c.flush_rb.new.storage c.flush_rb.new.self sound (c.flush_rb.ensures.keeps h q sound.sound.honest sound.sound.caches) c.flush_rb.ensures.marks in
-    let f1 = record old { storage = c.flush_rb.new.storage; caches = c.flush_rb.new.self } in
-    let placed = c.in_ok-place_blocks.ensures.sound p (is_sound_now view q q old f1 a one) c.in_ok-flush_rb.ensures.first longer in
-    let f2 = c.place_blocks.new.file in
-    let two = allocator_step_then view q q old f1 f2 a a one placed.allocator_step in
-    let header_two = ap (λ x. x.fields) c.place_blocks.ensures.step.header in
-    let may_two = may_go f1 f2 c.place_blocks.ensures.step.marks.order c.place_blocks.ensures.tables c.in_ok-flush_rb.ensures.first in
-    let at_is = c.new.ensures in
-    let low : c.args.room.first ≤ c.new.result = omega (arith, at_is) in
-    let high : c.new.result + c.args.room.clusters ≤ c.args.room.first + room_length c.args.room = omega (arith, at_is) in
-    let bits = ap (λ (x : EntryTableView). x.cluster_bits) c.place_blocks.ensures.rest ∙ c.requires.bits ∙ sym (ap (λ (k : HeaderFields). k.cluster_bits) header_two) in
-    let long = c.place_blocks.ensures.as_long ∙ longer.long ∙ sym (ap (λ (k : HeaderFields). c.args.room.clusters * cluster_size k) header_two) in
-    let wrote = table_ok view p first n a f2 c.place_table.new.file c.new.result c.args.room.clusters c.place_blocks.new.table.bytes h header_two c.in_ok-place_table.field-0
-    (λ s. c.in_ok-place_table.ensures.sound p first n c.args.room.clusters a s may_two low high bits long) (is_sound_now view q q old f2 a two) in
-    let f3 = c.place_table.new.file in
-    let three = allocator_step_then view q q old f2 f3 a a two wrote.0 in
-    let header_three = ap (λ x. x.fields) c.place_table.ensures.step.header ∙ header_two in
-    let sizes = file_sizes view q old sound.sound in
-    let t' = placed_at c.place_blocks.new.table (c.args.room.first + c.args.room.blocks) in
-    let outside = λ (k : ℕ) (none : run_at (c.args.room.first + c.args.room.blocks) c.args.room.clusters k ≡ 0). wrote.2 k (ap (λ m. run_at m c.args.room.clusters k) at_is ∙ none) in
-    let counts = counting_beside h sizes (contents_in view f2) (contents_in view f3) a.reftable t' first c.args.room.blocks c.args.room.clusters n placed.grown
-    (subst (λ (k : HeaderFields). Counting k (contents_in view f2) a.reftable c.place_blocks.new.table first n) header_two placed.counts) outside in
-    let clean = subst (λ (x : MetadataCaches _). AreClean (refblocks x)) (sym c.place_table.ensures.caches) (c.place_blocks.ensures.clean c.in_ok-flush_rb.ensures.written) in
-    let may_three = may_go f2 f3 (ap order_of c.place_table.ensures.caches) (ap l2_tables c.place_table.ensures.caches) may_two in
-    let uncached = λ (k : ℕ) (some : 0 < run_at c.args.room.first c.args.room.blocks k). ap (λ x. rb_at x k) c.place_table.ensures.caches ∙ placed.uncached k some in
-    let stands = subst (λ m. StandAt (contents_in view f3) (m * cluster_size h) c.place_blocks.new.table.bytes) at_is wrote.1 in
-    let table_is : c.place_table.new.table ≡ placed_at c.place_blocks.new.table (c.args.room.first + c.args.room.blocks) = c.place_table.ensures.table ∙ ap (placed_at c.place_blocks.new.table) at_is in
-    let ready = stands_ready view f3 h a.reftable t' first c.args.room.blocks c.args.room.clusters (sym header_three) placed.grown stands counts clean may_three uncached in
-    let ready_table = subst (λ (x : EntryTableView). StandsGrown view f3 a.reftable x first c.args.room.blocks c.args.room.clusters) (sym table_is) ready in
-    let sound_three = subst (λ (k : HeaderFields). AllocatorInvariant view a (with_run p k a.reftable first n) f3) (sym header_three) (is_sound_now view q q old f3 a three) in
-    uses_after view q old f3 c.name_reftable.new.file a c.name_reftable.result three (c.name_reftable.ensures.uses p first c.args.room.blocks c.args.room.clusters sound_three ready_table)
-
-pub returns-clause-place : goal.returns-clause-place
-returns-clause-place g c =
-    ok_as (c.name_reftable.new.self.reftable ≡ c.place_table.new.table) (c.name_reftable.new.self.reftable.cluster ≡ Some (c.args.room.first + c.args.room.blocks)) c.name_reftable.result
-    (λ is. ap (λ (x : EntryTableView). x.cluster) (is ∙ c.place_table.ensures.table) ∙ ap Some c.new.ensures) c.name_reftable.ensures.table
+    let named = c.name_reftable.ensures.sound p first c.args.room.blocks c.args.room.clusters sound_three ready_table in
+    record {
+      names = names_then view p old f3 c.name_reftable.new.file a c.name_reftable.new.self a.reftable first n header_three c.name_reftable.result three
+          named.names;
+      uses = uses_after view q old f3 c.name_reftable.new.file a c.name_reftable.result three named.uses;
+    }
 
 pub returns-in_err-flush_rb-clause-step : goal.returns-in_err-flush_rb-clause-step
-returns-in_err-flush_rb-clause-step g c = pointer_step_on (table_step_cached (marks_of_both c.flush_rb.ensures.marks c.flush_rb.ensures.order c.flush_rb.ensures.notes) c.flush_rb.ensures.header_cluster)
+returns-in_err-flush_rb-clause-step g c = pointer_step_on (table_step_cached c.flush_rb.ensures.step.marks c.flush_rb.ensures.step.header_cluster)
 
 pub returns-in_err-flush_rb-clause-fails : goal.returns-in_err-flush_rb-clause-fails
-returns-in_err-flush_rb-clause-fails g c = fails_on c.from_residual.result c.in_err-flush_rb.field-0.0 c.from_residual.ensures (fails_of (Err c.in_err-flush_rb.field-0.0) c.in_err-flush_rb.ensures.storage_faults c.in_err-flush_rb.ensures.cause)
-
-pub returns-in_err-flush_rb-clause-table : goal.returns-in_err-flush_rb-clause-table
-returns-in_err-flush_rb-clause-table g c = on_no_ok _ c.from_residual.result c.in_err-flush_rb.field-0.0 c.from_residual.ensures
-
-pub returns-in_err-flush_rb-clause-list : goal.returns-in_err-flush_rb-clause-list
-returns-in_err-flush_rb-clause-list g c = refl
-
-pub returns-in_err-flush_rb-clause-first : goal.returns-in_err-flush_rb-clause-first
-returns-in_err-flush_rb-clause-first g c = refl
+returns-in_err-flush_rb-clause-fails g c = fails_on c.from_residual.result c.in_err-flush_rb.field-0.0 c.from_residual.ensures c.in_err-flush_rb.ensures.fails
 
 pub returns-in_err-flush_rb-clause-kept : goal.returns-in_err-flush_rb-clause-kept
 returns-in_err-flush_rb-clause-kept g c = on_err _ c.from_residual.result refl
 
-pub returns-in_err-flush_rb-clause-place : goal.returns-in_err-flush_rb-clause-place
-returns-in_err-flush_rb-clause-place g c = on_no_ok _ c.from_residual.result c.in_err-flush_rb.field-0.0 c.from_residual.ensures
-
 pub returns-in_err-place_blocks-clause-step : goal.returns-in_err-place_blocks-clause-step
-returns-in_err-place_blocks-clause-step g c = pointer_step_on (table_step_then (table_step_cached (marks_of_both c.flush_rb.ensures.marks c.flush_rb.ensures.order c.flush_rb.ensures.notes) c.flush_rb.ensures.header_cluster)
+returns-in_err-place_blocks-clause-step g c = pointer_step_on (table_step_then (table_step_cached c.flush_rb.ensures.step.marks c.flush_rb.ensures.step.header_cluster)
     (table_step_part refl c.place_blocks.ensures.step))
 
 pub returns-in_err-place_blocks-clause-fails : goal.returns-in_err-place_blocks-clause-fails
-returns-in_err-place_blocks-clause-fails g c = fails_on c.from_residual-in_err-place_blocks.result c.in_err-place_blocks.field-0.0 c.from_residual-in_err-place_blocks.ensures (fails_since c.in_ok-flush_rb.ensures.storage_faults.told c.in_err-place_blocks.ensures.fails)
-
-pub returns-in_err-place_blocks-clause-table : goal.returns-in_err-place_blocks-clause-table
-returns-in_err-place_blocks-clause-table g c = on_no_ok _ c.from_residual-in_err-place_blocks.result c.in_err-place_blocks.field-0.0 c.from_residual-in_err-place_blocks.ensures
-
-pub returns-in_err-place_blocks-clause-place : goal.returns-in_err-place_blocks-clause-place
-returns-in_err-place_blocks-clause-place g c = on_no_ok _ c.from_residual-in_err-place_blocks.result c.in_err-place_blocks.field-0.0 c.from_residual-in_err-place_blocks.ensures
-
-pub returns-in_err-place_blocks-clause-list : goal.returns-in_err-place_blocks-clause-list
-returns-in_err-place_blocks-clause-list g c = c.place_blocks.ensures.step.list
-
-pub returns-in_err-place_blocks-clause-first : goal.returns-in_err-place_blocks-clause-first
-returns-in_err-place_blocks-clause-first g c = refl
+returns-in_err-place_blocks-clause-fails g c = fails_on c.from_residual-in_err-place_blocks.result c.in_err-place_blocks.field-0.0 c.from_residual-in_err-place_blocks.ensures (fails_since c.in_ok-flush_rb.ensures.fails.told c.in_err-place_blocks.ensures.fails)
 
 pub returns-in_err-place_blocks-clause-kept : goal.returns-in_err-place_blocks-clause-kept
 returns-in_err-place_blocks-clause-kept g c = on_err _ c.from_residual-in_err-place_blocks.result refl
 
 pub returns-in_err-place_table-clause-step : goal.returns-in_err-place_table-clause-step
-returns-in_err-place_table-clause-step g c = pointer_step_on (table_step_then (table_step_then (table_step_cached (marks_of_both c.flush_rb.ensures.marks c.flush_rb.ensures.order c.flush_rb.ensures.notes) c.flush_rb.ensures.header_cluster)
+returns-in_err-place_table-clause-step g c = pointer_step_on (table_step_then (table_step_then (table_step_cached c.flush_rb.ensures.step.marks c.flush_rb.ensures.step.header_cluster)
     (table_step_part refl c.place_blocks.ensures.step))
-    (table_step_part (ap (λ (x : EntryTableView). x.cluster_bits) c.place_blocks.ensures.rest ∙ c.requires.bits ∙ sym (ap (λ (x : HeaderView). x.fields.cluster_bits) c.place_blocks.ensures.step.header)) c.place_table.ensures.step))
+    (table_step_part (ap (λ (x : EntryTableView). x.cluster_bits) c.place_blocks.ensures.table.rest ∙ c.requires.room.bits ∙ sym (ap (λ (x : HeaderView). x.fields.cluster_bits) c.place_blocks.ensures.step.header)) c.place_table.ensures.step))
 
 pub returns-in_err-place_table-clause-fails : goal.returns-in_err-place_table-clause-fails
-returns-in_err-place_table-clause-fails g c = fails_on c.from_residual-in_err-place_table.result c.in_err-place_table.field-0.0 c.from_residual-in_err-place_table.ensures (fails_since (c.in_ok-place_blocks.ensures.fails.told ∙ c.in_ok-flush_rb.ensures.storage_faults.told) c.in_err-place_table.ensures.fails)
-
-pub returns-in_err-place_table-clause-list : goal.returns-in_err-place_table-clause-list
-returns-in_err-place_table-clause-list g c = c.place_table.ensures.step.list ∙ c.place_blocks.ensures.step.list
-
-pub returns-in_err-place_table-clause-first : goal.returns-in_err-place_table-clause-first
-returns-in_err-place_table-clause-first g c = refl
+returns-in_err-place_table-clause-fails g c = fails_on c.from_residual-in_err-place_table.result c.in_err-place_table.field-0.0 c.from_residual-in_err-place_table.ensures (fails_since (c.in_ok-place_blocks.ensures.fails.told ∙ c.in_ok-flush_rb.ensures.fails.told) c.in_err-place_table.ensures.fails)
 
 pub returns-in_err-place_table-clause-kept : goal.returns-in_err-place_table-clause-kept
 returns-in_err-place_table-clause-kept g c = on_err _ c.from_residual-in_err-place_table.result refl
 
-pub returns-in_err-place_table-clause-table : goal.returns-in_err-place_table-clause-table
-returns-in_err-place_table-clause-table g c = on_no_ok _ c.from_residual-in_err-place_table.result c.in_err-place_table.field-0.0 c.from_residual-in_err-place_table.ensures
-
-pub returns-in_err-place_table-clause-place : goal.returns-in_err-place_table-clause-place
-returns-in_err-place_table-clause-place g c = on_no_ok _ c.from_residual-in_err-place_table.result c.in_err-place_table.field-0.0 c.from_residual-in_err-place_table.ensures
-
 pub returns-clause-step : goal.returns-clause-step
-returns-clause-step g c = pointer_step_then (pointer_step_on (table_step_then (table_step_then (table_step_cached (marks_of_both c.flush_rb.ensures.marks c.flush_rb.ensures.order c.flush_rb.ensures.notes) c.flush_rb.ensures.header_cluster)
+returns-clause-step g c =
+    pointer_step_then (pointer_step_on (table_step_then (table_step_then (table_step_cached c.flush_rb.ensures.step.marks c.flush_rb.ensures.step.header_cluster)
     (table_step_part refl c.place_blocks.ensures.step))
-    (table_step_part (ap (λ (x : EntryTableView). x.cluster_bits) c.place_blocks.ensures.rest ∙ c.requires.bits ∙ sym (ap (λ (x : HeaderView). x.fields.cluster_bits) c.place_blocks.ensures.step.header)) c.place_table.ensures.step))) (record {
-      header = c.name_reftable.ensures.header;
-      marks = c.name_reftable.ensures.marks;
-      header_cluster = c.name_reftable.ensures.header_cluster (subst (λ (t : EntryTableView). IfSome t.cluster (λ k. 0 < k)) (sym c.place_table.ensures.table) (let above = c.requires.above in let at = c.new.ensures in omega (arith, above, at))) (ap (λ (x : EntryTableView). x.cluster_bits) c.place_table.ensures.table ∙ (ap (λ (x : EntryTableView). x.cluster_bits) c.place_blocks.ensures.rest ∙ c.requires.bits ∙ sym (ap (λ (x : HeaderView). x.fields.cluster_bits) c.place_blocks.ensures.step.header)) ∙ sym (ap (λ (x : HeaderView). x.fields.cluster_bits) c.place_table.ensures.step.header));
-    })
+    (table_step_part (ap (λ (x : EntryTableView). x.cluster_bits) c.place_blocks.ensures.table.rest ∙ c.requires.room.bits ∙ sym (ap (λ (x : HeaderView). x.fields.cluster_bits) c.place_blocks.ensures.step.header)) c.place_table.ensures.step))) (pointer_step_to (record {
+      bits = ap (λ (x : EntryTableView). x.cluster_bits) c.place_table.ensures.table ∙ (ap (λ (x : EntryTableView). x.cluster_bits) c.place_blocks.ensures.table.rest ∙ c.requires.room.bits ∙ sym (ap (λ (x : HeaderView). x.fields.cluster_bits) c.place_blocks.ensures.step.header)) ∙ sym (ap (λ (x : HeaderView). x.fields.cluster_bits) c.place_table.ensures.step.header);
+      elsewhere = subst (λ (t : EntryTableView). IfSome t.cluster (λ k. 0 < k)) (sym c.place_table.ensures.table) (let above = c.requires.room.above in let at = c.new.ensures in omega (arith, above, at));
+    }) c.name_reftable.ensures.step)
 
 pub returns-clause-fails : goal.returns-clause-fails
-returns-clause-fails g c = fails_since (c.in_ok-place_table.ensures.fails.told ∙ (c.in_ok-place_blocks.ensures.fails.told ∙ c.in_ok-flush_rb.ensures.storage_faults.told)) c.name_reftable.ensures.fails
-
-pub returns-clause-list : goal.returns-clause-list
-returns-clause-list g c = c.name_reftable.ensures.list ∙ c.place_table.ensures.step.list ∙ c.place_blocks.ensures.step.list
-
-pub returns-clause-first : goal.returns-clause-first
-returns-clause-first g c = c.name_reftable.ensures.first
+returns-clause-fails g c = fails_since (c.in_ok-place_table.ensures.fails.told ∙ (c.in_ok-place_blocks.ensures.fails.told ∙ c.in_ok-flush_rb.ensures.fails.told)) c.name_reftable.ensures.fails
 
 pub returns-clause-kept : goal.returns-clause-kept
 returns-clause-kept g c = c.name_reftable.ensures.kept
 
-pub returns-clause-lacking : goal.returns-clause-lacking
-returns-clause-lacking g c =
-    let names = c.place_blocks.ensures.lacking in
+pub returns-clause-entered : goal.returns-clause-entered
+returns-clause-entered g c =
+    let names = c.place_blocks.ensures.table.lacking in
     let placed : NamesLacking c.args.self.now.reftable c.args.table (placed_at c.place_blocks.new.table c.new.result) = record { behind = record { bits = names.behind.bits; each = names.behind.each }; ranges = names.ranges } in
-    ok_as (c.name_reftable.new.self.reftable ≡ c.place_table.new.table) (NamesLacking c.args.self.now.reftable c.args.table c.name_reftable.new.self.reftable) c.name_reftable.result
-    (λ is. subst (NamesLacking c.args.self.now.reftable c.args.table) (sym (is ∙ c.place_table.ensures.table)) placed) c.name_reftable.ensures.table
+    ok_as (c.name_reftable.new.self.reftable ≡ c.place_table.new.table) (EntersRoom c.args.self.now.reftable c.args.table c.name_reftable.new.self.reftable c.args.room c.name_reftable.new.file) c.name_reftable.result
+    (λ is. record {
+      entered = record {
+        count = ap entry_count (is ∙ c.place_table.ensures.table) ∙ ap (λ n. n / 8) c.place_blocks.ensures.table.as_long;
+        lacking = subst (NamesLacking c.args.self.now.reftable c.args.table) (sym (is ∙ c.place_table.ensures.table)) placed;
+        noted = or_left (is_changed_of c.name_reftable.new.file.storage) c.name_reftable.new.file.caches.is_changed (c.name_reftable.ensures.step.marks.notes.changes.noted c.in_ok-place_table.ensures.noted);
+      };
+      place = ap (λ (x : EntryTableView). x.cluster) (is ∙ c.place_table.ensures.table) ∙ ap Some c.new.ensures;
+    }) c.name_reftable.ensures.table
 
-pub returns-in_err-flush_rb-clause-lacking : goal.returns-in_err-flush_rb-clause-lacking
-returns-in_err-flush_rb-clause-lacking g c = on_no_ok _ c.from_residual.result c.in_err-flush_rb.field-0.0 c.from_residual.ensures
+pub returns-in_err-flush_rb-clause-entered : goal.returns-in_err-flush_rb-clause-entered
+returns-in_err-flush_rb-clause-entered g c = on_no_ok _ c.from_residual.result c.in_err-flush_rb.field-0.0 c.from_residual.ensures
 
-pub returns-in_err-place_blocks-clause-lacking : goal.returns-in_err-place_blocks-clause-lacking
-returns-in_err-place_blocks-clause-lacking g c = on_no_ok _ c.from_residual-in_err-place_blocks.result c.in_err-place_blocks.field-0.0 c.from_residual-in_err-place_blocks.ensures
+pub returns-in_err-place_blocks-clause-entered : goal.returns-in_err-place_blocks-clause-entered
+returns-in_err-place_blocks-clause-entered g c = on_no_ok _ c.from_residual-in_err-place_blocks.result c.in_err-place_blocks.field-0.0 c.from_residual-in_err-place_blocks.ensures
 
-pub returns-in_err-place_table-clause-lacking : goal.returns-in_err-place_table-clause-lacking
-returns-in_err-place_table-clause-lacking g c = on_no_ok _ c.from_residual-in_err-place_table.result c.in_err-place_table.field-0.0 c.from_residual-in_err-place_table.ensures
+pub returns-in_err-place_table-clause-entered : goal.returns-in_err-place_table-clause-entered
+returns-in_err-place_table-clause-entered g c = on_no_ok _ c.from_residual-in_err-place_table.result c.in_err-place_table.field-0.0 c.from_residual-in_err-place_table.ensures
 
-pub returns-clause-noted : goal.returns-clause-noted
-returns-clause-noted g c = on_ok _ c.name_reftable.result (or_left (is_changed_of c.name_reftable.new.file.storage) c.name_reftable.new.file.caches.is_changed (c.name_reftable.ensures.marks.notes.changes.noted c.in_ok-place_table.ensures.noted))
+pub returns-in_err-flush_rb-clause-rest : goal.returns-in_err-flush_rb-clause-rest
+returns-in_err-flush_rb-clause-rest g c = refl
 
-pub returns-in_err-flush_rb-clause-noted : goal.returns-in_err-flush_rb-clause-noted
-returns-in_err-flush_rb-clause-noted g c = on_no_ok _ c.from_residual.result c.in_err-flush_rb.field-0.0 c.from_residual.ensures
+pub returns-in_err-place_blocks-clause-rest : goal.returns-in_err-place_blocks-clause-rest
+returns-in_err-place_blocks-clause-rest g c = refl
 
-pub returns-in_err-place_blocks-clause-noted : goal.returns-in_err-place_blocks-clause-noted
-returns-in_err-place_blocks-clause-noted g c = on_no_ok _ c.from_residual-in_err-place_blocks.result c.in_err-place_blocks.field-0.0 c.from_residual-in_err-place_blocks.ensures
+pub returns-in_err-place_table-clause-rest : goal.returns-in_err-place_table-clause-rest
+returns-in_err-place_table-clause-rest g c = refl
 
-pub returns-in_err-place_table-clause-noted : goal.returns-in_err-place_table-clause-noted
-returns-in_err-place_table-clause-noted g c = on_no_ok _ c.from_residual-in_err-place_table.result c.in_err-place_table.field-0.0 c.from_residual-in_err-place_table.ensures
+pub returns-clause-rest : goal.returns-clause-rest
+returns-clause-rest g c = c.name_reftable.ensures.rest

@@ -1,18 +1,38 @@
-use Rattle.std.proofs.Common.{inr}
-use Rattle.qcow2_alloc.proofs.KeptTables.Turning.{blocks_free}
+use Rattle.std.proofs.Common.{inr, refl, sym, ap, ◌∙◌, subst, OnOk}
+use Rattle.qcow2_laws.specs.Caches.{TablesMayGo}
+use Rattle.qcow2_laws.specs.Clusters.{Direction}
+use Rattle.qcow2_alloc.specs.MetadataCaches.{order, refblocks}
+use Rattle.qcow2_alloc.proofs.CacheSteps.{cache_step_none, soundly_none}
+use Rattle.qcow2_alloc.proofs.KeptTables.Quiet.{quiet_none}
+use Rattle.qcow2_alloc.proofs.KeptTables.Turning.{tables_free, blocks_free}
+use Rattle.qcow2_alloc.proofs.Steps.{fails_ok}
 use Rattle.qcow2_alloc.proofs.cache.MetadataCaches.before_l2.Goals as goal
 
-pub returns-in-L2DependsOnRb-clause-keeps : goal.returns-in-L2DependsOnRb-clause-keeps
-returns-in-L2DependsOnRb-clause-keeps g c = c.write_blocks.ensures.keeps (blocks_free c.args.self.now (inr c.in-L2DependsOnRb.is))
+pub returns-in-L2DependsOnRb-clause-step : goal.returns-in-L2DependsOnRb-clause-step
+returns-in-L2DependsOnRb-clause-step g c = c.write_blocks.ensures.step
 
-pub returns-in-L2DependsOnRb-clause-ordered : goal.returns-in-L2DependsOnRb-clause-ordered
-returns-in-L2DependsOnRb-clause-ordered g c = c.write_blocks.ensures.ordered (blocks_free c.args.self.now (inr c.in-L2DependsOnRb.is))
+pub returns-in-L2DependsOnRb-clause-fails : goal.returns-in-L2DependsOnRb-clause-fails
+returns-in-L2DependsOnRb-clause-fails g c = c.write_blocks.ensures.fails
 
-pub returns-in-L2DependsOnRb-clause-header_cluster : goal.returns-in-L2DependsOnRb-clause-header_cluster
-returns-in-L2DependsOnRb-clause-header_cluster g c = c.write_blocks.ensures.header_cluster
+pub returns-in-L2DependsOnRb-clause-sound : goal.returns-in-L2DependsOnRb-clause-sound
+returns-in-L2DependsOnRb-clause-sound g c = c.write_blocks.ensures.sound (blocks_free c.args.self.now (inr c.in-L2DependsOnRb.is))
 
-pub returns-in-L2DependsOnRb-clause-apart : goal.returns-in-L2DependsOnRb-clause-apart
-returns-in-L2DependsOnRb-clause-apart g c = c.write_blocks.ensures.apart (blocks_free c.args.self.now (inr c.in-L2DependsOnRb.is))
+pub returns-in-L2DependsOnRb-clause-way : goal.returns-in-L2DependsOnRb-clause-way
+returns-in-L2DependsOnRb-clause-way g c = record {
+  stays = c.write_blocks.ensures.flushes.others_stay;
+  others_stay = λ other. absurd (other (ap order c.in-L2DependsOnRb.is));
+  first = subst (λ d. OnOk c.write_blocks.result (TablesMayGo (order d) (refblocks c.write_blocks.new.self))) (sym (c.write_blocks.ensures.flushes.direction ∙ c.in-L2DependsOnRb.is)) c.write_blocks.ensures.flushes.written;
+  quiet = λ may. c.write_blocks.ensures.flushes.quiet (subst (λ (d : Direction). TablesMayGo d (refblocks c.args.self.now)) (ap order c.in-L2DependsOnRb.is) may);
+}
 
-pub returns-in-L2DependsOnRb-clause-all_written : goal.returns-in-L2DependsOnRb-clause-all_written
-returns-in-L2DependsOnRb-clause-all_written g c = c.write_blocks.ensures.all_written
+pub returns-in-None-clause-step : goal.returns-in-None-clause-step
+returns-in-None-clause-step g c = cache_step_none
+
+pub returns-in-None-clause-fails : goal.returns-in-None-clause-fails
+returns-in-None-clause-fails g c = fails_ok refl
+
+pub returns-in-None-clause-sound : goal.returns-in-None-clause-sound
+returns-in-None-clause-sound g c = soundly_none
+
+pub returns-in-None-clause-way : goal.returns-in-None-clause-way
+returns-in-None-clause-way g c = record { stays = refl; others_stay = λ _. refl; first = tables_free c.args.self.now c.in-None.is; quiet = λ _ honest. quiet_none _ honest }

@@ -1,18 +1,38 @@
-use Rattle.std.proofs.Common.{inr}
-use Rattle.qcow2_alloc.proofs.KeptTables.Turning.{tables_free}
+use Rattle.std.proofs.Common.{inr, refl, sym, ap, ◌∙◌, subst, OnOk}
+use Rattle.qcow2_laws.specs.Caches.{BlocksMayGo}
+use Rattle.qcow2_laws.specs.Clusters.{Direction}
+use Rattle.qcow2_alloc.specs.MetadataCaches.{order, l2_tables}
+use Rattle.qcow2_alloc.proofs.CacheSteps.{cache_step_none, soundly_none}
+use Rattle.qcow2_alloc.proofs.KeptTables.Quiet.{quiet_none}
+use Rattle.qcow2_alloc.proofs.KeptTables.Turning.{tables_free, blocks_free}
+use Rattle.qcow2_alloc.proofs.Steps.{fails_ok}
 use Rattle.qcow2_alloc.proofs.cache.MetadataCaches.before_rb.Goals as goal
 
-pub returns-in-RbDependsOnL2-clause-keeps : goal.returns-in-RbDependsOnL2-clause-keeps
-returns-in-RbDependsOnL2-clause-keeps g c = c.write_tables.ensures.keeps (tables_free c.args.self.now (inr c.in-RbDependsOnL2.is))
+pub returns-in-RbDependsOnL2-clause-step : goal.returns-in-RbDependsOnL2-clause-step
+returns-in-RbDependsOnL2-clause-step g c = c.write_tables.ensures.step
 
-pub returns-in-RbDependsOnL2-clause-ordered : goal.returns-in-RbDependsOnL2-clause-ordered
-returns-in-RbDependsOnL2-clause-ordered g c = c.write_tables.ensures.ordered (tables_free c.args.self.now (inr c.in-RbDependsOnL2.is))
+pub returns-in-RbDependsOnL2-clause-fails : goal.returns-in-RbDependsOnL2-clause-fails
+returns-in-RbDependsOnL2-clause-fails g c = c.write_tables.ensures.fails
 
-pub returns-in-RbDependsOnL2-clause-header_cluster : goal.returns-in-RbDependsOnL2-clause-header_cluster
-returns-in-RbDependsOnL2-clause-header_cluster g c = c.write_tables.ensures.header_cluster
+pub returns-in-RbDependsOnL2-clause-sound : goal.returns-in-RbDependsOnL2-clause-sound
+returns-in-RbDependsOnL2-clause-sound g c = c.write_tables.ensures.sound (tables_free c.args.self.now (inr c.in-RbDependsOnL2.is))
 
-pub returns-in-RbDependsOnL2-clause-apart : goal.returns-in-RbDependsOnL2-clause-apart
-returns-in-RbDependsOnL2-clause-apart g c = c.write_tables.ensures.apart (tables_free c.args.self.now (inr c.in-RbDependsOnL2.is))
+pub returns-in-RbDependsOnL2-clause-way : goal.returns-in-RbDependsOnL2-clause-way
+returns-in-RbDependsOnL2-clause-way g c = record {
+  stays = c.write_tables.ensures.flushes.others_stay;
+  others_stay = λ other. absurd (other (ap order c.in-RbDependsOnL2.is));
+  first = subst (λ d. OnOk c.write_tables.result (BlocksMayGo (order d) (l2_tables c.write_tables.new.self))) (sym (c.write_tables.ensures.flushes.direction ∙ c.in-RbDependsOnL2.is)) c.write_tables.ensures.flushes.written;
+  quiet = λ may. c.write_tables.ensures.flushes.quiet (subst (λ (d : Direction). BlocksMayGo d (l2_tables c.args.self.now)) (ap order c.in-RbDependsOnL2.is) may);
+}
 
-pub returns-in-RbDependsOnL2-clause-all_written : goal.returns-in-RbDependsOnL2-clause-all_written
-returns-in-RbDependsOnL2-clause-all_written g c = c.write_tables.ensures.all_written
+pub returns-in-None-clause-step : goal.returns-in-None-clause-step
+returns-in-None-clause-step g c = cache_step_none
+
+pub returns-in-None-clause-fails : goal.returns-in-None-clause-fails
+returns-in-None-clause-fails g c = fails_ok refl
+
+pub returns-in-None-clause-sound : goal.returns-in-None-clause-sound
+returns-in-None-clause-sound g c = soundly_none
+
+pub returns-in-None-clause-way : goal.returns-in-None-clause-way
+returns-in-None-clause-way g c = record { stays = refl; others_stay = λ _. refl; first = blocks_free c.args.self.now c.in-None.is; quiet = λ _ honest. quiet_none _ honest }

@@ -1,6 +1,8 @@
+use Rattle.std.proofs.Common.{refl}
 use Rattle.qcow2_alloc.proofs.KeptTables.Off.{left_of, left_err, blocks_taken}
 use Rattle.qcow2_alloc.proofs.KeptTables.BehindHeader.{blocks_left_behind}
 use Rattle.qcow2_alloc.proofs.KeptTables.ApartOff.{blocks_taken_apart}
+use Rattle.qcow2_alloc.proofs.CachePins.{marks_blocks}
 use Rattle.qcow2_alloc.proofs.cache.MetadataCaches.invalidate_rb.Goals as goal
 
 pub returns-in_err-invalidate-clause-left : goal.returns-in_err-invalidate-clause-left
@@ -15,14 +17,22 @@ pub returns-clause-taken : goal.returns-clause-taken
 returns-clause-taken g c =
     blocks_taken c.args.self.now c.invalidate.new.self c.invalidate.ensures.others (left_of c.args.self.now.rb.entries c.invalidate.new.self.entries c.invalidate.result c.invalidate.ensures.answer)
 
-pub returns-in_err-invalidate-clause-header_cluster : goal.returns-in_err-invalidate-clause-header_cluster
-returns-in_err-invalidate-clause-header_cluster g c = blocks_left_behind c.args.self.now c.invalidate.new.self c.invalidate.ensures.others (left_of c.args.self.now.rb.entries c.invalidate.new.self.entries c.invalidate.result c.invalidate.ensures.answer)
-
-pub returns-clause-header_cluster : goal.returns-clause-header_cluster
-returns-clause-header_cluster g c = blocks_left_behind c.args.self.now c.invalidate.new.self c.invalidate.ensures.others (left_of c.args.self.now.rb.entries c.invalidate.new.self.entries c.invalidate.result c.invalidate.ensures.answer)
-
 pub returns-in_err-invalidate-clause-taken_apart : goal.returns-in_err-invalidate-clause-taken_apart
 returns-in_err-invalidate-clause-taken_apart g c = blocks_taken_apart c.args.self.now c.invalidate.new.self c.invalidate.ensures.others (left_of c.args.self.now.rb.entries c.invalidate.new.self.entries c.invalidate.result c.invalidate.ensures.answer) c.invalidate.ensures.distinct
 
 pub returns-clause-taken_apart : goal.returns-clause-taken_apart
 returns-clause-taken_apart g c = blocks_taken_apart c.args.self.now c.invalidate.new.self c.invalidate.ensures.others (left_of c.args.self.now.rb.entries c.invalidate.new.self.entries c.invalidate.result c.invalidate.ensures.answer) c.invalidate.ensures.distinct
+
+pub returns-in_err-invalidate-clause-step : goal.returns-in_err-invalidate-clause-step
+returns-in_err-invalidate-clause-step g c = record {
+  marks = marks_blocks c.args.self.now c.invalidate.new.self c.invalidate.ensures.others c.invalidate.ensures.pins;
+  order = refl;
+  header_cluster = blocks_left_behind c.args.self.now c.invalidate.new.self c.invalidate.ensures.others (left_of c.args.self.now.rb.entries c.invalidate.new.self.entries c.invalidate.result c.invalidate.ensures.answer);
+}
+
+pub returns-clause-step : goal.returns-clause-step
+returns-clause-step g c = record {
+  marks = marks_blocks c.args.self.now c.invalidate.new.self c.invalidate.ensures.others c.invalidate.ensures.pins;
+  order = refl;
+  header_cluster = blocks_left_behind c.args.self.now c.invalidate.new.self c.invalidate.ensures.others (left_of c.args.self.now.rb.entries c.invalidate.new.self.entries c.invalidate.result c.invalidate.ensures.answer);
+}

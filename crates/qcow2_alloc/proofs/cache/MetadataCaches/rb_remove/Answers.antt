@@ -1,25 +1,23 @@
+use Rattle.std.proofs.Common.{refl}
 use Rattle.qcow2_alloc.proofs.KeptTables.Off.{removed_others, removed_marks, removed_takes, removed_clean, removed_gone}
 use Rattle.qcow2_alloc.proofs.KeptTables.BehindHeader.{removed_behind}
 use Rattle.qcow2_alloc.proofs.KeptTables.ApartOff.{removed_apart_block}
 use Rattle.qcow2_alloc.proofs.cache.MetadataCaches.rb_remove.Goals as goal
 
+pub returns-clause-step : goal.returns-clause-step
+returns-clause-step g c = record {
+  marks = removed_marks c.args.self.now c.args.cluster c.remove.result c.remove.new.self c.remove.ensures.value c.remove.ensures.entries;
+  order = refl;
+  header_cluster = removed_behind c.args.self.now c.args.cluster c.remove.result c.remove.new.self c.remove.ensures.entries;
+}
+
 pub returns-clause-others : goal.returns-clause-others
 returns-clause-others g c = removed_others c.args.self.now c.args.cluster c.remove.result c.remove.new.self c.remove.ensures.value c.remove.ensures.entries
 
-pub returns-clause-marks : goal.returns-clause-marks
-returns-clause-marks g c = removed_marks c.args.self.now c.args.cluster c.remove.result c.remove.new.self c.remove.ensures.value c.remove.ensures.entries
-
-pub returns-clause-taken : goal.returns-clause-taken
-returns-clause-taken g c = removed_takes c.args.self.now c.args.cluster c.remove.result c.remove.new.self c.remove.ensures.value c.remove.ensures.entries
-
-pub returns-clause-clean : goal.returns-clause-clean
-returns-clause-clean g c = removed_clean c.args.self.now c.args.cluster c.remove.result c.remove.new.self c.remove.ensures.value c.remove.ensures.entries
-
-pub returns-clause-gone : goal.returns-clause-gone
-returns-clause-gone g c = removed_gone c.args.self.now c.args.cluster c.remove.result c.remove.new.self c.remove.ensures.value c.remove.ensures.entries
-
-pub returns-clause-header_cluster : goal.returns-clause-header_cluster
-returns-clause-header_cluster g c = removed_behind c.args.self.now c.args.cluster c.remove.result c.remove.new.self c.remove.ensures.entries
-
-pub returns-clause-taken_apart : goal.returns-clause-taken_apart
-returns-clause-taken_apart g c = removed_apart_block c.args.self.now c.args.cluster c.remove.result c.remove.new.self c.remove.ensures.value c.remove.ensures.entries c.remove.ensures.distinct
+pub returns-clause-removes : goal.returns-clause-removes
+returns-clause-removes g c = record {
+  taken = removed_takes c.args.self.now c.args.cluster c.remove.result c.remove.new.self c.remove.ensures.value c.remove.ensures.entries;
+  taken_apart = removed_apart_block c.args.self.now c.args.cluster c.remove.result c.remove.new.self c.remove.ensures.value c.remove.ensures.entries c.remove.ensures.distinct;
+  gone = removed_gone c.args.self.now c.args.cluster c.remove.result c.remove.new.self c.remove.ensures.value c.remove.ensures.entries;
+  clean = removed_clean c.args.self.now c.args.cluster c.remove.result c.remove.new.self c.remove.ensures.value c.remove.ensures.entries;
+}

@@ -1,5 +1,5 @@
-use Rattle.std.proofs.Common.{false, inl, refl, ◌∙◌, ℕ, sym, ap, subst}
-use Rattle.qcow2_alloc.proofs.KeptTables.Flushing.{tables_flushed, tables_written}
+use Rattle.std.proofs.Common.{false, Err, inl, refl, ◌∙◌, ℕ, sym, ap, subst}
+use Rattle.qcow2_alloc.proofs.KeptTables.Flushing.{tables_written}
 use Rattle.qcow2_alloc.specs.ImageError.{of_cache, IsFault, IsOfTables}
 use Rattle.qcow2_alloc.proofs.KeptTables.Causes.{tables_flush_refused}
 use Rattle.qcow2_metadata.specs.Bytes.{byte_at}
@@ -11,33 +11,37 @@ use Rattle.qcow2_alloc.specs.KeptTables.{cached_tables}
 use Rattle.qcow2_alloc.specs.declared.cache.backends.L2CacheBackend.{L2CacheBackend}
 use Rattle.qcow2_alloc.specs.TableCaches.{l2_steps}
 use Rattle.qcow2_alloc.proofs.KeptTables.Clean.{flush_free}
-use Rattle.qcow2_alloc.proofs.KeptTables.InOrder.{tables_in_order}
 use Rattle.qcow2_alloc.proofs.KeptTables.Quiet.{tables_quiet}
-use Rattle.qcow2_alloc.specs.Faults.{faults_of}
-use Rattle.qcow2_alloc.proofs.Faults.{flush_refused, told_as, told_ok, l2_flush_tells}
+use Rattle.qcow2_alloc.proofs.Faults.{flush_refused, told_as, l2_flush_tells}
 use Rattle.qcow2_alloc.proofs.TableErrors.{cache_of_tables}
-use Rattle.qcow2_alloc.proofs.KeptTables.BehindHeader.{tables_flushed_behind}
-use Rattle.qcow2_alloc.proofs.KeptTables.ApartCalls.{tables_flushed_apart}
-use Rattle.qcow2_alloc.proofs.KeptTables.AllWritten.{tables_flushed_written}
+use Rattle.qcow2_alloc.proofs.CacheSteps.{watched_step, watched_soundly, l2_flushed_step, l2_flushed_soundly}
+use Rattle.qcow2_alloc.proofs.Steps.{fails_ok, fails_of}
 use Rattle.qcow2_alloc.proofs.cache.MetadataCaches.write_tables.Goals as goal
 
-pub returns-in-Err-clause-keeps : goal.returns-in-Err-clause-keeps
-returns-in-Err-clause-keeps g c = tables_flushed g.S.Storage.view (record c.args.storage.now { met_fault = false }) c.flush.new.store c.args.self.now c.flush.new.self c.flush.ensures.others c.flush.result (rw c.watch_faults.ensures at c.flush.ensures.flushed)
+pub returns-in-Err-clause-step : goal.returns-in-Err-clause-step
+returns-in-Err-clause-step g c = watched_step false (l2_flushed_step g.S.Storage.view (record c.args.storage.now { met_fault = false }) c.flush.new.store c.args.self.now c.flush.new.self c.flush.ensures.others c.flush.result (rw c.watch_faults.ensures at c.flush.ensures.flushed) c.flush.ensures.pins (rw c.watch_faults.ensures at c.flush.ensures.keeps).0)
 
-pub returns-clause-written : goal.returns-clause-written
-returns-clause-written g c = tables_written g.S.Storage.view (record c.args.storage.now { met_fault = false }) c.flush.new.store c.args.self.now c.flush.new.self c.flush.ensures.others c.flush.result (rw c.watch_faults.ensures at c.flush.ensures.flushed) c.in_default.is
+pub returns-in-Err-clause-sound : goal.returns-in-Err-clause-sound
+returns-in-Err-clause-sound g c = λ may. watched_soundly false (l2_flushed_soundly g.S.Storage.view (record c.args.storage.now { met_fault = false }) c.flush.new.store c.args.self.now c.flush.new.self c.flush.ensures.others c.flush.result (rw c.watch_faults.ensures at c.flush.ensures.flushed) c.flush.ensures.distinct may)
 
-pub returns-clause-keeps : goal.returns-clause-keeps
-returns-clause-keeps g c = tables_flushed g.S.Storage.view (record c.args.storage.now { met_fault = false }) c.flush.new.store c.args.self.now c.flush.new.self c.flush.ensures.others c.flush.result (rw c.watch_faults.ensures at c.flush.ensures.flushed)
+pub returns-in-Err-clause-fails : goal.returns-in-Err-clause-fails
+returns-in-Err-clause-fails g c =
+    fails_of {T = Unit {0}} (Err c.told.result) (flush_refused g.S.Storage.view (record c.args.storage.now { met_fault = false }) c.flush.new.store c.flush.result c.in-Err.refusal c.told.result refl (rw c.watch_faults.ensures at c.flush.ensures.keeps).1
+    (l2_flush_tells g.S.Storage.view c.args.self.now.l2.backend.header.fields (record c.args.storage.now { met_fault = false }) c.flush.new.store c.args.self.now.l2.entries c.flush.new.self.entries c.flush.result (rw c.watch_faults.ensures at c.flush.ensures.flushed)) c.in-Err.is c.told.ensures.met (λ none. c.told.ensures.unmet none ∙ c.into.ensures))
+    (told_as IsOfTables (met_fault_of c.flush.new.store) c.told.result (of_cache c.in-Err.refusal) c.told.ensures.met (λ none. c.told.ensures.unmet none ∙ c.into.ensures) tt (cache_of_tables c.in-Err.refusal))
 
 pub returns-in-Err-clause-faults : goal.returns-in-Err-clause-faults
 returns-in-Err-clause-faults g c = λ h p honest sound named_blocks.
     told_as IsFault (met_fault_of c.flush.new.store) c.told.result (of_cache c.in-Err.refusal) c.told.ensures.met (λ none. c.told.ensures.unmet none ∙ c.into.ensures) (inl refl)
     (tables_flush_refused g.S.Storage.view (record c.args.storage.now { met_fault = false }) c.flush.new.store c.args.self.now h p (byte_at (g.S.Storage.view (storage_of c.args.storage.now)).contents) sound c.flush.new.self c.flush.result (rw c.watch_faults.ensures at c.flush.ensures.flushed) c.in-Err.refusal c.in-Err.is)
 
-pub returns-in-Err-clause-cause : goal.returns-in-Err-clause-cause
-returns-in-Err-clause-cause g c =
-    told_as IsOfTables (met_fault_of c.flush.new.store) c.told.result (of_cache c.in-Err.refusal) c.told.ensures.met (λ none. c.told.ensures.unmet none ∙ c.into.ensures) tt (cache_of_tables c.in-Err.refusal)
+pub returns-in-Err-clause-flushes : goal.returns-in-Err-clause-flushes
+returns-in-Err-clause-flushes g c = record {
+  direction = refl;
+  others_stay = refl;
+  written = tt;
+  quiet = tables_quiet g.S.Storage.view (record c.args.storage.now { met_fault = false }) c.flush.new.store c.args.self.now c.flush.new.self c.flush.result (rw c.watch_faults.ensures at c.flush.ensures.flushed);
+}
 
 pub returns-in-Err-clause-free : goal.returns-in-Err-clause-free
 returns-in-Err-clause-free g c = λ size cluster free.
@@ -46,47 +50,26 @@ returns-in-Err-clause-free g c = λ size cluster free.
     (λ o in_c. flush_free (l2_steps (λ s. g.S.Storage.view (storage_of s)) c.args.self.now.l2.backend.header.fields) c.args.self.now.l2.backend.header.fields.cluster_bits (λ (t : L2TableView). t.bytes) (λ t. t.is_modified)
     (λ s t k v w h. ap (λ (t : L2TableView). t.is_modified) h.clean) size o (record c.args.storage.now { met_fault = false }) c.flush.new.store c.args.self.now.l2.entries c.flush.new.self.entries c.flush.result (rw c.watch_faults.ensures at c.flush.ensures.flushed) (free o in_c))
 
+pub returns-clause-step : goal.returns-clause-step
+returns-clause-step g c = watched_step false (l2_flushed_step g.S.Storage.view (record c.args.storage.now { met_fault = false }) c.flush.new.store c.args.self.now c.flush.new.self c.flush.ensures.others c.flush.result (rw c.watch_faults.ensures at c.flush.ensures.flushed) c.flush.ensures.pins (rw c.watch_faults.ensures at c.flush.ensures.keeps).0)
+
+pub returns-clause-sound : goal.returns-clause-sound
+returns-clause-sound g c = λ may. watched_soundly false (l2_flushed_soundly g.S.Storage.view (record c.args.storage.now { met_fault = false }) c.flush.new.store c.args.self.now c.flush.new.self c.flush.ensures.others c.flush.result (rw c.watch_faults.ensures at c.flush.ensures.flushed) c.flush.ensures.distinct may)
+
+pub returns-clause-fails : goal.returns-clause-fails
+returns-clause-fails g c = fails_ok ((l2_flush_tells g.S.Storage.view c.args.self.now.l2.backend.header.fields (record c.args.storage.now { met_fault = false }) c.flush.new.store c.args.self.now.l2.entries c.flush.new.self.entries c.flush.result (rw c.watch_faults.ensures at c.flush.ensures.flushed)).same _ c.in_default.is)
+
+pub returns-clause-flushes : goal.returns-clause-flushes
+returns-clause-flushes g c = record {
+  direction = refl;
+  others_stay = refl;
+  written = tables_written g.S.Storage.view (record c.args.storage.now { met_fault = false }) c.flush.new.store c.args.self.now c.flush.new.self c.flush.ensures.others c.flush.result (rw c.watch_faults.ensures at c.flush.ensures.flushed) c.in_default.is;
+  quiet = tables_quiet g.S.Storage.view (record c.args.storage.now { met_fault = false }) c.flush.new.store c.args.self.now c.flush.new.self c.flush.result (rw c.watch_faults.ensures at c.flush.ensures.flushed);
+}
+
 pub returns-clause-free : goal.returns-clause-free
 returns-clause-free g c = λ size cluster free.
     subst (λ (n : L2CacheBackend g.row.S.Denot). IsFreeOf size (cached_tables n.header.fields.cluster_bits (λ (t : L2TableView). t.bytes) (λ t. t.is_modified) c.flush.new.self.entries) cluster)
     (sym (ap (λ (l2 : Cache (L2CacheBackend g.row.S.Denot) ℕ L2TableView). l2.backend) c.flush.ensures.others))
     (λ o in_c. flush_free (l2_steps (λ s. g.S.Storage.view (storage_of s)) c.args.self.now.l2.backend.header.fields) c.args.self.now.l2.backend.header.fields.cluster_bits (λ (t : L2TableView). t.bytes) (λ t. t.is_modified)
     (λ s t k v w h. ap (λ (t : L2TableView). t.is_modified) h.clean) size o (record c.args.storage.now { met_fault = false }) c.flush.new.store c.args.self.now.l2.entries c.flush.new.self.entries c.flush.result (rw c.watch_faults.ensures at c.flush.ensures.flushed) (free o in_c))
-
-pub returns-in-Err-clause-ordered : goal.returns-in-Err-clause-ordered
-returns-in-Err-clause-ordered g c = tables_in_order g.S.Storage.view (record c.args.storage.now { met_fault = false }) c.flush.new.store c.args.self.now c.flush.new.self c.flush.result (rw c.watch_faults.ensures at c.flush.ensures.flushed)
-
-pub returns-clause-ordered : goal.returns-clause-ordered
-returns-clause-ordered g c = tables_in_order g.S.Storage.view (record c.args.storage.now { met_fault = false }) c.flush.new.store c.args.self.now c.flush.new.self c.flush.result (rw c.watch_faults.ensures at c.flush.ensures.flushed)
-
-pub returns-in-Err-clause-quiet : goal.returns-in-Err-clause-quiet
-returns-in-Err-clause-quiet g c = tables_quiet g.S.Storage.view (record c.args.storage.now { met_fault = false }) c.flush.new.store c.args.self.now c.flush.new.self c.flush.result (rw c.watch_faults.ensures at c.flush.ensures.flushed)
-
-pub returns-clause-quiet : goal.returns-clause-quiet
-returns-clause-quiet g c = tables_quiet g.S.Storage.view (record c.args.storage.now { met_fault = false }) c.flush.new.store c.args.self.now c.flush.new.self c.flush.result (rw c.watch_faults.ensures at c.flush.ensures.flushed)
-
-pub returns-in-Err-clause-storage_faults : goal.returns-in-Err-clause-storage_faults
-returns-in-Err-clause-storage_faults g c =
-    flush_refused g.S.Storage.view (record c.args.storage.now { met_fault = false }) c.flush.new.store c.flush.result c.in-Err.refusal c.told.result refl (rw c.watch_faults.ensures at c.flush.ensures.keeps).1
-    (l2_flush_tells g.S.Storage.view c.args.self.now.l2.backend.header.fields (record c.args.storage.now { met_fault = false }) c.flush.new.store c.args.self.now.l2.entries c.flush.new.self.entries c.flush.result (rw c.watch_faults.ensures at c.flush.ensures.flushed)) c.in-Err.is c.told.ensures.met (λ none. c.told.ensures.unmet none ∙ c.into.ensures)
-
-pub returns-clause-storage_faults : goal.returns-clause-storage_faults
-returns-clause-storage_faults g c = told_ok (faults_of g.S.Storage.view c.args.storage.now) (faults_of g.S.Storage.view c.flush.new.store) tt ((l2_flush_tells g.S.Storage.view c.args.self.now.l2.backend.header.fields (record c.args.storage.now { met_fault = false }) c.flush.new.store c.args.self.now.l2.entries c.flush.new.self.entries c.flush.result (rw c.watch_faults.ensures at c.flush.ensures.flushed)).same _ c.in_default.is)
-
-pub returns-in-Err-clause-header_cluster : goal.returns-in-Err-clause-header_cluster
-returns-in-Err-clause-header_cluster g c = let spared = tables_flushed_behind g.S.Storage.view (record c.args.storage.now { met_fault = false }) c.flush.new.store c.args.self.now c.flush.new.self c.flush.result c.flush.ensures.others (rw c.watch_faults.ensures at c.flush.ensures.flushed) in record { bytes = spared.bytes; behind = spared.behind }
-
-pub returns-clause-header_cluster : goal.returns-clause-header_cluster
-returns-clause-header_cluster g c = let spared = tables_flushed_behind g.S.Storage.view (record c.args.storage.now { met_fault = false }) c.flush.new.store c.args.self.now c.flush.new.self c.flush.result c.flush.ensures.others (rw c.watch_faults.ensures at c.flush.ensures.flushed) in record { bytes = spared.bytes; behind = spared.behind }
-
-pub returns-in-Err-clause-apart : goal.returns-in-Err-clause-apart
-returns-in-Err-clause-apart g c = λ may. let kept = tables_flushed_apart g.S.Storage.view (record c.args.storage.now { met_fault = false }) c.flush.new.store c.args.self.now c.flush.new.self c.flush.ensures.others c.flush.ensures.distinct c.flush.result (rw c.watch_faults.ensures at c.flush.ensures.flushed) may in record { stays = kept.stays }
-
-pub returns-clause-apart : goal.returns-clause-apart
-returns-clause-apart g c = λ may. let kept = tables_flushed_apart g.S.Storage.view (record c.args.storage.now { met_fault = false }) c.flush.new.store c.args.self.now c.flush.new.self c.flush.ensures.others c.flush.ensures.distinct c.flush.result (rw c.watch_faults.ensures at c.flush.ensures.flushed) may in record { stays = kept.stays }
-
-pub returns-in-Err-clause-all_written : goal.returns-in-Err-clause-all_written
-returns-in-Err-clause-all_written g c = let kept = tables_flushed_written g.S.Storage.view (record c.args.storage.now { met_fault = false }) c.flush.new.store c.args.self.now c.flush.new.self c.flush.result (rw c.watch_faults.ensures at c.flush.ensures.flushed) in record { tables = kept.tables; quiet = kept.quiet }
-
-pub returns-clause-all_written : goal.returns-clause-all_written
-returns-clause-all_written g c = let kept = tables_flushed_written g.S.Storage.view (record c.args.storage.now { met_fault = false }) c.flush.new.store c.args.self.now c.flush.new.self c.flush.result (rw c.watch_faults.ensures at c.flush.ensures.flushed) in record { tables = kept.tables; quiet = kept.quiet }

@@ -1,71 +1,107 @@
+use Rattle.std.proofs.Common.{◌≡◌, ◌∙◌, Err, Ok, Result, inl, inr, subst, sym, true}
+use Rattle.std.specs.Prelude.{IfErr}
+use Rattle.std.specs.Option.{option_flatten}
 use Rattle.qcow2_alloc.specs.Faults.{FaultsTold}
-use Rattle.std.proofs.Common.{inl, ◌≡◌, ◌∙◌, Result, Ok, Err, sym, subst}
-use Rattle.std.specs.Prelude.{IfErr, IfOk}
 use Rattle.qcow2_alloc.specs.declared.error.ImageError.{ImageError}
 use Rattle.qcow2_alloc.specs.declared.error.ImageError.TheVariants as I
-use Rattle.qcow2_image.specs.Created.{IsCreated, IsReasonNotToCreate}
-use Rattle.qcow2_image.specs.Opened.{storage_after}
-use Rattle.qcow2_image.proofs.Create.Causes.{counts_opened, counts_refused, opening_reasons}
-use Rattle.qcow2_image.proofs.Create.Creating.{created_opened, made_so, none_lost, opened_new, refused_open, stops_opened}
+use Rattle.qcow2_image.specs.Created.{IsReasonNotToCreate}
+use Rattle.qcow2_image.specs.ImageInvariant.{IsHonestBacking}
+use Rattle.qcow2_image.specs.Opened.{Opens}
+use Rattle.qcow2_image.specs.Readable.{IsNewlyOpened, OpeningStep, files_missing}
+use Rattle.qcow2_image.specs.declared.opening.Qcow2OpenBuilder.{Qcow2OpenBuilder}
 use Rattle.qcow2_metadata.specs.Bytes.{byte_at}
+use Rattle.qcow2_image.proofs.Create.Creating.{made_so, none_lost, opened_new, refused_open}
 use Rattle.qcow2_image.proofs.Create.NewDisks.{new_disk_consistent}
 use Rattle.qcow2_image.proofs.Open.NamedBehind.{lies_if}
 use Rattle.qcow2_image.proofs.builder.Qcow2CreateBuilder.create_open.Goals as goal
 
-pub returns-clause-new_disk : goal.returns-clause-new_disk
-returns-clause-new_disk g c = λ honest.
-    opened_new g.S.Storage.view g.F.BackingDisk.backing c.args.self c.create-storage.result.0 c.create-storage.result.1 c.in_default.field-0 c.in_default.is (c.create-storage.ensures.created honest) c.open_image.result c.open_image.ensures.opens
-    c.open_image.ensures.since
+-- what was answered wasn't refused
+not_refused : {A : Type 0} {a : A} (e : ImageError) → (◌≡◌ {A = Result A ImageError} (Ok a) (Err e)) → ⊥
+not_refused e is = cc
+
+pub returns-in-Ok-open-clause-opens : goal.returns-in-Ok-open-clause-opens
+returns-in-Ok-open-clause-opens g c = λ honest.
+    let view = g.S.Storage.view in
+    let below = g.F.BackingDisk.backing in
+    let builder = c.args.self in
+    let storage = c.create-storage.result.0 in
+    let image = c.in-Ok-open.image in
+    let created = c.create-storage.ensures.created honest in
+    let made = made_so view builder storage c.create-storage.result.1 c.in_default.field-0 c.in_default.is created in
+    let step = subst (λ (b : Qcow2OpenBuilder _ _). OpeningStep view (view b.image) b.writable (files_missing b.backing) (Ok image)) c.write.ensures c.in-Ok-open.ensures.step in
+    let opens = subst (λ (b : Qcow2OpenBuilder _ _). IsHonestBacking view below (option_flatten b.backing) → Opens view below (view b.image) image) c.write.ensures c.in-Ok-open.ensures.opens in
+    let new = subst (λ (b : Qcow2OpenBuilder _ _). IsNewlyOpened (view b.image) b.writable b.number image) c.write.ensures c.in-Ok-open.ensures.image in
+    record {
+      storage = storage;
+      opener = c.in-Ok.opener;
+      answered = c.in-Ok.ensures;
+      created = made;
+      new = new;
+      over = subst (λ (b : Qcow2OpenBuilder _ _). image.backing ≡ option_flatten b.backing) c.write.ensures c.in-Ok-open.ensures.over;
+      step = step;
+      opens = opens;
+      clusters = λ same stays. none_lost view builder storage storage made below (Ok image) (subst (λ s. Opens view below (view s) image) same (opens stays));
+      behind = λ same stays. lies_if view below (view builder.image).is_honest (view storage) (Ok image) (λ _. (made.honest, new_disk_consistent builder.preallocate builder.size (byte_at (view storage).contents) made.new_disk))
+          (subst (λ s. Opens view below (view s) image) same (opens stays)) new.header_cluster (inl honest);
+      new_disk = λ same stays. opened_new view below builder storage c.create-storage.result.1 c.in_default.field-0 c.in_default.is created (Ok image) (subst (λ s. Opens view below (view s) image) same (opens stays))
+          (subst (λ s. OpeningStep view (view s) true (files_missing c.in-Ok.opener.backing) (Ok image)) same step).since;
+    }
 
 pub returns-in-Err-clause-cause : goal.returns-in-Err-clause-cause
-returns-in-Err-clause-cause g c = λ honest. inl (subst (λ (r : Result _ _). IfErr r (IsReasonNotToCreate g.S.Storage.view c.args.self c.create-storage.result.0)) c.in-Err.is (c.create-storage.ensures.cause honest))
-
-pub returns-in-Err-clause-faults : goal.returns-in-Err-clause-faults
-returns-in-Err-clause-faults g c = counts_refused g.S.Storage.view (g.S.Storage.view c.args.self.image).faults c.create-storage.result.0 c.in-Err.refusal c.create-storage.result.1 c.in-Err.is c.create-storage.ensures.faults
-
-pub returns-clause-cause : goal.returns-clause-cause
-returns-clause-cause g c = λ honest.
+returns-in-Err-clause-cause g c = λ honest.
     let view = g.S.Storage.view in
-    let made = subst (λ (r : Result _ _). IfOk r (λ d. IsCreated c.args.self (view c.create-storage.result.0))) c.in_default.is (c.create-storage.ensures.created honest) in
-    opening_reasons c.args.self view c.create-storage.result.0 c.open_image.result made c.open_image.ensures.storage c.open_image.ensures.cause
+    inl (record {
+      reason = subst (λ (r : Result _ _). IfErr r (IsReasonNotToCreate view c.args.self)) c.in-Err.is (c.create-storage.ensures.cause honest);
+      stops = c.create-storage.ensures.stops honest;
+      faults = subst (λ (r : Result _ _). FaultsTold (view c.args.self.image).faults (view c.create-storage.result.0).faults r) c.in-Err.is c.create-storage.ensures.faults;
+    })
 
-pub returns-clause-faults : goal.returns-clause-faults
-returns-clause-faults g c = counts_opened g.S.Storage.view (g.S.Storage.view c.args.self.image).faults (g.S.Storage.view c.create-storage.result.0).faults c.open_image.result (subst (λ (r : Result _ _). FaultsTold (g.S.Storage.view c.args.self.image).faults (g.S.Storage.view c.create-storage.result.0).faults r) c.in_default.is c.create-storage.ensures.faults).told c.open_image.ensures.faults
-
-pub returns-in-Err-clause-stops : goal.returns-in-Err-clause-stops
-returns-in-Err-clause-stops g c = λ honest. c.create-storage.ensures.stops honest
-
-pub returns-clause-stops : goal.returns-clause-stops
-returns-clause-stops g c = λ honest.
+pub returns-in-Err-open-clause-cause : goal.returns-in-Err-open-clause-cause
+returns-in-Err-open-clause-cause g c = λ honest.
     let view = g.S.Storage.view in
-    let made = made_so view c.args.self c.create-storage.result.0 c.create-storage.result.1 c.in_default.field-0 c.in_default.is (c.create-storage.ensures.created honest) in
-    stops_opened view c.args.self c.create-storage.result.0 (storage_after c.open_image.result) made (c.create-storage.ensures.stops honest) c.open_image.ensures.since
+    inr (record {
+      made = c.create-storage.result.0;
+      opener = c.in-Ok.opener;
+      answered = c.in-Ok.ensures;
+      created = made_so view c.args.self c.create-storage.result.0 c.create-storage.result.1 c.in_default.field-0 c.in_default.is (c.create-storage.ensures.created honest);
+      step = subst (λ (b : Qcow2OpenBuilder _ _). OpeningStep {F = g.row.F.Denot} view (view b.image) b.writable (files_missing b.backing) (Err (c.in-Err-open.storage, c.in-Err-open.refusal))) c.write.ensures c.in-Err-open.ensures.step;
+    })
 
-pub returns-clause-created : goal.returns-clause-created
-returns-clause-created g c = λ honest.
-    let view = g.S.Storage.view in
-    let made = made_so view c.args.self c.create-storage.result.0 c.create-storage.result.1 c.in_default.field-0 c.in_default.is (c.create-storage.ensures.created honest) in
-    created_opened view c.args.self c.create-storage.result.0 (storage_after c.open_image.result) made c.open_image.result c.open_image.ensures.storage
-
-pub returns-clause-clusters : goal.returns-clause-clusters
-returns-clause-clusters g c = λ honest.
-    let view = g.S.Storage.view in
-    let made = made_so view c.args.self c.create-storage.result.0 c.create-storage.result.1 c.in_default.field-0 c.in_default.is (c.create-storage.ensures.created honest) in
-    none_lost view c.args.self c.create-storage.result.0 c.create-storage.result.0 made g.F.BackingDisk.backing c.open_image.result c.open_image.ensures.opens
+pub returns-in-Err-builder-clause-closed : goal.returns-in-Err-builder-clause-closed
+returns-in-Err-builder-clause-closed g c = λ none. (c.create-storage.result.0, c.in-Err-builder.ensures)
 
 pub returns-in-Err-clause-refused : goal.returns-in-Err-clause-refused
-returns-in-Err-clause-refused g c = λ none. refused_open c.create-storage.result.0 c.args.self.image c.in-Err.refusal c.create-storage.result.1 c.in-Err.is (c.create-storage.ensures.refused none)
+returns-in-Err-clause-refused g c = λ none. refused_open c.create-storage.result.0 c.args.self.image c.in-Err.refusal I.InvalidOption c.create-storage.result.1 c.in-Err.is (c.create-storage.ensures.refused none)
 
-pub returns-clause-refused : goal.returns-clause-refused
-returns-clause-refused g c = λ none.
-    let told = (c.create-storage.ensures.refused none).0 in
-    absurd (let bad : ◌≡◌ {A = Result _ ImageError} (Ok c.in_default.field-0) (Err I.InvalidOption) = sym c.in_default.is ∙ told in cc)
+pub returns-in-Err-builder-clause-refused : goal.returns-in-Err-builder-clause-refused
+returns-in-Err-builder-clause-refused g c = λ none. absurd (not_refused I.InvalidOption (sym c.in_default.is ∙ (c.create-storage.ensures.refused none).0))
 
-pub returns-clause-header_cluster : goal.returns-clause-header_cluster
-returns-clause-header_cluster g c =
-    let view = g.S.Storage.view in
-    lies_if view g.F.BackingDisk.backing (view c.args.self.image).is_honest (view c.create-storage.result.0) c.open_image.result
-    (λ honest.
-    let made = made_so view c.args.self c.create-storage.result.0 c.create-storage.result.1 c.in_default.field-0 c.in_default.is (c.create-storage.ensures.created honest) in
-    (made.honest, new_disk_consistent c.args.self.preallocate c.args.self.size (byte_at (view c.create-storage.result.0).contents) made.new_disk))
-    c.open_image.ensures.opens c.open_image.ensures.header_cluster
+pub returns-in-Err-open-clause-refused : goal.returns-in-Err-open-clause-refused
+returns-in-Err-open-clause-refused g c = λ none. absurd (not_refused I.InvalidOption (sym c.in_default.is ∙ (c.create-storage.ensures.refused none).0))
+
+pub returns-in-Ok-open-clause-refused : goal.returns-in-Ok-open-clause-refused
+returns-in-Ok-open-clause-refused g c = λ none. absurd (not_refused I.InvalidOption (sym c.in_default.is ∙ (c.create-storage.ensures.refused none).0))
+
+pub returns-in-Err-clause-over : goal.returns-in-Err-clause-over
+returns-in-Err-clause-over g c = λ allowed is. refused_open c.create-storage.result.0 c.args.self.image c.in-Err.refusal I.Preallocation c.create-storage.result.1 c.in-Err.is (c.create-storage.ensures.over allowed is)
+
+pub returns-in-Err-builder-clause-over : goal.returns-in-Err-builder-clause-over
+returns-in-Err-builder-clause-over g c = λ allowed is. absurd (not_refused I.Preallocation (sym c.in_default.is ∙ (c.create-storage.ensures.over allowed is).0))
+
+pub returns-in-Err-open-clause-over : goal.returns-in-Err-open-clause-over
+returns-in-Err-open-clause-over g c = λ allowed is. absurd (not_refused I.Preallocation (sym c.in_default.is ∙ (c.create-storage.ensures.over allowed is).0))
+
+pub returns-in-Ok-open-clause-over : goal.returns-in-Ok-open-clause-over
+returns-in-Ok-open-clause-over g c = λ allowed is. absurd (not_refused I.Preallocation (sym c.in_default.is ∙ (c.create-storage.ensures.over allowed is).0))
+
+pub returns-in-Err-clause-limit : goal.returns-in-Err-clause-limit
+returns-in-Err-clause-limit g c = λ allowed no long. refused_open c.create-storage.result.0 c.args.self.image c.in-Err.refusal I.Limit c.create-storage.result.1 c.in-Err.is (c.create-storage.ensures.limit allowed no long)
+
+pub returns-in-Err-builder-clause-limit : goal.returns-in-Err-builder-clause-limit
+returns-in-Err-builder-clause-limit g c = λ allowed no long. absurd (not_refused I.Limit (sym c.in_default.is ∙ (c.create-storage.ensures.limit allowed no long).0))
+
+pub returns-in-Err-open-clause-limit : goal.returns-in-Err-open-clause-limit
+returns-in-Err-open-clause-limit g c = λ allowed no long. absurd (not_refused I.Limit (sym c.in_default.is ∙ (c.create-storage.ensures.limit allowed no long).0))
+
+pub returns-in-Ok-open-clause-limit : goal.returns-in-Ok-open-clause-limit
+returns-in-Ok-open-clause-limit g c = λ allowed no long. absurd (not_refused I.Limit (sym c.in_default.is ∙ (c.create-storage.ensures.limit allowed no long).0))

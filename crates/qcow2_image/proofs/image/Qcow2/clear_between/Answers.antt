@@ -6,7 +6,7 @@ use Rattle.qcow2_image.proofs.Call.BehindHeader.{behind_then}
 use Rattle.qcow2_image.proofs.Call.FaultCounts.{counted_as, counted_of, untouched}
 use Rattle.qcow2_image.proofs.Call.FreedBehind.{lacking_freed, refused_freed}
 use Rattle.qcow2_image.proofs.Call.Refused.{back_then_freed}
-use Rattle.qcow2_image.proofs.Prepare.Lacked.{lacks_freed, limited_frees}
+use Rattle.qcow2_image.proofs.Prepare.Lacked.{limited_frees}
 use Rattle.qcow2_image.proofs.Prepare.MetTables.{met_freed}
 use Rattle.qcow2_image.specs.L1Entries.{NeedsFarEntry}
 use Rattle.qcow2_image.specs.Backings.{HasPrepared}
@@ -45,20 +45,14 @@ returns-in-Err-clause-pinned g c = λ own is. c.in-Err.ensures.pinned own (c.fre
 
 pub returns-in-Err-clause-limit : goal.returns-in-Err-clause-limit
 returns-in-Err-clause-limit g c = λ out sound whole is.
-    let view = g.S.Storage.view in
-    let old = c.args.self.now in
-    let mid = c.clear_in_table.new.self in
-    let freed = limited_frees view g.F.BackingDisk.backing out old mid c.free_after.new.self c.in-Err.refusal c.free_after.result (c.in-Err.ensures.clears out sound whole) c.free_after.ensures.fault (c.free_after.ensures.limit out) is in
-    lacks_freed view c.args.from old mid c.free_after.new.self c.free_after.ensures.keeps_rest.header freed.1 (c.in-Err.ensures.limit out sound whole freed.0)
+    c.in-Err.ensures.limit out sound whole
+    (limited_frees g.S.Storage.view g.F.BackingDisk.backing out c.args.self.now c.clear_in_table.new.self c.free_after.new.self c.in-Err.refusal c.free_after.result (c.in-Err.ensures.clears out sound whole) c.free_after.ensures.fault (c.free_after.ensures.told out) is)
 
 pub returns-in-Err-clause-met : goal.returns-in-Err-clause-met
 returns-in-Err-clause-met g c = λ out sound whole.
     let old = c.args.self.now in
     met_freed g.S.Storage.view g.F.BackingDisk.backing out (IsMetTaking (HasPrepared out) (IsUnderMapping old.file.header.fields c.args.from out) ⊥ (NeedsFarEntry old c.args.from)) (λ e fault. inl (inl (inl fault))) old c.clear_in_table.new.self c.free_after.new.self c.in-Err.refusal c.free_after.result (c.in-Err.ensures.clears out sound whole) c.free_after.ensures.fault
     (c.free_after.ensures.told out) (c.in-Err.ensures.met out sound whole)
-
-pub returns-in-Ok-clause-gave : goal.returns-in-Ok-clause-gave
-returns-in-Ok-clause-gave g c = λ out sound. c.in-Ok.ensures.gave out sound
 
 pub returns-in-Ok-clause-step : goal.returns-in-Ok-clause-step
 returns-in-Ok-clause-step g c = c.in-Ok.ensures.step

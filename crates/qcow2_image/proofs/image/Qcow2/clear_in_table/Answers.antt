@@ -15,7 +15,6 @@ use Rattle.qcow2_image.proofs.Call.Notes.{table_kept}
 use Rattle.qcow2_image.proofs.Call.BehindHeader.{behind_by, behind_tables, behind_then}
 use Rattle.qcow2_image.proofs.Prepare.Pinned.{found_pins, heeds_refused, met_untaken}
 use Rattle.qcow2_image.proofs.Prepare.Lacked.{hands_limit, other_limit}
-use Rattle.qcow2_image.specs.LackedPlaces.{LacksTableFor}
 use Rattle.qcow2_image.proofs.Call.Unlimited.{fault_unlimited}
 use Rattle.qcow2_image.proofs.Prepare.MetTables.{reading_fault}
 use Rattle.qcow2_image.specs.L1Entries.{NeedsFarEntry}
@@ -23,7 +22,6 @@ use Rattle.qcow2_image.specs.Backings.{HasPrepared}
 use Rattle.qcow2_image.specs.MetAlone.{IsMetTaking}
 use Rattle.qcow2_image.proofs.Prepare.Met.{hands_met}
 use Rattle.qcow2_image.proofs.Prepare.MetTaking.{taking_as}
-use Rattle.qcow2_image.proofs.Prepare.Listing.{gave_still}
 use Rattle.qcow2_image.specs.Faults.{CountsImageFaults}
 use Rattle.qcow2_image.proofs.Call.FaultCounts.{counted_ok, counted_on, faults_then, untouched}
 use Rattle.qcow2_image.proofs.Clear.ClearedCalls.{counted_other}
@@ -102,7 +100,7 @@ returns-clause-pinned g c = λ own.
 
 pub returns-in_err-table-clause-limit : goal.returns-in_err-table-clause-limit
 returns-in_err-table-clause-limit g c = λ out sound whole.
-    hands_limit (λ x. LacksTableFor g.S.Storage.view c.args.from c.args.self.now c.table_for.new.self) c.from_residual.result c.in_err-table.field-0.0 c.from_residual.ensures ((c.in_err-table.ensures.sound out sound).limit)
+    hands_limit c.from_residual.result c.in_err-table.field-0.0 c.from_residual.ensures ((c.in_err-table.ensures.sound out sound).limit)
 
 pub returns-in_err-table-clause-met : goal.returns-in_err-table-clause-met
 returns-in_err-table-clause-met g c = λ out sound whole.
@@ -135,7 +133,7 @@ returns-in_err-old_data-clause-limit g c = λ out sound whole.
     let first : c.cluster-first.result ≡ c.args.from / cluster_size c.table_for.new.self.file.header.fields = c.cluster-first.ensures ∙ ap (λ o. o / 2 ^ c.cluster_bits-bits.result) c.new.ensures ∙ ap (λ n. from / 2 ^ n) bits in
     let e = c.in_err-old_data.field-0.0 in
     let fault = reading_fault view g.F.BackingDisk.backing out c.args.self.now mid c.args.how from c.args.to c.in_ok-table.table found.0 found.1 whole c.requires.some c.cluster-first.result ((c.args.to - from) / 2 ^ c.cluster_bits-bits.result) e first (ap (λ n. (c.args.to - from) / 2 ^ n) bits) c.in_err-old_data.ensures.only_faults in
-    hands_limit (λ x. LacksTableFor view from c.args.self.now mid) c.from_residual-in_err-old_data.result e c.from_residual-in_err-old_data.ensures (other_limit _ e (fault_unlimited e fault))
+    hands_limit c.from_residual-in_err-old_data.result e c.from_residual-in_err-old_data.ensures (other_limit _ e (fault_unlimited e fault))
 
 pub returns-in_err-old_data-clause-met : goal.returns-in_err-old_data-clause-met
 returns-in_err-old_data-clause-met g c = λ out sound whole.
@@ -147,12 +145,6 @@ returns-in_err-old_data-clause-met g c = λ out sound whole.
     let fault = reading_fault g.S.Storage.view g.F.BackingDisk.backing out c.args.self.now c.table_for.new.self c.args.how from c.args.to c.in_ok-table.table found.0 found.1 whole c.requires.some c.cluster-first.result ((c.args.to - from) / 2 ^ c.cluster_bits-bits.result) e first (ap (λ n. (c.args.to - from) / 2 ^ n) bits) c.in_err-old_data.ensures.only_faults in
     let old = c.args.self.now in
     hands_met (IsMetTaking (HasPrepared out) (IsUnderMapping old.file.header.fields from out) ⊥ (NeedsFarEntry old from)) c.from_residual-in_err-old_data.result e c.from_residual-in_err-old_data.ensures (inl (inl (inl fault)))
-
-pub returns-clause-gave : goal.returns-clause-gave
-returns-clause-gave g c = λ out sound.
-    let since = (c.in_ok-table.ensures.sound out sound).freed in
-    let new = record c.clear_entries.new.self { file = record c.clear_entries.new.self.file { free_list = c.hand_back.new.list } } in
-    (since.freed ++ since.more, gave_still (since.freed ++ since.more) c.args.self.now c.table_for.new.self new since.gone (ap (λ (i : Qcow2 _ _). i.allocator) c.clear_entries.ensures.clears.rest))
 
 pub returns-in_err-table-clause-step : goal.returns-in_err-table-clause-step
 returns-in_err-table-clause-step g c =

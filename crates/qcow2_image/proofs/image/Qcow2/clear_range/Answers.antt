@@ -1,10 +1,11 @@
+use Rattle.qcow2_image.specs.Limits.{IfLimit, IsLimited}
 use Rattle.qcow2_image.proofs.image.Qcow2.clear_range.Goals as goal
 use Rattle.qcow2_alloc.specs.ImageStorage.{is_changed_of}
 use Rattle.std.proofs.lemmas.Bool.{or_right}
 use Rattle.qcow2_image.proofs.Call.OnceWritten.{answered_counts, counts_begun, fails_marked, fails_once, kept_noted, notes_begun, notes_part, notes_since}
 use Rattle.std.proofs.Common.{◌≡◌, ◌<◌, ◌+◌, ◌-◌, ℕ, min, sym, ap, ◌∙◌, subst, arith, inl, refl}
 use Rattle.std.specs.Prelude.{Ok, Err, IfErr, IfOk, IsTrue, Result}
-use Rattle.qcow2_alloc.specs.declared.error.ImageError.TheVariants.{Memory, TablePrepared, Limit}
+use Rattle.qcow2_alloc.specs.declared.error.ImageError.TheVariants.{Memory, TablePrepared}
 use Rattle.qcow2_image.specs.Backings.{HasPrepared}
 use Rattle.qcow2_image.specs.NewTables.{IsFaultOrLacksTable}
 use Rattle.qcow2_image.specs.CallParts.{RefusedCall, EndsFreeing, UnseenCall}
@@ -28,8 +29,7 @@ use Rattle.qcow2_image.proofs.Call.BehindHeader.{behind_call, behind_then}
 use Rattle.qcow2_image.proofs.Prepare.Pinned.{begun_own, heeds_begun, of_tables_untaken}
 use Rattle.qcow2_image.specs.PinnedTables.{HeedsPins}
 use Rattle.qcow2_alloc.specs.declared.error.ImageError.{ImageError}
-use Rattle.qcow2_image.proofs.Prepare.Lacked.{lacks_ended, other_limit}
-use Rattle.qcow2_image.specs.LackedPlaces.{LacksTableFor}
+use Rattle.qcow2_image.proofs.Prepare.Lacked.{other_limit, goes_begun, limited_since}
 use Rattle.qcow2_image.proofs.Call.Unlimited.{fault_unlimited}
 use Rattle.qcow2_image.specs.MetAlone.{IsMetTaking}
 use Rattle.qcow2_image.proofs.Prepare.MetTables.{far_before}
@@ -126,9 +126,8 @@ returns-in_err-mark_failure-clause-fails g c =
           let call = b.seen out sound in
           subst (λ (image : Qcow2 _ _). FreesRefused image e) (sym c.mark_failure.ensures.rest) (subst (λ (r : Result _ _). IfErr r (FreesRefused entries)) done (c.clear_between-cleared.ensures.freed out call.sound (b.whole out call)));
       limit = λ none some out sound is.
-          let why = subst (λ (r : Result _ _). IfErr r (λ x. x ≡ Limit → LacksTableFor view c.in_ok-from.from begun entries)) done (c.clear_between-cleared.ensures.limit out (b.seen out sound).sound (b.whole out (b.seen out sound))) in
-          subst (λ (image : Qcow2 _ _). LacksTableFor view first old image) (sym c.mark_failure.ensures.rest)
-          (lacks_ended view first old begun entries marked c.begin.ensures.rest (subst (λ k. LacksTableFor view k begun entries) b.first_is (why is)));
+          let why = subst (λ (r : Result _ _). IfLimit r (IsLimited view below (c.in_ok-from.from + 1) begun)) done (c.clear_between-cleared.ensures.limit out (b.seen out sound).sound (b.whole out (b.seen out sound))) in
+          limited_since (omega arith) (goes_begun c.begin.ensures.stays c.begin.ensures.begun) (subst (λ k. IsLimited view below (k + 1) begun) b.first_is (why is));
     })
 
 pub returns-in_err-mark_failure-clause-sound : goal.returns-in_err-mark_failure-clause-sound

@@ -1,3 +1,4 @@
+use Rattle.qcow2_image.proofs.Prepare.Lacked.{other_limit, hands_limit}
 use Rattle.qcow2_image.proofs.image.Qcow2.ensure_l2.Goals as goal
 use Rattle.std.proofs.Common.{ap, inl, ◌∙◌, sym, rules}
 use Rattle.qcow2_alloc.proofs.AllocationSteps.{handed_on}
@@ -14,7 +15,6 @@ use Rattle.qcow2_alloc.proofs.KeptMarks.{notes_then, notes_of_both}
 use Rattle.qcow2_image.proofs.Call.BehindHeader.{behind_caches, behind_then}
 use Rattle.qcow2_alloc.specs.CachePins.{l2_pins}
 use Rattle.qcow2_image.specs.PinnedTables.{FindsOwn}
-use Rattle.qcow2_image.proofs.Prepare.Lacked.{hands_unlimited}
 use Rattle.qcow2_image.proofs.Call.Unlimited.{in_use_unlimited}
 use Rattle.qcow2_image.specs.Backings.{HasPrepared}
 use Rattle.qcow2_image.specs.MetAlone.{IsMetTaking}
@@ -42,11 +42,11 @@ pub returns-in_err-l2_get_or_insert-clause-own : goal.returns-in_err-l2_get_or_i
 returns-in_err-l2_get_or_insert-clause-own g c = λ own.
     let mid = c.own_l2.new.self in
     handed_on (λ r. FindsOwn c.args.self.now (record mid { file = record mid.file { storage = c.l2_get_or_insert.new.storage; caches = c.l2_get_or_insert.new.self } }) c.args.offset r) c.from_residual-in_err-l2_get_or_insert.result c.in_err-l2_get_or_insert.field-0.0 c.from_residual-in_err-l2_get_or_insert.ensures
-    (record { table = tt; pins = λ t. c.l2_get_or_insert.ensures.marks.pins t ∙ ap (λ (i : Qcow2 _ _). l2_pins i.file.caches t) (c.own_l2.ensures.quiet own) })
+    (record { table = tt; pins = λ t. c.l2_get_or_insert.ensures.step.marks.pins.pins t ∙ ap (λ (i : Qcow2 _ _). l2_pins i.file.caches t) (c.own_l2.ensures.quiet own) })
 
 pub returns-clause-own : goal.returns-clause-own
 returns-clause-own g c = λ own.
-    record { table = c.in_ok-cluster.ensures.own own; pins = λ t. c.l2_get_or_insert.ensures.marks.pins t ∙ ap (λ (i : Qcow2 _ _). l2_pins i.file.caches t) (c.own_l2.ensures.quiet own) }
+    record { table = c.in_ok-cluster.ensures.own own; pins = λ t. c.l2_get_or_insert.ensures.step.marks.pins.pins t ∙ ap (λ (i : Qcow2 _ _). l2_pins i.file.caches t) (c.own_l2.ensures.quiet own) }
 
 pub returns-in_err-cluster-clause-rest : goal.returns-in_err-cluster-clause-rest
 returns-in_err-cluster-clause-rest g c = λ own. c.own_l2.ensures.quiet own ∙ ap (λ (i : Qcow2 _ _). record c.args.self.now { file = record c.args.self.now.file { storage = i.file.storage; caches = i.file.caches } }) (sym (c.own_l2.ensures.quiet own))
@@ -63,15 +63,15 @@ returns-in_err-cluster-clause-step g c = c.own_l2.ensures.step
 pub returns-in_err-l2_get_or_insert-clause-step : goal.returns-in_err-l2_get_or_insert-clause-step
 returns-in_err-l2_get_or_insert-clause-step g c = record {
   stays = search rules;
-  notes = notes_then c.own_l2.ensures.step.notes (notes_of_both c.l2_get_or_insert.ensures.marks c.l2_get_or_insert.ensures.notes);
-  header_cluster = behind_then c.own_l2.ensures.step.header_cluster (behind_caches (c.l2_get_or_insert.ensures.header_cluster c.in_ok-cluster.ensures.elsewhere));
+  notes = notes_then c.own_l2.ensures.step.notes (notes_of_both c.l2_get_or_insert.ensures.step.marks.pins c.l2_get_or_insert.ensures.step.marks.notes);
+  header_cluster = behind_then c.own_l2.ensures.step.header_cluster (behind_caches (c.l2_get_or_insert.ensures.step.header_cluster c.in_ok-cluster.ensures.elsewhere));
 }
 
 pub returns-clause-step : goal.returns-clause-step
 returns-clause-step g c = record {
   stays = search rules;
-  notes = notes_then c.own_l2.ensures.step.notes (notes_of_both c.l2_get_or_insert.ensures.marks c.l2_get_or_insert.ensures.notes);
-  header_cluster = behind_then c.own_l2.ensures.step.header_cluster (behind_caches (c.l2_get_or_insert.ensures.header_cluster c.in_ok-cluster.ensures.elsewhere));
+  notes = notes_then c.own_l2.ensures.step.notes (notes_of_both c.l2_get_or_insert.ensures.step.marks.pins c.l2_get_or_insert.ensures.step.marks.notes);
+  header_cluster = behind_then c.own_l2.ensures.step.header_cluster (behind_caches (c.l2_get_or_insert.ensures.step.header_cluster c.in_ok-cluster.ensures.elsewhere));
 }
 
 pub returns-in_err-cluster-clause-sound : goal.returns-in_err-cluster-clause-sound
@@ -80,7 +80,7 @@ returns-in_err-cluster-clause-sound g c = λ p out sound.
       ready = handed_on (Ensures g.S.Storage.view g.F.BackingDisk.backing p c.args.self.now c.own_l2.new.self out c.args.offset) c.from_residual.result c.in_err-cluster.field-0.0 c.from_residual.ensures
           ((c.in_err-cluster.ensures.sound p out sound).does);
       met = λ cause. hands_met (IsMetTaking (HasPrepared out) ⊥ ⊥ ⊥) c.from_residual.result c.in_err-cluster.field-0.0 c.from_residual.ensures ((c.in_err-cluster.ensures.sound p out sound).met cause);
-      limited = λ own. hands_unlimited c.from_residual.result c.in_err-cluster.field-0.0 c.from_residual.ensures ((c.in_err-cluster.ensures.sound p out sound).limited own);
+      limit = λ cause. hands_limit c.from_residual.result c.in_err-cluster.field-0.0 c.from_residual.ensures ((c.in_err-cluster.ensures.sound p out sound).limit cause);
       lacks = λ none. handed_on (λ r. IfErr r (IsFaultOrLacksTable g.S.Storage.view c.own_l2.new.self c.args.offset)) c.from_residual.result c.in_err-cluster.field-0.0 c.from_residual.ensures ((c.in_err-cluster.ensures.sound p out sound).lacks);
     }
 
@@ -98,13 +98,13 @@ returns-in_err-l2_get_or_insert-clause-sound g c = λ p out sound.
     record {
       ready = refused (Ensures g.S.Storage.view g.F.BackingDisk.backing p old loaded out c.args.offset) c.from_residual-in_err-l2_get_or_insert.result c.from_residual-in_err-l2_get_or_insert.ensures.0
           (λ e. inl (keeps_loaded g.S.Storage.view g.F.BackingDisk.backing out p old mid c.args.offset c.in_ok-cluster.cluster owned.0 c.l2_get_or_insert.new.storage c.l2_get_or_insert.new.self
-          (c.l2_get_or_insert.ensures.keeps mid.file.header.fields (pending_with_listed p old mid) owned.0.sound.file.honest owned.0.sound.file.caches) c.l2_get_or_insert.ensures.marks.room c.l2_get_or_insert.ensures.marks.pins));
+          (c.l2_get_or_insert.ensures.sound.keeps mid.file.header.fields (pending_with_listed p old mid) owned.0.sound.file.honest owned.0.sound.file.caches) c.l2_get_or_insert.ensures.step.marks.pins.room c.l2_get_or_insert.ensures.step.marks.pins.pins));
       met = λ cause. hands_met (IsMetTaking (HasPrepared out) ⊥ ⊥ ⊥) c.from_residual-in_err-l2_get_or_insert.result e c.from_residual-in_err-l2_get_or_insert.ensures
           (looking_taking ⊥ ⊥ ⊥ e (loads_looking view below out q mid owned.0.sound e
           (c.in_err-l2_get_or_insert.ensures.refusals mid.file.header.fields (named_place mid.file.header.fields (contents_in view mid.file) (l1_index_of old.file.header.fields c.args.offset) c.in_ok-cluster.cluster owned.1.place) q file.honest file.caches file.named_blocks)));
-      limited = λ own. hands_unlimited c.from_residual-in_err-l2_get_or_insert.result e c.from_residual-in_err-l2_get_or_insert.ensures
-          (in_use_unlimited mid.file.caches e
-          (c.in_err-l2_get_or_insert.ensures.refusals mid.file.header.fields (named_place mid.file.header.fields (contents_in view mid.file) (l1_index_of old.file.header.fields c.args.offset) c.in_ok-cluster.cluster owned.1.place) q file.honest file.caches file.named_blocks));
+      limit = λ cause. hands_limit c.from_residual-in_err-l2_get_or_insert.result e c.from_residual-in_err-l2_get_or_insert.ensures
+          (other_limit _ e (in_use_unlimited mid.file.caches e
+          (c.in_err-l2_get_or_insert.ensures.refusals mid.file.header.fields (named_place mid.file.header.fields (contents_in view mid.file) (l1_index_of old.file.header.fields c.args.offset) c.in_ok-cluster.cluster owned.1.place) q file.honest file.caches file.named_blocks)));
       lacks = λ none. let loaded = with_caches view below mid out q owned.0.sound c.l2_get_or_insert.new.storage c.l2_get_or_insert.new.self in
           handed_on (λ r. IfErr r (IsFaultOrLacksTable view loaded c.args.offset)) c.from_residual-in_err-l2_get_or_insert.result e c.from_residual-in_err-l2_get_or_insert.ensures
           (inl (fault_alone view below out q mid owned.0.sound none e
@@ -118,11 +118,11 @@ returns-clause-sound g c = λ p out sound.
     let owned = (c.in_ok-cluster.ensures.sound p out sound).does in
     record {
       met = search rules;
-      limited = search rules;
+      limit = search rules;
       lacks = search rules;
-      ready = let stay = c.l2_get_or_insert.ensures.keeps mid.file.header.fields (pending_with_listed p old mid) owned.0.sound.file.honest owned.0.sound.file.caches in (
-        keeps_loaded g.S.Storage.view g.F.BackingDisk.backing out p old mid c.args.offset c.in_ok-cluster.cluster owned.0 c.l2_get_or_insert.new.storage c.l2_get_or_insert.new.self stay c.l2_get_or_insert.ensures.marks.room c.l2_get_or_insert.ensures.marks.pins,
-        holds_table g.S.Storage.view g.F.BackingDisk.backing out p old mid c.args.offset c.in_ok-cluster.cluster owned.0 c.l2_get_or_insert.new.storage c.l2_get_or_insert.new.self stay c.l2_get_or_insert.ensures.marks.room c.l2_get_or_insert.ensures.marks.pins owned.1
-            c.in_ok-l2_get_or_insert.ensures.cached,
+      ready = let stay = c.l2_get_or_insert.ensures.sound.keeps mid.file.header.fields (pending_with_listed p old mid) owned.0.sound.file.honest owned.0.sound.file.caches in (
+        keeps_loaded g.S.Storage.view g.F.BackingDisk.backing out p old mid c.args.offset c.in_ok-cluster.cluster owned.0 c.l2_get_or_insert.new.storage c.l2_get_or_insert.new.self stay c.l2_get_or_insert.ensures.step.marks.pins.room c.l2_get_or_insert.ensures.step.marks.pins.pins,
+        holds_table g.S.Storage.view g.F.BackingDisk.backing out p old mid c.args.offset c.in_ok-cluster.cluster owned.0 c.l2_get_or_insert.new.storage c.l2_get_or_insert.new.self stay c.l2_get_or_insert.ensures.step.marks.pins.room c.l2_get_or_insert.ensures.step.marks.pins.pins owned.1
+            c.in_ok-l2_get_or_insert.ensures.gets.cached,
       );
     }

@@ -1,8 +1,13 @@
+use Rattle.qcow2_image.specs.UnseenSteps.{pending_with_listed}
+use Rattle.qcow2_metadata.specs.declared.header.HeaderFields.{HeaderFields}
+use Rattle.qcow2_alloc.proofs.ListedAfter.{header_format}
+use Rattle.qcow2_image.specs.Found.{l1_index_of}
+use Rattle.qcow2_image.specs.Limits.{entries_reaching, l1_clusters}
 use Rattle.qcow2_alloc.proofs.Steps.{told_of}
 use Rattle.qcow2_image.proofs.image.Qcow2.enter_l1_table.Goals as goal
 use Rattle.qcow2_alloc.proofs.Outcomes.{on_no_ok, on_ok}
-use Rattle.std.proofs.Common.{refl, ◌∙◌, subst, ◌≡◌, ap, inl, inr}
-use Rattle.std.specs.Prelude.{IfSome, Some}
+use Rattle.std.proofs.Common.{refl, ◌∙◌, subst, ◌≡◌, ap, inl, inr, ◌+◌, sym, arith, rules}
+use Rattle.std.specs.Prelude.{IfSome, Some, max}
 use Rattle.qcow2_alloc.specs.FreeList.{pending_then}
 use Rattle.qcow2_alloc.specs.KeptAllocators.{IsAllocatorOf}
 use Rattle.qcow2_alloc.proofs.AllocationSteps.{handed_on}
@@ -11,15 +16,9 @@ use Rattle.qcow2_image.proofs.Moving.{leaked_still}
 use Rattle.qcow2_image.proofs.Grow.Lengthened.{none_taken_for_table, refused_none, table_named_blocks, keeps_taken, longer_taken}
 use Rattle.qcow2_alloc.proofs.KeptMarks.{notes_none, notes_then, notes_of_marks}
 use Rattle.qcow2_image.proofs.Call.BehindHeader.{behind_allocated, behind_none, behind_then}
-use Rattle.qcow2_image.proofs.Prepare.Listing.{gave_former, gave_still}
-use Rattle.qcow2_alloc.proofs.KeptTables.Turning.{always_ok}
-use Rattle.qcow2_image.proofs.Prepare.Lacked.{cause_of, faults_or_limit, faults_unlimited, hands_either, hands_limit, placed_near, stands_untaken, table_clusters, table_more, unlimited_all}
-use Rattle.qcow2_metadata.specs.EntryTable.{entry_count, EntryTableView}
-use Rattle.qcow2_alloc.specs.Limits.{HasNoPlace, IsFaultOr}
-use Rattle.qcow2_alloc.specs.LowestRuns.{IsUsed}
-use Rattle.qcow2_image.specs.LackedPlaces.{HasNoTablePlace, StandsInWay}
+use Rattle.qcow2_image.proofs.Prepare.Lacked.{faults_or_limit, faults_unlimited, hands_either, hands_limit, placed_near, table_clusters, unlimited_all, limited_left}
+use Rattle.qcow2_metadata.specs.EntryTable.{entry_count}
 use Rattle.qcow2_image.proofs.Call.FaultCounts.{counted_since, same_told}
-use Rattle.qcow2_alloc.proofs.Hints.{ok_as}
 
 pub returns-in_default-clause-takes : goal.returns-in_default-clause-takes
 returns-in_default-clause-takes g c = λ p out sound longer. refused_none g.S.Storage.view g.F.BackingDisk.backing out p c.args.self.now _ sound
@@ -63,36 +62,38 @@ returns-in_err-pending-clause-header_cluster g c = λ as_wide. behind_allocated 
 pub returns-clause-header_cluster : goal.returns-clause-header_cluster
 returns-clause-header_cluster g c = λ as_wide. behind_then (behind_allocated c.in-Some.is c.allocate_meta.ensures.step.header_cluster) (c.write_taken.ensures.header_cluster as_wide c.in_ok-pending.ensures.elsewhere)
 
-pub returns-clause-former : goal.returns-clause-former
-returns-clause-former g c =
-    let old = c.args.self.now in
-    let mid = record c.args.self.now { file = c.allocate_meta.new.file; allocator = Some c.allocate_meta.new.self } in
-    let took = gave_former old mid (record { before = c.in-Some.allocator; after = c.allocate_meta.new.self; was = c.in-Some.is; is = refl; behind = c.allocate_meta.ensures.step.former }) in
-    always_ok c.write_taken.result (_, gave_still _ old mid c.write_taken.new.self took c.write_taken.ensures.allocator)
-
 pub returns-in_err-pending-clause-noted : goal.returns-in_err-pending-clause-noted
 returns-in_err-pending-clause-noted g c = on_no_ok _ c.from_residual.result c.in_err-pending.field-0.0 c.from_residual.ensures
 
 pub returns-clause-noted : goal.returns-clause-noted
 returns-clause-noted g c = on_ok _ c.write_taken.result (c.write_taken.ensures.notes.tables.noted c.in_ok-pending.ensures.noted)
 
+pub returns-in_err-pending-clause-stays : goal.returns-in_err-pending-clause-stays
+returns-in_err-pending-clause-stays g c = search rules
+
 pub returns-in_err-pending-clause-limit : goal.returns-in_err-pending-clause-limit
-returns-in_err-pending-clause-limit g c = λ p out sound longer some.
+returns-in_err-pending-clause-limit g c = λ p out sound longer offset many.
     let view = g.S.Storage.view in
     let old = c.args.self.now in
     let file = c.allocate_meta.new.file in
     let own = subst (λ o. IfSome o (IsAllocatorOf view old.file)) c.in-Some.is sound.reftable in
     let new = record old { file = file; allocator = Some c.allocate_meta.new.self } in
-    let entries = entry_count c.args.table in
     let e = c.in_err-pending.field-0.0 in
-    let many = table_clusters view g.F.BackingDisk.backing out p old sound c.args.table longer file.header c.allocate_meta.ensures.step.header c.cluster_count.result c.cluster_count.ensures in
-    hands_limit (λ x. StandsInWay view (HasNoTablePlace entries) old.file.free_list old new) c.from_residual.result e c.from_residual.ensures
-    (λ is. stands_untaken view (HasNoTablePlace entries) (table_more entries) old file c.in-Some.allocator c.allocate_meta.new.self c.in-Some.is c.allocate_meta.ensures.step.former
-    (cause_of _ e (subst (λ n. IsFaultOr (HasNoPlace (IsUsed view file) file.header.fields c.allocate_meta.new.self n) e) many.0
-    (((c.in_err-pending.ensures.sound p (record { sound = sound.file; reftable = own.reftable })).found.limit own.hint) (many.1 some))) is))
+    let bits : c.args.table.cluster_bits ≡ old.l1_table.cluster_bits = longer.bits ∙ sym sound.l1_table.bits in
+    let clusters = table_clusters view g.F.BackingDisk.backing out p old sound c.args.table longer file.header c.allocate_meta.ensures.step.header c.cluster_count.result c.cluster_count.ensures in
+    let reaching : entries_reaching offset old ≡ entries_reaching offset new = sym (ap (λ (h : HeaderFields). max (entry_count old.l1_table) (l1_index_of h offset + 1)) (header_format old.file.header file.header c.allocate_meta.ensures.step.header)) in
+    let is : c.cluster_count.result ≡ l1_clusters file.header.fields (entries_reaching offset new) = clusters.0 ∙ ap (l1_clusters file.header.fields) (many ∙ reaching) in
+    let took = c.in_err-pending.ensures.sound p (record { sound = sound.file; reftable = own.reftable }) in
+    let left = none_taken_for_table view g.F.BackingDisk.backing out p old sound file c.allocate_meta.new.self c.allocate_meta.ensures.step.marks.pins c.allocate_meta.ensures.step.list c.allocate_meta.ensures.step.header
+    (leaked_still old c.in-Some.allocator c.allocate_meta.new.self c.in-Some.is took.leaks) e took.found.takes (took.found.hint own.hint) in
+    hands_limit c.from_residual.result e c.from_residual.ensures
+    (limited_left view g.F.BackingDisk.backing out (pending_with_listed p old new) old new offset e
+    (elim left [ inl stays ↦ inl stays.sound | inr broken ↦ inr broken.interrupted.fault ]) (record { image = (returns-in_err-pending-clause-stays g c).image; header_cluster = returns-in_err-pending-clause-header_cluster g c bits })
+    (λ full. record { allocator = c.allocate_meta.new.self; is = refl; lacks = inl (c.cluster_count.result, inr is, full) })
+    (took.found.limit own.hint (clusters.1 (omega (arith, many)))))
 
 pub returns-clause-limit : goal.returns-clause-limit
-returns-clause-limit g c = λ p out sound longer some.
+returns-clause-limit g c = λ p out sound longer offset many.
     let view = g.S.Storage.view in
     let below = g.F.BackingDisk.backing in
     let old = c.args.self.now in
@@ -103,7 +104,7 @@ returns-clause-limit g c = λ p out sound longer some.
     let hint = ((c.in_ok-pending.ensures.sound p (record { sound = sound.file; reftable = own.reftable })).found.hint own.hint) in
     let keeps = keeps_taken view below out p old sound file c.allocate_meta.new.self c.allocate_meta.ensures.step.marks.pins c.allocate_meta.ensures.step.list c.allocate_meta.ensures.step.header (leaked_still old c.in-Some.allocator c.allocate_meta.new.self c.in-Some.is ((c.allocate_meta.ensures.sound p (record { sound = sound.file; reftable = own.reftable })).leaks)) c.args.table c.in_ok-pending.pending.first_cluster c.cluster_count.result c.cluster_count.ensures took.2 hint longer in
     let there = longer_taken view below out p old sound file c.allocate_meta.new.self c.allocate_meta.ensures.step.marks.pins c.allocate_meta.ensures.step.list c.allocate_meta.ensures.step.header (leaked_still old c.in-Some.allocator c.allocate_meta.new.self c.in-Some.is ((c.allocate_meta.ensures.sound p (record { sound = sound.file; reftable = own.reftable })).leaks)) c.args.table c.in_ok-pending.pending.first_cluster c.cluster_count.result c.cluster_count.ensures took.2 hint longer in
-    unlimited_all c.write_taken.result (λ e. StandsInWay view (HasNoTablePlace (entry_count c.args.table)) old.file.free_list old c.write_taken.new.self) (faults_unlimited c.write_taken.result (c.write_taken.ensures.fault since out keeps.sound there))
+    unlimited_all c.write_taken.result _ (faults_unlimited c.write_taken.result (c.write_taken.ensures.fault since out keeps.sound there))
 
 pub returns-in_err-pending-clause-fault : goal.returns-in_err-pending-clause-fault
 returns-in_err-pending-clause-fault g c = λ writable p out sound longer some.
@@ -139,6 +140,3 @@ returns-clause-faults g c =
     let taken = record old { file = c.allocate_meta.new.file; allocator = Some c.allocate_meta.new.self } in
     let same = same_told view below old taken c.allocate_meta.result c.in_ok-pending.pending (told_of c.allocate_meta.result c.allocate_meta.ensures.fails) c.in_ok-pending.was refl in
     counted_since view below old taken c.write_taken.new.self c.write_taken.result same c.write_taken.ensures.fails.faults
-
-pub returns-clause-bytes : goal.returns-clause-bytes
-returns-clause-bytes g c = ok_as (c.write_taken.new.self.l1_table ≡ record c.args.table { cluster = Some c.in_ok-pending.pending.first_cluster }) (c.write_taken.new.self.l1_table.bytes ≡ c.args.table.bytes) c.write_taken.result (λ is. ap (λ (t : EntryTableView). t.bytes) is) c.write_taken.ensures.placed

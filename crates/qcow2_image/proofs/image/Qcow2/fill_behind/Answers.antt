@@ -1,3 +1,4 @@
+use Rattle.qcow2_image.proofs.Call.Unlimited.{fault_unlimited}
 use Rattle.std.proofs.Common.{◌<◌, inl, inr, ap, refl, subst, sym, arith}
 use Rattle.qcow2_disk.specs.Calls.{shows_old}
 use Rattle.qcow2_alloc.proofs.AllocationSteps.{handed_on}
@@ -49,7 +50,7 @@ returns-in_err-writes-in-WriteData-clause-fills g c = λ out sound.
     let old = c.args.self.now in
     let e = c.in_err-writes-in-WriteData.field-0.0 in
     handed_on (λ r. FillsGrownOrRefuses view below c.args.size c.args.mode old old out r) c.from_residual.result e c.from_residual.ensures
-    (early_refused view below out old sound c.args.size c.args.mode (subst (λ n. n < c.args.size) c.requires.end c.requires.larger) (ap shows_old c.in-WriteData.is) e c.in_err-writes-in-WriteData.ensures.cause c.in_err-writes-in-WriteData.ensures.limited)
+    (early_refused view below out old sound c.args.size c.args.mode (subst (λ n. n < c.args.size) c.requires.end c.requires.larger) (ap shows_old c.in-WriteData.is) e c.in_err-writes-in-WriteData.ensures.cause (fault_unlimited e c.in_err-writes-in-WriteData.ensures.fault))
 
 pub returns-in-Zero-clause-met : goal.returns-in-Zero-clause-met
 returns-in-Zero-clause-met g c = λ out sound near.

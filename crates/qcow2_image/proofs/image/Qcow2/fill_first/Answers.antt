@@ -1,21 +1,21 @@
-use Rattle.qcow2_image.proofs.Call.ImageSteps.{step_then}
+use Rattle.qcow2_image.proofs.Call.ImageSteps.{step_then, step_none}
 use Rattle.qcow2_image.proofs.image.Qcow2.fill_first.Goals as goal
 use Rattle.std.specs.Prelude.{Err, IsTrue}
-use Rattle.std.proofs.Common.{◌≡◌, ◌∙◌, ◌+◌, ◌++◌, ◌^◌, ◌≤◌, ◌<◌, ◌∷◌, [], None, true, inl, min, refl, sym, ap, subst, arith, rules}
+use Rattle.std.proofs.Common.{◌≡◌, ◌∙◌, ◌+◌, ◌^◌, ◌≤◌, ◌<◌, ◌∷◌, [], None, true, inl, min, refl, sym, ap, subst, arith, rules, inr}
 use Rattle.qcow2_laws.specs.CrashInvariant.{Pending}
 use Rattle.qcow2_alloc.proofs.AllocationSteps.{handed_on}
 use Rattle.qcow2_image.specs.ImageInvariant.{ImageInvariant, abstract_of, pending_in}
-use Rattle.qcow2_image.specs.Preallocation.{FillsFirst, FillsPart, LacksPlaceOnWay}
+use Rattle.qcow2_image.specs.Preallocation.{FillsFirst, FillsPart}
 use Rattle.qcow2_image.proofs.Call.Called.{works_none}
 use Rattle.qcow2_image.proofs.Flush.Freeing.{all_listed, beside, freed_refused, tidy_stays}
 use Rattle.qcow2_image.proofs.Free.{free_places}
-use Rattle.qcow2_image.proofs.Preallocate.Filled.{fill_unseen, fills_none, fills_refused, fills_stays, lacks_here, met_taken, refused_after, taken_here}
+use Rattle.qcow2_image.proofs.Preallocate.Filled.{fill_unseen, fills_none, fills_refused, fills_stays, met_taken, refused_after, taken_here}
 use Rattle.qcow2_image.proofs.Preallocate.Piece.{all_behind, all_filled, all_fits, all_next, all_put, all_within, piece_gone, sound_now}
 use Rattle.qcow2_image.proofs.Call.FaultCounts.{counted_as, counted_of, counted_still}
 use Rattle.qcow2_image.specs.Faults.{CountsImageFaults}
 use Rattle.qcow2_image.proofs.Call.MetErrors.{tables_met}
 use Rattle.qcow2_image.proofs.Call.Unlimited.{fault_unlimited}
-use Rattle.qcow2_image.proofs.Prepare.Lacked.{emptied_by_limit, other_limit}
+use Rattle.qcow2_image.proofs.Prepare.Lacked.{goes_step, limited_upto, other_limit}
 use Rattle.qcow2_alloc.specs.ImageError.{IsFault}
 use Rattle.qcow2_alloc.specs.ImageFile.{known_in}
 use Rattle.qcow2_alloc.specs.declared.error.ImageError.{ImageError}
@@ -68,9 +68,7 @@ returns-in_err-prepared-clause-sound g c = λ out sound.
             left = fill_unseen view below out old new c.args.from c.args.to e ((c.in_err-prepared.ensures.sound some out sound).readies);
             taken = λ is. let t = (c.in_err-prepared.ensures.sound some out sound).taken is in
                 taken_here old.file.header.fields c.args.from c.args.to out lt (record { place = t.place; other = t.other; is_out = t.is_out; keeps_table = t.keeps_table; same_table = t.same_table });
-            limit = λ is.
-                lacks_here view below out old new c.args.to c.args.from c.args.to c.min.result sound some (omega (arith, asked, lt)) ((c.in_err-prepared.ensures.sound some out sound).limit is) (λ past. absurd (omega (arith, lt, past)))
-                (emptied_by_limit new e (c.in_err-prepared.ensures.listed some out sound) is);
+            limit = λ is. limited_upto (omega (arith, lt)) ((c.in_err-prepared.ensures.sound some out sound).limit is);
           });
       met = λ whole near. hands_met (IsMetTaking (HasPrepared out) (HasPrepared out) (HasCompressedIn c.args.from c.args.to old.file.header.fields (known_in view old.file)) ⊥) c.from_residual.result e c.from_residual.ensures
           (met_piece view below out (pending_in view below old out) old sound c.args.from c.args.to lt near c.min.result (omega (arith, asked, lt)) true e ((c.in_err-prepared.ensures.sound some out sound).met));
@@ -99,13 +97,13 @@ returns-in-Err-clause-sound g c = λ out sound.
       fills = λ whole. let fits = all_fits view below out old mid p from to c.most.result n c.min-count.result sound ready answered lt whole few asked counted in
           let within = all_within view below out old mid p from to c.most.result n c.min-count.result sound ready answered lt whole few asked counted in
           let put = all_put view below out old mid p from to c.most.result n c.min-count.result sound ready answered lt whole few asked counted c.put_zeros.new.self _ c.in-Err.ensures.written in
-          refused_after view below out old old c.free_after.new.self to from to from from from (from + p.length) (omega arith) (omega (arith, lt)) (omega arith) within (fills_none view below out old to from sound (works_none (abstract_of view below old out) sound)) to (omega arith) (λ none. none) e'
+          refused_after view below out old old c.free_after.new.self to from to from from from (from + p.length) (omega arith) (omega (arith, lt)) (omega arith) within (fills_none view below out old to from sound (works_none (abstract_of view below old out) sound)) (goes_step step_none) e'
           (record {
             left = piece_gone view below out old mid p from n sound ready answered fits c.put_zeros.new.self c.release_prepared.new.self c.free_after.new.self to e e' within put c.release_prepared.ensures.sees c.free_after.ensures.fault (λ still. c.free_after.ensures.frees out still);
             taken = λ is. met_taken e c.in-Err.ensures.fails.cause (c.free_after.ensures.taken (inl c.in-Err.ensures.fails.cause) is);
             limit = λ is.
                 let gone = sound_now view below out old mid p from n sound ready answered fits c.put_zeros.new.self c.release_prepared.new.self c.free_after.new.self to e e' within put c.release_prepared.ensures.sees c.free_after.ensures.fault in
-                other_limit (LacksPlaceOnWay view below to from (from + p.length) old c.free_after.new.self out) e c.in-Err.ensures.fails.limited (c.free_after.ensures.limit out gone is).0;
+                elim (c.free_after.ensures.told out gone) [ inl same ↦ other_limit _ e c.in-Err.ensures.fails.limited (sym same ∙ is) | inr fault ↦ other_limit _ e' (fault_unlimited e' fault) is ];
           });
       met = λ whole near. let fault = c.in-Err.ensures.fault (all_behind view below out old c.prepare.new.self p c.args.from c.args.to c.most.result c.min.result c.min-count.result sound ready answered lt whole few asked counted (c.in_ok-prepared.ensures.some some).some) in
           inl (inl (inl (subst (λ (x : ImageError). IsFault x) (sym (c.free_after.ensures.fault fault).0) fault)));
@@ -133,12 +131,12 @@ returns-in_err-free_listed-clause-sound g c = λ out sound.
     let answered = (c.in_ok-prepared.ensures.sound some out sound).answers in
     record {
       fills = λ whole. let within = all_within view below out old mid p from to c.most.result n c.min-count.result sound ready answered lt whole few asked counted in
-          let part = all_filled view below out old mid p from to c.most.result n c.min-count.result sound ready answered lt whole few asked counted (c.in_ok-prepared.ensures.some some).some c.put_zeros.new.self done c.in_default.ensures.written c.commit_filled.ensures.commits c.commit_filled.ensures.header c.in_ok-prepared.ensures.l1_place (let lists = (c.in_ok-prepared.ensures.listed some out sound).lists in (lists.freed ++ lists.more, lists.gone)) in
+          let part = all_filled view below out old mid p from to c.most.result n c.min-count.result sound ready answered lt whole few asked counted (c.in_ok-prepared.ensures.some some).some c.put_zeros.new.self done c.in_default.ensures.written c.commit_filled.ensures.commits c.commit_filled.ensures.header c.in_ok-prepared.ensures.l1_place in
           let listed = subst (λ (x : Pending). ImageInvariant view below x done out) (all_listed view below done out) part.sound in
           handed_on (λ r. FillsFirst view below to from to old new out r) c.from_residual-in_err-free_listed.result e c.from_residual-in_err-free_listed.ensures
           (fills_refused view below out old done new to from (from + p.length) part to e within (tables_met e c.in_err-free_listed.ensures.cause) (fault_unlimited e (c.in_err-free_listed.ensures.faults (beside view below done out) out listed))
           (freed_refused view below done out new e part.sound (c.in_err-free_listed.ensures.frees (beside view below done out) out listed)) c.free_listed.ensures.keeps_rest.header);
-      met = λ whole near. let part = all_filled view below out old mid p from to c.most.result n c.min-count.result sound ready answered lt whole few asked counted (c.in_ok-prepared.ensures.some some).some c.put_zeros.new.self done c.in_default.ensures.written c.commit_filled.ensures.commits c.commit_filled.ensures.header c.in_ok-prepared.ensures.l1_place (let lists = (c.in_ok-prepared.ensures.listed some out sound).lists in (lists.freed ++ lists.more, lists.gone)) in
+      met = λ whole near. let part = all_filled view below out old mid p from to c.most.result n c.min-count.result sound ready answered lt whole few asked counted (c.in_ok-prepared.ensures.some some).some c.put_zeros.new.self done c.in_default.ensures.written c.commit_filled.ensures.commits c.commit_filled.ensures.header c.in_ok-prepared.ensures.l1_place in
           let listed = subst (λ (x : Pending). ImageInvariant view below x done out) (all_listed view below done out) part.sound in
           hands_met (IsMetTaking (HasPrepared out) (HasPrepared out) (HasCompressedIn from to old.file.header.fields (known_in view old.file)) ⊥) c.from_residual-in_err-free_listed.result c.in_err-free_listed.field-0.0 c.from_residual-in_err-free_listed.ensures
           (inl (inl (inl (c.in_err-free_listed.ensures.faults (beside view below done out) out listed))));
@@ -168,8 +166,8 @@ returns-clause-sound g c = λ out sound.
       met = search rules;
       fills = λ whole. let next : c.min-next.result ≡ c.args.from + c.in_ok-prepared.prepared.length =
           all_next view below out old mid p from to c.most.result n c.min-count.result sound ready answered lt whole few asked counted c.min-next.result (c.min-next.ensures ∙ ap (min to) c.saturating_add.ensures) high in
-          let part = all_filled view below out old mid p from to c.most.result n c.min-count.result sound ready answered lt whole few asked counted (c.in_ok-prepared.ensures.some some).some c.put_zeros.new.self done c.in_default.ensures.written c.commit_filled.ensures.commits c.commit_filled.ensures.header c.in_ok-prepared.ensures.l1_place (let lists = (c.in_ok-prepared.ensures.listed some out sound).lists in (lists.freed ++ lists.more, lists.gone)) in
+          let part = all_filled view below out old mid p from to c.most.result n c.min-count.result sound ready answered lt whole few asked counted (c.in_ok-prepared.ensures.some some).some c.put_zeros.new.self done c.in_default.ensures.written c.commit_filled.ensures.commits c.commit_filled.ensures.header c.in_ok-prepared.ensures.l1_place in
           let listed = subst (λ (x : Pending). ImageInvariant view below x done out) (all_listed view below done out) part.sound in
           subst (λ k. FillsPart view below to from k old new out) (sym next)
-          (fills_stays view below out old done new to from (from + p.length) part (tidy_stays view below done out new part.sound (c.in_ok-free_listed.ensures.frees (beside view below done out) out listed)) c.free_listed.ensures.keeps_rest.header c.free_listed.ensures.former);
+          (fills_stays view below out old done new to from (from + p.length) part (tidy_stays view below done out new part.sound (c.in_ok-free_listed.ensures.frees (beside view below done out) out listed)) c.free_listed.ensures.keeps_rest.header);
     }

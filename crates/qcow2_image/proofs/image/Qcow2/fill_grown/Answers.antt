@@ -1,14 +1,14 @@
+use Rattle.qcow2_image.proofs.Prepare.Lacked.{other_limit}
+use Rattle.qcow2_image.proofs.Call.Unlimited.{fault_unlimited}
 use Rattle.qcow2_image.proofs.Call.ImageSteps.{step_then}
 use Rattle.qcow2_image.proofs.image.Qcow2.fill_grown.Goals as goal
-use Rattle.std.proofs.Common.{◌≡◌, ◌∙◌, ap, subst, sym, refl, Ok, Err, rules}
+use Rattle.std.proofs.Common.{◌≡◌, ◌∙◌, ap, subst, sym, refl, Ok, Err, rules, inl, inr}
 use Rattle.std.specs.Prelude.{IsTrue}
 use Rattle.qcow2_alloc.specs.declared.error.ImageError.TheVariants.{Version}
 use Rattle.qcow2_metadata.specs.Header.{cluster_size, rounded_up}
 use Rattle.qcow2_image.specs.declared.image.Qcow2.{Qcow2}
-use Rattle.qcow2_image.specs.Image.{size_of}
-use Rattle.qcow2_image.specs.Preallocation.{LacksPlaceOnWay, first_zeros}
 use Rattle.qcow2_image.proofs.Call.FaultCounts.{counted_as, counted_of, untouched}
-use Rattle.qcow2_image.proofs.Preallocate.FreedBehind.{grown_freed, grown_left, grown_told, limit_before, same_refusal}
+use Rattle.qcow2_image.proofs.Preallocate.FreedBehind.{grown_freed, grown_left, grown_told, same_refusal}
 use Rattle.qcow2_alloc.specs.ImageFile.{known_in}
 use Rattle.qcow2_image.proofs.Preallocate.Met.{met_filling_freed}
 
@@ -39,11 +39,10 @@ returns-in-Err-clause-fills g c = λ out sound.
     record {
       left = grown_freed view below out old mid new size c.args.mode c.in-Err.refusal c.free_after.result refused.left c.free_after.ensures.fault (c.free_after.ensures.frees out);
       taken = λ is. refused.taken (c.free_after.ensures.taken c.in-Err.ensures.fails.cause is);
-      limit = λ is.
-          let before = limit_before view below out old mid new size c.args.mode c.in-Err.refusal c.free_after.result refused.left c.free_after.ensures.fault (λ still now. (c.free_after.ensures.limit out still now).0) is in
-          let lacks = refused.limit before in
-          let cs = cluster_size old.file.header.fields in
-          subst (λ (image : Qcow2 _ _). LacksPlaceOnWay view below (first_zeros cs (size_of old) size c.args.mode) (size_of old) (rounded_up cs size) old image out) (sym (c.free_after.ensures.idle lacks.emptied).1) lacks;
+      limit = λ is. elim (grown_told view below out old mid new size c.args.mode c.in-Err.refusal c.free_after.result refused.left c.free_after.ensures.fault (c.free_after.ensures.told out)) [
+        | inl same ↦ refused.limit (sym same ∙ is)
+        | inr fault ↦ other_limit _ c.free_after.result (fault_unlimited c.free_after.result fault) is
+      ];
     }
 
 pub returns-in-Err-clause-freed : goal.returns-in-Err-clause-freed

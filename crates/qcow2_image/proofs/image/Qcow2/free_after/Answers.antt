@@ -4,8 +4,6 @@ use Rattle.qcow2_laws.specs.CrashInvariant.{Pending}
 use Rattle.qcow2_image.specs.ImageInvariant.{ImageInvariant}
 use Rattle.qcow2_image.proofs.Flush.Freeing.{all_listed, beside, freed_refused, tidy_stays}
 use Rattle.qcow2_image.proofs.Call.FaultCounts.{counted_as, counted_still}
-use Rattle.qcow2_image.proofs.Prepare.Lacked.{just_none, limited_not}
-use Rattle.qcow2_image.proofs.Call.Unlimited.{fault_unlimited}
 use Rattle.qcow2_image.proofs.Call.ImageSteps.{step_none}
 use Rattle.qcow2_image.proofs.image.Qcow2.free_after.Goals as goal
 
@@ -80,32 +78,6 @@ returns-in-Ok-clause-table g c = c.free_listed.ensures.table
 
 pub returns-in-Err-clause-table : goal.returns-in-Err-clause-table
 returns-in-Err-clause-table g c = c.free_listed.ensures.table
-
-pub returns-then-is_last-clause-handed : goal.returns-then-is_last-clause-handed
-returns-then-is_last-clause-handed g c = inl refl
-
-pub returns-in-Ok-clause-handed : goal.returns-in-Ok-clause-handed
-returns-in-Ok-clause-handed g c = inl refl
-
-pub returns-in-Err-clause-handed : goal.returns-in-Err-clause-handed
-returns-in-Err-clause-handed g c = inr c.in-Err.ensures.cause
-
-pub returns-then-is_last-clause-limit : goal.returns-then-is_last-clause-limit
-returns-then-is_last-clause-limit g c = λ out sound is. (is, just_none g.S.Storage.view g.F.BackingDisk.backing out c.args.self.now)
-
-pub returns-in-Ok-clause-limit : goal.returns-in-Ok-clause-limit
-returns-in-Ok-clause-limit g c = λ out sound is.
-    let view = g.S.Storage.view in
-    let below = g.F.BackingDisk.backing in
-    let old = c.args.self.now in
-    (is, c.in-Ok.ensures.uses (beside view below old out) out (subst (λ (x : Pending). ImageInvariant view below x old out) (all_listed view below old out) sound))
-
-pub returns-in-Err-clause-limit : goal.returns-in-Err-clause-limit
-returns-in-Err-clause-limit g c = λ out sound is.
-    let view = g.S.Storage.view in
-    let below = g.F.BackingDisk.backing in
-    let old = c.args.self.now in
-    absurd (limited_not c.in-Err.fault (fault_unlimited c.in-Err.fault (c.in-Err.ensures.faults (beside view below old out) out (subst (λ (x : Pending). ImageInvariant view below x old out) (all_listed view below old out) sound))) is)
 
 pub returns-then-is_last-clause-step : goal.returns-then-is_last-clause-step
 returns-then-is_last-clause-step g c = step_none

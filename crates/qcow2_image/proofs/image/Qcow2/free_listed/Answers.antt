@@ -1,4 +1,4 @@
-use Rattle.std.proofs.Common.{◌∙◌, ap, refl, subst, sym, rules, Some}
+use Rattle.std.proofs.Common.{subst, rules, Some}
 use Rattle.std.specs.Prelude.{IfSome}
 use Rattle.qcow2_alloc.specs.FreeList.{with_listed}
 use Rattle.qcow2_alloc.specs.KeptAllocators.{IsAllocatorOf}
@@ -8,9 +8,6 @@ use Rattle.qcow2_image.proofs.Moving.{leaked_still}
 use Rattle.qcow2_image.proofs.Prepare.Entering.{keeps_none}
 use Rattle.qcow2_alloc.proofs.KeptMarks.{notes_of_both}
 use Rattle.qcow2_image.proofs.Call.BehindHeader.{behind_freed}
-use Rattle.qcow2_image.proofs.Prepare.Listing.{same_value}
-use Rattle.qcow2_alloc.specs.declared.allocation.Allocator.{Allocator}
-use Rattle.qcow2_image.proofs.Prepare.Lacked.{frees_just, just_none}
 use Rattle.qcow2_image.proofs.Call.ImageSteps.{step_none}
 use Rattle.qcow2_image.proofs.image.Qcow2.free_listed.Goals as goal
 
@@ -36,27 +33,6 @@ returns-clause-faults g c = λ p out sound.
     let own = subst (λ x. IfSome x (IsAllocatorOf view c.args.self.now.file)) c.in-Some.is sound.reftable in
     frees_fault view g.F.BackingDisk.backing out (with_listed p c.args.self.now.file.free_list) (with_listed p c.free.new.file.free_list) c.args.self.now.file c.free.new.file c.free.new.self c.free.result
     ((c.free.ensures.sound p (record { sound = sound.file; reftable = own.reftable })).gives)
-
-pub returns-then-is_empty-clause-former : goal.returns-then-is_empty-clause-former
-returns-then-is_empty-clause-former g c = λ before is. (before, is, refl)
-
-pub returns-in_default-clause-former : goal.returns-in_default-clause-former
-returns-in_default-clause-former g c = λ before is. (before, is, refl)
-
-pub returns-clause-former : goal.returns-clause-former
-returns-clause-former g c = λ before is. (c.free.new.self, refl, c.free.ensures.step.reftable ∙ ap (λ (a : Allocator). a.reftable) (same_value c.in-Some.allocator before (sym c.in-Some.is ∙ is)))
-
-pub returns-then-is_empty-clause-uses : goal.returns-then-is_empty-clause-uses
-returns-then-is_empty-clause-uses g c = λ p out sound. just_none g.S.Storage.view g.F.BackingDisk.backing out c.args.self.now
-
-pub returns-in_default-clause-uses : goal.returns-in_default-clause-uses
-returns-in_default-clause-uses g c = λ p out sound. just_none g.S.Storage.view g.F.BackingDisk.backing out c.args.self.now
-
-pub returns-clause-uses : goal.returns-clause-uses
-returns-clause-uses g c = λ p out sound.
-    let old = c.args.self.now in
-    let new = record old { file = c.free.new.file; allocator = Some c.free.new.self } in
-    frees_just g.S.Storage.view g.F.BackingDisk.backing out p c.in-Some.allocator old new c.free.result sound (returns-clause-frees g c p out sound) c.free.ensures.step.header c.in-Some.is (returns-clause-former g c) refl c.free.ensures.emptied
 
 pub returns-then-is_empty-clause-step : goal.returns-then-is_empty-clause-step
 returns-then-is_empty-clause-step g c = step_none

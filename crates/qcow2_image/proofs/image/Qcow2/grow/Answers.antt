@@ -1,14 +1,13 @@
+use Rattle.qcow2_image.proofs.Prepare.Lacked.{goes_begun, limits_since}
+use Rattle.qcow2_image.specs.Limits.{IfLimit, IsLimited}
 use Rattle.std.proofs.Common.{◌≡◌, [], ◌-◌, ◌<◌, ◌∙◌, Result, sym, subst, arith}
 use Rattle.std.specs.Prelude.{IfErr}
-use Rattle.qcow2_image.specs.declared.image.Qcow2.{Qcow2}
 use Rattle.qcow2_image.specs.Image.{is_failed, size_of}
-use Rattle.qcow2_image.specs.LackedTables.{LacksTableReaching}
 use Rattle.qcow2_image.specs.Refusals.{IsFaultOrLimit, IsMet, MarksFailed}
 use Rattle.qcow2_image.proofs.Call.FaultCounts.{counted_marked}
 use Rattle.qcow2_image.specs.ImageInvariant.{pending_in}
 use Rattle.qcow2_image.proofs.Call.Marked.{may_mark, marks_since}
-use Rattle.qcow2_image.proofs.Grow.Grown.{grown_so, limited_so, surplus_grown}
-use Rattle.qcow2_image.proofs.Sizing.LackedTables.{longer_ended}
+use Rattle.qcow2_image.proofs.Grow.Grown.{grown_so, surplus_grown}
 use Rattle.qcow2_image.proofs.image.Qcow2.grow.Goals as goal
 
 pub returns-clause-grows : goal.returns-clause-grows
@@ -47,17 +46,9 @@ returns-clause-limit g c = λ sound.
     let view = g.S.Storage.view in
     let below = g.F.BackingDisk.backing in
     let old = c.args.self.now in
-    let begun = c.begin.new.self in
-    let mid = c.grow_to-done.new.self in
-    let new = c.mark_failure.new.self in
-    let offset = c.args.size - 1 in
-    let keeps = c.begin.ensures.keeps (pending_in view below old []) [] sound in
-    let larger : size_of old < c.args.size = omega (arith, c.if-size.false, c.size.ensures) in
-    limited_so view below old begun mid sound keeps c.begin.ensures.list c.args.size larger (LacksTableReaching view offset begun mid) (LacksTableReaching view offset old new)
-    (c.grow_to-done.ensures.writable ∙ c.begin.ensures.stays.image.writable) new c.grow_to-done.result c.mark_failure.result c.mark_failure.ensures.answer c.mark_failure.ensures.rest
-    (may_mark mid new c.grow_to-done.result c.mark_failure.ensures.marks)
-    (λ lacks. subst (λ (image : Qcow2 _ _). LacksTableReaching view offset old image) (sym c.mark_failure.ensures.rest) (longer_ended view offset old begun mid (is_failed new) c.begin.ensures.rest lacks))
-    (c.grow_to-done.ensures.limit (pending_in view below old []) keeps.sound)
+    let p = pending_in view below old [] in
+    subst (λ (r : Result _ _). IfLimit r (IsLimited view below c.args.size old)) (sym c.mark_failure.ensures.answer)
+    (limits_since _ c.grow_to-done.result (omega arith) (goes_begun c.begin.ensures.stays c.begin.ensures.begun) (c.grow_to-done.ensures.limit p (c.begin.ensures.keeps p [] sound).sound))
 
 pub returns-clause-fault : goal.returns-clause-fault
 returns-clause-fault g c = λ works writable sound.

@@ -1,3 +1,4 @@
+use Rattle.qcow2_image.specs.Limits.{GoesTo, IfLimit, IsLimited}
 use Rattle.qcow2_image.proofs.image.Qcow2.grow_disk.Goals as goal
 use Rattle.std.proofs.lemmas.Bool.{or_right}
 use Rattle.qcow2_alloc.specs.declared.image_file.ImageFile.{ImageFile}
@@ -9,7 +10,7 @@ use Rattle.std.specs.Prelude.{Err, IfErr, IsTrue, Ok, OnOk, Result}
 use Rattle.qcow2_metadata.specs.declared.header.HeaderFields.{HeaderFields}
 use Rattle.qcow2_metadata.specs.EntryTable.{entry_count}
 use Rattle.qcow2_metadata.specs.Header.{with_size, cluster_size, rounded_up}
-use Rattle.qcow2_alloc.specs.declared.error.ImageError.TheVariants.{Memory, Version, Limit}
+use Rattle.qcow2_alloc.specs.declared.error.ImageError.TheVariants.{Memory, Version}
 use Rattle.qcow2_alloc.specs.ImageError.{IsFault}
 use Rattle.qcow2_alloc.specs.ImageStorage.{is_changed_of}
 use Rattle.qcow2_image.specs.CallParts.{UnseenCall}
@@ -19,13 +20,13 @@ use Rattle.qcow2_image.specs.Growing.{ReachesSize}
 use Rattle.qcow2_image.specs.Image.{HasNothingToFree, is_failed, size_of, with_marks, has_noted_change}
 use Rattle.qcow2_image.specs.ImageInvariant.{ImageInvariant, pending_in}
 use Rattle.qcow2_image.specs.LongerTables.{MakesEntry}
-use Rattle.qcow2_image.specs.L1Entries.{ReachesOffset}
+use Rattle.qcow2_image.specs.L1Entries.{ReachesOffset, IsPlacedNear}
 use Rattle.qcow2_image.specs.Preallocation.{FillsGrown, FillsGrownOrRefuses}
 use Rattle.qcow2_image.specs.Refusals.{FreesRefused, IsFaultOrLimit, IsMet, IsUnlimited}
 use Rattle.qcow2_image.proofs.Prepare.Taken.{if_err}
 use Rattle.qcow2_image.proofs.Call.Marked.{MayMarkBy, marks_memory, may_mark}
 use Rattle.qcow2_image.specs.Resizing.{GrowsTables, GrowsTo, LacksZeros, RefusesUnchanged, WritesSizeLast}
-use Rattle.image_access.specs.declared.storage.PreallocateMode.TheVariants.{None as PreallocateNone, Zero}
+use Rattle.image_access.specs.declared.storage.PreallocateMode.TheVariants.{Zero}
 use Rattle.qcow2_image.proofs.Call.Refused.{stays_then}
 use Rattle.qcow2_image.proofs.Clear.ClearCalls.{err_is}
 use Rattle.qcow2_image.proofs.Grow.Lengths.{reaches_begun, reaches_on, reaches_told}
@@ -43,10 +44,10 @@ use Rattle.qcow2_alloc.proofs.Outcomes.{err_as}
 use Rattle.qcow2_image.specs.Noted.{FailsOnceWritten}
 use Rattle.qcow2_image.proofs.Call.OnceWritten.{kept_noted, fails_marked, fails_once}
 use Rattle.qcow2_image.proofs.Call.BehindHeader.{behind_by, behind_call, behind_none, behind_then}
-use Rattle.qcow2_image.proofs.Prepare.Lacked.{faults_unlimited, unlimited_all}
-use Rattle.qcow2_image.proofs.Sizing.LackedTables.{behind_lacked, longer_ended}
-use Rattle.qcow2_image.specs.LackedTables.{CantGrowDisk, LacksPlaceBehind, LacksTableReaching}
-use Rattle.qcow2_image.specs.LackedPlaces.{IsPlacedNear}
+use Rattle.qcow2_image.proofs.Prepare.Lacked.{faults_unlimited, goes_begun, goes_step, goes_then, hands_limit, limited_since, unlimited_all}
+use Rattle.qcow2_image.proofs.Preallocate.Grown.{up_least}
+use Rattle.qcow2_image.proofs.Preallocate.Turns.{same_size}
+use Rattle.std.proofs.lemmas.Nat.{pow_pos}
 use Rattle.qcow2_image.proofs.Preallocate.Met.{hands_met, met_behind, near_longer_ends}
 use Rattle.qcow2_image.specs.MetAlone.{IsMetGrowing}
 
@@ -200,13 +201,15 @@ returns-in_err-mark_failure-clause-sound g c = λ out sound.
     let e = c.in_err-mark_failure.field-0.0 in
     let offset = c.args.size - 1 in
     let marked = is_failed c.mark_failure.new.self in
-    let why = subst (λ (r : Result _ _). IfErr r (λ x. x ≡ Limit → LacksTableReaching view offset begun mid)) done (c.renew_l1_table-longer.ensures.limit out (first out sound).sound) in
+    let limited = subst (λ (r : Result _ _). IfLimit r (IsLimited view below (offset + 1) begun)) done (c.renew_l1_table-longer.ensures.limit out (first out sound).sound) in
+    let begins = goes_begun c.begin.ensures.stays c.begin.ensures.begun in
     let freed = subst (λ (r : Result _ _). IfErr r (FreesRefused mid)) done (c.renew_l1_table-longer.ensures.freed out (first out sound).sound) in
     record {
       met = hands_met (IsMetGrowing out c.args.mode (size_of old) (rounded_up (cluster_size h) c.args.size) h (known_in view old.file)) c.from_residual.result e c.from_residual.ensures
           (inl (inl (inl (subst (λ (r : Result _ _). IfErr r IsFaultOrLimit) done (c.renew_l1_table-longer.ensures.fault out (first out sound).sound)))));
-      limit = subst (λ (r : Result _ _). IfErr r (λ x. x ≡ Limit → CantGrowDisk view below c.args.mode c.args.size old c.mark_failure.new.self out)) (sym (err_is c.from_residual.result c.from_residual.ensures))
-          (λ is. inl (subst (λ (image : Qcow2 _ _). LacksTableReaching view offset old image) (sym c.mark_failure.ensures.rest) (longer_ended view offset old begun mid (is_failed c.mark_failure.new.self) c.begin.ensures.rest (why is))));
+      limit = let larger = c.requires.larger in
+          let least = up_least (cluster_size h) c.args.size (pow_pos h.cluster_bits) in
+          hands_limit c.from_residual.result e c.from_residual.ensures (λ is. limited_since (omega (arith, larger, least)) begins (limited is));
       last = subst (λ (image : Qcow2 _ _). WritesSizeLast view below old image) (sym c.mark_failure.ensures.rest)
           (last_not view below old c.args.size c.args.mode c.requires.usable c.requires.larger begun mid e (is_failed c.mark_failure.new.self) first
           (λ out sound. subst (MakesEntry view below begun mid out) done (c.renew_l1_table-longer.ensures.makes out sound)) out sound);
@@ -221,10 +224,10 @@ returns-in_err-mark_failure-clause-sound g c = λ out sound.
                 (subst (λ (r : Result _ _). IfErr r (λ x. x ≡ Memory → IsTrue (has_noted_change mid) → IsTrue marked)) done (marks_memory c.renew_l1_table-longer.new.self c.mark_failure.new.self c.renew_l1_table-longer.new.self c.renew_l1_table-longer.result c.mark_failure.ensures.marks (ap (λ (i : Qcow2 _ _). i.file) c.mark_failure.ensures.rest))) out);
             version = λ zero lacks.
                 let why = subst (λ (r : Result _ _). IfErr r IsFaultOrLimit) done (c.renew_l1_table-longer.ensures.fault out (first out sound).sound) in
-                let limit = subst (λ (r : Result _ _). IfErr r (λ x. x ≡ Limit → LacksTableReaching view offset begun mid)) done (c.renew_l1_table-longer.ensures.limit out (first out sound).sound) in
+                let larger = c.requires.larger in
                 elim why [
                   | inl fault ↦ inr (inl fault)
-                  | inr is ↦ inr (inr (is, subst (λ (image : Qcow2 _ _). LacksTableReaching view offset old image) (sym c.mark_failure.ensures.rest) (longer_ended view offset old begun mid marked c.begin.ensures.rest (limit is))))
+                  | inr is ↦ inr (inr (is, limited_since (omega (arith, larger)) begins (limited is)))
                 ];
           });
       freed = subst (λ (r : Result _ _). IfErr r (FreesRefused c.mark_failure.new.self)) (sym (err_is c.from_residual.result c.from_residual.ensures))
@@ -266,14 +269,10 @@ returns-in_err-mark_fault-clause-sound g c = λ out sound.
           hands_met (IsMetGrowing out c.args.mode (size_of old) (rounded_up (cluster_size h) c.args.size) h (known_in view old.file)) c.from_residual-in_err-mark_fault.result e c.from_residual-in_err-mark_fault.ensures
           (met_behind view below out old long c.args.mode c.args.size (size_of old) e call
           (subst (λ n. IsMetGrowing out c.args.mode n (rounded_up (cluster_size long.file.header.fields) c.args.size) long.file.header.fields (known_in view long.file) e) from why));
-      limit = let told = reaches_begun old.file.header.fields begun.file.header.fields mid.file.header.fields (c.args.size - 1) step.unseen.header
-          (reaches_told view below out (pending_in view below begun out) (pending_in view below mid out) begun mid (c.args.size - 1) begins.sound lengthens.sound length) in
-          let longer = subst (λ (image : Qcow2 _ _). ReachesOffset (c.args.size - 1) old.file.header.fields image.file.header.fields) (sym same) told in
-          let refused = subst (FillsGrownOrRefuses view below c.args.size c.args.mode long filled out) done (c.fill_grown-filled.ensures.fills out call.sound) in
-          let fails : c.args.mode ≡ PreallocateNone → ⊥ = λ none. absurd (let no : Err e ≡ Ok tt = sym done ∙ (c.fill_grown-filled.ensures.unfilled none).0 in cc) in
-          subst (λ (r : Result _ _). IfErr r (λ x. x ≡ Limit → CantGrowDisk view below c.args.mode c.args.size old c.mark_fault.new.self out)) (sym (err_is c.from_residual-in_err-mark_fault.result c.from_residual-in_err-mark_fault.ensures))
-          (λ is. inr (subst (λ (image : Qcow2 _ _). LacksPlaceBehind view below c.args.mode c.args.size old image out) (sym c.mark_fault.ensures.rest)
-          (behind_lacked view below out old long filled (is_changed_of c.mark_fault.new.self.file.storage) (is_failed c.mark_fault.new.self) c.args.size c.args.mode fails call longer empty (refused.limit is))));
+      limit = let refused = subst (FillsGrownOrRefuses view below c.args.size c.args.mode long filled out) done (c.fill_grown-filled.ensures.fills out call.sound) in
+          let end = ap (λ n. rounded_up n c.args.size) (same_size old.file.header.fields long.file.header.fields call.header) in
+          let goes = subst (λ (image : Qcow2 _ _). GoesTo view old image) (sym same) (goes_then (goes_begun c.begin.ensures.stays c.begin.ensures.begun) (goes_step c.renew_l1_table-longer.ensures.step)) in
+          hands_limit c.from_residual-in_err-mark_fault.result e c.from_residual-in_err-mark_fault.ensures (λ is. limited_since (omega (arith, end)) goes (refused.limit is));
       last = let longer : (out : _) → ImageInvariant view below (pending_in view below old out) old out → UnseenCall view below old c.mark_failure.new.self out = λ out sound.
           let call = first out sound in
           subst (λ (image : Qcow2 _ _). UnseenCall view below old image out) (sym same) (stays_then view below out old begun mid call (subst (MakesEntry view below begun mid out) made (c.renew_l1_table-longer.ensures.makes out call.sound))) in
@@ -332,7 +331,7 @@ returns-clause-sound g c = λ out sound.
     record {
       met = subst (λ (r : Result _ _). IfErr r (IsMetGrowing out c.args.mode (size_of old) (rounded_up (cluster_size h) c.args.size) h (known_in g.S.Storage.view old.file))) (sym c.mark_fault-2.ensures.answer)
           (if_err c.write_size-written.result (λ e fault. inl (inl (inl (inl fault)))) c.write_size-written.ensures.fails.cause);
-      limit = unlimited_all c.mark_fault-2.result (λ x. CantGrowDisk g.S.Storage.view g.F.BackingDisk.backing c.args.mode c.args.size c.args.self.now new out)
+      limit = unlimited_all c.mark_fault-2.result _
           (subst (λ (r : Result _ _). IfErr r IsUnlimited) (sym c.mark_fault-2.ensures.answer) (faults_unlimited c.write_size-written.result c.write_size-written.ensures.fails.cause));
       last = let longer : (out : _) → ImageInvariant view below (pending_in view below old out) old out → UnseenCall view below old c.mark_failure.new.self out = λ out sound.
           let call = first out sound in

@@ -6,13 +6,10 @@ use Rattle.qcow2_alloc.proofs.AllocationSteps.{handed_on}
 use Rattle.qcow2_image.specs.LongerTables.{Lengthens}
 use Rattle.qcow2_image.proofs.Grow.Lengthened.{is_longer, lengthened, refused_none}
 use Rattle.qcow2_image.proofs.Prepare.Owning.{refused}
-use Rattle.qcow2_image.proofs.Prepare.Listing.{some_still}
-use Rattle.qcow2_image.proofs.Prepare.Lacked.{hands_either, hands_limit, other_limit}
+use Rattle.qcow2_image.proofs.Prepare.Lacked.{hands_either, hands_limit, other_limit, goes_step}
 use Rattle.qcow2_image.proofs.Call.Unlimited.{fault_unlimited, short_fault, short_unlimited}
 use Rattle.std.proofs.lemmas.Bool.Decides.{nat_tests}
 use Rattle.qcow2_alloc.specs.ImageError.{of_metadata}
-use Rattle.qcow2_image.specs.LackedPlaces.{HasNoTablePlace, LacksLongerTable, StandsInWay}
-use Rattle.qcow2_metadata.specs.TableBytes.{entry_at}
 
 pub returns-then-index-ge-MAX_L1_ENTRIES-clause-lengthens : goal.returns-then-index-ge-MAX_L1_ENTRIES-clause-lengthens
 returns-then-index-ge-MAX_L1_ENTRIES-clause-lengthens g c = λ p out sound. refused_none g.S.Storage.view g.F.BackingDisk.backing out p c.args.self.now _ sound
@@ -44,36 +41,31 @@ returns-in-Err-clause-lengthens g c = λ p out sound.
 pub returns-in-Ok-clause-length : goal.returns-in-Ok-clause-length
 returns-in-Ok-clause-length g c = omega (arith, c.in-Ok.ensures.entries, c.in_ok-table.ensures.length, c.max-entries.ensures, c.len.ensures.value)
 
-pub returns-in-Ok-clause-former : goal.returns-in-Ok-clause-former
-returns-in-Ok-clause-former g c = some_still c.args.self.now c.enter_l1_table.new.self (record c.enter_l1_table.new.self { file = record c.enter_l1_table.new.self.file { free_list = c.hand_back.new.list } }) c.in-Ok.ensures.former refl
-
 pub returns-in-Ok-clause-noted : goal.returns-in-Ok-clause-noted
 returns-in-Ok-clause-noted g c = c.in-Ok.ensures.noted
 
 pub returns-then-index-ge-MAX_L1_ENTRIES-clause-limit : goal.returns-then-index-ge-MAX_L1_ENTRIES-clause-limit
-returns-then-index-ge-MAX_L1_ENTRIES-clause-limit g c = λ p out sound is. inl (let past = c.if-index-ge-MAX_L1_ENTRIES.true in grind (arith, nat_tests))
+returns-then-index-ge-MAX_L1_ENTRIES-clause-limit g c = λ p out sound offset at is.
+    let past : 4194304 ≤ c.args.index = let past = c.if-index-ge-MAX_L1_ENTRIES.true in grind (arith, nat_tests) in
+    record { mid = c.args.self.now; before = goes_step step_none; pending = p; out = out; sound = sound; offset = offset; below = omega arith; limit = inl (subst (λ i. 4194304 ≤ i) at past) }
 
 pub returns-in_err-table-clause-limit : goal.returns-in_err-table-clause-limit
-returns-in_err-table-clause-limit g c = λ p out sound.
-    let old = c.args.self.now in
+returns-in_err-table-clause-limit g c = λ p out sound offset at.
     let few : c.max-entries.result ≤ 4194304 = let low = c.if-index-ge-MAX_L1_ENTRIES.false in let index : c.args.index < 4194304 = grind (arith, nat_tests) in omega (arith, index, c.max-entries.ensures, c.len.ensures.value, c.len.ensures.limit) in
-    hands_limit (λ x. LacksLongerTable g.S.Storage.view c.args.index (max (entry_count old.l1_table) (c.args.index + 1)) old.file.free_list old old) c.from_residual.result (of_metadata c.in_err-table.field-0.0) c.from_residual.ensures
+    hands_limit c.from_residual.result (of_metadata c.in_err-table.field-0.0) c.from_residual.ensures
     (other_limit _ (of_metadata c.in_err-table.field-0.0) (short_unlimited (4194304 < c.max-entries.result) (λ past. omega (arith, few, past)) c.in_err-table.field-0.0 c.in_err-table.ensures.err))
 
 pub returns-in_err-old-clause-limit : goal.returns-in_err-old-clause-limit
-returns-in_err-old-clause-limit g c = λ p out sound.
-    hands_limit (λ x. LacksLongerTable g.S.Storage.view c.args.index (max (entry_count c.args.self.now.l1_table) (c.args.index + 1)) c.args.self.now.file.free_list c.args.self.now c.args.self.now) c.from_residual-in_err-old.result c.in_err-old.field-0.0 c.from_residual-in_err-old.ensures
+returns-in_err-old-clause-limit g c = λ p out sound offset at.
+    hands_limit c.from_residual-in_err-old.result c.in_err-old.field-0.0 c.from_residual-in_err-old.ensures
     (other_limit _ c.in_err-old.field-0.0 (fault_unlimited c.in_err-old.field-0.0 c.in_err-old.ensures.fault))
 
 pub returns-in-Err-clause-limit : goal.returns-in-Err-clause-limit
-returns-in-Err-clause-limit g c = λ p out sound is.
-    let view = g.S.Storage.view in
+returns-in-Err-clause-limit g c = λ p out sound offset at.
     let old = c.args.self.now in
-    let t = c.in_ok-table.table in
     let enough : entry_count old.l1_table ≤ c.max-entries.result = omega (arith, c.max-entries.ensures, c.len.ensures.value) in
-    let longer = is_longer view g.F.BackingDisk.backing out p old sound t _ c.max-entries.result c.in_ok-table.ensures.table c.in_ok-table.ensures.length enough c.in_ok-table.ensures.entries in
-    let many : entry_count t ≡ max (entry_count old.l1_table) (c.args.index + 1) = omega (arith, c.in_ok-table.ensures.length, c.max-entries.ensures, c.len.ensures.value) in
-    inr (subst (λ n. StandsInWay view (HasNoTablePlace n) old.file.free_list old c.enter_l1_table.new.self) many (c.in-Err.ensures.limit p out sound longer (omega (arith, many)) is))
+    let longer = is_longer g.S.Storage.view g.F.BackingDisk.backing out p old sound c.in_ok-table.table _ c.max-entries.result c.in_ok-table.ensures.table c.in_ok-table.ensures.length enough c.in_ok-table.ensures.entries in
+    c.in-Err.ensures.limit p out sound longer offset (omega (arith, c.in_ok-table.ensures.length, c.max-entries.ensures, c.len.ensures.value, at))
 
 pub returns-in-Ok-clause-placed : goal.returns-in-Ok-clause-placed
 returns-in-Ok-clause-placed g c = λ bits.
@@ -100,9 +92,6 @@ returns-in-Err-clause-fault g c = λ writable p out sound.
     let longer = is_longer g.S.Storage.view g.F.BackingDisk.backing out p old sound t _ c.max-entries.result c.in_ok-table.ensures.table c.in_ok-table.ensures.length enough c.in_ok-table.ensures.entries in
     let many : entry_count t ≡ max (entry_count old.l1_table) (c.args.index + 1) = omega (arith, c.in_ok-table.ensures.length, c.max-entries.ensures, c.len.ensures.value) in
     c.in-Err.ensures.fault writable p out sound longer (omega (arith, many))
-
-pub returns-in-Ok-clause-kept : goal.returns-in-Ok-clause-kept
-returns-in-Ok-clause-kept g c = λ i. ap (λ l. entry_at l i) c.in-Ok.ensures.bytes ∙ c.in_ok-table.ensures.entries i
 
 pub returns-then-index-ge-MAX_L1_ENTRIES-clause-step : goal.returns-then-index-ge-MAX_L1_ENTRIES-clause-step
 returns-then-index-ge-MAX_L1_ENTRIES-clause-step g c = step_none

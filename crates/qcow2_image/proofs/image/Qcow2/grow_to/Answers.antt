@@ -1,17 +1,14 @@
 use Rattle.qcow2_alloc.proofs.AllocationSteps.{handed_on}
 use Rattle.qcow2_image.specs.declared.image.Qcow2.{Qcow2}
 use Rattle.qcow2_image.specs.Growing.{Resizes}
-use Rattle.qcow2_image.specs.UnseenSteps.{UnseenStep, pending_with_listed}
-use Rattle.std.proofs.Common.{◌≡◌, ◌+◌, arith, [], max, refl, ap, subst, ◌∙◌, ◌-◌, ◌/◌, ◌^◌}
-use Rattle.qcow2_metadata.specs.EntryTable.{entry_count}
+use Rattle.qcow2_image.specs.UnseenSteps.{pending_with_listed}
+use Rattle.std.proofs.Common.{◌≡◌, ◌+◌, arith, [], refl, ap, ◌∙◌, ◌-◌, ◌/◌, ◌^◌, ◌≤◌}
 use Rattle.qcow2_image.specs.Found.{l1_index_of}
-use Rattle.qcow2_image.specs.LackedPlaces.{LacksLongerTable}
-use Rattle.qcow2_image.specs.LackedTables.{LacksTableReaching}
-use Rattle.qcow2_image.proofs.Prepare.Lacked.{faults_or_limit, faults_unlimited, hands_either, hands_limit, unlimited_all}
+use Rattle.qcow2_image.proofs.Prepare.Lacked.{faults_or_limit, faults_unlimited, hands_either, hands_limit, unlimited_all, limited_upto}
 use Rattle.qcow2_image.specs.Image.{is_failed, is_writable}
 use Rattle.qcow2_image.proofs.Call.FaultCounts.{counted_on, counted_since, untouched}
 use Rattle.qcow2_image.proofs.Create.Causes.{faults_met}
-use Rattle.qcow2_image.proofs.Grow.Grown.{extends_moving, lasts_more, lasts_refused, resized_length, resized_then, resized_reaches, unseen_limited}
+use Rattle.qcow2_image.proofs.Grow.Grown.{extends_moving, lasts_more, lasts_refused, resized_length, resized_then, resized_reaches}
 use Rattle.qcow2_image.proofs.image.Qcow2.grow_to.Goals as goal
 
 pub returns-in_err-grow_l1_table-clause-resizes : goal.returns-in_err-grow_l1_table-clause-resizes
@@ -65,26 +62,14 @@ returns-clause-length g c = λ p sound.
 
 pub returns-in_err-grow_l1_table-clause-limit : goal.returns-in_err-grow_l1_table-clause-limit
 returns-in_err-grow_l1_table-clause-limit g c = λ p sound.
-    let view = g.S.Storage.view in
-    let old = c.args.self.now in
-    let new = c.grow_l1_table.new.self in
-    let offset = c.args.size - 1 in
     let idx : c.l1_index.result ≡ l1_index_of c.args.self.now.file.header.fields (c.args.size - 1) =
     c.l1_index.ensures ∙ ap (λ m. m / 2 ^ c.cluster_bits-bits.result / (2 ^ c.cluster_bits-bits.result / 8)) c.new.ensures ∙ ap (λ n. (c.args.size - 1) / 2 ^ n / (2 ^ n / 8)) c.cluster_bits-bits.ensures.value in
-    let e = c.in_err-grow_l1_table.field-0.0 in
-    let ensures = c.in_err-grow_l1_table.ensures in
-    hands_limit (λ x. LacksTableReaching view offset old new × UnseenStep view g.F.BackingDisk.backing p (pending_with_listed p old new) old new []) c.from_residual.result e c.from_residual.ensures
-    (λ is. (
-      subst (λ i. LacksLongerTable view i (max (entry_count old.l1_table) (i + 1)) old.file.free_list old new) idx (ensures.limit p [] sound is),
-      unseen_limited view g.F.BackingDisk.backing p old new e (ensures.lengthens p [] sound) is,
-    ))
+    let upto : c.args.size - 1 + 1 ≤ c.args.size = omega (arith, c.requires) in
+    hands_limit c.from_residual.result c.in_err-grow_l1_table.field-0.0 c.from_residual.ensures (λ is. limited_upto upto (c.in_err-grow_l1_table.ensures.limit p [] sound (c.args.size - 1) idx is))
 
 pub returns-clause-limit : goal.returns-clause-limit
 returns-clause-limit g c = λ p sound.
-    let view = g.S.Storage.view in
-    let old = c.args.self.now in
-    let new = c.write_size.new.self in
-    unlimited_all c.write_size.result (λ e. LacksTableReaching view (c.args.size - 1) old new × UnseenStep view g.F.BackingDisk.backing p (pending_with_listed p old new) old new []) (faults_unlimited c.write_size.result c.write_size.ensures.fails.cause)
+    unlimited_all c.write_size.result _ (faults_unlimited c.write_size.result c.write_size.ensures.fails.cause)
 
 pub returns-in_err-grow_l1_table-clause-fault : goal.returns-in_err-grow_l1_table-clause-fault
 returns-in_err-grow_l1_table-clause-fault g c = λ writable p sound. hands_either c.from_residual.result c.in_err-grow_l1_table.field-0.0 c.from_residual.ensures (c.in_err-grow_l1_table.ensures.fault writable p [] sound)

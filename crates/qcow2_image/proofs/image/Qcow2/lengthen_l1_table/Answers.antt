@@ -1,7 +1,7 @@
+use Rattle.qcow2_image.specs.L1Entries.{IsPlacedNear}
 use Rattle.std.proofs.Common.{◌≡◌, ◌+◌, ◌/◌, ◌^◌, max, ap, ◌∙◌, sym, subst}
 use Rattle.std.specs.Prelude.{IsTrue}
-use Rattle.qcow2_metadata.specs.EntryTable.{EntryTableView, entry_count}
-use Rattle.qcow2_metadata.specs.TableBytes.{entry_at}
+use Rattle.qcow2_metadata.specs.EntryTable.{entry_count}
 use Rattle.qcow2_laws.specs.CrashInvariant.{Pending}
 use Rattle.qcow2_alloc.proofs.AllocationSteps.{handed_on}
 use Rattle.qcow2_alloc.proofs.KeptTables.Turning.{always_ok}
@@ -12,8 +12,6 @@ use Rattle.qcow2_image.proofs.Flush.Freeing.{all_listed, beside}
 use Rattle.qcow2_image.proofs.Grow.Lengthened.{freed_then, refused_moved, stays_moved}
 use Rattle.qcow2_alloc.proofs.Outcomes.{on_no_ok, on_ok}
 use Rattle.qcow2_image.proofs.Prepare.Lacked.{faults_or_limit, faults_unlimited, hands_either, hands_limit, unlimited_all}
-use Rattle.qcow2_image.specs.LackedPlaces.{IsPlacedNear, LacksLongerTable}
-use Rattle.qcow2_image.specs.LackedTables.{LacksTableReaching}
 use Rattle.qcow2_image.proofs.Call.ImageSteps.{step_then}
 use Rattle.qcow2_image.proofs.image.Qcow2.lengthen_l1_table.Goals as goal
 
@@ -55,13 +53,10 @@ returns-clause-noted g c = on_ok _ c.free_listed.result (c.free_listed.ensures.s
 
 pub returns-in_err-grow_l1_table-clause-limit : goal.returns-in_err-grow_l1_table-clause-limit
 returns-in_err-grow_l1_table-clause-limit g c = λ out sound.
-    let view = g.S.Storage.view in
     let old = c.args.self.now in
-    let new = c.grow_l1_table.new.self in
     let idx : c.l1_index-index.result ≡ l1_index_of old.file.header.fields c.args.offset =
     c.l1_index-index.ensures ∙ ap (λ n. n / 2 ^ c.cluster_bits.result / (2 ^ c.cluster_bits.result / 8)) c.new.ensures ∙ ap (λ b. c.args.offset / 2 ^ b / (2 ^ b / 8)) c.cluster_bits.ensures.value in
-    hands_limit (λ x. LacksTableReaching view c.args.offset old new) c.from_residual.result c.in_err-grow_l1_table.field-0.0 c.from_residual.ensures
-    (λ is. subst (λ i. LacksLongerTable view i (max (entry_count old.l1_table) (i + 1)) old.file.free_list old new) idx (c.in_err-grow_l1_table.ensures.limit (pending_in view g.F.BackingDisk.backing old out) out sound is))
+    hands_limit c.from_residual.result c.in_err-grow_l1_table.field-0.0 c.from_residual.ensures (c.in_err-grow_l1_table.ensures.limit (pending_in g.S.Storage.view g.F.BackingDisk.backing old out) out sound c.args.offset idx)
 
 pub returns-clause-limit : goal.returns-clause-limit
 returns-clause-limit g c = λ out sound.
@@ -71,7 +66,7 @@ returns-clause-limit g c = λ out sound.
     let mid = c.grow_l1_table.new.self in
     let first = stays_moved view below out old mid sound (c.in_ok-grow_l1_table.ensures.lengthens (pending_in view below old out) out sound) in
     let listed = subst (λ (x : Pending). ImageInvariant view below x mid out) (all_listed view below mid out) first.sound in
-    unlimited_all c.free_listed.result (λ e. LacksTableReaching view c.args.offset old c.free_listed.new.self) (faults_unlimited c.free_listed.result (c.free_listed.ensures.faults (beside view below mid out) out listed))
+    unlimited_all c.free_listed.result _ (faults_unlimited c.free_listed.result (c.free_listed.ensures.faults (beside view below mid out) out listed))
 
 pub returns-in_err-grow_l1_table-clause-fault : goal.returns-in_err-grow_l1_table-clause-fault
 returns-in_err-grow_l1_table-clause-fault g c = λ out sound.
@@ -92,12 +87,6 @@ returns-in_err-grow_l1_table-clause-placed g c = λ bits. on_no_ok _ c.from_resi
 
 pub returns-clause-placed : goal.returns-clause-placed
 returns-clause-placed g c = λ bits. on_ok _ c.free_listed.result (subst IsPlacedNear (sym c.free_listed.ensures.table) (c.in_ok-grow_l1_table.ensures.placed bits))
-
-pub returns-in_err-grow_l1_table-clause-kept : goal.returns-in_err-grow_l1_table-clause-kept
-returns-in_err-grow_l1_table-clause-kept g c = on_no_ok _ c.from_residual.result c.in_err-grow_l1_table.field-0.0 c.from_residual.ensures
-
-pub returns-clause-kept : goal.returns-clause-kept
-returns-clause-kept g c = always_ok c.free_listed.result (λ i. ap (λ (t : EntryTableView). entry_at t.bytes i) c.free_listed.ensures.table ∙ c.in_ok-grow_l1_table.ensures.kept i)
 
 pub returns-in_err-grow_l1_table-clause-step : goal.returns-in_err-grow_l1_table-clause-step
 returns-in_err-grow_l1_table-clause-step g c = c.grow_l1_table.ensures.step

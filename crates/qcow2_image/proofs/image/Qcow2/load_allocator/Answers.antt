@@ -26,15 +26,15 @@ returns-clause-loaded g c = λ p new_tables.
     let told = record file { storage = c.will_write.new.self } in
     let new = record file { storage = c.clear_autoclear.new.self; header = c.clear_autoclear.new.header } in
     let cleared = c.in_ok-clear_autoclear.ensures in
-    let read = new_tables_then view below p old file new_tables c.new.ensures.rest c.new.ensures.honest c.new.ensures.same in
+    let read = new_tables_then view below p old file new_tables c.new.ensures.step.rest c.new.ensures.step.honest c.new.ensures.step.same in
     let same = c.will_write.ensures.storage in
     let first = new_tables_read view below p file c.will_write.new.self read.new_tables (subst (λ s. (view s).is_honest) (sym same) read.new_tables.sound.honest) (ap (λ s. (view s).contents) same) in
     let then = stays_then view below p file told new first
     (stays_after view below p told first.new_tables c.clear_autoclear.new.self c.clear_autoclear.new.header cleared.ok cleared.calls.honest cleared.written (λ none. (cleared.idle none).1) (autoclear_after _) (autoclear_still _ _)) in (
       stays_then view below p old file new read then,
       record {
-        reftable = then.reftable c.in_ok-allocator.allocator.reftable (c.in_ok-allocator.ensures.reftable new_tables.sound.honest);
-        hint = λ k low. let first = c.in_ok-allocator.ensures.first in absurd (omega (arith, first, low));
+        reftable = then.reftable c.in_ok-allocator.allocator.reftable (c.in_ok-allocator.ensures.begins.reftable new_tables.sound.honest);
+        hint = λ k low. let first = c.in_ok-allocator.ensures.begins.first in absurd (omega (arith, first, low));
       },
     )
 
@@ -45,7 +45,7 @@ returns-clause-since g c = λ p new_tables.
     let old = c.args.file.now in
     let file = c.new.new.file in
     let cleared = c.clear_autoclear.ensures in
-    let told = told_new_tables view below p old file c.will_write.new.self new_tables c.new.ensures.rest c.new.ensures.honest c.new.ensures.same c.new.ensures.time c.will_write.ensures.storage in
+    let told = told_new_tables view below p old file c.will_write.new.self new_tables c.new.ensures.step.rest c.new.ensures.step.honest c.new.ensures.step.same c.new.ensures.step.time c.will_write.ensures.storage in
     kept_then (view old.storage.storage) (view c.will_write.new.self.storage) (view c.clear_autoclear.new.self.storage) told.1
     (kept_after view below p (record file { storage = c.will_write.new.self }) told.0 c.clear_autoclear.result c.clear_autoclear.new.self cleared.written (λ none. (cleared.idle none).1) cleared.calls (autoclear_after _) (autoclear_still _ _))
 
@@ -56,7 +56,7 @@ returns-in_err-clear_autoclear-clause-since g c = λ p new_tables.
     let old = c.args.file.now in
     let file = c.new.new.file in
     let cleared = c.clear_autoclear.ensures in
-    let told = told_new_tables view below p old file c.will_write.new.self new_tables c.new.ensures.rest c.new.ensures.honest c.new.ensures.same c.new.ensures.time c.will_write.ensures.storage in
+    let told = told_new_tables view below p old file c.will_write.new.self new_tables c.new.ensures.step.rest c.new.ensures.step.honest c.new.ensures.step.same c.new.ensures.step.time c.will_write.ensures.storage in
     kept_then (view old.storage.storage) (view c.will_write.new.self.storage) (view c.clear_autoclear.new.self.storage) told.1
     (kept_after view below p (record file { storage = c.will_write.new.self }) told.0 c.clear_autoclear.result c.clear_autoclear.new.self cleared.written (λ none. (cleared.idle none).1) cleared.calls (autoclear_after _) (autoclear_still _ _))
 
@@ -70,7 +70,7 @@ returns-in_err-clear_autoclear-clause-why g c = λ honest.
 pub returns-in_err-allocator-clause-since : goal.returns-in_err-allocator-clause-since
 returns-in_err-allocator-clause-since g c = λ p new_tables.
     let view = g.S.Storage.view in
-    kept_read (view c.args.file.now.storage.storage) (view c.new.new.file.storage.storage) c.new.ensures.time (c.new.ensures.same new_tables.sound.honest)
+    kept_read (view c.args.file.now.storage.storage) (view c.new.new.file.storage.storage) c.new.ensures.step.time (c.new.ensures.step.same new_tables.sound.honest)
 
 pub returns-in_err-allocator-clause-storage : goal.returns-in_err-allocator-clause-storage
 returns-in_err-allocator-clause-storage g c =
@@ -78,7 +78,7 @@ returns-in_err-allocator-clause-storage g c =
     let read = c.new.ensures in
     let e = c.in_err-allocator.field-0.0 in
     handed_on (λ (r : Result _ ImageError). LeavesFile view true c.args.file.now c.new.new.file r) c.from_residual.result e c.from_residual.ensures
-    (file_refused view true c.args.file.now c.new.new.file read.rest read.honest read.same read.time e)
+    (file_refused view true c.args.file.now c.new.new.file read.step.rest read.step.honest read.step.same read.step.time e)
 
 pub returns-in_err-clear_autoclear-clause-storage : goal.returns-in_err-clear_autoclear-clause-storage
 returns-in_err-clear_autoclear-clause-storage g c =
@@ -90,7 +90,7 @@ returns-in_err-clear_autoclear-clause-storage g c =
     let e = c.in_err-clear_autoclear.field-0.0 in
     let new = record file { storage = c.clear_autoclear.new.self; header = c.clear_autoclear.new.header } in
     handed_on (λ (r : Result _ ImageError). LeavesFile view true old new r) c.from_residual-in_err-clear_autoclear.result (of_storage e) c.from_residual-in_err-clear_autoclear.ensures
-    (file_then_refused view true old file read.rest read.honest read.same read.time {T = Unit {0}} new (of_storage e) read.fails.no_fewer
+    (file_then_refused view true old file read.step.rest read.step.honest read.step.same read.step.time {T = Unit {0}} new (of_storage e) read.fails.no_fewer
     (file_not_cleared view file c.will_write.new.self c.clear_autoclear.new.self c.will_write.ensures.storage c.clear_autoclear.result cleared.calls cleared.written cleared.idle c.clear_autoclear.new.header e c.in_err-clear_autoclear.was))
 
 pub returns-clause-storage : goal.returns-clause-storage
@@ -101,21 +101,21 @@ returns-clause-storage g c =
     let cleared = c.clear_autoclear.ensures in
     let new = record file { storage = c.clear_autoclear.new.self; header = c.clear_autoclear.new.header } in
     let x = c.in_ok-allocator.allocator in
-    file_then view true c.args.file.now file read.rest read.honest read.same read.time new x x
+    file_then view true c.args.file.now file read.step.rest read.step.honest read.step.same read.step.time new x x
     (file_cleared view file c.will_write.new.self c.clear_autoclear.new.self c.will_write.ensures.storage c.clear_autoclear.result cleared.calls cleared.written cleared.idle c.clear_autoclear.new.header c.in_ok-clear_autoclear.ensures.ok x _ c.in_ok-clear_autoclear.was)
 
 pub returns-clause-header_cluster : goal.returns-clause-header_cluster
 returns-clause-header_cluster g c = λ are names.
     let cleared = c.in_ok-clear_autoclear.ensures.ok in
-    let fields : c.clear_autoclear.new.header.fields ≡ without_autoclear c.args.file.now.header.fields = ap (λ (v : HeaderView). v.fields) cleared ∙ ap (λ (f : ImageFile _). without_autoclear f.header.fields) c.new.ensures.rest in
+    let fields : c.clear_autoclear.new.header.fields ≡ without_autoclear c.args.file.now.header.fields = ap (λ (v : HeaderView). v.fields) cleared ∙ ap (λ (f : ImageFile _). without_autoclear f.header.fields) c.new.ensures.step.rest in
     let before = named_before c.args.file.now.header.fields c.clear_autoclear.new.header.fields fields names in
-    (before, stands_still refl (ap (λ (v : HeaderView). v.fields.cluster_bits) cleared) (c.in_ok-allocator.ensures.header_cluster before.reftable are))
+    (before, stands_still refl (ap (λ (v : HeaderView). v.fields.cluster_bits) cleared) (c.in_ok-allocator.ensures.begins.header_cluster before.reftable are))
 
 pub returns-clause-caches : goal.returns-clause-caches
-returns-clause-caches g c = ap (λ (f : ImageFile _). f.caches) c.new.ensures.rest
+returns-clause-caches g c = ap (λ (f : ImageFile _). f.caches) c.new.ensures.step.rest
 
 pub returns-in_err-allocator-clause-caches : goal.returns-in_err-allocator-clause-caches
-returns-in_err-allocator-clause-caches g c = ap (λ (f : ImageFile _). f.caches) c.new.ensures.rest
+returns-in_err-allocator-clause-caches g c = ap (λ (f : ImageFile _). f.caches) c.new.ensures.step.rest
 
 pub returns-in_err-clear_autoclear-clause-caches : goal.returns-in_err-clear_autoclear-clause-caches
-returns-in_err-clear_autoclear-clause-caches g c = ap (λ (f : ImageFile _). f.caches) c.new.ensures.rest
+returns-in_err-clear_autoclear-clause-caches g c = ap (λ (f : ImageFile _). f.caches) c.new.ensures.step.rest

@@ -27,21 +27,21 @@ pub returns-in_err-l2_get_or_insert-in-Some-clause-keeps :
     goal.returns-in_err-l2_get_or_insert-in-Some-clause-keeps
 returns-in_err-l2_get_or_insert-in-Some-clause-keeps g c = λ p out sound.
     caches_moved g.S.Storage.view g.F.BackingDisk.backing c.args.self.now out p sound c.l2_get_or_insert.new.storage c.l2_get_or_insert.new.self
-    (c.l2_get_or_insert.ensures.keeps c.args.self.now.file.header.fields p sound.file.honest sound.file.caches) c.l2_get_or_insert.ensures.marks.room c.l2_get_or_insert.ensures.marks.pins
+    (c.l2_get_or_insert.ensures.sound.keeps c.args.self.now.file.header.fields p sound.file.honest sound.file.caches) c.l2_get_or_insert.ensures.step.marks.pins.room c.l2_get_or_insert.ensures.step.marks.pins.pins
 
 pub returns-in_ok-l2_get_or_insert-in-Some-clause-keeps :
     goal.returns-in_ok-l2_get_or_insert-in-Some-clause-keeps
 returns-in_ok-l2_get_or_insert-in-Some-clause-keeps g c = λ p out sound.
     caches_moved g.S.Storage.view g.F.BackingDisk.backing c.args.self.now out p sound c.l2_get_or_insert.new.storage c.l2_get_or_insert.new.self
-    (c.l2_get_or_insert.ensures.keeps c.args.self.now.file.header.fields p sound.file.honest sound.file.caches) c.l2_get_or_insert.ensures.marks.room c.l2_get_or_insert.ensures.marks.pins
+    (c.l2_get_or_insert.ensures.sound.keeps c.args.self.now.file.header.fields p sound.file.honest sound.file.caches) c.l2_get_or_insert.ensures.step.marks.pins.room c.l2_get_or_insert.ensures.step.marks.pins.pins
 
 pub returns-in_err-l2_get_or_insert-in-Some-clause-known :
     goal.returns-in_err-l2_get_or_insert-in-Some-clause-known
-returns-in_err-l2_get_or_insert-in-Some-clause-known g c = λ p out sound. (c.l2_get_or_insert.ensures.keeps c.args.self.now.file.header.fields p sound.file.honest sound.file.caches).known
+returns-in_err-l2_get_or_insert-in-Some-clause-known g c = λ p out sound. (c.l2_get_or_insert.ensures.sound.keeps c.args.self.now.file.header.fields p sound.file.honest sound.file.caches).known
 
 pub returns-in_ok-l2_get_or_insert-in-Some-clause-known :
     goal.returns-in_ok-l2_get_or_insert-in-Some-clause-known
-returns-in_ok-l2_get_or_insert-in-Some-clause-known g c = λ p out sound. (c.l2_get_or_insert.ensures.keeps c.args.self.now.file.header.fields p sound.file.honest sound.file.caches).known
+returns-in_ok-l2_get_or_insert-in-Some-clause-known g c = λ p out sound. (c.l2_get_or_insert.ensures.sound.keeps c.args.self.now.file.header.fields p sound.file.honest sound.file.caches).known
 
 pub returns-in-None-clause-found : goal.returns-in-None-clause-found
 returns-in-None-clause-found g c = λ p out sound.
@@ -65,9 +65,9 @@ pub returns-in_ok-l2_get_or_insert-in-Some-clause-found :
     goal.returns-in_ok-l2_get_or_insert-in-Some-clause-found
 returns-in_ok-l2_get_or_insert-in-Some-clause-found g c = λ p out sound.
     let h = c.args.self.now.file.header.fields in
-    let stay = c.l2_get_or_insert.ensures.keeps h p sound.file.honest sound.file.caches in
-    let kept = caches_moved g.S.Storage.view g.F.BackingDisk.backing c.args.self.now out p sound c.l2_get_or_insert.new.storage c.l2_get_or_insert.new.self stay c.l2_get_or_insert.ensures.marks.room
-    c.l2_get_or_insert.ensures.marks.pins in
+    let stay = c.l2_get_or_insert.ensures.sound.keeps h p sound.file.honest sound.file.caches in
+    let kept = caches_moved g.S.Storage.view g.F.BackingDisk.backing c.args.self.now out p sound c.l2_get_or_insert.new.storage c.l2_get_or_insert.new.self stay c.l2_get_or_insert.ensures.step.marks.pins.room
+    c.l2_get_or_insert.ensures.step.marks.pins.pins in
     let image = with_caches g.S.Storage.view g.F.BackingDisk.backing c.args.self.now out p sound c.l2_get_or_insert.new.storage c.l2_get_or_insert.new.self in
     let names : NamesL2Table g.S.Storage.view c.args.self.now c.args.offset (Some c.in-Some.table) =
     subst (NamesL2Table g.S.Storage.view c.args.self.now c.args.offset) c.in-Some.is (c.in_ok-l2_cluster.ensures.names sound.l1_table) in
@@ -101,8 +101,8 @@ returns-in_ok-l2_get_or_insert-in-Some-clause-met g c = λ p out sound.
     let view = g.S.Storage.view in
     let below = g.F.BackingDisk.backing in
     let h = c.args.self.now.file.header.fields in
-    let stay = c.l2_get_or_insert.ensures.keeps h p sound.file.honest sound.file.caches in
-    let kept = caches_moved view below c.args.self.now out p sound c.l2_get_or_insert.new.storage c.l2_get_or_insert.new.self stay c.l2_get_or_insert.ensures.marks.room c.l2_get_or_insert.ensures.marks.pins in
+    let stay = c.l2_get_or_insert.ensures.sound.keeps h p sound.file.honest sound.file.caches in
+    let kept = caches_moved view below c.args.self.now out p sound c.l2_get_or_insert.new.storage c.l2_get_or_insert.new.self stay c.l2_get_or_insert.ensures.step.marks.pins.room c.l2_get_or_insert.ensures.step.marks.pins.pins in
     let names : NamesL2Table view c.args.self.now c.args.offset (Some c.in-Some.table) =
     subst (NamesL2Table view c.args.self.now c.args.offset) c.in-Some.is (c.in_ok-l2_cluster.ensures.names sound.l1_table) in
     let entry = subst (λ b. IsEntryAt h b (l1_index_of h c.args.offset) c.in-Some.table (l2_index_of h c.args.offset)) (sym stay.known)
@@ -132,16 +132,16 @@ pub returns-in_err-l2_get_or_insert-in-Some-clause-step : goal.returns-in_err-l2
 returns-in_err-l2_get_or_insert-in-Some-clause-step g c = record {
   header = search rules;
   list = search rules;
-  part = record { stays = search rules; notes = search rules; header_cluster = behind_caches (c.l2_get_or_insert.ensures.header_cluster (subst (λ t. IfSome t (λ n. 0 < n)) c.in-Some.is c.in_ok-l2_cluster.ensures.elsewhere)) };
-  quiet = c.l2_get_or_insert.ensures.all_written;
+  part = record { stays = search rules; notes = search rules; header_cluster = behind_caches (c.l2_get_or_insert.ensures.step.header_cluster (subst (λ t. IfSome t (λ n. 0 < n)) c.in-Some.is c.in_ok-l2_cluster.ensures.elsewhere)) };
+  quiet = c.l2_get_or_insert.ensures.step.all_written;
 }
 
 pub returns-in_ok-l2_get_or_insert-in-Some-clause-step : goal.returns-in_ok-l2_get_or_insert-in-Some-clause-step
 returns-in_ok-l2_get_or_insert-in-Some-clause-step g c = record {
   header = search rules;
   list = search rules;
-  part = record { stays = search rules; notes = search rules; header_cluster = behind_caches (c.l2_get_or_insert.ensures.header_cluster (subst (λ t. IfSome t (λ n. 0 < n)) c.in-Some.is c.in_ok-l2_cluster.ensures.elsewhere)) };
-  quiet = c.l2_get_or_insert.ensures.all_written;
+  part = record { stays = search rules; notes = search rules; header_cluster = behind_caches (c.l2_get_or_insert.ensures.step.header_cluster (subst (λ t. IfSome t (λ n. 0 < n)) c.in-Some.is c.in_ok-l2_cluster.ensures.elsewhere)) };
+  quiet = c.l2_get_or_insert.ensures.step.all_written;
 }
 
 pub returns-in-None-clause-step : goal.returns-in-None-clause-step

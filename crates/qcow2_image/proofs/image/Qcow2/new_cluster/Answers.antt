@@ -12,13 +12,10 @@ use Rattle.qcow2_image.specs.UnseenSteps.{UnseenFillingStep, RefusedFillingStep,
 use Rattle.qcow2_image.specs.ImageInvariant.{run_of, new_data_by, over_all}
 use Rattle.qcow2_image.proofs.Prepare.Gaining.{listed_after_on, image_step_left, taken_new_data, taken_unused, still_holds, filled_as}
 use Rattle.qcow2_image.proofs.Prepare.Filling.{image_step_then}
-use Rattle.qcow2_image.proofs.Prepare.Listing.{lists_still}
 use Rattle.qcow2_alloc.proofs.KeptMarks.{notes_then}
 use Rattle.qcow2_image.proofs.Call.Notes.{same_kept}
 use Rattle.qcow2_image.proofs.Call.BehindHeader.{behind_by, behind_none, behind_then}
-use Rattle.qcow2_image.proofs.Prepare.InUse.{used_stays}
 use Rattle.qcow2_image.proofs.Prepare.Lacked.{hands_limit, other_limit}
-use Rattle.qcow2_image.specs.LackedPlaces.{HasNoCluster, StandsInWay}
 use Rattle.qcow2_image.proofs.Prepare.Met.{filling_met, hands_met, new_behind}
 use Rattle.qcow2_image.specs.MetAlone.{IsCopiedCompressed, IsMetAlone}
 use Rattle.qcow2_image.proofs.Prepare.Unannounced.{copied_as}
@@ -68,30 +65,12 @@ returns-in-Err-clause-gains g c = λ p out sound holds.
     subst (λ (image : Qcow2 _ _). RefusedFillingStep view below p old image out c.in-Err.refusal) (sym c.hand_back.ensures)
     (inl (image_step_left view below out old new p n took.0 took.1 gone))
 
-pub returns-in-Ok-clause-former : goal.returns-in-Ok-clause-former
-returns-in-Ok-clause-former g c = lists_still c.args.self.now c.take_data.new.self c.fill_cluster.new.self c.take_data.ensures.former (record { allocator = c.fill_cluster.ensures.allocator; list = c.fill_cluster.ensures.list })
-
-pub returns-in-Ok-clause-lowest : goal.returns-in-Ok-clause-lowest
-returns-in-Ok-clause-lowest g c = λ p out sound holds k lt.
-    let view = g.S.Storage.view in
-    let below = g.F.BackingDisk.backing in
-    let old = c.args.self.now in
-    let mid = c.take_data.new.self in
-    let n = c.in_ok-pending.pending in
-    let took = c.in_ok-pending.ensures.takes p out sound holds in
-    let new_data = with_new_data (pending_with_listed p old mid) (run_of n) in
-    let some : 0 < new_data.new_data c.cluster.result = subst (λ k. 0 < new_data.new_data k) (sym c.cluster.ensures) (taken_new_data view below out old mid p n took.0 holds took.2) in
-    let free : over_all new_data_by out c.cluster.result ≡ 0 = ap (over_all new_data_by out) c.cluster.ensures ∙ taken_unused view below out old mid p n took.0 holds took.2 in
-    let filled = c.fill_cluster.ensures.image_step new_data out took.2.sound (still_holds view below out old mid p n took.0 holds took.2) some free in
-    let former = c.take_data.ensures.former in
-    used_stays view below out new_data former.after mid c.fill_cluster.new.self took.2.sound filled.sound c.fill_cluster.ensures.value former.is c.fill_cluster.ensures.allocator c.fill_cluster.ensures.table filled.covers k (c.in_ok-pending.ensures.lowest p out sound k lt)
-
 pub returns-in_err-pending-clause-limit : goal.returns-in_err-pending-clause-limit
-returns-in_err-pending-clause-limit g c = λ p out sound.
-    hands_limit (λ x. StandsInWay g.S.Storage.view HasNoCluster c.args.self.now.file.free_list c.args.self.now c.take_data.new.self) c.from_residual.result c.in_err-pending.field-0.0 c.from_residual.ensures (c.in_err-pending.ensures.limit p out sound)
+returns-in_err-pending-clause-limit g c = λ p out sound holds.
+    hands_limit c.from_residual.result c.in_err-pending.field-0.0 c.from_residual.ensures (c.in_err-pending.ensures.limit p out sound holds)
 
 pub returns-in-Err-clause-limit : goal.returns-in-Err-clause-limit
-returns-in-Err-clause-limit g c = λ p out sound. other_limit _ c.in-Err.refusal c.in-Err.ensures.fails.limited
+returns-in-Err-clause-limit g c = λ p out sound holds. other_limit _ c.in-Err.refusal c.in-Err.ensures.fails.limited
 
 pub returns-in_err-pending-clause-met : goal.returns-in_err-pending-clause-met
 returns-in_err-pending-clause-met g c = λ p out sound holds.
@@ -114,21 +93,6 @@ returns-in-Err-clause-met g c = λ p out sound holds.
     let overwrite = c.args.overwrite in
     filling_met (IsCopiedCompressed hm c.args.old.now offset n overwrite) (IsCopiedCompressed h c.args.old.now offset n overwrite) ⊥ c.in-Err.refusal (copied_as h hm c.args.old.now offset n overwrite (size_format h hm took.2.header))
     (c.in-Err.ensures.met (new_behind view below out new_data mid took.2.sound c.cluster.result some))
-
-pub returns-in-Ok-clause-uses : goal.returns-in-Ok-clause-uses
-returns-in-Ok-clause-uses g c = λ p out sound holds k used.
-    let view = g.S.Storage.view in
-    let below = g.F.BackingDisk.backing in
-    let old = c.args.self.now in
-    let mid = c.take_data.new.self in
-    let n = c.in_ok-pending.pending in
-    let took = c.in_ok-pending.ensures.takes p out sound holds in
-    let new_data = with_new_data (pending_with_listed p old mid) (run_of n) in
-    let some : 0 < new_data.new_data c.cluster.result = subst (λ k. 0 < new_data.new_data k) (sym c.cluster.ensures) (taken_new_data view below out old mid p n took.0 holds took.2) in
-    let free : over_all new_data_by out c.cluster.result ≡ 0 = ap (over_all new_data_by out) c.cluster.ensures ∙ taken_unused view below out old mid p n took.0 holds took.2 in
-    let filled = c.fill_cluster.ensures.image_step new_data out took.2.sound (still_holds view below out old mid p n took.0 holds took.2) some free in
-    let former = c.take_data.ensures.former in
-    used_stays view below out new_data former.after mid c.fill_cluster.new.self took.2.sound filled.sound c.fill_cluster.ensures.value former.is c.fill_cluster.ensures.allocator c.fill_cluster.ensures.table filled.covers k (c.in_ok-pending.ensures.uses p out sound k used)
 
 pub returns-in_err-pending-clause-step : goal.returns-in_err-pending-clause-step
 returns-in_err-pending-clause-step g c = c.take_data.ensures.step

@@ -12,25 +12,16 @@ use Rattle.qcow2_image.specs.UnseenSteps.{UnseenFillingStep, RefusedFillingStep,
 use Rattle.qcow2_image.specs.ImageInvariant.{run_of, new_data_by, over_all}
 use Rattle.qcow2_image.proofs.Prepare.Gaining.{listed_after_on, image_step_left, taken_new_data, taken_unused, still_holds, filled_as}
 use Rattle.qcow2_image.proofs.Prepare.Filling.{image_step_then}
-use Rattle.qcow2_image.proofs.Prepare.Listing.{lists_still}
 use Rattle.qcow2_alloc.proofs.KeptMarks.{notes_then}
 use Rattle.qcow2_image.proofs.Call.Notes.{same_kept}
 use Rattle.qcow2_image.proofs.Call.BehindHeader.{behind_by, behind_none, behind_then}
-use Rattle.qcow2_image.proofs.Prepare.InUse.{used_stays}
 use Rattle.qcow2_image.proofs.Prepare.Lacked.{hands_limit, other_limit}
-use Rattle.qcow2_image.specs.LackedPlaces.{CantTake}
 use Rattle.qcow2_image.specs.MetAlone.{IsCopiedCompressed}
 use Rattle.qcow2_image.proofs.Prepare.Unannounced.{copied_as}
 use Rattle.qcow2_image.proofs.Prepare.Met.{filling_met, new_behind}
 use Rattle.qcow2_image.proofs.Prepare.MetTables.{hands_alone}
 use Rattle.qcow2_image.proofs.Call.ImageSteps.{step_then}
 use Rattle.qcow2_image.proofs.image.Qcow2.new_cluster_at.Goals as goal
-
-pub returns-in_default-clause-former : goal.returns-in_default-clause-former
-returns-in_default-clause-former g c = c.take_data_at.ensures.former
-
-pub returns-in-Ok-clause-former : goal.returns-in-Ok-clause-former
-returns-in-Ok-clause-former g c = lists_still c.args.self.now c.take_data_at.new.self c.fill_cluster.new.self c.take_data_at.ensures.former (record { allocator = c.fill_cluster.ensures.allocator; list = c.fill_cluster.ensures.list })
 
 pub returns-in_default-clause-step : goal.returns-in_default-clause-step
 returns-in_default-clause-step g c = c.take_data_at.ensures.step
@@ -51,7 +42,6 @@ returns-in_default-clause-sound g c = λ p out sound holds.
       met = search rules;
       limit = search rules;
       does = subst (λ v. TakesDataAt g.S.Storage.view g.F.BackingDisk.backing p c.args.self.now c.take_data_at.new.self out c.args.cluster (Ok v)) c.in_default.is (c.in_ok-pending.ensures.takes p out sound holds);
-      uses = c.in_ok-pending.ensures.uses p out sound holds;
     }
 
 pub returns-in-Ok-clause-sound : goal.returns-in-Ok-clause-sound
@@ -84,9 +74,6 @@ returns-in-Ok-clause-sound g c = λ p out sound holds.
             filled_as view below mid old new c.args.cluster n.first_cluster c.args.offset c.args.length c.args.overwrite took.3.header (ap (λ (x : Guest). x.disk) took.3.seen) (sym took.0)
             (c.in-Ok.ensures.fills new_data out took.3.sound (still_holds view below out old mid p n took.1 holds took.3) some free still);
       } in (took.0, gained);
-      uses = λ k used. let filled = c.fill_cluster.ensures.image_step new_data out took.3.sound (still_holds view below out old mid p n took.1 holds took.3) some free in
-          let former = c.take_data_at.ensures.former in
-          used_stays view below out new_data former.after mid new took.3.sound filled.sound c.fill_cluster.ensures.value former.is c.fill_cluster.ensures.allocator c.fill_cluster.ensures.table filled.covers k (c.in_ok-pending.ensures.uses p out sound holds k used);
     }
 
 pub returns-in-Err-clause-sound : goal.returns-in-Err-clause-sound
@@ -107,7 +94,6 @@ returns-in-Err-clause-sound g c = λ p out sound holds.
     let offset = c.args.offset in
     let gone = subst (λ q. UnseenFillingStep view below p (with_new_data q (run_of n)) old new out) (listed_after_on view below out p old mid new c.fill_cluster.ensures.list) filled in
     record {
-      uses = search rules;
       does = subst (λ (image : Qcow2 _ _). RefusedFillingStep view below p old image out c.in-Err.refusal) (sym c.hand_back.ensures)
           (inl (image_step_left view below out old new p n took.1 took.2 gone));
       met = let n = c.args.length in
@@ -121,7 +107,6 @@ pub returns-in_err-pending-clause-sound : goal.returns-in_err-pending-clause-sou
 returns-in_err-pending-clause-sound g c = λ p out sound holds.
     record {
       does = search rules;
-      uses = search rules;
       met = hands_alone (IsCopiedCompressed c.args.self.now.file.header.fields c.args.old.now c.args.offset c.args.length c.args.overwrite) ⊥ c.from_residual.result c.in_err-pending.field-0.0 c.from_residual.ensures (inl (c.in_err-pending.ensures.fault p out sound));
-      limit = hands_limit (λ x. CantTake g.S.Storage.view c.args.cluster c.args.self.now c.take_data_at.new.self) c.from_residual.result c.in_err-pending.field-0.0 c.from_residual.ensures (c.in_err-pending.ensures.limit p out sound);
+      limit = hands_limit c.from_residual.result c.in_err-pending.field-0.0 c.from_residual.ensures (c.in_err-pending.ensures.limit p out sound holds);
     }

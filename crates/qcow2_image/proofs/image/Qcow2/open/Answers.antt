@@ -1,4 +1,4 @@
-use Rattle.std.proofs.Common.{◌≡◌, ◌⊎◌, sym, refl, arith, subst, ap, inl, inr, ◌∙◌}
+use Rattle.std.proofs.Common.{◌≡◌, ◌⊎◌, sym, refl, arith, subst, ap, inl, inr, ◌∙◌, rules}
 use Rattle.std.specs.Prelude.{None, false}
 use Rattle.qcow2_metadata.specs.Bytes.{byte_at}
 use Rattle.qcow2_laws.specs.Opened.{nothing_pending, surplus_of}
@@ -8,6 +8,8 @@ use Rattle.qcow2_image.specs.Opened.{IsKeptSince}
 use Rattle.qcow2_image.proofs.Open.Left.{left_loaded, left_opened, left_refused}
 use Rattle.qcow2_image.proofs.Open.Opening.{new_tables_new, opened, kept_loaded, kept_opened, named_still}
 use Rattle.qcow2_metadata.specs.Header.{HeaderReads, header}
+use Rattle.qcow2_metadata.specs.declared.header.HeaderFields.{HeaderFields}
+use Rattle.qcow2_image.specs.Growing.{SameFormat}
 use Rattle.qcow2_alloc.specs.declared.error.ImageError.{ImageError}
 use Rattle.qcow2_alloc.specs.declared.error.ImageError.TheVariants.{Dependency, UnalignedTable}
 use Rattle.qcow2_alloc.specs.declared.error.ImageError.TheVariants as I
@@ -19,6 +21,141 @@ use Rattle.qcow2_image.proofs.Open.SameHeaders.{not_missing, not_needed, refused
 use Rattle.qcow2_alloc.specs.MetadataCaches.{AreAllWritten}
 use Rattle.qcow2_alloc.specs.ImageFile.{l2_pins}
 use Rattle.qcow2_image.proofs.image.Qcow2.open.Goals as goal
+
+pub returns-in-Err-clause-step : goal.returns-in-Err-clause-step
+returns-in-Err-clause-step g c = record {
+  faults = search rules;
+  storage =
+      left_loaded g.S.Storage.view c.args.writable c.args.storage.storage c.args.storage.storage c.load.new.storage.storage refl c.load.result c.load.ensures.reads _ c.into_inner.result c.into_inner.ensures;
+  since =
+      λ honest consistent.
+      let view = g.S.Storage.view in
+      subst (λ s. IsKeptSince (view c.args.storage.storage) (view s)) (sym c.into_inner.ensures)
+      (kept_loaded {result = c.load.result} (view c.args.storage.storage) (view c.load.new.storage.storage) c.load.ensures.reads honest);
+  another =
+      λ honest needs.
+      let view = g.S.Storage.view in
+      let reads : HeaderReads (header (byte_at (view c.args.storage.storage).contents)) (byte_at (view c.args.storage.storage).contents) = needs.stands.reads in
+      let why = c.in-Err.ensures.refused honest in
+      (subst (λ (e : ImageError). (e ≡ Dependency) ⊎ (e ≡ UnalignedTable) ⊎ IsFault e) (sym c.from.ensures) (inr (refused_before _ _ c.args.writable c.in-Err.e reads why)), stays_so view c.args.storage.storage c.args.storage.storage c.load.new.storage.storage _ c.load.result refl c.into_inner.ensures c.load.ensures.reads honest);
+  cause = (
+    λ is. absurd (not_missing (of_metadata c.in-Err.e) (metadata_met c.in-Err.e) (sym c.from.ensures ∙ is)),
+    λ honest.
+        let view = g.S.Storage.view in
+        let why = c.in-Err.ensures.refused honest in
+        subst (IsRefusedRightly (view c.args.storage.storage).contents c.args.writable c.args.missing) (sym c.from.ensures) (header_refused (view c.args.storage.storage).contents c.args.writable c.args.missing c.in-Err.e why),
+  );
+}
+
+pub returns-then-lacks_another-clause-step : goal.returns-then-lacks_another-clause-step
+returns-then-lacks_another-clause-step g c = record {
+  faults = search rules;
+  storage =
+      left_loaded g.S.Storage.view c.args.writable c.args.storage.storage c.args.storage.storage c.load.new.storage.storage refl c.load.result c.load.ensures.reads _ c.into_inner-then-lacks_another.result c.into_inner-then-lacks_another.ensures;
+  since =
+      λ honest consistent.
+      let view = g.S.Storage.view in
+      subst (λ s. IsKeptSince (view c.args.storage.storage) (view s)) (sym c.into_inner-then-lacks_another.ensures)
+      (kept_loaded {result = c.load.result} (view c.args.storage.storage) (view c.load.new.storage.storage) c.load.ensures.reads honest);
+  another =
+      λ honest needs.
+      (inl refl, stays_so g.S.Storage.view c.args.storage.storage c.args.storage.storage c.load.new.storage.storage _ c.load.result refl c.into_inner-then-lacks_another.ensures c.load.ensures.reads honest);
+  cause =
+      let so = sym c.lacks_another.ensures ∙ c.if-lacks_another.true in
+      (λ is. some_missing c.args.missing c.in-Ok.header so, needs_so g.S.Storage.view c.args.storage.storage c.args.storage.storage c.load.new.storage.storage refl c.args.writable c.args.missing c.load.result c.load.ensures.reads c.in-Ok.header c.in-Ok.ensures.ok c.in-Ok.ensures.aligned so);
+}
+
+pub returns-in-Err-new-clause-step : goal.returns-in-Err-new-clause-step
+returns-in-Err-new-clause-step g c = record {
+  faults = search rules;
+  storage =
+      left_loaded g.S.Storage.view c.args.writable c.args.storage.storage c.args.storage.storage c.load.new.storage.storage refl c.load.result c.load.ensures.reads _ c.into_inner-in-Err-new.result c.into_inner-in-Err-new.ensures;
+  since =
+      λ honest consistent.
+      let view = g.S.Storage.view in
+      subst (λ s. IsKeptSince (view c.args.storage.storage) (view s)) (sym c.into_inner-in-Err-new.ensures)
+      (kept_loaded {result = c.load.result} (view c.args.storage.storage) (view c.load.new.storage.storage) c.load.ensures.reads honest);
+  another =
+      λ honest needs.
+      absurd (not_needed c.args.missing c.in-Ok.header (g.S.Storage.view c.args.storage.storage).contents (c.in-Ok.ensures.ok honest) (sym c.lacks_another.ensures ∙ c.if-lacks_another.false) needs);
+  cause = (
+    λ is. absurd (let bad : I.Memory ≡ Dependency = sym c.from-in-Err-new.ensures ∙ is in cc),
+    λ honest. subst (IsRefusedRightly (g.S.Storage.view c.args.storage.storage).contents c.args.writable c.args.missing) (sym c.from-in-Err-new.ensures) tt,
+  );
+}
+
+pub returns-in-Err-load_tables-clause-step : goal.returns-in-Err-load_tables-clause-step
+returns-in-Err-load_tables-clause-step g c = record {
+  faults = search rules;
+  storage =
+      let file : ImageFile _ = record { alloc = c.args.alloc; storage = c.load.new.storage; header = c.in-Ok.header; caches = c.in-Ok-new.caches; free_list = c.new-2.result } in
+      left_refused g.S.Storage.view c.args.writable c.args.storage.storage c.args.storage.storage file refl c.load.result c.load.ensures.reads c.in-Ok.ensures.ok c.load_tables.new.file c.in-Err-load_tables.e c.into_storage.result
+      c.into_storage.ensures c.in-Err-load_tables.ensures.storage;
+  since =
+      let view = g.S.Storage.view in
+      let below = g.F.BackingDisk.backing in
+      let contents = (view c.args.storage.storage).contents in
+      let read = c.load.ensures.reads in
+      let new = c.in-Ok-new.ensures in
+      let file : ImageFile _ = record { alloc = c.args.alloc; storage = c.load.new.storage; header = c.in-Ok.header; caches = c.in-Ok-new.caches; free_list = c.new-2.result } in
+      kept_opened view below c.load.result c.args.storage.storage c.args.storage.storage c.into_storage.result file c.load_tables.new.file refl c.into_storage.ensures read
+      (λ honest consistent. c.load_tables.ensures.since (nothing_pending (surplus_of c.in-Ok.header.fields (byte_at contents)))
+      (new_tables_new view below contents file consistent (read.honest honest) (read.same honest) (c.in-Ok.ensures.ok honest) new.sound new.known new.named_blocks (new.room (omega arith) (omega arith)) new.pins c.new-2.ensures));
+  another =
+      λ honest needs.
+      absurd (not_needed c.args.missing c.in-Ok.header (g.S.Storage.view c.args.storage.storage).contents (c.in-Ok.ensures.ok honest) (sym c.lacks_another.ensures ∙ c.if-lacks_another.false) needs);
+  cause = (
+    λ is. absurd (not_missing _ c.in-Err-load_tables.ensures.cause is),
+    refused_rightly g.S.Storage.view c.args.storage.storage c.args.storage.storage c.load.new.storage.storage refl c.args.writable c.args.missing c.load.result c.load.ensures.reads c.in-Ok.header c.in-Ok.ensures.ok c.in-Ok.ensures.aligned
+        c.in-Err-load_tables.e (sym c.lacks_another.ensures ∙ c.if-lacks_another.false) c.in-Err-load_tables.ensures.why,
+  );
+}
+
+pub returns-in-Ok-load_tables-clause-step : goal.returns-in-Ok-load_tables-clause-step
+returns-in-Ok-load_tables-clause-step g c = record {
+  faults = search rules;
+  storage =
+      let file : ImageFile _ = record { alloc = c.args.alloc; storage = c.load.new.storage; header = c.in-Ok.header; caches = c.in-Ok-new.caches; free_list = c.new-2.result } in
+      let tables = c.in-Ok-load_tables.field-0 in
+      let image : Qcow2 _ _ = record { number = c.args.number; is_failed = false; file = c.load_tables.new.file; l1_table = tables.l1_table; allocator = tables.allocator; backing = None } in
+      left_opened g.S.Storage.view c.args.writable c.args.storage.storage c.args.storage.storage file refl c.load.result c.load.ensures.reads c.in-Ok.ensures.ok tables image c.in-Ok-load_tables.ensures.storage;
+  since =
+      let view = g.S.Storage.view in
+      let below = g.F.BackingDisk.backing in
+      let contents = (view c.args.storage.storage).contents in
+      let read = c.load.ensures.reads in
+      let new = c.in-Ok-new.ensures in
+      let file : ImageFile _ = record { alloc = c.args.alloc; storage = c.load.new.storage; header = c.in-Ok.header; caches = c.in-Ok-new.caches; free_list = c.new-2.result } in
+      kept_opened view below c.load.result c.args.storage.storage c.args.storage.storage c.load_tables.new.file.storage.storage file c.load_tables.new.file refl refl read
+      (λ honest consistent. c.load_tables.ensures.since (nothing_pending (surplus_of c.in-Ok.header.fields (byte_at contents)))
+      (new_tables_new view below contents file consistent (read.honest honest) (read.same honest) (c.in-Ok.ensures.ok honest) new.sound new.known new.named_blocks (new.room (omega arith) (omega arith)) new.pins c.new-2.ensures));
+  another =
+      λ honest needs.
+      absurd (not_needed c.args.missing c.in-Ok.header (g.S.Storage.view c.args.storage.storage).contents (c.in-Ok.ensures.ok honest) (sym c.lacks_another.ensures ∙ c.if-lacks_another.false) needs);
+  cause =
+      opened_rightly g.S.Storage.view c.args.storage.storage c.args.storage.storage c.load.new.storage.storage refl c.args.writable c.args.missing c.load.result c.load.ensures.reads c.in-Ok.header c.in-Ok.ensures.ok c.in-Ok.ensures.aligned
+      (sym c.lacks_another.ensures ∙ c.if-lacks_another.false) c.in-Ok-load_tables.ensures.why;
+}
+
+pub returns-in-Ok-load_tables-clause-image : goal.returns-in-Ok-load_tables-clause-image
+returns-in-Ok-load_tables-clause-image g c = record {
+  number_is = refl;
+  works = refl;
+  writable_is = c.in-Ok-load_tables.ensures.allocator;
+  unpinned =
+      λ has.
+      let none : l2_pins c.in-Ok-new.caches has.cluster ≡ 0 = c.in-Ok-new.ensures.pins has.cluster in
+      let same : l2_pins c.load_tables.new.file.caches has.cluster ≡ l2_pins c.in-Ok-new.caches has.cluster = ap (λ caches. l2_pins caches has.cluster) c.load_tables.ensures.caches in
+      let some = has.pins in
+      omega (arith, none, same, some);
+  unmodified =
+      subst AreAllWritten (sym c.load_tables.ensures.caches) c.in-Ok-new.ensures.all_written;
+  header_cluster =
+      c.in-Ok-load_tables.ensures.header_cluster c.in-Ok-new.ensures.header_cluster;
+  format = λ honest. subst (λ (h : HeaderFields). SameFormat h c.load_tables.new.file.header.fields) (c.in-Ok.ensures.ok honest).fields c.in-Ok-load_tables.ensures.format;
+  names =
+      λ honest. named_still c.in-Ok.header c.load_tables.new.file.header (g.S.Storage.view c.args.storage.storage).contents (c.in-Ok.ensures.ok honest) c.in-Ok-load_tables.ensures.names;
+}
 
 pub returns-in-Ok-load_tables-clause-opens : goal.returns-in-Ok-load_tables-clause-opens
 returns-in-Ok-load_tables-clause-opens g c =
@@ -47,139 +184,3 @@ returns-in-Ok-load_tables-clause-list g c =
     (c.in-Ok-load_tables.ensures.loaded (nothing_pending (surplus_of c.in-Ok.header.fields (byte_at contents)))
     (new_tables_new view g.F.BackingDisk.backing contents (record { alloc = c.args.alloc; storage = c.load.new.storage; header = c.in-Ok.header; caches = c.in-Ok-new.caches; free_list = c.new-2.result }) consistent
     (read.honest honest) (read.same honest) (c.in-Ok.ensures.ok honest) new.sound new.known new.named_blocks (new.room (omega arith) (omega arith)) new.pins c.new-2.ensures)).new_tables.list
-
-pub returns-in-Err-clause-since : goal.returns-in-Err-clause-since
-returns-in-Err-clause-since g c = λ honest consistent.
-    let view = g.S.Storage.view in
-    subst (λ s. IsKeptSince (view c.args.storage.storage) (view s)) (sym c.into_inner.ensures)
-    (kept_loaded {result = c.load.result} (view c.args.storage.storage) (view c.load.new.storage.storage) c.load.ensures.reads honest)
-
-pub returns-in-Err-new-clause-since : goal.returns-in-Err-new-clause-since
-returns-in-Err-new-clause-since g c = λ honest consistent.
-    let view = g.S.Storage.view in
-    subst (λ s. IsKeptSince (view c.args.storage.storage) (view s)) (sym c.into_inner-in-Err-new.ensures)
-    (kept_loaded {result = c.load.result} (view c.args.storage.storage) (view c.load.new.storage.storage) c.load.ensures.reads honest)
-
-pub returns-in-Ok-load_tables-clause-since : goal.returns-in-Ok-load_tables-clause-since
-returns-in-Ok-load_tables-clause-since g c =
-    let view = g.S.Storage.view in
-    let below = g.F.BackingDisk.backing in
-    let contents = (view c.args.storage.storage).contents in
-    let read = c.load.ensures.reads in
-    let new = c.in-Ok-new.ensures in
-    let file : ImageFile _ = record { alloc = c.args.alloc; storage = c.load.new.storage; header = c.in-Ok.header; caches = c.in-Ok-new.caches; free_list = c.new-2.result } in
-    kept_opened view below c.load.result c.args.storage.storage c.args.storage.storage c.load_tables.new.file.storage.storage file c.load_tables.new.file refl refl read
-    (λ honest consistent. c.load_tables.ensures.since (nothing_pending (surplus_of c.in-Ok.header.fields (byte_at contents)))
-    (new_tables_new view below contents file consistent (read.honest honest) (read.same honest) (c.in-Ok.ensures.ok honest) new.sound new.known new.named_blocks (new.room (omega arith) (omega arith)) new.pins c.new-2.ensures))
-
-pub returns-in-Err-load_tables-clause-since : goal.returns-in-Err-load_tables-clause-since
-returns-in-Err-load_tables-clause-since g c =
-    let view = g.S.Storage.view in
-    let below = g.F.BackingDisk.backing in
-    let contents = (view c.args.storage.storage).contents in
-    let read = c.load.ensures.reads in
-    let new = c.in-Ok-new.ensures in
-    let file : ImageFile _ = record { alloc = c.args.alloc; storage = c.load.new.storage; header = c.in-Ok.header; caches = c.in-Ok-new.caches; free_list = c.new-2.result } in
-    kept_opened view below c.load.result c.args.storage.storage c.args.storage.storage c.into_storage.result file c.load_tables.new.file refl c.into_storage.ensures read
-    (λ honest consistent. c.load_tables.ensures.since (nothing_pending (surplus_of c.in-Ok.header.fields (byte_at contents)))
-    (new_tables_new view below contents file consistent (read.honest honest) (read.same honest) (c.in-Ok.ensures.ok honest) new.sound new.known new.named_blocks (new.room (omega arith) (omega arith)) new.pins c.new-2.ensures))
-
-pub returns-in-Ok-load_tables-clause-names : goal.returns-in-Ok-load_tables-clause-names
-returns-in-Ok-load_tables-clause-names g c =
-    λ honest. named_still c.in-Ok.header c.load_tables.new.file.header (g.S.Storage.view c.args.storage.storage).contents (c.in-Ok.ensures.ok honest) c.in-Ok-load_tables.ensures.names
-
-pub returns-in-Err-clause-another : goal.returns-in-Err-clause-another
-returns-in-Err-clause-another g c = λ honest needs.
-    let view = g.S.Storage.view in
-    let reads : HeaderReads (header (byte_at (view c.args.storage.storage).contents)) (byte_at (view c.args.storage.storage).contents) = needs.stands.reads in
-    let why = c.in-Err.ensures.refused honest in
-    (subst (λ (e : ImageError). (e ≡ Dependency) ⊎ (e ≡ UnalignedTable) ⊎ IsFault e) (sym c.from.ensures) (inr (refused_before _ _ c.args.writable c.in-Err.e reads why)), stays_so view c.args.storage.storage c.args.storage.storage c.load.new.storage.storage _ c.load.result refl c.into_inner.ensures c.load.ensures.reads honest)
-
-pub returns-then-lacks_another-clause-since : goal.returns-then-lacks_another-clause-since
-returns-then-lacks_another-clause-since g c = λ honest consistent.
-    let view = g.S.Storage.view in
-    subst (λ s. IsKeptSince (view c.args.storage.storage) (view s)) (sym c.into_inner-then-lacks_another.ensures)
-    (kept_loaded {result = c.load.result} (view c.args.storage.storage) (view c.load.new.storage.storage) c.load.ensures.reads honest)
-
-pub returns-then-lacks_another-clause-another : goal.returns-then-lacks_another-clause-another
-returns-then-lacks_another-clause-another g c = λ honest needs.
-    (inl refl, stays_so g.S.Storage.view c.args.storage.storage c.args.storage.storage c.load.new.storage.storage _ c.load.result refl c.into_inner-then-lacks_another.ensures c.load.ensures.reads honest)
-
-pub returns-in-Err-new-clause-another : goal.returns-in-Err-new-clause-another
-returns-in-Err-new-clause-another g c = λ honest needs.
-    absurd (not_needed c.args.missing c.in-Ok.header (g.S.Storage.view c.args.storage.storage).contents (c.in-Ok.ensures.ok honest) (sym c.lacks_another.ensures ∙ c.if-lacks_another.false) needs)
-
-pub returns-in-Ok-load_tables-clause-another : goal.returns-in-Ok-load_tables-clause-another
-returns-in-Ok-load_tables-clause-another g c = λ honest needs.
-    absurd (not_needed c.args.missing c.in-Ok.header (g.S.Storage.view c.args.storage.storage).contents (c.in-Ok.ensures.ok honest) (sym c.lacks_another.ensures ∙ c.if-lacks_another.false) needs)
-
-pub returns-in-Err-load_tables-clause-another : goal.returns-in-Err-load_tables-clause-another
-returns-in-Err-load_tables-clause-another g c = λ honest needs.
-    absurd (not_needed c.args.missing c.in-Ok.header (g.S.Storage.view c.args.storage.storage).contents (c.in-Ok.ensures.ok honest) (sym c.lacks_another.ensures ∙ c.if-lacks_another.false) needs)
-
-pub returns-in-Err-clause-cause : goal.returns-in-Err-clause-cause
-returns-in-Err-clause-cause g c = (
-  λ is. absurd (not_missing (of_metadata c.in-Err.e) (metadata_met c.in-Err.e) (sym c.from.ensures ∙ is)),
-  λ honest.
-      let view = g.S.Storage.view in
-      let why = c.in-Err.ensures.refused honest in
-      subst (IsRefusedRightly (view c.args.storage.storage).contents c.args.writable c.args.missing) (sym c.from.ensures) (header_refused (view c.args.storage.storage).contents c.args.writable c.args.missing c.in-Err.e why),
-)
-
-pub returns-then-lacks_another-clause-cause : goal.returns-then-lacks_another-clause-cause
-returns-then-lacks_another-clause-cause g c =
-    let so = sym c.lacks_another.ensures ∙ c.if-lacks_another.true in
-    (λ is. some_missing c.args.missing c.in-Ok.header so, needs_so g.S.Storage.view c.args.storage.storage c.args.storage.storage c.load.new.storage.storage refl c.args.writable c.args.missing c.load.result c.load.ensures.reads c.in-Ok.header c.in-Ok.ensures.ok c.in-Ok.ensures.aligned so)
-
-pub returns-in-Err-new-clause-cause : goal.returns-in-Err-new-clause-cause
-returns-in-Err-new-clause-cause g c = (
-  λ is. absurd (let bad : I.Memory ≡ Dependency = sym c.from-in-Err-new.ensures ∙ is in cc),
-  λ honest. subst (IsRefusedRightly (g.S.Storage.view c.args.storage.storage).contents c.args.writable c.args.missing) (sym c.from-in-Err-new.ensures) tt,
-)
-
-pub returns-in-Ok-load_tables-clause-cause : goal.returns-in-Ok-load_tables-clause-cause
-returns-in-Ok-load_tables-clause-cause g c =
-    opened_rightly g.S.Storage.view c.args.storage.storage c.args.storage.storage c.load.new.storage.storage refl c.args.writable c.args.missing c.load.result c.load.ensures.reads c.in-Ok.header c.in-Ok.ensures.ok c.in-Ok.ensures.aligned
-    (sym c.lacks_another.ensures ∙ c.if-lacks_another.false) c.in-Ok-load_tables.ensures.why
-
-pub returns-in-Err-load_tables-clause-cause : goal.returns-in-Err-load_tables-clause-cause
-returns-in-Err-load_tables-clause-cause g c = (
-  λ is. absurd (not_missing _ c.in-Err-load_tables.ensures.cause is),
-  refused_rightly g.S.Storage.view c.args.storage.storage c.args.storage.storage c.load.new.storage.storage refl c.args.writable c.args.missing c.load.result c.load.ensures.reads c.in-Ok.header c.in-Ok.ensures.ok c.in-Ok.ensures.aligned
-      c.in-Err-load_tables.e (sym c.lacks_another.ensures ∙ c.if-lacks_another.false) c.in-Err-load_tables.ensures.why,
-)
-
-pub returns-in-Err-clause-storage : goal.returns-in-Err-clause-storage
-returns-in-Err-clause-storage g c = left_loaded g.S.Storage.view c.args.writable c.args.storage.storage c.args.storage.storage c.load.new.storage.storage refl c.load.result c.load.ensures.reads _ c.into_inner.result c.into_inner.ensures
-
-pub returns-then-lacks_another-clause-storage : goal.returns-then-lacks_another-clause-storage
-returns-then-lacks_another-clause-storage g c = left_loaded g.S.Storage.view c.args.writable c.args.storage.storage c.args.storage.storage c.load.new.storage.storage refl c.load.result c.load.ensures.reads _ c.into_inner-then-lacks_another.result c.into_inner-then-lacks_another.ensures
-
-pub returns-in-Err-new-clause-storage : goal.returns-in-Err-new-clause-storage
-returns-in-Err-new-clause-storage g c = left_loaded g.S.Storage.view c.args.writable c.args.storage.storage c.args.storage.storage c.load.new.storage.storage refl c.load.result c.load.ensures.reads _ c.into_inner-in-Err-new.result c.into_inner-in-Err-new.ensures
-
-pub returns-in-Ok-load_tables-clause-storage : goal.returns-in-Ok-load_tables-clause-storage
-returns-in-Ok-load_tables-clause-storage g c =
-    let file : ImageFile _ = record { alloc = c.args.alloc; storage = c.load.new.storage; header = c.in-Ok.header; caches = c.in-Ok-new.caches; free_list = c.new-2.result } in
-    let tables = c.in-Ok-load_tables.field-0 in
-    let image : Qcow2 _ _ = record { number = c.args.number; is_failed = false; file = c.load_tables.new.file; l1_table = tables.l1_table; allocator = tables.allocator; backing = None } in
-    left_opened g.S.Storage.view c.args.writable c.args.storage.storage c.args.storage.storage file refl c.load.result c.load.ensures.reads c.in-Ok.ensures.ok tables image c.in-Ok-load_tables.ensures.storage
-
-pub returns-in-Err-load_tables-clause-storage : goal.returns-in-Err-load_tables-clause-storage
-returns-in-Err-load_tables-clause-storage g c =
-    let file : ImageFile _ = record { alloc = c.args.alloc; storage = c.load.new.storage; header = c.in-Ok.header; caches = c.in-Ok-new.caches; free_list = c.new-2.result } in
-    left_refused g.S.Storage.view c.args.writable c.args.storage.storage c.args.storage.storage file refl c.load.result c.load.ensures.reads c.in-Ok.ensures.ok c.load_tables.new.file c.in-Err-load_tables.e c.into_storage.result
-    c.into_storage.ensures c.in-Err-load_tables.ensures.storage
-
-pub returns-in-Ok-load_tables-clause-header_cluster : goal.returns-in-Ok-load_tables-clause-header_cluster
-returns-in-Ok-load_tables-clause-header_cluster g c = c.in-Ok-load_tables.ensures.header_cluster c.in-Ok-new.ensures.header_cluster
-
-pub returns-in-Ok-load_tables-clause-unmodified : goal.returns-in-Ok-load_tables-clause-unmodified
-returns-in-Ok-load_tables-clause-unmodified g c = subst AreAllWritten (sym c.load_tables.ensures.caches) c.in-Ok-new.ensures.all_written
-
-pub returns-in-Ok-load_tables-clause-unpinned : goal.returns-in-Ok-load_tables-clause-unpinned
-returns-in-Ok-load_tables-clause-unpinned g c = λ has.
-    let none : l2_pins c.in-Ok-new.caches has.cluster ≡ 0 = c.in-Ok-new.ensures.pins has.cluster in
-    let same : l2_pins c.load_tables.new.file.caches has.cluster ≡ l2_pins c.in-Ok-new.caches has.cluster = ap (λ caches. l2_pins caches has.cluster) c.load_tables.ensures.caches in
-    let some = has.pins in
-    omega (arith, none, same, some)

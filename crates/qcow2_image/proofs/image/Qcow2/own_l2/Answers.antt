@@ -1,6 +1,7 @@
+use Rattle.qcow2_image.specs.L1Entries.{HasNearEntry, HasOwnTable}
 use Rattle.qcow2_image.proofs.Call.ImageSteps.{step_none}
 use Rattle.qcow2_image.proofs.image.Qcow2.own_l2.Goals as goal
-use Rattle.std.proofs.Common.{◌≡◌, ◌*◌, ◌/◌, ◌^◌, Ok, arith, sym, ap, ◌∙◌, subst, ◌≤◌, inr, inl, rules}
+use Rattle.std.proofs.Common.{◌≡◌, ◌⊎◌, ◌*◌, ◌/◌, ◌^◌, Ok, arith, sym, ap, ◌∙◌, subst, ◌≤◌, inr, inl, rules}
 use Rattle.qcow2_metadata.specs.Entries.{host_offset, is_copied}
 use Rattle.qcow2_image.specs.Found.{l1_index_of}
 use Rattle.qcow2_image.specs.NewTables.{OwnsTable, MayName}
@@ -9,9 +10,7 @@ use Rattle.qcow2_metadata.specs.EntryTable.{entry_count}
 use Rattle.qcow2_metadata.specs.TableBytes.{entry_at}
 use Rattle.qcow2_image.proofs.Prepare.Lacking.{lacks_past, not_within, owns_or_lacks}
 use Rattle.qcow2_image.proofs.Call.BehindHeader.{behind_first}
-use Rattle.qcow2_image.proofs.Prepare.Listing.{some_none}
 use Rattle.qcow2_image.proofs.Prepare.Pinned.{whole_quotient}
-use Rattle.qcow2_image.specs.LackedPlaces.{HasNearEntry}
 use Rattle.qcow2_image.specs.UnseenSteps.{NamesOwn}
 
 pub returns-in_default-clause-quiet : goal.returns-in_default-clause-quiet
@@ -36,15 +35,6 @@ returns-in_default-clause-elsewhere g c = c.enter_l2.ensures.elsewhere
 
 pub returns-clause-elsewhere : goal.returns-clause-elsewhere
 returns-clause-elsewhere g c = c.replace_l2.ensures.elsewhere
-
-pub returns-then-entry-clause-former : goal.returns-then-entry-clause-former
-returns-then-entry-clause-former g c = some_none c.args.self.now c.requires.writable
-
-pub returns-in_default-clause-former : goal.returns-in_default-clause-former
-returns-in_default-clause-former g c = c.enter_l2.ensures.former
-
-pub returns-clause-former : goal.returns-clause-former
-returns-clause-former g c = c.replace_l2.ensures.former
 
 pub returns-then-entry-clause-own : goal.returns-then-entry-clause-own
 returns-then-entry-clause-own g c = λ own.
@@ -90,28 +80,23 @@ returns-clause-step g c = record {
 pub returns-then-not-in_bounds-clause-sound : goal.returns-then-not-in_bounds-clause-sound
 returns-then-not-in_bounds-clause-sound g c = λ p out sound.
     let view = g.S.Storage.view in
+    let below = g.F.BackingDisk.backing in
     let old = c.args.self.now in
+    let idx : c.l1_index-index.result ≡ l1_index_of old.file.header.fields c.args.offset =
+    c.l1_index-index.ensures ∙ ap (λ n. n / 2 ^ c.cluster_bits-bits.result / (2 ^ c.cluster_bits-bits.result / 8)) c.new.ensures ∙ ap (λ b. c.args.offset / 2 ^ b / (2 ^ b / 8)) c.cluster_bits-bits.ensures.value in
+    let past : entry_count old.l1_table ≤ l1_index_of old.file.header.fields c.args.offset = subst (λ i. entry_count old.l1_table ≤ i) idx (not_within c.in_bounds.result c.l1_index-index.result (entry_count old.l1_table) c.in_bounds.ensures c.if-not-in_bounds.true) in
+    let lacks = lacks_past view below out p old old sound c.args.offset past in
     record {
       met = search rules;
-      does = left_alone g.S.Storage.view g.F.BackingDisk.backing out p c.args.self.now sound c.l1_index-index.result _;
-      limited = λ own. let idx : c.l1_index-index.result ≡ l1_index_of old.file.header.fields c.args.offset =
-          c.l1_index-index.ensures ∙ ap (λ n. n / 2 ^ c.cluster_bits-bits.result / (2 ^ c.cluster_bits-bits.result / 8)) c.new.ensures ∙ ap (λ b. c.args.offset / 2 ^ b / (2 ^ b / 8)) c.cluster_bits-bits.ensures.value in
-          let past : entry_count old.l1_table ≤ l1_index_of old.file.header.fields c.args.offset = subst (λ i. entry_count old.l1_table ≤ i) idx (not_within c.in_bounds.result c.l1_index-index.result (entry_count old.l1_table) c.in_bounds.ensures c.if-not-in_bounds.true) in
-          absurd (lacks_past view g.F.BackingDisk.backing out p old old sound c.args.offset past (subst NamesOwn (sound.l1_table.entries (l1_index_of old.file.header.fields c.args.offset)) own));
-      limit = λ near. let idx : c.l1_index-index.result ≡ l1_index_of old.file.header.fields c.args.offset =
-          c.l1_index-index.ensures ∙ ap (λ n. n / 2 ^ c.cluster_bits-bits.result / (2 ^ c.cluster_bits-bits.result / 8)) c.new.ensures ∙ ap (λ b. c.args.offset / 2 ^ b / (2 ^ b / 8)) c.cluster_bits-bits.ensures.value in
-          let past : entry_count old.l1_table ≤ l1_index_of old.file.header.fields c.args.offset = subst (λ i. entry_count old.l1_table ≤ i) idx (not_within c.in_bounds.result c.l1_index-index.result (entry_count old.l1_table) c.in_bounds.ensures c.if-not-in_bounds.true) in
-          absurd (let within = near.within in omega (arith, past, within));
-      lacks = let idx : c.l1_index-index.result ≡ l1_index_of old.file.header.fields c.args.offset =
-          c.l1_index-index.ensures ∙ ap (λ n. n / 2 ^ c.cluster_bits-bits.result / (2 ^ c.cluster_bits-bits.result / 8)) c.new.ensures ∙ ap (λ b. c.args.offset / 2 ^ b / (2 ^ b / 8)) c.cluster_bits-bits.ensures.value in
-          inr (lacks_past view g.F.BackingDisk.backing out p old old sound c.args.offset (subst (λ i. entry_count old.l1_table ≤ i) idx (not_within c.in_bounds.result c.l1_index-index.result (entry_count old.l1_table) c.in_bounds.ensures c.if-not-in_bounds.true)));
+      does = left_alone view below out p old sound c.l1_index-index.result _;
+      limit = λ cause is. elim cause [ inl own ↦ absurd (lacks (subst NamesOwn (sound.l1_table.entries (l1_index_of old.file.header.fields c.args.offset)) own)) | inr near ↦ absurd (let within = near.within in omega (arith, past, within)) ];
+      lacks = inr lacks;
     }
 
 pub returns-in_err-table-clause-sound : goal.returns-in_err-table-clause-sound
 returns-in_err-table-clause-sound g c = λ p out sound.
     record {
       met = search rules;
-      limited = search rules;
       limit = search rules;
       lacks = search rules;
       does = refused (OwnsTable g.S.Storage.view g.F.BackingDisk.backing p c.args.self.now c.args.self.now out (l1_index_of c.args.self.now.file.header.fields c.args.offset)) c.from_residual.result c.from_residual.ensures.0
@@ -120,41 +105,24 @@ returns-in_err-table-clause-sound g c = λ p out sound.
 
 pub returns-in_default-clause-sound : goal.returns-in_default-clause-sound
 returns-in_default-clause-sound g c = λ p out sound.
-    let old = c.args.self.now in
     let view = g.S.Storage.view in
     let below = g.F.BackingDisk.backing in
-    let owns =
+    let old = c.args.self.now in
     let idx : c.l1_index-index.result ≡ l1_index_of old.file.header.fields c.args.offset =
     c.l1_index-index.ensures ∙ ap (λ n. n / 2 ^ c.cluster_bits-bits.result / (2 ^ c.cluster_bits-bits.result / 8)) c.new.ensures ∙ ap (λ b. c.args.offset / 2 ^ b / (2 ^ b / 8)) c.cluster_bits-bits.ensures.value in
-    let none = ap host_offset (sym (sound.l1_table.entries c.l1_index-index.result)) ∙ c.in_default.ensures.none in
-    subst (λ i. OwnsTable g.S.Storage.view g.F.BackingDisk.backing p old c.enter_l2.new.self out i c.enter_l2.result) idx
-    (entered_owns g.S.Storage.view g.F.BackingDisk.backing out p old sound c.l1_index-index.result none c.enter_l2.new.self c.enter_l2.result
-    (c.enter_l2.ensures.enters p out sound (may_none g.S.Storage.view g.F.BackingDisk.backing out p old sound c.l1_index-index.result none)
-    (says_none g.S.Storage.view g.F.BackingDisk.backing out p old sound c.l1_index-index.result none c.in_ok-table.table _ c.in_ok-table.ensures.table c.in_ok-table.ensures.zeros))) in
+    let empty = ap host_offset (sym (sound.l1_table.entries c.l1_index-index.result)) ∙ c.in_default.ensures.none in
+    let may = may_none view below out p old sound c.l1_index-index.result empty in
+    let entered = c.enter_l2.ensures.sound p out sound may (says_none view below out p old sound c.l1_index-index.result empty c.in_ok-table.table _ c.in_ok-table.ensures.table c.in_ok-table.ensures.zeros) in
+    let owns = subst (λ i. OwnsTable view below p old c.enter_l2.new.self out i c.enter_l2.result) idx (entered_owns view below out p old sound c.l1_index-index.result empty c.enter_l2.new.self c.enter_l2.result entered.does) in
+    let near : HasOwnTable old c.args.offset ⊎ HasNearEntry old (l1_index_of old.file.header.fields c.args.offset) → HasNearEntry old c.l1_index-index.result = λ cause. elim cause [
+      | inl own ↦ absurd (own.0 (ap (λ i. host_offset (entry_at old.l1_table.bytes i)) (sym idx) ∙ c.in_default.ensures.none))
+      | inr near ↦ subst (HasNearEntry old) (sym idx) near
+    ] in
     record {
       does = owns;
-      met = λ cause. let idx : c.l1_index-index.result ≡ l1_index_of old.file.header.fields c.args.offset =
-          c.l1_index-index.ensures ∙ ap (λ n. n / 2 ^ c.cluster_bits-bits.result / (2 ^ c.cluster_bits-bits.result / 8)) c.new.ensures ∙ ap (λ b. c.args.offset / 2 ^ b / (2 ^ b / 8)) c.cluster_bits-bits.ensures.value in
-          let empty = ap host_offset (sym (sound.l1_table.entries c.l1_index-index.result)) ∙ c.in_default.ensures.none in
-          elim cause [
-            | inl own ↦ absurd (own.0 (ap (λ i. host_offset (entry_at old.l1_table.bytes i)) (sym idx) ∙ c.in_default.ensures.none))
-            | inr near ↦
-                c.enter_l2.ensures.met p out sound (may_none view below out p old sound c.l1_index-index.result empty)
-                (says_none view below out p old sound c.l1_index-index.result empty c.in_ok-table.table _ c.in_ok-table.ensures.table c.in_ok-table.ensures.zeros) (subst (HasNearEntry old) (sym idx) near)
-          ];
-      limited = λ own. let idx : c.l1_index-index.result ≡ l1_index_of old.file.header.fields c.args.offset =
-          c.l1_index-index.ensures ∙ ap (λ n. n / 2 ^ c.cluster_bits-bits.result / (2 ^ c.cluster_bits-bits.result / 8)) c.new.ensures ∙ ap (λ b. c.args.offset / 2 ^ b / (2 ^ b / 8)) c.cluster_bits-bits.ensures.value in
-          absurd (own.0 (ap (λ i. host_offset (entry_at old.l1_table.bytes i)) (sym idx) ∙ c.in_default.ensures.none));
-      limit = λ near. let idx : c.l1_index-index.result ≡ l1_index_of old.file.header.fields c.args.offset =
-          c.l1_index-index.ensures ∙ ap (λ n. n / 2 ^ c.cluster_bits-bits.result / (2 ^ c.cluster_bits-bits.result / 8)) c.new.ensures ∙ ap (λ b. c.args.offset / 2 ^ b / (2 ^ b / 8)) c.cluster_bits-bits.ensures.value in
-          let none = ap host_offset (sym (sound.l1_table.entries c.l1_index-index.result)) ∙ c.in_default.ensures.none in
-          c.enter_l2.ensures.limit p out sound (may_none view below out p old sound c.l1_index-index.result none)
-          (says_none view below out p old sound c.l1_index-index.result none c.in_ok-table.table _ c.in_ok-table.ensures.table c.in_ok-table.ensures.zeros) (subst (HasNearEntry old) (sym idx) near);
-      lacks = let idx : c.l1_index-index.result ≡ l1_index_of old.file.header.fields c.args.offset =
-          c.l1_index-index.ensures ∙ ap (λ n. n / 2 ^ c.cluster_bits-bits.result / (2 ^ c.cluster_bits-bits.result / 8)) c.new.ensures ∙ ap (λ b. c.args.offset / 2 ^ b / (2 ^ b / 8)) c.cluster_bits-bits.ensures.value in
-          let none = ap host_offset (sym (sound.l1_table.entries c.l1_index-index.result)) ∙ c.in_default.ensures.none in
-          owns_or_lacks view below out p old c.enter_l2.new.self sound c.args.offset (subst (MayName view old) idx (may_none view below out p old sound c.l1_index-index.result none)) c.enter_l2.result
-          owns c.enter_l2.ensures.l1_table;
+      met = λ cause. entered.met (near cause);
+      limit = λ cause. entered.limit (near cause);
+      lacks = owns_or_lacks view below out p old c.enter_l2.new.self sound c.args.offset (subst (MayName view old) idx may) c.enter_l2.result owns c.enter_l2.ensures.l1_table;
     }
 
 pub returns-then-entry-clause-sound : goal.returns-then-entry-clause-sound
@@ -162,7 +130,6 @@ returns-then-entry-clause-sound g c = λ p out sound.
     let old = c.args.self.now in
     record {
       met = search rules;
-      limited = search rules;
       limit = search rules;
       lacks = search rules;
       does = let idx : c.l1_index-index.result ≡ l1_index_of old.file.header.fields c.args.offset =
@@ -177,45 +144,26 @@ returns-then-entry-clause-sound g c = λ p out sound.
 
 pub returns-clause-sound : goal.returns-clause-sound
 returns-clause-sound g c = λ p out sound.
-    let old = c.args.self.now in
     let view = g.S.Storage.view in
-    let owns =
+    let below = g.F.BackingDisk.backing in
+    let old = c.args.self.now in
     let idx : c.l1_index-index.result ≡ l1_index_of old.file.header.fields c.args.offset =
     c.l1_index-index.ensures ∙ ap (λ n. n / 2 ^ c.cluster_bits-bits.result / (2 ^ c.cluster_bits-bits.result / 8)) c.new.ensures ∙ ap (λ b. c.args.offset / 2 ^ b / (2 ^ b / 8)) c.cluster_bits-bits.ensures.value in
     let offset = ap host_offset (sym (sound.l1_table.entries c.l1_index-index.result)) ∙ sym c.in-Some.ensures.offset in
-    subst (λ i. OwnsTable g.S.Storage.view g.F.BackingDisk.backing p old c.replace_l2.new.self out i c.replace_l2.result) idx
-    (c.replace_l2.ensures.owns p out sound (record {
+    let may : MayName view old c.l1_index-index.result = λ own. absurd (let is = sym own.1 ∙ ap is_copied (sym (sound.l1_table.entries c.l1_index-index.result)) ∙ sym c.in-Some.ensures.copied ∙ c.if-entry.false in cc) in
+    let replaced = c.replace_l2.ensures.sound p out sound (record {
       place = offset ∙ sym c.in-Some-checked_cluster.ensures.cluster ∙ ap (λ b. c.in-Some-checked_cluster.cluster * 2 ^ b) c.cluster_bits-bits.ensures.value;
       real = λ none. absurd (let some = c.in-Some.ensures.some in omega (arith, some, none, offset));
-      may = λ own. absurd (let is = sym own.1 ∙ ap is_copied (sym (sound.l1_table.entries c.l1_index-index.result)) ∙ sym c.in-Some.ensures.copied ∙ c.if-entry.false in cc);
-    })) in
+      may = may;
+    }) in
+    let owns = subst (λ i. OwnsTable view below p old c.replace_l2.new.self out i c.replace_l2.result) idx replaced.does in
+    let near : HasOwnTable old c.args.offset ⊎ HasNearEntry old (l1_index_of old.file.header.fields c.args.offset) → HasNearEntry old c.l1_index-index.result = λ cause. elim cause [
+      | inl own ↦ absurd (let is = sym own.1 ∙ ap (λ i. is_copied (entry_at old.l1_table.bytes i)) (sym idx) ∙ sym c.in-Some.ensures.copied ∙ c.if-entry.false in cc)
+      | inr near ↦ subst (HasNearEntry old) (sym idx) near
+    ] in
     record {
       does = owns;
-      met = λ cause. let idx : c.l1_index-index.result ≡ l1_index_of old.file.header.fields c.args.offset =
-          c.l1_index-index.ensures ∙ ap (λ n. n / 2 ^ c.cluster_bits-bits.result / (2 ^ c.cluster_bits-bits.result / 8)) c.new.ensures ∙ ap (λ b. c.args.offset / 2 ^ b / (2 ^ b / 8)) c.cluster_bits-bits.ensures.value in
-          let offset = ap host_offset (sym (sound.l1_table.entries c.l1_index-index.result)) ∙ sym c.in-Some.ensures.offset in
-          elim cause [
-            | inl own ↦ absurd (let is = sym own.1 ∙ ap (λ i. is_copied (entry_at old.l1_table.bytes i)) (sym idx) ∙ sym c.in-Some.ensures.copied ∙ c.if-entry.false in cc)
-            | inr near ↦
-                c.replace_l2.ensures.met p out sound (record {
-                  place = offset ∙ sym c.in-Some-checked_cluster.ensures.cluster ∙ ap (λ b. c.in-Some-checked_cluster.cluster * 2 ^ b) c.cluster_bits-bits.ensures.value;
-                  real = λ zero. absurd (let some = c.in-Some.ensures.some in omega (arith, some, zero, offset));
-                  may = λ own. absurd (let is = sym own.1 ∙ ap is_copied (sym (sound.l1_table.entries c.l1_index-index.result)) ∙ sym c.in-Some.ensures.copied ∙ c.if-entry.false in cc);
-                }) (subst (HasNearEntry old) (sym idx) near)
-          ];
-      limited = λ own. let idx : c.l1_index-index.result ≡ l1_index_of old.file.header.fields c.args.offset =
-          c.l1_index-index.ensures ∙ ap (λ n. n / 2 ^ c.cluster_bits-bits.result / (2 ^ c.cluster_bits-bits.result / 8)) c.new.ensures ∙ ap (λ b. c.args.offset / 2 ^ b / (2 ^ b / 8)) c.cluster_bits-bits.ensures.value in
-          absurd (let is = sym own.1 ∙ ap (λ i. is_copied (entry_at old.l1_table.bytes i)) (sym idx) ∙ sym c.in-Some.ensures.copied ∙ c.if-entry.false in cc);
-      limit = λ near. let idx : c.l1_index-index.result ≡ l1_index_of old.file.header.fields c.args.offset =
-          c.l1_index-index.ensures ∙ ap (λ n. n / 2 ^ c.cluster_bits-bits.result / (2 ^ c.cluster_bits-bits.result / 8)) c.new.ensures ∙ ap (λ b. c.args.offset / 2 ^ b / (2 ^ b / 8)) c.cluster_bits-bits.ensures.value in
-          let offset = ap host_offset (sym (sound.l1_table.entries c.l1_index-index.result)) ∙ sym c.in-Some.ensures.offset in
-          c.replace_l2.ensures.limit p out sound (record {
-            place = offset ∙ sym c.in-Some-checked_cluster.ensures.cluster ∙ ap (λ b. c.in-Some-checked_cluster.cluster * 2 ^ b) c.cluster_bits-bits.ensures.value;
-            real = λ none. absurd (let some = c.in-Some.ensures.some in omega (arith, some, none, offset));
-            may = λ own. absurd (let is = sym own.1 ∙ ap is_copied (sym (sound.l1_table.entries c.l1_index-index.result)) ∙ sym c.in-Some.ensures.copied ∙ c.if-entry.false in cc);
-          }) (subst (HasNearEntry old) (sym idx) near);
-      lacks = let idx : c.l1_index-index.result ≡ l1_index_of old.file.header.fields c.args.offset =
-          c.l1_index-index.ensures ∙ ap (λ n. n / 2 ^ c.cluster_bits-bits.result / (2 ^ c.cluster_bits-bits.result / 8)) c.new.ensures ∙ ap (λ b. c.args.offset / 2 ^ b / (2 ^ b / 8)) c.cluster_bits-bits.ensures.value in
-          let may : MayName view old c.l1_index-index.result = λ own. absurd (let is = sym own.1 ∙ ap is_copied (sym (sound.l1_table.entries c.l1_index-index.result)) ∙ sym c.in-Some.ensures.copied ∙ c.if-entry.false in cc) in
-          owns_or_lacks view g.F.BackingDisk.backing out p old c.replace_l2.new.self sound c.args.offset (subst (MayName view old) idx may) c.replace_l2.result owns c.replace_l2.ensures.l1_table;
+      met = λ cause. replaced.met (near cause);
+      limit = λ cause. replaced.limit (near cause);
+      lacks = owns_or_lacks view below out p old c.replace_l2.new.self sound c.args.offset (subst (MayName view old) idx may) c.replace_l2.result owns c.replace_l2.ensures.l1_table;
     }

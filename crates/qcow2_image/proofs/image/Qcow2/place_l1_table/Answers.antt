@@ -22,10 +22,10 @@ returns-in_err-flush_rb-clause-places g c = λ p out sound longer.
     let below = g.F.BackingDisk.backing in
     let old = c.args.self.now in
     let q = with_table p c.args.table.now c.args.cluster in
-    let stay = c.flush_rb.ensures.keeps old.file.header.fields q sound.file.honest sound.file.caches in
+    let stay = c.flush_rb.ensures.sound.keeps old.file.header.fields q sound.file.honest sound.file.caches in
     handed_on (PlacesTable view below q old (with_caches view below old out q sound c.flush_rb.new.storage c.flush_rb.new.self) out c.set_cluster.new.self c.args.cluster)
     c.from_residual.result c.in_err-flush_rb.field-0.0 c.from_residual.ensures
-    (caches_moved view below old out q sound c.flush_rb.new.storage c.flush_rb.new.self stay c.flush_rb.ensures.marks.room c.flush_rb.ensures.marks.pins)
+    (caches_moved view below old out q sound c.flush_rb.new.storage c.flush_rb.new.self stay c.flush_rb.ensures.step.marks.pins.room c.flush_rb.ensures.step.marks.pins.pins)
 
 pub returns-in_err-write_l1_table-clause-places : goal.returns-in_err-write_l1_table-clause-places
 returns-in_err-write_l1_table-clause-places g c = λ p out sound longer.
@@ -34,14 +34,14 @@ returns-in_err-write_l1_table-clause-places g c = λ p out sound longer.
     let old = c.args.self.now in
     let t = c.args.table.now in
     let q = with_table p t c.args.cluster in
-    let stay = c.flush_rb.ensures.keeps old.file.header.fields q sound.file.honest sound.file.caches in
-    let kept = caches_moved view below old out q sound c.flush_rb.new.storage c.flush_rb.new.self stay c.flush_rb.ensures.marks.room c.flush_rb.ensures.marks.pins in
+    let stay = c.flush_rb.ensures.sound.keeps old.file.header.fields q sound.file.honest sound.file.caches in
+    let kept = caches_moved view below old out q sound c.flush_rb.new.storage c.flush_rb.new.self stay c.flush_rb.ensures.step.marks.pins.room c.flush_rb.ensures.step.marks.pins.pins in
     let image = with_caches view below old out q sound c.flush_rb.new.storage c.flush_rb.new.self in
     let there : IsLongerL1 image t = record { bits = longer.bits; whole = longer.whole; longer = longer.longer; entries = longer.entries } in
     let new = record image { file = record image.file { storage = c.write_l1_table.new.self } } in
     handed_on (PlacesTable view below q old new out c.set_cluster.new.self c.args.cluster) c.from_residual-in_err-write_l1_table.result (of_storage c.in_err-write_l1_table.field-0.0) c.from_residual-in_err-write_l1_table.ensures
     (keeps_then view below out old image new q q q (λ k some. some) kept
-    (keeps_placed view below out p image t c.args.cluster kept.sound there c.in_ok-flush_rb.ensures.written c.in_ok-flush_rb.ensures.first (storage_of c.will_write.new.self) (storage_of c.write_l1_table.new.self) c.write_l1_table.result c.will_write.ensures.storage
+    (keeps_placed view below out p image t c.args.cluster kept.sound there c.in_ok-flush_rb.ensures.flushes.written c.in_ok-flush_rb.ensures.flushes.first (storage_of c.will_write.new.self) (storage_of c.write_l1_table.new.self) c.write_l1_table.result c.will_write.ensures.storage
     (table_write_as view t c.args.cluster old.file.header.fields.cluster_bits c.set_cluster.new.self c.write_l1_table.result (storage_of c.will_write.new.self) (storage_of c.write_l1_table.new.self) c.set_cluster.ensures longer.bits c.write_l1_table.ensures.written)
     c.write_l1_table.ensures.calls c.write_l1_table.new.self refl))
 
@@ -52,16 +52,16 @@ returns-clause-places g c = λ p out sound longer.
     let old = c.args.self.now in
     let t = c.args.table.now in
     let q = with_table p t c.args.cluster in
-    let stay = c.flush_rb.ensures.keeps old.file.header.fields q sound.file.honest sound.file.caches in
-    let kept = caches_moved view below old out q sound c.flush_rb.new.storage c.flush_rb.new.self stay c.flush_rb.ensures.marks.room c.flush_rb.ensures.marks.pins in
+    let stay = c.flush_rb.ensures.sound.keeps old.file.header.fields q sound.file.honest sound.file.caches in
+    let kept = caches_moved view below old out q sound c.flush_rb.new.storage c.flush_rb.new.self stay c.flush_rb.ensures.step.marks.pins.room c.flush_rb.ensures.step.marks.pins.pins in
     let image = with_caches view below old out q sound c.flush_rb.new.storage c.flush_rb.new.self in
     let there : IsLongerL1 image t = record { bits = longer.bits; whole = longer.whole; longer = longer.longer; entries = longer.entries } in
     let new = record image { file = record image.file { storage = c.write_l1_table.new.self } } in
     let wrote = table_write_as view t c.args.cluster old.file.header.fields.cluster_bits c.set_cluster.new.self c.write_l1_table.result (storage_of c.will_write.new.self) (storage_of c.write_l1_table.new.self) c.set_cluster.ensures longer.bits c.write_l1_table.ensures.written in (
       keeps_then view below out old image new q q q (λ k some. some) kept
-          (keeps_placed view below out p image t c.args.cluster kept.sound there c.in_ok-flush_rb.ensures.written c.in_ok-flush_rb.ensures.first (storage_of c.will_write.new.self) (storage_of c.write_l1_table.new.self) c.write_l1_table.result c.will_write.ensures.storage wrote
+          (keeps_placed view below out p image t c.args.cluster kept.sound there c.in_ok-flush_rb.ensures.flushes.written c.in_ok-flush_rb.ensures.flushes.first (storage_of c.will_write.new.self) (storage_of c.write_l1_table.new.self) c.write_l1_table.result c.will_write.ensures.storage wrote
           c.write_l1_table.ensures.calls c.write_l1_table.new.self refl),
-      stands_whole view below out p image t c.args.cluster kept.sound there c.in_ok-flush_rb.ensures.written c.in_ok-flush_rb.ensures.first (storage_of c.will_write.new.self) (storage_of c.write_l1_table.new.self) c.write_l1_table.result c.will_write.ensures.storage wrote
+      stands_whole view below out p image t c.args.cluster kept.sound there c.in_ok-flush_rb.ensures.flushes.written c.in_ok-flush_rb.ensures.flushes.first (storage_of c.will_write.new.self) (storage_of c.write_l1_table.new.self) c.write_l1_table.result c.will_write.ensures.storage wrote
           c.write_l1_table.ensures.calls c.write_l1_table.new.self refl c.set_cluster.new.self c.set_cluster.ensures c.in_ok-write_l1_table.field-0 c.in_ok-write_l1_table.was,
     )
 
@@ -72,29 +72,29 @@ pub returns-then-not-is_nameable-clause-notes : goal.returns-then-not-is_nameabl
 returns-then-not-is_nameable-clause-notes g c = notes_none
 
 pub returns-in_err-flush_rb-clause-notes : goal.returns-in_err-flush_rb-clause-notes
-returns-in_err-flush_rb-clause-notes g c = (notes_of_both c.flush_rb.ensures.marks c.flush_rb.ensures.notes)
+returns-in_err-flush_rb-clause-notes g c = (notes_of_both c.flush_rb.ensures.step.marks.pins c.flush_rb.ensures.step.marks.notes)
 
 pub returns-in_err-write_l1_table-clause-notes : goal.returns-in_err-write_l1_table-clause-notes
-returns-in_err-write_l1_table-clause-notes g c = notes_then (notes_of_both c.flush_rb.ensures.marks c.flush_rb.ensures.notes) (notes_of_storage (placed_kept c.flush_rb.new.storage c.will_write.new.self c.write_l1_table.new.self c.write_l1_table.result c.will_write.ensures.storage c.will_write.ensures.changed c.set_cluster.new.self.cluster _ (subst (λ (x : EntryTableView). IsSome x.cluster) (sym c.set_cluster.ensures) refl) c.write_l1_table.ensures.written c.write_l1_table.ensures.calls c.write_l1_table.ensures.noted))
+returns-in_err-write_l1_table-clause-notes g c = notes_then (notes_of_both c.flush_rb.ensures.step.marks.pins c.flush_rb.ensures.step.marks.notes) (notes_of_storage (placed_kept c.flush_rb.new.storage c.will_write.new.self c.write_l1_table.new.self c.write_l1_table.result c.will_write.ensures.storage c.will_write.ensures.changed c.set_cluster.new.self.cluster _ (subst (λ (x : EntryTableView). IsSome x.cluster) (sym c.set_cluster.ensures) refl) c.write_l1_table.ensures.written c.write_l1_table.ensures.calls c.write_l1_table.ensures.noted))
 
 pub returns-clause-notes : goal.returns-clause-notes
-returns-clause-notes g c = notes_then (notes_of_both c.flush_rb.ensures.marks c.flush_rb.ensures.notes) (notes_of_storage (placed_kept c.flush_rb.new.storage c.will_write.new.self c.write_l1_table.new.self c.write_l1_table.result c.will_write.ensures.storage c.will_write.ensures.changed c.set_cluster.new.self.cluster _ (subst (λ (x : EntryTableView). IsSome x.cluster) (sym c.set_cluster.ensures) refl) c.write_l1_table.ensures.written c.write_l1_table.ensures.calls c.write_l1_table.ensures.noted))
+returns-clause-notes g c = notes_then (notes_of_both c.flush_rb.ensures.step.marks.pins c.flush_rb.ensures.step.marks.notes) (notes_of_storage (placed_kept c.flush_rb.new.storage c.will_write.new.self c.write_l1_table.new.self c.write_l1_table.result c.will_write.ensures.storage c.will_write.ensures.changed c.set_cluster.new.self.cluster _ (subst (λ (x : EntryTableView). IsSome x.cluster) (sym c.set_cluster.ensures) refl) c.write_l1_table.ensures.written c.write_l1_table.ensures.calls c.write_l1_table.ensures.noted))
 
 pub returns-then-not-is_nameable-clause-header_cluster : goal.returns-then-not-is_nameable-clause-header_cluster
 returns-then-not-is_nameable-clause-header_cluster g c = λ as_wide some. behind_none
 
 pub returns-in_err-flush_rb-clause-header_cluster : goal.returns-in_err-flush_rb-clause-header_cluster
-returns-in_err-flush_rb-clause-header_cluster g c = λ as_wide some. behind_caches c.flush_rb.ensures.header_cluster
+returns-in_err-flush_rb-clause-header_cluster g c = λ as_wide some. behind_caches c.flush_rb.ensures.step.header_cluster
 
 pub returns-in_err-write_l1_table-clause-header_cluster : goal.returns-in_err-write_l1_table-clause-header_cluster
 returns-in_err-write_l1_table-clause-header_cluster g c = λ as_wide some.
-    behind_then (behind_caches c.flush_rb.ensures.header_cluster)
+    behind_then (behind_caches c.flush_rb.ensures.step.header_cluster)
     (behind_placed c.write_l1_table.result c.set_cluster.new.self.cluster (λ k. k * 2 ^ c.set_cluster.new.self.cluster_bits) _ (ap g.S.Storage.view c.will_write.ensures.storage) (subst (λ (x : EntryTableView). IsSome x.cluster) (sym c.set_cluster.ensures) refl)
     (λ bits lies. begins_behind c.set_cluster.new.self bits (l1_placed c.args.self.now.l1_table c.args.self.now.l1_table c.args.table.now c.set_cluster.new.self c.args.cluster refl c.set_cluster.ensures as_wide some bits lies.l1)) c.write_l1_table.ensures.written c.write_l1_table.ensures.calls)
 
 pub returns-clause-header_cluster : goal.returns-clause-header_cluster
 returns-clause-header_cluster g c = λ as_wide some.
-    behind_then (behind_caches c.flush_rb.ensures.header_cluster)
+    behind_then (behind_caches c.flush_rb.ensures.step.header_cluster)
     (behind_placed c.write_l1_table.result c.set_cluster.new.self.cluster (λ k. k * 2 ^ c.set_cluster.new.self.cluster_bits) _ (ap g.S.Storage.view c.will_write.ensures.storage) (subst (λ (x : EntryTableView). IsSome x.cluster) (sym c.set_cluster.ensures) refl)
     (λ bits lies. begins_behind c.set_cluster.new.self bits (l1_placed c.args.self.now.l1_table c.args.self.now.l1_table c.args.table.now c.set_cluster.new.self c.args.cluster refl c.set_cluster.ensures as_wide some bits lies.l1)) c.write_l1_table.ensures.written c.write_l1_table.ensures.calls)
 

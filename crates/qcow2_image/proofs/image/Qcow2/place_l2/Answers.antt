@@ -14,8 +14,7 @@ use Rattle.qcow2_image.proofs.Prepare.Placing.{holds, keeps_placed, keeps_put, k
 use Rattle.qcow2_alloc.proofs.KeptMarks.{notes_none, notes_then, notes_of_both, notes_of_storage, placed_kept}
 use Rattle.qcow2_image.proofs.Call.BehindHeader.{behind_caches, behind_none, behind_placed, behind_then, table_behind}
 use Rattle.qcow2_alloc.specs.SparedHeaders.{CachesSpareHeader}
-use Rattle.qcow2_image.proofs.Prepare.Lacked.{hands_unlimited, in_use_all}
-use Rattle.qcow2_image.proofs.Call.Unlimited.{storage_fault, storage_unlimited}
+use Rattle.qcow2_image.proofs.Call.Unlimited.{storage_fault}
 use Rattle.qcow2_alloc.proofs.Outcomes.{not_both}
 use Rattle.qcow2_metadata.specs.L2Mapping.{IsHostCluster}
 use Rattle.qcow2_image.proofs.Prepare.MetTables.{faults_looking, put_refused}
@@ -51,28 +50,16 @@ returns-clause-places g c = λ p out sound some format stored.
     let there = stands_there view below old out p sound stored at some c.write_new_l2_table.new.self (storage_of c.will_write.new.self) c.args.table c.set_cluster.new.self c.write_new_l2_table.result c.will_write.ensures.storage c.set_cluster.ensures format.bits whole
     c.write_new_l2_table.ensures.written c.write_new_l2_table.ensures.calls c.in_ok-write_new_l2_table.field-0 c.in_ok-write_new_l2_table.was in
     let is : c.clear_modified.new.self ≡ record c.args.table { cluster = Some at; is_modified = false } = c.clear_modified.ensures ∙ ap (λ (t : L2TableView). record t { is_modified = false }) c.set_cluster.ensures in
-    let puts = subst (λ (t : L2TableView). PutSound view c.write_new_l2_table.new.self old.file.caches c.l2_insert.new.storage c.l2_insert.new.self (λ h. IsTableOf h t) t.cluster t.bytes t.is_modified) is c.l2_insert.ensures.keeps in
-    let new_data = subst (λ (t : L2TableView). OnOk c.l2_insert.result (IfSome t.cluster (λ k. l2_at c.l2_insert.new.self k ≡ Some t))) is c.l2_insert.ensures.cached in
+    let puts = subst (λ (t : L2TableView). PutSound view c.write_new_l2_table.new.self old.file.caches c.l2_insert.new.storage c.l2_insert.new.self (λ h. IsTableOf h t) t.cluster t.bytes t.is_modified) is c.l2_insert.ensures.sound.keeps in
+    let new_data = subst (λ (t : L2TableView). OnOk c.l2_insert.result (IfSome t.cluster (λ k. l2_at c.l2_insert.new.self k ≡ Some t))) is c.l2_insert.ensures.puts.cached in
     let unmodified = ap (λ (t : L2TableView). t.is_modified) is in
     let stays = puts h p wrote.sound.file.honest wrote.sound.file.caches (record { bits = format.bits; zero_bit = format.zero_bit; external = format.external }) refl (holds view below mid out p wrote.sound still at some c.args.table.bytes long there) in
-    let put = keeps_put view below mid out p wrote.sound still at some c.args.table.bytes long there c.l2_insert.new.storage c.l2_insert.new.self stays c.l2_insert.ensures.marks.room c.l2_insert.ensures.marks.pins c.l2_insert.ensures.blocks
-    (λ may. c.l2_insert.ensures.first may unmodified) in
+    let put = keeps_put view below mid out p wrote.sound still at some c.args.table.bytes long there c.l2_insert.new.storage c.l2_insert.new.self stays c.l2_insert.ensures.step.marks.pins.room c.l2_insert.ensures.step.marks.pins.pins c.l2_insert.ensures.written.blocks
+    (λ may. c.l2_insert.ensures.written.first may unmodified) in
     places_when view below old new out p at c.args.table.bytes c.l2_insert.result (keeps_then view below out old mid new p p p (λ k h. h) wrote put)
     (if_ok c.l2_insert.result
-    (λ x found. stands_ready view below mid out p wrote.sound still at some c.args.table.bytes long there c.l2_insert.new.storage c.l2_insert.new.self stays c.l2_insert.ensures.marks.room c.l2_insert.ensures.marks.pins c.l2_insert.ensures.blocks
-    (λ may. c.l2_insert.ensures.first may unmodified) (record c.args.table { cluster = Some at; is_modified = false }) found refl) new_data)
-
-pub returns-then-not-is_nameable-clause-limited : goal.returns-then-not-is_nameable-clause-limited
-returns-then-not-is_nameable-clause-limited g c = λ p out sound some format stored near. not_both c.is_nameable.result (c.is_nameable.ensures.1 (subst (λ n. IsHostCluster n c.args.cluster) (sym c.cluster_bits.ensures.value) near)) c.if-not-is_nameable.true
-
-pub returns-in_err-write_new_l2_table-clause-limited : goal.returns-in_err-write_new_l2_table-clause-limited
-returns-in_err-write_new_l2_table-clause-limited g c = λ p out sound some format stored near. hands_unlimited c.from_residual.result (of_storage c.in_err-write_new_l2_table.field-0.0) c.from_residual.ensures (storage_unlimited c.in_err-write_new_l2_table.field-0.0)
-
-pub returns-clause-limited : goal.returns-clause-limited
-returns-clause-limited g c = λ p out sound some format stored near.
-    in_use_all c.args.self.now.file.caches c.l2_insert.result
-    (put_refused g.S.Storage.view g.F.BackingDisk.backing c.args.self.now out p sound stored c.args.cluster some c.write_new_l2_table.new.self (storage_of c.will_write.new.self) c.args.table c.set_cluster.new.self c.clear_modified.new.self c.write_new_l2_table.result c.in_ok-write_new_l2_table.field-0 c.l2_insert.result
-    c.will_write.ensures.storage c.set_cluster.ensures c.clear_modified.ensures format (subst (λ (t : L2TableView). length t.bytes ≡ 2 ^ t.cluster_bits) c.table.view_is c.table.invariant.whole) c.write_new_l2_table.ensures.written c.write_new_l2_table.ensures.calls c.in_ok-write_new_l2_table.was c.l2_insert.ensures.refusals)
+    (λ x found. stands_ready view below mid out p wrote.sound still at some c.args.table.bytes long there c.l2_insert.new.storage c.l2_insert.new.self stays c.l2_insert.ensures.step.marks.pins.room c.l2_insert.ensures.step.marks.pins.pins c.l2_insert.ensures.written.blocks
+    (λ may. c.l2_insert.ensures.written.first may unmodified) (record c.args.table { cluster = Some at; is_modified = false }) found refl) new_data)
 
 pub returns-clause-met : goal.returns-clause-met
 returns-clause-met g c = λ p out sound some format stored near.
@@ -102,11 +89,11 @@ returns-in_err-write_new_l2_table-clause-step g c = record {
 pub returns-clause-step : goal.returns-clause-step
 returns-clause-step g c = record {
   stays = search rules;
-  notes = notes_then (notes_of_storage (placed_kept c.args.self.now.file.storage c.will_write.new.self c.write_new_l2_table.new.self c.write_new_l2_table.result c.will_write.ensures.storage c.will_write.ensures.changed c.set_cluster.new.self.cluster _ (subst (λ (x : L2TableView). IsSome x.cluster) (sym c.set_cluster.ensures) refl) c.write_new_l2_table.ensures.written c.write_new_l2_table.ensures.calls c.write_new_l2_table.ensures.noted)) (notes_of_both c.l2_insert.ensures.marks c.l2_insert.ensures.notes);
+  notes = notes_then (notes_of_storage (placed_kept c.args.self.now.file.storage c.will_write.new.self c.write_new_l2_table.new.self c.write_new_l2_table.result c.will_write.ensures.storage c.will_write.ensures.changed c.set_cluster.new.self.cluster _ (subst (λ (x : L2TableView). IsSome x.cluster) (sym c.set_cluster.ensures) refl) c.write_new_l2_table.ensures.written c.write_new_l2_table.ensures.calls c.write_new_l2_table.ensures.noted)) (notes_of_both c.l2_insert.ensures.step.marks.pins c.l2_insert.ensures.step.marks.notes);
   header_cluster = λ some.
       let as_wide : c.args.table.cluster_bits ≡ c.args.self.now.file.header.fields.cluster_bits = omega arith in
       let is : c.clear_modified.new.self ≡ record c.args.table { cluster = Some c.args.cluster; is_modified = false } = c.clear_modified.ensures ∙ ap (λ (t : L2TableView). record t { is_modified = false }) c.set_cluster.ensures in
-      let spares = subst (λ (t : L2TableView). IfSome t.cluster (λ cluster. 0 < cluster → CachesSpareHeader g.S.Storage.view c.write_new_l2_table.new.self c.args.self.now.file.caches c.l2_insert.new.storage c.l2_insert.new.self)) is c.l2_insert.ensures.header_cluster in
+      let spares = subst (λ (t : L2TableView). IfSome t.cluster (λ cluster. 0 < cluster → CachesSpareHeader g.S.Storage.view c.write_new_l2_table.new.self c.args.self.now.file.caches c.l2_insert.new.storage c.l2_insert.new.self)) is c.l2_insert.ensures.step.header_cluster in
       behind_then
       (behind_placed c.write_new_l2_table.result c.set_cluster.new.self.cluster (λ k. k * 2 ^ c.set_cluster.new.self.cluster_bits) c.set_cluster.new.self.bytes (ap g.S.Storage.view c.will_write.ensures.storage) (subst (λ (x : L2TableView). IsSome x.cluster) (sym c.set_cluster.ensures) refl)
       (λ bits lies. table_behind c.args.table c.set_cluster.new.self c.args.cluster c.set_cluster.ensures bits (as_wide ∙ lies.header) some) c.write_new_l2_table.ensures.written c.write_new_l2_table.ensures.calls)

@@ -5,9 +5,7 @@ use Rattle.std.specs.Prelude.{IsTrue}
 use Rattle.qcow2_alloc.specs.ImageError.{IsFault}
 use Rattle.qcow2_image.proofs.Call.Refused.{back_then_freed}
 use Rattle.qcow2_image.proofs.Call.FaultCounts.{counted_as, counted_of, untouched}
-use Rattle.qcow2_image.proofs.Prepare.Lacked.{emptied_by_limit, limited_frees}
-use Rattle.qcow2_image.proofs.Prepare.LackedBehind.{range_freed}
-use Rattle.qcow2_image.specs.Image.{HasNothingToFree}
+use Rattle.qcow2_image.proofs.Prepare.Lacked.{limited_frees}
 use Rattle.qcow2_alloc.specs.ImageFile.{known_in}
 use Rattle.qcow2_image.specs.L1Entries.{NeedsFarEntry}
 use Rattle.qcow2_image.specs.MetAlone.{CopiesCompressed, IsMetTaking}
@@ -15,14 +13,11 @@ use Rattle.qcow2_image.proofs.Prepare.MetTables.{met_freed}
 use Rattle.qcow2_image.specs.Backings.{HasPrepared}
 use Rattle.qcow2_image.specs.Preparing.{IsTaken}
 
-pub returns-in-Err-clause-listed : goal.returns-in-Err-clause-listed
-returns-in-Err-clause-listed g c = λ some out sound. ⊎_elim
+pub returns-in-Err-clause-freed : goal.returns-in-Err-clause-freed
+returns-in-Err-clause-freed g c = λ some out sound. ⊎_elim
     (λ unseen. c.free_after.ensures.emptied (subst IsTrue (sym c.prepare_range.ensures.step.stays.image.writable) c.requires.writable) out unseen.sound)
     (λ interruption. inl (subst IsFault (sym (c.free_after.ensures.fault interruption.fault).0) interruption.fault))
     ((c.in-Err.ensures.sound some out sound).readies)
-
-pub returns-in-Ok-clause-listed : goal.returns-in-Ok-clause-listed
-returns-in-Ok-clause-listed g c = λ some out sound. c.in-Ok.ensures.tables out sound
 
 pub returns-in-Ok-clause-pinned : goal.returns-in-Ok-clause-pinned
 returns-in-Ok-clause-pinned g c = c.in-Ok.ensures.pinned
@@ -75,7 +70,6 @@ returns-in-Err-clause-sound g c = λ some out sound.
       met = met_freed g.S.Storage.view g.F.BackingDisk.backing out (IsMetTaking (HasPrepared out) (IsTaken h known c.args.offset c.args.length out) (CopiesCompressed c.args.offset c.args.length c.args.overwrite h known) (NeedsFarEntry old c.args.offset)) (λ e fault. inl (inl (inl fault))) old c.prepare_range.new.self c.free_after.new.self c.in-Err.refusal c.free_after.result
           ((c.in-Err.ensures.sound some out sound).readies) c.free_after.ensures.fault (c.free_after.ensures.told out) ((c.in-Err.ensures.sound some out sound).met);
       taken = λ is. (c.in-Err.ensures.sound some out sound).taken (c.free_after.ensures.taken c.in-Err.ensures.fails.cause is);
-      limit = λ is. let freed = limited_frees view g.F.BackingDisk.backing out old mid new c.in-Err.refusal c.free_after.result ((c.in-Err.ensures.sound some out sound).readies) c.free_after.ensures.fault (c.free_after.ensures.limit out) is in
-          let empty : HasNothingToFree new = emptied_by_limit new c.free_after.result (returns-in-Err-clause-listed g c some out sound) is in
-          range_freed view c.args.offset c.args.length old mid new c.free_after.ensures.keeps_rest.header freed.1 empty ((c.in-Err.ensures.sound some out sound).limit freed.0);
+      limit = λ is. (c.in-Err.ensures.sound some out sound).limit
+          (limited_frees view g.F.BackingDisk.backing out old mid new c.in-Err.refusal c.free_after.result ((c.in-Err.ensures.sound some out sound).readies) c.free_after.ensures.fault (c.free_after.ensures.told out) is);
     }

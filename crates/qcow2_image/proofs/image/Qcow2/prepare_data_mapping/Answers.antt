@@ -1,23 +1,25 @@
+use Rattle.qcow2_image.proofs.Prepare.Lacked.{goes_begun, limits_since}
+use Rattle.qcow2_image.specs.Limits.{IfLimit, IsLimited}
 use Rattle.qcow2_image.proofs.image.Qcow2.prepare_data_mapping.Goals as goal
-use Rattle.std.proofs.Common.{◌≡◌, ◌⊎◌, ◌<◌, sym, ◌∙◌, subst, arith, ap, refl, ⊎_elim, inl, inr, ◌≤◌, rules}
+use Rattle.std.proofs.Common.{◌≡◌, ◌⊎◌, ◌<◌, sym, ◌∙◌, subst, arith, ap, refl, ⊎_elim, inl, inr, ◌≤◌, rules, ◌+◌}
 use Rattle.std.specs.Prelude.{IfErr, IfOk, None, Result, Some, IsNone}
-use Rattle.qcow2_alloc.specs.declared.error.ImageError.TheVariants.{TablePrepared, Limit}
+use Rattle.qcow2_alloc.specs.declared.error.ImageError.TheVariants.{TablePrepared}
 use Rattle.qcow2_alloc.specs.ImageFile.{known_in}
 use Rattle.qcow2_image.specs.Preparing.{IsAnswered, IsTaken}
 use Rattle.qcow2_image.proofs.Map.Loading.{if_ok}
-use Rattle.qcow2_image.proofs.Prepare.PreparedAs.{answered_before, nowhere_before, taken_before}
+use Rattle.qcow2_image.proofs.Prepare.PreparedAs.{answered_before, taken_before}
 use Rattle.qcow2_image.proofs.Prepare.Taken.{if_err}
 use Rattle.qcow2_image.specs.declared.image.Qcow2.{Qcow2}
 use Rattle.qcow2_image.specs.Calls.{Prepares}
 use Rattle.qcow2_image.specs.Image.{is_failed}
-use Rattle.qcow2_image.specs.ListedClusters.{PreparesList, ListsNoMore}
+use Rattle.qcow2_image.specs.ListedClusters.{ListsNoMore}
 use Rattle.qcow2_image.specs.CallParts.{IsExisting}
 use Rattle.qcow2_image.specs.ImageInvariant.{meaning, pending_in}
-use Rattle.qcow2_image.specs.Refusals.{refuses_to_prepare}
+use Rattle.qcow2_image.specs.Refusals.{refuses_to_prepare, FreesRefused}
 use Rattle.qcow2_image.proofs.Call.Called.{listed}
 use Rattle.qcow2_image.proofs.Clear.ClearCalls.{refused_for}
 use Rattle.qcow2_image.proofs.Call.Answers.{prepare_usable}
-use Rattle.qcow2_image.proofs.Prepare.PrepareCalls.{lists_begun, prepares_nothing, prepares_with_outcome}
+use Rattle.qcow2_image.proofs.Prepare.PrepareCalls.{prepares_nothing, prepares_with_outcome}
 use Rattle.qcow2_image.proofs.Call.Refused.{prepares_after, stays_kept}
 use Rattle.qcow2_image.proofs.Call.FaultCounts.{counted_marked}
 use Rattle.qcow2_image.proofs.Call.Marked.{marks_memory, may_mark}
@@ -25,9 +27,6 @@ use Rattle.qcow2_image.proofs.Call.OnceWritten.{fails_none, fails_once}
 use Rattle.qcow2_image.proofs.Call.BehindHeader.{behind_call, behind_none}
 use Rattle.qcow2_image.proofs.Prepare.Pinned.{begun_own, unpinned_begun}
 use Rattle.qcow2_image.specs.PinnedTables.{PreparesUnpinned}
-use Rattle.qcow2_image.proofs.Prepare.Lacked.{limits_as}
-use Rattle.qcow2_image.proofs.Prepare.LackedBehind.{behind_begun, first_begun, place_ended}
-use Rattle.qcow2_image.specs.LackedPlaces.{LacksPlaceFor}
 use Rattle.qcow2_metadata.specs.Header.{cluster_size}
 use Rattle.qcow2_metadata.specs.declared.header.HeaderFields.{HeaderFields}
 use Rattle.qcow2_image.specs.L1Entries.{NeedsFarEntry}
@@ -100,20 +99,16 @@ returns-clause-taken g c = λ may out sound.
     (λ e taken is. taken_before view old mid c.args.offset c.args.length stays.header stays.covers out (taken is))
     ((c.prepare-prepared.ensures.sound some out stays.sound).taken))
 
-pub returns-then-length-eq0-clause-listed : goal.returns-then-length-eq0-clause-listed
-returns-then-length-eq0-clause-listed g c = λ may some out sound. absurd (let none = c.if-length-eq0.true in omega (arith, none, some))
-
-pub returns-clause-listed : goal.returns-clause-listed
-returns-clause-listed g c = λ may some out sound.
+pub returns-clause-freed : goal.returns-clause-freed
+returns-clause-freed g c = λ may some out sound.
     let view = g.S.Storage.view in
     let below = g.F.BackingDisk.backing in
     let old = c.args.self.now in
     let mid = c.begin.new.self in
     let new = c.prepare-prepared.new.self in
     let stays = stays_kept view below out old mid sound (listed view below out old mid (λ s. record { keeps = c.begin.ensures.keeps (pending_in view below old out) out s; list = c.begin.ensures.list }) sound) in
-    subst (λ (image : Qcow2 _ _). PreparesList c.args.offset old image c.mark_failure.result) (sym c.mark_failure.ensures.rest)
-    (subst (λ (r : Result _ _). PreparesList c.args.offset old (record new { is_failed = is_failed c.mark_failure.new.self }) r) (sym c.mark_failure.ensures.answer)
-    (lists_begun old mid new (is_failed c.mark_failure.new.self) c.args.offset c.prepare-prepared.result c.begin.ensures.rest (c.prepare-prepared.ensures.listed some out stays.sound)))
+    subst (λ (image : Qcow2 _ _). IfErr c.mark_failure.result (FreesRefused image)) (sym c.mark_failure.ensures.rest)
+    (subst (λ (r : Result _ _). IfErr r (FreesRefused new)) (sym c.mark_failure.ensures.answer) (c.prepare-prepared.ensures.freed some out stays.sound))
 
 pub returns-in_err-check_prepare-clause-pinned : goal.returns-in_err-check_prepare-clause-pinned
 returns-in_err-check_prepare-clause-pinned g c = λ some none own.
@@ -140,14 +135,9 @@ returns-clause-limit g c = λ may some out sound.
     let below = g.F.BackingDisk.backing in
     let old = c.args.self.now in
     let mid = c.begin.new.self in
-    let new = c.prepare-prepared.new.self in
-    let failed = is_failed c.mark_failure.new.self in
     let stays = stays_kept view below out old mid sound (listed view below out old mid (λ s. record { keeps = c.begin.ensures.keeps (pending_in view below old out) out s; list = c.begin.ensures.list }) sound) in
-    let same = first_begun view c.args.offset old mid stays.header stays.covers in
-    subst (λ (r : Result _ _). IfErr r (λ x. x ≡ Limit → LacksPlaceFor view c.args.offset c.args.length old c.mark_failure.new.self)) (sym c.mark_failure.ensures.answer)
-    (subst (λ (image : Qcow2 _ _). IfErr c.prepare-prepared.result (λ x. x ≡ Limit → LacksPlaceFor view c.args.offset c.args.length old image)) (sym c.mark_failure.ensures.rest)
-    (limits_as (λ x. LacksPlaceFor view c.args.offset c.args.length mid new) (λ x. LacksPlaceFor view c.args.offset c.args.length old (record new { is_failed = failed })) c.prepare-prepared.result
-    (λ e lacks. place_ended view c.args.offset c.args.length old mid new failed c.begin.ensures.rest same (behind_begun view c.args.offset old mid stays.header stays.covers) (nowhere_before view old mid c.args.offset c.args.length stays.header stays.covers) lacks) ((c.prepare-prepared.ensures.sound some out stays.sound).limit)))
+    subst (λ (r : Result _ _). IfLimit r (IsLimited view below (c.args.offset + 1) old)) (sym c.mark_failure.ensures.answer)
+    (limits_since _ c.prepare-prepared.result (omega arith) (goes_begun c.begin.ensures.stays c.begin.ensures.begun) ((c.prepare-prepared.ensures.sound some out stays.sound).limit))
 
 pub returns-in_err-check_prepare-clause-met : goal.returns-in_err-check_prepare-clause-met
 returns-in_err-check_prepare-clause-met g c = λ none some out sound.

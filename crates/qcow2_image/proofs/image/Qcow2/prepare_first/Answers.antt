@@ -18,17 +18,14 @@ use Rattle.qcow2_image.proofs.Prepare.KeptShares.{data_keep_none}
 use Rattle.qcow2_image.proofs.Prepare.Onward.{if_room, room_as}
 use Rattle.qcow2_image.proofs.Prepare.Owning.{refused as any_refusal}
 use Rattle.qcow2_image.proofs.Prepare.ReadyingNew.{back_none, first_stands, not_pinned, readied_in_place, first_entry}
-use Rattle.qcow2_image.proofs.Prepare.Listing.{lists_none, lists_still}
 use Rattle.qcow2_image.specs.declared.image.Qcow2.{Qcow2}
 use Rattle.qcow2_alloc.proofs.KeptMarks.{notes_none}
 use Rattle.qcow2_image.proofs.Call.Notes.{pins_kept}
 use Rattle.qcow2_image.proofs.Call.BehindHeader.{behind_by, behind_none, behind_tables}
-use Rattle.qcow2_image.proofs.Prepare.InUse.{in_place_lowest, used_pinned}
 use Rattle.qcow2_alloc.proofs.KeptTables.Turning.{always_ok}
 use Rattle.qcow2_alloc.specs.CachePins.{l2_pins}
 use Rattle.qcow2_image.proofs.Clear.Between.{no_pins}
 use Rattle.qcow2_image.proofs.Prepare.Lacked.{hands_limit, other_limit}
-use Rattle.qcow2_image.specs.LackedPlaces.{IsLimitedByFirst, LacksFirstCluster, first_of_range}
 use Rattle.qcow2_image.specs.MetAlone.{IsCopiedCompressed, IsMetTaking}
 use Rattle.qcow2_image.specs.Backings.{HasPrepared}
 use Rattle.qcow2_image.proofs.Prepare.MetTaking.{taking_as}
@@ -109,18 +106,6 @@ returns-in-None-clause-kept g c = λ out sound holds.
     let covered = first_stands view g.F.BackingDisk.backing old p c.args.offset c.args.table c.new.result c.cluster_bits.result c.cluster-cluster.result c.in_ok-old.old c.cluster-cluster.ensures c.new.ensures c.cluster_bits.ensures.value holds (c.in_ok-old.ensures.says p (l1_index_of old.file.header.fields c.args.offset) sound.file) in
     if_ok c.prepare_private.result (λ p begins host at. begins host (sym covered ∙ at)) c.prepare_private.ensures.kept
 
-pub returns-in-Some-clause-former : goal.returns-in-Some-clause-former
-returns-in-Some-clause-former g c =
-    let then = c.prepare_at.ensures.pins.rest in
-    lists_still c.args.self.now c.args.self.now c.prepare_at.new.self (lists_none c.args.self.now c.requires.writable)
-    (record { allocator = ap (λ (image : Qcow2 _ _). image.allocator) then; list = ap (λ (image : Qcow2 _ _). image.file.free_list) then })
-
-pub returns-in-Some-clause-lowest : goal.returns-in-Some-clause-lowest
-returns-in-Some-clause-lowest g c = λ out sound. in_place_lowest g.S.Storage.view g.F.BackingDisk.backing c.prepare_at.new.self c.prepare_at.result c.prepare_at.ensures.share
-
-pub returns-in-None-clause-lowest : goal.returns-in-None-clause-lowest
-returns-in-None-clause-lowest g c = λ out sound. c.prepare_private.ensures.lowest out sound
-
 pub returns-in-Some-clause-unpinned : goal.returns-in-Some-clause-unpinned
 returns-in-Some-clause-unpinned g c = no_pins c.l2_is_pinned.result (l2_pins c.args.self.now.file.caches c.args.table) c.l2_is_pinned.ensures c.if-l2_is_pinned.false
 
@@ -129,15 +114,10 @@ returns-in-None-clause-unpinned g c = always_ok c.prepare_private.result (no_pin
 
 pub returns-in_err-old-clause-limit : goal.returns-in_err-old-clause-limit
 returns-in_err-old-clause-limit g c = λ out sound holds.
-    hands_limit (λ x. LacksFirstCluster g.S.Storage.view (first_of_range g.S.Storage.view c.args.offset c.args.self.now) c.args.self.now.file.free_list c.args.self.now c.args.self.now) c.from_residual-in_err-old.result c.in_err-old.field-0.0 c.from_residual-in_err-old.ensures (other_limit _ c.in_err-old.field-0.0 c.in_err-old.ensures.limited)
+    hands_limit c.from_residual-in_err-old.result c.in_err-old.field-0.0 c.from_residual-in_err-old.ensures (other_limit _ c.in_err-old.field-0.0 c.in_err-old.ensures.limited)
 
 pub returns-in-None-clause-limit : goal.returns-in-None-clause-limit
-returns-in-None-clause-limit g c = λ out sound holds.
-    let view = g.S.Storage.view in
-    let old = c.args.self.now in
-    let p = pending_in view g.F.BackingDisk.backing old out in
-    let covered = first_stands view g.F.BackingDisk.backing old p c.args.offset c.args.table c.new.result c.cluster_bits.result c.cluster-cluster.result c.in_ok-old.old c.cluster-cluster.ensures c.new.ensures c.cluster_bits.ensures.value holds (c.in_ok-old.ensures.says p (l1_index_of old.file.header.fields c.args.offset) sound.file) in
-    subst (λ (x : L2Mapping). IfErr c.prepare_private.result (IsLimitedByFirst view x old c.prepare_private.new.self)) (sym covered) (c.prepare_private.ensures.limit out sound holds)
+returns-in-None-clause-limit g c = λ out sound holds. c.prepare_private.ensures.limit out sound holds
 
 pub returns-then-l2_is_pinned-clause-met : goal.returns-then-l2_is_pinned-clause-met
 returns-then-l2_is_pinned-clause-met g c = λ out sound holds. inr (inr (refl, c.l2_is_pinned.ensures.0 c.if-l2_is_pinned.true))
@@ -159,18 +139,6 @@ returns-in-None-clause-met g c = λ out sound holds.
     let copied = IsCopiedCompressed old.file.header.fields in
     subst (λ (x : L2Mapping). IfErr c.prepare_private.result (IsMetTaking (HasPrepared out) (0 < l2_pins old.file.caches c.args.table) (copied x c.args.offset c.args.length c.args.overwrite) ⊥)) (sym covered)
     (if_err c.prepare_private.result (taking_as (λ held. held) (λ no. absurd no) (λ is. is) (λ no. no)) (c.prepare_private.ensures.met out sound holds covered))
-
-pub returns-in-Some-clause-uses : goal.returns-in-Some-clause-uses
-returns-in-Some-clause-uses g c = λ out sound holds. used_pinned g.S.Storage.view g.F.BackingDisk.backing c.args.table c.args.self.now c.prepare_at.new.self c.prepare_at.ensures.pins
-
-pub returns-in-None-clause-uses : goal.returns-in-None-clause-uses
-returns-in-None-clause-uses g c = λ out sound holds.
-    let view = g.S.Storage.view in
-    let below = g.F.BackingDisk.backing in
-    let old = c.args.self.now in
-    let p = pending_in view below old out in
-    c.prepare_private.ensures.uses out sound holds (not_pinned _ c.l2_is_pinned.result c.l2_is_pinned.ensures c.if-l2_is_pinned.false)
-    (first_stands view below old p c.args.offset c.args.table c.new.result c.cluster_bits.result c.cluster-cluster.result c.in_ok-old.old c.cluster-cluster.ensures c.new.ensures c.cluster_bits.ensures.value holds (c.in_ok-old.ensures.says p (l1_index_of old.file.header.fields c.args.offset) sound.file))
 
 pub returns-then-l2_is_pinned-clause-step : goal.returns-then-l2_is_pinned-clause-step
 returns-then-l2_is_pinned-clause-step g c = record { stays = search rules; notes = notes_none; header_cluster = λ some. behind_none }

@@ -1,11 +1,10 @@
 use Rattle.qcow2_image.proofs.image.Qcow2.prepare_in.Goals as goal
-use Rattle.std.proofs.Common.{◌≡◌, ◌+◌, ◌-◌, ◌/◌, ◌%◌, [], ◌∷◌, refl, sym, ap, ◌∙◌, subst, arith, inl, inr, length, ◌<◌, ◌*◌, Some, min, ◌≢◌, rules}
-use Rattle.std.specs.Prelude.{None, Err, slice_set}
+use Rattle.std.proofs.Common.{◌≡◌, ◌+◌, ◌-◌, ◌/◌, ◌%◌, [], ◌∷◌, refl, sym, ap, ◌∙◌, subst, arith, inl, length, ◌<◌, rules}
+use Rattle.std.specs.Prelude.{None, Err}
 use Rattle.qcow2_metadata.specs.Cover.{cover}
-use Rattle.qcow2_metadata.specs.Header.{cluster_size, HeaderView}
+use Rattle.qcow2_metadata.specs.Header.{cluster_size}
 use Rattle.qcow2_metadata.specs.declared.header.HeaderFields.{HeaderFields}
-use Rattle.qcow2_metadata.specs.declared.l2_mapping.L2Mapping.{L2Mapping}
-use Rattle.qcow2_alloc.specs.ImageFile.{KeepsHeader, known_in, contents_in}
+use Rattle.qcow2_alloc.specs.ImageFile.{KeepsHeader, known_in}
 use Rattle.qcow2_alloc.proofs.AllocationSteps.{handed_on}
 use Rattle.qcow2_alloc.proofs.ListedAfter.{header_format, header_then}
 use Rattle.qcow2_image.specs.declared.image.Qcow2.{Qcow2}
@@ -14,27 +13,13 @@ use Rattle.qcow2_image.proofs.Call.Refused.{back_refused}
 use Rattle.qcow2_image.proofs.Free.{free_places}
 use Rattle.qcow2_image.proofs.Prepare.Onward.{release_prepared_broken, refused_free}
 use Rattle.qcow2_image.proofs.Call.FaultCounts.{counted_as, counted_still}
-use Rattle.qcow2_image.proofs.Prepare.Listing.{lists_then}
 use Rattle.qcow2_alloc.proofs.KeptMarks.{notes_then}
 use Rattle.qcow2_image.proofs.Call.BehindHeader.{behind_then}
-use Rattle.qcow2_image.proofs.Prepare.InUse.{first_of}
-use Rattle.qcow2_image.proofs.Prepare.Lacked.{hands_limit}
-use Rattle.qcow2_image.proofs.Prepare.LackedBehind.{cant_go_on, first_begun, first_cluster, lacks_uncounted, own_released}
+use Rattle.qcow2_image.proofs.Prepare.Lacked.{hands_limit, limited_since}
 use Rattle.std.proofs.lemmas.Nat.{pow_pos, mod_below}
-use Rattle.qcow2_disk.specs.Found.{rest_of_table}
-use Rattle.qcow2_image.specs.LackedPlaces.{IsNewThere, LacksData, behind_first, bytes_in_table, first_of_range}
-use Rattle.qcow2_image.specs.ImageInvariant.{IsPending, IsReadyWith, pending_in}
-use Rattle.qcow2_image.specs.Ranges.{EndsWithCluster}
-use Rattle.qcow2_image.proofs.Call.Slots.{get_set_same}
-use Rattle.qcow2_metadata.specs.Bytes.{Bytes}
-use Rattle.qcow2_metadata.specs.Entries.{count}
-use Rattle.qcow2_image.specs.UnseenSteps.{freed_by}
 use Rattle.qcow2_image.specs.MetAlone.{CopiesCompressed, IsMetTaking}
 use Rattle.qcow2_image.proofs.Prepare.MetRanges.{alone_as}
 use Rattle.qcow2_image.proofs.Prepare.Unannounced.{compressed_as, compressed_at}
-use Rattle.qcow2_image.proofs.Prepare.LowestTables.{own_table_known}
-use Rattle.qcow2_laws.specs.Guests.{table_at}
-use Rattle.qcow2_image.specs.Found.{l1_index_of}
 use Rattle.qcow2_image.specs.Backings.{HasPrepared}
 use Rattle.qcow2_image.proofs.Prepare.Met.{hands_met}
 use Rattle.qcow2_image.proofs.Prepare.MetTaking.{taking_as}
@@ -83,9 +68,6 @@ returns-in-Err-clause-header g c =
     subst (λ v. KeepsHeader old.file.header v) (sym (ap (λ (i : Qcow2 _ _). i.file.header) c.release_prepared.ensures.rest.rest))
     (header_then old.file.header c.prepare_first.new.self.file.header c.prepare_rest.new.self.file.header c.prepare_first.ensures.header c.prepare_rest.ensures.header)
 
-pub returns-in-Ok-clause-former : goal.returns-in-Ok-clause-former
-returns-in-Ok-clause-former g c = lists_then c.args.self.now c.prepare_first.new.self c.prepare_rest.new.self c.in_ok-prepared.ensures.former c.in-Ok.ensures.former
-
 pub returns-in-Ok-clause-unpinned : goal.returns-in-Ok-clause-unpinned
 returns-in-Ok-clause-unpinned g c = c.in_ok-prepared.ensures.unpinned
 
@@ -132,8 +114,7 @@ returns-in_err-prepared-clause-sound g c = λ out sound holds.
           (back_refused view below out old mid c.in_err-prepared.field-0.0 sound (c.in_err-prepared.ensures.readies out sound holds));
       met = λ some. hands_met (IsMetTaking (HasPrepared out) (0 < l2_pins c.args.self.now.file.caches c.args.table) (CopiesCompressed offset n c.args.overwrite h known) ⊥) c.from_residual.result c.in_err-prepared.field-0.0 c.from_residual.ensures
           (taking_as (λ held. held) (λ kept. kept) (λ copied. compressed_at h known offset n offset n c.args.overwrite (omega arith) some refl (inl refl) copied) (λ no. no) c.in_err-prepared.field-0.0 (c.in_err-prepared.ensures.met out sound holds));
-      limit = λ some. hands_limit (λ x. LacksData g.S.Storage.view c.args.offset c.args.length c.args.self.now.file.free_list c.args.self.now c.prepare_first.new.self) c.from_residual.result c.in_err-prepared.field-0.0 c.from_residual.ensures
-          (λ is. inl (c.in_err-prepared.ensures.limit out sound holds is));
+      limit = λ some. hands_limit c.from_residual.result c.in_err-prepared.field-0.0 c.from_residual.ensures (c.in_err-prepared.ensures.limit out sound holds);
     }
 
 pub returns-in-Ok-clause-sound : goal.returns-in-Ok-clause-sound
@@ -158,7 +139,6 @@ returns-in-Err-clause-sound g c = λ out sound holds.
     let mid = c.prepare_first.new.self in
     let new = c.prepare_rest.new.self in
     let p = c.in_ok-prepared.prepared in
-    let rest = c.prepare_rest.new.self in
     let n = c.args.length in
     let q = c.prepare_rest.new.prepared in
     let first = c.in_ok-prepared.ensures.first in
@@ -174,47 +154,6 @@ returns-in-Err-clause-sound g c = λ out sound holds.
           let size : cluster_size hm ≡ cluster_size h = ap (λ (x : HeaderFields). cluster_size x) (header_format old.file.header mid.file.header c.in_ok-prepared.ensures.header) in
           inl (alone_as (λ found. compressed_as h hm (known_in view old.file) (known_in view mid.file) c.args.offset n c.args.overwrite size ready.covers (subst (λ o. CopiesCompressed o n c.args.overwrite hm (known_in view mid.file)) first.guest found)) (λ no. no)
           c.in-Err.refusal ((c.in-Err.ensures.sound old (None ∷ out) 0 refl first.under ready).met));
-      limit = λ some is. let new = c.release_prepared.new.self in
-          let longer = c.prepare_rest.ensures.longer in
-          let why = (c.in-Err.ensures.sound old (None ∷ out) 0 refl first.under ready).limit is in
-          let bounded : bytes_in_table view c.args.offset c.args.length mid ≡ bytes_in_table view c.args.offset c.args.length old = ap (λ (x : HeaderFields). min c.args.length (rest_of_table x c.args.offset)) (header_format old.file.header mid.file.header c.in_ok-prepared.ensures.header) in
-          let short : q.length < bytes_in_table view c.args.offset c.args.length old = subst (λ m. q.length < m) (ap (λ o. min c.args.length (rest_of_table mid.file.header.fields o)) first.guest ∙ bounded) why.0 in
-          let cant = why.1.0 in
-          let new_there = subst (λ (x : L2Mapping). IsNewThere x (q.offset + q.length)) (first_begun view (q.guest + q.length) old mid ready.header ready.covers) why.1.1 in
-          let m = broken.mid in
-          let h = m.file.header.fields in
-          let size_old : cluster_size old.file.header.fields ≡ cluster_size h = sym (ap (λ (x : HeaderFields). cluster_size x) broken.readied.header) in
-          let size_mid : cluster_size mid.file.header.fields ≡ cluster_size h = ap (λ (x : HeaderFields). cluster_size x) (header_format old.file.header mid.file.header c.in_ok-prepared.ensures.header) ∙ size_old in
-          let size_rest : cluster_size rest.file.header.fields ≡ cluster_size h = ap (λ (x : HeaderFields). cluster_size x) (header_format mid.file.header rest.file.header c.prepare_rest.ensures.header) ∙ size_mid in
-          let pending : IsPending h (known_in view m.file) (contents_in view m.file) q c.args.table =
-          subst (IsReadyWith h (known_in view m.file) (contents_in view m.file) q) (longer.under ∙ first.under) (broken.readied.sound.ready 0 q (get_set_same (None ∷ out) 0 (Some q) None refl)).mapped in
-          let at : cant.0 * cluster_size h ≡ q.offset + q.length = subst (λ s. cant.0 * s ≡ q.offset + q.length) size_mid cant.1 in
-          let whole : EndsWithCluster h q = subst (λ s. q.guest % s + q.length ≡ length q.shares.items * s) size_mid (longer.whole (omega (arith, short))) in
-          let positive = pow_pos h.cluster_bits in
-          let cluster = first_cluster h (known_in view m.file) (contents_in view m.file) q c.args.table positive pending cant.0 at whole in
-          let share = first_of p.shares.items first.one in
-          let it = cant.2 in
-          let h_new = ap (λ (i : Qcow2 _ _). i.file.header) c.release_prepared.ensures.rest.rest in
-          inr (lacks_uncounted view (first_of_range view c.args.offset old) (behind_first view c.args.offset old) (c.args.offset % cluster_size old.file.header.fields) (bytes_in_table view c.args.offset c.args.length old) cluster (length q.shares.items) old mid rest new (freed_by q.shares.items) c.in_ok-prepared.ensures.former it.former
-          (ap (λ (i : Qcow2 _ _). i.allocator) c.release_prepared.ensures.rest.rest) h_new
-          (λ k used. subst (λ (v : HeaderView). count v.fields (known_in view new.file) k ≢ 0) (sym h_new) (subst (λ (b : Bytes). count rest.file.header.fields b k ≢ 0) (sym c.release_prepared.ensures.rest.known) used)) c.release_prepared.ensures.list
-          (own_released h (known_in view m.file) (contents_in view m.file) q c.args.table positive pending cant.0 at whole)
-          it.allocator it.is (cant_go_on view old m rest q c.args.table positive pending cant.0 at whole c.args.offset (bytes_in_table view c.args.offset c.args.length old) it.allocator share.0 size_old size_rest (longer.guest ∙ first.guest) short broken.readied.covers (longer.first share.0 share.1) new_there
-          (λ taken old_data new_share k lt. it.uses k (c.in_ok-prepared.ensures.lowest out sound taken old_data (share.1 ∙ sym (longer.first share.0 share.1) ∙ new_share) k (subst (λ n. k < n) (ap (λ o. o / cluster_size h) longer.place ∙ ap (λ s. p.offset / s) (sym size_mid)) lt)))
-          it.uncounted));
+      limit = λ some is. limited_since (omega arith) (record { image = c.prepare_first.ensures.step.stays.image; header_cluster = c.prepare_first.ensures.step.header_cluster some })
+          ((c.in-Err.ensures.sound old (None ∷ out) 0 refl first.under ready).limit is);
     }
-
-pub returns-in-Ok-clause-under : goal.returns-in-Ok-clause-under
-returns-in-Ok-clause-under g c = λ out k free sound holds.
-    let view = g.S.Storage.view in
-    let below = g.F.BackingDisk.backing in
-    let new = c.prepare_rest.new.self in
-    let h = new.file.header.fields in
-    let q = c.prepare_rest.new.prepared in
-    let first = c.in_ok-prepared.ensures.first in
-    let longer = c.in-Ok.ensures.longer in
-    let readied = (returns-in-Ok-clause-sound g c out sound holds).readies k free in
-    let mapped = (readied.sound.ready k q (get_set_same out k (Some q) None free)).mapped in
-    let pending : IsPending h (known_in view new.file) (contents_in view new.file) q c.args.table = subst (λ t. IsReadyWith h (known_in view new.file) (contents_in view new.file) q t) (longer.under ∙ first.under) mapped in
-    own_table_known view below (slice_set out k (Some q)) (pending_in view below new (slice_set out k (Some q))) new c.args.offset c.args.table readied.sound
-    (subst (λ o. table_at h (known_in view new.file) (l1_index_of h o) ≡ c.args.table * cluster_size h) (longer.guest ∙ first.guest) pending.named.place)

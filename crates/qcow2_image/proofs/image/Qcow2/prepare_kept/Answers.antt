@@ -13,10 +13,8 @@ use Rattle.qcow2_image.proofs.Prepare.KeptShares.{first_alone, readied_kept}
 use Rattle.qcow2_alloc.proofs.KeptMarks.{notes_then}
 use Rattle.qcow2_image.proofs.Call.Notes.{pins_kept}
 use Rattle.qcow2_image.proofs.Call.BehindHeader.{behind_by, behind_tables, behind_then}
-use Rattle.qcow2_image.proofs.Prepare.InUse.{kept_lowest, used_pinned, used_stays}
 use Rattle.qcow2_image.proofs.Prepare.Lacked.{hands_unlimited, hands_fault}
 use Rattle.qcow2_image.proofs.Prepare.Met.{kept_behind}
-use Rattle.qcow2_image.proofs.Prepare.Listing.{lists_none}
 use Rattle.qcow2_image.proofs.image.Qcow2.prepare_kept.Goals as goal
 
 pub returns-in_err-fill_kept-clause-readies : goal.returns-in_err-fill_kept-clause-readies
@@ -66,9 +64,6 @@ returns-clause-list g c =
     let then = c.prepare_at.ensures.pins.rest in
     record { allocator = ap (λ (image : Qcow2 _ _). image.allocator) then ∙ ap (λ (image : Qcow2 _ _). image.allocator) first; list = ap (λ (image : Qcow2 _ _). image.file.free_list) then ∙ ap (λ (image : Qcow2 _ _). image.file.free_list) first }
 
-pub returns-clause-lowest : goal.returns-clause-lowest
-returns-clause-lowest g c = kept_lowest g.S.Storage.view g.F.BackingDisk.backing c.prepare_at.new.self c.prepare_at.result c.prepare_at.ensures.share
-
 pub returns-in_err-fill_kept-clause-fault : goal.returns-in_err-fill_kept-clause-fault
 returns-in_err-fill_kept-clause-fault g c = λ out sound covered.
     let view = g.S.Storage.view in
@@ -76,19 +71,6 @@ returns-in_err-fill_kept-clause-fault g c = λ out sound covered.
     let old = c.args.self.now in
     let behind = kept_behind view below out (pending_in view below old out) old sound (c.args.offset / cluster_size old.file.header.fields) c.args.host covered in
     hands_fault c.from_residual.result c.in_err-fill_kept.field-0.0 c.from_residual.ensures (c.in_err-fill_kept.ensures.fault behind)
-
-pub returns-clause-uses : goal.returns-clause-uses
-returns-clause-uses g c = λ writable out sound holds unpinned covered j used.
-    let view = g.S.Storage.view in
-    let below = g.F.BackingDisk.backing in
-    let old = c.args.self.now in
-    let mid = c.fill_kept.new.self in
-    let p = pending_in view below old out in
-    let rest = c.fill_kept.ensures.rest in
-    let own = lists_none old writable in
-    let image_step = c.fill_kept.ensures.image_step p out sound (λ x. omega arith) (first_alone view below out old sound c.args.offset c.args.table c.args.host holds unpinned covered) in
-    used_pinned view below c.args.table mid c.prepare_at.new.self c.prepare_at.ensures.pins j
-    (used_stays view below out p own.before old mid sound image_step.sound (ap (λ (i : Qcow2 _ _). i.file.header) rest) own.was (ap (λ (i : Qcow2 _ _). i.allocator) rest) (ap (λ (i : Qcow2 _ _). i.l1_table) rest) image_step.covers j used)
 
 pub returns-in_err-fill_kept-clause-step : goal.returns-in_err-fill_kept-clause-step
 returns-in_err-fill_kept-clause-step g c = c.fill_kept.ensures.step

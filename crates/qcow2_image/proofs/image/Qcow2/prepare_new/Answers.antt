@@ -1,5 +1,6 @@
+use Rattle.qcow2_image.proofs.Call.Unlimited.{looking_unlimited, fault_unlimited}
 use Rattle.qcow2_image.proofs.image.Qcow2.prepare_new.Goals as goal
-use Rattle.std.proofs.Common.{rules, ◌≡◌, ◌≤◌, ◌-◌, ◌*◌, ◌%◌, ◌^◌, ◌++◌, [], ◌∷◌, inl, refl, sym, ap, ◌∙◌, subst, arith, List, length, ◌+◌, ◌/◌, ◌<◌}
+use Rattle.std.proofs.Common.{rules, ◌≡◌, ◌≤◌, ◌-◌, ◌*◌, ◌%◌, ◌^◌, ◌++◌, [], ◌∷◌, inl, refl, sym, ap, ◌∙◌, subst, arith, List, length, ◌+◌}
 use Rattle.qcow2_metadata.specs.declared.header.HeaderFields.{HeaderFields}
 use Rattle.qcow2_metadata.specs.Header.{cluster_size, HeaderView}
 use Rattle.qcow2_laws.specs.Unseen.{KeepsFormat}
@@ -17,14 +18,10 @@ use Rattle.qcow2_image.proofs.Prepare.Gaining.{listed_after_on, image_step_left,
 use Rattle.qcow2_image.proofs.Prepare.Filling.{image_step_kept, image_step_then}
 use Rattle.qcow2_image.proofs.Prepare.Owning.{refused as any_refusal}
 use Rattle.qcow2_image.proofs.Prepare.ReadyingNew.{back_none, readied_new}
-use Rattle.qcow2_image.proofs.Prepare.Listing.{lists_still}
 use Rattle.qcow2_alloc.proofs.KeptMarks.{notes_none, notes_then}
 use Rattle.qcow2_image.proofs.Call.Notes.{same_kept, pins_kept}
 use Rattle.qcow2_image.proofs.Call.BehindHeader.{behind_by, behind_none, behind_tables, behind_then, behind_zero}
-use Rattle.std.proofs.lemmas.Nat.{div-mul-add, mod_below, pow_pos}
-use Rattle.qcow2_image.proofs.Prepare.InUse.{used_pinned, used_stays}
 use Rattle.qcow2_image.proofs.Prepare.Lacked.{hands_limit, other_limit}
-use Rattle.qcow2_image.specs.LackedPlaces.{HasNoCluster, StandsInWay}
 use Rattle.qcow2_metadata.specs.TableBytes.{HasPlace}
 use Rattle.qcow2_image.proofs.Prepare.Lacking.{named_place}
 use Rattle.qcow2_alloc.specs.ImageFile.{known_in}
@@ -57,49 +54,6 @@ returns-in-Ok-clause-behind g c =
     let behind = behind_zero h.cluster_bits mid.file.header.fields.cluster_bits n same c.in_ok-pending.ensures.elsewhere in
     subst (λ (x : Prepared). cluster_size h ≤ x.offset) (sym c.prepare_at.ensures.value) (omega (arith, host_is, behind))
 
-pub returns-in-Ok-clause-former : goal.returns-in-Ok-clause-former
-returns-in-Ok-clause-former g c =
-    let then = c.prepare_at.ensures.pins.rest in
-    lists_still c.args.self.now c.new_cluster.new.self c.prepare_at.new.self c.in_ok-pending.ensures.former
-    (record { allocator = ap (λ (image : Qcow2 _ _). image.allocator) then ∙ c.load_l2.ensures.allocator; list = ap (λ (image : Qcow2 _ _). image.file.free_list) then ∙ c.load_l2.ensures.list })
-
-pub returns-in-Ok-clause-lowest : goal.returns-in-Ok-clause-lowest
-returns-in-Ok-clause-lowest g c = λ out sound taken old_data begins j lt.
-    let view = g.S.Storage.view in
-    let below = g.F.BackingDisk.backing in
-    let old = c.args.self.now in
-    let p = pending_in view below old out in
-    let filled = c.new_cluster.new.self in
-    let mid = c.load_l2.new.self in
-    let n = c.in_ok-pending.pending in
-    let gained = c.in_ok-pending.ensures.gains p out sound (λ x. omega arith) in
-    let new_data = with_new_data (pending_with_listed p old filled) (run_of n) in
-    let kept = c.in-Ok.ensures.keeps new_data out gained.image_step.sound in
-    let former = c.in_ok-pending.ensures.former in
-    let cs = cluster_size mid.file.header.fields in
-    let host_is : c.value-host.result ≡ n.first_cluster * cs = c.value-host.ensures ∙ c.offset.ensures ∙ ap (λ x. x * 2 ^ c.cluster_bits-bits.result) c.cluster.ensures ∙ ap (λ b. c.in_ok-pending.pending.first_cluster * 2 ^ b) c.cluster_bits-bits.ensures.value in
-    let off : c.prepare_at.result.offset ≡ n.first_cluster * cs + c.args.offset % cs = ap (λ (x : Prepared). x.offset) c.prepare_at.ensures.value ∙ ap (λ m. m + c.args.offset % cs) host_is in
-    let place : c.prepare_at.result.offset / cluster_size c.prepare_at.new.self.file.header.fields ≡ n.first_cluster = ap (λ m. c.prepare_at.result.offset / m) (ap (λ (i : Qcow2 _ _). cluster_size i.file.header.fields) c.prepare_at.ensures.pins.rest) ∙ ap (λ m. m / cs) off ∙ div-mul-add n.first_cluster cs (c.args.offset % cs) (mod_below c.args.offset cs (pow_pos mid.file.header.fields.cluster_bits)) in
-    used_pinned view below c.args.table mid c.prepare_at.new.self c.prepare_at.ensures.pins j
-    (used_stays view below out new_data former.after filled mid gained.image_step.sound kept.sound c.load_l2.ensures.header former.is c.load_l2.ensures.allocator c.load_l2.ensures.table kept.unseen.covers j
-    (c.in_ok-pending.ensures.lowest p out sound (λ x. omega arith) j (subst (λ m. j < m) place lt)))
-
-pub returns-in-Ok-clause-uses : goal.returns-in-Ok-clause-uses
-returns-in-Ok-clause-uses g c = λ out sound j used.
-    let view = g.S.Storage.view in
-    let below = g.F.BackingDisk.backing in
-    let old = c.args.self.now in
-    let p = pending_in view below old out in
-    let filled = c.new_cluster.new.self in
-    let mid = c.load_l2.new.self in
-    let gained = c.in_ok-pending.ensures.gains p out sound (λ x. omega arith) in
-    let new_data = with_new_data (pending_with_listed p old filled) (run_of c.in_ok-pending.pending) in
-    let kept = c.in-Ok.ensures.keeps new_data out gained.image_step.sound in
-    let former = c.in_ok-pending.ensures.former in
-    used_pinned view below c.args.table mid c.prepare_at.new.self c.prepare_at.ensures.pins j
-    (used_stays view below out new_data former.after filled mid gained.image_step.sound kept.sound c.load_l2.ensures.header former.is c.load_l2.ensures.allocator c.load_l2.ensures.table kept.unseen.covers j
-    (c.in_ok-pending.ensures.uses p out sound (λ x. omega arith) j used))
-
 pub returns-in_err-old_data-clause-step : goal.returns-in_err-old_data-clause-step
 returns-in_err-old_data-clause-step g c = record { stays = search rules; notes = notes_none; header_cluster = λ some. behind_none }
 
@@ -128,7 +82,7 @@ returns-in_err-old_data-clause-sound g c = λ out sound holds.
     record {
       readies = λ unpinned covered. any_refusal (λ r. Readies view below old old out c.args.offset c.args.length c.args.overwrite r) c.from_residual.result (search rules) (back_none view below out old (pending_in view below old out) sound);
       met = hands_met (IsMetTaking (HasPrepared out) ⊥ (IsCopiedCompressed c.args.self.now.file.header.fields c.args.old.now c.args.offset c.args.length c.args.overwrite) ⊥) c.from_residual.result c.in_err-old_data.field-0.0 c.from_residual.ensures (inl (inl (inl c.in_err-old_data.ensures.fault)));
-      limit = hands_limit (λ x. StandsInWay g.S.Storage.view HasNoCluster c.args.self.now.file.free_list c.args.self.now c.args.self.now) c.from_residual.result c.in_err-old_data.field-0.0 c.from_residual.ensures (other_limit _ c.in_err-old_data.field-0.0 c.in_err-old_data.ensures.limited);
+      limit = hands_limit c.from_residual.result c.in_err-old_data.field-0.0 c.from_residual.ensures (other_limit _ c.in_err-old_data.field-0.0 (fault_unlimited c.in_err-old_data.field-0.0 c.in_err-old_data.ensures.fault));
     }
 
 pub returns-in_err-pending-clause-sound : goal.returns-in_err-pending-clause-sound
@@ -141,8 +95,8 @@ returns-in_err-pending-clause-sound g c = λ out sound holds.
       readies = λ unpinned covered. handed_on (λ r. Readies view below old c.new_cluster.new.self out c.args.offset c.args.length c.args.overwrite r) c.from_residual-in_err-pending.result c.in_err-pending.field-0.0 c.from_residual-in_err-pending.ensures
           (c.in_err-pending.ensures.gains (pending_in view below old out) out sound (λ n. omega arith));
       met = hands_met (IsMetTaking (HasPrepared out) ⊥ (IsCopiedCompressed c.args.self.now.file.header.fields c.args.old.now c.args.offset c.args.length c.args.overwrite) ⊥) c.from_residual-in_err-pending.result c.in_err-pending.field-0.0 c.from_residual-in_err-pending.ensures (inl (c.in_err-pending.ensures.met p out sound (λ k. omega arith)));
-      limit = hands_limit (λ x. StandsInWay view HasNoCluster old.file.free_list old c.new_cluster.new.self) c.from_residual-in_err-pending.result c.in_err-pending.field-0.0 c.from_residual-in_err-pending.ensures
-          (c.in_err-pending.ensures.limit (pending_in view g.F.BackingDisk.backing old out) out sound);
+      limit = hands_limit c.from_residual-in_err-pending.result c.in_err-pending.field-0.0 c.from_residual-in_err-pending.ensures
+          (c.in_err-pending.ensures.limit (pending_in view g.F.BackingDisk.backing old out) out sound (λ k. omega arith));
     }
 
 pub returns-in-Ok-clause-sound : goal.returns-in-Ok-clause-sound
@@ -190,5 +144,5 @@ returns-in-Err-clause-sound g c = λ out sound holds.
       limit = let new_data = with_new_data (pending_with_listed p old filled) (run_of n) in
           let place = subst (λ b. HasPlace b c.args.table) (sym (ap (λ (v : HeaderView). v.fields.cluster_bits) c.new_cluster.ensures.header))
           (named_place old.file.header.fields (known_in view old.file) (l1_index_of old.file.header.fields c.args.offset) c.args.table holds.entry.place) in
-          other_limit _ c.in-Err.refusal (c.in-Err.ensures.limited new_data out gained.image_step.sound place);
+          other_limit _ c.in-Err.refusal (looking_unlimited c.in-Err.refusal (c.in-Err.ensures.met new_data out gained.image_step.sound place));
     }

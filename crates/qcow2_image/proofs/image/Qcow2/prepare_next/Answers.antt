@@ -7,7 +7,6 @@ use Rattle.qcow2_image.specs.declared.prepared.Prepared.{Prepared}
 use Rattle.qcow2_image.specs.Ranges.{FindsBehind, IsExtended}
 use Rattle.qcow2_image.proofs.Prepare.Extending.{extended}
 use Rattle.qcow2_image.proofs.Prepare.Lacked.{hands_limit}
-use Rattle.qcow2_image.specs.LackedPlaces.{CantGoBehind}
 use Rattle.qcow2_metadata.specs.Cover.{cover}
 use Rattle.qcow2_image.specs.MetAlone.{IsCopiedCompressed}
 use Rattle.qcow2_image.proofs.Prepare.MetTables.{hands_alone}
@@ -26,7 +25,6 @@ returns-in_default-clause-sound g c = λ out k at may sound.
       met = search rules;
       limit = search rules;
       does = subst (λ v. FindsBehind g.S.Storage.view g.F.BackingDisk.backing c.args.self.now c.share_behind.new.self out c.args.length c.args.overwrite c.args.prepared.now (Ok v)) c.in_default.is ((c.in_ok-share.ensures.sound out k at may sound).does);
-      uses = (c.in_ok-share.ensures.sound out k at may sound).uses;
     }
 
 pub returns-clause-sound : goal.returns-clause-sound
@@ -46,7 +44,6 @@ returns-clause-sound g c = λ out k at may sound.
           let like : Prepared = record p { shares = c.push_reserved.new.self } in
           subst (λ l. IsExtended view below old mid out k c.args.length c.args.overwrite p (record p { length = l; shares = c.push_reserved.new.self })) (sym longer)
           (extended view below old mid out k p at c.args.length c.args.table c.args.overwrite may c.in-Some.share found like c.push_reserved.ensures.items sound.file.caches.kept.kept.crash_invariant);
-      uses = (c.in_ok-share.ensures.sound out k at may sound).uses;
     }
 
 pub returns-in_err-share-clause-sound : goal.returns-in_err-share-clause-sound
@@ -56,7 +53,6 @@ returns-in_err-share-clause-sound g c = λ out k at may sound.
     let h = old.file.header.fields in
     record {
       does = search rules;
-      uses = search rules;
       met = hands_alone (IsCopiedCompressed h (cover h (known_in g.S.Storage.view old.file) ((p.guest + p.length) / cluster_size h)) (p.guest + p.length) (c.args.length - p.length) c.args.overwrite) ⊥ c.from_residual.result c.in_err-share.field-0.0 c.from_residual.ensures ((c.in_err-share.ensures.sound out k at may sound).met);
-      limit = hands_limit (λ x. CantGoBehind g.S.Storage.view c.args.prepared.now c.args.self.now c.share_behind.new.self) c.from_residual.result c.in_err-share.field-0.0 c.from_residual.ensures ((c.in_err-share.ensures.sound out k at may sound).limit);
+      limit = hands_limit c.from_residual.result c.in_err-share.field-0.0 c.from_residual.ensures ((c.in_err-share.ensures.sound out k at may sound).limit);
     }

@@ -4,10 +4,7 @@ use Rattle.qcow2_metadata.specs.Header.{cluster_size}
 use Rattle.qcow2_image.specs.PreparedPlaces.{MarkedIsBehind}
 use Rattle.qcow2_image.proofs.Map.Loading.{if_ok, if_ok_any}
 use Rattle.qcow2_image.proofs.Prepare.KeptShares.{begins_kept}
-use Rattle.qcow2_alloc.proofs.KeptTables.Turning.{always_ok}
-use Rattle.qcow2_image.proofs.Prepare.Listing.{lists_none, lists_still}
-use Rattle.qcow2_image.proofs.Prepare.Lacked.{limits_as, needs_new, unlimited_all}
-use Rattle.qcow2_image.specs.LackedPlaces.{HasNoCluster, LacksFirstCluster, StandsInWay}
+use Rattle.qcow2_image.proofs.Prepare.Lacked.{unlimited_all}
 use Rattle.qcow2_image.proofs.Prepare.Met.{met_as}
 use Rattle.qcow2_image.specs.MetAlone.{IsCopiedCompressed, IsMetTaking}
 use Rattle.qcow2_alloc.specs.ImageError.{IsFault}
@@ -25,26 +22,12 @@ returns-in-Some-clause-kept g c = if_ok c.prepare_kept.result (λ p place. begin
 pub returns-in-None-clause-kept : goal.returns-in-None-clause-kept
 returns-in-None-clause-kept g c = if_ok_any c.prepare_new.result (λ p host at. absurd (c.in-None.ensures.none refl host at))
 
-pub returns-in-Some-clause-former : goal.returns-in-Some-clause-former
-returns-in-Some-clause-former g c = always_ok c.prepare_kept.result (lists_still c.args.self.now c.args.self.now c.prepare_kept.new.self (lists_none c.args.self.now c.requires.writable) c.prepare_kept.ensures.list)
-
-pub returns-in-Some-clause-lowest : goal.returns-in-Some-clause-lowest
-returns-in-Some-clause-lowest g c = λ out sound. c.prepare_kept.ensures.lowest
-
-pub returns-in-None-clause-lowest : goal.returns-in-None-clause-lowest
-returns-in-None-clause-lowest g c = λ out sound. c.prepare_new.ensures.lowest out sound
-
 pub returns-in-Some-clause-limit : goal.returns-in-Some-clause-limit
 returns-in-Some-clause-limit g c = λ out sound holds.
-    unlimited_all c.prepare_kept.result (λ e. LacksFirstCluster g.S.Storage.view c.args.old.now c.args.self.now.file.free_list c.args.self.now c.prepare_kept.new.self) c.prepare_kept.ensures.fails.limited
+    unlimited_all c.prepare_kept.result _ c.prepare_kept.ensures.fails.limited
 
 pub returns-in-None-clause-limit : goal.returns-in-None-clause-limit
-returns-in-None-clause-limit g c = λ out sound holds.
-    let view = g.S.Storage.view in
-    let old = c.args.self.now in
-    let new = c.prepare_new.new.self in
-    limits_as (λ x. StandsInWay view HasNoCluster old.file.free_list old new) (λ x. LacksFirstCluster view c.args.old.now old.file.free_list old new) c.prepare_new.result
-    (λ e full. (needs_new c.args.old.now c.requires.other (c.in-None.ensures.none refl), full)) ((c.prepare_new.ensures.sound out sound holds).limit)
+returns-in-None-clause-limit g c = λ out sound holds. (c.prepare_new.ensures.sound out sound holds).limit
 
 pub returns-in-Some-clause-met : goal.returns-in-Some-clause-met
 returns-in-Some-clause-met g c = λ out sound holds covered.
@@ -52,12 +35,6 @@ returns-in-Some-clause-met g c = λ out sound holds covered.
 
 pub returns-in-None-clause-met : goal.returns-in-None-clause-met
 returns-in-None-clause-met g c = λ out sound holds covered. (c.prepare_new.ensures.sound out sound holds).met
-
-pub returns-in-Some-clause-uses : goal.returns-in-Some-clause-uses
-returns-in-Some-clause-uses g c = λ out sound holds unpinned covered. c.prepare_kept.ensures.uses c.requires.writable out sound holds unpinned (covered ∙ c.in-Some.ensures.place.0)
-
-pub returns-in-None-clause-uses : goal.returns-in-None-clause-uses
-returns-in-None-clause-uses g c = λ out sound holds unpinned covered. c.prepare_new.ensures.uses out sound
 
 pub returns-in-Some-clause-step : goal.returns-in-Some-clause-step
 returns-in-Some-clause-step g c = record { stays = search rules; notes = c.prepare_kept.ensures.step.notes; header_cluster = λ some. c.prepare_kept.ensures.step.header_cluster }

@@ -1,5 +1,5 @@
 use Rattle.qcow2_image.proofs.image.Qcow2.prepare_range.Goals as goal
-use Rattle.std.proofs.Common.{◌≡◌, true, false, inl, inr, refl, sym, subst, None, Option, [], ◌∷◌, ap, ◌<◌, ◌≤◌, ℕ, rules}
+use Rattle.std.proofs.Common.{◌≡◌, true, false, inl, refl, sym, subst, None, Option, [], ◌∷◌, ap, ◌<◌, ◌≤◌, ℕ, rules, arith}
 use Rattle.qcow2_alloc.specs.ImageFile.{known_in}
 use Rattle.qcow2_alloc.proofs.AllocationSteps.{handed_on}
 use Rattle.qcow2_image.specs.CallParts.{PreparesRange}
@@ -8,18 +8,15 @@ use Rattle.qcow2_image.specs.ImageInvariant.{meaning, pending_in}
 use Rattle.qcow2_image.proofs.Prepare.PreparedAs.{answered_before, answered_existing, answered_range, nowhere_before, taken_before}
 use Rattle.qcow2_image.proofs.Map.Loading.{if_ok}
 use Rattle.qcow2_image.proofs.Free.{free_places}
-use Rattle.qcow2_image.proofs.Grow.Lengths.{on_ok}
+use Rattle.qcow2_alloc.proofs.Outcomes.{on_ok}
 use Rattle.qcow2_image.proofs.Prepare.Preparing.{readied_existing}
 use Rattle.qcow2_image.proofs.Call.Refused.{prepares_after, readied_after}
 use Rattle.qcow2_image.proofs.Prepare.Taken.{if_err, taken_by}
-use Rattle.qcow2_image.proofs.Prepare.Listing.{lists_since}
 use Rattle.std.specs.Prelude.{IsSome, IfSome}
 use Rattle.qcow2_alloc.proofs.KeptMarks.{notes_then}
 use Rattle.qcow2_image.proofs.Call.BehindHeader.{behind_then}
 use Rattle.qcow2_image.proofs.Prepare.Pinned.{found_pins, met_untaken, prepared_unpinned, unpinned_refused}
-use Rattle.qcow2_image.proofs.Prepare.Lacked.{hands_limit, limits_as, other_limit}
-use Rattle.qcow2_image.proofs.Prepare.LackedBehind.{data_after_table}
-use Rattle.qcow2_image.specs.LackedPlaces.{LacksData, LacksRange}
+use Rattle.qcow2_image.proofs.Prepare.Lacked.{hands_limit, other_limit, goes_step, limits_since}
 use Rattle.qcow2_metadata.specs.Header.{cluster_size}
 use Rattle.qcow2_metadata.specs.declared.header.HeaderFields.{HeaderFields}
 use Rattle.qcow2_image.specs.L1Entries.{NeedsFarEntry}
@@ -39,19 +36,6 @@ returns-in-Some-clause-some g c = λ some.
 pub returns-in-None-clause-some : goal.returns-in-None-clause-some
 returns-in-None-clause-some g c = if_ok c.prepare_in.result (λ p has some. has) c.prepare_in.ensures.some
 
-pub returns-in-Some-clause-tables : goal.returns-in-Some-clause-tables
-returns-in-Some-clause-tables g c = λ out sound.
-    record {
-      lists = (c.in_ok-table.ensures.sound out sound).freed;
-    }
-
-pub returns-in-None-clause-tables : goal.returns-in-None-clause-tables
-returns-in-None-clause-tables g c = λ out sound.
-    on_ok c.prepare_in.result
-    (λ former. record {
-      lists = lists_since c.args.offset c.args.self.now c.table_for.new.self c.prepare_in.new.self ((c.in_ok-table.ensures.sound out sound).freed) former;
-    }) c.prepare_in.ensures.former
-
 pub returns-in_err-table-clause-pinned : goal.returns-in_err-table-clause-pinned
 returns-in_err-table-clause-pinned g c = λ own. unpinned_refused c.args.self.now c.args.offset c.from_residual.result c.in_err-table.field-0.0 c.from_residual.ensures (λ is. absurd (met_untaken c.in_err-table.field-0.0 c.in_err-table.ensures.fails.cause is))
 
@@ -70,8 +54,8 @@ returns-in-Some-clause-l1_place g c = c.in_ok-table.ensures.l1_place
 
 pub returns-in-None-clause-l1_place : goal.returns-in-None-clause-l1_place
 returns-in-None-clause-l1_place g c = λ within.
-    on_ok c.prepare_in.result
-    (λ former. place_then c.args.self.now.file.header.fields c.table_for.new.self.file.header.fields c.prepare_in.new.self.file.header.fields (c.in_ok-table.ensures.l1_place within) (place_kept c.table_for.new.self.file.header c.prepare_in.new.self.file.header c.prepare_in.ensures.header)) c.prepare_in.ensures.former
+    on_ok _ c.prepare_in.result
+    (place_then c.args.self.now.file.header.fields c.table_for.new.self.file.header.fields c.prepare_in.new.self.file.header.fields (c.in_ok-table.ensures.l1_place within) (place_kept c.table_for.new.self.file.header c.prepare_in.new.self.file.header c.prepare_in.ensures.header))
 
 pub returns-in_err-table-clause-step : goal.returns-in_err-table-clause-step
 returns-in_err-table-clause-step g c = c.table_for.ensures.step
@@ -102,7 +86,7 @@ returns-in_err-table-clause-sound g c = λ some out sound.
           ((c.in_err-table.ensures.sound out sound).finds);
       met = hands_met (IsMetTaking (HasPrepared out) (IsTaken h known c.args.offset c.args.length out) (CopiesCompressed c.args.offset c.args.length c.args.overwrite h known) (NeedsFarEntry old c.args.offset)) c.from_residual.result c.in_err-table.field-0.0 c.from_residual.ensures
           (taking_as (λ held. held) (λ no. absurd no) (λ no. absurd no) (λ far. far) c.in_err-table.field-0.0 ((c.in_err-table.ensures.sound out sound).met));
-      limit = hands_limit (λ x. LacksRange g.S.Storage.view c.args.offset c.args.length c.args.self.now c.table_for.new.self) c.from_residual.result c.in_err-table.field-0.0 c.from_residual.ensures (λ is. inl ((c.in_err-table.ensures.sound out sound).limit is));
+      limit = hands_limit c.from_residual.result c.in_err-table.field-0.0 c.from_residual.ensures ((c.in_err-table.ensures.sound out sound).limit);
     }
 
 pub returns-in_err-host-clause-sound : goal.returns-in_err-host-clause-sound
@@ -116,7 +100,7 @@ returns-in_err-host-clause-sound g c = λ some out sound.
       readies = handed_on (λ r. PreparesRange g.S.Storage.view g.F.BackingDisk.backing c.args.self.now c.table_for.new.self out c.args.offset c.args.length c.args.overwrite r) c.from_residual-in_err-host.result c.in_err-host.field-0.0 c.from_residual-in_err-host.ensures
           (inl ((c.in_ok-table.ensures.sound out sound).finds).0);
       met = absurd (let no : false ≡ true = c.in_err-host.ensures.reads (pending_in g.S.Storage.view g.F.BackingDisk.backing mid out) found.0.sound.file found.1.entry in cc);
-      limit = hands_limit (λ x. LacksRange g.S.Storage.view c.args.offset c.args.length c.args.self.now c.table_for.new.self) c.from_residual-in_err-host.result c.in_err-host.field-0.0 c.from_residual-in_err-host.ensures (other_limit _ c.in_err-host.field-0.0 c.in_err-host.ensures.limited);
+      limit = hands_limit c.from_residual-in_err-host.result c.in_err-host.field-0.0 c.from_residual-in_err-host.ensures (other_limit _ c.in_err-host.field-0.0 c.in_err-host.ensures.limited);
     }
 
 pub returns-in-Some-clause-sound : goal.returns-in-Some-clause-sound
@@ -177,6 +161,5 @@ returns-in-None-clause-sound g c = λ some out sound.
       answers = answers;
       freeing = if_ok c.prepare_in.result
           (λ q is none. let place = is.existing.0 none in absurd ((nowhere_before view old mid c.args.offset c.args.length found.0.header found.0.covers nowhere) place.0 place.1)) answers;
-      limit = limits_as (λ x. LacksData view c.args.offset c.args.length mid.file.free_list mid new) (λ x. LacksRange view c.args.offset c.args.length old new) c.prepare_in.result
-          (λ e lacks. inr (nowhere_before view old mid c.args.offset c.args.length found.0.header found.0.covers nowhere, data_after_table view c.args.offset c.args.length old mid new found.0.header found.0.covers ((c.in_ok-table.ensures.sound out sound).freed) lacks)) ((c.prepare_in.ensures.sound out found.0.sound found.1).limit some);
+      limit = limits_since _ c.prepare_in.result (omega arith) (goes_step c.table_for.ensures.step) ((c.prepare_in.ensures.sound out found.0.sound found.1).limit c.in_ok-table.ensures.elsewhere);
     }

@@ -5,17 +5,15 @@ use Rattle.qcow2_alloc.proofs.AllocationSteps.{handed_on}
 use Rattle.qcow2_alloc.proofs.ListedAfter.{header_same, header_format}
 use Rattle.qcow2_image.specs.declared.prepared.Prepared.{Prepared}
 use Rattle.qcow2_image.specs.CallParts.{IsReadied}
+use Rattle.qcow2_image.specs.Limits.{GoesTo}
 use Rattle.qcow2_image.specs.Ranges.{BreaksOff, Ends, GoesNext, GoesOn}
 use Rattle.qcow2_image.proofs.Call.Slots.{get_set_same}
 use Rattle.qcow2_image.proofs.Prepare.Onward.{may_go_on, so_far_all, so_far_ends, so_far_next}
 use Rattle.qcow2_image.proofs.Call.FaultCounts.{counted_ok, counted_on, faults_then}
-use Rattle.qcow2_image.proofs.Prepare.Listing.{lists_none, lists_then}
 use Rattle.qcow2_alloc.proofs.KeptMarks.{notes_none, notes_then}
 use Rattle.qcow2_image.proofs.Call.BehindHeader.{behind_none, behind_then}
-use Rattle.qcow2_image.proofs.Prepare.Lacked.{hands_limit}
-use Rattle.qcow2_image.proofs.Prepare.LackedBehind.{cant_go_behind}
+use Rattle.qcow2_image.proofs.Prepare.Lacked.{hands_limit, limited_since}
 use Rattle.qcow2_disk.specs.Found.{rest_of_table}
-use Rattle.qcow2_image.specs.LackedPlaces.{CantGoBehind}
 use Rattle.qcow2_metadata.specs.declared.header.HeaderFields.{HeaderFields}
 use Rattle.qcow2_alloc.specs.ImageFile.{known_in}
 use Rattle.qcow2_image.specs.MetAlone.{CopiesCompressed}
@@ -37,8 +35,6 @@ loop-prepared-init g c = record {
     image_step = λ start out k free under is. is;
   };
   faults = record { storage = refl; below = refl };
-  former = lists_none c.args.self.now c.requires.writable;
-  uses = λ start out k free under is j used. used;
   notes = notes_none;
   behind = behind_none;
 }
@@ -58,14 +54,9 @@ loop-prepared-preserved g c =
           (c.prepare_next.ensures.next (c.in_ok-prepare_next.was ∙ ap Ok c.if-not-branch.false)) c.prepare_next.ensures.room
           (λ out k at may sound. subst (λ b. GoesNext view below now new out k n c.args.overwrite q r (Ok b)) c.if-not-branch.false ((c.in_ok-prepare_next.ensures.sound out k at may sound).does));
       faults = faults_then view below c.args.self.now now new c.loop-prepared.invariant.faults c.in_ok-prepare_next.ensures.fails.faults.told;
-      former = lists_then c.args.self.now now new c.loop-prepared.invariant.former c.in_ok-prepare_next.ensures.former;
-      uses = λ start out k free under is j used. (c.in_ok-prepare_next.ensures.sound (slice_set out k (Some q)) k (get_set_same out k (Some q) None free) (may_go_on view below c.args.self.now now c.args.prepared.now q n c.min-end.result c.args.table c.args.overwrite c.loop-prepared.invariant.turns bound c.loop-prepared-test.true start out k under is) (c.loop-prepared.invariant.turns.image_step start out k free under is).sound).uses j (c.loop-prepared.invariant.uses start out k free under is j used);
       notes = notes_then c.loop-prepared.invariant.notes c.prepare_next.ensures.step.notes;
       behind = behind_then c.loop-prepared.invariant.behind c.prepare_next.ensures.step.header_cluster;
     }
-
-pub returns-then-not-branch-clause-former : goal.returns-then-not-branch-clause-former
-returns-then-not-branch-clause-former g c = lists_then c.args.self.now c.loop-prepared.self c.prepare_next.new.self c.loop-prepared.invariant.former c.in_ok-prepare_next.ensures.former
 
 pub returns-in_err-prepare_next-clause-step : goal.returns-in_err-prepare_next-clause-step
 returns-in_err-prepare_next-clause-step g c = record {
@@ -122,7 +113,6 @@ returns-in_err-prepare_next-clause-sound g c = λ start out k free under is.
     let size : cluster_size now.file.header.fields ≡ cluster_size h = ap (λ (x : HeaderFields). cluster_size x) (header_format old.file.header now.file.header so.header) in
     let guest = so.longer.guest in
     record {
-      uses = search rules;
       does = handed_on (λ r. GoesOn view below start new out k n c.args.overwrite c.prepare_next.new.prepared r) c.from_residual.result e c.from_residual.ensures
           (subst (λ (x : Prepared). BreaksOff view below start new out k n c.args.overwrite x e) (sym same)
           (record {
@@ -139,14 +129,9 @@ returns-in_err-prepare_next-clause-sound g c = λ start out k free under is.
           (inr (next_begins view below now (slice_set out k (Some q)) k q (get_set_same out k (Some q) None free) n c.args.table c.args.overwrite may before.sound)) copied))
           (λ no. no) e ((c.in_err-prepare_next.ensures.sound (slice_set out k (Some q)) k (get_set_same out k (Some q) None free) may before.sound).met));
       limit = let may = may_go_on view below old now p q n c.min-end.result c.args.table c.args.overwrite so bound c.loop-prepared-test.true start out k under is in
-          let most = min n (rest_of_table old.file.header.fields p.guest) in
-          hands_limit (λ x. (c.prepare_next.new.prepared.length < most) × CantGoBehind view c.prepare_next.new.prepared old new) c.from_residual.result e c.from_residual.ensures
-          (λ limit.
-          subst (λ (x : Prepared). (x.length < most) × CantGoBehind view x old new) (sym same) (
-            subst (λ m. q.length < m) bound c.loop-prepared-test.true,
-            cant_go_behind view q start old now new is.header is.covers before.header before.covers so.header c.loop-prepared.invariant.former (c.loop-prepared.invariant.uses start out k free under is)
-                ((c.in_err-prepare_next.ensures.sound (slice_set out k (Some q)) k (get_set_same out k (Some q) None free) may before.sound).limit limit),
-          ));
+          let so_far : GoesTo view old now = record { image = so.stays.image; header_cluster = c.loop-prepared.invariant.behind } in
+          hands_limit c.from_residual.result e c.from_residual.ensures
+          (λ limit. limited_since (omega arith) so_far ((c.in_err-prepare_next.ensures.sound (slice_set out k (Some q)) k (get_set_same out k (Some q) None free) may before.sound).limit limit));
     }
 
 pub returns-then-not-branch-clause-sound : goal.returns-then-not-branch-clause-sound
@@ -168,7 +153,6 @@ returns-then-not-branch-clause-sound g c = λ start out k free under is.
           (λ may sound.
           subst (λ b. GoesNext view below now new (slice_set out k (Some q)) k n c.args.overwrite q c.prepare_next.new.prepared (Ok b)) c.if-not-branch.true
           ((c.in_ok-prepare_next.ensures.sound (slice_set out k (Some q)) k (get_set_same out k (Some q) None free) may sound).does)));
-      uses = λ j used. (c.in_ok-prepare_next.ensures.sound (slice_set out k (Some q)) k (get_set_same out k (Some q) None free) (may_go_on view below c.args.self.now now c.args.prepared.now q n c.min-end.result c.args.table c.args.overwrite c.loop-prepared.invariant.turns bound c.loop-prepared-test.true start out k under is) (c.loop-prepared.invariant.turns.image_step start out k free under is).sound).uses j (c.loop-prepared.invariant.uses start out k free under is j used);
     }
 
 pub returns-clause-sound : goal.returns-clause-sound
@@ -179,5 +163,4 @@ returns-clause-sound g c = λ start out k free under is.
       limit = search rules;
       does = so_far_all g.S.Storage.view g.F.BackingDisk.backing c.args.self.now c.loop-prepared.self c.args.prepared.now c.loop-prepared.prepared c.args.length c.min-end.result c.args.table c.args.overwrite c.loop-prepared.invariant.turns bound start out k free under is
           (omega (arith, c.loop-prepared-test.false));
-      uses = c.loop-prepared.invariant.uses start out k free under is;
     }

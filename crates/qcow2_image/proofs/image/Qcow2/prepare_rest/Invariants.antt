@@ -1,13 +1,7 @@
-use Rattle.std.proofs.Common.{◌≡◌, ◌-◌, ℕ, List}
-use Rattle.std.specs.Prelude.{Option, None, Some, slice_get}
-use Rattle.qcow2_alloc.specs.LowestRuns.{StaysUsed}
-use Rattle.qcow2_image.specs.CallParts.{IsReadied}
-use Rattle.qcow2_image.specs.declared.image.Qcow2.{Qcow2}
-use Rattle.qcow2_image.specs.declared.prepared.Prepared.{Prepared}
+use Rattle.std.proofs.Common.{◌-◌}
 use Rattle.qcow2_alloc.specs.KeptMarks.{KeepsFileNotes}
 use Rattle.qcow2_image.specs.BehindHeader.{StaysBehindHeader}
 use Rattle.qcow2_image.specs.Faults.{SameFaults}
-use Rattle.qcow2_image.specs.ListedClusters.{ListsFormer}
 use Rattle.qcow2_image.proofs.Prepare.Onward.{IsSoFar}
 use Rattle.qcow2_image.proofs.image.Qcow2.prepare_rest.Given as goal
 
@@ -16,8 +10,6 @@ abbrev pub invariant-loop-prepared : goal.invariant-loop-prepared
 invariant-loop-prepared g l = record {
   turns : IsSoFar g.S.Storage.view g.F.BackingDisk.backing l.fn.self l.self l.fn.prepared l.prepared l.length l.end l.table l.overwrite;
   faults : SameFaults g.S.Storage.view g.F.BackingDisk.backing l.fn.self l.self;
-  former : ListsFormer l.fn.self l.self;
-  uses : (start : Qcow2 _ _) (out : List (Option Prepared)) (k : ℕ) → slice_get out k ≡ Some None → l.fn.prepared.table ≡ Some l.table → IsReadied g.S.Storage.view g.F.BackingDisk.backing start l.fn.self out k l.fn.prepared.guest l.length l.overwrite l.fn.prepared → StaysUsed g.S.Storage.view l.fn.self.file l.self.file;
   notes : KeepsFileNotes g.S.Storage.view l.fn.self.file l.self.file;
   behind : StaysBehindHeader g.S.Storage.view l.fn.self l.self;
 }

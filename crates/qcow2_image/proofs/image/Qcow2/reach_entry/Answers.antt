@@ -1,7 +1,8 @@
+use Rattle.qcow2_image.specs.L1Entries.{IsPlacedNear}
 use Rattle.qcow2_image.proofs.Call.ImageSteps.{step_none, step_then}
 use Rattle.qcow2_image.proofs.image.Qcow2.reach_entry.Goals as goal
-use Rattle.std.proofs.Common.{◌≡◌, ◌+◌, ◌/◌, ◌^◌, max, sym, ap, ◌∙◌, subst, ◌≤◌, arith, refl, rules}
-use Rattle.qcow2_metadata.specs.EntryTable.{entry_count, EntryTableView}
+use Rattle.std.proofs.Common.{◌≡◌, ◌+◌, ◌/◌, ◌^◌, max, sym, ap, ◌∙◌, subst, ◌≤◌, arith, rules}
+use Rattle.qcow2_metadata.specs.EntryTable.{entry_count}
 use Rattle.qcow2_laws.specs.CrashInvariant.{Pending}
 use Rattle.qcow2_alloc.proofs.AllocationSteps.{handed_on}
 use Rattle.qcow2_alloc.proofs.KeptTables.Turning.{always_ok}
@@ -13,10 +14,7 @@ use Rattle.qcow2_image.proofs.Grow.Lengthened.{freed_then, makes_none, refused_m
 use Rattle.std.specs.Prelude.{IfErr}
 use Rattle.qcow2_image.specs.NewTables.{IsFaultOrLacksTable}
 use Rattle.qcow2_image.proofs.Prepare.Lacking.{fault_or_lacking, not_within, short_lacking}
-use Rattle.qcow2_image.proofs.Prepare.Listing.{some_kept, some_none}
 use Rattle.qcow2_image.proofs.Prepare.Lacked.{faults_unlimited, hands_limit, unlimited_all, faults_or_limit, hands_either}
-use Rattle.qcow2_image.specs.LackedPlaces.{EndsBefore, IsPlacedNear, LacksLongerTable}
-use Rattle.qcow2_metadata.specs.TableBytes.{entry_at}
 
 pub returns-then-in_bounds-clause-length : goal.returns-then-in_bounds-clause-length
 returns-then-in_bounds-clause-length g c =
@@ -33,12 +31,6 @@ returns-clause-length g c =
     always_ok c.free_listed.result
     (ap entry_count c.free_listed.ensures.table ∙ c.in_ok-grow_l1_table.ensures.length ∙ ap (λ i. max (entry_count old.l1_table) (i + 1)) idx)
 
-pub returns-then-in_bounds-clause-former : goal.returns-then-in_bounds-clause-former
-returns-then-in_bounds-clause-former g c = some_none c.args.self.now c.requires.writable
-
-pub returns-clause-former : goal.returns-clause-former
-returns-clause-former g c = always_ok c.free_listed.result (some_kept c.args.self.now c.grow_l1_table.new.self c.free_listed.new.self c.in_ok-grow_l1_table.ensures.former c.free_listed.ensures.former)
-
 pub returns-then-in_bounds-clause-placed : goal.returns-then-in_bounds-clause-placed
 returns-then-in_bounds-clause-placed g c = λ past bits.
     let idx : c.l1_index-index.result ≡ l1_index_of c.args.self.now.file.header.fields c.args.offset =
@@ -47,12 +39,6 @@ returns-then-in_bounds-clause-placed g c = λ past bits.
 
 pub returns-clause-placed : goal.returns-clause-placed
 returns-clause-placed g c = λ past bits. always_ok c.free_listed.result (subst IsPlacedNear (sym c.free_listed.ensures.table) (c.in_ok-grow_l1_table.ensures.placed bits))
-
-pub returns-then-in_bounds-clause-kept : goal.returns-then-in_bounds-clause-kept
-returns-then-in_bounds-clause-kept g c = λ i. refl
-
-pub returns-clause-kept : goal.returns-clause-kept
-returns-clause-kept g c = always_ok c.free_listed.result (λ i. ap (λ (t : EntryTableView). entry_at t.bytes i) c.free_listed.ensures.table ∙ c.in_ok-grow_l1_table.ensures.kept i)
 
 pub returns-then-in_bounds-clause-step : goal.returns-then-in_bounds-clause-step
 returns-then-in_bounds-clause-step g c = step_none
@@ -77,7 +63,6 @@ returns-in_err-grow_l1_table-clause-sound g c = λ out sound.
     let view = g.S.Storage.view in
     let below = g.F.BackingDisk.backing in
     let old = c.args.self.now in
-    let new = c.grow_l1_table.new.self in
     let e = c.in_err-grow_l1_table.field-0.0 in
     let at = l1_index_of old.file.header.fields c.args.offset in
     record {
@@ -86,14 +71,7 @@ returns-in_err-grow_l1_table-clause-sound g c = λ out sound.
       fault = hands_either c.from_residual.result c.in_err-grow_l1_table.field-0.0 c.from_residual.ensures (c.in_err-grow_l1_table.ensures.fault c.requires.writable (pending_in g.S.Storage.view g.F.BackingDisk.backing c.args.self.now out) out sound);
       limit = let idx : c.l1_index-index.result ≡ at =
           c.l1_index-index.ensures ∙ ap (λ n. n / 2 ^ c.cluster_bits.result / (2 ^ c.cluster_bits.result / 8)) c.new.ensures ∙ ap (λ b. c.args.offset / 2 ^ b / (2 ^ b / 8)) c.cluster_bits.ensures.value in
-          let past : entry_count old.l1_table ≤ at = subst (λ i. entry_count old.l1_table ≤ i) idx (not_within c.in_bounds.result c.l1_index-index.result (entry_count old.l1_table) c.in_bounds.ensures c.if-in_bounds.false) in
-          let many : max (entry_count old.l1_table) (at + 1) ≡ at + 1 = omega (arith, past) in
-          hands_limit (λ x. EndsBefore c.args.offset old × LacksLongerTable view at (at + 1) old.file.free_list old new) c.from_residual.result c.in_err-grow_l1_table.field-0.0 c.from_residual.ensures
-          (λ is. (
-            past,
-            subst (λ n. LacksLongerTable view at n old.file.free_list old new) many
-                (subst (λ i. LacksLongerTable view i (max (entry_count old.l1_table) (i + 1)) old.file.free_list old new) idx (c.in_err-grow_l1_table.ensures.limit (pending_in view g.F.BackingDisk.backing old out) out sound is)),
-          ));
+          hands_limit c.from_residual.result e c.from_residual.ensures (c.in_err-grow_l1_table.ensures.limit (pending_in view below old out) out sound c.args.offset idx);
       lacks = let idx : c.l1_index-index.result ≡ l1_index_of old.file.header.fields c.args.offset =
           c.l1_index-index.ensures ∙ ap (λ n. n / 2 ^ c.cluster_bits.result / (2 ^ c.cluster_bits.result / 8)) c.new.ensures ∙ ap (λ b. c.args.offset / 2 ^ b / (2 ^ b / 8)) c.cluster_bits.ensures.value in
           let p = pending_in view below old out in
@@ -110,11 +88,10 @@ returns-clause-sound g c = λ out sound.
     let mid = c.grow_l1_table.new.self in
     let first = stays_moved view below out old mid sound (c.in_ok-grow_l1_table.ensures.lengthens (pending_in view below old out) out sound) in
     let listed = subst (λ (x : Pending). ImageInvariant view below x mid out) (all_listed view below mid out) first.sound in
-    let at = l1_index_of old.file.header.fields c.args.offset in
     record {
       makes = freed_then view below out old mid c.free_listed.new.self first c.free_listed.result (c.free_listed.ensures.frees (beside view below mid out) out listed);
       fault = faults_or_limit c.free_listed.result (c.free_listed.ensures.faults (beside view below mid out) out listed);
-      limit = unlimited_all c.free_listed.result (λ e. EndsBefore c.args.offset old × LacksLongerTable view at (at + 1) old.file.free_list old c.free_listed.new.self)
+      limit = unlimited_all c.free_listed.result _
           (faults_unlimited c.free_listed.result (c.free_listed.ensures.faults (beside view below mid out) out listed));
       lacks = fault_or_lacking view below out c.free_listed.new.self c.args.offset c.free_listed.result (c.free_listed.ensures.faults (beside view below mid out) out listed);
     }

@@ -4,7 +4,6 @@ use Rattle.qcow2_image.proofs.Call.FaultCounts.{counted_as, counted_of, untouche
 use Rattle.qcow2_image.proofs.Call.FreedBehind.{met_freed, refused_freed}
 use Rattle.qcow2_image.proofs.Call.Refused.{back_then_freed}
 use Rattle.qcow2_image.proofs.Prepare.Lacked.{either_frees, limited_frees}
-use Rattle.qcow2_image.proofs.Sizing.LackedTables.{longer_freed}
 use Rattle.qcow2_image.proofs.Call.ImageSteps.{step_then}
 use Rattle.qcow2_image.proofs.image.Qcow2.renew_l1_table.Goals as goal
 
@@ -25,19 +24,13 @@ returns-in-Ok-clause-noted g c = c.in-Ok.ensures.noted
 
 pub returns-in-Err-clause-limit : goal.returns-in-Err-clause-limit
 returns-in-Err-clause-limit g c = λ out sound is.
-    let view = g.S.Storage.view in
-    let old = c.args.self.now in
-    let mid = c.lengthen_l1_table.new.self in
-    let freed = limited_frees view g.F.BackingDisk.backing out old mid c.free_after.new.self c.in-Err.refusal c.free_after.result (c.in-Err.ensures.makes out sound) c.free_after.ensures.fault (c.free_after.ensures.limit out) is in
-    longer_freed view _ _ old.file.free_list old mid c.free_after.new.self c.free_after.ensures.keeps_rest.header freed.1 (c.in-Err.ensures.limit out sound freed.0)
+    c.in-Err.ensures.limit out sound
+    (limited_frees g.S.Storage.view g.F.BackingDisk.backing out c.args.self.now c.lengthen_l1_table.new.self c.free_after.new.self c.in-Err.refusal c.free_after.result (c.in-Err.ensures.makes out sound) c.free_after.ensures.fault (c.free_after.ensures.told out) is)
 
 pub returns-in-Err-clause-fault : goal.returns-in-Err-clause-fault
 returns-in-Err-clause-fault g c = λ out sound.
     either_frees g.S.Storage.view g.F.BackingDisk.backing out c.args.self.now c.lengthen_l1_table.new.self c.free_after.new.self c.in-Err.refusal c.free_after.result
     (c.in-Err.ensures.makes out sound) c.free_after.ensures.fault (c.free_after.ensures.told out) (c.in-Err.ensures.fault out sound)
-
-pub returns-in-Ok-clause-kept : goal.returns-in-Ok-clause-kept
-returns-in-Ok-clause-kept g c = c.in-Ok.ensures.kept
 
 pub returns-in-Err-clause-step : goal.returns-in-Err-clause-step
 returns-in-Err-clause-step g c = step_then c.lengthen_l1_table.ensures.step c.free_after.ensures.step

@@ -1,8 +1,10 @@
+use Rattle.qcow2_image.proofs.Call.Unlimited.{fault_unlimited}
 use Rattle.std.proofs.Common.{rules, ◌≡◌, ◌⊎◌, ◌≢◌, ◌*◌, ◌/◌, ◌^◌, ◌++◌, [], ◌∷◌, sym, ap, ◌∙◌, subst, is_some, inl, ◌%◌}
 use Rattle.std.specs.Prelude.{Ok}
 use Rattle.qcow2_metadata.specs.Entries.{count}
 use Rattle.qcow2_metadata.specs.Header.{cluster_size}
 use Rattle.qcow2_metadata.specs.L2Mapping.{IsHostCluster}
+use Rattle.qcow2_alloc.specs.Limits.{IsPastLimits}
 use Rattle.qcow2_alloc.specs.ImageFile.{known_in}
 use Rattle.qcow2_alloc.specs.declared.error.ImageError.TheVariants.{UnalignedTable}
 use Rattle.qcow2_alloc.proofs.KeptTables.Standing.{own_cluster}
@@ -11,7 +13,6 @@ use Rattle.qcow2_image.specs.Ranges.{GainsAt, SharesAt}
 use Rattle.qcow2_image.proofs.Prepare.Owning.{refused as any_refusal}
 use Rattle.qcow2_image.proofs.Prepare.ReadyingNew.{back_none}
 use Rattle.qcow2_image.proofs.Prepare.Lacked.{hands_limit, other_limit}
-use Rattle.qcow2_image.specs.LackedPlaces.{CantTakeAt}
 use Rattle.qcow2_image.specs.MetAlone.{IsCopiedCompressed}
 use Rattle.qcow2_image.proofs.Prepare.MetTables.{hands_alone}
 use Rattle.qcow2_image.proofs.Call.ImageSteps.{step_none}
@@ -36,7 +37,7 @@ returns-in_default-2-clause-shares g c = λ p out sound holds.
     let took = subst (λ v. GainsAt view g.F.BackingDisk.backing p old new out c.args.offset c.args.length c.args.overwrite c.args.old.now c.in-Some.cluster (Ok v)) c.in_default-2.is ((c.in_ok-pending.ensures.sound p out sound holds).does) in
     let host_is : c.in-Some.cluster * cluster_size h ≡ c.args.host = ap (λ b. c.in-Some.cluster * 2 ^ b) (sym c.cluster_bits-bits.ensures.value) ∙ c.in-Some.ensures.cluster ∙ c.new.ensures in
     let same : c.args.host / cluster_size h ≡ c.in-Some.cluster = ap (λ o. o / cluster_size h) (sym host_is) ∙ own_cluster h.cluster_bits c.in-Some.cluster in
-    (took.0, subst (λ x. (IsHostCluster old.file.header.fields.cluster_bits x → ⊥) ⊎ (count new.file.header.fields (known_in view new.file) x ≢ 0)) (sym same) took.1)
+    (took.0, subst (λ x. IsPastLimits old.file.header.fields x ⊎ (count new.file.header.fields (known_in view new.file) x ≢ 0)) (sym same) took.1)
 
 pub returns-clause-shares : goal.returns-clause-shares
 returns-clause-shares g c = λ p out sound holds.
@@ -54,21 +55,13 @@ returns-clause-shares g c = λ p out sound holds.
       gained = took.1;
     }
 
-pub returns-in_default-2-clause-uses : goal.returns-in_default-2-clause-uses
-returns-in_default-2-clause-uses g c = λ p out sound holds. (c.in_ok-pending.ensures.sound p out sound holds).uses
-
-pub returns-clause-uses : goal.returns-clause-uses
-returns-clause-uses g c = λ p out sound holds. (c.in_ok-pending.ensures.sound p out sound holds).uses
-
 pub returns-in_err-old_data-clause-limit : goal.returns-in_err-old_data-clause-limit
 returns-in_err-old_data-clause-limit g c = λ p out sound holds.
-    hands_limit (λ x. CantTakeAt g.S.Storage.view c.args.host c.args.self.now c.args.self.now) c.from_residual.result c.in_err-old_data.field-0.0 c.from_residual.ensures (other_limit _ c.in_err-old_data.field-0.0 c.in_err-old_data.ensures.limited)
+    hands_limit c.from_residual.result c.in_err-old_data.field-0.0 c.from_residual.ensures (other_limit _ c.in_err-old_data.field-0.0 (fault_unlimited c.in_err-old_data.field-0.0 c.in_err-old_data.ensures.fault))
 
 pub returns-in_err-pending-clause-limit : goal.returns-in_err-pending-clause-limit
 returns-in_err-pending-clause-limit g c = λ p out sound holds.
-    let host_is : c.in-Some.cluster * cluster_size c.args.self.now.file.header.fields ≡ c.args.host = ap (λ b. c.in-Some.cluster * 2 ^ b) (sym c.cluster_bits-bits.ensures.value) ∙ c.in-Some.ensures.cluster ∙ c.new.ensures in
-    hands_limit (λ x. CantTakeAt g.S.Storage.view c.args.host c.args.self.now c.new_cluster_at.new.self) c.from_residual-in_err-pending.result c.in_err-pending.field-0.0 c.from_residual-in_err-pending.ensures
-    (λ is. (c.in-Some.cluster, host_is, (c.in_err-pending.ensures.sound p out sound holds).limit is))
+    hands_limit c.from_residual-in_err-pending.result c.in_err-pending.field-0.0 c.from_residual-in_err-pending.ensures ((c.in_err-pending.ensures.sound p out sound holds).limit)
 
 pub returns-in_default-clause-met : goal.returns-in_default-clause-met
 returns-in_default-clause-met g c = λ p out sound holds aligned.

@@ -1,6 +1,5 @@
-use Rattle.std.proofs.Common.{◌≡◌, ◌≢◌, ◌+◌, ◌-◌, ◌/◌, ◌^◌, Some, true, false, arith, inl, refl, sym, ap, ◌∙◌, subst, ◌%◌, rules}
+use Rattle.std.proofs.Common.{◌≡◌, ◌+◌, ◌-◌, ◌/◌, ◌^◌, Some, true, false, arith, inl, refl, sym, ap, ◌∙◌, subst, ◌%◌, rules}
 use Rattle.qcow2_metadata.specs.Header.{cluster_size}
-use Rattle.qcow2_metadata.specs.declared.l2_mapping.L2Mapping.{L2Mapping}
 use Rattle.qcow2_metadata.specs.declared.l2_mapping.L2Mapping.TheVariants.{Data, Zero}
 use Rattle.qcow2_image.specs.ImageInvariant.{pending_in}
 use Rattle.qcow2_image.specs.Found.{l1_index_of}
@@ -14,10 +13,7 @@ use Rattle.qcow2_image.proofs.Call.Refused.{back_refused}
 use Rattle.qcow2_image.proofs.Prepare.Gaining.{listed_after_same}
 use Rattle.qcow2_image.proofs.Prepare.KeptShares.{behind_alone, behind_kept}
 use Rattle.qcow2_image.proofs.Prepare.Behind.{behind_in_place, ends_elsewhere, finds_shared, next_cluster, next_says}
-use Rattle.qcow2_image.proofs.Prepare.Listing.{lists_none, lists_still}
-use Rattle.qcow2_image.proofs.Prepare.InUse.{used_stays}
-use Rattle.qcow2_image.proofs.Prepare.Lacked.{hands_limit, limits_as, not_copied, other_limit}
-use Rattle.qcow2_image.specs.LackedPlaces.{CantGoBehind, CantTakeAt, IsNewThere}
+use Rattle.qcow2_image.proofs.Prepare.Lacked.{hands_limit, other_limit}
 use Rattle.qcow2_disk.specs.Found.{IsCompressed}
 use Rattle.qcow2_image.specs.MetAlone.{HasUnannounced, IsCopiedCompressed}
 use Rattle.qcow2_image.proofs.Prepare.Taken.{if_err}
@@ -26,18 +22,6 @@ use Rattle.qcow2_image.proofs.Prepare.MetTables.{hands_alone}
 use Rattle.qcow2_image.proofs.Prepare.MetRanges.{alone_as, guest_fits, next_reads, place_aligned, place_fits}
 use Rattle.qcow2_image.proofs.Call.ImageSteps.{step_none}
 use Rattle.qcow2_image.proofs.image.Qcow2.share_behind.Goals as goal
-
-pub returns-in-Some-copied_place-clause-former : goal.returns-in-Some-copied_place-clause-former
-returns-in-Some-copied_place-clause-former g c = lists_none c.args.self.now c.requires.writable
-
-pub returns-in-Some-2-clause-former : goal.returns-in-Some-2-clause-former
-returns-in-Some-2-clause-former g c = lists_none c.args.self.now c.requires.writable
-
-pub returns-in_ok-fill_kept-in-None-clause-former : goal.returns-in_ok-fill_kept-in-None-clause-former
-returns-in_ok-fill_kept-in-None-clause-former g c =
-    let rest = c.fill_kept.ensures.rest in
-    lists_still c.args.self.now c.args.self.now c.fill_kept.new.self (lists_none c.args.self.now c.requires.writable)
-    (record { allocator = ap (λ (image : Qcow2 _ _). image.allocator) rest; list = ap (λ (image : Qcow2 _ _). image.file.free_list) rest })
 
 pub returns-in-Some-copied_place-clause-step : goal.returns-in-Some-copied_place-clause-step
 returns-in-Some-copied_place-clause-step g c = step_none
@@ -68,7 +52,6 @@ returns-in-Some-copied_place-clause-sound g c = λ out k at may sound.
       limit = search rules;
       does = behind_in_place view below old out k p at c.args.length c.args.table c.args.overwrite may sound
           (covered ∙ c.in-Some-copied_place.ensures.place.0 ∙ ap (λ b. Data b true) (c.if-place-host.true ∙ c.in-Some-checked_add.ensures.1));
-      uses = λ j used. used;
     }
 
 pub returns-in-Some-2-clause-sound : goal.returns-in-Some-2-clause-sound
@@ -84,7 +67,6 @@ returns-in-Some-2-clause-sound g c = λ out k at may sound.
       met = search rules;
       limit = search rules;
       does = ends_elsewhere view below old out k p at c.args.length c.args.table c.args.overwrite may sound c.in-Some-copied_place.place (covered ∙ c.in-Some-copied_place.ensures.place.0) (λ is. c.if-place-host.false (is ∙ sym c.in-Some-checked_add.ensures.1));
-      uses = λ j used. used;
     }
 
 pub returns-in_err-fill_kept-in-None-clause-sound : goal.returns-in_err-fill_kept-in-None-clause-sound
@@ -100,7 +82,6 @@ returns-in_err-fill_kept-in-None-clause-sound g c = λ out k at may sound.
     let covered = next_says view below old out k p at c.args.length c.args.table c.args.overwrite may sound c.cluster-cluster.result c.in_ok-old.old cluster (c.in_ok-old.ensures.says (pending_in view below old out) (l1_index_of h p.guest) sound.file) in
     let host = c.in-Some-checked_add.host in
     record {
-      uses = search rules;
       does = let kept : cover h (known_in view old.file) ((p.guest + p.length) / cluster_size h) ≡ Zero (Some (c.in-Some-checked_add.host, true)) =
           ap (cover h (known_in view old.file)) (next_cluster view below old out k p at c.args.length c.args.table c.args.overwrite may sound) ∙ covered ∙ c.keeps.ensures.answer.0 c.if-keeps.true in
           let alone = behind_alone view below old out k p at c.args.length c.args.table c.args.overwrite may sound c.in-Some-checked_add.host c.in-Some-checked_add.ensures.1 kept (c.keeps.ensures.reach c.if-keeps.true) in
@@ -112,7 +93,7 @@ returns-in_err-fill_kept-in-None-clause-sound g c = λ out k at may sound.
           ap (cover h (known_in view old.file)) (next_cluster view below old out k p at c.args.length c.args.table c.args.overwrite may sound) ∙ covered ∙ c.keeps.ensures.answer.0 c.if-keeps.true in
           hands_alone (IsCopiedCompressed h (cover h (known_in view old.file) ((p.guest + p.length) / cluster_size h)) (p.guest + p.length) (c.args.length - p.length) c.args.overwrite) ⊥ c.from_residual-in_err-fill_kept-in-None.result c.in_err-fill_kept-in-None.field-0.0 c.from_residual-in_err-fill_kept-in-None.ensures
           (inl (inl (c.in_err-fill_kept-in-None.ensures.fault (kept_behind view below out (pending_in view below old out) old sound _ c.in-Some-checked_add.host kept))));
-      limit = hands_limit (λ x. CantGoBehind g.S.Storage.view c.args.prepared.now c.args.self.now c.fill_kept.new.self) c.from_residual-in_err-fill_kept-in-None.result c.in_err-fill_kept-in-None.field-0.0 c.from_residual-in_err-fill_kept-in-None.ensures
+      limit = hands_limit c.from_residual-in_err-fill_kept-in-None.result c.in_err-fill_kept-in-None.field-0.0 c.from_residual-in_err-fill_kept-in-None.ensures
           (other_limit _ c.in_err-fill_kept-in-None.field-0.0 c.in_err-fill_kept-in-None.ensures.fails.limited);
     }
 
@@ -140,13 +121,6 @@ returns-in_ok-fill_kept-in-None-clause-sound g c = λ out k at may sound.
           let filled = subst (λ x. IsFilled view below old new (host / cluster_size h) x (c.args.length - p.length) c.args.overwrite) c.in-Some.ensures.1
           (subst (λ x. IsFilled view below old new (host / cluster_size h) c.in-Some.next x c.args.overwrite) c.saturating_sub-left.ensures (c.in_ok-fill_kept-in-None.ensures.fills before out sound covers)) in
           behind_kept view below old out k p at c.args.length c.args.table c.args.overwrite may sound c.in-Some-checked_add.host c.in-Some-checked_add.ensures.1 kept (c.keeps.ensures.reach c.if-keeps.true) new image_step list filled;
-      uses = let kept : cover h (known_in view old.file) ((p.guest + p.length) / cluster_size h) ≡ Zero (Some (c.in-Some-checked_add.host, true)) =
-          ap (cover h (known_in view old.file)) (next_cluster view below old out k p at c.args.length c.args.table c.args.overwrite may sound) ∙ covered ∙ c.keeps.ensures.answer.0 c.if-keeps.true in
-          let alone = behind_alone view below old out k p at c.args.length c.args.table c.args.overwrite may sound c.in-Some-checked_add.host c.in-Some-checked_add.ensures.1 kept (c.keeps.ensures.reach c.if-keeps.true) in
-          let image_step = c.fill_kept.ensures.image_step before out sound (λ m. omega arith) (subst (λ x. IsKeptAlone view below old out x host) (sym c.in-Some.ensures.1) alone) in
-          let rest = c.fill_kept.ensures.rest in
-          let a = lists_none old c.requires.writable in
-          used_stays view below out before a.after old new sound image_step.sound (ap (λ (i : Qcow2 _ _). i.file.header) rest) a.is (ap (λ (i : Qcow2 _ _). i.allocator) rest) (ap (λ (i : Qcow2 _ _). i.l1_table) rest) image_step.covers;
     }
 
 pub returns-in-None-2-clause-sound : goal.returns-in-None-2-clause-sound
@@ -177,15 +151,7 @@ returns-in-None-2-clause-sound g c = λ out k at may sound.
             subst (λ x. HasUnannounced (cluster_size h) x (c.args.length - p.length) c.args.overwrite) c.in-Some.ensures.1 (subst (λ x. HasUnannounced (cluster_size h) c.in-Some.next x c.args.overwrite) c.saturating_sub-left.ensures copied.1),
           )) (λ no. no))
           (c.share_at.ensures.met (pending_in view below old out) out sound (λ m. omega arith) aligned);
-      limit = let own_not : c.in_ok-old.old ≢ Zero (Some (p.offset + p.length, true)) =
-          λ own. let yes = c.keeps.ensures.answer.1 (own ∙ ap (λ b. Zero (Some (b, true))) (sym c.in-Some-checked_add.ensures.1)) in absurd (let e : true ≡ false = sym yes ∙ c.if-keeps.false in cc) in
-          limits_as (λ x. CantTakeAt view c.in-Some-checked_add.host old new) (λ x. CantGoBehind view p old new) c.share_at.result
-          (λ e cant. (
-            subst (λ n. CantTakeAt view n old new) c.in-Some-checked_add.ensures.1 cant,
-            subst (λ (x : L2Mapping). IsNewThere x (p.offset + p.length)) (sym here) (not_copied c.in_ok-old.old (c.in-None-2.ensures.none refl), own_not),
-          ))
-          (c.share_at.ensures.limit (pending_in view below old out) out sound (λ m. omega arith));
-      uses = c.share_at.ensures.uses (pending_in g.S.Storage.view g.F.BackingDisk.backing c.args.self.now out) out sound (λ m. omega arith);
+      limit = c.share_at.ensures.limit (pending_in view below old out) out sound (λ m. omega arith);
     }
 
 pub returns-in_err-old-clause-sound : goal.returns-in_err-old-clause-sound
@@ -198,21 +164,19 @@ returns-in_err-old-clause-sound g c = λ out k at may sound.
     let cluster : c.cluster-cluster.result ≡ (p.guest + p.length) / cluster_size h = c.cluster-cluster.ensures ∙ ap (λ o. o / 2 ^ c.cluster_bits.result) (c.new.ensures ∙ c.in-Some.ensures.1) ∙ ap (λ b. (p.guest + p.length) / 2 ^ b) c.cluster_bits.ensures.value in
     record {
       does = search rules;
-      uses = search rules;
       met = absurd (let no : false ≡ true = next_reads view below old out k p at c.args.length c.args.table c.args.overwrite may sound c.cluster-cluster.result cluster (c.in_err-old.ensures.reads (pending_in view below old out) (l1_index_of h p.guest) sound.file) in cc);
-      limit = hands_limit (λ x. CantGoBehind g.S.Storage.view c.args.prepared.now c.args.self.now c.args.self.now) c.from_residual.result c.in_err-old.field-0.0 c.from_residual.ensures (other_limit _ c.in_err-old.field-0.0 c.in_err-old.ensures.limited);
+      limit = hands_limit c.from_residual.result c.in_err-old.field-0.0 c.from_residual.ensures (other_limit _ c.in_err-old.field-0.0 c.in_err-old.ensures.limited);
     }
 
 pub returns-in_default-clause-sound : goal.returns-in_default-clause-sound
 returns-in_default-clause-sound g c = λ out k at may sound.
     let never = c.in_default.ensures (guest_fits g.S.Storage.view g.F.BackingDisk.backing c.args.self.now out k c.args.prepared.now at c.args.length c.args.table c.args.overwrite may sound) in
-    record { does = absurd never; met = absurd never; limit = absurd never; uses = absurd never }
+    record { does = absurd never; met = absurd never; limit = absurd never }
 
 pub returns-in_default-checked_add-clause-sound : goal.returns-in_default-checked_add-clause-sound
 returns-in_default-checked_add-clause-sound g c = λ out k at may sound.
     record {
       does = search rules;
       limit = search rules;
-      uses = search rules;
       met = absurd (c.in_default-checked_add.ensures (place_fits g.S.Storage.view g.F.BackingDisk.backing c.args.self.now out k c.args.prepared.now at c.args.length c.args.table c.args.overwrite may sound));
     }

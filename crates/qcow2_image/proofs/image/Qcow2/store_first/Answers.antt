@@ -3,22 +3,18 @@ use Rattle.qcow2_alloc.proofs.KeptMarks.{notes_of_both}
 use Rattle.qcow2_image.proofs.Map.Loading.{caches_moved, with_caches}
 use Rattle.qcow2_image.proofs.Prepare.Storing.{stores_counts}
 use Rattle.qcow2_image.proofs.Call.BehindHeader.{behind_caches}
-use Rattle.qcow2_image.proofs.Prepare.Lacked.{faults_unlimited}
 use Rattle.qcow2_image.proofs.image.Qcow2.store_first.Goals as goal
 
 pub returns-clause-stores : goal.returns-clause-stores
 returns-clause-stores g c = λ p out sound.
     let old = c.args.self.now in
-    let stay = c.flush_rb.ensures.keeps old.file.header.fields p sound.file.honest sound.file.caches in
+    let stay = c.flush_rb.ensures.sound.keeps old.file.header.fields p sound.file.honest sound.file.caches in
     stores_counts g.S.Storage.view g.F.BackingDisk.backing old (with_caches g.S.Storage.view g.F.BackingDisk.backing old out p sound c.flush_rb.new.storage c.flush_rb.new.self) out p
-    (caches_moved g.S.Storage.view g.F.BackingDisk.backing old out p sound c.flush_rb.new.storage c.flush_rb.new.self stay c.flush_rb.ensures.marks.room c.flush_rb.ensures.marks.pins)
-    c.flush_rb.result c.flush_rb.ensures.written c.flush_rb.ensures.first
-
-pub returns-clause-limited : goal.returns-clause-limited
-returns-clause-limited g c = λ p out sound. faults_unlimited c.flush_rb.result (c.flush_rb.ensures.faults c.args.self.now.file.header.fields p sound.file.honest sound.file.caches sound.file.named_blocks)
+    (caches_moved g.S.Storage.view g.F.BackingDisk.backing old out p sound c.flush_rb.new.storage c.flush_rb.new.self stay c.flush_rb.ensures.step.marks.pins.room c.flush_rb.ensures.step.marks.pins.pins)
+    c.flush_rb.result c.flush_rb.ensures.flushes.written c.flush_rb.ensures.flushes.first
 
 pub returns-clause-fault : goal.returns-clause-fault
 returns-clause-fault g c = λ p out sound. c.flush_rb.ensures.faults c.args.self.now.file.header.fields p sound.file.honest sound.file.caches sound.file.named_blocks
 
 pub returns-clause-step : goal.returns-clause-step
-returns-clause-step g c = record { stays = search rules; notes = (notes_of_both c.flush_rb.ensures.marks c.flush_rb.ensures.notes); header_cluster = behind_caches c.flush_rb.ensures.header_cluster }
+returns-clause-step g c = record { stays = search rules; notes = (notes_of_both c.flush_rb.ensures.step.marks.pins c.flush_rb.ensures.step.marks.notes); header_cluster = behind_caches c.flush_rb.ensures.step.header_cluster }

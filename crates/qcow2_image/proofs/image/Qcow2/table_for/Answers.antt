@@ -1,8 +1,8 @@
 use Rattle.qcow2_alloc.specs.declared.error.ImageError.TheVariants as I
 use Rattle.qcow2_image.proofs.Call.ImageSteps.{step_none, step_then}
-use Rattle.qcow2_image.specs.ListedClusters.{ListsNoMore, ListsSinceTable}
+use Rattle.qcow2_image.specs.ListedClusters.{ListsNoMore}
 use Rattle.qcow2_image.proofs.image.Qcow2.table_for.Goals as goal
-use Rattle.std.proofs.Common.{◌≡◌, true, false, Err, ◌∙◌, refl, ap, sym, subst, inl, inr, ◌+◌, rules}
+use Rattle.std.proofs.Common.{◌≡◌, true, false, Err, ◌∙◌, refl, ap, sym, subst, inl, inr, rules, arith}
 use Rattle.qcow2_metadata.specs.Header.{HeaderView}
 use Rattle.qcow2_laws.specs.CrashInvariant.{Pending}
 use Rattle.qcow2_alloc.proofs.AllocationSteps.{handed_on}
@@ -17,14 +17,12 @@ use Rattle.qcow2_image.specs.UnseenSteps.{NamesOwn, pending_with_listed}
 use Rattle.qcow2_image.proofs.Prepare.Owning.{left_alone}
 use Rattle.qcow2_image.proofs.Grow.Lengths.{own_after}
 use Rattle.qcow2_image.specs.NewTables.{IsFaultOrLacksTable}
-use Rattle.qcow2_image.proofs.Prepare.Listing.{lists_made, lists_own, some_kept, some_then}
 use Rattle.qcow2_image.proofs.Call.FaultCounts.{counted_on, counted_since, faults_then, same_of}
-use Rattle.qcow2_image.proofs.Prepare.Lacked.{cluster_more, hands_limit, longer_wider, near_reached, other_limit, reached_runs, stands_then, unlimited_all}
-use Rattle.qcow2_image.specs.LackedPlaces.{HasNearEntry, HasNoCluster, LacksTableFor, listed_or_l1}
+use Rattle.qcow2_image.proofs.Prepare.Lacked.{hands_limit, near_reached, other_limit, limited_behind, goes_step, limits_since}
 use Rattle.qcow2_alloc.proofs.Outcomes.{not_both}
 use Rattle.qcow2_metadata.specs.declared.header.HeaderFields.{HeaderFields}
 use Rattle.qcow2_image.proofs.Call.Unlimited.{fault_unlimited}
-use Rattle.qcow2_image.specs.L1Entries.{NeedsFarEntry}
+use Rattle.qcow2_image.specs.L1Entries.{NeedsFarEntry, HasNearEntry}
 use Rattle.qcow2_image.specs.Backings.{HasPrepared}
 use Rattle.qcow2_image.specs.MetAlone.{IsMetTaking}
 use Rattle.qcow2_image.proofs.Prepare.Met.{hands_met, met_as}
@@ -116,10 +114,8 @@ returns-then-has_own_l2-clause-sound g c = λ out sound.
       finds = finds view below out c.args.self.now c.ensure_l2.new.self sound c.ensure_l2.ensures.keeps_rest c.args.offset c.ensure_l2.result ((c.ensure_l2.ensures.sound (pending_in view below c.args.self.now out) out sound).ready);
       met = met_as (IsMetTaking (HasPrepared out) ⊥ ⊥ ⊥) (IsMetTaking (HasPrepared out) ⊥ ⊥ (NeedsFarEntry c.args.self.now c.args.offset)) c.ensure_l2.result (taking_as (λ held. held) (λ no. no) (λ no. no) (λ no. absurd no))
           ((c.ensure_l2.ensures.sound (pending_in g.S.Storage.view g.F.BackingDisk.backing c.args.self.now out) out sound).met (inl (c.has_own_l2.ensures.0 c.if-has_own_l2.true)));
-      limit = unlimited_all c.ensure_l2.result (λ e. LacksTableFor g.S.Storage.view c.args.offset c.args.self.now c.ensure_l2.new.self)
-          ((c.ensure_l2.ensures.sound (pending_in g.S.Storage.view g.F.BackingDisk.backing c.args.self.now out) out sound).limited (c.has_own_l2.ensures.0 c.if-has_own_l2.true));
+      limit = limits_since _ c.ensure_l2.result (omega arith) (goes_step step_none) ((c.ensure_l2.ensures.sound (pending_in view below c.args.self.now out) out sound).limit (inl (c.has_own_l2.ensures.0 c.if-has_own_l2.true)));
       lacks = λ none. (c.ensure_l2.ensures.sound (pending_in g.S.Storage.view g.F.BackingDisk.backing c.args.self.now out) out sound).lacks none;
-      freed = let own = c.has_own_l2.ensures.0 c.if-has_own_l2.true in always_ok c.ensure_l2.result (lists_own c.args.offset c.args.self.now c.ensure_l2.new.self c.requires.writable own (c.ensure_l2.ensures.quiet own));
       freeing = always_ok c.ensure_l2.result (inl (c.ensure_l2.ensures.quiet (c.has_own_l2.ensures.0 c.if-has_own_l2.true)).list);
     }
 
@@ -131,7 +127,6 @@ returns-then-has_far_entry-clause-sound g c = λ out sound.
     record {
       met = search rules;
       limit = search rules;
-      freed = search rules;
       freeing = search rules;
       finds = left_refused view below out old old I.Overflow sound (record { header = refl; backing = refl }) (left_alone view below out (pending_in view below old out) old sound 0 I.Overflow);
       lacks = λ none. inr (λ own. absurd (let has = c.has_own_l2.ensures.1 (subst NamesOwn (sym (sound.l1_table.entries (l1_index_of old.file.header.fields c.args.offset))) own) in let is = sym c.if-has_own_l2.false ∙ has in cc));
@@ -140,18 +135,12 @@ returns-then-has_far_entry-clause-sound g c = λ out sound.
 pub returns-in_err-reach_entry-clause-sound : goal.returns-in_err-reach_entry-clause-sound
 returns-in_err-reach_entry-clause-sound g c = λ out sound.
     let view = g.S.Storage.view in
-    let old = c.args.self.now in
-    let new = c.reach_entry.new.self in
     record {
-      freed = search rules;
       freeing = search rules;
       finds = handed_on (FindsTable view g.F.BackingDisk.backing c.args.self.now c.reach_entry.new.self out c.args.offset) c.from_residual.result c.in_err-reach_entry.field-0.0 c.from_residual.ensures
           ((c.in_err-reach_entry.ensures.sound out sound).makes);
       met = hands_met (IsMetTaking (HasPrepared out) ⊥ ⊥ (NeedsFarEntry c.args.self.now c.args.offset)) c.from_residual.result c.in_err-reach_entry.field-0.0 c.from_residual.ensures (inl (inl ((c.in_err-reach_entry.ensures.sound out sound).fault)));
-      limit = hands_limit (λ x. LacksTableFor view c.args.offset old new) c.from_residual.result c.in_err-reach_entry.field-0.0 c.from_residual.ensures
-          (λ is.
-          let why = (c.in_err-reach_entry.ensures.sound out sound).limit is in
-          ((λ own. absurd (let no : false ≡ true = sym c.if-has_own_l2.false ∙ c.has_own_l2.ensures.1 own in cc)), inl (why.0, longer_wider view (l1_index_of old.file.header.fields c.args.offset) (l1_index_of old.file.header.fields c.args.offset + 1) old new why.1)));
+      limit = hands_limit c.from_residual.result c.in_err-reach_entry.field-0.0 c.from_residual.ensures ((c.in_err-reach_entry.ensures.sound out sound).limit);
       lacks = λ none. handed_on (λ r. IfErr r (IsFaultOrLacksTable g.S.Storage.view c.reach_entry.new.self c.args.offset)) c.from_residual.result c.in_err-reach_entry.field-0.0 c.from_residual.ensures ((c.in_err-reach_entry.ensures.sound out sound).lacks);
     }
 
@@ -163,10 +152,7 @@ returns-in_err-own_l2-clause-sound g c = λ out sound.
     let long = c.reach_entry.new.self in
     let e = c.in_err-own_l2.field-0.0 in
     let reached = (c.in_ok-reach_entry.ensures.sound out sound).makes in
-    let new = c.own_l2.new.self in
-    let gave = c.in_ok-reach_entry.ensures.former in
     record {
-      freed = search rules;
       freeing = search rules;
       finds = handed_on (FindsTable view below old c.own_l2.new.self out c.args.offset) c.from_residual-in_err-own_l2.result e c.from_residual-in_err-own_l2.ensures
           (finds_after view below out old long c.own_l2.new.self reached c.args.offset (Err e)
@@ -177,12 +163,8 @@ returns-in_err-own_l2-clause-sound g c = λ out sound.
           (taking_as (λ held. held) (λ no. no) (λ no. no) (λ no. absurd no) c.in_err-own_l2.field-0.0 ((c.in_err-own_l2.ensures.sound (pending_in view below long out) out reached.sound).met (inr near)));
       limit = let near : HasNearEntry long (l1_index_of long.file.header.fields c.args.offset) =
           near_reached old long c.args.offset sound.l1_table.bits (λ far. not_both c.has_far_entry.result (c.has_far_entry.ensures.1 far) c.if-has_far_entry.false) c.reach_entry.ensures.none c.in_ok-reach_entry.ensures.placed c.in_ok-reach_entry.ensures.length (ap (λ (h : HeaderFields). l1_index_of h c.args.offset) reached.header) in
-          hands_limit (λ x. LacksTableFor view c.args.offset old new) c.from_residual-in_err-own_l2.result e c.from_residual-in_err-own_l2.ensures
-          (λ is.
-          let s = (c.in_err-own_l2.ensures.sound (pending_in view below long out) out reached.sound).limit near is in (
-            (λ own. absurd (let no : false ≡ true = sym c.if-has_own_l2.false ∙ c.has_own_l2.ensures.1 own in cc)),
-            inr (stands_then view HasNoCluster cluster_more long.file.free_list (listed_or_l1 old) gave.0 old long new gave.1 (reached_runs old long c.args.offset gave.0 c.reach_entry.ensures.none c.in_ok-reach_entry.ensures.emptied) s),
-          ));
+          hands_limit c.from_residual-in_err-own_l2.result e c.from_residual-in_err-own_l2.ensures
+          (λ is. limited_behind (omega arith) c.reach_entry.ensures.step ((c.in_err-own_l2.ensures.sound (pending_in view below long out) out reached.sound).limit (inr near) is));
       lacks = λ none. handed_on (λ r. IfErr r (IsFaultOrLacksTable view c.own_l2.new.self c.args.offset)) c.from_residual-in_err-own_l2.result c.in_err-own_l2.field-0.0 c.from_residual-in_err-own_l2.ensures
           ((c.in_err-own_l2.ensures.sound (pending_in view below long out) out ((c.in_ok-reach_entry.ensures.sound out sound).makes).sound).lacks);
     }
@@ -200,7 +182,6 @@ returns-in_err-free_listed-clause-sound g c = λ out sound.
     let first = stays_kept view below out long mid reached.sound ((c.in_ok-own_l2.ensures.sound (pending_in view below long out) out reached.sound).does).0 in
     let listed = subst (λ (x : Pending). ImageInvariant view below x mid out) (all_listed view below mid out) first.sound in
     record {
-      freed = handed_on (λ r. OnOk r (ListsSinceTable c.args.offset old new)) c.from_residual-in_err-free_listed.result e c.from_residual-in_err-free_listed.ensures tt;
       freeing = handed_on (λ r. OnOk r (ListsNoMore old new)) c.from_residual-in_err-free_listed.result e c.from_residual-in_err-free_listed.ensures tt;
       finds = handed_on (FindsTable view below old new out c.args.offset) c.from_residual-in_err-free_listed.result e c.from_residual-in_err-free_listed.ensures
           (finds_after view below out old long new reached c.args.offset (Err e)
@@ -208,7 +189,7 @@ returns-in_err-free_listed-clause-sound g c = λ out sound.
       met = let first = stays_kept view below out long mid reached.sound ((c.in_ok-own_l2.ensures.sound (pending_in view below long out) out reached.sound).does).0 in
           hands_met (IsMetTaking (HasPrepared out) ⊥ ⊥ (NeedsFarEntry old c.args.offset)) c.from_residual-in_err-free_listed.result c.in_err-free_listed.field-0.0 c.from_residual-in_err-free_listed.ensures
           (inl (inl (inl (c.in_err-free_listed.ensures.faults (beside view below mid out) out listed))));
-      limit = hands_limit (λ x. LacksTableFor view c.args.offset c.args.self.now c.free_listed.new.self) c.from_residual-in_err-free_listed.result e c.from_residual-in_err-free_listed.ensures
+      limit = hands_limit c.from_residual-in_err-free_listed.result e c.from_residual-in_err-free_listed.ensures
           (other_limit _ e (fault_unlimited e (c.in_err-free_listed.ensures.faults (beside view below mid out) out listed)));
       lacks = λ none. handed_on (λ r. IfErr r (IsFaultOrLacksTable view c.free_listed.new.self c.args.offset)) c.from_residual-in_err-free_listed.result c.in_err-free_listed.field-0.0 c.from_residual-in_err-free_listed.ensures
           (inl (c.in_err-free_listed.ensures.faults (beside view below mid out) out listed));
@@ -231,7 +212,6 @@ returns-clause-sound g c = λ out sound.
     let at = ap (λ (v : HeaderView). l1_index_of v.fields c.args.offset) c.own_l2.ensures.keeps_rest.header in
     let own = own_after view below out (pending_with_listed (pending_in view below long out) long mid) mid freed owned.0.sound c.args.offset (l1_index_of long.file.header.fields c.args.offset) at owned.1.own c.free_listed.ensures.table c.free_listed.ensures.keeps_rest.header in
     let writable = subst IsTrue (sym (c.own_l2.ensures.step.stays.image.writable ∙ c.reach_entry.ensures.step.stays.image.writable)) c.requires.writable in
-    let gave = some_kept old mid freed (some_then old long mid c.in_ok-reach_entry.ensures.former c.in_ok-own_l2.ensures.former) c.free_listed.ensures.former in
     record {
       finds = finds_after view below out old long new reached c.args.offset c.ensure_l2-2.result
           (finds_after view below out long mid new first c.args.offset c.ensure_l2-2.result
@@ -239,9 +219,7 @@ returns-clause-sound g c = λ out sound.
           (finds view below out freed new second.sound c.ensure_l2-2.ensures.keeps_rest c.args.offset c.ensure_l2-2.result ((c.ensure_l2-2.ensures.sound (pending_in view below freed out) out second.sound).ready))));
       met = let first = stays_kept view below out long mid reached.sound owned.0 in
           met_as (IsMetTaking (HasPrepared out) ⊥ ⊥ ⊥) (IsMetTaking (HasPrepared out) ⊥ ⊥ (NeedsFarEntry old c.args.offset)) c.ensure_l2-2.result (taking_as (λ held. held) (λ no. no) (λ no. no) (λ no. absurd no)) ((c.ensure_l2-2.ensures.sound (pending_in view below freed out) out second.sound).met (inl own));
-      limit = let first = stays_kept view below out long mid reached.sound owned.0 in
-          unlimited_all c.ensure_l2-2.result (λ e. LacksTableFor view c.args.offset old c.ensure_l2-2.new.self) ((c.ensure_l2-2.ensures.sound (pending_in view below freed out) out second.sound).limited own);
+      limit = limits_since _ c.ensure_l2-2.result (omega arith) (goes_step (step_then (step_then c.reach_entry.ensures.step c.own_l2.ensures.step) c.free_listed.ensures.step)) ((c.ensure_l2-2.ensures.sound (pending_in view below freed out) out second.sound).limit (inl own));
       lacks = λ none. (c.ensure_l2-2.ensures.sound (pending_in view below freed out) out second.sound).lacks none;
-      freed = always_ok c.ensure_l2-2.result (lists_made c.args.offset old freed c.ensure_l2-2.new.self (λ has. let some = c.has_own_l2.ensures.1 has in let is = sym c.if-has_own_l2.false ∙ some in cc) gave (c.ensure_l2-2.ensures.quiet own).allocator ((c.ensure_l2-2.ensures.quiet own).list ∙ c.in_ok-free_listed.ensures.emptied writable));
       freeing = always_ok c.ensure_l2-2.result (inr ((c.ensure_l2-2.ensures.quiet own).list ∙ c.in_ok-free_listed.ensures.emptied writable));
     }

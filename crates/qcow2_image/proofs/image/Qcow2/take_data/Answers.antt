@@ -1,5 +1,7 @@
-use Rattle.std.proofs.Common.{◌≡◌, subst, refl, rules, arith, ◌<◌}
-use Rattle.std.specs.Prelude.{IfSome, Some, IfOk, IfErr}
+use Rattle.qcow2_image.proofs.Prepare.Lacked.{goes_step, limits_left, left_taken}
+use Rattle.qcow2_image.specs.UnseenSteps.{pending_with_listed}
+use Rattle.std.proofs.Common.{◌≡◌, subst, refl, rules, arith, inl}
+use Rattle.std.specs.Prelude.{IfSome, Some, IfErr}
 use Rattle.qcow2_alloc.specs.Allocation.{Allocates}
 use Rattle.qcow2_alloc.specs.FreeList.{pending_then}
 use Rattle.qcow2_alloc.specs.KeptAllocators.{IsAllocatorOf}
@@ -9,12 +11,8 @@ use Rattle.qcow2_image.proofs.Formats.{lists_grow}
 use Rattle.qcow2_image.proofs.Moving.{leaked_still}
 use Rattle.qcow2_image.proofs.Prepare.Gaining.{takes_data}
 use Rattle.qcow2_image.proofs.Call.BehindHeader.{behind_allocated}
-use Rattle.qcow2_alloc.specs.LowestRuns.{IsLowestRun, IsUsed}
-use Rattle.qcow2_image.proofs.Prepare.InUse.{all_used}
-use Rattle.qcow2_image.proofs.Map.Loading.{if_ok}
-use Rattle.qcow2_image.proofs.Prepare.Lacked.{cluster_more, limits_untaken, stands_untaken}
+use Rattle.qcow2_alloc.specs.LowestRuns.{IsUsed}
 use Rattle.qcow2_alloc.specs.Limits.{HasNoPlace, IsFaultOr}
-use Rattle.qcow2_image.specs.LackedPlaces.{HasNoCluster, StandsInWay}
 use Rattle.qcow2_image.proofs.Prepare.Met.{limit_alone, met_as}
 use Rattle.qcow2_image.specs.Refusals.{IsFaultOrLimit}
 use Rattle.qcow2_image.proofs.image.Qcow2.take_data.Goals as goal
@@ -33,30 +31,6 @@ returns-clause-takes g c = λ p out sound holds.
 pub returns-clause-list : goal.returns-clause-list
 returns-clause-list g c = lists_grow c.args.self.now (record c.args.self.now { file = c.allocate_data.new.file; allocator = Some c.allocate_data.new.self }) c.allocate_data.ensures.step.list
 
-pub returns-clause-former : goal.returns-clause-former
-returns-clause-former g c = record { before = c.in-Some.allocator; after = c.allocate_data.new.self; was = c.in-Some.is; is = refl; behind = c.allocate_data.ensures.step.former }
-
-pub returns-clause-lowest : goal.returns-clause-lowest
-returns-clause-lowest g c = λ p out sound.
-    let view = g.S.Storage.view in
-    let one : c.new.result ≡ 1 = c.new.ensures in
-    let own = subst (λ x. IfSome x (IsAllocatorOf view c.args.self.now.file)) c.in-Some.is sound.reftable in
-    if_ok c.allocate_data.result (λ run low. all_used view c.allocate_data.new.file run.first_cluster low)
-    (subst (λ n. IfOk c.allocate_data.result (λ run. IsLowestRun (IsUsed view c.allocate_data.new.file) run.first_cluster n)) one (((c.allocate_data.ensures.sound p (record { sound = sound.file; reftable = own.reftable })).found.lowest own.hint)))
-
-pub returns-clause-limit : goal.returns-clause-limit
-returns-clause-limit g c = λ p out sound.
-    let view = g.S.Storage.view in
-    let old = c.args.self.now in
-    let file = c.allocate_data.new.file in
-    let one : c.new.result ≡ 1 = c.new.ensures in
-    let own = subst (λ x. IfSome x (IsAllocatorOf view old.file)) c.in-Some.is sound.reftable in
-    let none = HasNoPlace (IsUsed view file) file.header.fields c.allocate_data.new.self 1 in
-    limits_untaken none (StandsInWay view HasNoCluster old.file.free_list old (record old { file = file; allocator = Some c.allocate_data.new.self })) c.allocate_data.result
-    (λ full. stands_untaken view HasNoCluster cluster_more old file c.in-Some.allocator c.allocate_data.new.self c.in-Some.is c.allocate_data.ensures.step.former full)
-    (subst (λ n. IfErr c.allocate_data.result (IsFaultOr (HasNoPlace (IsUsed view file) file.header.fields c.allocate_data.new.self n))) one
-    (((c.allocate_data.ensures.sound p (record { sound = sound.file; reftable = own.reftable })).found.limit own.hint) (omega (arith, one))))
-
 pub returns-clause-fault : goal.returns-clause-fault
 returns-clause-fault g c = λ p out sound.
     let view = g.S.Storage.view in
@@ -67,10 +41,19 @@ returns-clause-fault g c = λ p out sound.
     met_as (IsFaultOr none) IsFaultOrLimit c.allocate_data.result (λ e why. limit_alone none e why)
     (((c.allocate_data.ensures.sound p (record { sound = sound.file; reftable = own.reftable })).found.limit own.hint) (omega (arith, one)))
 
-pub returns-clause-uses : goal.returns-clause-uses
-returns-clause-uses g c = λ p out sound.
-    let own = subst (λ x. IfSome x (IsAllocatorOf g.S.Storage.view c.args.self.now.file)) c.in-Some.is sound.reftable in
-    (c.allocate_data.ensures.sound p (record { sound = sound.file; reftable = own.reftable })).found.uses
-
 pub returns-clause-step : goal.returns-clause-step
 returns-clause-step g c = record { stays = search rules; notes = (notes_of_both c.allocate_data.ensures.step.marks.pins c.allocate_data.ensures.step.marks.notes); header_cluster = behind_allocated c.in-Some.is c.allocate_data.ensures.step.header_cluster }
+
+pub returns-clause-limit : goal.returns-clause-limit
+returns-clause-limit g c = λ p out sound holds.
+    let view = g.S.Storage.view in
+    let old = c.args.self.now in
+    let file = c.allocate_data.new.file in
+    let new = record old { file = file; allocator = Some c.allocate_data.new.self } in
+    let one : c.new.result ≡ 1 = c.new.ensures in
+    let own = subst (λ x. IfSome x (IsAllocatorOf view old.file)) c.in-Some.is sound.reftable in
+    limits_left view g.F.BackingDisk.backing out (pending_with_listed p old new) old new c.allocate_data.result
+    (left_taken view g.F.BackingDisk.backing out p old new c.allocate_data.result (returns-clause-takes g c p out sound holds)) (goes_step (returns-clause-step g c))
+    (λ full. record { allocator = c.allocate_data.new.self; is = refl; lacks = inl (1, inl refl, full) })
+    (subst (λ n. IfErr c.allocate_data.result (IsFaultOr (HasNoPlace (IsUsed view file) file.header.fields c.allocate_data.new.self n))) one
+    (((c.allocate_data.ensures.sound p (record { sound = sound.file; reftable = own.reftable })).found.limit own.hint) (omega (arith, one))))

@@ -1,5 +1,8 @@
-use Rattle.std.proofs.Common.{subst, refl, rules}
-use Rattle.std.specs.Prelude.{IfSome, Some}
+use Rattle.qcow2_image.proofs.Prepare.Lacked.{goes_step, limits_left, left_taken_at, cause_within}
+use Rattle.qcow2_image.specs.UnseenSteps.{pending_with_listed}
+use Rattle.qcow2_metadata.specs.Header.{counts_per_block, HeaderView}
+use Rattle.std.proofs.Common.{ap, sym, subst, refl, rules, ◌/◌, ◌<◌, inr}
+use Rattle.std.specs.Prelude.{IfSome, Some, ◌^◌}
 use Rattle.qcow2_alloc.specs.ImageFile.{AllocatorInvariant}
 use Rattle.qcow2_alloc.specs.KeptAllocators.{IsAllocatorOf}
 use Rattle.qcow2_alloc.proofs.KeptMarks.{notes_of_both}
@@ -8,10 +11,8 @@ use Rattle.qcow2_image.proofs.Formats.{lists_grow}
 use Rattle.qcow2_image.proofs.Moving.{leaked_still}
 use Rattle.qcow2_image.proofs.Prepare.Gaining.{takes_data_at}
 use Rattle.qcow2_image.proofs.Call.BehindHeader.{behind_allocated}
-use Rattle.qcow2_image.proofs.Prepare.Lacked.{limits_kept}
-use Rattle.qcow2_image.specs.LackedPlaces.{CantTake}
 use Rattle.qcow2_alloc.specs.Limits.{CantCount, IsFaultOr}
-use Rattle.qcow2_alloc.specs.LowestRuns.{IsUsed, StaysUsed}
+use Rattle.qcow2_alloc.specs.LowestRuns.{IsUsed}
 use Rattle.qcow2_image.specs.Refusals.{IsFaultOrLimit}
 use Rattle.qcow2_image.proofs.Prepare.Met.{limit_alone, met_as}
 use Rattle.qcow2_image.proofs.image.Qcow2.take_data_at.Goals as goal
@@ -28,25 +29,6 @@ returns-clause-takes g c = λ p out sound holds.
 pub returns-clause-list : goal.returns-clause-list
 returns-clause-list g c = lists_grow c.args.self.now (record c.args.self.now { file = c.allocate_data_at.new.file; allocator = Some c.allocate_data_at.new.self }) c.allocate_data_at.ensures.step.list
 
-pub returns-clause-former : goal.returns-clause-former
-returns-clause-former g c = record { before = c.in-Some.allocator; after = c.allocate_data_at.new.self; was = c.in-Some.is; is = refl; behind = c.allocate_data_at.ensures.step.former }
-
-pub returns-clause-uses : goal.returns-clause-uses
-returns-clause-uses g c = λ p out sound holds.
-    let own = subst (λ x. IfSome x (IsAllocatorOf g.S.Storage.view c.args.self.now.file)) c.in-Some.is sound.reftable in
-    (c.allocate_data_at.ensures.sound p (record { sound = sound.file; reftable = own.reftable })).uses
-
-pub returns-clause-limit : goal.returns-clause-limit
-returns-clause-limit g c = λ p out sound.
-    let view = g.S.Storage.view in
-    let old = c.args.self.now in
-    let file = c.allocate_data_at.new.file in
-    let own = subst (λ x. IfSome x (IsAllocatorOf view old.file)) c.in-Some.is sound.reftable in
-    limits_kept (CantCount (IsUsed view file) file.header.fields (λ k. 0) c.allocate_data_at.new.self c.args.cluster) (StaysUsed view old.file file) (CantTake view c.args.cluster old (record old { file = file; allocator = Some c.allocate_data_at.new.self })) c.allocate_data_at.result
-    (λ cant stays. record { former = record { before = c.in-Some.allocator; after = c.allocate_data_at.new.self; was = c.in-Some.is; is = refl; behind = c.allocate_data_at.ensures.step.former }; allocator = c.allocate_data_at.new.self; is = refl; uncounted = cant; uses = stays })
-    (((c.allocate_data_at.ensures.sound p (record { sound = sound.file; reftable = own.reftable })).limit own.hint))
-    ((c.allocate_data_at.ensures.sound p (record { sound = sound.file; reftable = own.reftable })).kept)
-
 pub returns-clause-fault : goal.returns-clause-fault
 returns-clause-fault g c = λ p out sound.
     let view = g.S.Storage.view in
@@ -57,3 +39,16 @@ returns-clause-fault g c = λ p out sound.
 
 pub returns-clause-step : goal.returns-clause-step
 returns-clause-step g c = record { stays = search rules; notes = (notes_of_both c.allocate_data_at.ensures.step.marks.pins c.allocate_data_at.ensures.step.marks.notes); header_cluster = behind_allocated c.in-Some.is c.allocate_data_at.ensures.step.header_cluster }
+
+pub returns-clause-limit : goal.returns-clause-limit
+returns-clause-limit g c = λ p out sound holds.
+    let view = g.S.Storage.view in
+    let old = c.args.self.now in
+    let new = record old { file = c.allocate_data_at.new.file; allocator = Some c.allocate_data_at.new.self } in
+    let own = subst (λ x. IfSome x (IsAllocatorOf view old.file)) c.in-Some.is sound.reftable in
+    let took = c.allocate_data_at.ensures.sound p (record { sound = sound.file; reftable = own.reftable }) in
+    let h = ap (λ (v : HeaderView). counts_per_block v.fields) c.allocate_data_at.ensures.step.header in
+    limits_left view g.F.BackingDisk.backing out (pending_with_listed p old new) old new c.allocate_data_at.result
+    (left_taken_at view g.F.BackingDisk.backing out p old new c.args.cluster c.allocate_data_at.result (returns-clause-takes g c p out sound holds)) (goes_step (returns-clause-step g c))
+    (λ cant. record { allocator = c.allocate_data_at.new.self; is = refl; lacks = inr (c.args.cluster, subst (λ n. c.args.cluster / n < 2 ^ 20) (sym h) cant.1, cant.0) })
+    (cause_within _ _ c.allocate_data_at.result (took.limit own.hint) took.within)

@@ -34,7 +34,7 @@ returns-in_err-flush_all-clause-frees g c = λ p out sound.
     let mid = with_caches view below freed out q first.sound c.flush_all.new.storage c.flush_all.new.self in
     frees_any view below out p old mid c.from_residual-in_err-flush_all.result
     (freeing_step_on view below out old freed mid p refl first
-    (caches_moved view below freed out q first.sound c.flush_all.new.storage c.flush_all.new.self (c.flush_all.ensures.keeps freed.file.header.fields q first.sound.file.honest first.sound.file.caches) c.flush_all.ensures.marks.room c.flush_all.ensures.marks.pins))
+    (caches_moved view below freed out q first.sound c.flush_all.new.storage c.flush_all.new.self (c.flush_all.ensures.sound.keeps freed.file.header.fields q first.sound.file.honest first.sound.file.caches) c.flush_all.ensures.step.marks.pins.room c.flush_all.ensures.step.marks.pins.pins))
 
 pub returns-in_err-flush-clause-frees : goal.returns-in_err-flush-clause-frees
 returns-in_err-flush-clause-frees g c = λ p out sound.
@@ -45,7 +45,7 @@ returns-in_err-flush-clause-frees g c = λ p out sound.
     let q : Pending = with_listed p freed.file.free_list in
     let first = c.in_ok-free_listed.ensures.frees p out sound in
     let mid = with_caches view below freed out q first.sound c.flush_all.new.storage c.flush_all.new.self in
-    let written = caches_moved view below freed out q first.sound c.flush_all.new.storage c.flush_all.new.self (c.flush_all.ensures.keeps freed.file.header.fields q first.sound.file.honest first.sound.file.caches) c.flush_all.ensures.marks.room c.flush_all.ensures.marks.pins in
+    let written = caches_moved view below freed out q first.sound c.flush_all.new.storage c.flush_all.new.self (c.flush_all.ensures.sound.keeps freed.file.header.fields q first.sound.file.honest first.sound.file.caches) c.flush_all.ensures.step.marks.pins.room c.flush_all.ensures.step.marks.pins.pins in
     let last = with_caches view below mid out q written.sound c.flush.new.self c.flush_all.new.self in
     frees_any view below out p old last c.from_residual-in_err-flush.result
     (freeing_step_on view below out old freed last p refl first
@@ -59,7 +59,7 @@ returns-clause-frees g c = λ p out sound.
     let q : Pending = with_listed p freed.file.free_list in
     let first = c.in_ok-free_listed.ensures.frees p out sound in
     let mid = with_caches view below freed out q first.sound c.flush_all.new.storage c.flush_all.new.self in
-    let written = caches_moved view below freed out q first.sound c.flush_all.new.storage c.flush_all.new.self (c.flush_all.ensures.keeps freed.file.header.fields q first.sound.file.honest first.sound.file.caches) c.flush_all.ensures.marks.room c.flush_all.ensures.marks.pins in
+    let written = caches_moved view below freed out q first.sound c.flush_all.new.storage c.flush_all.new.self (c.flush_all.ensures.sound.keeps freed.file.header.fields q first.sound.file.honest first.sound.file.caches) c.flush_all.ensures.step.marks.pins.room c.flush_all.ensures.step.marks.pins.pins in
     let last = with_caches view below mid out q written.sound c.flush.new.self c.flush_all.new.self in
     freeing_step_on view below out c.args.self.now freed last p refl first
     (keeps_then view below out freed mid last q q q (λ k h. h) written (read_moved view below mid out q written.sound c.flush.new.self c.flush.ensures.calls c.flush.ensures.same))
@@ -87,21 +87,21 @@ pub returns-in_err-flush_all-clause-quiet : goal.returns-in_err-flush_all-clause
 returns-in_err-flush_all-clause-quiet g c = λ reading.
     let freed = c.free_listed.new.self in
     let first : ReadsQuietly g.S.Storage.view c.args.self.now freed = reads_same g.S.Storage.view c.args.self.now freed (ap (λ (o : Qcow2 _ _). o.file) (c.free_listed.ensures.untouched reading)) in
-    written_then g.S.Storage.view first c.flush_all.ensures.all_written
+    written_then g.S.Storage.view first c.flush_all.ensures.step.all_written
 
 pub returns-in_err-flush-clause-quiet : goal.returns-in_err-flush-clause-quiet
 returns-in_err-flush-clause-quiet g c = λ reading.
     let freed = c.free_listed.new.self in
     let first : ReadsQuietly g.S.Storage.view c.args.self.now freed = reads_same g.S.Storage.view c.args.self.now freed (ap (λ (o : Qcow2 _ _). o.file) (c.free_listed.ensures.untouched reading)) in
     let mid : Qcow2 _ _ = record freed { file = record freed.file { storage = c.flush_all.new.storage; caches = c.flush_all.new.self } } in
-    written_then g.S.Storage.view (written_then g.S.Storage.view first c.flush_all.ensures.all_written) (reads_bytes g.S.Storage.view mid c.flush.new.self c.flush.result c.flush.ensures.calls c.flush.ensures.same)
+    written_then g.S.Storage.view (written_then g.S.Storage.view first c.flush_all.ensures.step.all_written) (reads_bytes g.S.Storage.view mid c.flush.new.self c.flush.result c.flush.ensures.calls c.flush.ensures.same)
 
 pub returns-clause-quiet : goal.returns-clause-quiet
 returns-clause-quiet g c = λ reading.
     let freed = c.free_listed.new.self in
     let first : ReadsQuietly g.S.Storage.view c.args.self.now freed = reads_same g.S.Storage.view c.args.self.now freed (ap (λ (o : Qcow2 _ _). o.file) (c.free_listed.ensures.untouched reading)) in
     let mid : Qcow2 _ _ = record freed { file = record freed.file { storage = c.flush_all.new.storage; caches = c.flush_all.new.self } } in
-    written_then g.S.Storage.view (written_then g.S.Storage.view first c.flush_all.ensures.all_written) (reads_bytes g.S.Storage.view mid c.flush.new.self c.flush.result c.flush.ensures.calls c.flush.ensures.same)
+    written_then g.S.Storage.view (written_then g.S.Storage.view first c.flush_all.ensures.step.all_written) (reads_bytes g.S.Storage.view mid c.flush.new.self c.flush.result c.flush.ensures.calls c.flush.ensures.same)
 
 pub returns-in_err-free_listed-clause-step : goal.returns-in_err-free_listed-clause-step
 returns-in_err-free_listed-clause-step g c = c.free_listed.ensures.step
@@ -109,22 +109,22 @@ returns-in_err-free_listed-clause-step g c = c.free_listed.ensures.step
 pub returns-in_err-flush_all-clause-step : goal.returns-in_err-flush_all-clause-step
 returns-in_err-flush_all-clause-step g c = record {
   stays = search rules;
-  notes = notes_then c.free_listed.ensures.step.notes (notes_of_both c.flush_all.ensures.marks c.flush_all.ensures.notes);
-  header_cluster = behind_then c.free_listed.ensures.step.header_cluster (behind_caches c.flush_all.ensures.header_cluster);
+  notes = notes_then c.free_listed.ensures.step.notes (notes_of_both c.flush_all.ensures.step.marks.pins c.flush_all.ensures.step.marks.notes);
+  header_cluster = behind_then c.free_listed.ensures.step.header_cluster (behind_caches c.flush_all.ensures.step.header_cluster);
 }
 
 pub returns-in_err-flush-clause-step : goal.returns-in_err-flush-clause-step
 returns-in_err-flush-clause-step g c = record {
   stays = search rules;
-  notes = notes_then (notes_then c.free_listed.ensures.step.notes (notes_of_both c.flush_all.ensures.marks c.flush_all.ensures.notes))
+  notes = notes_then (notes_then c.free_listed.ensures.step.notes (notes_of_both c.flush_all.ensures.step.marks.pins c.flush_all.ensures.step.marks.notes))
       (notes_of_storage (read_kept c.flush_all.new.storage c.flush.new.self c.flush.result c.flush.ensures.calls c.flush.ensures.same c.flush.ensures.unnoted));
-  header_cluster = behind_then (behind_then c.free_listed.ensures.step.header_cluster (behind_caches c.flush_all.ensures.header_cluster)) (behind_read c.flush.result c.flush.ensures.calls c.flush.ensures.same);
+  header_cluster = behind_then (behind_then c.free_listed.ensures.step.header_cluster (behind_caches c.flush_all.ensures.step.header_cluster)) (behind_read c.flush.result c.flush.ensures.calls c.flush.ensures.same);
 }
 
 pub returns-clause-step : goal.returns-clause-step
 returns-clause-step g c = record {
   stays = search rules;
-  notes = notes_then (notes_then c.free_listed.ensures.step.notes (notes_of_both c.flush_all.ensures.marks c.flush_all.ensures.notes))
+  notes = notes_then (notes_then c.free_listed.ensures.step.notes (notes_of_both c.flush_all.ensures.step.marks.pins c.flush_all.ensures.step.marks.notes))
       (notes_of_storage (read_kept c.flush_all.new.storage c.flush.new.self c.flush.result c.flush.ensures.calls c.flush.ensures.same c.flush.ensures.unnoted));
-  header_cluster = behind_then (behind_then c.free_listed.ensures.step.header_cluster (behind_caches c.flush_all.ensures.header_cluster)) (behind_read c.flush.result c.flush.ensures.calls c.flush.ensures.same);
+  header_cluster = behind_then (behind_then c.free_listed.ensures.step.header_cluster (behind_caches c.flush_all.ensures.step.header_cluster)) (behind_read c.flush.result c.flush.ensures.calls c.flush.ensures.same);
 }

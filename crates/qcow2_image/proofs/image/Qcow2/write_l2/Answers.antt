@@ -9,7 +9,7 @@ use Rattle.qcow2_image.proofs.Call.Called.{keeps_then}
 use Rattle.qcow2_image.proofs.Prepare.Entering.{may_still, says_still, written_so}
 use Rattle.qcow2_alloc.proofs.KeptMarks.{notes_none, notes_then}
 use Rattle.qcow2_image.proofs.Call.BehindHeader.{behind_none, behind_then}
-use Rattle.qcow2_image.proofs.Prepare.Lacked.{faults_unlimited, hands_unlimited, near_placed}
+use Rattle.qcow2_image.proofs.Prepare.Lacked.{near_placed}
 use Rattle.qcow2_alloc.proofs.Outcomes.{not_both}
 use Rattle.qcow2_metadata.specs.L2Mapping.{IsHostCluster}
 use Rattle.qcow2_image.specs.Backings.{HasPrepared}
@@ -63,28 +63,6 @@ returns-in_err-place_l2-clause-allocator g c = ap (λ (i : Qcow2 _ _). i.allocat
 
 pub returns-clause-allocator : goal.returns-clause-allocator
 returns-clause-allocator g c = c.name_l2.ensures.allocator ∙ ap (λ (i : Qcow2 _ _). i.allocator) c.place_l2.ensures.rest ∙ ap (λ (i : Qcow2 _ _). i.allocator) c.store_first.ensures.rest
-
-pub returns-then-not-can_enter-clause-limited : goal.returns-then-not-can_enter-clause-limited
-returns-then-not-can_enter-clause-limited g c = λ p out sound says near host.
-    not_both c.can_enter.result
-    (c.can_enter.ensures.near near (near_placed g.S.Storage.view g.F.BackingDisk.backing out (with_new_tables p (one_at c.args.cluster)) c.args.self.now c.args.index sound near) (subst (λ n. IsHostCluster n c.args.cluster) (sym sound.l1_table.bits) host))
-    c.if-not-can_enter.true
-
-pub returns-in_err-store_first-clause-limited : goal.returns-in_err-store_first-clause-limited
-returns-in_err-store_first-clause-limited g c = λ p out sound says near host.
-    hands_unlimited c.from_residual.result c.in_err-store_first.field-0.0 c.from_residual.ensures (c.in_err-store_first.ensures.limited (with_new_tables p (one_at c.args.cluster)) out sound)
-
-pub returns-in_err-place_l2-clause-limited : goal.returns-in_err-place_l2-clause-limited
-returns-in_err-place_l2-clause-limited g c = λ p out sound says near host.
-    let q = with_new_tables p (one_at c.args.cluster) in
-    let own = one_here c.args.cluster in
-    let stored = c.in_ok-store_first.ensures.stores q out sound in
-    let format = (says_still g.S.Storage.view g.F.BackingDisk.backing out q q c.args.self.now c.store_first.new.self c.args.index c.args.table stored.0 says).format in
-    hands_unlimited c.from_residual-in_err-place_l2.result c.in_err-place_l2.field-0.0 c.from_residual-in_err-place_l2.ensures
-    (c.in_err-place_l2.ensures.limited q out stored.0.sound (omega (arith, own)) format stored.1 (subst (λ n. IsHostCluster n c.args.cluster) (sym says.format.bits) host))
-
-pub returns-clause-limited : goal.returns-clause-limited
-returns-clause-limited g c = λ p out sound says near host. faults_unlimited c.name_l2.result c.name_l2.ensures.fault
 
 pub returns-in_err-store_first-clause-met : goal.returns-in_err-store_first-clause-met
 returns-in_err-store_first-clause-met g c = λ p out sound says near host.

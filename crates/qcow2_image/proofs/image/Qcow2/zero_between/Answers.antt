@@ -1,4 +1,5 @@
-use Rattle.qcow2_image.proofs.Call.ImageSteps.{step_then}
+use Rattle.qcow2_image.proofs.Call.ImageSteps.{step_then, step_none}
+use Rattle.qcow2_image.proofs.Prepare.Lacked.{goes_step}
 use Rattle.qcow2_image.proofs.image.Qcow2.zero_between.Goals as goal
 use Rattle.std.proofs.Common.{◌≤◌, subst, sym, arith}
 use Rattle.qcow2_alloc.proofs.AllocationSteps.{handed_on}
@@ -36,7 +37,7 @@ returns-in_err-next-clause-sound g c = λ out sound before order whole third.
     let e = c.in_err-next.field-0.0 in
     record {
       fills = handed_on (λ r. FillsOrRefuses view below c.args.from c.args.old c.args.end a b out r) c.from_residual.result e c.from_residual.ensures
-          (refused_after view below out a a b c.args.from c.args.old c.args.end c.args.old c.args.old c.args.from c.args.end (omega arith) (omega (arith, before, order)) before (omega arith) (fills_none view below out a c.args.from c.args.old sound (works_none (abstract_of view below a out) sound)) 0 (omega arith) (λ none. none) e
+          (refused_after view below out a a b c.args.from c.args.old c.args.end c.args.old c.args.old c.args.from c.args.end (omega arith) (omega (arith, before, order)) before (omega arith) (fills_none view below out a c.args.from c.args.old sound (works_none (abstract_of view below a out) sound)) (goes_step step_none) e
           ((c.in_err-next.ensures.sound out sound order whole third).fills));
       met = λ near. hands_met (IsMetTaking (HasPrepared out) (HasPrepared out) (HasCompressedIn c.args.old c.args.from old.file.header.fields (known_in g.S.Storage.view old.file)) ⊥) c.from_residual.result c.in_err-next.field-0.0 c.from_residual.ensures
           (taking_as (λ held. held) (λ kept. kept) (λ no. absurd no) (λ no. no) c.in_err-next.field-0.0 ((c.in_err-next.ensures.sound out sound order whole third).met near));
@@ -56,7 +57,7 @@ returns-in_err-fill_range-clause-sound g c = λ out sound before order whole thi
     let first = zeros_from view below out a b c.args.from c.in_ok-next.next whole.0 ((c.in_ok-next.ensures.sound out sound order whole third).fills) in
     record {
       fills = handed_on (λ r. FillsOrRefuses view below c.args.from c.args.old c.args.end a d out r) c.from_residual-in_err-fill_range.result e c.from_residual-in_err-fill_range.ensures
-          (refused_after view below out a b d c.args.from c.args.old c.args.end c.args.from c.in_ok-next.next c.args.old c.args.from before (omega (arith, next.2, order)) (omega arith) order first c.args.from (omega arith) (λ none. c.in_ok-next.ensures.emptied none) e
+          (refused_after view below out a b d c.args.from c.args.old c.args.end c.args.from c.in_ok-next.next c.args.old c.args.from before (omega (arith, next.2, order)) (omega arith) order first (goes_step c.zero_first.ensures.step) e
           ((c.in_err-fill_range.ensures.sound out first.sound before (still_at a.file.header.fields b.file.header.fields c.args.from first.header whole.0)).fills));
       met = λ near. let first = (c.in_ok-next.ensures.sound out sound order whole third).fills in
           hands_met (IsMetTaking (HasPrepared out) (HasPrepared out) (HasCompressedIn c.args.old c.args.from h (known_in view a.file)) ⊥) c.from_residual-in_err-fill_range.result e c.from_residual-in_err-fill_range.ensures
@@ -81,7 +82,7 @@ returns-clause-sound g c = λ out sound before order whole third.
     let ends = c.in_ok-next.ensures.whole out sound whole in
     let at = still_at h h' c.args.from first.header whole.0 in
     record {
-      fills = fills_or_refuses view below out a d c.zero_range.new.self c.args.from c.args.old c.in_ok-next.next c.args.end (omega (arith, before, next.0)) (omega (arith, next.2, order)) both (λ none. c.in_ok-fill_range.ensures.emptied (c.in_ok-next.ensures.emptied none)) next.0 (still_at a.file.header.fields d.file.header.fields c.in_ok-next.next both.header ends) c.zero_range.result
+      fills = fills_or_refuses view below out a d c.zero_range.new.self c.args.from c.args.old c.in_ok-next.next c.args.end (omega (arith, before, next.0)) (omega (arith, next.2, order)) both (goes_step (step_then c.zero_first.ensures.step c.fill_range.ensures.step)) next.0 (still_at a.file.header.fields d.file.header.fields c.in_ok-next.next both.header ends) c.zero_range.result
           ((c.zero_range.ensures.sound out both.sound (omega (arith, next.2, order)) (still_at a.file.header.fields d.file.header.fields c.in_ok-next.next both.header ends, still_at a.file.header.fields d.file.header.fields c.args.end both.header whole.1)
           (subst (λ v. 3 ≤ v) (sym (same_version a.file.header.fields d.file.header.fields both.header)) third)).fills);
       met = λ near. let second = (c.in_ok-fill_range.ensures.sound out first.sound before at).fills in

@@ -12,11 +12,11 @@ use Rattle.qcow2_image.specs.ImageInvariant.{ImageInvariant, abstract_of, pendin
 use Rattle.qcow2_image.specs.Preallocation.{FillsFirst}
 use Rattle.qcow2_image.proofs.Call.Called.{works_none}
 use Rattle.qcow2_image.proofs.Flush.Freeing.{all_listed, beside, freed_refused, tidy_stays}
-use Rattle.qcow2_image.proofs.Preallocate.Filled.{cleared_fills, fill_unseen, fills_none, fills_refused, fills_stays, lacks_here, next_whole, next_within, taken_here}
+use Rattle.qcow2_image.proofs.Preallocate.Filled.{cleared_fills, fill_unseen, fills_none, fills_refused, fills_stays, next_whole, next_within, taken_here}
 use Rattle.qcow2_image.proofs.Preallocate.Untaken.{untaken_cleared}
 use Rattle.qcow2_image.proofs.Call.MetErrors.{tables_met}
 use Rattle.qcow2_image.proofs.Call.Unlimited.{fault_unlimited}
-use Rattle.qcow2_image.proofs.Prepare.Lacked.{emptied_by_limit}
+use Rattle.qcow2_image.proofs.Prepare.Lacked.{limited_upto}
 use Rattle.qcow2_image.proofs.Preallocate.Met.{under_prepared, never_far}
 use Rattle.qcow2_image.specs.Backings.{HasPrepared}
 use Rattle.qcow2_image.specs.MetAlone.{IsMetTaking}
@@ -87,9 +87,7 @@ returns-in_err-clear_between-clause-sound g c = λ out sound order whole third.
           (record {
             left = fill_unseen view below out old new from to e (c.in_err-clear_between.ensures.clears out sound can);
             taken = λ same. taken_here h from to out c.if-to-from.false (c.in_err-clear_between.ensures.taken out sound same);
-            limit = λ limit.
-                let lacks = c.in_err-clear_between.ensures.limit out sound can limit in
-                lacks_here view below out old new 0 from to (to - from) sound (omega (arith, lt)) (omega (arith, lt)) (inl lacks) (λ _. lacks) (emptied_by_limit new e (c.in_err-clear_between.ensures.freed out sound can) limit);
+            limit = λ limit. limited_upto (omega (arith, lt)) (c.in_err-clear_between.ensures.limit out sound can limit);
           });
       met = λ near. let can : IsClearable c.args.self.now.file.header.fields KeptZeros c.args.from c.min-next.result = record {
         begins = whole.0;
@@ -124,7 +122,7 @@ returns-in_err-free_listed-clause-sound g c = λ out sound order whole third.
         within = next_within h sizes.some sizes.entries from to c.min-next.result whole.1 is high;
         version = λ _. third;
       } in
-          let part = cleared_fills view below out old mid from next (let lt = c.if-to-from.false in let some = c.rest_of_table.ensures.some in omega (arith, is, lt, some, rest, high)) (entry_count old.l1_table) sound.l1_table.count c.in_ok-clear_between.ensures.l1_place (c.in_ok-clear_between.ensures.gave out sound) whole.0
+          let part = cleared_fills view below out old mid from next (let lt = c.if-to-from.false in let some = c.rest_of_table.ensures.some in omega (arith, is, lt, some, rest, high)) (entry_count old.l1_table) sound.l1_table.count c.in_ok-clear_between.ensures.l1_place whole.0
           (c.in_ok-clear_between.ensures.clears out sound can)
           (untaken_cleared h (known_in view old.file) sizes out from next (next_within h sizes.some sizes.entries from to next whole.1 is high) (c.in_ok-clear_between.ensures.free out sound)) in
           let listed = subst (λ (x : Pending). ImageInvariant view below x mid out) (all_listed view below mid out) part.sound in
@@ -165,9 +163,9 @@ returns-clause-sound g c = λ out sound order whole third.
         within = next_within h sizes.some sizes.entries from to c.min-next.result whole.1 is high;
         version = λ _. third;
       } in
-          let part = cleared_fills view below out old mid from next (let lt = c.if-to-from.false in let some = c.rest_of_table.ensures.some in omega (arith, is, lt, some, rest, high)) (entry_count old.l1_table) sound.l1_table.count c.in_ok-clear_between.ensures.l1_place (c.in_ok-clear_between.ensures.gave out sound) whole.0
+          let part = cleared_fills view below out old mid from next (let lt = c.if-to-from.false in let some = c.rest_of_table.ensures.some in omega (arith, is, lt, some, rest, high)) (entry_count old.l1_table) sound.l1_table.count c.in_ok-clear_between.ensures.l1_place whole.0
           (c.in_ok-clear_between.ensures.clears out sound can)
           (untaken_cleared h (known_in view old.file) sizes out from next (next_within h sizes.some sizes.entries from to next whole.1 is high) (c.in_ok-clear_between.ensures.free out sound)) in
           let listed = subst (λ (x : Pending). ImageInvariant view below x mid out) (all_listed view below mid out) part.sound in
-          fills_stays view below out old mid new 0 from next part (tidy_stays view below mid out new part.sound (c.in_ok-free_listed.ensures.frees (beside view below mid out) out listed)) c.free_listed.ensures.keeps_rest.header c.free_listed.ensures.former;
+          fills_stays view below out old mid new 0 from next part (tidy_stays view below mid out new part.sound (c.in_ok-free_listed.ensures.frees (beside view below mid out) out listed)) c.free_listed.ensures.keeps_rest.header;
     }

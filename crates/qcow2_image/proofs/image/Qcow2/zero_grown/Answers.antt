@@ -17,17 +17,17 @@ use Rattle.qcow2_image.proofs.image.Qcow2.zero_grown.Goals as goal
 pub returns-then-version-lt3-clause-fills : goal.returns-then-version-lt3-clause-fills
 returns-then-version-lt3-clause-fills g c = λ out sound le.
     let cs = cluster_size c.args.self.now.file.header.fields in
-    refused_here g.S.Storage.view g.F.BackingDisk.backing out c.args.self.now (rounded_up cs c.args.old) c.args.old (rounded_up cs c.args.size) Version (λ is. cc) (λ is. cc) sound
+    refused_here g.S.Storage.view g.F.BackingDisk.backing out c.args.self.now c.args.old (rounded_up cs c.args.size) Version (λ is. cc) (λ is. cc) sound
 
 pub returns-in_default-clause-fills : goal.returns-in_default-clause-fills
 returns-in_default-clause-fills g c = λ out sound le.
     let cs = cluster_size c.args.self.now.file.header.fields in
-    refused_here g.S.Storage.view g.F.BackingDisk.backing out c.args.self.now (rounded_up cs c.args.old) c.args.old (rounded_up cs c.args.size) Overflow (λ is. cc) (λ is. cc) sound
+    refused_here g.S.Storage.view g.F.BackingDisk.backing out c.args.self.now c.args.old (rounded_up cs c.args.size) Overflow (λ is. cc) (λ is. cc) sound
 
 pub returns-in_default-rounded_up-clause-fills : goal.returns-in_default-rounded_up-clause-fills
 returns-in_default-rounded_up-clause-fills g c = λ out sound le.
     let cs = cluster_size c.args.self.now.file.header.fields in
-    refused_here g.S.Storage.view g.F.BackingDisk.backing out c.args.self.now (rounded_up cs c.args.old) c.args.old (rounded_up cs c.args.size) Overflow (λ is. cc) (λ is. cc) sound
+    refused_here g.S.Storage.view g.F.BackingDisk.backing out c.args.self.now c.args.old (rounded_up cs c.args.size) Overflow (λ is. cc) (λ is. cc) sound
 
 pub returns-clause-fills : goal.returns-clause-fills
 returns-clause-fills g c = λ out sound le.

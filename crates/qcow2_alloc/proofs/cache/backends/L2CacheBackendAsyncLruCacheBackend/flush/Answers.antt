@@ -11,7 +11,7 @@ pub returns-in-Err-clause-err : goal.returns-in-Err-clause-err
 returns-in-Err-clause-err g c =
     let modified : c.args.value.now.is_modified ≡ true = sym c.is_modified.ensures.value ∙ c.if-not-is_modified.false in
     let same_bits = sym c.cluster_bits.ensures.value ∙ c.if-cluster_bits.false ∙ c.cluster_bits-2.ensures.value in
-    let written = rw (c.in-Err.is, same_bits) at (c.write_l2_table.ensures.written modified) in
+    let written = rw (c.in-Err.is, same_bits) at ((c.write_l2_table.ensures.written modified).written) in
     let calls = rw c.in-Err.is at c.write_l2_table.ensures.calls in
     write_fails (λ s. g.S.Storage.view (storage_of s)) c.args.self.now.header.fields.cluster_bits (λ (v : L2TableView). v.bytes) (λ v. v.is_modified) cleared_l2 (IsTableOf c.args.self.now.header.fields)
     c.args.store.now c.write_l2_table.new.self c.args.key c.args.value.now c.in-Err.e
@@ -21,13 +21,13 @@ returns-in-Err-clause-err g c =
 pub returns-in-Err-clause-keeps : goal.returns-in-Err-clause-keeps
 returns-in-Err-clause-keeps g c =
     let modified : c.args.value.now.is_modified ≡ true = sym c.is_modified.ensures.value ∙ c.if-not-is_modified.false in (
-      kept_told c.args.store.now c.will_write.new.self c.write_l2_table.new.self c.will_write.ensures.storage c.will_write.ensures.changed (write_kept _ _ c.write_l2_table.result _ (c.write_l2_table.ensures.written modified) c.write_l2_table.ensures.calls (c.write_l2_table.ensures.noted modified)),
-      met_written c.args.store.now c.will_write.new.self c.write_l2_table.new.self c.write_l2_table.result c.will_write.ensures.storage c.will_write.ensures.faults c.write_l2_table.ensures.calls.cause (c.write_l2_table.ensures.faults modified),
+      kept_told c.args.store.now c.will_write.new.self c.write_l2_table.new.self c.will_write.ensures.storage c.will_write.ensures.changed (write_kept _ _ c.write_l2_table.result _ ((c.write_l2_table.ensures.written modified).written) c.write_l2_table.ensures.calls ((c.write_l2_table.ensures.written modified).noted)),
+      met_written c.args.store.now c.will_write.new.self c.write_l2_table.new.self c.write_l2_table.result c.will_write.ensures.storage c.will_write.ensures.faults c.write_l2_table.ensures.calls.cause ((c.write_l2_table.ensures.written modified).faults),
     )
 
 pub returns-in-Ok-clause-keeps : goal.returns-in-Ok-clause-keeps
 returns-in-Ok-clause-keeps g c =
     let modified : c.args.value.now.is_modified ≡ true = sym c.is_modified.ensures.value ∙ c.if-not-is_modified.false in (
-      kept_told c.args.store.now c.will_write.new.self c.write_l2_table.new.self c.will_write.ensures.storage c.will_write.ensures.changed (write_kept _ _ c.write_l2_table.result _ (c.write_l2_table.ensures.written modified) c.write_l2_table.ensures.calls (c.write_l2_table.ensures.noted modified)),
-      met_written c.args.store.now c.will_write.new.self c.write_l2_table.new.self c.write_l2_table.result c.will_write.ensures.storage c.will_write.ensures.faults c.write_l2_table.ensures.calls.cause (c.write_l2_table.ensures.faults modified),
+      kept_told c.args.store.now c.will_write.new.self c.write_l2_table.new.self c.will_write.ensures.storage c.will_write.ensures.changed (write_kept _ _ c.write_l2_table.result _ ((c.write_l2_table.ensures.written modified).written) c.write_l2_table.ensures.calls ((c.write_l2_table.ensures.written modified).noted)),
+      met_written c.args.store.now c.will_write.new.self c.write_l2_table.new.self c.write_l2_table.result c.will_write.ensures.storage c.will_write.ensures.faults c.write_l2_table.ensures.calls.cause ((c.write_l2_table.ensures.written modified).faults),
     )

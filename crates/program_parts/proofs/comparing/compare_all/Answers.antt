@@ -1,0 +1,40 @@
+use Rattle.std.proofs.Common.{◌≡◌, ◌+◌, ◌≤◌, arith, length, subst, take}
+use Rattle.std.proofs.lemmas.Grind.{common_steps}
+use Rattle.program_parts.specs.Disks.{AreSameBelow}
+use Rattle.program_parts.proofs.Compared.{then_none, then_one, then_other, then_some}
+use Rattle.program_parts.proofs.comparing.compare_all.Goals as goal
+
+pub returns-in-Some : goal.returns-in-Some
+returns-in-Some g c = record {
+  compared = λ one other size size_other.
+      let a = g.A.DiskReader.seen in
+      let b = g.B.DiskReader.seen in
+      let so_far = c.loop-at.invariant.same one other size size_other in
+      let count = length (take c.min-count.result c.loop-at.bytes) in
+      let long : count ≡ c.min-count.result = grind (arith, common_steps) in
+      let upto : c.loop-at.at + count ≤ c.args.size = omega (arith, c.min-count.ensures, c.loop-at-test.true, long) in
+      then_some (a c.args.one.now).disk (b c.args.other.now).disk (a c.loop-at.one) (a c.compare_at.new.one) (b c.loop-at.other) (b c.compare_at.new.other) c.loop-at.at (c.loop-at.at + count) c.args.size
+      _ so_far.one so_far.other (c.in_ok-place.ensures.compared so_far.one.honest so_far.other.honest) so_far.below upto size size_other c.in-Some.place c.in-Some.is;
+}
+
+pub loop-at-preserved : goal.loop-at-preserved
+loop-at-preserved g c = record {
+  within = grind (arith, common_steps);
+  same = λ one other size size_other.
+      let a = g.A.DiskReader.seen in
+      let b = g.B.DiskReader.seen in
+      let d = (a c.args.one.now).disk in
+      let e = (b c.args.other.now).disk in
+      let so_far = c.loop-at.invariant.same one other size size_other in
+      let count = length (take c.min-count.result c.loop-at.bytes) in
+      let long : count ≡ c.min-count.result = grind (arith, common_steps) in
+      let end = c.loop-at.at + count in
+      let upto : c.loop-at.at + count ≤ c.args.size = omega (arith, c.min-count.ensures, c.loop-at-test.true, long) in
+      let more = c.in_ok-place.ensures.compared so_far.one.honest so_far.other.honest in
+      record {
+        one = then_one d e (a c.loop-at.one) (a c.compare_at.new.one) (b c.loop-at.other) (b c.compare_at.new.other) c.loop-at.at end c.args.size _ so_far.one so_far.other more so_far.below upto size size_other;
+        other = then_other d e (a c.loop-at.one) (a c.compare_at.new.one) (b c.loop-at.other) (b c.compare_at.new.other) c.loop-at.at end c.args.size _ so_far.one so_far.other more so_far.below upto size size_other;
+        below = subst (λ n. AreSameBelow d e (c.loop-at.at + n)) long
+            (then_none d e (a c.loop-at.one) (a c.compare_at.new.one) (b c.loop-at.other) (b c.compare_at.new.other) c.loop-at.at end c.args.size _ so_far.one so_far.other more so_far.below upto size size_other c.in-None.is);
+      };
+}

@@ -1,0 +1,163 @@
+//! Whether two disks are the same.
+ghost use Rattle.std.specs.Prelude.{◌≡◌, ◌+◌, ◌^◌, ◌<◌, length, Ok, IfOk, MatchOption};
+ghost use Rattle.program_parts.specs.Disks.{IsComparisonOf, IsComparisonIn};
+ghost use Rattle.program_parts.specs.Comparing.{IsComparedUpTo, IsFirstOther};
+
+use crate::disks::{DiskReader, open_disk};
+use image_access::{Format, Storage};
+use qcow2_image::ImageError;
+use std::alloc::{AllocError, Global};
+
+/// How many bytes are compared at a time.
+const PIECE: usize = 65536;
+
+/// What a comparison of two disks says.
+#[derive(Clone, Copy, Debug, PartialEq, Eq)]
+pub enum Comparison {
+    /// They have the same size and the same bytes.
+    Same,
+    /// They have different sizes.
+    OtherSize,
+    /// They differ first in the byte at this offset.
+    DiffersAt {
+        /// Its offset.
+        at: u64,
+    },
+}
+
+/// Why disks weren't compared: one of them can't be read.
+#[derive(Drop)]
+pub struct Unread {
+    /// Whether it is the second one.
+    pub is_other: bool,
+    /// Why it can't.
+    pub cause: ImageError,
+}
+
+impl From<AllocError> for Unread {
+    fn from(_: AllocError) -> Unread {
+        Unread {
+            is_other: false,
+            cause: ImageError::Memory,
+        }
+    }
+}
+
+/// Compares the disks that two storages hold, each in a format, and hands the storages back. Where one can't be opened or read, the answer
+/// is why: 4 (unaligned table), 7 (compressed), 12 (dependency), 13 (limit), 14 (memory), 15 (storage), 19 (metadata).
+pub fn compare_storages<S: Storage, T: Storage>(
+    alloc: Global,
+    one: (S, Format),
+    other: (T, Format),
+) -> (S, T, Result<Comparison, Unread>)
+    ensures compared { IfOk result.2 (IsComparisonIn one.1 (S.view one.0) other.1 (T.view other.0)) }
+{
+    let mut one = match open_disk(alloc, one.0, one.1) {
+        Ok(one) => one,
+        Err((one, cause)) => return (one, other.0, not_read(false, cause)),
+    };
+    let mut other = match open_disk(alloc, other.0, other.1) {
+        Ok(other) => other,
+        Err((other, cause)) => return (one.into_storage(), other, not_read(true, cause)),
+    };
+    let compared = compare(alloc, &mut one, &mut other);
+    (one.into_storage(), other.into_storage(), compared)
+}
+
+fn not_read(is_other: bool, cause: ImageError) -> Result<Comparison, Unread>
+    ensures { IfOk result (λ compared. ⊥) }
+{
+    Err(Unread { is_other, cause })
+}
+
+/// Compares two disks to the end, or up to the first byte that differs. Where one can't be read, the answer is why: 4 (unaligned table),
+/// 7 (compressed), 12 (dependency), 14 (memory), 15 (storage), 16 (failed).
+pub fn compare<A: DiskReader, B: DiskReader>(
+    alloc: Global,
+    one: &mut A,
+    other: &mut B,
+) -> Result<Comparison, Unread>
+    ensures compared { (A.seen one.old).is_honest → (B.seen other.old).is_honest
+        → IfOk result (IsComparisonOf (A.seen one.old).disk (B.seen other.old).disk) }
+{
+    let size = of_disk(false, one.byte_count())?;
+    let other_size = of_disk(true, other.byte_count())?;
+    if other_size != size {
+        return Ok(Comparison::OtherSize);
+    }
+    let mut bytes = vec![in alloc; 0; PIECE]?;
+    let mut others = vec![in alloc; 0; PIECE]?;
+    compare_all(one, other, size, &mut bytes, &mut others)
+}
+
+// What one of the disks answers.
+fn of_disk<T>(is_other: bool, answer: Result<T, ImageError>) -> Result<T, Unread>
+    ensures { IfOk result (λ value. answer ≡ Ok value) }
+{
+    match answer {
+        Ok(value) => Ok(value),
+        Err(cause) => Err(Unread { is_other, cause }),
+    }
+}
+
+// Compares disks of so many bytes, by buffers of one length.
+fn compare_all<A: DiskReader, B: DiskReader>(
+    one: &mut A,
+    other: &mut B,
+    size: u64,
+    bytes: &mut [u8],
+    others: &mut [u8],
+) -> Result<Comparison, Unread>
+    requires some { 0 < length bytes.old }
+    requires both { length others.old ≡ length bytes.old }
+    ensures compared { (A.seen one.old).is_honest → (B.seen other.old).is_honest → size ≡ (A.seen one.old).disk.size
+        → size ≡ (B.seen other.old).disk.size
+        → IfOk result (IsComparisonOf (A.seen one.old).disk (B.seen other.old).disk) }
+{
+    let mut at = 0;
+    while at < size {
+        let count = bytes.len().min((size - at) as usize);
+        match compare_at(one, other, at, &mut bytes[..count], &mut others[..count])? {
+            Some(place) => return Ok(Comparison::DiffersAt { at: place }),
+            None => at += count as u64,
+        }
+    }
+    Ok(Comparison::Same)
+}
+
+// Compares a range of both, and answers where they differ first in it.
+fn compare_at<A: DiskReader, B: DiskReader>(
+    one: &mut A,
+    other: &mut B,
+    at: u64,
+    bytes: &mut [u8],
+    others: &mut [u8],
+) -> Result<Option<u64>, Unread>
+    requires both { length others.old ≡ length bytes.old }
+    requires reach { at + length bytes.old < 2 ^ 64 }
+    ensures compared { IsComparedUpTo (A.seen one.old) (A.seen one.new) (B.seen other.old) (B.seen other.new) at
+        (at + length bytes.old) result }
+{
+    of_disk(false, one.read_bytes(at, bytes))?;
+    of_disk(true, other.read_bytes(at, others))?;
+    match first_difference(bytes, others) {
+        Some(place) => Ok(Some(at + place as u64)),
+        None => Ok(None),
+    }
+}
+
+// Where two lists of one length differ first.
+fn first_difference(bytes: &[u8], others: &[u8]) -> Option<usize>
+    requires { length others.now ≡ length bytes.now }
+    ensures { MatchOption result (bytes.now ≡ others.now) (IsFirstOther bytes.now others.now) }
+{
+    if bytes == others {
+        return None;
+    }
+    for i in 0..bytes.len() {
+        if bytes[i] != others[i] {
+            return Some(i);
+        }
+    }
+    None
+}

@@ -1,0 +1,124 @@
+//! A disk as a storage.
+ghost use Rattle.std.specs.Prelude.{◌≡◌, [], codes};
+ghost use Rattle.image_access.specs.Moments.{HasCause};
+
+use crate::disks::DiskReader;
+use image_access::{Storage, StorageError, StoragePreallocate};
+use qcow2_image::ImageError;
+
+/// A storage with the bytes of a disk, which can only be read. Of what it holds nothing is known. Each call that fails is counted, and why
+/// a read last did so is kept.
+#[derive(Drop)]
+pub struct DiskStorage<D: DiskReader> {
+    disk: D,
+    faults: u64,
+    last_refusal: Option<ImageError>,
+}
+
+impl<D: DiskReader> DiskStorage<D> {
+    /// A storage with a disk's bytes.
+    pub fn new(disk: D) -> Self {
+        DiskStorage {
+            disk,
+            faults: 0,
+            last_refusal: None,
+        }
+    }
+
+    /// The disk, and why the last read that failed did so.
+    pub fn into_parts(self) -> (D, Option<ImageError>) {
+        (self.disk, self.last_refusal)
+    }
+
+    // Answers that a call failed. A want of memory is no fault.
+    fn failed<T>(&mut self, refusal: ImageError) -> Result<T, StorageError>
+        ensures cause { HasCause self.old.faults self.new.faults result }
+    {
+        if refusal == ImageError::Memory {
+            return Err(StorageError::Memory);
+        }
+        self.last_refusal = Some(refusal);
+        self.faults = self.faults.saturating_add(1);
+        Err(StorageError::Fault)
+    }
+
+    fn told<T>(&mut self, answer: Result<T, ImageError>) -> Result<T, StorageError>
+        ensures cause { HasCause self.old.faults self.new.faults result }
+    {
+        match answer {
+            Ok(value) => Ok(value),
+            Err(refusal) => self.failed(refusal),
+        }
+    }
+}
+
+impl<D: DiskReader> Storage for DiskStorage<D> {
+    ghost view = { λ s. record {
+      contents = [];
+      faults = s.faults;
+      is_honest = ⊥;
+      moment = 0;
+      had_since = λ t c. c ≡ [];
+      name = codes "disk";
+      req_align = 1;
+      mem_align = 1;
+    } };
+
+    ghost counts_now = { λ s t honest le. absurd honest };
+
+    ghost only_now = { λ s c had. had };
+
+    fn name(&self) -> &str {
+        "disk"
+    }
+
+    fn size(&mut self) -> Result<u64, StorageError> {
+        let answer = self.disk.byte_count();
+        self.told(answer)
+    }
+
+    fn read(&mut self, at: u64, buf: &mut [u8]) -> Result<(), StorageError> {
+        let size = self.size()?;
+        let within = usize::try_from(size.saturating_sub(at)).unwrap_or(usize::MAX);
+        let (within, beyond) = buf.split_at_mut(within.min(buf.len()));
+        beyond.fill(0);
+        let answer = self.disk.read_bytes(at, within);
+        self.told(answer)
+    }
+
+    fn write(&mut self, _at: u64, _bytes: &[u8]) -> Result<(), StorageError> {
+        self.failed(ImageError::ReadOnly)
+    }
+
+    fn write_zeroes(&mut self, _at: u64, _length: u64) -> Result<(), StorageError> {
+        self.failed(ImageError::ReadOnly)
+    }
+
+    fn write_allocated_zeroes(&mut self, _at: u64, _length: u64) -> Result<(), StorageError> {
+        self.failed(ImageError::ReadOnly)
+    }
+
+    fn resize(&mut self, _size: u64, _how: StoragePreallocate) -> Result<(), StorageError> {
+        self.failed(ImageError::ReadOnly)
+    }
+
+    fn flush(&mut self) -> Result<(), StorageError> {
+        Ok(())
+    }
+
+    fn sync(&mut self) -> Result<(), StorageError> {
+        Ok(())
+    }
+
+    fn invalidate_cache(&mut self) -> Result<(), StorageError> {
+        Ok(())
+    }
+
+    fn req_align(&self) -> usize {
+        1
+    }
+
+    fn mem_align(&self) -> usize {
+        1
+    }
+}

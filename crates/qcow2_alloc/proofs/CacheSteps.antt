@@ -1,0 +1,279 @@
+-- One step of the caches after another, and what one call of a cache is to them.
+use Rattle.std.proofs.Common.{◌≡◌, ◌≢◌, ℕ, Bool, true, eqb, List, Option, Some, Result, Ok, Err, IsErr, IsErrAnd, IsSome, refl, sym, ◌∙◌, subst}
+use Rattle.std.specs.Option.{IfSome, IsNone}
+use Rattle.std.specs.Map.{keys_of, lookup, lookup_entry, remove_entry}
+use Rattle.std.specs.Prelude.{IsFalse}
+use Rattle.std.specs.List.{IsDistinct}
+use Rattle.lru.specs.LruCache.{promoted}
+use Rattle.image_access.specs.Moments.{StorageView}
+use Rattle.qcow2_metadata.specs.declared.error.MetadataError.{MetadataError}
+use Rattle.qcow2_metadata.specs.Bytes.{byte_at}
+use Rattle.qcow2_metadata.specs.L2Table.{L2TableView}
+use Rattle.qcow2_metadata.specs.RefBlock.{RefBlockView}
+use Rattle.qcow2_metadata.specs.declared.header.HeaderFields.{HeaderFields}
+use Rattle.qcow2_laws.specs.Clusters as Order
+use Rattle.qcow2_laws.specs.CrashInvariant.{Pending, MayTurn}
+use Rattle.qcow2_laws.specs.Caches.{AreClean, BlocksMayGo, TablesMayGo}
+use Rattle.qcow2_alloc.specs.declared.async_lru_cache.error.CacheError.{CacheError}
+use Rattle.qcow2_alloc.specs.declared.cache.backends.L2CacheBackend.{L2CacheBackend}
+use Rattle.qcow2_alloc.specs.declared.cache.backends.RefBlockCacheBackend.{RefBlockCacheBackend}
+use Rattle.qcow2_alloc.specs.declared.cache.Direction.{Direction}
+use Rattle.qcow2_alloc.specs.declared.cache.MetadataCaches.{MetadataCaches}
+use Rattle.qcow2_alloc.specs.declared.error.ImageError.{ImageError}
+use Rattle.qcow2_alloc.specs.declared.image_storage.ImageStorage.{ImageStorage}
+use Rattle.qcow2_alloc.specs.AsyncLruCache.{Cache, KeepsPins, OthersStay, with_entries}
+use Rattle.qcow2_alloc.specs.CacheAnswers.{Unit₀, Flushes, GetsNew, InsertsNew, Replaces}
+use Rattle.qcow2_alloc.specs.CacheSteps.{TablesGo, BlocksGo, CacheStep, TurnStep, LoadStep, PutStep, HeldStep, KeepsSoundly, PutsSoundly, KeepsL2Written}
+use Rattle.qcow2_alloc.specs.ImageError.{of_cache, IsOfTables}
+use Rattle.qcow2_alloc.specs.ImageStorage.{storage_of}
+use Rattle.qcow2_alloc.specs.KeptNotes.{KeepsNotes}
+use Rattle.qcow2_alloc.specs.MetadataCaches.{order, order_of, l2_tables, refblocks, known_of, CacheInvariant}
+use Rattle.qcow2_alloc.specs.Steps.{err_of, FailsFor}
+use Rattle.qcow2_alloc.specs.TableCaches.{l2_steps, rb_steps}
+use Rattle.qcow2_alloc.proofs.CachePins.{marks_none, marks_tables, marks_blocks}
+use Rattle.qcow2_alloc.proofs.Faults.{CacheTells, cache_told}
+use Rattle.qcow2_alloc.proofs.KeptMarks.{kept_marks_none, kept_marks_then, marks_of_both}
+use Rattle.qcow2_alloc.proofs.KeptTables.AllWritten.{written_none, written_then, written_turned, tables_flushed_written, blocks_flushed_written, table_got_written, block_got_written}
+use Rattle.qcow2_alloc.proofs.KeptTables.ApartCalls.{apart_none, apart_then, apart_turned, tables_flushed_apart, blocks_flushed_apart, table_got_apart, block_got_apart, table_kept_apart, block_kept_apart}
+use Rattle.qcow2_alloc.proofs.KeptTables.BehindHeader.{caches_none, caches_then, turned_behind, tables_flushed_behind, blocks_flushed_behind, table_got_behind, block_got_behind, table_put_behind, block_put_behind}
+use Rattle.qcow2_alloc.proofs.KeptTables.Causes.{given_err}
+use Rattle.qcow2_alloc.proofs.KeptTables.Clean.{blocks_go, tables_go}
+use Rattle.qcow2_alloc.proofs.KeptTables.Fetching.{table_got, block_got}
+use Rattle.qcow2_alloc.proofs.KeptTables.Flushing.{tables_flushed, blocks_flushed}
+use Rattle.qcow2_alloc.proofs.KeptTables.InOrder.{order_none, order_then, tables_in_order, blocks_in_order, table_got_in_order, block_got_in_order, table_put_in_order, block_put_in_order}
+use Rattle.qcow2_alloc.proofs.KeptTables.Turning.{keep_none, keep_then, keep_turned}
+use Rattle.qcow2_alloc.proofs.KeptTables.Putting.{table_kept}
+use Rattle.qcow2_alloc.proofs.KeptTables.PuttingBlocks.{block_kept}
+use Rattle.qcow2_alloc.proofs.Outcomes.{on_err, on_no_ok}
+use Rattle.qcow2_alloc.proofs.Steps.{fails_of}
+use Rattle.qcow2_alloc.proofs.TableErrors.{cache_of_tables}
+
+-- a call that doesn't reach the storage, and does nothing
+pub held_none : {S : Type 0} {c : MetadataCaches S} → HeldStep c c
+held_none {S} {c} = record { marks = marks_none c; order = refl; header_cluster = λ bits are. are }
+
+module _ {S : Type 0} {view : S → StorageView} where
+  -- ---- no call at all, and one call after another
+  pub cache_step_none : {s : ImageStorage S} {c : MetadataCaches S} → CacheStep view s c s c
+  cache_step_none {s} {c} = record { marks = kept_marks_none; header_cluster = caches_none; all_written = written_none view s c }
+
+  pub cache_step_then : {r s t : ImageStorage S} {a b c : MetadataCaches S} → CacheStep view r a s b → CacheStep view s b t c → CacheStep view r a t c
+  cache_step_then first then =
+      record { marks = kept_marks_then first.marks then.marks; header_cluster = caches_then first.header_cluster then.header_cluster; all_written = written_then view first.all_written then.all_written }
+
+  -- a flush, and then the order of writes turns
+  pub step_turned : {r s : ImageStorage S} {a b : MetadataCaches S} (d : Direction) → CacheStep view r a s b → TurnStep view r a s (record b { direction = d })
+  step_turned d step = record {
+    marks = record { pins = record { pins = step.marks.pins.pins; room = λ r. let now = step.marks.pins.room r in record { tables = now.tables; some = now.some; free = now.free }; changes = step.marks.pins.changes }; notes = step.marks.notes };
+    header_cluster = turned_behind d step.header_cluster;
+    all_written = written_turned d step.all_written;
+  }
+
+  pub step_in_turn : {r s : ImageStorage S} {a b : MetadataCaches S} → CacheStep view r a s b → TurnStep view r a s b
+  step_in_turn step = record { marks = record { pins = step.marks.pins; notes = step.marks.notes }; header_cluster = step.header_cluster; all_written = step.all_written }
+
+  -- loads
+  pub load_step_on : {r s : ImageStorage S} {a b : MetadataCaches S} {cluster : ℕ} → CacheStep view r a s b → LoadStep view r a s b cluster
+  load_step_on step = record { marks = step.marks; header_cluster = λ _. step.header_cluster; all_written = step.all_written }
+
+  pub load_step_then : {r s t : ImageStorage S} {a b c : MetadataCaches S} {cluster : ℕ} → LoadStep view r a s b cluster → LoadStep view s b t c cluster → LoadStep view r a t c cluster
+  load_step_then first then = record {
+    marks = kept_marks_then first.marks then.marks;
+    header_cluster = λ above. caches_then (first.header_cluster above) (then.header_cluster above);
+    all_written = written_then view first.all_written then.all_written;
+  }
+
+  -- what is put in for a cluster
+  pub put_step_on : {r s : ImageStorage S} {a b : MetadataCaches S} {cluster : ℕ} → CacheStep view r a s b → PutStep view r a s b (Some cluster)
+  put_step_on step = record { marks = step.marks; header_cluster = λ _. step.header_cluster }
+
+  pub put_step_then : {r s t : ImageStorage S} {a b c : MetadataCaches S} {cluster : ℕ} → PutStep view r a s b (Some cluster) → PutStep view s b t c (Some cluster) → PutStep view r a t c (Some cluster)
+  put_step_then first then = record { marks = kept_marks_then first.marks then.marks; header_cluster = λ above. caches_then (first.header_cluster above) (then.header_cluster above) }
+
+  pub put_step_as : {r s : ImageStorage S} {a b : MetadataCaches S} {place : Option ℕ} {cluster : ℕ} → place ≡ Some cluster → PutStep view r a s b (Some cluster) → PutStep view r a s b place
+  put_step_as {r} {s} {a} {b} is step = subst (PutStep view r a s b) (sym is) step
+
+  -- ---- on sound caches
+  pub soundly_none : {s : ImageStorage S} {c : MetadataCaches S} → KeepsSoundly view s c s c
+  soundly_none {s} {c} = record { keeps = keep_none view s c; apart = apart_none; ordered = order_none view s c }
+
+  pub soundly_then : {r s t : ImageStorage S} {a b c : MetadataCaches S} → order_of b ≡ order_of a → KeepsSoundly view r a s b → KeepsSoundly view s b t c → KeepsSoundly view r a t c
+  soundly_then {r} {s} {t} {a} {b} {c} same first then = record {
+    keeps = keep_then view r s t a b c first.keeps then.keeps;
+    apart = apart_then same first.apart then.apart;
+    ordered = order_then view r s t a b first.keeps first.ordered same then.ordered;
+  }
+
+  -- the order of writes turns then
+  pub soundly_turned : {r s : ImageStorage S} {a b : MetadataCaches S} (to : Direction) → KeepsSoundly view r a s b
+      → ((h : HeaderFields) (p : Pending) → CacheInvariant h p b (byte_at (view (storage_of s)).contents) → MayTurn (order_of b) (order to) h (byte_at (view (storage_of s)).contents) (known_of h b (byte_at (view (storage_of s)).contents)))
+      → KeepsSoundly view r a s (record b { direction = to })
+  soundly_turned {r} {s} {a} {b} to kept may = record { keeps = keep_turned view r s a b to kept.keeps may; apart = apart_turned to kept.apart; ordered = kept.ordered }
+
+  -- ---- what the storage was told before, whether a failure is watched for
+  pub watched_step : {s t : ImageStorage S} {a b : MetadataCaches S} (is_met : Bool) → CacheStep view (record s { met_fault = is_met }) a t b → CacheStep view s a t b
+  watched_step is_met step = record {
+    marks = record { pins = step.marks.pins; order = step.marks.order; notes = record { honest = step.marks.notes.honest; changes = step.marks.notes.changes; contents = step.marks.notes.contents } };
+    header_cluster = record { bytes = step.header_cluster.bytes; behind = step.header_cluster.behind };
+    all_written = record { tables = step.all_written.tables; quiet = step.all_written.quiet };
+  }
+
+  pub watched_soundly : {s t : ImageStorage S} {a b : MetadataCaches S} (is_met : Bool) → KeepsSoundly view (record s { met_fault = is_met }) a t b → KeepsSoundly view s a t b
+  watched_soundly is_met kept = record { keeps = kept.keeps; apart = record { stays = kept.apart.stays }; ordered = kept.ordered }
+
+-- ---- the orders of writes differ
+pub differ : {P : Type 0} {d a b : Order.Direction} → d ≡ a → d ≡ b → a ≢ b → P
+differ is was other = absurd (other (sym is ∙ was))
+
+pub neither_l2 : Order.Neither ≢ Order.L2DependsOnRb
+neither_l2 bad = absurd cc
+
+pub neither_rb : Order.Neither ≢ Order.RbDependsOnL2
+neither_rb bad = absurd cc
+
+pub l2_not_rb : Order.L2DependsOnRb ≢ Order.RbDependsOnL2
+l2_not_rb bad = absurd cc
+
+pub rb_not_l2 : Order.RbDependsOnL2 ≢ Order.L2DependsOnRb
+rb_not_l2 bad = absurd cc
+
+-- ---- why a call of a cache is refused, which `?` hands on
+pub fails_cache : {T A : Type 0} {before now : ℕ} (answer : Result A (CacheError ℕ MetadataError)) (e : CacheError ℕ MetadataError) (r : Result T ImageError) → CacheTells before now answer → answer ≡ Err e → IsErr r × IsErrAnd r (λ x. x ≡ of_cache e)
+    → FailsFor before now (err_of r) IsOfTables
+fails_cache {before = before} {now = now} answer e r tells is on = fails_of r (cache_told before now answer e r tells is on) (given_err r (of_cache e) IsOfTables on (cache_of_tables e))
+
+-- ---- a call of one cache
+abbrev seen_by : {S : Type 0} → (S → StorageView) → ImageStorage S → StorageView
+seen_by view s = view (storage_of s)
+
+module _ {S : Type 0} (view : S → StorageView) (old new : ImageStorage S) (caches : MetadataCaches S) where
+  -- L2 tables are flushed
+  module _ (l2 : Cache (L2CacheBackend S) ℕ L2TableView) (others : l2 ≡ with_entries caches.l2 l2.entries) where
+    module _ (answer : Result Unit₀ (CacheError ℕ MetadataError)) (flushes : Flushes (l2_steps (seen_by view) caches.l2.backend.header.fields) old caches.l2.entries answer new l2.entries) where
+      pub l2_flushed_step : KeepsPins eqb caches.l2.entries l2.entries → KeepsNotes view old new → CacheStep view old caches new (record caches { l2 = l2 })
+      l2_flushed_step pins notes = record {
+        marks = marks_of_both (marks_tables caches l2 others pins) refl notes;
+        header_cluster = tables_flushed_behind view old new caches l2 answer others flushes;
+        all_written = tables_flushed_written view old new caches l2 answer flushes;
+      }
+
+      pub l2_flushed_soundly : IsDistinct eqb (keys_of caches.l2.entries) → TablesGo caches → KeepsSoundly view old caches new (record caches { l2 = l2 })
+      l2_flushed_soundly distinct may = record {
+        keeps = tables_flushed view old new caches l2 others answer flushes may;
+        apart = tables_flushed_apart view old new caches l2 others distinct answer flushes may;
+        ordered = tables_in_order view old new caches l2 answer flushes may;
+      }
+
+    -- one is loaded
+    module _ (may_flush : Bool) (key : ℕ) (answer : Result Bool (CacheError ℕ MetadataError))
+        (hit : IsSome (lookup (eqb key) caches.l2.entries) → (answer ≡ Ok true) × (l2.entries ≡ promoted (eqb key) caches.l2.entries) × (new ≡ old))
+        (miss : IsNone (lookup (eqb key) caches.l2.entries) → GetsNew (l2_steps (seen_by view) caches.l2.backend.header.fields) eqb caches.l2.size may_flush key old caches.l2.entries answer new l2.entries) where
+      pub l2_got_step : KeepsPins eqb caches.l2.entries l2.entries → KeepsNotes view old new → OthersStay eqb key caches.l2.entries l2.entries → LoadStep view old caches new (record caches { l2 = l2 }) key
+      l2_got_step pins notes stays = record {
+        marks = marks_of_both (marks_tables caches l2 others pins) refl notes;
+        header_cluster = λ above. table_got_behind view old new caches may_flush key above l2 answer others stays hit miss;
+        all_written = table_got_written view old new caches may_flush key l2 answer hit miss;
+      }
+
+      pub l2_got_soundly : IsDistinct eqb (keys_of caches.l2.entries) → (may_flush ≡ true → TablesGo caches) → KeepsSoundly view old caches new (record caches { l2 = l2 })
+      l2_got_soundly distinct may = record {
+        keeps = table_got view old new caches may_flush key l2 others answer hit miss may;
+        apart = table_got_apart view old new caches l2 others distinct may_flush key answer may hit miss;
+        ordered = table_got_in_order view old new caches may_flush key l2 answer hit miss may;
+      }
+
+  -- refblocks are flushed
+  module _ (rb : Cache (RefBlockCacheBackend S) ℕ RefBlockView) (others : rb ≡ with_entries caches.rb rb.entries) where
+    module _ (answer : Result Unit₀ (CacheError ℕ MetadataError)) (flushes : Flushes (rb_steps (seen_by view) caches.rb.backend.header.fields) old caches.rb.entries answer new rb.entries) where
+      pub rb_flushed_step : KeepsPins eqb caches.rb.entries rb.entries → KeepsNotes view old new → CacheStep view old caches new (record caches { rb = rb })
+      rb_flushed_step pins notes = record {
+        marks = marks_of_both (marks_blocks caches rb others pins) refl notes;
+        header_cluster = blocks_flushed_behind view old new caches rb answer others flushes;
+        all_written = blocks_flushed_written view old new caches rb answer flushes;
+      }
+
+      pub rb_flushed_soundly : IsDistinct eqb (keys_of caches.rb.entries) → BlocksGo caches → KeepsSoundly view old caches new (record caches { rb = rb })
+      rb_flushed_soundly distinct may = record {
+        keeps = blocks_flushed view old new caches rb others answer flushes may;
+        apart = blocks_flushed_apart view old new caches rb others distinct answer flushes may;
+        ordered = blocks_in_order view old new caches rb answer flushes may;
+      }
+
+    -- one is loaded
+    module _ (may_flush : Bool) (key : ℕ) (answer : Result Bool (CacheError ℕ MetadataError))
+        (hit : IsSome (lookup (eqb key) caches.rb.entries) → (answer ≡ Ok true) × (rb.entries ≡ promoted (eqb key) caches.rb.entries) × (new ≡ old))
+        (miss : IsNone (lookup (eqb key) caches.rb.entries) → GetsNew (rb_steps (seen_by view) caches.rb.backend.header.fields) eqb caches.rb.size may_flush key old caches.rb.entries answer new rb.entries) where
+      pub rb_got_step : KeepsPins eqb caches.rb.entries rb.entries → KeepsNotes view old new → OthersStay eqb key caches.rb.entries rb.entries → LoadStep view old caches new (record caches { rb = rb }) key
+      rb_got_step pins notes stays = record {
+        marks = marks_of_both (marks_blocks caches rb others pins) refl notes;
+        header_cluster = λ above. block_got_behind view old new caches may_flush key above rb answer others stays hit miss;
+        all_written = block_got_written view old new caches may_flush key rb answer hit miss;
+      }
+
+      pub rb_got_soundly : IsDistinct eqb (keys_of caches.rb.entries) → (may_flush ≡ true → BlocksGo caches) → KeepsSoundly view old caches new (record caches { rb = rb })
+      rb_got_soundly distinct may = record {
+        keeps = block_got view old new caches may_flush key rb others answer hit miss may;
+        apart = block_got_apart view old new caches rb others distinct may_flush key answer may hit miss;
+        ordered = block_got_in_order view old new caches may_flush key rb answer hit miss may;
+      }
+
+-- ---- putting in
+-- What is refused changes nothing known.
+pub puts_refused : {S : Type 0} {view : S → StorageView} {old new : ImageStorage S} {caches caches' : MetadataCaches S} {IsFit : HeaderFields → Type 0} {place : Option ℕ} {bytes : List ℕ} {is_modified : Bool} {Lays LaysApart : Type 0}
+    (r : Result (Unit {0}) ImageError) (e : ImageError) → IsErr r × IsErrAnd r (λ x. x ≡ e) → KeepsSoundly view old caches new caches' → PutsSoundly view IsFit place bytes is_modified Lays LaysApart old caches new caches' r
+puts_refused r e on kept = record {
+  keeps = λ h p honest sound fits clean holds. kept.keeps h p honest sound;
+  laid = on_no_ok _ r e on;
+  laid_apart = on_no_ok _ r e on;
+  refused = on_err _ r kept.keeps;
+  apart = on_err _ r kept.apart;
+  ordered = kept.ordered;
+}
+
+-- where the order of writes stays, tables that are written may go still
+pub keeps_written : {S : Type 0} {is_modified : Bool} {caches caches' : MetadataCaches S} → order_of caches' ≡ order_of caches → (AreClean (l2_tables caches) → IsFalse is_modified → AreClean (l2_tables caches'))
+    → (AreClean (refblocks caches) → AreClean (refblocks caches')) → KeepsL2Written is_modified caches caches'
+keeps_written {S} {is_modified} {caches} {caches'} same clean blocks = record {
+  clean = clean;
+  blocks = blocks;
+  first = λ may unmodified. subst (λ (d : Order.Direction). BlocksMayGo d (l2_tables caches')) (sym same) (blocks_go (order_of caches) (l2_tables caches) (l2_tables caches') (λ all. clean all unmodified) may);
+  may_go = λ may. subst (λ (d : Order.Direction). TablesMayGo d (refblocks caches')) (sym same) (tables_go (order_of caches) (refblocks caches) (refblocks caches') blocks may);
+}
+
+-- a call of one cache
+module _ {S : Type 0} (view : S → StorageView) (old new : ImageStorage S) (caches : MetadataCaches S) (may_flush : Bool) (key : ℕ) where
+  -- an L2 table
+  module _ (l2 : Cache (L2CacheBackend S) ℕ L2TableView) (others : l2 ≡ with_entries caches.l2 l2.entries) (v : L2TableView) (value left : Option L2TableView) (is : value ≡ Some v) (answer : Result Bool (CacheError ℕ MetadataError))
+      (there : IfSome (lookup_entry (eqb key) caches.l2.entries) (λ e. IfSome value (λ v. Replaces (l2_steps (seen_by view) caches.l2.backend.header.fields) key e (remove_entry (eqb key) caches.l2.entries) v may_flush old caches.l2.entries answer new l2.entries left)))
+      (missing : IsNone (lookup (eqb key) caches.l2.entries) → IfSome value (λ v. InsertsNew (l2_steps (seen_by view) caches.l2.backend.header.fields) eqb caches.l2.size may_flush key v old caches.l2.entries answer new l2.entries left)) where
+    pub l2_put_step : KeepsPins eqb caches.l2.entries l2.entries → KeepsNotes view old new → OthersStay eqb key caches.l2.entries l2.entries → PutStep view old caches new (record caches { l2 = l2 }) (Some key)
+    l2_put_step pins notes stays = record {
+      marks = marks_of_both (marks_tables caches l2 others pins) refl notes;
+      header_cluster = λ above. table_put_behind view old new caches may_flush key above l2 v value left answer is others stays there missing;
+    }
+
+    -- it isn't taken
+    pub l2_kept_soundly : IsDistinct eqb (keys_of caches.l2.entries) → (may_flush ≡ true → TablesGo caches) → (answer ≡ Ok true → ⊥) → KeepsSoundly view old caches new (record caches { l2 = l2 })
+    l2_kept_soundly distinct may isnt = record {
+      keeps = λ h p honest sound. table_kept view old new caches may_flush key l2 others v value left is answer there missing may h p honest sound isnt;
+      apart = table_kept_apart view old new caches l2 others distinct may_flush key answer may v value left is there missing isnt;
+      ordered = table_put_in_order view old new caches may_flush key l2 v value left is answer there missing may;
+    }
+
+  -- a refblock
+  module _ (rb : Cache (RefBlockCacheBackend S) ℕ RefBlockView) (others : rb ≡ with_entries caches.rb rb.entries) (v : RefBlockView) (value left : Option RefBlockView) (is : value ≡ Some v) (answer : Result Bool (CacheError ℕ MetadataError))
+      (there : IfSome (lookup_entry (eqb key) caches.rb.entries) (λ e. IfSome value (λ v. Replaces (rb_steps (seen_by view) caches.rb.backend.header.fields) key e (remove_entry (eqb key) caches.rb.entries) v may_flush old caches.rb.entries answer new rb.entries left)))
+      (missing : IsNone (lookup (eqb key) caches.rb.entries) → IfSome value (λ v. InsertsNew (rb_steps (seen_by view) caches.rb.backend.header.fields) eqb caches.rb.size may_flush key v old caches.rb.entries answer new rb.entries left)) where
+    pub rb_put_step : KeepsPins eqb caches.rb.entries rb.entries → KeepsNotes view old new → OthersStay eqb key caches.rb.entries rb.entries → PutStep view old caches new (record caches { rb = rb }) (Some key)
+    rb_put_step pins notes stays = record {
+      marks = marks_of_both (marks_blocks caches rb others pins) refl notes;
+      header_cluster = λ above. block_put_behind view old new caches may_flush key above rb v value left answer is others stays there missing;
+    }
+
+    -- it isn't taken
+    pub rb_kept_soundly : IsDistinct eqb (keys_of caches.rb.entries) → (may_flush ≡ true → BlocksGo caches) → (answer ≡ Ok true → ⊥) → KeepsSoundly view old caches new (record caches { rb = rb })
+    rb_kept_soundly distinct may isnt = record {
+      keeps = λ h p honest sound. block_kept view old new caches may_flush key rb others v value left is answer there missing may h p honest sound isnt;
+      apart = block_kept_apart view old new caches rb others distinct may_flush key answer may v value left is there missing isnt;
+      ordered = block_put_in_order view old new caches may_flush key rb v value left is answer there missing may;
+    }

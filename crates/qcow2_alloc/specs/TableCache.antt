@@ -1,0 +1,49 @@
+-- What a `TableCache` answers and keeps.
+use Rattle.std.specs.Prelude.{◌≡◌, Bool, false, cond, List, [], ◌∷◌, Option, Some, None, Result, Ok, Err}
+use Rattle.std.specs.List.{IsDistinct}
+use Rattle.std.specs.Map.{keys_of, lookup, remove_entry, set_value}
+use Rattle.std.specs.Option.{option_map_or}
+use Rattle.qcow2_alloc.specs.declared.async_lru_cache.slot.Slot.{Slot}
+use Rattle.qcow2_alloc.specs.declared.async_lru_cache.error.CacheError.{CacheError}
+use Rattle.qcow2_alloc.specs.declared.async_lru_cache.error.CacheError.TheVariants.{InUse, StillInUse, Memory, Backend}
+use Rattle.qcow2_alloc.specs.AsyncLruCacheBackend.{Steps}
+use Rattle.qcow2_alloc.specs.CacheAnswers.{FlushesEntry}
+use Rattle.qcow2_alloc.specs.AsyncLruCache.{Cache, with_entries, set_at, OthersStay, KeepsPins}
+
+module _ {K V : Type 0} (is_modified : V → Bool) where
+  -- each key, and whether its value is modified
+  abbrev pub marks_in : List (K × Slot V) → List (K × Bool)
+  marks_in [] = []
+  marks_in (e ∷ es) = (e.0, is_modified e.1.value) ∷ marks_in es
+
+module _ {K V : Type 0} (eq : K → K → Bool) (is_modified : V → Bool) (es : List (K × Slot V)) where
+  -- the marks us where that of k is taken if its value isn't modified, and k goes if it isn't there
+  abbrev pub settled : K → List (K × Bool) → List (K × Bool)
+  settled k us = option_map_or (λ s. cond (is_modified s.value) us (set_value (eq k) us false)) (lookup (eq k) es) (remove_entry (eq k) us)
+
+-- the backend's failure
+abbrev pub failure_of : {K E : Type 0} → Result Bool (CacheError K E) → Option E
+failure_of (Ok _) = None
+failure_of (Err (Backend x)) = Some x
+failure_of (Err InUse) = None
+failure_of (Err (StillInUse _)) = None
+failure_of (Err Memory) = None
+
+module _ {B K V : Type 0} (eq : K → K → Bool) where
+  -- what a call with a key keeps: the backend and the size, the other keys' values, and the pins
+  pub record KeepsOthers (key : K) (old new : Cache B K V) : Type 0 where
+    pub distinct : IsDistinct eq (keys_of old.entries)
+    pub others : new ≡ with_entries old new.entries
+    pub stays : OthersStay eq key old.entries new.entries
+    pub pins : KeepsPins eq old.entries new.entries
+
+  -- what a change of the value under a key answers and leaves
+  abbrev pub ChangesValue : {A : Type 0} → (V → A → V → Type 0) → K → Slot V → Cache B K V → Option A → Cache B K V → Type 0
+  ChangesValue applied key s old (Some a) new = (w : V) × applied s.value a w × (new ≡ with_entries old (set_at (eq key) old.entries w))
+  ChangesValue applied key s old None new = ⊥
+
+  -- what a flush of the entry under a key, with the value and pins s, leaves there, and its failure
+  pub record FlushesAt {S E : Type 0} (steps : Steps S K V E) (key : K) (s : Slot V) (store : S) (old : Cache B K V) (failure : Option E) (after : S) (new : Cache B K V) : Type 0 where
+    pub slot : Slot V
+    pub step : FlushesEntry steps store (key, s) failure after slot
+    pub entries : new ≡ with_entries old (set_value (eq key) old.entries slot)

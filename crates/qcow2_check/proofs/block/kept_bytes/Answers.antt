@@ -1,0 +1,13 @@
+use Rattle.std.proofs.Common.{length, arith, inl, inr}
+use Rattle.std.proofs.lemmas.Bool.{cases_lt}
+use Rattle.std.proofs.lemmas.List.{get_or_past}
+use Rattle.qcow2_check.proofs.block.kept_bytes.Goals as goal
+
+pub returns : goal.returns
+returns c = inr (
+  c.new.ensures.items,
+  λ k. elim (cases_lt k (length c.args.bytes.now)) [
+    | inl inside ↦ c.loop-byte.invariant k (omega arith)
+    | inr past ↦ get_or_past c.args.bytes.now k 0 past
+  ],
+)

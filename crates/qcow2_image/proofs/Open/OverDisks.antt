@@ -1,0 +1,52 @@
+-- An image that was just opened, over another disk.
+use Rattle.std.proofs.Common.{Bool, [], ℕ, Option}
+use Rattle.std.specs.Prelude.{Ok}
+use Rattle.image_access.specs.Backing.{BackingView}
+use Rattle.image_access.specs.Moments.{StorageView}
+use Rattle.qcow2_image.specs.ImageInvariant.{ImageInvariant, IsHonestBacking, pending_in}
+use Rattle.qcow2_image.specs.Opened.{Opens}
+use Rattle.qcow2_image.specs.Readable.{IsNewlyOpened, OpeningStep}
+use Rattle.qcow2_image.specs.declared.image.Missing.{Missing}
+use Rattle.qcow2_image.specs.declared.image.Qcow2.{Qcow2}
+
+module _ {S F : Type 0} (view : S → StorageView) (before : StorageView) (writable : Bool) (missing : Missing) (image : Qcow2 S F) (disk : Option F) where
+  pub step_over : OpeningStep view before writable missing (Ok image) → OpeningStep view before writable missing (Ok (record image { backing = disk }))
+  step_over step = record {
+    faults = record { no_fewer = step.faults.no_fewer; rose = step.faults.rose; told = step.faults.told };
+    storage = record { honest = step.storage.honest; at_once = step.storage.at_once; contents = step.storage.contents };
+    since = step.since;
+    another = λ honest needs. absurd (step.another honest needs).0;
+    cause = step.cause;
+  }
+
+module _ {S F : Type 0} (before : StorageView) (writable : Bool) (number : ℕ) (image : Qcow2 S F) (disk : Option F) where
+  pub image_over : IsNewlyOpened before writable number image → IsNewlyOpened before writable number (record image { backing = disk })
+  image_over is = record {
+    number_is = is.number_is;
+    works = is.works;
+    writable_is = is.writable_is;
+    unpinned = λ has. is.unpinned (record { cluster = has.cluster; pins = has.pins });
+    unmodified = is.unmodified;
+    header_cluster = is.header_cluster;
+    format = is.format;
+    names = is.names;
+  }
+
+module _ {S F : Type 0} (view : S → StorageView) (backing : F → BackingView) where
+  sound_over : (image : Qcow2 S F) (disk : Option F) → IsHonestBacking view backing disk → ImageInvariant view backing (pending_in view backing image []) image []
+      → ImageInvariant view backing (pending_in view backing image []) (record image { backing = disk }) []
+  sound_over image disk stays sound = record {
+    works = sound.works;
+    file = sound.file;
+    l1_table = record { cluster = sound.l1_table.cluster; bits = sound.l1_table.bits; count = sound.l1_table.count; entries = sound.l1_table.entries };
+    reftable = sound.reftable;
+    below = stays;
+    ready = λ k q there. absurd cc;
+    pinned = sound.pinned;
+    once = sound.once;
+  }
+
+  pub opens_over : (before : StorageView) (image : Qcow2 S F) (disk : Option F) → IsHonestBacking view backing disk → Opens view backing before image → Opens view backing before (record image { backing = disk })
+  opens_over before image disk stays opens honest consistent =
+      let is = opens honest consistent in
+      record { opened = record { sound = sound_over image disk stays is.opened.sound; clean = is.opened.clean }; surplus = is.surplus; leaks = is.leaks }

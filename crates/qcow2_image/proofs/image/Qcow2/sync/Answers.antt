@@ -1,0 +1,60 @@
+use Rattle.std.proofs.Common.{◌≡◌, [], sym, ◌∙◌, subst, rules}
+use Rattle.std.specs.Prelude.{Result, IfErr}
+use Rattle.qcow2_disk.specs.Calls.{IsSame}
+use Rattle.qcow2_alloc.specs.ImageError.{IsFault}
+use Rattle.qcow2_alloc.specs.ImageFile.{view_in}
+use Rattle.qcow2_image.specs.Calls.{AnswersCall}
+use Rattle.qcow2_image.specs.declared.image.Qcow2.{Qcow2}
+use Rattle.qcow2_image.specs.Image.{is_failed}
+use Rattle.qcow2_image.specs.Unwritten.{ContentsStayThroughout}
+use Rattle.qcow2_image.proofs.Call.BehindHeader.{behind_call}
+use Rattle.qcow2_image.proofs.Call.Called.{told_answers, tells_quietly, quietly_then}
+use Rattle.qcow2_image.proofs.Call.FaultCounts.{counted_marked}
+use Rattle.qcow2_image.proofs.Call.Marked.{may_mark}
+use Rattle.qcow2_image.proofs.Call.OnceWritten.{fails_none, fails_once}
+use Rattle.qcow2_image.proofs.Map.Loading.{if_ok_any}
+use Rattle.qcow2_image.proofs.Map.Quiet.{reads_call}
+use Rattle.qcow2_image.proofs.image.Qcow2.sync.Goals as goal
+
+pub returns-clause-step : goal.returns-clause-step
+returns-clause-step g c =
+    let view = g.S.Storage.view in
+    let old = c.args.self.now in
+    let begun = c.begin.new.self in
+    let synced = c.sync_storage-done.new.self in
+    let new = c.mark_failure.new.self in
+    record {
+      image = search rules;
+      header = search rules;
+      marks = search rules;
+      once_written = fails_once view old begun c.begin.ensures.begun synced new c.sync_storage-done.result c.sync_storage-done.ensures.step.part.notes (c.sync_storage-done.ensures.step.part.stays.failed ∙ c.begin.ensures.stays.failed) c.mark_failure.ensures.marks c.mark_failure.ensures.rest c.mark_failure.result (λ memory. sym c.mark_failure.ensures.answer ∙ memory);
+      header_cluster = behind_call view c.begin.ensures.begun c.sync_storage-done.ensures.step.part.header_cluster c.mark_failure.ensures.rest;
+      faults = counted_marked view g.F.BackingDisk.backing old begun synced new c.sync_storage-done.result c.mark_failure.result c.begin.ensures.faults c.sync_storage-done.ensures.fails.faults c.mark_failure.ensures.answer c.mark_failure.ensures.rest;
+      quiet = reads_call view old begun synced new _ c.begin.ensures.begun c.sync_storage-done.ensures.step.quiet c.mark_failure.ensures.rest;
+    }
+
+pub returns-then-self-clause-step : goal.returns-then-self-clause-step
+returns-then-self-clause-step g c = record { image = search rules; header = search rules; marks = search rules; once_written = fails_none g.S.Storage.view c.args.self.now _; header_cluster = search rules; faults = search rules; quiet = search rules }
+
+pub returns-clause-silent : goal.returns-clause-silent
+returns-clause-silent g c = λ honest.
+    let view = g.S.Storage.view in
+    let old = c.args.self.now in
+    subst (λ (image : Qcow2 _ _). ContentsStayThroughout (view_in view old.file) (view_in view image.file)) (sym c.mark_failure.ensures.rest)
+    (subst (λ s. (view s).is_honest → ContentsStayThroughout (view s) (view_in view c.sync_storage-done.new.self.file)) c.begin.ensures.storage c.sync_storage-done.ensures.silent honest)
+
+pub returns-clause-sees : goal.returns-clause-sees
+returns-clause-sees g c =
+    let view = g.S.Storage.view in
+    let below = g.F.BackingDisk.backing in
+    let old = c.args.self.now in
+    let new = c.sync_storage-done.new.self in
+    subst (λ (image : Qcow2 _ _). AnswersCall view below old image [] (λ done was is. is ≡ was) c.mark_failure.result) (sym c.mark_failure.ensures.rest)
+    (subst (λ (r : Result _ _). AnswersCall view below old (record new { is_failed = is_failed c.mark_failure.new.self }) [] (λ done was is. is ≡ was) r) (sym c.mark_failure.ensures.answer)
+    (told_answers view below old (record new { is_failed = is_failed c.mark_failure.new.self }) (λ done was is. is ≡ was) c.sync_storage-done.result
+    (tells_quietly view below old new (λ out. quietly_then view below out old c.begin.new.self new c.begin.ensures.keeps c.begin.ensures.list c.sync_storage-done.ensures.keeps c.sync_storage-done.ensures.step.list)
+    (is_failed c.mark_failure.new.self) (λ done v w. IsSame v w) c.sync_storage-done.result (may_mark new c.mark_failure.new.self c.sync_storage-done.result c.mark_failure.ensures.marks) (c.sync_storage-done.ensures.step.part.stays.image.number ∙ c.begin.ensures.stays.image.number)
+    c.if-self.false (λ out sound same. if_ok_any c.sync_storage-done.result (λ done. same)))))
+
+pub returns-clause-late : goal.returns-clause-late
+returns-clause-late g c = λ _. subst (λ (r : Result _ _). IfErr r IsFault) (sym c.mark_failure.ensures.answer) c.sync_storage-done.ensures.fails.cause

@@ -1,0 +1,78 @@
+//! The storages that an image is over.
+ghost use Rattle.qcow2_image.specs.ImageSteps.{ImageFails, ReadingCall, ReadingStep};
+ghost use Rattle.std.specs.Prelude.{◌≡◌, List, [], Option, map, false, IfOk, IfErr, IsTrue, Err};
+ghost use Rattle.qcow2_alloc.specs.ImageError.{IsFault};
+ghost use Rattle.qcow2_alloc.specs.ImageFile.{view_in};
+ghost use Rattle.qcow2_alloc.specs.declared.error.ImageError.TheVariants.{Failed, Memory};
+ghost use Rattle.qcow2_laws.specs.CrashInvariant.{Pending};
+ghost use Rattle.qcow2_image.specs.Calls.{AnswersCall};
+ghost use Rattle.qcow2_image.specs.Image.{is_failed};
+ghost use Rattle.qcow2_image.specs.ImageInvariant.{ImageInvariant};
+ghost use Rattle.qcow2_image.specs.Storages.{storages_of};
+ghost use Rattle.qcow2_image.specs.UnseenSteps.{UnseenStep};
+ghost use Rattle.qcow2_image.specs.Unwritten.{ContentsStayThroughout};
+ghost use Rattle.qcow2_image.specs.declared.prepared.Prepared.{Prepared};
+
+use crate::Qcow2;
+use image_access::{Storage, WrappedFormat};
+use qcow2_alloc::ImageError;
+use std::alloc::Global;
+use std::fmt;
+
+impl<S: Storage, F: WrappedFormat<S>> Qcow2<S, F> {
+    /// Returns once what was written to the storage would outlive a loss of power. It writes nothing that is cached: that is what
+    /// `flush` does. Refused 16 (failed), then 14 (memory), 15 (storage) as the storage is.
+    pub fn sync(&mut self) -> Result<(), ImageError>
+        ensures step { ReadingCall S.view F.backing self.old self.new result }
+        ensures early { IsTrue (is_failed self.old) → (result ≡ Err Failed) × (self.new ≡ self.old) }
+        ensures late { is_failed self.old ≡ false → IfErr result IsFault }
+        ensures silent { (view_in S.view self.old.file).is_honest
+            → ContentsStayThroughout (view_in S.view self.old.file) (view_in S.view self.new.file) }
+        ensures sees { AnswersCall S.view F.backing self.old self.new [] (λ done was is. is ≡ was) result }
+    {
+        if self.is_failed {
+            return Err(ImageError::Failed);
+        }
+        self.begin();
+        let done = self.sync_storage();
+        self.mark_failure(done)
+    }
+
+    fn sync_storage(&mut self) -> Result<(), ImageError>
+        ensures step { ReadingStep S.view self.old self.new }
+        ensures fails { ImageFails S.view F.backing self.old self.new result IsFault }
+        ensures silent { (view_in S.view self.old.file).is_honest
+            → ContentsStayThroughout (view_in S.view self.old.file) (view_in S.view self.new.file) }
+        ensures keeps { (p : Pending) (out : List (Option Prepared)) → ImageInvariant S.view F.backing p self.old out
+            → UnseenStep S.view F.backing p p self.old self.new out }
+    {
+        self.file.storage.sync()?;
+        Ok(())
+    }
+
+    /// The storages that the image is over: those of the disk below it, then its own. A failed image answers too. Refused 14 (memory).
+    pub fn collect_storage_dependencies(&self, alloc: Global) -> Result<Vec<&S>, ImageError>
+        ensures listed { IfOk result (λ found. map (λ s. s.now) found.items ≡ storages_of F.dependencies self.now) }
+        ensures cause { IfErr result (λ e. e ≡ Memory) }
+    {
+        let mut found = match &self.backing {
+            Some(backing) => backing.storage_dependencies(alloc)?,
+            None => Vec::new(alloc),
+        };
+        found.push(self.file.storage.inner())?;
+        Ok(found)
+    }
+}
+
+/// `qcow2[`, the name of the storage, `]`.
+impl<S: Storage, F: WrappedFormat<S>> fmt::Display for Qcow2<S, F> {
+    ghost use Rattle.std.specs.Prelude.{Some};
+    ghost use Rattle.qcow2_image.specs.Storages.{name_of};
+
+    ghost output = { λ image. Some (name_of S.view image) };
+
+    fn fmt<W: fmt::Write>(&self, f: &mut fmt::Formatter<W>) -> fmt::Result {
+        let name = self.file.storage.name();
+        write!(f, "qcow2[{name}]")
+    }
+}

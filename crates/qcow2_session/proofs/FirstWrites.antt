@@ -1,0 +1,34 @@
+-- What a storage that records its changes held after its first so many writes is what it had at a moment since.
+use Rattle.std.proofs.Common.{◌≡◌, ⊎_elim, inl, inr, ℕ, List, [], map, length, Option, Result, Ok, Err, sym, ap, subst}
+use Rattle.std.specs.Prelude.{Vec}
+use Rattle.std.specs.Global.{Global}
+use Rattle.image_access.specs.Backing.{BackingView}
+use Rattle.image_access.specs.Changes.{HadSince}
+use Rattle.image_access.specs.TraceStorage.{Trace, view_of_trace}
+use Rattle.image_access.proofs.Replays.{had_up_to_write}
+use Rattle.qcow2_disk.specs.Headline.{IsHeadline}
+use Rattle.qcow2_alloc.specs.declared.error.ImageError.{ImageError}
+use Rattle.qcow2_image.specs.declared.image.Qcow2.{Qcow2}
+use Rattle.qcow2_image.specs.Image.{storage_of_image}
+use Rattle.qcow2_image.specs.ImageInvariant.{image_abstraction}
+use Rattle.qcow2_session.specs.Commands.{command_of, reply_of}
+use Rattle.qcow2_session.specs.Opening.{EachMomentOpensAgain, HadNoRoom, Headline, bytes_below}
+use Rattle.qcow2_session.specs.Recorded.{FirstWritesAreStops, contents_after}
+use Rattle.qcow2_session.specs.declared.session.Command.{Command}
+use Rattle.qcow2_session.specs.declared.session.Reply.{Reply}
+
+had_after : (k : ℕ) (before now : Trace) → before.changes ≡ [] → (view_of_trace now).had_since (view_of_trace before).moment (contents_after k now)
+had_after k before now none = let n : length before.changes ≡ 0 = ap length none in subst (λ (t : ℕ). HadSince now.start now.changes t (contents_after k now)) (sym n) (had_up_to_write now.start k now.changes)
+
+module _ {F : Type 0} (backing : F → BackingView) (before : Trace) (below : Option F) (commands : List Command) where
+  pub first_writes : (result : Result (Qcow2 Trace F × Vec Reply Global) (Trace × ImageError)) → Headline view_of_trace backing (view_of_trace before) below commands result
+      → EachMomentOpensAgain view_of_trace backing (view_of_trace before) below result → FirstWritesAreStops backing before below commands result
+  first_writes (Ok run) headline again none consistent stays = (
+    (λ k. again tt consistent stays (contents_after k (storage_of_image run.0)) (had_after k before (storage_of_image run.0) none)),
+    ⊎_elim
+        (λ (no_room : HadNoRoom view_of_trace backing (view_of_trace before) below run.0 run.1.items). inl no_room)
+        (λ (all : IsHeadline (image_abstraction view_of_trace backing) (view_of_trace before) (bytes_below backing below) run.0 (map command_of commands) (map reply_of run.1.items)).
+        inr (record { headline = all; writes = λ k. all.stops (contents_after k (storage_of_image run.0)) (had_after k before (storage_of_image run.0) none) }))
+        (headline tt consistent stays),
+  )
+  first_writes (Err refused) headline again none consistent stays = λ k. again tt consistent stays (contents_after k refused.0) (had_after k before refused.0 none)

@@ -1,0 +1,79 @@
+use Rattle.std.proofs.Common.{◌≡◌, ◌+◌, [], ap, inl, is_some, replicate, rules, sym, subst, arith}
+use Rattle.std.specs.Prelude.{IfErr}
+use Rattle.qcow2_alloc.specs.ImageFile.{known_in}
+use Rattle.qcow2_disk.specs.AbstractImages.{Guest}
+use Rattle.qcow2_disk.specs.Calls.{Shows}
+use Rattle.qcow2_disk.specs.Disk.{Disk}
+use Rattle.qcow2_disk.specs.Found.{Kind, IsFoundIn}
+use Rattle.qcow2_image.specs.Calls.{AnswersCall}
+use Rattle.qcow2_image.specs.Found.{found_kind}
+use Rattle.qcow2_image.specs.MetAlone.{IsMetReadingRange}
+use Rattle.qcow2_image.proofs.Call.MetErrors.{tables_met}
+use Rattle.qcow2_session.specs.Sessions.{IsOfReading}
+use Rattle.qcow2_session.proofs.Causing.{mapping_reading}
+use Rattle.qcow2_session.proofs.Exporting.{zeros_there}
+use Rattle.qcow2_session.proofs.Marking.{in_parts, parts_answered, parts_handed, refused_at_once}
+use Rattle.qcow2_session.proofs.MetOnSound.{looking_prepared}
+use Rattle.qcow2_session.proofs.Turns.{does_if, does_why, refused_is}
+use Rattle.qcow2_session.proofs.convert.zero_run.Goals as goal
+
+pub returns-in_err-mapping-clause-sees : goal.returns-in_err-mapping-clause-sees
+returns-in_err-mapping-clause-sees g c =
+    subst (λ r. AnswersCall g.S.Storage.view g.F.BackingDisk.backing c.args.image.now c.get_mapping.new.self [] (λ n old new. Shows old.disk c.args.at (replicate n 0) × (new ≡ old)) r)
+    (sym (refused_is _ c.in_err-mapping.field-0.0 c.from_residual.ensures)) c.in_err-mapping.ensures.sees
+
+pub returns-in_err-mapping-clause-cause : goal.returns-in_err-mapping-clause-cause
+returns-in_err-mapping-clause-cause g c = subst (λ r. IfErr r IsOfReading) (sym (refused_is _ c.in_err-mapping.field-0.0 c.from_residual.ensures))
+    (mapping_reading _ _ c.args.image.now c.in_err-mapping.field-0.0 c.in_err-mapping.ensures.early (λ none. tables_met c.in_err-mapping.field-0.0 (c.in_err-mapping.ensures.late none)))
+
+pub returns-in_err-mapping-clause-met : goal.returns-in_err-mapping-clause-met
+returns-in_err-mapping-clause-met g c = λ out sound. subst (λ r. IfErr r (IsMetReadingRange out c.args.at (c.args.at + c.args.max) c.args.image.now.file.header.fields (known_in g.S.Storage.view c.args.image.now.file))) (sym (refused_is _ c.in_err-mapping.field-0.0 c.from_residual.ensures))
+    (inl (looking_prepared c.args.image.now out c.in_err-mapping.field-0.0 (c.in_err-mapping.ensures.met out sound)))
+
+pub returns-in_err-mapping-clause-step : goal.returns-in_err-mapping-clause-step
+returns-in_err-mapping-clause-step g c = record {
+  image = search rules;
+  faults = search rules;
+  header = search rules;
+  header_cluster = search rules;
+  marks = parts_handed g.S.Storage.view _ c.in_err-mapping.field-0.0 c.args.image.now c.get_mapping.new.self (refused_is _ c.in_err-mapping.field-0.0 c.from_residual.ensures)
+      (in_parts g.S.Storage.view (refused_at_once g.S.Storage.view c.args.image.now c.get_mapping.new.self c.in_err-mapping.field-0.0 c.in_err-mapping.ensures.step.once_written c.in_err-mapping.ensures.step.marks));
+  quiet = c.get_mapping.ensures.step.quiet;
+}
+
+pub returns-in-Zero-clause-sees : goal.returns-in-Zero-clause-sees
+returns-in-Zero-clause-sees g c = λ out.
+    let view = g.S.Storage.view in
+    let below = g.F.BackingDisk.backing in
+    let old = c.args.image.now in
+    let new = c.get_mapping.new.self in
+    let n = c.in_ok-mapping.found in
+    does_if (λ h. (h.1, h.0)) (does_why
+    (λ sound.
+    let still = (c.in_ok-mapping.ensures.sees out).answer sound in
+    let found = subst (λ (k : Kind). IsFoundIn (known_in view new.file) (is_some new.backing) c.args.at c.args.max k n) (ap found_kind c.in-Zero.is) (c.in_ok-mapping.ensures.run out sound) in
+    subst (λ (d : Disk). Shows d c.args.at (replicate n 0)) (ap (λ (x : Guest). x.disk) still.1) (zeros_there view below new out still.0 c.args.at c.args.max n c.in-Zero.explicit found))
+    (c.in_ok-mapping.ensures.sees out))
+
+pub returns-in-Zero-clause-step : goal.returns-in-Zero-clause-step
+returns-in-Zero-clause-step g c = record {
+  image = search rules;
+  faults = search rules;
+  header = search rules;
+  header_cluster = search rules;
+  marks = parts_answered g.S.Storage.view c.args.image.now c.get_mapping.new.self c.in_ok-mapping.ensures.step.marks c.in_ok-mapping.ensures.step.once_written.counts;
+  quiet = c.get_mapping.ensures.step.quiet;
+}
+
+pub returns-in_default-clause-sees : goal.returns-in_default-clause-sees
+returns-in_default-clause-sees g c = λ out. does_if (λ same. (λ i lt. absurd (omega (arith, lt)), same)) (c.in_ok-mapping.ensures.sees out)
+
+pub returns-in_default-clause-step : goal.returns-in_default-clause-step
+returns-in_default-clause-step g c = record {
+  image = search rules;
+  faults = search rules;
+  header = search rules;
+  header_cluster = search rules;
+  marks = parts_answered g.S.Storage.view c.args.image.now c.get_mapping.new.self c.in_ok-mapping.ensures.step.marks c.in_ok-mapping.ensures.step.once_written.counts;
+  quiet = c.get_mapping.ensures.step.quiet;
+}
