@@ -195,6 +195,17 @@ def info_of(*layout):
     told_of_the_header()
 
 
+def encrypted():
+    """An image that QEMU encrypts, by LUKS. Where the processor's time can't be told well enough for its keys, by AES."""
+    key = ["--object", "secret,id=s,data=abc", "-o", "encrypt.key-secret=s"]
+    by_luks = ["qemu-img", "create", "-q", "-f", "qcow2", *key, "-o", "encrypt.format=luks,encrypt.iter-time=10", "disk", "1M"]
+    ran = subprocess.run(by_luks, capture_output=True, text=True)
+    if ran.returncode and "CPU usage" in ran.stderr:
+        tool("qemu-img", "create", "-q", "-f", "qcow2", *key, "-o", "encrypt.format=aes", "disk", "1M")
+    else:
+        equal((ran.returncode, ran.stderr), (0, ""), "an image encrypted by LUKS")
+
+
 def told_of_the_header():
     ours, theirs = json.loads(told("info", "--output=json", "disk")), json.loads(tool("qemu-img", "info", "--output=json", "disk"))
     for it in (ours, theirs):
@@ -208,7 +219,8 @@ def told_of_the_header():
 def info_of_what_is_not_read():
     info_of("-o", "extended_l2=on")
     info_of("-o", "compression_type=zstd")
-    info_of("--object", "secret,id=s,data=abc", "-o", "encrypt.format=luks,encrypt.key-secret=s,encrypt.iter-time=10")
+    encrypted()
+    told_of_the_header()
     tool("qemu-img", "create", "-q", "-f", "qcow2", "-u", "-b", "some base", "-F", "raw", "disk", "1M")
     put("disk", 72, (1).to_bytes(8, "big"))
     equal(json.loads(told("info", "--output=json", "disk"))["backing-filename"], "some base", "the backing file of a dirty image")
@@ -224,7 +236,7 @@ def why_an_image_is_refused():
     explains("extended L2", "qemu-img convert")
     tool("qemu-img", "create", "-q", "-f", "vmdk", "disk", "1M")
     explains("VMDK", "qemu-img convert")
-    tool("qemu-img", "create", "-q", "-f", "qcow2", "--object", "secret,id=s,data=abc", "-o", "encrypt.format=luks,encrypt.key-secret=s,encrypt.iter-time=10", "disk", "1M")
+    encrypted()
     explains("encrypted")
     compressed("zstd")
     os.remove("raw")
