@@ -11,13 +11,12 @@ use Rattle.lru.proofs.CallerLemmas.{Contains-lookup_entry}
 use Rattle.qcow2_alloc.specs.declared.async_lru_cache.slot.Slot.{Slot}
 use Rattle.qcow2_alloc.specs.declared.async_lru_cache.error.CacheError.{CacheError}
 use Rattle.qcow2_alloc.specs.declared.async_lru_cache.error.CacheError.TheVariants.{InUse, StillInUse, Memory, Backend}
-use Rattle.qcow2_alloc.specs.AsyncLruCache.{Cache, with_entries, slot_of, is_pinned, can_remove, pinned, oldest_free, pin_at, unpin_at, set_at, value_at}
+use Rattle.qcow2_alloc.specs.AsyncLruCache.{Cache, with_entries, slot_of, is_pinned, can_remove, pinned, oldest_free, pin_at, unpin_at, set_at, value_at, KeepsOthers}
 use Rattle.qcow2_alloc.specs.AsyncLruCacheBackend.{Steps}
 use Rattle.qcow2_alloc.specs.CacheAnswers.{GetsNew, InsertsNew, Replaces, HasRoomForEntry}
 use Rattle.qcow2_alloc.specs.Uses.{placed}
 use Rattle.qcow2_alloc.specs.TableCache.{marks_in, settled}
 use Rattle.std.proofs.lemmas.Map.{lookup-remove_entry}
-use Rattle.qcow2_alloc.specs.TableCache.{KeepsOthers}
 use Rattle.qcow2_alloc.proofs.CachedEntries.Lists.{oldest_free-lookup, lookup-from_entry, lookup_none-removed, none_of, promoted_none}
 use Rattle.qcow2_alloc.proofs.CachedEntries.Pins.{pins_same, oldest_unpinned}
 use Rattle.qcow2_alloc.proofs.CachedEntries.Staying.{stays_same}

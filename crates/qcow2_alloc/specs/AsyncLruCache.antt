@@ -1,7 +1,8 @@
 -- What a contract sees of an `AsyncLruCache`, and the words for its list.
 use Rattle.std.specs.Prelude.{◌≡◌, ℕ, ◌+◌, ◌-◌, ◌^◌, Bool, true, false, cond, not, List, [], ◌∷◌, Option, Some, None, option_map, IsSome, IsNone, nat_lt, slice_get, IsSomeAnd}
 use Rattle.std.specs.Option.{option_map_or, option_or}
-use Rattle.std.specs.Map.{lookup, set_value}
+use Rattle.std.specs.List.{IsDistinct}
+use Rattle.std.specs.Map.{keys_of, lookup, set_value}
 use Rattle.qcow2_alloc.specs.declared.async_lru_cache.slot.Slot.{Slot}
 
 -- the backend, how many entries there may be, and the entries, the most recently used first
@@ -85,3 +86,11 @@ module _ {K V : Type 0} where
   pub record KeepsPins (eq : K → K → Bool) (es fs : List (K × Slot V)) : Type 0 where
     pub pins : (k : K) → pins_at (eq k) fs ≡ pins_at (eq k) es
     pub free : pinned es ≡ [] → pinned fs ≡ []
+
+module _ {B K V : Type 0} (eq : K → K → Bool) where
+  -- what a call with a key keeps: the backend and the size, the other keys' values, and the pins
+  pub record KeepsOthers (key : K) (old new : Cache B K V) : Type 0 where
+    pub distinct : IsDistinct eq (keys_of old.entries)
+    pub others : new ≡ with_entries old new.entries
+    pub stays : OthersStay eq key old.entries new.entries
+    pub pins : KeepsPins eq old.entries new.entries

@@ -1,14 +1,13 @@
 -- What a `TableCache` answers and keeps.
 use Rattle.std.specs.Prelude.{◌≡◌, Bool, false, cond, List, [], ◌∷◌, Option, Some, None, Result, Ok, Err}
-use Rattle.std.specs.List.{IsDistinct}
-use Rattle.std.specs.Map.{keys_of, lookup, remove_entry, set_value}
+use Rattle.std.specs.Map.{lookup, remove_entry, set_value}
 use Rattle.std.specs.Option.{option_map_or}
 use Rattle.qcow2_alloc.specs.declared.async_lru_cache.slot.Slot.{Slot}
 use Rattle.qcow2_alloc.specs.declared.async_lru_cache.error.CacheError.{CacheError}
 use Rattle.qcow2_alloc.specs.declared.async_lru_cache.error.CacheError.TheVariants.{InUse, StillInUse, Memory, Backend}
 use Rattle.qcow2_alloc.specs.AsyncLruCacheBackend.{Steps}
 use Rattle.qcow2_alloc.specs.CacheAnswers.{FlushesEntry}
-use Rattle.qcow2_alloc.specs.AsyncLruCache.{Cache, with_entries, set_at, OthersStay, KeepsPins}
+use Rattle.qcow2_alloc.specs.AsyncLruCache.{Cache, with_entries, set_at}
 
 module _ {K V : Type 0} (is_modified : V → Bool) where
   -- each key, and whether its value is modified
@@ -30,13 +29,6 @@ failure_of (Err (StillInUse _)) = None
 failure_of (Err Memory) = None
 
 module _ {B K V : Type 0} (eq : K → K → Bool) where
-  -- what a call with a key keeps: the backend and the size, the other keys' values, and the pins
-  pub record KeepsOthers (key : K) (old new : Cache B K V) : Type 0 where
-    pub distinct : IsDistinct eq (keys_of old.entries)
-    pub others : new ≡ with_entries old new.entries
-    pub stays : OthersStay eq key old.entries new.entries
-    pub pins : KeepsPins eq old.entries new.entries
-
   -- what a change of the value under a key answers and leaves
   abbrev pub ChangesValue : {A : Type 0} → (V → A → V → Type 0) → K → Slot V → Cache B K V → Option A → Cache B K V → Type 0
   ChangesValue applied key s old (Some a) new = (w : V) × applied s.value a w × (new ≡ with_entries old (set_at (eq key) old.entries w))

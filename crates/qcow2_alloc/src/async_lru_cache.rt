@@ -6,7 +6,7 @@ ghost use Rattle.std.specs.Map.{keys_of, lookup, lookup_entry, remove_entry};
 ghost use Rattle.lru.specs.LruCache.{promoted};
 ghost use Rattle.qcow2_alloc.specs.AsyncLruCache.{cache_of, with_entries, value_at, is_pinned, can_pin, pin_at};
 ghost use Rattle.qcow2_alloc.specs.AsyncLruCache.{can_unpin, unpin_at, can_remove, oldest_free, pinned, pins_at};
-ghost use Rattle.qcow2_alloc.specs.AsyncLruCache.{IsInFront, OnlyOldestGoes, OthersStay, KeepsPins};
+ghost use Rattle.qcow2_alloc.specs.AsyncLruCache.{IsInFront, KeepsOthers, OnlyOldestGoes, KeepsPins};
 ghost use Rattle.qcow2_alloc.specs.AsyncLruCacheBackend.{KeepsKnown, LaysOver};
 ghost use Rattle.qcow2_alloc.specs.CacheAnswers.{Invalidates, Flushes, FlushesKey, GetsNew, InsertsNew, Replaces};
 
@@ -80,12 +80,13 @@ impl<B: AsyncLruCacheBackend> AsyncLruCache<B> {
         key: B::Key,
         may_flush: bool,
     ) -> Result<bool, CacheError<B::Key, B::Error>>
-        ensures distinct { IsDistinct B.Key.eq (keys_of self.old.entries) }
         ensures hit { IsSome (lookup (B.Key.eq key) self.old.entries)
-            → (result ≡ Ok true) × (self.new.entries ≡ promoted (B.Key.eq key) self.old.entries) × (store.new ≡ store.old) }
+            → (result ≡ Ok true) × (self.new.entries ≡ promoted (B.Key.eq key) self.old.entries)
+            × (store.new ≡ store.old) }
         ensures miss { IsNone (lookup (B.Key.eq key) self.old.entries)
-            → GetsNew (B.steps self.old.backend) B.Key.eq self.old.size may_flush key store.old self.old.entries result store.new self.new.entries }
-        ensures others { self.new ≡ with_entries self.old self.new.entries }
+            → GetsNew (B.steps self.old.backend) B.Key.eq self.old.size may_flush key
+            store.old self.old.entries result store.new self.new.entries }
+        ensures kept { KeepsOthers B.Key.eq key self.old self.new }
         ensures keeps { B.keeps store.old store.new }
 
         // What is got is in front. Only the least recently used entry with no pin goes, after its flush succeeded.
@@ -93,10 +94,6 @@ impl<B: AsyncLruCacheBackend> AsyncLruCache<B> {
         ensures eviction { OnlyOldestGoes B.Key.eq
             (λ e. (w : B.Value) × (t : B.Store)
             × (B.steps self.old.backend).flushed store.old e.0 e.1.value w t) self.old.entries self.new.entries }
-        ensures stays { OthersStay B.Key.eq key self.old.entries self.new.entries }
-
-        // Pins stay.
-        ensures pins { KeepsPins B.Key.eq self.old.entries self.new.entries }
 
         // The bytes of the store, with the modified values laid over, stay.
         ensures known { KeepsKnown B.Key.eq B.is_modified B.bytes
@@ -127,8 +124,8 @@ impl<B: AsyncLruCacheBackend> AsyncLruCache<B> {
         value: &mut Option<B::Value>,
         may_flush: bool,
     ) -> Result<bool, CacheError<B::Key, B::Error>>
-        ensures distinct { IsDistinct B.Key.eq (keys_of self.old.entries) }
-        ensures nothing { IsNone value.old → (result ≡ Ok false) × (self.new ≡ self.old) × (store.new ≡ store.old) × (value.new ≡ None) }
+        ensures nothing { IsNone value.old
+            → (result ≡ Ok false) × (self.new ≡ self.old) × (store.new ≡ store.old) × (value.new ≡ None) }
         ensures there { IfSome (lookup_entry (B.Key.eq key) self.old.entries)
             (λ e. IfSome value.old (λ v. Replaces (B.steps self.old.backend) key e
             (remove_entry (B.Key.eq key) self.old.entries) v may_flush store.old self.old.entries result store.new
@@ -137,11 +134,8 @@ impl<B: AsyncLruCacheBackend> AsyncLruCache<B> {
             → IfSome value.old (λ v. InsertsNew
             (B.steps self.old.backend) B.Key.eq self.old.size may_flush key v store.old self.old.entries result
             store.new self.new.entries value.new) }
-        ensures others { self.new ≡ with_entries self.old self.new.entries }
+        ensures kept { KeepsOthers B.Key.eq key self.old self.new }
         ensures keeps { B.keeps store.old store.new }
-
-        ensures stays { OthersStay B.Key.eq key self.old.entries self.new.entries }
-        ensures pins { KeepsPins B.Key.eq self.old.entries self.new.entries }
 
         // The value is laid over the known bytes where it is taken, and else they stay.
         ensures laid { IfSome value.old
@@ -235,7 +229,8 @@ impl<B: AsyncLruCacheBackend> AsyncLruCache<B> {
     /// Flushes each entry, the most recently used first, also past a failure. Refused `Backend` with the first failure.
     pub fn flush(&mut self, store: &mut B::Store) -> Result<(), CacheError<B::Key, B::Error>>
         ensures distinct { IsDistinct B.Key.eq (keys_of self.old.entries) }
-        ensures flushed { Flushes (B.steps self.old.backend) store.old self.old.entries result store.new self.new.entries }
+        ensures flushed { Flushes (B.steps self.old.backend)
+            store.old self.old.entries result store.new self.new.entries }
         ensures others { self.new ≡ with_entries self.old self.new.entries }
         ensures keeps { B.keeps store.old store.new }
         ensures pins { KeepsPins B.Key.eq self.old.entries self.new.entries }
@@ -257,7 +252,8 @@ impl<B: AsyncLruCacheBackend> AsyncLruCache<B> {
         ensures missing { IsNone (lookup (B.Key.eq key) self.old.entries)
             → (result ≡ Ok false) × (self.new ≡ self.old) × (store.new ≡ store.old) }
         ensures there { IfSome (lookup (B.Key.eq key) self.old.entries) (λ s.
-            FlushesKey (B.steps self.old.backend) (B.Key.eq key) key s store.old self.old.entries result store.new self.new.entries) }
+            FlushesKey (B.steps self.old.backend) (B.Key.eq key) key s
+            store.old self.old.entries result store.new self.new.entries) }
         ensures others { self.new ≡ with_entries self.old self.new.entries }
         ensures keeps { B.keeps store.old store.new }
         ensures known { KeepsKnown B.Key.eq B.is_modified B.bytes
@@ -315,8 +311,10 @@ impl<B: AsyncLruCacheBackend> AsyncLruCache<B> {
     pub fn remove(&mut self, key: B::Key) -> bool
         ensures distinct { IsDistinct B.Key.eq (keys_of self.old.entries) }
         ensures value { result ≡ can_remove (B.Key.eq key) self.old.entries }
-        ensures evicted { IfSome (lookup (B.Key.eq key) self.old.entries) (λ s. result ≡ true → B.evicted self.old.backend key s.value) }
-        ensures entries { self.new ≡ with_entries self.old (cond result (remove_entry (B.Key.eq key) self.old.entries) self.old.entries) }
+        ensures evicted { IfSome (lookup (B.Key.eq key) self.old.entries) (λ s.
+            result ≡ true → B.evicted self.old.backend key s.value) }
+        ensures entries { self.new
+            ≡ with_entries self.old (cond result (remove_entry (B.Key.eq key) self.old.entries) self.old.entries) }
     {
         let _count = self.entries.len();
         let Some(slot) = self.entries.peek(&key) else {

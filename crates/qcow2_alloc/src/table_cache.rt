@@ -7,10 +7,10 @@ ghost use Rattle.std.specs.Option.{option_map_or};
 ghost use Rattle.lru.specs.LruCache.{promoted};
 ghost use Rattle.qcow2_alloc.specs.AsyncLruCache.{cache_of, with_entries, value_at, is_pinned, can_pin, pin_at};
 ghost use Rattle.qcow2_alloc.specs.AsyncLruCache.{can_unpin, unpin_at, can_remove, oldest_free, pinned, pins_at};
-ghost use Rattle.qcow2_alloc.specs.AsyncLruCache.{IsInFront, OnlyOldestGoes, KeepsPins};
+ghost use Rattle.qcow2_alloc.specs.AsyncLruCache.{IsInFront, KeepsOthers, OnlyOldestGoes, KeepsPins};
 ghost use Rattle.qcow2_alloc.specs.AsyncLruCacheBackend.{KeepsKnown, LaysOver};
 ghost use Rattle.qcow2_alloc.specs.CacheAnswers.{Invalidates, Flushes, FlushesAll, GetsNew, InsertsNew, Replaces};
-ghost use Rattle.qcow2_alloc.specs.TableCache.{settled, KeepsOthers, ChangesValue};
+ghost use Rattle.qcow2_alloc.specs.TableCache.{settled, ChangesValue};
 ghost use Rattle.qcow2_alloc.specs.TableCache.{marks_in, failure_of, FlushesAt};
 ghost use Rattle.qcow2_alloc.specs.Uses.{first_marked, behind, IsFoundAs};
 

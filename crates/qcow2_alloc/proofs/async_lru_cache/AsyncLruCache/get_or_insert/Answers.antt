@@ -1,4 +1,4 @@
-use Rattle.std.proofs.Common.{◌≡◌, None, sym, ap, ◌∙◌, arith}
+use Rattle.std.proofs.Common.{◌≡◌, None, refl, sym, ap, ◌∙◌, arith}
 use Rattle.std.specs.Map.{lookup}
 use Rattle.lru.specs.LruCache.{LruCache}
 use Rattle.qcow2_alloc.specs.declared.async_lru_cache.slot.Slot.{Slot}
@@ -66,30 +66,30 @@ returns-clause-known g c =
     let d = rw same at c.load_new.ensures.distinct in
     rw (← c.self.view_is) (gets_keeps g.met.B.Key.Eq.laws (g.met.B.AsyncLruCacheBackend.lawful c.self.inside.backend) c.self.inside.size c.args.may_flush c.args.key c.args.store.now c.load_new.new.store es c.load_new.new.entries.entries c.load_new.result d m h)
 
-pub returns-then-promote-clause-pins : goal.returns-then-promote-clause-pins
-returns-then-promote-clause-pins g c =
-    rw (← c.self.view_is, c.promote.ensures.entries) (pins_promoted g.B.Key.PartialEq.eq g.met.B.Key.Eq.laws c.self.inside.entries.entries c.args.key)
+pub returns-then-promote-clause-kept : goal.returns-then-promote-clause-kept
+returns-then-promote-clause-kept g c =
+    let eq = g.B.Key.PartialEq.eq in
+    let es = c.self.inside.entries.entries in
+    rw (← c.self.view_is, c.promote.ensures.entries) (record {
+      distinct = c.len-count.ensures.valid.0;
+      others = refl;
+      stays = stays_promoted eq g.met.B.Key.Eq.laws c.args.key es;
+      pins = pins_promoted eq g.met.B.Key.Eq.laws es c.args.key;
+    })
 
-pub returns-clause-pins : goal.returns-clause-pins
-returns-clause-pins g c =
-    let test = g.B.Key.PartialEq.eq c.args.key in
+pub returns-clause-kept : goal.returns-clause-kept
+returns-clause-kept g c =
+    let eq = g.B.Key.PartialEq.eq in
+    let test = eq c.args.key in
     let es = c.self.inside.entries.entries in
     let m : lookup test es ≡ None = none_of (sym (c.if-promote.false) ∙ c.promote.ensures.value) in
     let same : c.promote.new.self.entries ≡ es = ap (λ (x : LruCache g.row.B-Key.Denot (Slot g.row.B-Value.Denot)). x.entries) c.promote.ensures.entries ∙ promoted_none test es m in
     let h = rw same at c.load_new.ensures.loads in
     let d = rw same at c.load_new.ensures.distinct in
-    rw (← c.self.view_is) (gets_keep_pins g.B.Key.PartialEq.eq g.met.B.Key.Eq.laws (g.B.AsyncLruCacheBackend.steps c.self.inside.backend) c.self.inside.size c.args.may_flush c.args.store.now es c.args.key c.load_new.result c.load_new.new.store c.load_new.new.entries.entries d m h)
-
-pub returns-then-promote-clause-stays : goal.returns-then-promote-clause-stays
-returns-then-promote-clause-stays g c =
-    rw (← c.self.view_is, c.promote.ensures.entries) (stays_promoted g.B.Key.PartialEq.eq g.met.B.Key.Eq.laws c.args.key c.self.inside.entries.entries)
-
-pub returns-clause-stays : goal.returns-clause-stays
-returns-clause-stays g c =
-    let test = g.B.Key.PartialEq.eq c.args.key in
-    let es = c.self.inside.entries.entries in
-    let m : lookup test es ≡ None = none_of (sym (c.if-promote.false) ∙ c.promote.ensures.value) in
-    let same : c.promote.new.self.entries ≡ es = ap (λ (x : LruCache g.row.B-Key.Denot (Slot g.row.B-Value.Denot)). x.entries) c.promote.ensures.entries ∙ promoted_none test es m in
-    let h = rw same at c.load_new.ensures.loads in
-    let d = rw same at c.load_new.ensures.distinct in
-    rw (← c.self.view_is) (gets_stay g.B.Key.PartialEq.eq g.met.B.Key.Eq.laws (g.B.AsyncLruCacheBackend.steps c.self.inside.backend) c.self.inside.size c.args.may_flush c.args.store.now es c.args.key c.load_new.result c.load_new.new.store c.load_new.new.entries.entries d h)
+    let steps = g.B.AsyncLruCacheBackend.steps c.self.inside.backend in
+    rw (← c.self.view_is) (record {
+      distinct = d;
+      others = refl;
+      stays = gets_stay eq g.met.B.Key.Eq.laws steps c.self.inside.size c.args.may_flush c.args.store.now es c.args.key c.load_new.result c.load_new.new.store c.load_new.new.entries.entries d h;
+      pins = gets_keep_pins eq g.met.B.Key.Eq.laws steps c.self.inside.size c.args.may_flush c.args.store.now es c.args.key c.load_new.result c.load_new.new.store c.load_new.new.entries.entries d m h;
+    })
