@@ -10,6 +10,7 @@ pub mod Apart
 pub mod ApartCalls
 pub mod Fitting
 pub mod Flushing
+pub mod Held
 pub mod Fetching
 pub mod Inserting
 pub mod Changing

@@ -1,5 +1,6 @@
 -- A longer reftable is written behind its refblocks, and stands ready then.
-use Rattle.std.proofs.Common.{◌≡◌, ℕ, ◌+◌, ◌*◌, ◌/◌, ◌%◌, ◌<◌, List, None, Result, Ok, Err, sym, ◌∙◌, subst, arith, inl, inr}
+use Rattle.std.proofs.Common.{◌≡◌, ℕ, ◌+◌, ◌*◌, ◌/◌, ◌%◌, ◌<◌, ◌≤◌, List, Option, None, Some, Result, Ok, Err, refl, sym, ap, ◌∙◌, subst, arith, inl, inr}
+use Rattle.std.specs.Option.{option_map}
 use Rattle.std.proofs.lemmas.Nat.{mod_below}
 use Rattle.image_access.specs.Moments.{StorageView}
 use Rattle.qcow2_metadata.specs.Bytes.{Bytes}
@@ -12,20 +13,26 @@ use Rattle.qcow2_laws.specs.Caches.{AreClean, BlocksMayGo}
 use Rattle.qcow2_laws.specs.CrashInvariant.{Pending, SameIn}
 use Rattle.qcow2_laws.proofs.Places.{Sizes, block_count-moved, in_one}
 use Rattle.qcow2_alloc.specs.declared.allocation.Allocator.{Allocator}
+use Rattle.qcow2_alloc.specs.declared.cache.MetadataCaches.{MetadataCaches}
 use Rattle.qcow2_alloc.specs.declared.error.ImageError.{ImageError}
 use Rattle.qcow2_alloc.specs.declared.image_file.ImageFile.{ImageFile}
+use Rattle.qcow2_alloc.specs.declared.image_storage.ImageStorage.{ImageStorage}
 use Rattle.qcow2_alloc.specs.Allocation.{run_at, StandAt, UnseenAllocatorStep, UnseenAllocatorGrowth}
 use Rattle.qcow2_alloc.specs.GrownTables.{with_run, without_reftable, IsGrown, StandsGrown, NamesReftable}
 use Rattle.qcow2_alloc.specs.LowestRuns.{KeepsUsed}
 use Rattle.qcow2_alloc.proofs.Hints.{used_stays}
-use Rattle.qcow2_alloc.proofs.AllocationSteps.{on_of, allocator_step_on}
+use Rattle.qcow2_alloc.proofs.AllocationSteps.{on_of, allocator_step_on, allocator_step_cached}
+use Rattle.qcow2_alloc.proofs.PlacedBlocks.{known_there}
+use Rattle.qcow2_alloc.proofs.RoomWrites.{free_in_run}
 use Rattle.qcow2_alloc.proofs.FileSteps.{leaves_then}
-use Rattle.qcow2_alloc.specs.ImageFile.{contents_in, IsFault, AllocatorInvariant, RefusedFileStep}
-use Rattle.qcow2_alloc.specs.MetadataCaches.{order_of, l2_tables, refblocks, rb_at}
+use Rattle.qcow2_alloc.specs.CachePins.{KeepsPinsAndNotes}
+use Rattle.qcow2_alloc.specs.ImageFile.{view_in, contents_in, IsFault, AllocatorInvariant, RefusedFileStep}
+use Rattle.qcow2_alloc.specs.ImageStorage.{storage_of}
+use Rattle.qcow2_alloc.specs.MetadataCaches.{order_of, l2_tables, refblocks, rb_at, UnseenCacheStep}
 use Rattle.qcow2_alloc.specs.Rooms.{WritesTable}
 use Rattle.qcow2_alloc.proofs.PlacedRooms.{Counting}
 use Rattle.qcow2_alloc.proofs.RoomSteps.{run_within}
-use Rattle.qcow2_alloc.proofs.Runs.{run_before}
+use Rattle.qcow2_alloc.proofs.Runs.{run_before, run_in}
 
 -- the refblocks of a room stand where they stood, while the clusters behind them are written
 pub counting_beside : (h : HeaderFields) (sizes : Sizes h) (b b' : Bytes) (old t : EntryTableView) (first blocks clusters n : ℕ) → IsGrown h old t first blocks clusters → Counting h b old t first n
@@ -37,6 +44,49 @@ counting_beside h sizes b b' old t first blocks clusters n grown before outside 
     sym (block_count-moved h b b' place place (c % counts_per_block h) sizes (mod_below c (counts_per_block h) sizes.counts) (λ k lt.
     outside (place / cluster_size h) apart (place + k) (in_one (cluster_size h) place k (grown.aligned (c / counts_per_block h)) lt)))
     ∙ before c none some
+
+-- so they do while their own clusters stay
+pub counting_still : (h : HeaderFields) (sizes : Sizes h) (b b' : Bytes) (old t : EntryTableView) (first blocks clusters n : ℕ) → IsGrown h old t first blocks clusters → Counting h b old t first n
+    → ((c : ℕ) → 0 < run_at first blocks c → SameIn (cluster_size h) c b b') → Counting h b' old t first n
+counting_still h sizes b b' old t first blocks clusters n grown before same c none some =
+    let place : ℕ = block_offset (entry_at t.bytes (c / counts_per_block h)) in
+    sym (block_count-moved h b b' place place (c % counts_per_block h) sizes (mod_below c (counts_per_block h) sizes.counts) (λ k lt.
+    same (place / cluster_size h) (grown.placed (c / counts_per_block h) none some) (place + k) (in_one (cluster_size h) place k (grown.aligned (c / counts_per_block h)) lt)))
+    ∙ before c none some
+
+-- the start of a run is a part of it
+pub in_longer : (first blocks n c : ℕ) → blocks ≤ n → 0 < run_at first blocks c → 0 < run_at first n c
+in_longer first blocks n c le some =
+    let within = run_within first blocks c some in
+    let low = within.0 in
+    let high = within.1 in
+    let one = run_in first n c low (omega (arith, high, le)) in
+    omega (arith, one)
+
+-- ---- a call of the caches leaves the clusters of a run as they are
+module _ {S : Type 0} (view : S → StorageView) (p : Pending) (first n : ℕ) (file : ImageFile S) (a : Allocator) (storage : ImageStorage S) (caches : MetadataCaches S)
+    (sound : AllocatorInvariant view a (with_run p file.header.fields a.reftable first n) file) (may : BlocksMayGo (order_of file.caches) (l2_tables file.caches))
+    (stays : UnseenCacheStep file.header.fields (with_run p file.header.fields a.reftable first n) (view_in view file) file.caches (view (storage_of storage)) caches)
+    (marks : KeepsPinsAndNotes file.caches caches) (may_now : BlocksMayGo (order_of caches) (l2_tables caches)) where
+  abbrev fresh : Pending
+  fresh = with_run p file.header.fields a.reftable first n
+
+  abbrev called : ImageFile S
+  called = record file { storage = storage; caches = caches }
+
+  step_called : UnseenAllocatorStep view fresh file a called fresh
+  step_called = allocator_step_cached view fresh file a storage caches sound stays marks
+
+  pub same_in_run : (c : ℕ) → 0 < run_at first n c → SameIn (cluster_size file.header.fields) c (contents_in view file) (contents_in view called)
+  same_in_run c some o here =
+      sym (known_there view fresh file c sound.sound (free_in_run view p first n file a.reftable sound.sound sound.reftable may c some) o here)
+      ∙ sym (ap (λ (b : Bytes). b o) stays.known)
+      ∙ known_there view fresh called c step_called.file_step.sound (free_in_run view p first n called a.reftable step_called.file_step.sound step_called.reftable may_now c some) o here
+
+-- a refblock that isn't held has no bytes
+pub none_held : {A B : Type 0} (f : A → B) (o : Option A) (q : Option B) → option_map f o ≡ q → q ≡ None → o ≡ None
+none_held f None q same none = refl
+none_held f (Some x) q same none = let bad : Some (f x) ≡ None = same ∙ none in cc
 
 module _ {S : Type 0} (view : S → StorageView) (p : Pending) (first n : ℕ) (a : Allocator) (f f' : ImageFile S) (cluster clusters : ℕ) (bytes : List ℕ) (h : HeaderFields) (same : f.header.fields ≡ h) where
   -- what a write of a table says, with the header that the file has all along

@@ -1,5 +1,5 @@
 -- What each call of the caches keeps, whatever they hold, and what it does to sound caches.
-use Rattle.std.specs.Prelude.{ℕ, ◌≡◌, ◌≢◌, ◌<◌, Bool, List, Option, Some, None, Result, IfSome, IsSome, IsTrue, IsFalse, OnOk, OnErr}
+use Rattle.std.specs.Prelude.{ℕ, ◌≡◌, ◌≢◌, ◌<◌, Bool, List, Option, Some, None, Result, option_map, IfSome, IsSome, IsTrue, IsFalse, OnOk, OnErr}
 use Rattle.image_access.specs.Moments.{StorageView}
 use Rattle.qcow2_metadata.specs.Bytes.{Bytes}
 use Rattle.qcow2_metadata.specs.L2Table.{L2TableView}
@@ -30,6 +30,10 @@ module _ {S : Type 0} where
   -- No L2 table has to be written before refblocks.
   abbrev pub BlocksGo : MetadataCaches S → Type 0
   BlocksGo caches = BlocksMayGo (order_of caches) (l2_tables caches)
+
+  -- The same refblocks are held, with the bytes that they had.
+  abbrev pub KeepsHeldBlocks : MetadataCaches S → MetadataCaches S → Type 0
+  KeepsHeldBlocks caches caches' = (c : ℕ) → option_map (λ b. b.bytes) (rb_at caches' c) ≡ option_map (λ b. b.bytes) (rb_at caches c)
 
   -- A call on held tables alone keeps pins and the order of writes, and notes changes. No table comes to lie at cluster 0.
   pub record HeldStep (caches caches' : MetadataCaches S) : Type 0 where
@@ -103,10 +107,11 @@ module _ {S : Type 0} (view : S → StorageView) where
     pub storage_stays : order_of caches ≢ from → new ≡ old
     pub quiet : MayGo caches → WritesNothing view old new
 
-  -- The refblocks are written. L2 tables are written only where they must be before refblocks.
+  -- The refblocks are written, and those that are held stay so. L2 tables are written only where they must be before refblocks.
   pub record FlushesBlocks (old : ImageStorage S) (caches : MetadataCaches S) (new : ImageStorage S) (caches' : MetadataCaches S) (result : Result (Unit {0}) ImageError) : Type 0 where
     pub written : OnOk result (AreClean (refblocks caches'))
     pub first : OnOk result (BlocksGo caches')
+    pub held : KeepsHeldBlocks caches caches'
     pub tables : order_of caches ≢ RbDependsOnL2 → caches'.l2 ≡ caches.l2
     pub quiet : AreClean (refblocks caches) → BlocksGo caches → WritesNothing view old new
 

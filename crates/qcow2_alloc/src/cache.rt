@@ -13,7 +13,7 @@ ghost use Rattle.qcow2_alloc.specs.MetadataCaches.{MapsCachedEntry, ZeroesEntry,
 ghost use Rattle.qcow2_alloc.specs.MetadataCaches.{NotesHeld, ShowsKnown, TakesOff};
 ghost use Rattle.qcow2_alloc.specs.CacheSteps.{CacheStep, TurnStep, KeepsSoundly, TablesGo, BlocksGo, FlushesL2, FlushesRb};
 ghost use Rattle.qcow2_alloc.specs.CacheSteps.{LoadStep, PutStep, HeldStep, GetsL2, GetsRb, PutsL2, PutsRb, PutsL2Soundly, PutsRbSoundly};
-ghost use Rattle.qcow2_alloc.specs.CacheSteps.{KeepsL2Written, KeepsRbWritten, KeepsBlocks, FlushesBlocks};
+ghost use Rattle.qcow2_alloc.specs.CacheSteps.{KeepsL2Written, KeepsRbWritten, KeepsBlocks, KeepsHeldBlocks, FlushesBlocks};
 ghost use Rattle.qcow2_alloc.specs.CacheSteps.{RemovesBlock, RaisesSoundly, LowersSoundly, AreNewCaches};
 ghost use Rattle.qcow2_alloc.specs.CacheSteps.{LoadRefusesBy, PutL2RefusesBy, PutRbRefusesBy, MakesWayForL2, MakesWayForRb, TurnsToRb, TurnsToL2};
 ghost use Rattle.qcow2_alloc.specs.Steps.{Fails};
@@ -106,6 +106,7 @@ impl<S: Storage> MetadataCaches<S> {
         ensures sound { BlocksGo self.old → KeepsSoundly S.view storage.old self.old storage.new self.new }
         ensures flushes { FlushesRb S.view storage.old self.old storage.new self.new result }
         ensures clean { AreClean (refblocks self.old) → AreClean (refblocks self.new) }
+        ensures held { KeepsHeldBlocks self.old self.new }
     {
         storage.watch_faults();
         if let Err(refusal) = self.rb.flush(storage) {
@@ -208,7 +209,7 @@ impl<S: Storage> MetadataCaches<S> {
     }
 
     // What has to be written before a refblock goes.
-    fn before_rb(&mut self, storage: &mut ImageStorage<S>) -> Result<(), ImageError>
+    pub(crate) fn before_rb(&mut self, storage: &mut ImageStorage<S>) -> Result<(), ImageError>
         ensures step { CacheStep S.view storage.old self.old storage.new self.new }
         ensures fails { Fails S.view storage.old storage.new result IsOfTables }
         ensures faults { (h : HeaderFields) → RefusesBy IsFault S.view storage.old self.old h result }

@@ -155,7 +155,7 @@ impl Allocator {
         Ok(())
     }
 
-    // Writes the refblocks that a room lacks, the reftable that names them, and at last the pointer to it, after all counts.
+    // Writes the refblocks that a room lacks, then all other counts, the reftable, and at last the pointer that names it.
     pub(crate) fn write_reftable<S: Storage>(
         &mut self,
         file: &mut ImageFile<S>,
@@ -176,8 +176,9 @@ impl Allocator {
         ensures rest { self.new ≡ record self.old { reftable = self.new.reftable } }
     {
         let mut table = table;
-        file.caches.flush_rb(&mut file.storage)?;
+        file.caches.before_rb(&mut file.storage)?;
         self.place_blocks(file, &mut table, room)?;
+        file.caches.flush_rb(&mut file.storage)?;
         place_table(file, &mut table, HostCluster::new(room.first + room.blocks))?;
         self.name_reftable(file, table)
     }

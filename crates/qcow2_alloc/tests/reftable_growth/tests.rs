@@ -114,7 +114,7 @@ fn the_pointer_is_written_last(rt: HostRuntime) -> Result<(), Fail> {
     assert_eq!(rt; offset, 2_097_152);
     assert_eq!(rt;
         storage.writes(alloc)?.as_slice(),
-        [1024, 2_096_640, 2_097_152, 48].as_slice()
+        [2_096_640, 1024, 2_097_152, 48].as_slice()
     );
     Ok(())
 }

@@ -1,6 +1,8 @@
-use Rattle.std.proofs.Common.{inr, ap, ◌∙◌, subst}
+use Rattle.std.proofs.Common.{inr, eqb, ap, ◌∙◌, subst}
+use Rattle.std.specs.Option.{option_map}
 use Rattle.qcow2_laws.specs.Caches.{BlocksMayGo}
 use Rattle.qcow2_laws.specs.Clusters.{Direction}
+use Rattle.qcow2_alloc.specs.AsyncLruCache.{value_at}
 use Rattle.qcow2_alloc.specs.ImageError.{IsFault}
 use Rattle.qcow2_alloc.specs.ImageStorage.{storage_of}
 use Rattle.qcow2_alloc.specs.MetadataCaches.{order, l2_tables}
@@ -52,6 +54,7 @@ pub returns-in-None-clause-flushes : goal.returns-in-None-clause-flushes
 returns-in-None-clause-flushes g c = record {
   written = c.write_blocks-in-None.ensures.flushes.written;
   first = always_ok c.write_blocks-in-None.result (blocks_still c.write_blocks-in-None.new.self c.args.self.now c.write_blocks-in-None.ensures.flushes.direction c.in-None.is);
+  held = c.write_blocks-in-None.ensures.held;
   tables = λ _. c.write_blocks-in-None.ensures.flushes.others_stay;
   quiet = λ clean may. c.write_blocks-in-None.ensures.flushes.quiet clean;
 }
@@ -60,6 +63,7 @@ pub returns-in_err-write_tables-in-RbDependsOnL2-clause-flushes : goal.returns-i
 returns-in_err-write_tables-in-RbDependsOnL2-clause-flushes g c = record {
   written = on_no_ok _ c.from_residual.result c.in_err-write_tables-in-RbDependsOnL2.field-0.0 c.from_residual.ensures;
   first = on_no_ok _ c.from_residual.result c.in_err-write_tables-in-RbDependsOnL2.field-0.0 c.from_residual.ensures;
+  held = λ k. ap (λ x. option_map (λ b. b.bytes) (value_at (λ j. eqb k j) x.entries)) c.write_tables.ensures.flushes.others_stay;
   tables = λ other. absurd (other (ap order c.in-RbDependsOnL2.is));
   quiet = λ clean may.
       c.write_tables.ensures.flushes.quiet (subst (λ (d : Direction). BlocksMayGo d (l2_tables c.args.self.now)) (ap order c.in-RbDependsOnL2.is) may);
@@ -71,6 +75,7 @@ returns-in_ok-write_tables-in-RbDependsOnL2-clause-flushes g c = record {
   first =
       always_ok c.write_blocks.result (blocks_clean c.write_blocks.new.self (c.write_blocks.ensures.flushes.direction ∙ (c.write_tables.ensures.flushes.direction ∙ c.in-RbDependsOnL2.is))
       (tables_as c.write_tables.new.self c.write_blocks.new.self c.write_blocks.ensures.flushes.others_stay c.in_ok-write_tables-in-RbDependsOnL2.ensures.flushes.written));
+  held = λ k. c.write_blocks.ensures.held k ∙ ap (λ x. option_map (λ b. b.bytes) (value_at (λ j. eqb k j) x.entries)) c.write_tables.ensures.flushes.others_stay;
   tables = λ other. absurd (other (ap order c.in-RbDependsOnL2.is));
   quiet = λ clean may honest.
       let one = c.write_tables.ensures.flushes.quiet (subst (λ (d : Direction). BlocksMayGo d (l2_tables c.args.self.now)) (ap order c.in-RbDependsOnL2.is) may) honest in

@@ -1,5 +1,6 @@
 use Rattle.std.proofs.Common.{false, Err, inl, refl, ◌∙◌, ap}
 use Rattle.qcow2_alloc.proofs.KeptTables.Flushing.{blocks_written}
+use Rattle.qcow2_alloc.proofs.KeptTables.Held.{blocks_held}
 use Rattle.qcow2_alloc.specs.ImageError.{of_cache, IsFault, IsOfTables}
 use Rattle.qcow2_alloc.proofs.KeptTables.Causes.{blocks_flush_refused}
 use Rattle.qcow2_metadata.specs.Bytes.{byte_at}
@@ -67,3 +68,9 @@ returns-clause-clean g c = λ all.
     flush_clean (rb_steps (λ s. g.S.Storage.view (storage_of s)) c.args.self.now.rb.backend.header.fields) c.flush.new.self.backend.header.fields.cluster_bits (λ (b : RefBlockView). b.bytes) (λ b. b.is_modified)
     (λ s t k v w h. ap (λ (b : RefBlockView). b.is_modified) h.clean) (record c.args.storage.now { met_fault = false }) c.flush.new.store c.args.self.now.rb.entries c.flush.new.self.entries c.flush.result (rw c.watch_faults.ensures at c.flush.ensures.flushed)
     (clean_as _ _ (λ (b : RefBlockView). b.bytes) (λ b. b.is_modified) c.args.self.now.rb.entries all)
+
+pub returns-in-Err-clause-held : goal.returns-in-Err-clause-held
+returns-in-Err-clause-held g c = blocks_held g.S.Storage.view (record c.args.storage.now { met_fault = false }) c.flush.new.store c.args.self.now c.flush.new.self c.flush.result (rw c.watch_faults.ensures at c.flush.ensures.flushed)
+
+pub returns-clause-held : goal.returns-clause-held
+returns-clause-held g c = blocks_held g.S.Storage.view (record c.args.storage.now { met_fault = false }) c.flush.new.store c.args.self.now c.flush.new.self c.flush.result (rw c.watch_faults.ensures at c.flush.ensures.flushed)

@@ -1,0 +1,47 @@
+-- A flush leaves each held table its bytes.
+use Rattle.std.proofs.Common.{◌≡◌, ℕ, Bool, true, false, inl, inr, eqb, List, [], ◌∷◌, Option, Some, None, Result, refl, sym, ap, ◌∙◌, subst}
+use Rattle.std.proofs.lemmas.Bool.{cases_Bool}
+use Rattle.std.specs.Option.{option_map}
+use Rattle.image_access.specs.Moments.{StorageView}
+use Rattle.qcow2_metadata.specs.declared.error.MetadataError.{MetadataError}
+use Rattle.qcow2_metadata.specs.RefBlock.{RefBlockView}
+use Rattle.qcow2_alloc.specs.declared.async_lru_cache.slot.Slot.{Slot}
+use Rattle.qcow2_alloc.specs.declared.async_lru_cache.error.CacheError.{CacheError}
+use Rattle.qcow2_alloc.specs.declared.cache.backends.RefBlockCacheBackend.{RefBlockCacheBackend}
+use Rattle.qcow2_alloc.specs.declared.cache.MetadataCaches.{MetadataCaches}
+use Rattle.qcow2_alloc.specs.declared.image_storage.ImageStorage.{ImageStorage}
+use Rattle.qcow2_alloc.specs.AsyncLruCache.{Cache, value_at}
+use Rattle.qcow2_alloc.specs.AsyncLruCacheBackend.{Steps}
+use Rattle.qcow2_alloc.specs.CacheAnswers.{Unit₀, Flushes, FlushesEntry, FlushesAll}
+use Rattle.qcow2_alloc.specs.ImageStorage.{storage_of}
+use Rattle.qcow2_alloc.specs.MetadataCaches.{rb_at}
+use Rattle.qcow2_alloc.specs.TableCaches.{rb_steps}
+use Rattle.qcow2_alloc.proofs.KeptTables.Flushing.{all_of}
+
+module _ {S V E : Type 0} (steps : Steps S ℕ V E) (bytes : V → List ℕ) (keeps : (s t : S) (k : ℕ) (v w : V) → steps.flushed s k v w t → bytes w ≡ bytes v) (test : ℕ → Bool) where
+  abbrev bytes_held : List (ℕ × Slot V) → Option (List ℕ)
+  bytes_held es = option_map bytes (value_at test es)
+
+  entry_held : (s t : S) (e : ℕ × Slot V) (x : Option E) (d : Slot V) → FlushesEntry steps s e x t d → bytes d.value ≡ bytes e.1.value
+  entry_held s t e None d h = keeps s t e.0 e.1.value d.value h.0
+  entry_held s t e (Some x) d h = ap (λ (z : Slot V). bytes z.value) h.1
+
+  next_held : (e : ℕ × Slot V) (d : Slot V) (es fs : List (ℕ × Slot V)) → bytes d.value ≡ bytes e.1.value → bytes_held fs ≡ bytes_held es → bytes_held ((e.0, d) ∷ fs) ≡ bytes_held (e ∷ es)
+  next_held e d es fs here rest = elim (cases_Bool (test e.0)) [
+    | inl is ↦ rw is (ap (λ z. Some z) here)
+    | inr other ↦ rw other rest
+  ]
+
+  all_held : (s t : S) (es fs : List (ℕ × Slot V)) (o : Option E) → FlushesAll steps s es o t fs → bytes_held fs ≡ bytes_held es
+  all_held s t [] fs o h = ap bytes_held h.2
+  all_held s t (e ∷ es) fs o h =
+      ap bytes_held h.8 ∙ next_held e h.2 es h.4 (entry_held s h.1 e h.0 h.2 h.5) (all_held h.1 t es h.4 h.3 h.6)
+
+-- so of refblocks
+pub blocks_held : {S : Type 0} (view : S → StorageView) (old new : ImageStorage S) (caches : MetadataCaches S) (rb : Cache (RefBlockCacheBackend S) ℕ RefBlockView) (result : Result Unit₀ (CacheError ℕ MetadataError))
+    → Flushes (rb_steps (λ s. view (storage_of s)) caches.rb.backend.header.fields) old caches.rb.entries result new rb.entries
+    → (c : ℕ) → option_map (λ (b : RefBlockView). b.bytes) (rb_at (record caches { rb = rb }) c) ≡ option_map (λ (b : RefBlockView). b.bytes) (rb_at caches c)
+blocks_held {S} view old new caches rb result h c =
+    let steps = rb_steps (λ (s : ImageStorage S). view (storage_of s)) caches.rb.backend.header.fields in
+    let all = all_of steps old new caches.rb.entries rb.entries result h in
+    all_held steps (λ (b : RefBlockView). b.bytes) (λ s t k v w f. ap (λ (b : RefBlockView). b.bytes) f.clean) (λ k. eqb c k) old new caches.rb.entries rb.entries all.0 all.1
