@@ -30,11 +30,15 @@ class WrongBody:
     pairs: list = field(default_factory=list)
 
     def changed(self, text):
-        """The text of the file with this body, or None where a text to be replaced doesn't stand in it exactly once."""
+        """The text of the file with this body, or None where a text to be replaced doesn't stand in it exactly once, nor as a whole line exactly once."""
         for old, new in self.pairs:
-            if text.count(old) != 1:
+            lines = text.split("\n")
+            if text.count(old) == 1:
+                text = text.replace(old, new)
+            elif lines.count(old) == 1:
+                text = "\n".join(new if it == old else it for it in lines)
+            else:
                 return None
-            text = text.replace(old, new)
         return text
 
     @lru_cache(maxsize=8)
