@@ -29,14 +29,13 @@ pub(crate) fn oldest_free<K: Copy + Eq + Hash, V>(entries: &LruCache<K, Slot<V>>
     None
 }
 
-// Flushes one entry, whose key is there.
+// Flushes one entry. Where its key isn't there nothing is done.
 pub(crate) fn flush_entry<B: AsyncLruCacheBackend>(
     backend: &B,
     store: &mut B::Store,
     entries: &mut LruCache<B::Key, Slot<B::Value>>,
     key: B::Key,
 ) -> Result<(), B::Error>
-    requires { IsSome (lookup (B.Key.eq key) entries.old.entries) }
     ensures flushed { IfSome (lookup (B.Key.eq key) entries.old.entries) (λ slot.
         FlushesFound (B.steps backend.now) (B.Key.eq key) key slot store.old entries.old (result_err result) store.new entries.new) }
     ensures keeps { B.keeps store.old store.new }

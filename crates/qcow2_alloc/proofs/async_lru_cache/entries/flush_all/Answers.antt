@@ -1,7 +1,7 @@
 use Rattle.std.proofs.Common.{refl, sym, ap, ◌∙◌, arith}
 use Rattle.std.specs.Option.{option_or}
 use Rattle.std.specs.Result.{result_err}
-use Rattle.qcow2_alloc.proofs.CachedEntries.Turns.{has_first, lookup-first, flush_begins, flush_turn, flushed_around}
+use Rattle.qcow2_alloc.proofs.CachedEntries.Turns.{has_first, flush_begins, flush_turn, flushed_around}
 use Rattle.qcow2_alloc.proofs.async_lru_cache.entries.flush_all.Goals as goal
 
 pub loop-turn-init : goal.loop-turn-init
@@ -9,11 +9,6 @@ loop-turn-init g c = record { flushing = flush_begins _ _ _; cap = refl; keeps =
 
 pub unwrap-requires : goal.unwrap-requires
 unwrap-requires g c = has_first _ _ _ c.peek_mru.result c.loop-turn.entries.entries c.loop-turn._turn c.loop-turn.invariant.flushing (omega (arith, c.loop-turn-test.true, c.len-turn-end.ensures.len)) c.peek_mru.ensures
-
-pub flush_entry-requires : goal.flush_entry-requires
-flush_entry-requires g c =
-    let first = sym (rw c.unwrap.ensures at c.peek_mru.ensures) in
-    rw (lookup-first g.met.B.Key.Eq.laws c.loop-turn.entries.entries c.unwrap.result.0.now c.unwrap.result.1.now first) refl
 
 pub loop-turn-preserved : goal.loop-turn-preserved
 loop-turn-preserved g c =

@@ -2,11 +2,6 @@ use Rattle.std.proofs.Common.{length, refl, ap, arith}
 use Rattle.qcow2_alloc.proofs.CachedEntries.Room.{oldest, room_refused, room_made}
 use Rattle.qcow2_alloc.proofs.async_lru_cache.entries.make_room.Goals as goal
 
-pub flush_entry-requires : goal.flush_entry-requires
-flush_entry-requires g c =
-    let o = oldest g.B.Key.PartialEq.eq c.args.entries.now.entries g.met.B.Key.Eq.laws c.len.ensures.valid.0 c.in-Some.key c.in-Some.ensures in
-    rw o.here refl
-
 pub returns-in-Err : goal.returns-in-Err
 returns-in-Err g c =
     let o = oldest g.B.Key.PartialEq.eq c.args.entries.now.entries g.met.B.Key.Eq.laws c.len.ensures.valid.0 c.in-Some.key c.in-Some.ensures in

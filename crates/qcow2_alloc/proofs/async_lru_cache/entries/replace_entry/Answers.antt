@@ -6,11 +6,6 @@ use Rattle.qcow2_alloc.specs.AsyncLruCache.{slot_of}
 use Rattle.qcow2_alloc.proofs.CachedEntries.Putting.{is_promoted, flushed_in_front, some_of, is_some_mapped}
 use Rattle.qcow2_alloc.proofs.async_lru_cache.entries.replace_entry.Goals as goal
 
-pub flush_entry-requires : goal.flush_entry-requires
-flush_entry-requires g c =
-    let b = is_promoted (g.B.Key.PartialEq.eq c.args.key) c.args.entries.now c.promote.new.self c.requires.found c.promote.ensures.entries in
-    rw b.found refl
-
 pub returns-in-Err : goal.returns-in-Err
 returns-in-Err g c =
     let test = g.B.Key.PartialEq.eq c.args.key in
