@@ -2,6 +2,7 @@
 """System calls of the program and growths of its memory fail in turn: what it prints then, and its status. A call is made to fail by strace, a growth by a library that is loaded before."""
 
 import resource
+import shutil
 import subprocess
 
 import checks
@@ -232,6 +233,61 @@ def each_growth_of_mixed_ranges():
     raise AssertionError("more than 2,000 growths")
 
 
+# Each call stands twice, so that one that is refused is given again.
+CALLS = [
+    "read 1048576 16", "map 0 4096", "fill 0 512 22", "zero 40960 1024", "dany 131072 65536", "fill 131072 4096 33", "fill 1900544 212992 44",
+    "flush", "fill 3145728 512 55", "dback 0 512", "sync",
+]
+GIVEN_TWICE = "".join(f"{line}\n" * 2 for line in CALLS).encode()
+
+
+def nearly_full():
+    """With counts of 64 bits the first reftable counts 4,096 clusters, of which few are free: the calls make a longer one."""
+    create("full", 4 * 1048576, 512, 64)
+    checks.run("full", "fill 0 1048576 11", "fill 1048576 851968 11")
+
+
+def each_growth_of_calls_given_twice():
+    """A call whose growth is refused changes nothing, and given again it is done: its answer and the file are as they are without. A write alone may fail the image, since memory for a new
+    refblock is asked for once its cluster is counted."""
+    library = refuser()
+    nearly_full()
+    shutil.copy("full", "disk")
+    status, output = checks.qimg("run", "disk", given=GIVEN_TWICE)
+    wanted, whole = output.splitlines(), contents("disk")
+    equal((status, checks.number_at(whole, 56, 4) > 1), (0, True), "the calls, and whether the reftable grew")
+    met = set()
+    for growth in range(1, 4000):
+        shutil.copy("full", "disk")
+        status, output, came = refusing(library, growth, ["run", "disk"], GIVEN_TWICE)
+        answers = output.splitlines()
+        refused = next((i for i, it in enumerate(answers) if it.startswith(MEMORY.strip())), None)
+        if refused is None:
+            equal((status, answers, contents("disk") == whole), (0, wanted, True), f"at growth {growth}, where nothing was refused")
+            # a call may do with less
+            if came:
+                continue
+            equal(met >= {"open", "read", "fill", "zero", "dany", "dback"}, True, f"the calls that were refused: {met}")
+            return
+        if refused + 1 == len(answers):
+            # opening is refused, or reading a line, or what is done at the end
+            equal(answers[:refused], wanted[:refused], f"before growth {growth}, where the program ended")
+            checks.consistent("disk")
+            if not refused:
+                equal(contents("disk") == contents("full"), True, f"whether opening, refused at growth {growth}, left the file")
+                met.add("open")
+            continue
+        word = CALLS[refused // 2].split()[0]
+        met.add(word)
+        if FAILED.strip() in answers:
+            equal(word, "fill", f"the call that failed the image at growth {growth}")
+            checks.consistent("disk")
+            continue
+        answers[refused] = wanted[refused]
+        equal((answers, contents("disk") == whole), (wanted, True), f"after growth {growth} in {word}")
+    raise AssertionError("more than 4,000 growths")
+
+
 def with_a_short_table():
     """The L1 table has one entry, for half of the disk."""
     disk()
@@ -300,6 +356,7 @@ def main():
         a_read_of_the_script_fails,
         a_line_that_has_no_room,
         each_growth_of_mixed_ranges,
+        each_growth_of_calls_given_twice,
         each_call_that_clears_the_autoclear_bits,
     ):
         every.run(check.__name__, check)
