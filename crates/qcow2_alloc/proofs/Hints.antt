@@ -4,15 +4,15 @@ use Rattle.std.specs.Prelude.{OnOk}
 use Rattle.std.proofs.lemmas.Bool.{cases_eq, cases_lt}
 use Rattle.image_access.specs.Moments.{StorageView}
 use Rattle.qcow2_metadata.specs.Entries.{block_offset, reftable_entry, count}
-use Rattle.qcow2_metadata.specs.EntryTable.{EntryTableView}
+use Rattle.qcow2_metadata.specs.EntryTable.{EntryTableView, entry_count}
 use Rattle.qcow2_metadata.specs.TableBytes.{entry_at}
 use Rattle.qcow2_metadata.specs.Header.{cluster_size, counts_per_block}
-use Rattle.qcow2_metadata.specs.Named.{named_by_reftable, in_cluster}
+use Rattle.qcow2_metadata.specs.Named.{named_by_reftable, named_for_tables, in_cluster}
 use Rattle.std.proofs.lemmas.Nat.{div-mul-add, pow_pos}
 use Rattle.std.proofs.Math.Nat.{zero-div}
 use Rattle.qcow2_laws.proofs.Shares.{shares, block_has}
 use Rattle.qcow2_laws.proofs.Consistency.{in_own}
-use Rattle.qcow2_laws.proofs.Places.{count_none}
+use Rattle.qcow2_laws.proofs.Places.{count_none, has_block}
 use Rattle.qcow2_laws.specs.Changes.{one_at}
 use Rattle.qcow2_laws.specs.CrashInvariant.{Pending}
 use Rattle.qcow2_alloc.specs.declared.allocation.Allocator.{Allocator}
@@ -20,11 +20,11 @@ use Rattle.qcow2_alloc.specs.declared.clusters_to_free.ClusterKind.TheVariants.{
 use Rattle.qcow2_alloc.specs.declared.error.ImageError.{ImageError}
 use Rattle.qcow2_alloc.specs.declared.image_file.ImageFile.{ImageFile}
 use Rattle.qcow2_alloc.specs.Allocation.{run_at, taken_as, Owed, Taken, Listed, owed_as, HasNone, RefblockAt, UnseenAllocatorStep, GetsBlock, LowersOne, PlacesBlock, TakesOne}
-use Rattle.qcow2_alloc.specs.ImageFile.{pending_at, contents_in, known_in, FileInvariant, RefusedFileStep, IsFault}
+use Rattle.qcow2_alloc.specs.ImageFile.{pending_at, contents_in, known_in, FileInvariant, HasReftable, RefusedFileStep, IsFault}
 use Rattle.qcow2_alloc.specs.MetadataCaches.{rb_at}
 use Rattle.qcow2_alloc.specs.declared.cache.MetadataCaches.{MetadataCaches}
 use Rattle.std.proofs.lemmas.Bool.Decides.{nat_tests}
-use Rattle.qcow2_alloc.specs.LowestRuns.{IsUsed, IsLowestRun, NoFreeBelowHint, KeepsNoFreeBelowHint, KeepsUsed, BrokeOff}
+use Rattle.qcow2_alloc.specs.LowestRuns.{IsPassed, SearchStays, IsUsed, IsLowestRun, NoFreeBelowHint, KeepsNoFreeBelowHint, KeepsUsed, BrokeOff}
 use Rattle.qcow2_alloc.specs.UsedCounts.{AreUsed}
 use Rattle.qcow2_alloc.proofs.FileSteps.{one_here}
 use Rattle.qcow2_alloc.proofs.Runs.{none_there, run_in}
@@ -59,6 +59,32 @@ owed_pending (Taken d) p n k = taken_pending d p n k
 owed_pending (Listed Data) p n k = omega arith
 owed_pending (Listed Metadata) p n k = omega arith
 
+-- the same allocator passes over the same clusters
+pub passed_same : (t t' : Allocator) → t' ≡ t → (k : ℕ) → IsPassed t' k → IsPassed t k
+passed_same t t' same k passed = subst (λ (x : Allocator). IsPassed x k) same passed
+
+-- it passes over what it passes over
+pub passed_still : (t : Allocator) (k : ℕ) → IsPassed t k → IsPassed t k
+passed_still t k passed = passed
+
+-- the search stays as it is
+pub search_same : (t : Allocator) → SearchStays t t
+search_same t = record { first = refl; passed = λ k passed. passed }
+
+pub search_then : (a b c : Allocator) → SearchStays a b → SearchStays b c → SearchStays a c
+search_then a b c one two = record { first = two.first ∙ one.first; passed = λ k passed. one.passed k (two.passed k passed) }
+
+-- of the same allocator
+pub search_as : (a b c : Allocator) → c ≡ b → SearchStays a b → SearchStays a c
+search_as a b c same one = subst (SearchStays a) (sym same) one
+
+pub search_after : (a b c : Allocator) → b ≡ a → SearchStays b c → SearchStays a c
+search_after a b c same two = subst (λ (x : Allocator). SearchStays x c) same two
+
+-- of one that searches so
+pub search_by : (a b c : Allocator) → c ≡ b → b.first_free_cluster ≡ a.first_free_cluster → ((k : ℕ) → IsPassed b k → IsPassed a k) → SearchStays a c
+search_by a b c same first passed = search_as a b c same (record { first = first; passed = passed })
+
 -- a refusal that is no fault broke nothing off
 pub not_broken : {S : Type 0} {A : Type 0} (file : ImageFile S) (e : ImageError) → (IsFault e → ⊥) → A ⊎ BrokeOff file e → A
 not_broken file e other is = elim is [ inl so ↦ so | inr interruption ↦ absurd (other interruption.0) ]
@@ -72,31 +98,37 @@ module _ {S : Type 0} (view : S → StorageView) where
   pub taken_used : (p : Pending) (d : Bool) (n : ℕ → ℕ) (a b : ImageFile S) (t : Allocator) (k : ℕ) → UnseenAllocatorStep view p a t b (taken_as d p n) → 0 < n k → IsUsed view b k
   taken_used p d n a b t k allocator_step some zero = let counts = allocator_step.file_step.counts k in let more = taken_pending d p n k in absurd (omega (arith, counts, more, some, zero))
 
-  pub hint_stays : (p : Pending) (a b : ImageFile S) (t t' : Allocator) → UnseenAllocatorStep view p a t' b p → t'.first_free_cluster ≡ t.first_free_cluster → NoFreeBelowHint view t a → NoFreeBelowHint view t' b
-  hint_stays p a b t t' allocator_step same hint k below = used_stays p p a b t' k allocator_step (omega arith) (hint k (subst (λ n. k < n) same below))
+  pub hint_stays : (p : Pending) (a b : ImageFile S) (t t' : Allocator) → UnseenAllocatorStep view p a t' b p → ((k : ℕ) → IsPassed t' k → IsPassed t k) → NoFreeBelowHint view t a → NoFreeBelowHint view t' b
+  hint_stays p a b t t' allocator_step same hint k below = used_stays p p a b t' k allocator_step (omega arith) (hint k (same k below))
 
   -- after clusters were taken
-  pub hint_taken : (p : Pending) (d : Bool) (n : ℕ → ℕ) (a b : ImageFile S) (t t' : Allocator) → UnseenAllocatorStep view p a t' b (taken_as d p n) → t'.first_free_cluster ≡ t.first_free_cluster → NoFreeBelowHint view t a → NoFreeBelowHint view t' b
+  pub hint_taken : (p : Pending) (d : Bool) (n : ℕ → ℕ) (a b : ImageFile S) (t t' : Allocator) → UnseenAllocatorStep view p a t' b (taken_as d p n) → ((k : ℕ) → IsPassed t' k → IsPassed t k) → NoFreeBelowHint view t a → NoFreeBelowHint view t' b
   hint_taken p d n a b t t' allocator_step same hint k below =
-      used_stays p (taken_as d p n) a b t' k allocator_step (let more = taken_pending d p n k in omega (arith, more)) (hint k (subst (λ m. k < m) same below))
+      used_stays p (taken_as d p n) a b t' k allocator_step (let more = taken_pending d p n k in omega (arith, more)) (hint k (same k below))
 
   -- one cluster more is in use
-  pub hint_more : (file : ImageFile S) (t t' : Allocator) (cluster : ℕ) → NoFreeBelowHint view t file → t.first_free_cluster ≡ cluster → t'.first_free_cluster ≡ cluster + 1 → IsUsed view file cluster → NoFreeBelowHint view t' file
-  hint_more file t t' cluster hint is more used k below = elim (cases_eq k cluster) [
-    | inl same ↦ subst (IsUsed view file) (sym same) used
-    | inr other ↦ hint k (omega (arith, is, more, below, other))
+  pub hint_more : (file : ImageFile S) (t : Allocator) (cluster : ℕ) → NoFreeBelowHint view t file → t.first_free_cluster ≡ cluster → IsUsed view file cluster → NoFreeBelowHint view (record t { first_free_cluster = cluster + 1 }) file
+  hint_more file t cluster hint is used k passed = elim passed [
+    | inl below ↦ elim (cases_eq k cluster) [
+      | inl same ↦ subst (IsUsed view file) (sym same) used
+      | inr other ↦ hint k (inl (omega (arith, is, below, other)))
+    ]
+    | inr spared ↦ hint k (inr spared)
   ]
 
   -- what lies between the first free cluster and the next one is in use
-  pub hint_passed : (p : Pending) (a b : ImageFile S) (t t' : Allocator) (cluster next : ℕ) → UnseenAllocatorStep view p a t b p → AreUsed view b cluster next → cluster ≡ t.first_free_cluster → t'.first_free_cluster ≡ next
-      → NoFreeBelowHint view t a → NoFreeBelowHint view t' b
-  hint_passed p a b t t' cluster next step used stood goes hint k below = elim (cases_lt k cluster) [
-    | inl before ↦ used_stays p p a b t k step (omega arith) (hint k (omega (arith, before, stood)))
-    | inr behind ↦ used k behind (omega (arith, below, goes))
+  pub hint_passed : (p : Pending) (a b : ImageFile S) (t : Allocator) (cluster next : ℕ) → UnseenAllocatorStep view p a t b p → AreUsed view b cluster next → cluster ≡ t.first_free_cluster
+      → NoFreeBelowHint view t a → NoFreeBelowHint view (record t { first_free_cluster = next }) b
+  hint_passed p a b t cluster next step used stood hint k passed = elim passed [
+    | inl below ↦ elim (cases_lt k cluster) [
+      | inl before ↦ used_stays p p a b t k step (omega arith) (hint k (inl (omega (arith, before, stood))))
+      | inr behind ↦ used k behind below
+    ]
+    | inr spared ↦ used_stays p p a b t k step (omega arith) (hint k (inr spared))
   ]
 
   -- after a refusal
-  pub hint_refused : (p : Pending) (a b : ImageFile S) (t t' : Allocator) (e : ImageError) → t'.first_free_cluster ≡ t.first_free_cluster → RefusedFileStep view p a t' b e → NoFreeBelowHint view t a → NoFreeBelowHint view t' b ⊎ BrokeOff b e
+  pub hint_refused : (p : Pending) (a b : ImageFile S) (t t' : Allocator) (e : ImageError) → ((k : ℕ) → IsPassed t' k → IsPassed t k) → RefusedFileStep view p a t' b e → NoFreeBelowHint view t a → NoFreeBelowHint view t' b ⊎ BrokeOff b e
   hint_refused p a b t t' e same leaves hint = elim leaves [
     | inl sound ↦ inl (hint_stays p a b t t' (record { file_step = sound.0; reftable = sound.1 }) same hint)
     | inr interrupted ↦ inr (interrupted.fault, interrupted.noted)
@@ -121,10 +153,10 @@ module _ {S : Type 0} (view : S → StorageView) where
   uses_raised p d cluster a b t true takes k used = used_stays p (taken_as d p (one_at cluster)) a b t k takes (let more = taken_pending d p (one_at cluster) k in omega (arith, more)) used
   uses_raised p d cluster a b t false takes k used = used_stays p p a b t k takes (omega arith) used
 
-  pub hint_used : (a b : ImageFile S) (t t' : Allocator) → t'.first_free_cluster ≡ t.first_free_cluster → ((k : ℕ) → IsUsed view a k → IsUsed view b k) → NoFreeBelowHint view t a → NoFreeBelowHint view t' b
-  hint_used a b t t' same uses hint k below = uses k (hint k (subst (λ n. k < n) same below))
+  pub hint_used : (a b : ImageFile S) (t t' : Allocator) → ((k : ℕ) → IsPassed t' k → IsPassed t k) → ((k : ℕ) → IsUsed view a k → IsUsed view b k) → NoFreeBelowHint view t a → NoFreeBelowHint view t' b
+  hint_used a b t t' same uses hint k below = uses k (hint k (same k below))
 
-  pub hint_or_interruption : (a b : ImageFile S) (t t' : Allocator) (e : ImageError) → t'.first_free_cluster ≡ t.first_free_cluster → ((k : ℕ) → IsUsed view a k → IsUsed view b k) ⊎ BrokeOff b e → NoFreeBelowHint view t a → NoFreeBelowHint view t' b ⊎ BrokeOff b e
+  pub hint_or_interruption : (a b : ImageFile S) (t t' : Allocator) (e : ImageError) → ((k : ℕ) → IsPassed t' k → IsPassed t k) → ((k : ℕ) → IsUsed view a k → IsUsed view b k) ⊎ BrokeOff b e → NoFreeBelowHint view t a → NoFreeBelowHint view t' b ⊎ BrokeOff b e
   hint_or_interruption a b t t' e same uses hint = elim uses [ inl kept ↦ inl (hint_used a b t t' same kept hint) | inr interruption ↦ inr interruption ]
 
   -- clusters are given back that weren't in use at first
@@ -152,6 +184,10 @@ module _ {S : Type 0} (view : S → StorageView) where
       let tally = (crash_invariant.each_cluster at).tally in
       absurd (omega (arith, one, parts, tally, zero))
 
+  -- a cluster that the header, the reftable or the L1 table names is in use
+  pub tables_used : (p : Pending) (file : ImageFile S) (k : ℕ) → FileInvariant view p file → 0 < named_for_tables file.header.fields (contents_in view file) k → IsUsed view file k
+  tables_used p file k sound some zero = let tally = (sound.caches.kept.kept.crash_invariant.each_cluster k).tally in absurd (omega (arith, some, tally, zero))
+
   -- cluster 0 is the header's, so it is in use
   pub header_used : (p : Pending) (file : ImageFile S) → FileInvariant view p file → IsUsed view file 0
   header_used p file sound zero =
@@ -161,11 +197,24 @@ module _ {S : Type 0} (view : S → StorageView) where
       let tally = (sound.caches.kept.kept.crash_invariant.each_cluster 0).tally in
       absurd (omega (arith, one, parts, tally, zero))
 
+  -- the reftable has entries, since the header's cluster is counted
+  pub has_entries : (p : Pending) (file : ImageFile S) (t : EntryTableView) → FileInvariant view p file → HasReftable view file t → 0 < entry_count t
+  has_entries p file t sound has =
+      let h = file.header.fields in
+      elim (cases_eq (block_offset (reftable_entry h (known_in view file) (0 / counts_per_block h))) 0) [
+        | inl none ↦ absurd (header_used p file sound (count_none h (known_in view file) 0 none))
+        | inr real ↦ let within = has_block h (known_in view file) (0 / counts_per_block h) real in let same = has.count in omega (arith, within, same)
+      ]
+
   -- a search may begin behind the header
-  pub hint_header : (p : Pending) (file : ImageFile S) (t t' : Allocator) → FileInvariant view p file → ((k : ℕ) → 0 < k → k < t'.first_free_cluster → k < t.first_free_cluster) → NoFreeBelowHint view t file → NoFreeBelowHint view t' file
-  hint_header p file t t' sound above hint k below = elim (cases_eq k 0) [
-    | inl zero ↦ subst (IsUsed view file) (sym zero) (header_used p file sound)
-    | inr some ↦ hint k (above k (omega (arith, some)) below)
+  pub hint_header : (p : Pending) (file : ImageFile S) (t : Allocator) (first : ℕ) → FileInvariant view p file → ((k : ℕ) → 0 < k → k < first → k < t.first_free_cluster) → NoFreeBelowHint view t file
+      → NoFreeBelowHint view (record t { first_free_cluster = first }) file
+  hint_header p file t first sound above hint k passed = elim passed [
+    | inl below ↦ elim (cases_eq k 0) [
+      | inl zero ↦ subst (IsUsed view file) (sym zero) (header_used p file sound)
+      | inr some ↦ hint k (inl (above k (omega (arith, some)) below))
+    ]
+    | inr spared ↦ hint k (inr spared)
   ]
 
   -- a range without a refblock isn't the first one
@@ -179,23 +228,23 @@ module _ {S : Type 0} (view : S → StorageView) where
   ]
 
   -- a refblock was placed in a cluster that was taken for it
-  pub hint_placed : (p : Pending) (mid new : ImageFile S) (t t' : Allocator) (range at : ℕ) (result : Result (Unit {0}) ImageError) → t'.first_free_cluster ≡ t.first_free_cluster
+  pub hint_placed : (p : Pending) (mid new : ImageFile S) (t t' : Allocator) (range at : ℕ) (result : Result (Unit {0}) ImageError) → ((k : ℕ) → IsPassed t' k → IsPassed t k)
       → PlacesBlock view (taken_as false p (one_at at)) mid t' new p range at result → NoFreeBelowHint view t mid → KeepsNoFreeBelowHint view t' new result
   hint_placed p mid new t t' range at (Ok done) same placed hint = λ k below. elim (cases_eq k at) [
     | inl here ↦ subst (IsUsed view new) (sym here) (named_used p new range at placed.0.file_step.sound placed.1)
     | inr other ↦
         let none = none_there at k other in
-        used_stays (taken_as false p (one_at at)) p mid new t' k placed.0 (omega (arith, none)) (hint k (subst (λ n. k < n) same below))
+        used_stays (taken_as false p (one_at at)) p mid new t' k placed.0 (omega (arith, none)) (hint k (same k below))
   ]
   hint_placed p mid new t t' range at (Err e) same placed hint = hint_refused (taken_as false p (one_at at)) mid new t t' e same placed.1 hint
 
   -- a range got its refblock
-  pub hint_got : (p : Pending) (old new : ImageFile S) (t t' : Allocator) (result : Result (Unit {0}) ImageError) → t'.first_free_cluster ≡ t.first_free_cluster → GetsBlock view p old t' new result → NoFreeBelowHint view t old → KeepsNoFreeBelowHint view t' new result
+  pub hint_got : (p : Pending) (old new : ImageFile S) (t t' : Allocator) (result : Result (Unit {0}) ImageError) → ((k : ℕ) → IsPassed t' k → IsPassed t k) → GetsBlock view p old t' new result → NoFreeBelowHint view t old → KeepsNoFreeBelowHint view t' new result
   hint_got p old new t t' (Ok done) same gets hint = hint_stays p old new t t' gets same hint
   hint_got p old new t t' (Err e) same gets hint = hint_refused p old new t t' e same gets hint
 
   -- a cluster was taken, or is in use
-  pub hint_raised : (p : Pending) (d : Bool) (cluster : ℕ) (old new : ImageFile S) (t t' : Allocator) (taken : Bool) → t'.first_free_cluster ≡ t.first_free_cluster → TakesOne view p old t' new d cluster (Ok taken) → NoFreeBelowHint view t old → NoFreeBelowHint view t' new
+  pub hint_raised : (p : Pending) (d : Bool) (cluster : ℕ) (old new : ImageFile S) (t t' : Allocator) (taken : Bool) → ((k : ℕ) → IsPassed t' k → IsPassed t k) → TakesOne view p old t' new d cluster (Ok taken) → NoFreeBelowHint view t old → NoFreeBelowHint view t' new
   hint_raised p d cluster old new t t' true same takes hint = hint_taken p d (one_at cluster) old new t t' takes same hint
   hint_raised p d cluster old new t t' false same takes hint = hint_stays p old new t t' takes same hint
 
@@ -216,21 +265,21 @@ module _ {S : Type 0} (view : S → StorageView) where
       ap block_offset (sym (sound'.caches.kept.kept.crash_invariant.same_top.reftable range) ∙ sound.caches.kept.kept.crash_invariant.same_top.reftable range) in ((λ none. at.0 (sym same ∙ none)), same ∙ at.1, new_data)
 
   -- a count was lowered, which is noted where it came to 0
-  pub hint_lowered : (owed : Owed) (p : Pending) (cluster : ℕ) (old new : ImageFile S) (t t' : Allocator) → UnseenAllocatorStep view (owed_as owed p (one_at cluster)) old t' new p → t'.first_free_cluster ≤ t.first_free_cluster
-      → (count new.header.fields (known_in view new) cluster ≡ 0 → t'.first_free_cluster ≤ cluster) → NoFreeBelowHint view t old → NoFreeBelowHint view t' new
-  hint_lowered owed p cluster old new t t' allocator_step lower noted hint k below = elim (cases_eq k cluster) [
-    | inl same ↦ λ zero. let le = noted (subst (λ n. count new.header.fields (known_in view new) n ≡ 0) same zero) in omega (arith, le, below, same)
+  pub hint_lowered : (owed : Owed) (p : Pending) (cluster : ℕ) (old new : ImageFile S) (t t' : Allocator) → UnseenAllocatorStep view (owed_as owed p (one_at cluster)) old t' new p → ((k : ℕ) → IsPassed t' k → IsPassed t k)
+      → (count new.header.fields (known_in view new) cluster ≡ 0 → IsPassed t' cluster → ⊥) → NoFreeBelowHint view t old → NoFreeBelowHint view t' new
+  hint_lowered owed p cluster old new t t' allocator_step fewer noted hint k passed = elim (cases_eq k cluster) [
+    | inl same ↦ λ zero. noted (subst (λ n. count new.header.fields (known_in view new) n ≡ 0) same zero) (subst (IsPassed t') same passed)
     | inr other ↦
         let none = none_there cluster k other in
         let pending = owed_pending owed p (one_at cluster) k in
-        used_stays (owed_as owed p (one_at cluster)) p old new t' k allocator_step (omega (arith, none, pending)) (hint k (omega (arith, below, lower)))
+        used_stays (owed_as owed p (one_at cluster)) p old new t' k allocator_step (omega (arith, none, pending)) (hint k (fewer k passed))
   ]
 
   -- ---- the search for the lowest run
 
   -- all below the first free cluster is in use
   pub lowest_first : (file : ImageFile S) (t : Allocator) (n : ℕ) → NoFreeBelowHint view t file → 0 < n → IsLowestRun (IsUsed view file) t.first_free_cluster n
-  lowest_first file t n hint some start below = (start, omega arith, omega (arith, some), below, hint start below)
+  lowest_first file t n hint some start below = (start, omega arith, omega (arith, some), below, hint start (inl below))
 
   -- what is in use stays in use
   pub lowest_stays : (a b : ImageFile S) (first n : ℕ) → ((k : ℕ) → IsUsed view a k → IsUsed view b k) → IsLowestRun (IsUsed view a) first n → IsLowestRun (IsUsed view b) first n

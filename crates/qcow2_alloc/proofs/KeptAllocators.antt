@@ -1,5 +1,5 @@
 -- An allocator stays one of its file, over steps and where a call is refused.
-use Rattle.std.proofs.Common.{◌⊎◌, inl, inr, ℕ, ◌≤◌, Option, Some, None, arith}
+use Rattle.std.proofs.Common.{◌≡◌, ◌⊎◌, inl, inr, subst, sym, ℕ, ◌≤◌, Option, Some, None, arith}
 use Rattle.std.specs.Prelude.{IfSome}
 use Rattle.image_access.specs.Moments.{StorageView}
 use Rattle.qcow2_metadata.specs.Entries.{count}
@@ -23,6 +23,10 @@ module _ {S : Type 0} (view : S → StorageView) where
     reftable = table a.reftable is.reftable;
     hint = λ k below zero. is.hint k below (let le = counts k in omega (arith, le, zero));
   }
+
+  -- an allocator that only spares other clusters, all of which are in use
+  pub spared_kept : (file : ImageFile S) (t t' : Allocator) → t' ≡ record t { named = t'.named } → (NoFreeBelowHint view t file → NoFreeBelowHint view t' file) → IsAllocatorOf view file t → IsAllocatorOf view file t'
+  spared_kept file t t' rest hint is = record { reftable = subst (λ (x : Allocator). HasReftable view file x.reftable) (sym rest) is.reftable; hint = hint is.hint }
 
   -- a refused call left both as they are kept, or broke off
   pub refused_kept : (p q : Pending) (a b : ImageFile S) (t : Allocator) (e : ImageError) → RefusedGrowth view p a t b q e → NoFreeBelowHint view t b ⊎ BrokeOff b e → (UnseenFileGrowth view p q a b × IsAllocatorOf view b t) ⊎ InterruptedFileStep view a b e

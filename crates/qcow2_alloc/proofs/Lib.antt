@@ -39,6 +39,7 @@ pub mod AlignedBlocks
 pub mod Limits
 pub mod LoadedTables
 pub mod HeaderClusters
+pub mod SparedClusters
 pub mod SparedHeaders
 pub mod KeptNotes
 pub mod MetFaults

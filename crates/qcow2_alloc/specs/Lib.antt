@@ -39,6 +39,7 @@ pub mod Faults
 pub mod MetFaults
 pub mod WriteKinds
 pub mod HeaderClusters
+pub mod SparedClusters
 pub mod SparedHeaders
 pub mod CacheSteps
 pub mod Steps

@@ -1,6 +1,7 @@
 -- Which free run an allocation takes: the lowest.
 use Rattle.std.specs.Prelude.{ℕ, ◌+◌, ◌<◌, ◌≤◌, ◌≡◌, ◌≢◌, ◌⊎◌, Result, Ok, Err, IsTrue}
 use Rattle.image_access.specs.Moments.{StorageView}
+use Rattle.number_runs.specs.NumberRuns.{IsIn}
 use Rattle.qcow2_metadata.specs.Entries.{count}
 use Rattle.qcow2_alloc.specs.ImageError.{IsFault}
 use Rattle.qcow2_alloc.specs.ImageFile.{has_noted, known_in}
@@ -16,6 +17,15 @@ BrokeOff file e = IsFault e × (e ≡ I.Memory → IsTrue (has_noted file))
 -- by what counts as in use, a run of n clusters is the lowest that can be taken: of n clusters from each lower one on, one is in use that lies below the run
 abbrev pub IsLowestRun : (ℕ → Type 0) → ℕ → ℕ → Type 0
 IsLowestRun used first n = (start : ℕ) → start < first → (k : ℕ) × (start ≤ k) × (k < start + n) × (k < first) × used k
+
+-- a search passes over a cluster without taking it: it lies below the first free one, or is spared as one of the tables that the image was opened with
+abbrev pub IsPassed : Allocator → ℕ → Type 0
+IsPassed allocator k = (k < allocator.first_free_cluster) ⊎ IsIn allocator.named k
+
+-- a search goes on from the same cluster, and passes over no other ones
+pub record SearchStays (old new : Allocator) : Type 0 where
+  pub first : new.first_free_cluster ≡ old.first_free_cluster
+  pub passed : (k : ℕ) → IsPassed new k → IsPassed old k
 
 module _ {S : Type 0} (view : S → StorageView) where
   -- the cluster's count isn't 0
@@ -36,9 +46,9 @@ module _ {S : Type 0} (view : S → StorageView) where
   KeepsUsedBut n old new (Ok answer) = (k : ℕ) → n k ≡ 0 → IsUsed old k → IsUsed new k
   KeepsUsedBut n old new (Err e) = ((k : ℕ) → n k ≡ 0 → IsUsed old k → IsUsed new k) ⊎ BrokeOff new e
 
-  -- no cluster below the allocator's first free one has count 0
+  -- no cluster that a search passes over has count 0: none below the allocator's first free one, and none that is spared
   abbrev pub NoFreeBelowHint : Allocator → ImageFile S → Type 0
-  NoFreeBelowHint allocator file = (k : ℕ) → k < allocator.first_free_cluster → IsUsed file k
+  NoFreeBelowHint allocator file = (k : ℕ) → IsPassed allocator k → IsUsed file k
 
   -- so it is, unless the call broke off
   abbrev pub KeepsNoFreeBelowHint : {A : Type 0} → Allocator → ImageFile S → Result A ImageError → Type 0

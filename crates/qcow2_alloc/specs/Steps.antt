@@ -17,7 +17,7 @@ use Rattle.qcow2_alloc.specs.ImageFile.{has_noted, view_in, HasReftable, KeepsHe
 use Rattle.qcow2_alloc.specs.KeptMarks.{KeepsMarks}
 use Rattle.qcow2_alloc.specs.KeptNotes.{KeepsNotes}
 use Rattle.qcow2_alloc.specs.Limits.{CantCount, CantCountRun, CantGrow, HasNoPlace, HasNoRoomBelow, HasNoRoomFor, IsLowestRoom, IsPastLimits, LiesLowest, IsFaultOr, nameable_clusters}
-use Rattle.qcow2_alloc.specs.LowestRuns.{IsLowestRun, IsUsed, KeepsNoFreeBelowHint, KeepsUsed, NoFreeBelowHint, StaysUsed}
+use Rattle.qcow2_alloc.specs.LowestRuns.{IsLowestRun, IsPassed, IsUsed, KeepsNoFreeBelowHint, KeepsUsed, NoFreeBelowHint, StaysUsed}
 use Rattle.qcow2_alloc.specs.MadeClusters.{run_in, IsMadeInTurn, IsMadeOnTheWay, ListsUsed, TakesAlone}
 use Rattle.qcow2_alloc.specs.MetadataCaches.{rb_at}
 use Rattle.qcow2_alloc.specs.Rooms.{ReachesRoom, TakesRoom}
@@ -155,9 +155,10 @@ module _ {S : Type 0} (view : S → StorageView) where
     pub same : ContentsStay (view_in view old) (view_in view new)
     pub time : EachMomentSince (view_in view old) (view_in view new) (IsLeftBy (view_in view new))
 
-  -- It looks for free clusters from the first one on, and none is leaked. Its reftable is the one on an honest storage, and stands behind cluster 0 where the header names it there.
+  -- It looks for free clusters from the first one on, passes over none yet, and none is leaked. Its reftable is the one on an honest storage, and stands behind cluster 0 where the header names it there.
   pub record BeginsFrom (old new : ImageFile S) (allocator : Allocator) : Type 0 where
     pub first : allocator.first_free_cluster ≡ 0
+    pub passed : (k : ℕ) → ¬ IsPassed allocator k
     pub leaks : allocator.leaked_clusters ≡ 0
     pub reftable : (view_in view old).is_honest → HasReftable view new allocator.reftable
     pub header_cluster : NamesReftableBehind old.header.fields → AreBehindHeader old.header.fields.cluster_bits old.caches
@@ -169,7 +170,7 @@ module _ {S : Type 0} (view : S → StorageView) where
   pub record TakesOneSoundly (p : Pending) (is_data : Bool) (allocator : Allocator) (old : ImageFile S) (allocator' : Allocator) (new : ImageFile S) (cluster : ℕ) (result : Result Bool ImageError) : Type 0 where
     pub takes : TakesOne view p old allocator' new is_data cluster result
     pub fault : IfErr result IsFault
-    pub used : (HasNone allocator.reftable (cluster / counts_per_block old.header.fields) → ⊥) → IfOk result (λ taken. taken ≡ false → IsUsed view new cluster)
+    pub used : NoFreeBelowHint view allocator old → (HasNone allocator.reftable (cluster / counts_per_block old.header.fields) → ⊥) → IfOk result (λ taken. taken ≡ false → IsUsed view new cluster)
     pub free : IfOk result (λ taken. IsTrue taken → ¬ IsUsed view old cluster)
 
   -- a range gets its refblock; only a fault refuses that where the reftable has an entry for it, and its first cluster can be named
@@ -189,7 +190,7 @@ module _ {S : Type 0} (view : S → StorageView) where
     pub leaks : SameLeaks allocator allocator'
     pub listed : ListsUsed view old new
     pub uses : KeepsUsed view old new result
-    pub used : IfOk result (λ taken. taken ≡ false → IsUsed view new cluster)
+    pub used : NoFreeBelowHint view allocator old → IfOk result (λ taken. taken ≡ false → IsUsed view new cluster)
     pub free : IfOk result (λ taken. IsTrue taken → ¬ IsUsed view old cluster)
     pub hint : NoFreeBelowHint view allocator old → KeepsNoFreeBelowHint view allocator' new result
     pub limit : NoFreeBelowHint view allocator old → IsHostCluster old.header.fields.cluster_bits cluster → IfErr result (IsFaultOr (CantCount (IsUsed view new) new.header.fields (λ k. 0) allocator' cluster))
@@ -207,7 +208,7 @@ module _ {S : Type 0} (view : S → StorageView) where
     pub takes : TakesRun view p old allocator' new (pending_then p old.free_list new.free_list) is_data first n result
     pub leaks : SameLeaks allocator allocator'
     pub uses : KeepsUsed view old new result
-    pub used : IfOk result (λ taken. taken ≢ n → IsUsed view new (first + taken))
+    pub used : NoFreeBelowHint view allocator old → IfOk result (λ taken. taken ≢ n → IsUsed view new (first + taken))
     pub hint : NoFreeBelowHint view allocator old → KeepsNoFreeBelowHint view allocator' new result
     pub limit : NoFreeBelowHint view allocator old → first + n ≤ nameable_clusters old.header.fields → IfErr result (IsFaultOr (CantCountRun (IsUsed view new) new.header.fields allocator' first n))
 
@@ -234,7 +235,7 @@ module _ {S : Type 0} (view : S → StorageView) where
     pub uses : OnOk result (StaysUsed view old new)
     pub kept : IfErr result (λ e. IsFault e ⊎ StaysUsed view old new)
     pub within : IfErr result (λ e. IsFault e ⊎ (cluster / counts_per_block old.header.fields < 2 ^ 20))
-    pub none : IfOk result (λ run. IsNone run → IsPastLimits old.header.fields cluster
+    pub none : NoFreeBelowHint view allocator old → IfOk result (λ run. IsNone run → IsPastLimits old.header.fields cluster
         ⊎ (IsUsed view new cluster × (IsUsed view old cluster ⊎ IsMadeOnTheWay old.header.fields allocator.reftable allocator'.reftable cluster)))
     pub hint : NoFreeBelowHint view allocator old → KeepsNoFreeBelowHint view allocator' new result
     pub limit : NoFreeBelowHint view allocator old → IfErr result (IsFaultOr (CantCount (IsUsed view new) new.header.fields (λ k. 0) allocator' cluster))
@@ -278,7 +279,7 @@ module _ {S : Type 0} (view : S → StorageView) where
   -- a run of clusters is taken up to one that is in use, or up to an end
   pub record ReachesRoomSoundly (p : Pending) (first clusters end : ℕ) (allocator : Allocator) (old : ImageFile S) (allocator' : Allocator) (new : ImageFile S) (result : Result Reach ImageError) : Type 0 where
     pub reaches : ReachesRoom view p old allocator' new allocator.reftable first result
-    pub stopped : IfOk result (λ reach. reach.taken ≢ reach.blocks + clusters → first + reach.taken < end → IsUsed view new (first + reach.taken))
+    pub stopped : NoFreeBelowHint view allocator old → IfOk result (λ reach. reach.taken ≢ reach.blocks + clusters → first + reach.taken < end → IsUsed view new (first + reach.taken))
 
   -- a longer reftable is entered, with the refblocks that it lacks, in the lowest room for both
   pub record EntersSoundly (p : Pending) (length : ℕ) (allocator : Allocator) (old : ImageFile S) (allocator' : Allocator) (new : ImageFile S) (result : Result (Unit {0}) ImageError) : Type 0 where

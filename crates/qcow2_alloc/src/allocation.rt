@@ -12,10 +12,12 @@ ghost use Rattle.qcow2_alloc.specs.LoadedTables.{IsReasonAgainstReftable, Reftab
 ghost use Rattle.qcow2_alloc.specs.MetadataCaches.{order_of};
 ghost use Rattle.qcow2_metadata.specs.L2Mapping.{IsHostCluster};
 
+use crate::spared_clusters::MOST_SPARED;
 use crate::{
     ClusterKind, ClustersToFreeEntry, ClustersToFreeList, ImageError, ImageFile, PendingClusters,
 };
 use image_access::Storage;
+use number_runs::NumberRuns;
 use qcow2_metadata::{ClusterCount, HostCluster, MAX_HOST_OFFSET, MAX_REFTABLE_ENTRIES, RefTable};
 
 /// Takes clusters, and frees those that are to be freed. No cluster below the first free one has count 0.
@@ -24,6 +26,7 @@ pub struct Allocator {
     pub(crate) reftable: RefTable,
     pub(crate) first_free_cluster: u64,
     pub(crate) leaked_clusters: u64,
+    pub(crate) named: NumberRuns,
 }
 
 #[tactic(auto, using(crate::proofs::TableErrors::storage_of_tables, crate::proofs::TableErrors::metadata_of_tables, crate::proofs::TableErrors::cache_of_tables))]
@@ -54,6 +57,7 @@ impl Allocator {
             reftable,
             first_free_cluster: 0,
             leaked_clusters: 0,
+            named: NumberRuns::new(file.alloc, MOST_SPARED),
         })
     }
 

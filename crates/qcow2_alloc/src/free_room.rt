@@ -6,7 +6,7 @@ ghost use Rattle.qcow2_alloc.specs.Allocation.{UnseenAllocatorStep};
 ghost use Rattle.qcow2_alloc.specs.GrownTables.{with_run};
 ghost use Rattle.qcow2_alloc.specs.ImageError.{IsOfTables};
 ghost use Rattle.qcow2_alloc.specs.ImageFile.{AllocatorInvariant};
-ghost use Rattle.qcow2_alloc.specs.LowestRuns.{IsUsed};
+ghost use Rattle.qcow2_alloc.specs.LowestRuns.{IsUsed, NoFreeBelowHint, SearchStays};
 ghost use Rattle.qcow2_alloc.specs.Rooms.{lacks, opens, IsReach, IsRoomBelow, TakesFree};
 ghost use Rattle.qcow2_alloc.specs.Steps.{Fails, TableStep, ReachesRoomSoundly, TakesRoomSoundly};
 ghost use Rattle.qcow2_alloc.specs.Steps.{LeavesSoundly};
@@ -49,7 +49,7 @@ impl Allocator {
             → TakesRoomSoundly S.view p clusters end self.old file.old self.new file.new result }
         ensures room { IfOk result (IsRoomBelow file.old.header.fields self.old.reftable clusters end file.new) }
         ensures reftable { self.new.reftable ≡ self.old.reftable }
-        ensures first { self.new.first_free_cluster ≡ self.old.first_free_cluster }
+        ensures first { SearchStays self.old self.new }
     {
         let mut first = self.first_free_cluster.max(1);
         'search: while first < end {
@@ -100,7 +100,8 @@ impl Allocator {
         Ok(Reach { taken, blocks })
     }
 
-    // Takes a cluster where it is free: false where it is in use. Where its range has no refblock there is nothing to count.
+    // Takes a cluster where it is free: false where it is in use or spared. Where its range has no refblock there is
+    // nothing to count.
     fn take_if_free<S: Storage>(
         &mut self,
         file: &mut ImageFile<S>,
@@ -118,8 +119,12 @@ impl Allocator {
             → IsTrue file.new.caches.is_changed) }
         ensures fails { Fails S.view file.old.storage file.new.storage result IsOfTables }
         ensures used { (p : Pending) → AllocatorInvariant S.view self.old p file.old
+            → NoFreeBelowHint S.view self.old file.old
             → IfOk result (λ taken. taken ≡ false → IsUsed S.view file.new cluster) }
     {
+        if self.is_spared(cluster) {
+            return Ok(false);
+        }
         if self.lacks_block(cluster >> bits) {
             return Ok(true);
         }
@@ -145,7 +150,7 @@ impl Allocator {
         requires free { self.old.first_free_cluster ≤ first }
         ensures step { TableStep S.view self.old.reftable file.old self.new.reftable file.new }
         ensures reftable { self.new.reftable ≡ self.old.reftable }
-        ensures first { self.new.first_free_cluster ≡ self.old.first_free_cluster }
+        ensures first { SearchStays self.old self.new }
         ensures sound { (p : Pending) (start : ImageFile S) → start.header ≡ file.old.header
             → UnseenAllocatorStep S.view p start self.old file.old
             (with_run p start.header.fields self.old.reftable first n)

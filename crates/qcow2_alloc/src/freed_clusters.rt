@@ -1,5 +1,5 @@
 //! Freeing clusters: those that are listed to be freed, and those that are given back.
-ghost use Rattle.std.specs.Prelude.{◌≡◌, ◌++◌, ◌∷◌, [], ◌+◌, ◌/◌, ◌^◌, ◌<◌, ◌≤◌, Bool, OnOk, IsErrOf, IsOk, IsTrue};
+ghost use Rattle.std.specs.Prelude.{◌≡◌, ℕ, ◌++◌, ◌∷◌, [], ◌+◌, ◌/◌, ◌^◌, ◌<◌, ◌≤◌, Bool, OnOk, IsErrOf, IsOk, IsTrue};
 ghost use Rattle.qcow2_metadata.specs.Header.{counts_per_block};
 ghost use Rattle.qcow2_laws.specs.Changes.{one_at};
 ghost use Rattle.qcow2_laws.specs.CrashInvariant.{Pending};
@@ -8,6 +8,7 @@ ghost use Rattle.qcow2_alloc.specs.Allocation.{MayLower, SameLeaks, Frees, Lower
 ghost use Rattle.qcow2_alloc.specs.FreeList.{run_of, with_listed, but, GoOffInOrder};
 ghost use Rattle.qcow2_alloc.specs.Leaks.{LeaksOne, LeaksUnaligned, TriesToLower, LowersOrLeaks};
 ghost use Rattle.qcow2_alloc.specs.LowestRuns.{NoFreeBelowHint, KeepsNoFreeBelowHint, KeepsUsedBut};
+ghost use Rattle.qcow2_alloc.specs.LowestRuns.{IsPassed, SearchStays};
 ghost use Rattle.qcow2_alloc.specs.ImageError.{IsOfTables};
 ghost use Rattle.qcow2_alloc.specs.ImageFile.{AllocatorInvariant};
 ghost use Rattle.qcow2_alloc.specs.Steps.{Fails, FreeStep, FreeStepInTurn, TableStep, GivesSoundly};
@@ -58,8 +59,7 @@ impl Allocator {
     ) -> Result<(), ImageError>
         ensures step { TableStep S.view self.old.reftable file.old self.new.reftable file.new }
         ensures reftable { self.new.reftable ≡ self.old.reftable }
-        ensures first { self.old.first_free_cluster ≤ cluster
-            → self.new.first_free_cluster ≡ self.old.first_free_cluster }
+        ensures first { self.old.first_free_cluster ≤ cluster → SearchStays self.old self.new }
         ensures sound { (p : Pending) (owed : Owed)
             → AllocatorInvariant S.view self.old (owed_as owed p (one_at cluster)) file.old → MayLower owed file.old
             → GivesSoundly S.view
@@ -263,8 +263,7 @@ impl Allocator {
         ensures reftable { self.new.reftable ≡ self.old.reftable }
         ensures leaked { self.new.leaked_clusters ≡ self.old.leaked_clusters }
         ensures tries { TriesToLower file.new cluster result }
-        ensures first { self.old.first_free_cluster ≤ cluster
-            → self.new.first_free_cluster ≡ self.old.first_free_cluster }
+        ensures first { self.old.first_free_cluster ≤ cluster → SearchStays self.old self.new }
         ensures sound { (p : Pending) (owed : Owed)
             → AllocatorInvariant S.view self.old (owed_as owed p (one_at cluster)) file.old → MayLower owed file.old
             → LowersOne S.view (owed_as owed p (one_at cluster)) file.old self.new file.new p result }
@@ -286,17 +285,18 @@ impl Allocator {
         Ok(lowered)
     }
 
-    // A cluster whose count is 0 now may be taken again.
+    // A cluster whose count is 0 now may be taken again, and isn't spared any longer.
     fn note_lowered(&mut self, cluster: u64, is_free: bool)
         ensures reftable { self.new.reftable ≡ self.old.reftable }
         ensures leaked { self.new.leaked_clusters ≡ self.old.leaked_clusters }
-        ensures first { self.new.first_free_cluster ≤ self.old.first_free_cluster }
-        ensures free { IsTrue is_free → self.new.first_free_cluster ≤ cluster }
+        ensures passed { (k : ℕ) → IsPassed self.new k → IsPassed self.old k }
+        ensures free { IsTrue is_free → IsPassed self.new cluster → ⊥ }
         ensures lowest { self.old.first_free_cluster ≤ cluster
             → self.new.first_free_cluster ≡ self.old.first_free_cluster }
     {
         if is_free {
             self.first_free_cluster = self.first_free_cluster.min(cluster);
+            self.spare_no_longer(cluster);
         }
     }
 }

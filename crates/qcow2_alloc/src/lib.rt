@@ -15,6 +15,7 @@ mod refblocks;
 mod reftable_growth;
 mod reftable_length;
 mod reftable_naming;
+mod spared_clusters;
 pub mod table_cache;
 mod used_clusters;
 

@@ -10,7 +10,8 @@ ghost use Rattle.qcow2_alloc.specs.CachePins.{LeavesPinned};
 ghost use Rattle.qcow2_alloc.specs.SparedHeaders.{KeepBehindHeader};
 ghost use Rattle.qcow2_alloc.specs.Steps.{EnsuresSoundly, Fails, FindsBlock, GetsSoundly, TableStep, TakesOneSoundly};
 ghost use Rattle.qcow2_alloc.specs.Steps.{BlockStep, FileStep, RangeStep, ReachesSoundly};
-ghost use Rattle.qcow2_alloc.specs.LowestRuns.{NoFreeBelowHint, KeepsNoFreeBelowHint};
+ghost use Rattle.qcow2_alloc.specs.LowestRuns.{NoFreeBelowHint, KeepsNoFreeBelowHint, SearchStays};
+ghost use Rattle.number_runs.specs.NumberRuns.{IsIn};
 ghost use Rattle.qcow2_alloc.specs.ImageError.{IsOfTables};
 ghost use Rattle.qcow2_alloc.specs.ImageFile.{has_noted, AllocatorInvariant};
 ghost use Rattle.qcow2_alloc.specs.ImageStorage.{is_changed_of};
@@ -121,7 +122,8 @@ impl Allocator {
         Ok(Some(cluster))
     }
 
-    // Counts a cluster whose count is 0: false where it isn't. Cluster 0 is the header's, and is never counted here.
+    // Counts a cluster whose count is 0: false where it isn't, and for one that is spared. Cluster 0 is the header's,
+    // and is never counted here.
     pub(crate) fn raise<S: Storage>(
         &mut self,
         file: &mut ImageFile<S>,
@@ -134,8 +136,12 @@ impl Allocator {
             → MayTake is_data file.old
             → TakesOneSoundly S.view p is_data self.old file.old self.new file.new cluster result }
         ensures noted { IfOk result (λ taken. IsTrue taken → IsTrue file.new.caches.is_changed) }
+        ensures spares { IfOk result (λ taken. IsTrue taken → IsIn self.old.named cluster → ⊥) }
         ensures same { self.new ≡ self.old }
     {
+        if self.is_spared(cluster) {
+            return Ok(false);
+        }
         let bits = file.header.rb_bits();
         let Some(block) = self.load_block(file, cluster >> bits)? else {
             return Ok(false);
@@ -145,6 +151,7 @@ impl Allocator {
     }
 
     // Sees to it that the range of a cluster has a refblock, with a longer reftable where the range lies past its end.
+    // A reftable without entries doesn't get longer.
     pub(crate) fn reach_block<S: Storage>(
         &mut self,
         file: &mut ImageFile<S>,
@@ -166,6 +173,11 @@ impl Allocator {
         let index = range as usize;
         if self.reftable.in_bounds(index) {
             return self.ensure_block(file, cluster);
+        }
+        // Without entries nothing tells which clusters are in use.
+        let entries = self.reftable.len();
+        if entries == 0 {
+            return Err(ImageError::Limit);
         }
         self.grow_reftable(file, index)?;
         self.ensure_block(file, cluster)
@@ -253,7 +265,7 @@ impl Allocator {
             → GetsSoundly S.view p self.old file.old self.new file.new range result }
         ensures entries { KeepsEntries (λ k. k ≢ range) self.old.reftable self.new.reftable }
         ensures leaks { SameLeaks self.old self.new }
-        ensures first { self.new.first_free_cluster ≡ self.old.first_free_cluster }
+        ensures first { SearchStays self.old self.new }
         ensures has { OnOk result (HasNone self.new.reftable range → ⊥) }
     {
         if self.load_block(file, range)?.is_some() {

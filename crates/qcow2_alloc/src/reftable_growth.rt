@@ -12,6 +12,7 @@ ghost use Rattle.qcow2_alloc.specs.Growing.{IsLongEnough, IsLeastLength, IsClone
 ghost use Rattle.qcow2_alloc.specs.ImageError.{IsOfTables};
 ghost use Rattle.qcow2_alloc.specs.ImageFile.{AllocatorInvariant};
 ghost use Rattle.qcow2_alloc.specs.Limits.{IsFaultOr};
+ghost use Rattle.qcow2_alloc.specs.LowestRuns.{SearchStays};
 ghost use Rattle.qcow2_alloc.specs.Steps.{EntersSoundly, EntersTable, Fails, GrowsSoundly, GrowthStep, HasGrown};
 ghost use Rattle.qcow2_alloc.specs.Steps.{PointerStep};
 
@@ -39,7 +40,7 @@ impl Allocator {
             → GrowsSoundly S.view p index self.old file.old self.new file.new result }
         ensures grown { OnOk result
             (HasGrown file.old.header.fields index self.old.reftable self.new.reftable file.new) }
-        ensures first { self.new.first_free_cluster ≡ self.old.first_free_cluster }
+        ensures first { SearchStays self.old self.new }
     {
         let table = self.longer_reftable(file.alloc, &file.header, index)?;
         let former = self.former_reftable(file.alloc)?;
@@ -124,7 +125,7 @@ impl Allocator {
         ensures entered { OnOk result
             (EntersTable file.old.header.fields self.old.reftable table self.new.reftable file.new) }
         ensures kept { OnErr result (self.new.reftable ≡ self.old.reftable) }
-        ensures first { self.new.first_free_cluster ≡ self.old.first_free_cluster }
+        ensures first { SearchStays self.old self.new }
         ensures leaks { (p : Pending) → AllocatorInvariant S.view self.old p file.old → SameLeaks self.old self.new }
     {
         let bits = file.header.cluster_bits();

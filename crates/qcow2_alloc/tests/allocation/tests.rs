@@ -3,7 +3,7 @@ use super::{Allocator, MAX_HOST_OFFSET};
 use crate::test_files::file_of;
 use crate::{ImageError, ImageFile};
 use image_access::{Storage, TraceStorage};
-use qcow2_metadata::{ClusterCount, Header, HostCluster};
+use qcow2_metadata::{ClusterCount, Header, HostCluster, HostOffset, L1Table};
 use std::alloc::{AllocError, Global};
 use std::test::*;
 
@@ -116,5 +116,26 @@ fn lowest<S: Storage>(
 fn counts_that_were_not_written_are_forgotten(rt: HostRuntime) -> Result<(), Fail> {
     let storage = three_clusters(rt.alloc())?;
     assert_eq!(rt; taken_and_forgotten(rt.alloc(), storage)?, [3, 3]);
+    Ok(())
+}
+
+// Whether the tables in clusters 1 to 3 are all spared, and the cluster that is taken for data then, where none is counted.
+fn lowest_behind_tables<S: Storage>(alloc: Global, storage: S) -> Result<(bool, u64), ImageError> {
+    let mut file = file_of(alloc, storage, Header::new(9, 4, None, None, None))?;
+    file.header.set_reftable(HostOffset::new(512), 1)?;
+    let mut l1_table = L1Table::new_cleared(alloc, &file.header, 1)?;
+    l1_table.enter_l2_table(0, HostCluster::new(3));
+    let mut allocator = Allocator::new(&mut file)?;
+    let all = allocator.spare_named(&file, &l1_table);
+    Ok((all, lowest(&mut allocator, &mut file)?))
+}
+
+#[test]
+fn tables_are_spared_whatever_their_counts_are(rt: HostRuntime) -> Result<(), Fail> {
+    let alloc = rt.alloc();
+    let mut bytes = vec![in alloc; 0u8; 1536]?;
+    bytes[518] = 4;
+    let storage = TraceStorage::new(alloc, bytes)?;
+    assert_eq!(rt; lowest_behind_tables(alloc, storage)?, (true, 4));
     Ok(())
 }

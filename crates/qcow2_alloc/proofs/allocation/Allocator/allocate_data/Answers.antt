@@ -5,7 +5,7 @@ use Rattle.qcow2_alloc.specs.declared.image_file.ImageFile.{ImageFile}
 use Rattle.qcow2_alloc.specs.Allocation.{UnseenAllocatorGrowth, Allocates}
 use Rattle.qcow2_alloc.specs.FreeList.{pending_then, run_of}
 use Rattle.qcow2_alloc.specs.LowestRuns.{KeepsNoFreeBelowHint, IsUsed, StaysUsed}
-use Rattle.qcow2_alloc.proofs.Hints.{hint_stays, ok_as}
+use Rattle.qcow2_alloc.proofs.Hints.{hint_stays, ok_as, passed_still}
 use Rattle.qcow2_alloc.proofs.AllocationSteps.{handed_on, on_of, allocator_step_cached, is_sound_now, allocates_then}
 use Rattle.qcow2_alloc.proofs.ListedAfter.{listed_after_same}
 use Rattle.std.specs.Prelude.{IfErr}
@@ -73,7 +73,7 @@ returns-in_err-l2_depends_on_rb-clause-sound g c = λ p sound.
         takes = handed_on (Allocates g.S.Storage.view p c.args.file.now c.args.self.now file (pending_then p c.args.file.now.free_list c.args.file.now.free_list) Data c.args.count) c.from_residual.result c.in_err-l2_depends_on_rb.field-0.0 c.from_residual.ensures
             (inl (subst (λ (r : Pending). UnseenAllocatorGrowth g.S.Storage.view p c.args.file.now c.args.self.now file r) (sym (listed_after_same p c.args.file.now.free_list c.args.file.now.free_list refl)) (on_of g.S.Storage.view p p c.args.file.now file c.args.self.now one)));
         uses = on_no_ok _ c.from_residual.result c.in_err-l2_depends_on_rb.field-0.0 c.from_residual.ensures;
-        hint = λ hint. handed_on (KeepsNoFreeBelowHint g.S.Storage.view c.args.self.now file) c.from_residual.result c.in_err-l2_depends_on_rb.field-0.0 c.from_residual.ensures (inl (hint_stays g.S.Storage.view p c.args.file.now file c.args.self.now c.args.self.now one refl hint));
+        hint = λ hint. handed_on (KeepsNoFreeBelowHint g.S.Storage.view c.args.self.now file) c.from_residual.result c.in_err-l2_depends_on_rb.field-0.0 c.from_residual.ensures (inl (hint_stays g.S.Storage.view p c.args.file.now file c.args.self.now c.args.self.now one (passed_still c.args.self.now) hint));
         lowest = λ hint. if_no_ok _ c.from_residual.result c.in_err-l2_depends_on_rb.field-0.0 c.from_residual.ensures;
         limit = λ hint some. handed_on (λ (r : Result ClustersToFreeEntry ImageError). IfErr r (IsFaultOr (HasNoPlace (IsUsed g.S.Storage.view file) file.header.fields c.args.self.now c.args.count))) c.from_residual.result c.in_err-l2_depends_on_rb.field-0.0 c.from_residual.ensures
             (inl (c.in_err-l2_depends_on_rb.ensures.faults c.args.file.now.header.fields p sound.sound.honest sound.sound.caches sound.sound.named_blocks));
@@ -95,9 +95,9 @@ returns-clause-sound g c = λ p sound.
             ((c.allocate.ensures.sound p (is_sound_now g.S.Storage.view p p c.args.file.now file c.args.self.now one) c.in_ok-l2_depends_on_rb.ensures.turns.order).takes);
         uses = ok_as (StaysUsed g.S.Storage.view file c.allocate.new.file) (StaysUsed g.S.Storage.view c.args.file.now c.allocate.new.file) c.allocate.result (λ uses k used. uses k (subst (λ b. count c.args.file.now.header.fields b k ≢ 0) (sym known) used))
             ((c.allocate.ensures.sound p (is_sound_now g.S.Storage.view p p c.args.file.now file c.args.self.now one) c.in_ok-l2_depends_on_rb.ensures.turns.order).uses);
-        hint = λ hint. (c.allocate.ensures.sound p (is_sound_now g.S.Storage.view p p c.args.file.now file c.args.self.now one) c.in_ok-l2_depends_on_rb.ensures.turns.order).hint (hint_stays g.S.Storage.view p c.args.file.now file c.args.self.now c.args.self.now one refl hint);
-        lowest = λ hint. (c.allocate.ensures.sound p (is_sound_now g.S.Storage.view p p c.args.file.now file c.args.self.now one) c.in_ok-l2_depends_on_rb.ensures.turns.order).lowest (hint_stays g.S.Storage.view p c.args.file.now file c.args.self.now c.args.self.now one refl hint);
-        limit = λ hint some. (c.allocate.ensures.sound p (is_sound_now g.S.Storage.view p p c.args.file.now file c.args.self.now one) c.in_ok-l2_depends_on_rb.ensures.turns.order).limit (hint_stays g.S.Storage.view p c.args.file.now file c.args.self.now c.args.self.now one refl hint) some;
+        hint = λ hint. (c.allocate.ensures.sound p (is_sound_now g.S.Storage.view p p c.args.file.now file c.args.self.now one) c.in_ok-l2_depends_on_rb.ensures.turns.order).hint (hint_stays g.S.Storage.view p c.args.file.now file c.args.self.now c.args.self.now one (passed_still c.args.self.now) hint);
+        lowest = λ hint. (c.allocate.ensures.sound p (is_sound_now g.S.Storage.view p p c.args.file.now file c.args.self.now one) c.in_ok-l2_depends_on_rb.ensures.turns.order).lowest (hint_stays g.S.Storage.view p c.args.file.now file c.args.self.now c.args.self.now one (passed_still c.args.self.now) hint);
+        limit = λ hint some. (c.allocate.ensures.sound p (is_sound_now g.S.Storage.view p p c.args.file.now file c.args.self.now one) c.in_ok-l2_depends_on_rb.ensures.turns.order).limit (hint_stays g.S.Storage.view p c.args.file.now file c.args.self.now c.args.self.now one (passed_still c.args.self.now) hint) some;
       };
       leaks = c.allocate.ensures.leaks p (is_sound_now g.S.Storage.view p p c.args.file.now file c.args.self.now one);
       made = let now = is_sound_now g.S.Storage.view p p c.args.file.now file c.args.self.now one in

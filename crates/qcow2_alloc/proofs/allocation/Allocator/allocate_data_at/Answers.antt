@@ -10,7 +10,7 @@ use Rattle.qcow2_alloc.specs.LowestRuns.{IsUsed, KeepsNoFreeBelowHint, StaysUsed
 use Rattle.qcow2_metadata.specs.Header.{counts_per_block}
 use Rattle.qcow2_alloc.proofs.AllocationSteps.{handed_on, on_of, allocator_step_on, allocator_step_cached, is_sound_now, leaves_on, of_equal}
 use Rattle.qcow2_alloc.proofs.ListedAfter.{listed_after_same}
-use Rattle.qcow2_alloc.proofs.Hints.{header_used, hint_stays}
+use Rattle.qcow2_alloc.proofs.Hints.{header_used, hint_stays, passed_still}
 use Rattle.qcow2_alloc.proofs.Runs.{taken_alone}
 use Rattle.std.specs.Prelude.{IfErr}
 use Rattle.qcow2_alloc.specs.declared.error.ImageError.{ImageError}
@@ -121,12 +121,12 @@ returns-then-at-eq0-clause-sound g c = λ p sound.
           subst (λ b. count h b k ≢ 0) (sym known) used;
       kept = tt;
       within = tt;
-      none = λ _. let here = sym c.if-at-eq0.true ∙ c.value-at.ensures in
+      none = λ hint _. let here = sym c.if-at-eq0.true ∙ c.value-at.ensures in
           inr (
             subst (λ n. IsUsed g.S.Storage.view file n) here (header_used g.S.Storage.view p file (is_sound_now g.S.Storage.view p p c.args.file.now file c.args.self.now one).sound),
             inl (subst (λ n. IsUsed g.S.Storage.view c.args.file.now n) here (header_used g.S.Storage.view p c.args.file.now sound.sound)),
           );
-      hint = λ hint. hint_stays g.S.Storage.view p c.args.file.now file c.args.self.now c.args.self.now one refl hint;
+      hint = λ hint. hint_stays g.S.Storage.view p c.args.file.now file c.args.self.now c.args.self.now one (passed_still c.args.self.now) hint;
       limit = λ _. tt;
     }
 
@@ -145,8 +145,8 @@ returns-then-not-is_nameable-clause-sound g c = λ p sound.
           subst (λ b. count h b k ≢ 0) (sym known) used;
       kept = tt;
       within = tt;
-      none = λ _. inl (inl (search rules));
-      hint = λ hint. hint_stays g.S.Storage.view p c.args.file.now file c.args.self.now c.args.self.now one refl hint;
+      none = λ hint _. inl (inl (search rules));
+      hint = λ hint. hint_stays g.S.Storage.view p c.args.file.now file c.args.self.now c.args.self.now one (passed_still c.args.self.now) hint;
       limit = λ _. tt;
     }
 
@@ -165,8 +165,8 @@ returns-then-range-clause-sound g c = λ p sound.
           subst (λ b. count h b k ≢ 0) (sym known) used;
       kept = tt;
       within = tt;
-      none = λ _. inl (inr (past_limit c.value-at.result c.args.cluster c.rb_bits.result (counts_per_block c.args.file.now.header.fields) c.value-at.ensures c.rb_bits.ensures.counts c.if-range.true));
-      hint = λ hint. hint_stays g.S.Storage.view p c.args.file.now file c.args.self.now c.args.self.now one refl hint;
+      none = λ hint _. inl (inr (past_limit c.value-at.result c.args.cluster c.rb_bits.result (counts_per_block c.args.file.now.header.fields) c.value-at.ensures c.rb_bits.ensures.counts c.if-range.true));
+      hint = λ hint. hint_stays g.S.Storage.view p c.args.file.now file c.args.self.now c.args.self.now one (passed_still c.args.self.now) hint;
       limit = λ _. tt;
     }
 
@@ -187,10 +187,10 @@ returns-in-Ok-false-clause-sound g c = λ p sound.
           (c.in-Ok-false.ensures.sound p true now c.in_ok-l2_depends_on_rb.ensures.turns.order).uses k (subst (λ b. count h b k ≢ 0) (sym known) used);
       kept = tt;
       within = tt;
-      none = λ _. let uses : (k : ℕ) → IsUsed g.S.Storage.view file k → IsUsed g.S.Storage.view c.args.file.now k = λ k used. subst (λ b. count c.args.file.now.header.fields b k ≢ 0) known used in
-          let used = subst (λ n. IsUsed g.S.Storage.view c.take.new.file n) c.value.ensures ((c.in-Ok-false.ensures.sound p true now c.in_ok-l2_depends_on_rb.ensures.turns.order).used c.in-Ok-false.field-0-test) in
+      none = λ hint _. let uses : (k : ℕ) → IsUsed g.S.Storage.view file k → IsUsed g.S.Storage.view c.args.file.now k = λ k used. subst (λ b. count c.args.file.now.header.fields b k ≢ 0) known used in
+          let used = subst (λ n. IsUsed g.S.Storage.view c.take.new.file n) c.value.ensures ((c.in-Ok-false.ensures.sound p true now c.in_ok-l2_depends_on_rb.ensures.turns.order).used (hint_stays g.S.Storage.view p c.args.file.now file c.args.self.now c.args.self.now one (passed_still c.args.self.now) hint) c.in-Ok-false.field-0-test) in
           inr (made_before g.S.Storage.view p file c.take.new.file c.args.self.now c.take.new.self now c.take.ensures.step.list c.take.ensures.step.former ((c.take.ensures.sound p false now tt).listed) c.args.file.now uses c.args.cluster two used);
-      hint = λ hint. (c.in-Ok-false.ensures.sound p true now c.in_ok-l2_depends_on_rb.ensures.turns.order).hint (hint_stays g.S.Storage.view p c.args.file.now file c.args.self.now c.args.self.now one refl hint);
+      hint = λ hint. (c.in-Ok-false.ensures.sound p true now c.in_ok-l2_depends_on_rb.ensures.turns.order).hint (hint_stays g.S.Storage.view p c.args.file.now file c.args.self.now c.args.self.now one (passed_still c.args.self.now) hint);
       limit = λ _. tt;
     }
 
@@ -211,8 +211,8 @@ returns-in_err-l2_depends_on_rb-clause-sound g c = λ p sound.
           (inl (c.in_err-l2_depends_on_rb.ensures.faults c.args.file.now.header.fields p sound.sound.honest sound.sound.caches sound.sound.named_blocks));
       within = handed_on (λ (r : Result (Option ClustersToFreeEntry) ImageError). IfErr r (λ e. IsFault e ⊎ (c.args.cluster / counts_per_block c.args.file.now.header.fields < 2 ^ 20))) c.from_residual.result c.in_err-l2_depends_on_rb.field-0.0 c.from_residual.ensures
           (inl (c.in_err-l2_depends_on_rb.ensures.faults c.args.file.now.header.fields p sound.sound.honest sound.sound.caches sound.sound.named_blocks));
-      none = if_no_ok _ c.from_residual.result c.in_err-l2_depends_on_rb.field-0.0 c.from_residual.ensures;
-      hint = λ hint. handed_on (KeepsNoFreeBelowHint g.S.Storage.view c.args.self.now file) c.from_residual.result c.in_err-l2_depends_on_rb.field-0.0 c.from_residual.ensures (inl (hint_stays g.S.Storage.view p c.args.file.now file c.args.self.now c.args.self.now one refl hint));
+      none = λ hint. if_no_ok _ c.from_residual.result c.in_err-l2_depends_on_rb.field-0.0 c.from_residual.ensures;
+      hint = λ hint. handed_on (KeepsNoFreeBelowHint g.S.Storage.view c.args.self.now file) c.from_residual.result c.in_err-l2_depends_on_rb.field-0.0 c.from_residual.ensures (inl (hint_stays g.S.Storage.view p c.args.file.now file c.args.self.now c.args.self.now one (passed_still c.args.self.now) hint));
       limit = λ hint. handed_on (λ (r : Result (Option ClustersToFreeEntry) ImageError). IfErr r (IsFaultOr (CantCount (IsUsed g.S.Storage.view file) file.header.fields (λ k. 0) c.args.self.now c.args.cluster))) c.from_residual.result c.in_err-l2_depends_on_rb.field-0.0 c.from_residual.ensures
           (inl (c.in_err-l2_depends_on_rb.ensures.faults c.args.file.now.header.fields p sound.sound.honest sound.sound.caches sound.sound.named_blocks));
     }
@@ -231,8 +231,8 @@ returns-in_default-clause-sound g c = λ p sound.
       uses = tt;
       kept = inl (inr refl);
       within = inl (inr refl);
-      none = tt;
-      hint = λ hint. inl (hint_stays g.S.Storage.view p c.args.file.now file c.args.self.now c.args.self.now one refl hint);
+      none = λ hint. tt;
+      hint = λ hint. inl (hint_stays g.S.Storage.view p c.args.file.now file c.args.self.now c.args.self.now one (passed_still c.args.self.now) hint);
       limit = λ hint. inl (inr refl);
     }
 
@@ -255,11 +255,11 @@ returns-in-Err-clause-sound g c = λ p sound.
             | inr broke ↦ inl broke.0
           ];
       within = inr (within_limit c.value-at.result c.args.cluster c.rb_bits.result (counts_per_block c.args.file.now.header.fields) c.value-at.ensures c.rb_bits.ensures.counts c.if-range.false);
-      none = tt;
-      hint = λ hint. (c.in-Err.ensures.sound p true now c.in_ok-l2_depends_on_rb.ensures.turns.order).hint (hint_stays g.S.Storage.view p c.args.file.now file c.args.self.now c.args.self.now one refl hint);
+      none = λ hint. tt;
+      hint = λ hint. (c.in-Err.ensures.sound p true now c.in_ok-l2_depends_on_rb.ensures.turns.order).hint (hint_stays g.S.Storage.view p c.args.file.now file c.args.self.now c.args.self.now one (passed_still c.args.self.now) hint);
       limit = λ hint. let near : IsHostCluster c.args.file.now.header.fields.cluster_bits c.value.result = of_equal IsHostCluster c.args.file.now.header.fields.cluster_bits c.cluster_bits.result c.value.result c.args.cluster (sym c.cluster_bits.ensures.value) c.value.ensures (c.is_nameable.ensures.0 c.if-not-is_nameable.false) in
           subst (λ n. IsFaultOr (CantCount (IsUsed g.S.Storage.view c.take.new.file) c.take.new.file.header.fields (λ k. 0) c.take.new.self n) c.in-Err.refusal) c.value.ensures
-          ((c.in-Err.ensures.sound p true now c.in_ok-l2_depends_on_rb.ensures.turns.order).limit (hint_stays g.S.Storage.view p c.args.file.now file c.args.self.now c.args.self.now one refl hint) near);
+          ((c.in-Err.ensures.sound p true now c.in_ok-l2_depends_on_rb.ensures.turns.order).limit (hint_stays g.S.Storage.view p c.args.file.now file c.args.self.now c.args.self.now one (passed_still c.args.self.now) hint) near);
     }
 
 pub returns-in-Ok-true-clause-sound : goal.returns-in-Ok-true-clause-sound
@@ -285,7 +285,7 @@ returns-in-Ok-true-clause-sound g c = λ p sound.
           (c.in-Ok-true.ensures.sound p true now c.in_ok-l2_depends_on_rb.ensures.turns.order).uses k (subst (λ b. count h b k ≢ 0) (sym known) used);
       kept = tt;
       within = tt;
-      none = λ is. absurd cc;
-      hint = λ hint. (c.in-Ok-true.ensures.sound p true now c.in_ok-l2_depends_on_rb.ensures.turns.order).hint (hint_stays g.S.Storage.view p c.args.file.now file c.args.self.now c.args.self.now one refl hint);
+      none = λ hint is. absurd cc;
+      hint = λ hint. (c.in-Ok-true.ensures.sound p true now c.in_ok-l2_depends_on_rb.ensures.turns.order).hint (hint_stays g.S.Storage.view p c.args.file.now file c.args.self.now c.args.self.now one (passed_still c.args.self.now) hint);
       limit = λ _. tt;
     }

@@ -1,8 +1,7 @@
 use Rattle.std.proofs.Common.{◌≡◌, mul-pos, inl, true, false, ◌*◌, ◌<◌, ◌^◌, sym, ap, ◌∙◌, arith, Result, IsTrue, refl, subst}
 use Rattle.qcow2_metadata.specs.Header.{counts_per_block}
 use Rattle.qcow2_alloc.specs.Allocation.{GetsBlock}
-use Rattle.qcow2_alloc.specs.declared.allocation.Allocator.{Allocator}
-use Rattle.qcow2_alloc.proofs.Hints.{lacking_above}
+use Rattle.qcow2_alloc.proofs.Hints.{lacking_above, search_by, search_same}
 use Rattle.qcow2_alloc.proofs.AllocationSteps.{named_covered, none_named, handed_on, gets_placed, gets_then, is_sound_now, none_in_memory, stands_none}
 use Rattle.std.specs.Prelude.{IfErr}
 use Rattle.qcow2_alloc.specs.ImageError.{IsFault}
@@ -94,25 +93,25 @@ returns-clause-sound g c = λ p sound.
     }
 
 pub returns-in_err-load_block-clause-first : goal.returns-in_err-load_block-clause-first
-returns-in_err-load_block-clause-first g c = refl
+returns-in_err-load_block-clause-first g c = search_same c.args.self.now
 
 pub returns-in_err-load_block-clause-entries : goal.returns-in_err-load_block-clause-entries
 returns-in_err-load_block-clause-entries g c = entries_none _ c.args.self.now.reftable
 
 pub returns-then-is_some-clause-first : goal.returns-then-is_some-clause-first
-returns-then-is_some-clause-first g c = refl
+returns-then-is_some-clause-first g c = search_same c.args.self.now
 
 pub returns-then-is_some-clause-entries : goal.returns-then-is_some-clause-entries
 returns-then-is_some-clause-entries g c = entries_none _ c.args.self.now.reftable
 
 pub returns-then-not-can_name-clause-first : goal.returns-then-not-can_name-clause-first
-returns-then-not-can_name-clause-first g c = refl
+returns-then-not-can_name-clause-first g c = search_same c.args.self.now
 
 pub returns-then-not-can_name-clause-entries : goal.returns-then-not-can_name-clause-entries
 returns-then-not-can_name-clause-entries g c = entries_none _ c.args.self.now.reftable
 
 pub returns-clause-first : goal.returns-clause-first
-returns-clause-first g c = (ap (λ (a : Allocator). a.first_free_cluster) c.place_block.ensures.rest)
+returns-clause-first g c = search_by c.args.self.now _ c.place_block.new.self c.place_block.ensures.rest refl (λ k passed. passed)
 
 pub returns-clause-entries : goal.returns-clause-entries
 returns-clause-entries g c = c.place_block.ensures.step.named

@@ -5,9 +5,8 @@ use Rattle.qcow2_laws.specs.Changes.{one_at}
 use Rattle.qcow2_alloc.specs.Allocation.{LacksFirst, taken_as, HasNone, GetsBlock, IsUnaligned}
 use Rattle.qcow2_alloc.specs.ImageFile.{IsFault}
 use Rattle.qcow2_alloc.specs.LowestRuns.{KeepsNoFreeBelowHint}
-use Rattle.qcow2_alloc.specs.declared.allocation.Allocator.{Allocator}
 use Rattle.qcow2_alloc.proofs.FileSteps.{leaves_then}
-use Rattle.qcow2_alloc.proofs.Hints.{lacking_above, hint_got, hint_placed, hint_refused, hint_stays, ok_as, range_as, not_broken}
+use Rattle.qcow2_alloc.proofs.Hints.{lacking_above, hint_got, hint_placed, hint_refused, hint_stays, ok_as, passed_same, passed_still, range_as, not_broken}
 use Rattle.qcow2_alloc.proofs.AllocationSteps.{named_then, named_covered, none_named, handed_on, allocator_step_then, gets_then, gets_taken, is_sound_now, none_in_memory, stands_none, still_sound}
 use Rattle.std.specs.Prelude.{IfErr, IsSome}
 use Rattle.std.proofs.Math.Nat.{div-eq_of_lt, div-mul-le_self}
@@ -36,7 +35,7 @@ returns-in_err-load_block-clause-sound g c = λ p sound.
     record {
       gets = handed_on (GetsBlock g.S.Storage.view p c.args.file.now c.args.self.now c.load_block.new.file) c.from_residual.result c.in_err-load_block.field-0.0 c.from_residual.ensures (c.in_err-load_block.ensures.sound p sound).1;
       hint = λ hint. handed_on (KeepsNoFreeBelowHint g.S.Storage.view c.args.self.now c.load_block.new.file) c.from_residual.result c.in_err-load_block.field-0.0 c.from_residual.ensures
-          (hint_refused g.S.Storage.view p c.args.file.now c.load_block.new.file c.args.self.now c.args.self.now c.in_err-load_block.field-0.0 refl (c.in_err-load_block.ensures.sound p sound).1 hint);
+          (hint_refused g.S.Storage.view p c.args.file.now c.load_block.new.file c.args.self.now c.args.self.now c.in_err-load_block.field-0.0 (passed_still c.args.self.now) (c.in_err-load_block.ensures.sound p sound).1 hint);
       fault = λ within near. handed_on (λ (r : Result (Unit {0}) ImageError). IfErr r IsFault) c.from_residual.result c.in_err-load_block.field-0.0 c.from_residual.ensures (c.in_err-load_block.ensures.sound p sound).0;
     }
 
@@ -50,7 +49,7 @@ pub returns-then-is_some-clause-sound : goal.returns-then-is_some-clause-sound
 returns-then-is_some-clause-sound g c = λ p sound.
     record {
       gets = (c.in_ok-load_block.ensures.sound p sound).0;
-      hint = λ hint. hint_stays g.S.Storage.view p c.args.file.now c.load_block.new.file c.args.self.now c.args.self.now (c.in_ok-load_block.ensures.sound p sound).0 refl hint;
+      hint = λ hint. hint_stays g.S.Storage.view p c.args.file.now c.load_block.new.file c.args.self.now c.args.self.now (c.in_ok-load_block.ensures.sound p sound).0 (passed_still c.args.self.now) hint;
       fault = λ within near. tt;
     }
 
@@ -64,7 +63,7 @@ pub returns-then-not-can_name-clause-sound : goal.returns-then-not-can_name-clau
 returns-then-not-can_name-clause-sound g c = λ p sound.
     record {
       gets = let one = (c.in_ok-load_block.ensures.sound p sound).0 in inl (one.file_step, one.reftable);
-      hint = λ hint. inl (hint_stays g.S.Storage.view p c.args.file.now c.load_block.new.file c.args.self.now c.args.self.now (c.in_ok-load_block.ensures.sound p sound).0 refl hint);
+      hint = λ hint. inl (hint_stays g.S.Storage.view p c.args.file.now c.load_block.new.file c.args.self.now c.args.self.now (c.in_ok-load_block.ensures.sound p sound).0 (passed_still c.args.self.now) hint);
       fault = λ within near. let here = host_below c.args.file.now.header.fields.cluster_bits c.new-first.result c.args.cluster (let is = c.new-first.ensures in let le = div-mul-le_self c.args.cluster (2 ^ c.rb_bits-bits.result) in omega (arith, is, le)) near in
           let range = ap (λ n. c.args.cluster / n) c.rb_bits-bits.ensures.counts in
           let l = c.in_ok-load_block.ensures.sound p sound in
@@ -88,7 +87,7 @@ returns-then-is_fault-clause-sound g c = λ p sound.
     record {
       gets = leaves_then g.S.Storage.view p c.args.file.now c.load_block.new.file c.take_lowest_below.new.file c.take_lowest_below.new.self c.in-Err.refusal one.file_step (c.in-Err.ensures.sound p (is_sound_now g.S.Storage.view p p c.args.file.now c.load_block.new.file c.args.self.now one));
       hint = λ hint. let now = is_sound_now g.S.Storage.view p p c.args.file.now c.load_block.new.file c.args.self.now one in
-          c.in-Err.ensures.hint p now (hint_stays g.S.Storage.view p c.args.file.now c.load_block.new.file c.args.self.now c.args.self.now one refl hint);
+          c.in-Err.ensures.hint p now (hint_stays g.S.Storage.view p c.args.file.now c.load_block.new.file c.args.self.now c.args.self.now one (passed_still c.args.self.now) hint);
       fault = λ within near. c.is_fault.ensures.0 c.if-is_fault.true;
     }
 
@@ -125,8 +124,8 @@ returns-in-Ok-Some-clause-sound g c = λ p sound.
       gets = let noted = rw c.in-Ok-Some.field-0-is at c.in-Ok-Some.ensures.noted in
           gets_taken g.S.Storage.view p c.args.file.now c.take_lowest_below.new.file c.place_block.new.file c.take_lowest_below.new.self c.place_block.new.self _ c.in-Ok-Some.at c.place_block.result taken (c.place_block.ensures.step.marks.pins.changes.noted (noted refl))
           (c.place_block.ensures.sound p (is_sound_now g.S.Storage.view p (taken_as false p (one_at c.in-Ok-Some.at)) c.args.file.now c.take_lowest_below.new.file c.take_lowest_below.new.self taken) (record { none = still; first = tt }));
-      hint = λ hint. let here = hint_stays g.S.Storage.view p c.args.file.now c.load_block.new.file c.args.self.now c.args.self.now l.0 refl hint in
-          hint_placed g.S.Storage.view p c.take_lowest_below.new.file c.place_block.new.file c.take_lowest_below.new.self c.place_block.new.self (c.args.cluster / 2 ^ c.rb_bits-bits.result) c.in-Ok-Some.at c.place_block.result (ap (λ (a : Allocator). a.first_free_cluster) c.place_block.ensures.rest)
+      hint = λ hint. let here = hint_stays g.S.Storage.view p c.args.file.now c.load_block.new.file c.args.self.now c.args.self.now l.0 (passed_still c.args.self.now) hint in
+          hint_placed g.S.Storage.view p c.take_lowest_below.new.file c.place_block.new.file c.take_lowest_below.new.self c.place_block.new.self (c.args.cluster / 2 ^ c.rb_bits-bits.result) c.in-Ok-Some.at c.place_block.result (passed_same _ c.place_block.new.self c.place_block.ensures.rest)
           (c.place_block.ensures.sound p (is_sound_now g.S.Storage.view p (taken_as false p (one_at c.in-Ok-Some.at)) c.args.file.now c.take_lowest_below.new.file c.take_lowest_below.new.self taken) (record { none = still; first = tt }))
           (c.in-Ok-Some.ensures.hint p (is_sound_now g.S.Storage.view p p c.args.file.now c.load_block.new.file c.args.self.now l.0) here);
       fault = λ within near. placed_fault g.S.Storage.view (taken_as false p (one_at c.in-Ok-Some.at)) p c.take_lowest_below.new.file c.place_block.new.file c.place_block.new.self (c.args.cluster / 2 ^ c.rb_bits-bits.result) c.in-Ok-Some.at c.place_block.result
@@ -149,8 +148,8 @@ returns-in-Ok-None-clause-sound g c = λ p sound.
           ((c.cover_range.ensures.sound p (is_sound_now g.S.Storage.view p p c.args.file.now c.take_lowest_below.new.file c.take_lowest_below.new.self before)).gets);
       hint = λ hint. let now = is_sound_now g.S.Storage.view p p c.args.file.now c.load_block.new.file c.args.self.now one in
           let two = rw c.in-Ok-None.field-0-is at (c.in-Ok-None.ensures.sound p now) in
-          let still = hint_stays g.S.Storage.view p c.args.file.now c.load_block.new.file c.args.self.now c.args.self.now one refl hint in
-          hint_got g.S.Storage.view p c.take_lowest_below.new.file c.cover_range.new.file c.take_lowest_below.new.self c.cover_range.new.self c.cover_range.result c.cover_range.ensures.first
+          let still = hint_stays g.S.Storage.view p c.args.file.now c.load_block.new.file c.args.self.now c.args.self.now one (passed_still c.args.self.now) hint in
+          hint_got g.S.Storage.view p c.take_lowest_below.new.file c.cover_range.new.file c.take_lowest_below.new.self c.cover_range.new.self c.cover_range.result c.cover_range.ensures.first.passed
           ((c.cover_range.ensures.sound p (is_sound_now g.S.Storage.view p p c.load_block.new.file c.take_lowest_below.new.file c.take_lowest_below.new.self two)).gets) (c.in-Ok-None.ensures.hint p now still);
       fault = λ within near. let two = rw c.in-Ok-None.field-0-is at (c.in-Ok-None.ensures.sound p (is_sound_now g.S.Storage.view p p c.args.file.now c.load_block.new.file c.args.self.now one)) in
           let count = c.in-Ok-None.ensures.entries.count in
@@ -178,8 +177,8 @@ returns-else-is_fault-clause-sound g c = λ p sound.
       hint = λ hint. let now = is_sound_now g.S.Storage.view p p c.args.file.now c.load_block.new.file c.args.self.now one in
           let no_fault : IsFault c.in-Err.refusal → ⊥ = λ fault. not_both c.is_fault.result (c.is_fault.ensures.1 fault) c.if-is_fault.false in
           let two = still_sound g.S.Storage.view p c.load_block.new.file c.take_lowest_below.new.file c.take_lowest_below.new.self c.in-Err.refusal no_fault (c.in-Err.ensures.sound p now) in
-          let still = hint_stays g.S.Storage.view p c.args.file.now c.load_block.new.file c.args.self.now c.args.self.now one refl hint in
-          hint_got g.S.Storage.view p c.take_lowest_below.new.file c.cover_range-in-Err.new.file c.take_lowest_below.new.self c.cover_range-in-Err.new.self c.cover_range-in-Err.result c.cover_range-in-Err.ensures.first
+          let still = hint_stays g.S.Storage.view p c.args.file.now c.load_block.new.file c.args.self.now c.args.self.now one (passed_still c.args.self.now) hint in
+          hint_got g.S.Storage.view p c.take_lowest_below.new.file c.cover_range-in-Err.new.file c.take_lowest_below.new.self c.cover_range-in-Err.new.self c.cover_range-in-Err.result c.cover_range-in-Err.ensures.first.passed
           ((c.cover_range-in-Err.ensures.sound p (is_sound_now g.S.Storage.view p p c.load_block.new.file c.take_lowest_below.new.file c.take_lowest_below.new.self two)).gets) (not_broken c.take_lowest_below.new.file c.in-Err.refusal no_fault (c.in-Err.ensures.hint p now still));
       fault = λ within near. let two = still_sound g.S.Storage.view p c.load_block.new.file c.take_lowest_below.new.file c.take_lowest_below.new.self c.in-Err.refusal (λ fault. not_both c.is_fault.result (c.is_fault.ensures.1 fault) c.if-is_fault.false)
           (c.in-Err.ensures.sound p (is_sound_now g.S.Storage.view p p c.args.file.now c.load_block.new.file c.args.self.now one)) in

@@ -1,4 +1,4 @@
-use Rattle.std.proofs.Common.{Option, Some, Ok, Err, ◌≡◌, ℕ, ◌+◌, ◌*◌, ◌/◌, ◌%◌, ◌^◌, ◌<◌, ◌≤◌, min, Result, ◌∙◌, sym, ap, subst, arith}
+use Rattle.std.proofs.Common.{refl, Option, Some, Ok, Err, ◌≡◌, ℕ, ◌+◌, ◌*◌, ◌/◌, ◌%◌, ◌^◌, ◌<◌, ◌≤◌, min, Result, ◌∙◌, sym, ap, subst, arith}
 use Rattle.std.proofs.Math.Nat.{mul-le-mul_left}
 use Rattle.std.proofs.Math.Pow.{pow_mono}
 use Rattle.std.specs.Prelude.{IfSome, IfErr, OnOk}
@@ -23,7 +23,7 @@ use Rattle.qcow2_alloc.proofs.AllocationSteps.{handed_on, is_sound_now, leaves_a
 use Rattle.qcow2_alloc.proofs.FullRooms.{no_room_for, lies_lowest, lowest_entered}
 use Rattle.qcow2_alloc.proofs.Limits.{cause_as}
 use Rattle.qcow2_alloc.proofs.GrownReftables.{clone_clusters, clone_is_longer, entered, uses_entered, names_fault, room_now}
-use Rattle.qcow2_alloc.proofs.Hints.{uses_refused}
+use Rattle.qcow2_alloc.proofs.Hints.{search_by, search_then, uses_refused}
 use Rattle.qcow2_alloc.proofs.ListedAfter.{header_same, header_then, header_counts}
 use Rattle.qcow2_alloc.proofs.Outcomes.{on_no_ok, on_err}
 use Rattle.qcow2_alloc.proofs.Rooms.{still_noted}
@@ -148,7 +148,7 @@ returns-clause-entered g c =
     c.take_room.ensures.reftable c.in_ok-room.ensures.room.above (sym c.cluster_bits.ensures.value ∙ c.if-cluster_bits-bits.false ∙ c.cluster_bits-bits.ensures.value) c.write_reftable.ensures.entered
 
 pub returns-clause-first : goal.returns-clause-first
-returns-clause-first g c = ap (λ (a : Allocator). a.first_free_cluster) c.write_reftable.ensures.rest ∙ c.take_room.ensures.first
+returns-clause-first g c = search_then c.args.self.now c.take_room.new.self c.write_reftable.new.self c.take_room.ensures.first (search_by c.take_room.new.self _ c.write_reftable.new.self c.write_reftable.ensures.rest refl (λ k passed. passed))
 
 pub returns-in_err-room-clause-leaks : goal.returns-in_err-room-clause-leaks
 returns-in_err-room-clause-leaks g c = λ p sound. (c.take_room.ensures.sound p sound).leaks

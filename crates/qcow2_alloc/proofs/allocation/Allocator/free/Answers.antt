@@ -6,7 +6,7 @@ use Rattle.qcow2_alloc.specs.Allocation.{Frees}
 use Rattle.qcow2_alloc.specs.FreeList.{with_listed, but}
 use Rattle.qcow2_alloc.specs.LowestRuns.{KeepsNoFreeBelowHint}
 use Rattle.qcow2_alloc.proofs.AllocationSteps.{handed_on, is_sound_now, allocator_step_cached}
-use Rattle.qcow2_alloc.proofs.Hints.{hint_stays}
+use Rattle.qcow2_alloc.proofs.Hints.{hint_stays, passed_still}
 use Rattle.qcow2_alloc.proofs.Freeing.{but_both, on_ok, allocator_step_on, frees_then}
 use Rattle.qcow2_alloc.proofs.Outcomes.{on_no_ok}
 use Rattle.std.proofs.Math.Nat.{le_trans}
@@ -37,7 +37,7 @@ returns-clause-sound g c = λ p sound.
       gives = frees_then view q now (with_listed p c.free_kind-2.new.file.free_list) c.args.file.now turned c.free_kind-2.new.file c.free_kind.new.self c.free_kind-2.new.self c.free_kind-2.result (λ k some. some) both
           ((c.free_kind-2.ensures.sound p (is_sound_now view q now c.args.file.now turned c.free_kind.new.self both) c.in_ok-rb_depends_on_l2.ensures.turns.order).gives);
       leaks = (c.free_kind-2.ensures.sound p (is_sound_now view q now c.args.file.now turned c.free_kind.new.self both) c.in_ok-rb_depends_on_l2.ensures.turns.order).leaks ∙ (c.free_kind.ensures.sound p sound tt).leaks;
-      hint = λ hint. let still = hint_stays view now c.free_kind.new.file turned c.free_kind.new.self c.free_kind.new.self two refl ((c.in_ok-free_kind.ensures.sound p sound tt).hint hint) in
+      hint = λ hint. let still = hint_stays view now c.free_kind.new.file turned c.free_kind.new.self c.free_kind.new.self two (passed_still c.free_kind.new.self) ((c.in_ok-free_kind.ensures.sound p sound tt).hint hint) in
           (c.free_kind-2.ensures.sound p (is_sound_now view q now c.args.file.now turned c.free_kind.new.self both) c.in_ok-rb_depends_on_l2.ensures.turns.order).hint still;
     }
 
@@ -76,7 +76,7 @@ returns-in_err-rb_depends_on_l2-clause-sound g c = λ p sound.
       );
       leaks = (c.free_kind.ensures.sound p sound tt).leaks;
       hint = λ hint. handed_on (KeepsNoFreeBelowHint view c.free_kind.new.self turned) c.from_residual-in_err-rb_depends_on_l2.result c.in_err-rb_depends_on_l2.field-0.0 c.from_residual-in_err-rb_depends_on_l2.ensures
-          (inl (hint_stays view now c.free_kind.new.file turned c.free_kind.new.self c.free_kind.new.self two refl ((c.in_ok-free_kind.ensures.sound p sound tt).hint hint)));
+          (inl (hint_stays view now c.free_kind.new.file turned c.free_kind.new.self c.free_kind.new.self two (passed_still c.free_kind.new.self) ((c.in_ok-free_kind.ensures.sound p sound tt).hint hint)));
     }
 
 pub returns-in_err-free_kind-clause-step : goal.returns-in_err-free_kind-clause-step

@@ -7,7 +7,7 @@ use Rattle.qcow2_alloc.specs.LowestRuns.{IsUsed}
 use Rattle.qcow2_alloc.specs.GrownTables.{with_run}
 use Rattle.qcow2_alloc.specs.Rooms.{lacks}
 use Rattle.qcow2_alloc.proofs.AllocationSteps.{handed_on, of_equal}
-use Rattle.qcow2_alloc.proofs.Hints.{not_in_run, taken_pending, used_stays}
+use Rattle.qcow2_alloc.proofs.Hints.{not_in_run, search_as, search_same, search_then, taken_pending, used_stays}
 use Rattle.qcow2_alloc.proofs.Rooms.{run_past, left_none, left_one, left_fault, owed_now}
 use Rattle.qcow2_alloc.proofs.allocation.Allocator.leave_run.Goals.{then-not-lacks_block+in_ok-lower, else-not-lacks_block}
 use Rattle.qcow2_alloc.specs.Faults.{faults_of}
@@ -20,7 +20,7 @@ leaving-init g c = record {
   faults = refl;
   step = table_step_none;
   reftable = refl;
-  first = refl;
+  first = search_same c.args.self.now;
   counts = c.rb_bits-bits.ensures.counts;
   sound = λ p start same b.
       let whole : c.args.n ≡ c.args.first + c.args.n - c.args.first = omega arith in
@@ -40,8 +40,8 @@ leaving-preserved g c =
         faults = subst (λ f. faults_of g.S.Storage.view f.storage ≡ faults_of g.S.Storage.view c.args.file.now.storage) (sym w.file-is) (w.in_ok-lower.ensures.fails.told ∙ c.leaving.invariant.faults);
         step = table_step_as (ap (λ a. a.reftable) w.self-is) w.file-is (table_step_then c.leaving.invariant.step w.lower.ensures.step);
         reftable = ap (λ a. a.reftable) w.self-is ∙ w.lower.ensures.reftable ∙ c.leaving.invariant.reftable;
-        first = ap (λ a. a.first_free_cluster) w.self-is
-            ∙ w.lower.ensures.first (let low = c.requires.free in let is = c.leaving.invariant.first in let le = c.leaving.auto.cluster in omega (arith, low, is, le)) ∙ c.leaving.invariant.first;
+        first = search_as c.args.self.now w.lower.new.self c.if-not-lacks_block.self w.self-is
+            (search_then c.args.self.now c.leaving.self w.lower.new.self c.leaving.invariant.first (w.lower.ensures.first (let low = c.requires.free in let is = c.leaving.invariant.first.first in let le = c.leaving.auto.cluster in omega (arith, low, is, le))));
         counts = c.leaving.invariant.counts;
         sound = λ p start same b.
             let before = c.leaving.invariant.sound p start same b in
@@ -75,7 +75,7 @@ leaving-preserved g c =
         faults = subst (λ f. faults_of g.S.Storage.view f.storage ≡ faults_of g.S.Storage.view c.args.file.now.storage) (sym w.file-is) c.leaving.invariant.faults;
         step = table_step_as (ap (λ a. a.reftable) w.self-is) w.file-is c.leaving.invariant.step;
         reftable = ap (λ a. a.reftable) w.self-is ∙ c.leaving.invariant.reftable;
-        first = ap (λ a. a.first_free_cluster) w.self-is ∙ c.leaving.invariant.first;
+        first = search_as c.args.self.now c.leaving.self c.if-not-lacks_block.self w.self-is c.leaving.invariant.first;
         counts = c.leaving.invariant.counts;
         sound = λ p start same b.
             let before = c.leaving.invariant.sound p start same b in
@@ -137,3 +137,7 @@ returns-clause-sound g c = λ p start same b.
       leaks = c.leaving.invariant.leaks p start same b;
       kept = c.leaving.invariant.kept p start same b;
     }
+
+pub returns-in_err-lower-clause-first : goal.returns-in_err-lower-clause-first
+returns-in_err-lower-clause-first g c =
+    search_then c.args.self.now c.leaving.self c.lower.new.self c.leaving.invariant.first (c.lower.ensures.first (let low = c.requires.free in let is = c.leaving.invariant.first.first in let le = c.leaving.auto.cluster in omega (arith, low, is, le)))

@@ -5,7 +5,7 @@ use Rattle.qcow2_alloc.specs.Allocation.{run_at, SameLeaks, UnseenAllocatorStep}
 use Rattle.qcow2_alloc.specs.Faults.{faults_of}
 use Rattle.qcow2_alloc.specs.GrownTables.{with_run}
 use Rattle.qcow2_alloc.specs.declared.image_file.ImageFile.{ImageFile}
-use Rattle.qcow2_alloc.specs.LowestRuns.{IsUsed}
+use Rattle.qcow2_alloc.specs.LowestRuns.{IsUsed, SearchStays}
 use Rattle.qcow2_alloc.specs.Steps.{TableStep}
 use Rattle.qcow2_alloc.proofs.allocation.Allocator.leave_run.Given as goal
 
@@ -15,7 +15,7 @@ invariant-leaving g l = record {
   faults : faults_of g.S.Storage.view l.file.storage ≡ faults_of g.S.Storage.view l.fn.file.storage;
   step : TableStep g.S.Storage.view l.fn.self.reftable l.fn.file l.self.reftable l.file;
   reftable : l.self.reftable ≡ l.fn.self.reftable;
-  first : l.self.first_free_cluster ≡ l.fn.self.first_free_cluster;
+  first : SearchStays l.fn.self l.self;
   counts : counts_per_block l.fn.file.header.fields ≡ 2 ^ l.bits;
   sound : (p : Pending) (start : ImageFile g.row.S.Denot) → start.header ≡ l.fn.file.header → UnseenAllocatorStep g.S.Storage.view p start l.fn.self l.fn.file (with_run p start.header.fields l.fn.self.reftable l.fn.first l.fn.n)
       → UnseenAllocatorStep g.S.Storage.view p start l.self l.file (with_run p start.header.fields l.fn.self.reftable l.cluster (l.fn.first + l.fn.n - l.cluster));

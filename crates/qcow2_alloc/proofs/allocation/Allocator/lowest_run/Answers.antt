@@ -38,10 +38,10 @@ search-init g c = record {
   above = let first = c.max-self.ensures in omega (arith, first);
   behind = let first = c.max-self.ensures in omega (arith, first);
   leaks = λ p sound. refl;
-  hint = λ p d sound may hint. hint_header g.S.Storage.view p c.args.file.now c.args.self.now (record c.args.self.now { first_free_cluster = c.max-self.result }) sound.sound (λ k some below. let first = c.max-self.ensures in omega (arith, first, some, below)) hint;
+  hint = λ p d sound may hint. hint_header g.S.Storage.view p c.args.file.now c.args.self.now c.max-self.result sound.sound (λ k some below. let first = c.max-self.ensures in omega (arith, first, some, below)) hint;
   lowest = λ p d sound may hint some.
       let begin : Allocator = record c.args.self.now { first_free_cluster = c.max-self.result } in
-      lowest_first g.S.Storage.view c.args.file.now begin c.args.n (hint_header g.S.Storage.view p c.args.file.now c.args.self.now begin sound.sound (λ k some below. let first = c.max-self.ensures in omega (arith, first, some, below)) hint) some;
+      lowest_first g.S.Storage.view c.args.file.now begin c.args.n (hint_header g.S.Storage.view p c.args.file.now c.args.self.now c.max-self.result sound.sound (λ k some below. let first = c.max-self.ensures in omega (arith, first, some, below)) hint) some;
   uses = λ p d sound may k used. used;
 }
 
@@ -90,7 +90,7 @@ search-preserved g c = record {
       let passed = c.in_ok-first.ensures.sound r there in
       lowest_passed g.S.Storage.view c.pass_used.new.file (c.search.first + (c.in_ok-taken.taken + 1)) c.in_ok-first.first c.args.n (let behind = c.in_ok-first.ensures.behind in omega (arith, behind)) some (λ k low high. passed.1 k (omega (arith, low)) high)
       (lowest_stays g.S.Storage.view c.take_run.new.file c.pass_used.new.file (c.search.first + (c.in_ok-taken.taken + 1)) c.args.n (λ k used. used_stays g.S.Storage.view r r c.take_run.new.file c.pass_used.new.file c.pass_used.new.self k passed.0 (omega arith) used)
-      (lowest_behind g.S.Storage.view c.take_run.new.file c.search.first c.args.n c.in_ok-taken.taken c.in_ok-taken.ensures.within c.if-taken-n.false ((c.in_ok-taken.ensures.sound q d now may_now).used c.if-taken-n.false)
+      (lowest_behind g.S.Storage.view c.take_run.new.file c.search.first c.args.n c.in_ok-taken.taken c.in_ok-taken.ensures.within c.if-taken-n.false ((c.in_ok-taken.ensures.sound q d now may_now).used (c.search.invariant.hint p d sound may hint) c.if-taken-n.false)
       (lowest_stays g.S.Storage.view c.search.file c.take_run.new.file c.search.first c.args.n ((c.in_ok-taken.ensures.sound q d now may_now).uses) (c.search.invariant.lowest p d sound may hint some))));
   uses = λ p d sound may k used.
       let before = c.search.invariant.sound p sound in

@@ -1,13 +1,13 @@
-use Rattle.std.proofs.Common.{◌≡◌, Bool, ◌==◌, ◌/◌, ◌%◌, ◌^◌, true, false, Ok, refl, sym, ap, ◌∙◌, arith}
+use Rattle.std.proofs.Common.{◌≡◌, inr, Bool, ◌==◌, ◌/◌, ◌%◌, ◌^◌, true, false, Ok, refl, sym, ap, ◌∙◌, arith}
 use Rattle.std.proofs.lemmas.Bool.Decides.{nat_tests}
 use Rattle.qcow2_metadata.specs.Entries.{block_offset, count}
 use Rattle.qcow2_metadata.specs.TableBytes.{entry_at}
 use Rattle.qcow2_alloc.specs.ImageFile.{known_in, contents_in}
-use Rattle.qcow2_alloc.proofs.AllocationSteps.{handed_on, of_equal, counted_at, none_in_memory, taken_one}
+use Rattle.qcow2_alloc.proofs.AllocationSteps.{allocator_step_none, handed_on, of_equal, counted_at, none_in_memory, taken_one}
 use Rattle.qcow2_alloc.proofs.Hints.{is_zero, used_stays}
 use Rattle.qcow2_alloc.proofs.allocation.Allocator.raise.Goals.{then-rb_is_zero, else-rb_is_zero}
 use Rattle.qcow2_alloc.proofs.KeptMarks.{marks_of_caches}
-use Rattle.qcow2_alloc.proofs.Steps.{fails_on, table_step_as, table_step_tables, table_step_then}
+use Rattle.qcow2_alloc.proofs.Steps.{fails_on, table_step_as, table_step_none, table_step_tables, table_step_then}
 use Rattle.qcow2_alloc.specs.Steps.{TakesOneSoundly}
 use Rattle.qcow2_alloc.proofs.allocation.Allocator.raise.Goals as goal
 
@@ -36,7 +36,7 @@ pub returns-in_err-block-clause-sound : goal.returns-in_err-block-clause-sound
 returns-in_err-block-clause-sound g c = λ p is_data sound may.
     let refused = c.in_err-block.ensures.sound p sound in
     handed_on (TakesOneSoundly g.S.Storage.view p is_data c.args.self.now c.args.file.now c.args.self.now c.load_block.new.file c.args.cluster) c.from_residual.result c.in_err-block.field-0.0 c.from_residual.ensures
-    (record { takes = refused.1; fault = refused.0; used = λ has. tt; free = tt })
+    (record { takes = refused.1; fault = refused.0; used = λ hint has. tt; free = tt })
 
 pub returns-in_default-clause-sound : goal.returns-in_default-clause-sound
 returns-in_default-clause-sound g c = λ p is_data sound may.
@@ -44,7 +44,7 @@ returns-in_default-clause-sound g c = λ p is_data sound may.
     record {
       takes = (c.in_ok-block.ensures.sound p sound).0;
       fault = tt;
-      used = λ has none. absurd (has (ap (λ n. block_offset (entry_at c.args.self.now.reftable.bytes (c.args.cluster / n))) c.rb_bits-bits.ensures.counts
+      used = λ hint has none. absurd (has (ap (λ n. block_offset (entry_at c.args.self.now.reftable.bytes (c.args.cluster / n))) c.rb_bits-bits.ensures.counts
           ∙ none_in_memory g.S.Storage.view p c.load_block.new.file c.args.self.now.reftable l.0.file_step.sound l.0.reftable (c.args.cluster / 2 ^ c.rb_bits-bits.result) l.1));
       free = λ taken. absurd (not_both false taken refl);
     }
@@ -65,13 +65,24 @@ returns-clause-sound g c = λ p is_data sound may.
             takes = taken_one view p c.args.file.now c.load_block.new.file c.args.self.now l.0 k c.in-Some.block c.rb_index-index.result at w.rb_increment.new.self w.rb_increment.ensures.step.order w.rb_increment.ensures.step.marks
                 is_data may c.load_block.ensures.step.marks.order zero (w.rb_increment.ensures.sound.counted raised);
             fault = tt;
-            used = λ has none. absurd (not_both true refl none);
+            used = λ hint has none. absurd (not_both true refl none);
             free = λ taken used. used_stays view p p c.args.file.now c.load_block.new.file c.args.self.now k l.0 (omega arith) used zero;
           })
       | else-rb_is_zero w ↦ of_equal (λ f r. TakesOneSoundly view p is_data c.args.self.now c.args.file.now c.args.self.now f k (Ok r)) c.if-rb_is_zero.file c.load_block.new.file c.if-rb_is_zero.result false w.file-is (w.result-is ∙ w.if-rb_is_zero.false) (record {
         takes = l.0;
         fault = tt;
-        used = λ has none zero. not_both c.rb_is_zero.result (tells ∙ is_zero (count h (known_in view c.load_block.new.file) k) zero) w.if-rb_is_zero.false;
+        used = λ hint has none zero. not_both c.rb_is_zero.result (tells ∙ is_zero (count h (known_in view c.load_block.new.file) k) zero) w.if-rb_is_zero.false;
         free = λ taken. absurd (not_both false taken refl);
       })
     ]
+
+pub returns-then-is_spared-clause-step : goal.returns-then-is_spared-clause-step
+returns-then-is_spared-clause-step g c = table_step_none
+
+pub returns-then-is_spared-clause-sound : goal.returns-then-is_spared-clause-sound
+returns-then-is_spared-clause-sound g c = λ p is_data sound may. record {
+  takes = allocator_step_none g.S.Storage.view p c.args.file.now c.args.self.now sound;
+  fault = tt;
+  used = λ hint has none. hint c.args.cluster (inr (c.is_spared.ensures.0 c.if-is_spared.true));
+  free = λ taken. absurd (not_both false taken refl);
+}

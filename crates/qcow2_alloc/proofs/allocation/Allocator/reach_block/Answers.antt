@@ -7,16 +7,17 @@ use Rattle.qcow2_alloc.specs.LowestRuns.{KeepsNoFreeBelowHint, KeepsUsed, IsUsed
 use Rattle.qcow2_alloc.proofs.PlacedRooms.{has_some}
 use Rattle.qcow2_alloc.proofs.AllocationSteps.{handed_on, is_sound_on, on_none}
 use Rattle.qcow2_alloc.proofs.ListedAfter.{listed_after_same, grows_none, grows_on, header_counts, header_bits}
-use Rattle.qcow2_alloc.proofs.Hints.{hint_used, ok_as, range_as, uses_got, uses_then, hint_or_interruption}
+use Rattle.qcow2_alloc.proofs.Hints.{has_entries, hint_used, ok_as, range_as, uses_got, uses_then, hint_or_interruption}
 use Rattle.qcow2_alloc.specs.Limits.{CantCount, IsFaultOr}
 use Rattle.qcow2_alloc.proofs.Limits.{fault_or, grown_why, not_below}
 use Rattle.std.specs.Prelude.{IfErr}
 use Rattle.qcow2_metadata.specs.L2Mapping.{IsHostCluster}
 use Rattle.qcow2_metadata.specs.EntryTable.{entry_count}
 use Rattle.qcow2_alloc.specs.declared.error.ImageError.{ImageError}
+use Rattle.qcow2_alloc.specs.declared.error.ImageError.TheVariants as I
 use Rattle.qcow2_alloc.proofs.Outcomes.{on_no_ok, entries_none}
 use Rattle.qcow2_alloc.proofs.MadeClusters.{lists_used_none, lists_used_one, lists_used_still}
-use Rattle.qcow2_alloc.proofs.Steps.{fails_on, fails_since, step_on, step_then, step_grown, step_none, fails_ok}
+use Rattle.qcow2_alloc.proofs.Steps.{fails_on, fails_since, step_on, step_then, step_grown, step_none, fails_by, fails_ok, limit_other}
 use Rattle.qcow2_alloc.proofs.FormerReftables.{former_none, former_one, former_still}
 use Rattle.qcow2_alloc.proofs.allocation.Allocator.reach_block.Goals as goal
 
@@ -86,7 +87,7 @@ returns-in_err-grow_reftable-clause-sound g c = λ p sound.
       listed = lists_used_none g.S.Storage.view c.args.file.now c.grow_reftable.new.file c.in_err-grow_reftable.ensures.step.former.1;
       uses = handed_on (KeepsUsed g.S.Storage.view c.args.file.now c.grow_reftable.new.file) c.from_residual.result c.in_err-grow_reftable.field-0.0 c.from_residual.ensures ((c.in_err-grow_reftable.ensures.sound p sound).uses);
       hint = λ hint. handed_on (KeepsNoFreeBelowHint g.S.Storage.view c.grow_reftable.new.self c.grow_reftable.new.file) c.from_residual.result c.in_err-grow_reftable.field-0.0 c.from_residual.ensures
-          (hint_or_interruption g.S.Storage.view c.args.file.now c.grow_reftable.new.file c.args.self.now c.grow_reftable.new.self c.in_err-grow_reftable.field-0.0 c.grow_reftable.ensures.first ((c.in_err-grow_reftable.ensures.sound p sound).uses) hint);
+          (hint_or_interruption g.S.Storage.view c.args.file.now c.grow_reftable.new.file c.args.self.now c.grow_reftable.new.self c.in_err-grow_reftable.field-0.0 c.grow_reftable.ensures.first.passed ((c.in_err-grow_reftable.ensures.sound p sound).uses) hint);
       limit = λ hint near. handed_on (λ (r : Result (Unit {0}) ImageError). IfErr r (IsFaultOr (CantCount (IsUsed g.S.Storage.view c.grow_reftable.new.file) c.grow_reftable.new.file.header.fields (λ k. 0) c.grow_reftable.new.self c.args.cluster))) c.from_residual.result c.in_err-grow_reftable.field-0.0 c.from_residual.ensures
           (grown_why g.S.Storage.view c.args.file.now c.grow_reftable.new.file c.args.self.now c.grow_reftable.new.self c.args.cluster c.rb_bits.result c.in_err-grow_reftable.field-0.0 c.rb_bits.ensures.counts c.grow_reftable.ensures.step.header
           (not_below (c.args.cluster / 2 ^ c.rb_bits.result) (entry_count c.args.self.now.reftable) c.in_bounds.result c.in_bounds.ensures c.if-in_bounds.false) (((c.in_err-grow_reftable.ensures.sound p sound).limit hint)));
@@ -109,7 +110,7 @@ returns-clause-sound g c = λ p sound.
           (uses_got g.S.Storage.view q c.grow_reftable.new.file c.ensure_block-2.new.file c.ensure_block-2.new.self c.ensure_block-2.result
           ((c.ensure_block-2.ensures.sound q (is_sound_on g.S.Storage.view p q c.args.file.now c.grow_reftable.new.file c.grow_reftable.new.self ((c.in_ok-grow_reftable.ensures.sound p sound).grows))).gets));
       hint = λ hint. (c.ensure_block-2.ensures.sound q (is_sound_on g.S.Storage.view p q c.args.file.now c.grow_reftable.new.file c.grow_reftable.new.self ((c.in_ok-grow_reftable.ensures.sound p sound).grows))).hint
-          (hint_used g.S.Storage.view c.args.file.now c.grow_reftable.new.file c.args.self.now c.grow_reftable.new.self c.grow_reftable.ensures.first ((c.in_ok-grow_reftable.ensures.sound p sound).uses) hint);
+          (hint_used g.S.Storage.view c.args.file.now c.grow_reftable.new.file c.args.self.now c.grow_reftable.new.self c.grow_reftable.ensures.first.passed ((c.in_ok-grow_reftable.ensures.sound p sound).uses) hint);
       limit = λ hint near. let counts = header_counts c.args.file.now.header c.grow_reftable.new.file.header c.grow_reftable.ensures.step.header ∙ c.rb_bits.ensures.counts in
           fault_or c.ensure_block-2.result (CantCount (IsUsed g.S.Storage.view c.ensure_block-2.new.file) c.ensure_block-2.new.file.header.fields (λ k. 0) c.ensure_block-2.new.self c.args.cluster)
           ((c.ensure_block-2.ensures.sound q (is_sound_on g.S.Storage.view p q c.args.file.now c.grow_reftable.new.file c.grow_reftable.new.self ((c.in_ok-grow_reftable.ensures.sound p sound).grows))).fault
@@ -142,3 +143,16 @@ returns-then-not-lacks_block-clause-sound g c = λ p sound.
       hint = λ hint. hint;
       limit = λ _ _. tt;
     }
+
+pub returns-then-entries-eq0-clause-step : goal.returns-then-entries-eq0-clause-step
+returns-then-entries-eq0-clause-step g c = step_none
+
+pub returns-then-entries-eq0-clause-fails : goal.returns-then-entries-eq0-clause-fails
+returns-then-entries-eq0-clause-fails g c = fails_by I.Limit limit_other refl tt
+
+pub returns-then-entries-eq0-clause-named : goal.returns-then-entries-eq0-clause-named
+returns-then-entries-eq0-clause-named g c = λ within. entries_none _ c.args.self.now.reftable
+
+pub returns-then-entries-eq0-clause-sound : goal.returns-then-entries-eq0-clause-sound
+returns-then-entries-eq0-clause-sound g c = λ p sound.
+    absurd (let some = has_entries g.S.Storage.view p c.args.file.now c.args.self.now.reftable sound.sound sound.reftable in let count = c.len-entries.ensures.value in let none = c.if-entries-eq0.true in omega (arith, some, count, none))

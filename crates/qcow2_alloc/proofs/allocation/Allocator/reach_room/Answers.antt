@@ -1,14 +1,15 @@
-use Rattle.std.proofs.Common.{◌≡◌, inl, ◌+◌, ◌/◌, ◌^◌, refl, sym, ap, ◌∙◌, subst, arith}
+use Rattle.std.proofs.Common.{false, ◌≡◌, inl, ◌+◌, ◌/◌, ◌^◌, refl, sym, ap, ◌∙◌, subst, arith}
 use Rattle.qcow2_metadata.specs.Header.{counts_per_block}
 use Rattle.qcow2_laws.specs.CrashInvariant.{Pending}
 use Rattle.qcow2_alloc.specs.Allocation.{UnseenAllocatorStep}
-use Rattle.qcow2_alloc.specs.GrownTables.{with_run}
+use Rattle.qcow2_alloc.specs.GrownTables.{counted_run, with_run}
 use Rattle.qcow2_alloc.specs.Rooms.{lacks, opens, ReachesRoom}
 use Rattle.qcow2_alloc.proofs.AllocationSteps.{handed_on, allocator_step_none, is_sound_now}
 use Rattle.qcow2_alloc.proofs.Rooms.{counted_few, run_none, run_taken, run_not_taken, ends_room, opened_none, opened_more, more_short, is_flag, flag_few, noted_more, still_noted}
 use Rattle.qcow2_alloc.proofs.allocation.Allocator.reach_room.Goals.{then-reaching-test+else-taken-end, else-reaching-test}
 use Rattle.qcow2_alloc.proofs.Outcomes.{if_no_ok}
 use Rattle.qcow2_alloc.proofs.Steps.{fails_ok, fails_on, fails_since, table_step_none, table_step_then}
+use Rattle.qcow2_alloc.proofs.Hints.{hint_taken, passed_same}
 use Rattle.qcow2_alloc.proofs.allocation.Allocator.reach_room.Goals as goal
 
 pub reaching-init : goal.reaching-init
@@ -41,7 +42,7 @@ returns-in_err-take_if_free-clause-sound g c = λ p sound.
             ends_room g.S.Storage.view p c.args.self.now.reftable c.args.first c.reaching.taken c.args.file.now c.reaching.file c.take_if_free.new.file c.reaching.self c.take_if_free.new.self c.in_err-take_if_free.field-0.0 before
                 (still_noted c.args.file.now.header.fields c.args.self.now.reftable c.args.first c.reaching.taken c.reaching.file.caches.is_changed c.take_if_free.new.file.caches.is_changed c.take_if_free.ensures.step.marks.pins.changes.noted c.reaching.invariant.noted) back.0 back.1,
           );
-      stopped = if_no_ok _ c.from_residual.result c.in_err-take_if_free.field-0.0 c.from_residual.ensures;
+      stopped = λ hint. if_no_ok _ c.from_residual.result c.in_err-take_if_free.field-0.0 c.from_residual.ensures;
     }
 
 pub returns-then-not-branch-clause-sound : goal.returns-then-not-branch-clause-sound
@@ -51,9 +52,10 @@ returns-then-not-branch-clause-sound g c = λ p sound.
           let q : Pending = with_run p c.args.file.now.header.fields c.args.self.now.reftable c.args.first c.reaching.taken in
           run_not_taken g.S.Storage.view p c.args.self.now.reftable c.args.first c.reaching.taken (c.args.first + c.reaching.taken) c.args.file.now c.reaching.file c.take_if_free.new.file c.reaching.self c.take_if_free.new.self c.reaching.self.reftable
           c.in_ok-take_if_free.field-0 before c.if-not-branch.true (c.in_ok-take_if_free.ensures.sound q (is_sound_now g.S.Storage.view p q c.args.file.now c.reaching.file c.reaching.self before));
-      stopped = λ some within. let before = c.reaching.invariant.sound p sound in
+      stopped = λ hint some within. let before = c.reaching.invariant.sound p sound in
           let q : Pending = with_run p c.args.file.now.header.fields c.args.self.now.reftable c.args.first c.reaching.taken in
-          c.in_ok-take_if_free.ensures.used q (is_sound_now g.S.Storage.view p q c.args.file.now c.reaching.file c.reaching.self before) c.if-not-branch.true;
+          c.in_ok-take_if_free.ensures.used q (is_sound_now g.S.Storage.view p q c.args.file.now c.reaching.file c.reaching.self before)
+          (hint_taken g.S.Storage.view p false (counted_run c.args.file.now.header.fields c.args.self.now.reftable c.args.first c.reaching.taken) c.args.file.now c.reaching.file c.args.self.now c.reaching.self before (passed_same c.args.self.now c.reaching.self c.reaching.invariant.same) hint) c.if-not-branch.true;
     }
 
 pub reaching-preserved : goal.reaching-preserved
@@ -89,7 +91,7 @@ pub returns-clause-sound : goal.returns-clause-sound
 returns-clause-sound g c = λ p sound.
     record {
       reaches = c.reaching.invariant.sound p sound;
-      stopped = λ some within. elim c.reaching-test.branch [
+      stopped = λ hint some within. elim c.reaching-test.branch [
         | then-reaching-test+else-taken-end w ↦ absurd (let past = w.if-taken-end.false in omega (arith, past, within))
         | else-reaching-test w ↦ absurd (some (let up_to = c.reaching.invariant.up_to in let past = w.reaching-test.false in omega (arith, up_to, past)))
       ];

@@ -3,12 +3,12 @@ use Rattle.qcow2_metadata.specs.Header.{counts_per_block}
 use Rattle.qcow2_alloc.specs.declared.allocation.Allocator.{Allocator}
 use Rattle.qcow2_alloc.specs.Allocation.{RefusedGrowth, TakesCluster}
 use Rattle.qcow2_alloc.specs.FreeList.{pending_then}
-use Rattle.qcow2_alloc.proofs.Hints.{hint_more, hint_raised, hint_refused, raised_used, range_as, uses_raised, uses_refused}
+use Rattle.qcow2_alloc.proofs.Hints.{passed_same, hint_more, hint_raised, hint_refused, raised_used, range_as, uses_raised, uses_refused}
 use Rattle.qcow2_alloc.proofs.AllocationSteps.{handed_on, leaves_as, leaves_on, may_still, is_sound_on, takes_on}
 use Rattle.qcow2_alloc.proofs.allocation.Allocator.take.Goals.{then-cluster-self, else-cluster-self}
 use Rattle.qcow2_alloc.proofs.Outcomes.{if_no_ok}
 use Rattle.qcow2_alloc.proofs.MadeClusters.{lists_used_still}
-use Rattle.std.proofs.Common.{◌≡◌, ◌∙◌, ◌+◌, Ok, ap, refl, sym, subst, inl, inr}
+use Rattle.std.proofs.Common.{◌≡◌, ◌∙◌, Ok, ap, refl, sym, subst, inl, inr}
 use Rattle.qcow2_alloc.specs.LowestRuns.{NoFreeBelowHint}
 use Rattle.qcow2_alloc.specs.Steps.{TakesSoundly}
 use Rattle.qcow2_alloc.proofs.ListedAfter.{header_counts}
@@ -55,7 +55,7 @@ returns-in_err-reach_block-clause-sound g c = λ p d sound may.
       leaks = reached.leaks;
       listed = reached.listed;
       uses = reached.uses;
-      used = tt;
+      used = λ hint. tt;
       free = tt;
       hint = reached.hint;
       limit = reached.limit;
@@ -77,9 +77,9 @@ returns-in_err-taken-clause-sound g c = λ p d sound may.
       leaks = ap (λ (t : Allocator). t.leaked_clusters) c.raise.ensures.same ∙ reached.leaks;
       listed = lists_used_still view a b c.raise.new.file (reached.listed) c.raise.ensures.step.list;
       uses = elim (uses_refused view q b c.raise.new.file c.raise.new.self e two.takes) [ inl kept ↦ inl (λ k used. kept k (reached.uses k used)) | inr interruption ↦ inr interruption ];
-      used = tt;
+      used = λ hint. tt;
       free = tt;
-      hint = λ hint. hint_refused view q b c.raise.new.file c.reach_block.new.self c.raise.new.self e (ap (λ (t : Allocator). t.first_free_cluster) c.raise.ensures.same) two.takes (reached.hint hint);
+      hint = λ hint. hint_refused view q b c.raise.new.file c.reach_block.new.self c.raise.new.self e (passed_same c.reach_block.new.self c.raise.new.self c.raise.ensures.same) two.takes (reached.hint hint);
       limit = λ hint near. inl two.fault;
     })
 
@@ -102,7 +102,7 @@ returns-clause-sound g c = λ p d sound may.
       | then-cluster-self w ↦ ap (λ (t : Allocator). t.leaked_clusters) w.self-is
       | else-cluster-self w ↦ ap (λ (t : Allocator). t.leaked_clusters) w.self-is
     ] in
-    let used = two.used (range_as c.reach_block.new.self.reftable c.args.cluster (counts_per_block a.header.fields) (counts_per_block b.header.fields) (header_counts a.header b.header c.reach_block.ensures.step.header) c.in_ok-reach_block.ensures.has) in
+    let used = λ (hint : NoFreeBelowHint view c.args.self.now a). two.used (reached.hint hint) (range_as c.reach_block.new.self.reftable c.args.cluster (counts_per_block a.header.fields) (counts_per_block b.header.fields) (header_counts a.header b.header c.reach_block.ensures.step.header) c.in_ok-reach_block.ensures.has) in
     record {
       takes = subst (λ (r : Pending). TakesCluster view p a c.if-cluster-self.self file r d c.args.cluster (Ok c.in_ok-taken.taken)) (ap (pending_then p a.free_list) (sym c.raise.ensures.step.list))
           (takes_on view p q a b file c.reach_block.new.self t c.if-cluster-self.self d c.args.cluster c.in_ok-taken.taken (λ k some. some) same one two.takes);
@@ -112,11 +112,11 @@ returns-clause-sound g c = λ p d sound may.
       used = used;
       free = λ taken before. two.free taken (reached.uses c.args.cluster before);
       hint = λ hint.
-          let raised = hint_raised view q d c.args.cluster b file c.reach_block.new.self t c.in_ok-taken.taken (ap (λ (t : Allocator). t.first_free_cluster) c.raise.ensures.same) two.takes (reached.hint hint) in
+          let raised = hint_raised view q d c.args.cluster b file c.reach_block.new.self t c.in_ok-taken.taken (passed_same c.reach_block.new.self c.raise.new.self c.raise.ensures.same) two.takes (reached.hint hint) in
           elim c.if-cluster-self.branch [
             | then-cluster-self w ↦
                 subst (λ t. NoFreeBelowHint view t file) (sym w.self-is)
-                (hint_more view file t (record t { first_free_cluster = c.args.cluster + 1 }) c.args.cluster raised (sym w.if-cluster-self.true) refl (raised_used view q d c.args.cluster b file t c.in_ok-taken.taken two.takes used))
+                (hint_more view file t c.args.cluster raised (sym w.if-cluster-self.true) (raised_used view q d c.args.cluster b file t c.in_ok-taken.taken two.takes (used hint)))
             | else-cluster-self w ↦ subst (λ t. NoFreeBelowHint view t file) (sym w.self-is) raised
           ];
       limit = λ hint near. tt;

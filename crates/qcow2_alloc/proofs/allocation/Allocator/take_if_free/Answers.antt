@@ -8,7 +8,7 @@ use Rattle.qcow2_alloc.specs.Rooms.{lacks}
 use Rattle.qcow2_alloc.proofs.AllocationSteps.{allocator_step_none, still_sound}
 use Rattle.qcow2_alloc.proofs.Rooms.{one_none, free_taken}
 use Rattle.qcow2_alloc.proofs.Outcomes.{not_both}
-use Rattle.std.proofs.Common.{inl, ◌≡◌, true, false, ◌/◌, ap, sym, ◌∙◌, subst, refl}
+use Rattle.std.proofs.Common.{inl, inr, ◌≡◌, true, false, ◌/◌, ap, sym, ◌∙◌, subst, refl}
 use Rattle.qcow2_alloc.proofs.Steps.{fails_ok, table_step_none}
 use Rattle.qcow2_alloc.proofs.allocation.Allocator.take_if_free.Goals as goal
 
@@ -34,14 +34,14 @@ returns-else-is_fault-clause-sound g c = λ p sound.
     ((c.in-Err.ensures.sound p false sound tt).takes)
 
 pub returns-in-Ok-clause-used : goal.returns-in-Ok-clause-used
-returns-in-Ok-clause-used g c = λ p sound.
+returns-in-Ok-clause-used g c = λ p sound hint.
     let t = c.args.self.now.reftable in
     let has = ap (λ n. lacks t (c.args.cluster / n)) c.requires.counts ∙ sym c.lacks_block.ensures ∙ c.if-lacks_block.false in
-    (c.in-Ok.ensures.sound p false sound tt).used
+    (c.in-Ok.ensures.sound p false sound tt).used hint
     (λ none. let lacking : lacks t (c.args.cluster / counts_per_block c.args.file.now.header.fields) ≡ true = eq-eqb (block_offset (entry_at t.bytes (c.args.cluster / counts_per_block c.args.file.now.header.fields))) 0 none in let bad : true ≡ false = sym lacking ∙ has in cc)
 
 pub returns-else-is_fault-clause-used : goal.returns-else-is_fault-clause-used
-returns-else-is_fault-clause-used g c = λ p sound. not_both c.is_fault.result (c.is_fault.ensures.1 ((c.in-Err.ensures.sound p false sound tt).fault)) c.if-is_fault.false
+returns-else-is_fault-clause-used g c = λ p sound hint. not_both c.is_fault.result (c.is_fault.ensures.1 ((c.in-Err.ensures.sound p false sound tt).fault)) c.if-is_fault.false
 
 pub returns-in-Ok-clause-step : goal.returns-in-Ok-clause-step
 returns-in-Ok-clause-step g c = c.raise.ensures.step
@@ -78,3 +78,12 @@ returns-then-lacks_block-clause-fails g c = fails_ok refl
 
 pub returns-then-lacks_block-clause-same : goal.returns-then-lacks_block-clause-same
 returns-then-lacks_block-clause-same g c = refl
+
+pub returns-then-is_spared-clause-step : goal.returns-then-is_spared-clause-step
+returns-then-is_spared-clause-step g c = table_step_none
+
+pub returns-then-is_spared-clause-sound : goal.returns-then-is_spared-clause-sound
+returns-then-is_spared-clause-sound g c = λ p sound. allocator_step_none g.S.Storage.view p c.args.file.now c.args.self.now sound
+
+pub returns-then-is_spared-clause-used : goal.returns-then-is_spared-clause-used
+returns-then-is_spared-clause-used g c = λ p sound hint none. hint c.args.cluster (inr (c.is_spared.ensures.0 c.if-is_spared.true))

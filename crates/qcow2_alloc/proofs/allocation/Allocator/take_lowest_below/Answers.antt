@@ -5,7 +5,7 @@ use Rattle.qcow2_alloc.specs.Allocation.{taken_as, KeepsEntries, TakesLowest}
 use Rattle.qcow2_alloc.specs.declared.allocation.Allocator.{Allocator}
 use Rattle.qcow2_alloc.specs.LowestRuns.{KeepsNoFreeBelowHint}
 use Rattle.qcow2_alloc.proofs.FileSteps.{one_here, leaves_then}
-use Rattle.qcow2_alloc.proofs.Hints.{hint_header, hint_stays, hint_taken, hint_more, hint_passed, hint_refused, range_as, taken_used}
+use Rattle.qcow2_alloc.proofs.Hints.{hint_header, hint_stays, hint_taken, hint_more, hint_passed, hint_refused, passed_same, passed_still, range_as, taken_used}
 use Rattle.qcow2_alloc.proofs.AllocationSteps.{allocator_step_none, behind_none, handed_on, entries_then, entries_less, other_range, allocator_step_as, allocator_step_then, is_sound_now}
 use Rattle.qcow2_alloc.proofs.Outcomes.{if_no_ok}
 use Rattle.std.specs.Prelude.{◌≢◌}
@@ -47,7 +47,7 @@ search-init g c = record {
   entries = record { cluster = refl; bits = refl; count = refl; others = λ k past. refl; behind = behind_none c.args.self.now.reftable };
   leaks = refl;
   sound = λ p sound. allocator_step_none g.S.Storage.view p c.args.file.now (record c.args.self.now { first_free_cluster = c.max-self.result }) (record { sound = sound.sound; reftable = sound.reftable });
-  hint = λ p sound hint. hint_header g.S.Storage.view p c.args.file.now c.args.self.now (record c.args.self.now { first_free_cluster = c.max-self.result }) sound.sound (λ k some below. let first = c.max-self.ensures in omega (arith, first, some, below)) hint;
+  hint = λ p sound hint. hint_header g.S.Storage.view p c.args.file.now c.args.self.now c.max-self.result sound.sound (λ k some below. let first = c.max-self.ensures in omega (arith, first, some, below)) hint;
 }
 
 pub search-preserved : goal.search-preserved
@@ -78,13 +78,13 @@ search-preserved g c = record {
       let there = is_sound_now g.S.Storage.view p p c.args.file.now c.raise.new.file marked mid in
       let now = is_sound_now g.S.Storage.view p p c.args.file.now c.search.file c.search.self before in
       let is_covered = is_sound_now g.S.Storage.view p p c.args.file.now c.cover_range.new.file c.cover_range.new.self covered in
-      let one = hint_stays g.S.Storage.view p c.search.file c.cover_range.new.file c.search.self c.cover_range.new.self ((c.in_ok-cover_range.ensures.sound p now).gets) c.cover_range.ensures.first (c.search.invariant.hint p sound hint) in
-      let two = hint_stays g.S.Storage.view p c.cover_range.new.file c.raise.new.file c.cover_range.new.self c.raise.new.self taken (ap (λ (t : Allocator). t.first_free_cluster) c.raise.ensures.same) one in
-      let used = (c.in_ok-taken.ensures.sound p false is_covered tt).used (range_as c.cover_range.new.self.reftable c.search.self.first_free_cluster (2 ^ c.rb_bits-bits.result) (counts_per_block c.cover_range.new.file.header.fields)
+      let one = hint_stays g.S.Storage.view p c.search.file c.cover_range.new.file c.search.self c.cover_range.new.self ((c.in_ok-cover_range.ensures.sound p now).gets) c.cover_range.ensures.first.passed (c.search.invariant.hint p sound hint) in
+      let two = hint_stays g.S.Storage.view p c.cover_range.new.file c.raise.new.file c.cover_range.new.self c.raise.new.self taken (passed_same c.cover_range.new.self c.raise.new.self c.raise.ensures.same) one in
+      let used = (c.in_ok-taken.ensures.sound p false is_covered tt).used one (range_as c.cover_range.new.self.reftable c.search.self.first_free_cluster (2 ^ c.rb_bits-bits.result) (counts_per_block c.cover_range.new.file.header.fields)
       (ap (λ h. counts_per_block h.fields) (c.cover_range.ensures.step.header ∙ c.search.invariant.step.header) ∙ c.rb_bits-bits.ensures.counts) c.in_ok-cover_range.ensures.has) c.if-taken.false in
-      let three = hint_more g.S.Storage.view c.raise.new.file c.raise.new.self marked c.search.self.first_free_cluster two (ap (λ (t : Allocator). t.first_free_cluster) c.raise.ensures.same ∙ c.cover_range.ensures.first) refl used in
+      let three = hint_more g.S.Storage.view c.raise.new.file c.raise.new.self c.search.self.first_free_cluster two (ap (λ (t : Allocator). t.first_free_cluster) c.raise.ensures.same ∙ c.cover_range.ensures.first.first) used in
       let passed = c.in_ok-self.ensures.sound p there in
-      hint_passed g.S.Storage.view p c.raise.new.file c.behind_used.new.file marked (record marked { first_free_cluster = c.in_ok-self.field-0 }) (c.search.self.first_free_cluster + 1) c.in_ok-self.field-0 passed.0 passed.1 refl refl three;
+      hint_passed g.S.Storage.view p c.raise.new.file c.behind_used.new.file marked (c.search.self.first_free_cluster + 1) c.in_ok-self.field-0 passed.0 passed.1 refl three;
 }
 
 pub returns-in_err-self-clause-sound : goal.returns-in_err-self-clause-sound
@@ -108,13 +108,13 @@ returns-in_err-self-clause-hint g c = λ p sound hint.
     let there = is_sound_now g.S.Storage.view p p c.args.file.now c.raise.new.file marked mid in
     let now = is_sound_now g.S.Storage.view p p c.args.file.now c.search.file c.search.self before in
     let is_covered = is_sound_now g.S.Storage.view p p c.args.file.now c.cover_range.new.file c.cover_range.new.self covered in
-    let one = hint_stays g.S.Storage.view p c.search.file c.cover_range.new.file c.search.self c.cover_range.new.self ((c.in_ok-cover_range.ensures.sound p now).gets) c.cover_range.ensures.first (c.search.invariant.hint p sound hint) in
-    let two = hint_stays g.S.Storage.view p c.cover_range.new.file c.raise.new.file c.cover_range.new.self c.raise.new.self taken (ap (λ (t : Allocator). t.first_free_cluster) c.raise.ensures.same) one in
-    let used = (c.in_ok-taken.ensures.sound p false is_covered tt).used (range_as c.cover_range.new.self.reftable c.search.self.first_free_cluster (2 ^ c.rb_bits-bits.result) (counts_per_block c.cover_range.new.file.header.fields)
+    let one = hint_stays g.S.Storage.view p c.search.file c.cover_range.new.file c.search.self c.cover_range.new.self ((c.in_ok-cover_range.ensures.sound p now).gets) c.cover_range.ensures.first.passed (c.search.invariant.hint p sound hint) in
+    let two = hint_stays g.S.Storage.view p c.cover_range.new.file c.raise.new.file c.cover_range.new.self c.raise.new.self taken (passed_same c.cover_range.new.self c.raise.new.self c.raise.ensures.same) one in
+    let used = (c.in_ok-taken.ensures.sound p false is_covered tt).used one (range_as c.cover_range.new.self.reftable c.search.self.first_free_cluster (2 ^ c.rb_bits-bits.result) (counts_per_block c.cover_range.new.file.header.fields)
     (ap (λ h. counts_per_block h.fields) (c.cover_range.ensures.step.header ∙ c.search.invariant.step.header) ∙ c.rb_bits-bits.ensures.counts) c.in_ok-cover_range.ensures.has) c.if-taken.false in
-    let three = hint_more g.S.Storage.view c.raise.new.file c.raise.new.self marked c.search.self.first_free_cluster two (ap (λ (t : Allocator). t.first_free_cluster) c.raise.ensures.same ∙ c.cover_range.ensures.first) refl used in
+    let three = hint_more g.S.Storage.view c.raise.new.file c.raise.new.self c.search.self.first_free_cluster two (ap (λ (t : Allocator). t.first_free_cluster) c.raise.ensures.same ∙ c.cover_range.ensures.first.first) used in
     handed_on (KeepsNoFreeBelowHint g.S.Storage.view marked c.behind_used.new.file) c.from_residual-in_err-self.result c.in_err-self.field-0.0 c.from_residual-in_err-self.ensures
-    (hint_refused g.S.Storage.view p c.raise.new.file c.behind_used.new.file marked marked c.in_err-self.field-0.0 refl (c.in_err-self.ensures.sound p there).1 three)
+    (hint_refused g.S.Storage.view p c.raise.new.file c.behind_used.new.file marked marked c.in_err-self.field-0.0 (passed_still marked) (c.in_err-self.ensures.sound p there).1 three)
 
 pub returns-in_err-self-clause-step : goal.returns-in_err-self-clause-step
 returns-in_err-self-clause-step g c = table_step_then (table_step_then (table_step_then c.search.invariant.step c.cover_range.ensures.step) c.raise.ensures.step) c.behind_used.ensures.step
@@ -138,26 +138,26 @@ pub returns-in_err-cover_range-clause-hint : goal.returns-in_err-cover_range-cla
 returns-in_err-cover_range-clause-hint g c = λ p sound hint.
     let now = is_sound_now g.S.Storage.view p p c.args.file.now c.search.file c.search.self (c.search.invariant.sound p sound) in
     handed_on (KeepsNoFreeBelowHint g.S.Storage.view c.cover_range.new.self c.cover_range.new.file) c.from_residual.result c.in_err-cover_range.field-0.0 c.from_residual.ensures
-    (hint_refused g.S.Storage.view p c.search.file c.cover_range.new.file c.search.self c.cover_range.new.self c.in_err-cover_range.field-0.0 c.cover_range.ensures.first ((c.in_err-cover_range.ensures.sound p now).gets) (c.search.invariant.hint p sound hint))
+    (hint_refused g.S.Storage.view p c.search.file c.cover_range.new.file c.search.self c.cover_range.new.self c.in_err-cover_range.field-0.0 c.cover_range.ensures.first.passed ((c.in_err-cover_range.ensures.sound p now).gets) (c.search.invariant.hint p sound hint))
 
 pub returns-in_err-taken-clause-hint : goal.returns-in_err-taken-clause-hint
 returns-in_err-taken-clause-hint g c = λ p sound hint.
     let now = is_sound_now g.S.Storage.view p p c.args.file.now c.search.file c.search.self (c.search.invariant.sound p sound) in
     let covered = (c.in_ok-cover_range.ensures.sound p now).gets in
-    let one = hint_stays g.S.Storage.view p c.search.file c.cover_range.new.file c.search.self c.cover_range.new.self covered c.cover_range.ensures.first (c.search.invariant.hint p sound hint) in
+    let one = hint_stays g.S.Storage.view p c.search.file c.cover_range.new.file c.search.self c.cover_range.new.self covered c.cover_range.ensures.first.passed (c.search.invariant.hint p sound hint) in
     handed_on (KeepsNoFreeBelowHint g.S.Storage.view c.raise.new.self c.raise.new.file) c.from_residual-in_err-taken.result c.in_err-taken.field-0.0 c.from_residual-in_err-taken.ensures
-    (hint_refused g.S.Storage.view p c.cover_range.new.file c.raise.new.file c.cover_range.new.self c.raise.new.self c.in_err-taken.field-0.0 (ap (λ (t : Allocator). t.first_free_cluster) c.raise.ensures.same)
+    (hint_refused g.S.Storage.view p c.cover_range.new.file c.raise.new.file c.cover_range.new.self c.raise.new.self c.in_err-taken.field-0.0 (passed_same c.cover_range.new.self c.raise.new.self c.raise.ensures.same)
     ((c.in_err-taken.ensures.sound p false (is_sound_now g.S.Storage.view p p c.search.file c.cover_range.new.file c.cover_range.new.self covered) tt).takes) one)
 
 pub returns-then-taken-clause-hint : goal.returns-then-taken-clause-hint
 returns-then-taken-clause-hint g c = λ p sound hint.
     let now = is_sound_now g.S.Storage.view p p c.args.file.now c.search.file c.search.self (c.search.invariant.sound p sound) in
     let covered = (c.in_ok-cover_range.ensures.sound p now).gets in
-    let one = hint_stays g.S.Storage.view p c.search.file c.cover_range.new.file c.search.self c.cover_range.new.self covered c.cover_range.ensures.first (c.search.invariant.hint p sound hint) in
+    let one = hint_stays g.S.Storage.view p c.search.file c.cover_range.new.file c.search.self c.cover_range.new.self covered c.cover_range.ensures.first.passed (c.search.invariant.hint p sound hint) in
     let taken = rw c.if-taken.true at ((c.in_ok-taken.ensures.sound p false (is_sound_now g.S.Storage.view p p c.search.file c.cover_range.new.file c.cover_range.new.self covered) tt).takes) in
     let cluster = c.search.self.first_free_cluster in
-    let two = hint_taken g.S.Storage.view p false (one_at cluster) c.cover_range.new.file c.raise.new.file c.cover_range.new.self c.raise.new.self taken (ap (λ (t : Allocator). t.first_free_cluster) c.raise.ensures.same) one in
-    hint_more g.S.Storage.view c.raise.new.file c.raise.new.self (record c.raise.new.self { first_free_cluster = cluster + 1 }) cluster two (ap (λ (t : Allocator). t.first_free_cluster) c.raise.ensures.same ∙ c.cover_range.ensures.first) refl
+    let two = hint_taken g.S.Storage.view p false (one_at cluster) c.cover_range.new.file c.raise.new.file c.cover_range.new.self c.raise.new.self taken (passed_same c.cover_range.new.self c.raise.new.self c.raise.ensures.same) one in
+    hint_more g.S.Storage.view c.raise.new.file c.raise.new.self cluster two (ap (λ (t : Allocator). t.first_free_cluster) c.raise.ensures.same ∙ c.cover_range.ensures.first.first)
     (taken_used g.S.Storage.view p false (one_at cluster) c.cover_range.new.file c.raise.new.file c.raise.new.self cluster taken (let own = one_here cluster in omega (arith, own)))
 
 pub returns-clause-hint : goal.returns-clause-hint

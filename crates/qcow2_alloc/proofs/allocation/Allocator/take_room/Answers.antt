@@ -13,7 +13,7 @@ use Rattle.qcow2_alloc.specs.Rooms.{opened, TakesRoom}
 use Rattle.qcow2_alloc.proofs.FileSteps.{leaves_then}
 use Rattle.qcow2_alloc.proofs.AllocationSteps.{handed_on, allocator_step_none, allocator_step_then, is_sound_now}
 use Rattle.qcow2_alloc.proofs.Runs.{run_after}
-use Rattle.qcow2_alloc.proofs.Hints.{used_stays}
+use Rattle.qcow2_alloc.proofs.Hints.{hint_stays, passed_still, search_after, search_as, search_same, search_then, used_stays}
 use Rattle.qcow2_alloc.proofs.FullRooms.{full_behind, full_passed, full_stays, IsFullBelow}
 use Rattle.qcow2_alloc.proofs.Rooms.{run_of_same, noted_of_same, noted_of_room}
 use Rattle.qcow2_alloc.proofs.Outcomes.{if_no_ok}
@@ -27,7 +27,8 @@ search-init g c = record {
   faults = refl;
   step = table_step_none;
   reftable = refl;
-  first_free = refl;
+  first = search_same c.args.self.now;
+  hint = λ p sound hint. hint;
   low = let first = c.max-first.ensures in omega (arith, first);
   some = let first = c.max-first.ensures in omega (arith, first);
   sound = λ p sound. allocator_step_none g.S.Storage.view p c.args.file.now c.args.self.now sound;
@@ -35,7 +36,7 @@ search-init g c = record {
   full = λ p sound hint start n above below is within.
       let first = c.max-first.ensures in
       let some = c.requires.some in
-      (start, omega arith, omega (arith, is, some), below, hint start (omega (arith, first, above, below)));
+      (start, omega arith, omega (arith, is, some), below, hint start (inl (omega (arith, first, above, below))));
 }
 
 pub search-preserved : goal.search-preserved
@@ -43,9 +44,21 @@ search-preserved g c = record {
   faults = c.in_ok-first.ensures.fails.told ∙ (c.in_ok-leave_run.ensures.fails.told ∙ (c.in_ok-reach.ensures.fails.told ∙ c.search.invariant.faults));
   step = table_step_then (table_step_then (table_step_then c.search.invariant.step c.reach_room.ensures.step) c.leave_run.ensures.step) c.behind_used.ensures.step;
   reftable = c.leave_run.ensures.reftable ∙ ap (λ a. a.reftable) c.reach_room.ensures.same ∙ c.search.invariant.reftable;
-  first_free = c.leave_run.ensures.first ∙ ap (λ a. a.first_free_cluster) c.reach_room.ensures.same ∙ c.search.invariant.first_free;
+  first = search_then c.args.self.now c.search.self c.leave_run.new.self c.search.invariant.first (search_after c.search.self c.reach_room.new.self c.leave_run.new.self c.reach_room.ensures.same c.leave_run.ensures.first);
   low = let low = c.search.invariant.low in let behind = c.in_ok-first.ensures.behind in omega (arith, low, behind);
   some = let behind = c.in_ok-first.ensures.behind in omega (arith, behind);
+  hint = λ p sound hint.
+      let view = g.S.Storage.view in
+      let before = c.search.invariant.sound p sound in
+      let reached = (c.in_ok-reach.ensures.sound p (is_sound_now view p p c.args.file.now c.search.file c.search.self before)).reaches in
+      let t_same : c.search.self.reftable ≡ c.reach_room.new.self.reftable = ap (λ a. a.reftable) (sym c.reach_room.ensures.same) in
+      let same = run_of_same p c.search.file.header.fields c.search.file.header.fields c.search.self.reftable c.reach_room.new.self.reftable c.search.first c.in_ok-reach.reach.taken c.in_ok-reach.reach.taken refl t_same refl in
+      let noted = noted_of_same c.search.file.header.fields c.search.self.reftable c.reach_room.new.self.reftable c.search.first c.in_ok-reach.reach.taken c.reach_room.new.file.caches.is_changed t_same c.in_ok-reach.ensures.reach.noted in
+      let back = ((c.in_ok-leave_run.ensures.sound p c.search.file (sym c.reach_room.ensures.step.header) (subst (λ (r : Pending). UnseenAllocatorStep view p c.search.file c.reach_room.new.self c.reach_room.new.file r) same reached)).gives noted) in
+      let mid = allocator_step_then view p p c.args.file.now c.search.file c.leave_run.new.file c.search.self c.leave_run.new.self before back in
+      let there = is_sound_now view p p c.args.file.now c.leave_run.new.file c.leave_run.new.self mid in
+      hint_stays view p c.leave_run.new.file c.behind_used.new.file c.leave_run.new.self c.leave_run.new.self (c.in_ok-first.ensures.sound p there).0 (passed_still c.leave_run.new.self)
+      (hint_stays view p c.search.file c.leave_run.new.file c.search.self c.leave_run.new.self back (search_after c.search.self c.reach_room.new.self c.leave_run.new.self c.reach_room.ensures.same c.leave_run.ensures.first).passed (c.search.invariant.hint p sound hint));
   sound = λ p sound.
       let view = g.S.Storage.view in
       let before = c.search.invariant.sound p sound in
@@ -87,7 +100,7 @@ search-preserved g c = record {
       (full_behind view c.leave_run.new.file t per c.args.clusters c.args.end first taken
       (λ n le. let lt = c.in_ok-reach.ensures.reach.short c.if-reach-clusters.false n le in let e = opened_same n in omega (arith, lt, e))
       (λ within. (c.in_ok-leave_run.ensures.sound p c.search.file (sym c.reach_room.ensures.step.header) run).kept (first + taken) (run_after first taken (first + taken) (omega arith))
-      ((c.in_ok-reach.ensures.sound p now).stopped c.if-reach-clusters.false within))
+      ((c.in_ok-reach.ensures.sound p now).stopped (c.search.invariant.hint p sound hint) c.if-reach-clusters.false within))
       (full_stays view c.search.file c.leave_run.new.file t per c.args.clusters c.args.end first (λ k used. used_stays view p p c.search.file c.leave_run.new.file c.leave_run.new.self k back (omega arith) used)
       (c.search.invariant.full p sound hint))));
 }
@@ -102,7 +115,7 @@ pub returns-in_err-first-clause-reftable : goal.returns-in_err-first-clause-reft
 returns-in_err-first-clause-reftable g c = c.leave_run.ensures.reftable ∙ ap (λ (a : Allocator). a.reftable) c.reach_room.ensures.same ∙ c.search.invariant.reftable
 
 pub returns-in_err-first-clause-first : goal.returns-in_err-first-clause-first
-returns-in_err-first-clause-first g c = c.leave_run.ensures.first ∙ ap (λ (a : Allocator). a.first_free_cluster) c.reach_room.ensures.same ∙ c.search.invariant.first_free
+returns-in_err-first-clause-first g c = search_then c.args.self.now c.search.self c.leave_run.new.self c.search.invariant.first (search_after c.search.self c.reach_room.new.self c.leave_run.new.self c.reach_room.ensures.same c.leave_run.ensures.first)
 
 pub returns-in_err-reach-clause-step : goal.returns-in_err-reach-clause-step
 returns-in_err-reach-clause-step g c = table_step_then c.search.invariant.step c.reach_room.ensures.step
@@ -120,7 +133,7 @@ pub returns-in_err-reach-clause-reftable : goal.returns-in_err-reach-clause-reft
 returns-in_err-reach-clause-reftable g c = ap (λ (a : Allocator). a.reftable) c.reach_room.ensures.same ∙ c.search.invariant.reftable
 
 pub returns-in_err-reach-clause-first : goal.returns-in_err-reach-clause-first
-returns-in_err-reach-clause-first g c = ap (λ (a : Allocator). a.first_free_cluster) c.reach_room.ensures.same ∙ c.search.invariant.first_free
+returns-in_err-reach-clause-first g c = search_as c.args.self.now c.search.self c.reach_room.new.self c.reach_room.ensures.same c.search.invariant.first
 
 pub returns-then-reach-clusters-clause-step : goal.returns-then-reach-clusters-clause-step
 returns-then-reach-clusters-clause-step g c = table_step_then c.search.invariant.step c.reach_room.ensures.step
@@ -132,13 +145,13 @@ pub returns-then-reach-clusters-clause-reftable : goal.returns-then-reach-cluste
 returns-then-reach-clusters-clause-reftable g c = ap (λ (a : Allocator). a.reftable) c.reach_room.ensures.same ∙ c.search.invariant.reftable
 
 pub returns-then-reach-clusters-clause-first : goal.returns-then-reach-clusters-clause-first
-returns-then-reach-clusters-clause-first g c = ap (λ (a : Allocator). a.first_free_cluster) c.reach_room.ensures.same ∙ c.search.invariant.first_free
+returns-then-reach-clusters-clause-first g c = search_as c.args.self.now c.search.self c.reach_room.new.self c.reach_room.ensures.same c.search.invariant.first
 
 pub returns-in_err-leave_run-clause-reftable : goal.returns-in_err-leave_run-clause-reftable
 returns-in_err-leave_run-clause-reftable g c = c.leave_run.ensures.reftable ∙ ap (λ (a : Allocator). a.reftable) c.reach_room.ensures.same ∙ c.search.invariant.reftable
 
 pub returns-in_err-leave_run-clause-first : goal.returns-in_err-leave_run-clause-first
-returns-in_err-leave_run-clause-first g c = c.leave_run.ensures.first ∙ ap (λ (a : Allocator). a.first_free_cluster) c.reach_room.ensures.same ∙ c.search.invariant.first_free
+returns-in_err-leave_run-clause-first g c = search_then c.args.self.now c.search.self c.leave_run.new.self c.search.invariant.first (search_after c.search.self c.reach_room.new.self c.leave_run.new.self c.reach_room.ensures.same c.leave_run.ensures.first)
 
 pub returns-clause-step : goal.returns-clause-step
 returns-clause-step g c = c.search.invariant.step
@@ -150,7 +163,7 @@ pub returns-clause-reftable : goal.returns-clause-reftable
 returns-clause-reftable g c = c.search.invariant.reftable
 
 pub returns-clause-first : goal.returns-clause-first
-returns-clause-first g c = c.search.invariant.first_free
+returns-clause-first g c = c.search.invariant.first
 
 pub returns-in_err-leave_run-clause-sound : goal.returns-in_err-leave_run-clause-sound
 returns-in_err-leave_run-clause-sound g c = λ p sound.

@@ -4,7 +4,7 @@ use Rattle.qcow2_laws.specs.CrashInvariant.{Pending}
 use Rattle.qcow2_alloc.specs.Allocation.{SameLeaks, UnseenAllocatorStep}
 use Rattle.qcow2_alloc.specs.Faults.{faults_of}
 use Rattle.qcow2_alloc.specs.ImageFile.{AllocatorInvariant}
-use Rattle.qcow2_alloc.specs.LowestRuns.{NoFreeBelowHint}
+use Rattle.qcow2_alloc.specs.LowestRuns.{NoFreeBelowHint, SearchStays}
 use Rattle.qcow2_alloc.proofs.FullRooms.{IsFullBelow}
 use Rattle.qcow2_alloc.specs.Steps.{TableStep}
 use Rattle.qcow2_alloc.proofs.allocation.Allocator.take_room.Given as goal
@@ -15,7 +15,8 @@ invariant-search g l = record {
   faults : faults_of g.S.Storage.view l.file.storage ≡ faults_of g.S.Storage.view l.fn.file.storage;
   step : TableStep g.S.Storage.view l.fn.self.reftable l.fn.file l.self.reftable l.file;
   reftable : l.self.reftable ≡ l.fn.self.reftable;
-  first_free : l.self.first_free_cluster ≡ l.fn.self.first_free_cluster;
+  first : SearchStays l.fn.self l.self;
+  hint : (p : Pending) → AllocatorInvariant g.S.Storage.view l.fn.self p l.fn.file → NoFreeBelowHint g.S.Storage.view l.fn.self l.fn.file → NoFreeBelowHint g.S.Storage.view l.self l.file;
   low : l.fn.self.first_free_cluster ≤ l.first;
   some : 0 < l.first;
   sound : (p : Pending) → AllocatorInvariant g.S.Storage.view l.fn.self p l.fn.file → UnseenAllocatorStep g.S.Storage.view p l.fn.file l.self l.file p;

@@ -63,7 +63,7 @@ module _ {S : Type 0} (view : S → StorageView) (p : Pending) (d : Bool) (a b c
     takes = subst (λ (r : Pending). RefusedGrowth view p a t' c r e) (ap (pending_then p a.free_list) (sym list)) gives.1;
     leaks = leaks ∙ so.leaks;
     uses = kept_then view (run_at first n) a b c e (λ k used. no_more (run_at first n k) (λ some. so.free k some used)) so.uses kept;
-    used = tt;
+    used = λ hint. tt;
     hint = λ h. hint (so.hint h);
     limit = λ h few. inl gives.0;
   }
@@ -196,7 +196,7 @@ returns-in-Ok-false-clause-sound g c = λ p d sound may.
       );
       leaks = back.leaks r d now ∙ there.leaks;
       uses = λ k used. back.kept r d now k (no_more (run_at first n k) (λ some. so.free k some used)) (there.uses k used);
-      used = λ _. back.kept r d now (first + n) (run_after first n (first + n) (omega arith)) (takes.used c.in-Ok-false.field-0-test);
+      used = λ hint _. back.kept r d now (first + n) (run_after first n (first + n) (omega arith)) (takes.used (so.hint hint) c.in-Ok-false.field-0-test);
       hint = λ hint. back.hint r d now (there.hint hint);
       limit = λ hint few. tt;
     }
@@ -250,7 +250,7 @@ returns-in-Err-clause-sound g c = λ p d sound may.
             takes = inl (subst (λ (r : Pending). UnseenAllocatorGrowth view p a t' left r) (ap (pending_then p a.free_list) (sym w.give_back-then-not-is_fault.ensures.step.list)) (back.sound p r d a (λ k some. some) there.taken noted));
             leaks = back.leaks r d now ∙ there.leaks;
             uses = inl (λ k used. back.kept r d now k (no_more (run_at first n k) (λ some. so.free k some used)) (there.uses k used));
-            used = tt;
+            used = λ hint. tt;
             hint = λ hint. inl (back.hint r d now (there.hint hint));
             limit = λ hint near.
                 let lt = c.taking-test.true in
@@ -264,7 +264,7 @@ returns-in-Err-clause-sound g c = λ p d sound may.
             takes = ends_run view d p first n a b file c.taking.self t c.in-Err.refusal c.taking.invariant.step.list c.take.ensures.step.list so.taken noted (c.is_fault.ensures.0 w.if-not-is_fault.false) takes.takes;
             leaks = takes.leaks ∙ so.leaks;
             uses = elim takes.uses [ inl kept ↦ inl (λ k used. kept k (so.uses k used)) | inr interruption ↦ inr interruption ];
-            used = tt;
+            used = λ hint. tt;
             hint = λ hint. takes.hint (so.hint hint);
             limit = λ hint near. inl (c.is_fault.ensures.0 w.if-not-is_fault.false);
           })
@@ -281,7 +281,7 @@ returns-clause-sound g c = λ p d sound may.
       );
       leaks = so.leaks;
       uses = so.uses;
-      used = λ other. absurd (other refl);
+      used = λ hint other. absurd (other refl);
       hint = so.hint;
       limit = λ hint few. tt;
     }

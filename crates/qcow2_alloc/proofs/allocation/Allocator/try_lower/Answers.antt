@@ -4,7 +4,7 @@ use Rattle.qcow2_laws.specs.Changes.{one_at}
 use Rattle.qcow2_alloc.specs.Allocation.{owed_as, LowersOne}
 use Rattle.qcow2_alloc.specs.LowestRuns.{KeepsNoFreeBelowHint}
 use Rattle.qcow2_alloc.specs.ImageFile.{contents_in, known_in}
-use Rattle.qcow2_alloc.proofs.Hints.{hint_lowered, is_zero, lowered_so, stands_still, hint_refused}
+use Rattle.qcow2_alloc.proofs.Hints.{hint_lowered, is_zero, lowered_so, passed_still, stands_still, hint_refused}
 use Rattle.qcow2_alloc.proofs.AllocationSteps.{handed_on, of_equal, allocator_step_as, may_lower_still, counted_at, given_one, owed_counted, owed_has_block}
 use Rattle.qcow2_metadata.specs.Header.{counts_per_block}
 use Rattle.qcow2_alloc.proofs.Leaks.{tried}
@@ -40,7 +40,7 @@ returns-clause-sound g c = λ p owed sound may.
 pub returns-in_err-block-clause-hint : goal.returns-in_err-block-clause-hint
 returns-in_err-block-clause-hint g c = λ p owed sound may hint.
     handed_on (KeepsNoFreeBelowHint g.S.Storage.view c.args.self.now c.load_block.new.file) c.from_residual.result c.in_err-block.field-0.0 c.from_residual.ensures
-    (hint_refused g.S.Storage.view (owed_as owed p (one_at c.args.cluster)) c.args.file.now c.load_block.new.file c.args.self.now c.args.self.now c.in_err-block.field-0.0 refl (c.in_err-block.ensures.sound (owed_as owed p (one_at c.args.cluster)) sound).1 hint)
+    (hint_refused g.S.Storage.view (owed_as owed p (one_at c.args.cluster)) c.args.file.now c.load_block.new.file c.args.self.now c.args.self.now c.in_err-block.field-0.0 (passed_still c.args.self.now) (c.in_err-block.ensures.sound (owed_as owed p (one_at c.args.cluster)) sound).1 hint)
 
 pub returns-in_default-clause-hint : goal.returns-in_default-clause-hint
 returns-in_default-clause-hint g c = λ p owed sound may hint. absurd (returns-in_default-clause-sound g c p owed sound may)
@@ -55,7 +55,7 @@ returns-clause-hint g c = λ p owed sound may hint.
     let now = lowered_so g.S.Storage.view (owed_as owed p (one_at c.args.cluster)) p c.args.file.now file c.note_lowered.new.self c.rb_decrement-lowered.result lowered (returns-clause-sound g c p owed sound may) in
     let stands = stands_still g.S.Storage.view (owed_as owed p (one_at c.args.cluster)) p c.load_block.new.file c.rb_decrement-lowered.new.self (c.args.cluster / 2 ^ c.rb_bits-bits.result) c.in-Some.block l.0.file_step.sound now.file_step.sound (c.rb_decrement-lowered.ensures.cached lowered) l.1 in
     let at_now = counted_at g.S.Storage.view file c.args.file.now.header.fields (ap (λ x. x.fields) c.load_block.ensures.step.header) c.args.cluster _ c.in-Some.block c.rb_index-index.result c.rb_bits-bits.result stands c.rb_bits-bits.ensures.counts refl (c.rb_index-index.ensures.value ∙ ap (λ n. n % 2 ^ c.rb_bits-bits.result) c.new.ensures) in
-    hint_lowered g.S.Storage.view owed p c.args.cluster c.args.file.now file c.args.self.now c.note_lowered.new.self now c.note_lowered.ensures.first
+    hint_lowered g.S.Storage.view owed p c.args.cluster c.args.file.now file c.args.self.now c.note_lowered.new.self now c.note_lowered.ensures.passed
     (λ zero. c.note_lowered.ensures.free (c.rb_is_zero.ensures file.header.fields p (contents_in g.S.Storage.view file) c.args.cluster now.file_step.sound.caches at_now (c.rb_decrement-lowered.ensures.cached lowered) ∙ is_zero (count file.header.fields (known_in g.S.Storage.view file) c.args.cluster) zero)) hint
 
 pub returns-clause-tries : goal.returns-clause-tries
