@@ -1,5 +1,5 @@
 -- What each of the calls does that clear the whole clusters of a range: one contract, whatever stands for a cluster once it is cleared.
-use Rattle.std.specs.Prelude.{◌+◌, ℕ, ◌≡◌, ◌<◌, ◌≤◌, List, Option, None, Result, Ok, Err, IfErr, IfOk, IfSome, OnOk}
+use Rattle.std.specs.Prelude.{◌+◌, ℕ, ◌≡◌, ◌<◌, ◌≤◌, List, [], Option, None, Result, Ok, Err, IfErr, IfOk, IfSome, OnOk}
 use Rattle.image_access.specs.Backing.{BackingView}
 use Rattle.image_access.specs.Moments.{StorageView}
 use Rattle.qcow2_metadata.specs.Header.{cluster_size}
@@ -61,7 +61,7 @@ module _ {S F : Type 0} (view : S → StorageView) (backing : F → BackingView)
       pub under : may_clear → touches_some → (out : List (Option Prepared)) → (abstract_of view backing old out).is_sound
           → IfErr result (λ e. e ≡ TablePrepared → IsUnderMapping old.file.header.fields (from_in old offset n) out) × IfOk result (λ range. IsUnderMapping old.file.header.fields (from_in old offset n) out → ⊥)
       pub freed : may_clear → touches_some → (out : List (Option Prepared)) → (abstract_of view backing old out).is_sound → IfErr result (FreesRefused new)
-      pub limit : may_clear → touches_some → (out : List (Option Prepared)) → (abstract_of view backing old out).is_sound → IfLimit result (IsLimited view backing (from_in old offset n + 1) old)
+      pub limit : may_clear → touches_some → (out : List (Option Prepared)) → (abstract_of view backing old out).is_sound → IfLimit result (IsLimited view backing [] (from_in old offset n + 1) old out)
 
     -- It answers how much of the range was cleared, and changes nothing where no cluster is whole. On a sound image the guest sees the whole clusters cleared, which is noted, and nothing is left to be freed.
     pub record ClearsSoundly : Type 0 where

@@ -33,14 +33,14 @@ use Rattle.qcow2_image.specs.BehindHeader.{LiesBehindHeader}
 use Rattle.qcow2_image.specs.Opened.{NeedsAnother, Opens}
 use Rattle.qcow2_image.specs.Readable.{IsNewlyOpened, OpeningStep, files_missing}
 use Rattle.qcow2_image.specs.declared.opening.Qcow2OpenBuilder.{Qcow2OpenBuilder}
-use Rattle.qcow2_image.specs.Growing.{FitsSize, GrowsDisk, SameFormat, ReachesSize}
+use Rattle.qcow2_image.specs.Growing.{FitsSize, GrowsDisk, LeavesSound, SameFormat, ReachesSize}
 use Rattle.qcow2_image.specs.declared.builder.NoBacking.{NoBacking}
 use Rattle.qcow2_image.specs.declared.builder.Qcow2CreateBuilder.{Qcow2CreateBuilder}
 use Rattle.qcow2_image.specs.declared.image.Qcow2.{Qcow2}
-use Rattle.qcow2_image.specs.Image.{HasNothingToFree, size_of}
+use Rattle.qcow2_image.specs.Image.{HasNothingToFree, size_of, storage_of_image}
 use Rattle.qcow2_image.specs.ImageInvariant.{IsHonestBacking, abstract_of}
 use Rattle.qcow2_image.specs.Limits.{IsLimited}
-use Rattle.qcow2_image.specs.Resizing.{GrowsTables, GrowsTo, IsResized, refuses_to_resize, size_after}
+use Rattle.qcow2_image.specs.Resizing.{GrowsTables, GrowsTo, IsResized, all_given_by_grow, refuses_to_resize, size_after}
 
 -- the first eight bytes are the magic, and version 2 or 3
 abbrev pub begins_image : Bytes → Bool
@@ -96,25 +96,28 @@ pub record StaysCreating (mode : PreallocateMode) (n : ℕ) (old new : StorageVi
 abbrev pub longest_disk : ℕ → ℕ
 longest_disk size = 4194304 * (size / 8) * size
 
--- An image with these contents was opened, and nothing was to be freed then. Making its disk larger met a limit.
-pub record CantEnlarge {S F : Type 0} (view : S → StorageView) (backing : F → BackingView) (size : ℕ) (contents : List ℕ) : Type 0 where
+-- An image with these contents was opened, and nothing was to be freed then. Making its disk larger in a mode met a limit. An image is left on the storage that is handed back, which is sound still. Each surplus is as before, and no cluster was leaked.
+pub record CantEnlarge {S F : Type 0} (view : S → StorageView) (backing : F → BackingView) (mode : PreallocateMode) (size : ℕ) (contents : List ℕ) (storage : S) : Type 0 where
   pub opened : Qcow2 S F
   pub is_opened : IsOpened (abstract_of view backing opened [])
   pub stands : (view_in view opened.file).contents ≡ contents
   pub emptied : HasNothingToFree opened
-  pub limit : IsLimited view backing (rounded_up (cluster_size opened.file.header.fields) size) opened
+  pub limit : IsLimited view backing (all_given_by_grow view backing opened size mode) (rounded_up (cluster_size opened.file.header.fields) size) opened []
+  pub left : Qcow2 S F
+  pub is_left : storage_of_image left ≡ storage
+  pub leaves : LeavesSound view backing opened left
 
 -- the disk below where there is none
 abbrev pub none_below : NoBacking → BackingView
 none_below below = record { bytes = []; faults = 0; is_honest = Unit {0} }
 
 -- a new image was written, with the clusters and counts that were asked for, and its disk can't be made larger
-pub record LacksPlaceCreating {S : Type 0} (view : S → StorageView) (builder : Qcow2CreateBuilder S) : Type 0 where
+pub record LacksPlaceCreating {S : Type 0} (view : S → StorageView) (builder : Qcow2CreateBuilder S) (storage : S) : Type 0 where
   pub contents : List ℕ
   pub new_image : IsNewImage (header (byte_at contents)) (byte_at contents)
   pub clusters : cluster_size (header (byte_at contents)) ≡ builder.cluster_size
   pub counts : count_width (header (byte_at contents)) ≡ builder.refcount_width
-  pub lacks : CantEnlarge view none_below builder.size contents
+  pub lacks : CantEnlarge view none_below builder.preallocate builder.size contents storage
 
 -- the header that stands in these contents gives these names, or none
 pub record GivesNames (backing format data_file : Option (List ℕ)) (contents : List ℕ) : Type 0 where
@@ -167,13 +170,13 @@ module _ {S : Type 0} where
   IsReasonAgainst builder e = ⊥
 
   -- Why an image isn't created: 5 only for an option that images don't have. 6 only for a mode that takes clusters over a backing file. 13 only for a disk that is too long, or where a place lacks for it. And else for want of memory or a fault of the storage.
-  abbrev pub IsReasonNotToCreate : (S → StorageView) → Qcow2CreateBuilder S → ImageError → Type 0
-  IsReasonNotToCreate view builder I.InvalidOption = ¬ IsAllowed builder
-  IsReasonNotToCreate view builder I.Preallocation = IsTrue (allocates_over builder)
-  IsReasonNotToCreate view builder I.Limit = (longest_disk builder.cluster_size < builder.size) ⊎ LacksPlaceCreating view builder
-  IsReasonNotToCreate view builder I.Memory = Unit {0}
-  IsReasonNotToCreate view builder I.Storage = Unit {0}
-  IsReasonNotToCreate view builder e = ⊥
+  abbrev pub IsReasonNotToCreate : (S → StorageView) → Qcow2CreateBuilder S → S → ImageError → Type 0
+  IsReasonNotToCreate view builder storage I.InvalidOption = ¬ IsAllowed builder
+  IsReasonNotToCreate view builder storage I.Preallocation = IsTrue (allocates_over builder)
+  IsReasonNotToCreate view builder storage I.Limit = (longest_disk builder.cluster_size < builder.size) ⊎ LacksPlaceCreating view builder storage
+  IsReasonNotToCreate view builder storage I.Memory = Unit {0}
+  IsReasonNotToCreate view builder storage I.Storage = Unit {0}
+  IsReasonNotToCreate view builder storage e = ⊥
 
   -- the image that was asked for stands on an honest storage
   pub record IsCreated (builder : Qcow2CreateBuilder S) (storage : StorageView) : Type 0 where
@@ -195,7 +198,7 @@ module _ {S : Type 0} where
 
   -- Why it isn't created and opened: it isn't created, or a created one is refused as it is opened, for want of memory or a fault of the storage.
   abbrev pub IsReasonNotToCreateOpen : (S → StorageView) → Qcow2CreateBuilder S → S × ImageError → Type 0
-  IsReasonNotToCreateOpen view builder refused = IsReasonNotToCreate view builder refused.1
+  IsReasonNotToCreateOpen view builder refused = IsReasonNotToCreate view builder refused.0 refused.1
 
 -- ---- an image that is made and opened
 
@@ -207,6 +210,8 @@ module _ {S F : Type 0} (view : S → StorageView) (backing : F → BackingView)
     pub opener : Qcow2OpenBuilder S F
     pub answered : answers storage (Ok opener)
     pub created : IsCreated builder (view storage)
+    pub stops : StopsCreating builder.preallocate builder.size (view builder.image) (view storage)
+    pub faults : (view storage).faults ≡ (view builder.image).faults
     pub new : IsNewlyOpened (view opener.image) true opener.number image
     pub over : image.backing ≡ option_flatten opener.backing
     pub step : OpeningStep view (view opener.image) true (files_missing opener.backing) (Ok image)
@@ -218,7 +223,7 @@ module _ {S F : Type 0} (view : S → StorageView) (backing : F → BackingView)
 module _ {S : Type 0} (view : S → StorageView) (builder : Qcow2CreateBuilder S) where
   -- no image was made, for one of its reasons, and a stop on the way leaves what a stop of creating may
   pub record IsMadeNoImage (storage : S) (e : ImageError) : Type 0 where
-    pub reason : IsReasonNotToCreate view builder e
+    pub reason : IsReasonNotToCreate view builder storage e
     pub stops : StopsCreating builder.preallocate builder.size (view builder.image) (view storage)
     pub faults : FaultsTold {T = Unit {0}} (view builder.image).faults (view storage).faults (Err e)
 
@@ -228,7 +233,17 @@ module _ {S : Type 0} (view : S → StorageView) (builder : Qcow2CreateBuilder S
     pub opener : Qcow2OpenBuilder S F
     pub answered : answers made (Ok opener)
     pub created : IsCreated builder (view made)
+    pub stops : StopsCreating builder.preallocate builder.size (view builder.image) (view made)
+    pub faults : (view made).faults ≡ (view builder.image).faults
     pub step : OpeningStep {F = F} view (view opener.image) true (files_missing opener.backing) (Err (storage, e))
+
+  -- it was made, and the closure refused its storage
+  pub record IsMadeClosed {F : Type 0} (answers : S → Result (Qcow2OpenBuilder S F) ImageError → Type 0) (e : ImageError) : Type 0 where
+    pub made : S
+    pub answered : answers made (Err e)
+    pub faults : (view made).faults ≡ (view builder.image).faults
+    pub created : (view builder.image).is_honest → IsCreated builder (view made)
+    pub stops : (view builder.image).is_honest → StopsCreating builder.preallocate builder.size (view builder.image) (view made)
 
 -- ---- its parts
 

@@ -15,7 +15,7 @@ use Rattle.qcow2_alloc.specs.declared.error.ImageError.{ImageError}
 use Rattle.qcow2_alloc.specs.ImageFile.{view_in, known_in, state_in, nothing_given}
 use Rattle.qcow2_image.specs.declared.image.Qcow2.{Qcow2}
 use Rattle.qcow2_image.specs.Found.{l1_index_of}
-use Rattle.qcow2_image.specs.Image.{is_writable, size_of}
+use Rattle.qcow2_image.specs.Image.{is_writable, leaked_in, size_of}
 use Rattle.qcow2_image.specs.MovedTables.{CoversStay}
 use Rattle.qcow2_image.specs.UnseenSteps.{pending_with_listed}
 use Rattle.qcow2_image.specs.ImageInvariant.{ImageInvariant, abstract_of, pending_in}
@@ -62,6 +62,11 @@ module _ {S F : Type 0} (view : S → StorageView) where
       pub sound : (abstract_of view backing new []).is_sound
       pub writable : is_writable new ≡ is_writable old
       pub surplus : (abstract_of view backing new []).surplus ≡ (abstract_of view backing old []).surplus
+
+    -- So a refused call leaves it, and it leaked no cluster.
+    pub record LeavesSound (old new : Qcow2 S F) : Type 0 where
+      pub keeps : KeepsSurplus old new
+      pub leaks : leaked_in new ≡ leaked_in old
 
     -- What is listed is freed, and all tables are written. What is listed then is pending still, and the same stands for each guest cluster.
     abbrev pub WritesBack : Pending → Qcow2 S F → Qcow2 S F → Result (Unit {0}) ImageError → Type 0

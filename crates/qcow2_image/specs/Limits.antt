@@ -1,11 +1,13 @@
 -- Why a call on a sound image is refused for a limit, 13: at a state within the call clusters that it needs have no place, or an L1 table would be too long.
-use Rattle.std.specs.Prelude.{ℕ, ◌+◌, ◌-◌, ◌*◌, ◌/◌, ◌^◌, ◌<◌, ◌≤◌, ◌≡◌, ◌⊎◌, max, List, Option, Some, Result, IfErr}
+use Rattle.std.specs.Prelude.{ℕ, ◌+◌, ◌-◌, ◌*◌, ◌/◌, ◌^◌, ◌<◌, ◌≤◌, ◌≡◌, ◌⊎◌, max, List, [], length, Option, Some, Result, IfErr}
 use Rattle.image_access.specs.Backing.{BackingView}
 use Rattle.image_access.specs.Moments.{StorageView}
 use Rattle.qcow2_metadata.specs.declared.header.HeaderFields.{HeaderFields}
 use Rattle.qcow2_metadata.specs.EntryTable.{entry_count}
 use Rattle.qcow2_metadata.specs.Header.{cluster_size, counts_per_block}
 use Rattle.qcow2_laws.specs.CrashInvariant.{Pending}
+use Rattle.qcow2_disk.specs.Calls.{EffectOnSound}
+use Rattle.qcow2_disk.specs.Stops.{GivenBytes}
 use Rattle.qcow2_alloc.specs.Limits.{CantCount, HasNoPlace}
 use Rattle.qcow2_alloc.specs.LowestRuns.{IsUsed}
 use Rattle.qcow2_alloc.specs.declared.allocation.Allocator.{Allocator}
@@ -14,7 +16,8 @@ use Rattle.qcow2_alloc.specs.declared.error.ImageError.TheVariants.{Limit}
 use Rattle.qcow2_image.specs.BehindHeader.{StaysBehindHeader}
 use Rattle.qcow2_image.specs.Found.{l1_index_of}
 use Rattle.qcow2_image.specs.Image.{IsSameImage}
-use Rattle.qcow2_image.specs.ImageInvariant.{ImageInvariant}
+use Rattle.qcow2_image.specs.ImageInvariant.{abstract_of}
+use Rattle.qcow2_image.specs.UnseenSteps.{UnseenFillingStep, UnseenStep, pending_with_listed}
 use Rattle.qcow2_image.specs.declared.image.Qcow2.{Qcow2}
 use Rattle.qcow2_image.specs.declared.prepared.Prepared.{Prepared}
 
@@ -44,13 +47,39 @@ module _ {S F : Type 0} where
       pub image : IsSameImage old mid
       pub header_cluster : StaysBehindHeader view old mid
 
-    -- A call that needs guest offsets below an end met a limit: at a sound state that it went to, clusters have no place, or an L1 table with an entry for such an offset is too long.
-    pub record IsLimited (backing : F → BackingView) (end : ℕ) (old : Qcow2 S F) : Type 0 where
+    -- A part of a call met a limit at a state that keeps what a part has to keep: clusters have no place, or an L1 table with an entry for an offset below an end is too long.
+    pub record IsLimitedIn (Keeps : Qcow2 S F → Type 0) (end : ℕ) (old : Qcow2 S F) : Type 0 where
       pub mid : Qcow2 S F
       pub before : GoesTo old mid
-      pub pending : Pending
-      pub out : List (Option Prepared)
-      pub sound : ImageInvariant view backing pending mid out
+      pub kept : Keeps mid
       pub offset : ℕ
       pub below : offset < end
       pub limit : (4194304 ≤ l1_index_of mid.file.header.fields offset) ⊎ LacksPlace offset mid
+
+    module _ (backing : F → BackingView) where
+      -- So did one that a guest doesn't see. Of what was pending only the clusters to be freed are more, also where it takes a cluster for data.
+      abbrev pub IsLimitedUnseen : Pending → ℕ → Qcow2 S F → List (Option Prepared) → Type 0
+      IsLimitedUnseen p end old out = IsLimitedIn (λ mid. UnseenStep view backing p (pending_with_listed p old mid) old mid out) end old
+
+      abbrev pub IsLimitedTaking : Pending → ℕ → Qcow2 S F → List (Option Prepared) → Type 0
+      IsLimitedTaking p end old out = IsLimitedIn (λ mid. UnseenFillingStep view backing p (pending_with_listed p old mid) old mid out) end old
+
+      -- A call met one at a sound state that it led to, with so many places for mappings at most. It is the same image, with clusters of the same size and each surplus as at the call, and no cluster was leaked. What stands for each guest cluster of which no such byte was given is as at the call.
+      pub record IsLimitedWith (most : ℕ) (given : List GivenBytes) (end : ℕ) (old : Qcow2 S F) (out : List (Option Prepared)) : Type 0 where
+        pub mid : Qcow2 S F
+        pub now : List (Option Prepared)
+        pub before : GoesTo old mid
+        pub few : length now ≤ most
+        pub works : EffectOnSound (abstract_of view backing old out) (abstract_of view backing mid now) given []
+        pub sound : (abstract_of view backing mid now).is_sound
+        pub offset : ℕ
+        pub below : offset < end
+        pub limit : (4194304 ≤ l1_index_of mid.file.header.fields offset) ⊎ LacksPlace offset mid
+
+      -- so it did with the mappings that are out
+      abbrev pub IsLimitedAmong : List GivenBytes → ℕ → Qcow2 S F → List (Option Prepared) → Type 0
+      IsLimitedAmong given end old out = IsLimitedWith (length out) given end old out
+
+      -- or with at most one more, which it was making
+      abbrev pub IsLimited : List GivenBytes → ℕ → Qcow2 S F → List (Option Prepared) → Type 0
+      IsLimited given end old out = IsLimitedWith (length out + 1) given end old out

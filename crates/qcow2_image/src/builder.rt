@@ -17,9 +17,9 @@ ghost use Rattle.qcow2_laws.specs.NewImages.{IsNewImage};
 ghost use Rattle.qcow2_image.specs.Image.{is_writable};
 ghost use Rattle.qcow2_alloc.specs.ImageError.{IsFault};
 ghost use Rattle.qcow2_image.specs.Refusals.{IsFaultOrLimit, MarksFailed};
-ghost use Rattle.qcow2_image.specs.Resizing.{boundary_in, refuses_to_resize};
+ghost use Rattle.qcow2_image.specs.Resizing.{all_given_by_grow, boundary_in, refuses_to_resize};
 ghost use Rattle.qcow2_image.specs.ImageInvariant.{abstract_of};
-ghost use Rattle.qcow2_image.specs.Growing.{KeepsSurplus};
+ghost use Rattle.qcow2_image.specs.Growing.{KeepsSurplus, LeavesSound};
 ghost use Rattle.qcow2_laws.specs.Opened.{HasNoLeaks};
 ghost use Rattle.qcow2_image.specs.Created.{longest_disk, IsUnmapped, IsUnwritten, IsNewHeader, CountsThree, NamesOne};
 ghost use Rattle.qcow2_image.specs.Created.{WritesThree, CantEnlarge, Enlarges, GrowsBy};
@@ -97,7 +97,8 @@ fn has_l1_entries(cluster_bits: u32, size: u64) -> bool
 impl<S: Storage> Qcow2CreateBuilder<S> {
     ghost use Rattle.std.specs.Prelude.{Err};
     ghost use Rattle.qcow2_alloc.specs.declared.error.ImageError.TheVariants.{InvalidOption, Preallocation};
-    ghost use Rattle.qcow2_image.specs.Created.{HasLogarithms, IsAllowed, IsCreated, IsMadeNoImage, IsMadeOpen, IsMadeUnopened};
+    ghost use Rattle.qcow2_image.specs.Created.{HasLogarithms, IsAllowed, IsCreated, IsMadeClosed, IsMadeNoImage};
+    ghost use Rattle.qcow2_image.specs.Created.{IsMadeOpen, IsMadeUnopened};
     ghost use Rattle.qcow2_image.specs.Created.{IsReasonAgainst, IsReasonNotToCreate, StopsCreating, allocates_over};
     ghost use Rattle.std.specs.Prelude.{None, Some, false, true};
 
@@ -233,7 +234,7 @@ impl<S: Storage> Qcow2CreateBuilder<S> {
         ensures over { IsAllowed self → IsTrue (allocates_over self) → (result.1 ≡ Err Preallocation) × (result.0 ≡ self.image) }
         ensures limit { IsAllowed self → allocates_over self ≡ false → longest_disk self.cluster_size < self.size
             → (result.1 ≡ Err Limit) × (result.0 ≡ self.image) }
-        ensures cause { (S.view self.image).is_honest → IfErr result.1 (IsReasonNotToCreate S.view self) }
+        ensures cause { (S.view self.image).is_honest → IfErr result.1 (IsReasonNotToCreate S.view self result.0) }
         ensures faults { FaultsTold (S.view self.image).faults (S.view result.0).faults result.1 }
     {
         let checked = self.check();
@@ -271,7 +272,8 @@ impl<S: Storage> Qcow2CreateBuilder<S> {
         ensures over { IsAllowed self → IsTrue (allocates_over self) → result ≡ Err (Some self.image, Preallocation) }
         ensures limit { IsAllowed self → allocates_over self ≡ false → longest_disk self.cluster_size < self.size
             → result ≡ Err (Some self.image, Limit) }
-        ensures closed { IfErr result (λ refused. IsNone refused.0 → (storage : S) × C.post builder storage (Err refused.1)) }
+        ensures closed { IfErr result (λ refused. IsNone refused.0
+            → IsMadeClosed S.view self (λ made answer. C.post builder made answer) refused.1) }
         ensures cause { (S.view self.image).is_honest → IfErr result (λ refused. IfSome refused.0 (λ storage.
             IsMadeNoImage S.view self storage refused.1
             ⊎ IsMadeUnopened S.view self (λ made answer. C.post builder made answer) storage refused.1)) }
@@ -402,7 +404,7 @@ fn grow_new_image<S: Storage, F: WrappedFormat<S>>(
         → IsNewImage (header_at (byte_at (S.view (storage_of storage)).contents))
         (byte_at (S.view (storage_of storage)).contents)
         → (header_at (byte_at (S.view (storage_of storage)).contents)).autoclear ≡ 0
-        → IfLimit result.1 (CantEnlarge S.view F.backing size (S.view (storage_of storage)).contents) }
+        → IfLimit result.1 (CantEnlarge S.view F.backing mode size (S.view (storage_of storage)).contents result.0) }
     ensures faults { ((below : F) → (F.backing below).faults ≡ 0)
         → FaultsTold (S.view (storage_of storage)).faults (S.view result.0).faults result.1 }
 {
@@ -430,7 +432,9 @@ fn grow_and_flush<S: Storage, F: WrappedFormat<S>>(
         → is_some image.old.backing ≡ false → (abstract_of S.view F.backing image.old []).is_sound
         → IsUnmapped S.view image.old → IfErr result IsFaultOrLimit }
     ensures limit { refuses_to_resize image.old ≡ None → (abstract_of S.view F.backing image.old []).is_sound
-        → IfLimit result (IsLimited S.view F.backing (boundary_in image.old size) image.old) }
+        → IfLimit result (IsLimited S.view F.backing
+        (all_given_by_grow S.view F.backing image.old size mode) (boundary_in image.old size) image.old []
+        × LeavesSound S.view F.backing image.old image.new) }
     ensures faults { CountsImageFaults S.view F.backing image.old image.new result }
 {
     grow_by(image, size, mode)?;
@@ -450,7 +454,9 @@ fn grow_by<S: Storage, F: WrappedFormat<S>>(
         → is_some image.old.backing ≡ false → (abstract_of S.view F.backing image.old []).is_sound
         → IsUnmapped S.view image.old → IfErr result IsFaultOrLimit }
     ensures limit { refuses_to_resize image.old ≡ None → (abstract_of S.view F.backing image.old []).is_sound
-        → IfLimit result (IsLimited S.view F.backing (boundary_in image.old size) image.old) }
+        → IfLimit result (IsLimited S.view F.backing
+        (all_given_by_grow S.view F.backing image.old size mode) (boundary_in image.old size) image.old []
+        × LeavesSound S.view F.backing image.old image.new) }
     ensures marks { MarksFailed image.old image.new result }
     ensures faults { CountsImageFaults S.view F.backing image.old image.new result }
 {

@@ -2,7 +2,7 @@
 ghost use Rattle.qcow2_image.specs.Limits.{IfLimit, IsLimited};
 ghost use Rattle.std.specs.Prelude.{ℕ, List, Option, ◌≡◌, ◌+◌, ◌-◌, ◌/◌, ◌%◌, ◌^◌, ◌<◌, ◌≤◌, ◌++◌, true, false, Some};
 ghost use Rattle.std.specs.Prelude.{None, Ok, Err, IfOk, IfErr, IfSome, OnOk, IsSome, IsTrue, MatchOption};
-ghost use Rattle.std.specs.Prelude.{if◌then◌else◌};
+ghost use Rattle.std.specs.Prelude.{[], if◌then◌else◌};
 ghost use Rattle.qcow2_image.specs.Found.{l1_index_of};
 ghost use Rattle.qcow2_metadata.specs.EntryTable.{entry_count};
 ghost use Rattle.qcow2_image.specs.MetAlone.{KeepsL1Place};
@@ -272,7 +272,7 @@ impl<S: Storage, F: WrappedFormat<S>> Qcow2<S, F> {
         ensures limit { (out : List (Option Prepared))
             → ImageInvariant S.view F.backing (pending_in S.view F.backing self.old out) self.old out
             → IsClearable self.old.file.header.fields how from to
-            → IfLimit result (IsLimited S.view F.backing (from + 1) self.old) }
+            → IfLimit result (IsLimited S.view F.backing [] (from + 1) self.old out) }
         ensures lacks { LacksBetween S.view F.backing how from to self.old self.new result }
         ensures clears { ClearsBetween S.view F.backing how from to self.old self.new result }
         ensures taken { RefusedUnder S.view F.backing from self.old result }
@@ -298,7 +298,7 @@ impl<S: Storage, F: WrappedFormat<S>> Qcow2<S, F> {
         ensures limit { (out : List (Option Prepared))
             → ImageInvariant S.view F.backing (pending_in S.view F.backing self.old out) self.old out
             → IsClearable self.old.file.header.fields how from to
-            → IfLimit result (IsLimited S.view F.backing (from + 1) self.old) }
+            → IfLimit result (IsLimited S.view F.backing [] (from + 1) self.old out) }
         ensures lacks { LacksBetween S.view F.backing how from to self.old self.new result }
         ensures clears { ClearsBetween S.view F.backing how from to self.old self.new result }
         ensures taken { RefusedUnder S.view F.backing from self.old result }

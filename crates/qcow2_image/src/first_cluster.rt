@@ -1,5 +1,5 @@
 //! The first cluster of a prepared range.
-ghost use Rattle.qcow2_image.specs.Limits.{IfLimit, IsLimited};
+ghost use Rattle.qcow2_image.specs.Limits.{IfLimit, IsLimited, IsLimitedTaking};
 ghost use Rattle.qcow2_image.specs.SoundParts.{BeginsSoundly};
 ghost use Rattle.qcow2_image.specs.ImageSteps.{FailsUnlimited, ImageFails, ImageStep, ImageStepWhere};
 ghost use Rattle.qcow2_metadata.specs.TableBytes.{HasPlace};
@@ -72,7 +72,7 @@ impl<S: Storage, F: WrappedFormat<S>> Qcow2<S, F> {
         ensures limit { (out : List (Option Prepared))
             → ImageInvariant S.view F.backing (pending_in S.view F.backing self.old out) self.old out
             → HoldsTable S.view F.backing self.old offset table
-            → IfLimit result (IsLimited S.view F.backing 1 self.old) }
+            → IfLimit result (IsLimited S.view F.backing [] 1 self.old out) }
         ensures taken { IfErr result (λ e. e ≡ TablePrepared → 0 < l2_pins self.old.file.caches table) }
         ensures unpinned { OnOk result (l2_pins self.old.file.caches table ≡ 0) }
         ensures own { IfOk result (λ p. image_of p ≡ number_of self.old) }
@@ -128,7 +128,7 @@ impl<S: Storage, F: WrappedFormat<S>> Qcow2<S, F> {
         ensures limit { (out : List (Option Prepared))
             → ImageInvariant S.view F.backing (pending_in S.view F.backing self.old out) self.old out
             → HoldsTable S.view F.backing self.old offset table
-            → IfLimit result (IsLimited S.view F.backing 1 self.old) }
+            → IfLimit result (IsLimited S.view F.backing [] 1 self.old out) }
         ensures own { IfOk result (λ p. image_of p ≡ number_of self.old) }
         ensures first { IfOk result (IsFirst self.old.file.header.fields offset table) }
         ensures behind { IfOk result (λ p. cluster_size self.old.file.header.fields ≤ offset_of p) }
@@ -319,7 +319,7 @@ impl<S: Storage, F: WrappedFormat<S>> Qcow2<S, F> {
             → IfErr result (IsMetAlone (IsCopiedCompressed self.old.file.header.fields old.now offset length overwrite)
             ⊥) }
         ensures limit { (p : Pending) (out : List (Option Prepared)) → ImageInvariant S.view F.backing p self.old out
-            → HoldsAll S.view F.backing p out → IfLimit result (IsLimited S.view F.backing 1 self.old) }
+            → HoldsAll S.view F.backing p out → IfLimit result (IsLimitedTaking S.view F.backing p 1 self.old out) }
         ensures gains { (p : Pending) (out : List (Option Prepared)) → ImageInvariant S.view F.backing p self.old out
             → HoldsAll S.view F.backing p out
             → Gains S.view F.backing p self.old self.new out offset length overwrite old.now result }
@@ -346,7 +346,7 @@ impl<S: Storage, F: WrappedFormat<S>> Qcow2<S, F> {
         ensures fault { (p : Pending) (out : List (Option Prepared)) → ImageInvariant S.view F.backing p self.old out
             → IfErr result IsFaultOrLimit }
         ensures limit { (p : Pending) (out : List (Option Prepared)) → ImageInvariant S.view F.backing p self.old out
-            → HoldsAll S.view F.backing p out → IfLimit result (IsLimited S.view F.backing 1 self.old) }
+            → HoldsAll S.view F.backing p out → IfLimit result (IsLimitedTaking S.view F.backing p 1 self.old out) }
         ensures takes { (p : Pending) (out : List (Option Prepared)) → ImageInvariant S.view F.backing p self.old out
             → HoldsAll S.view F.backing p out → TakesData S.view F.backing p self.old self.new out result }
     {

@@ -1,5 +1,5 @@
 //! A longer L1 table, in the place of the former one.
-ghost use Rattle.qcow2_image.specs.Limits.{IfLimit, IsLimited, entries_reaching};
+ghost use Rattle.qcow2_image.specs.Limits.{IfLimit, IsLimitedUnseen, entries_reaching};
 ghost use Rattle.qcow2_image.specs.L1Entries.{EndsBefore, IsPlacedNear};
 ghost use Rattle.qcow2_image.specs.SoundParts.{EntrySoundly};
 ghost use Rattle.qcow2_image.specs.ImageSteps.{ImageFails, ImageStep};
@@ -40,7 +40,7 @@ impl<S: Storage, F: WrappedFormat<S>> Qcow2<S, F> {
         ensures fails { ImageFails S.view F.backing self.old self.new result IsMet }
         ensures sound { (out : List (Option Prepared))
             → ImageInvariant S.view F.backing (pending_in S.view F.backing self.old out) self.old out
-            → EntrySoundly S.view F.backing offset self.old self.new result
+            → EntrySoundly S.view F.backing offset self.old self.new out result
             (MakesEntry S.view F.backing self.old self.new out result) }
         ensures length { OnOk result (entry_count self.new.l1_table ≡ max (entry_count self.old.l1_table)
             (l1_index_of self.old.file.header.fields offset + 1)) }
@@ -66,7 +66,7 @@ impl<S: Storage, F: WrappedFormat<S>> Qcow2<S, F> {
         ensures cause { IsTrue (is_writable self.old) → IfErr result IsMet }
         ensures limit { (p : Pending) (out : List (Option Prepared)) → ImageInvariant S.view F.backing p self.old out
             → (offset : ℕ) → index ≡ l1_index_of self.old.file.header.fields offset
-            → IfLimit result (IsLimited S.view F.backing (offset + 1) self.old) }
+            → IfLimit result (IsLimitedUnseen S.view F.backing p (offset + 1) self.old out) }
         ensures fault { IsTrue (is_writable self.old) → (p : Pending) (out : List (Option Prepared))
             → ImageInvariant S.view F.backing p self.old out → IfErr result IsFaultOrLimit }
         ensures lengthens { (p : Pending) (out : List (Option Prepared))
@@ -120,7 +120,7 @@ impl<S: Storage, F: WrappedFormat<S>> Qcow2<S, F> {
         ensures cause { IsTrue (is_writable self.old) → IfErr result IsMet }
         ensures limit { (p : Pending) (out : List (Option Prepared)) → ImageInvariant S.view F.backing p self.old out
             → IsLongerL1 self.old table → (offset : ℕ) → entry_count table ≡ entries_reaching offset self.old
-            → IfLimit result (IsLimited S.view F.backing (offset + 1) self.old) }
+            → IfLimit result (IsLimitedUnseen S.view F.backing p (offset + 1) self.old out) }
         ensures fault { IsTrue (is_writable self.old) → (p : Pending) (out : List (Option Prepared))
             → ImageInvariant S.view F.backing p self.old out → IsLongerL1 self.old table → 0 < entry_count table
             → IfErr result IsFaultOrLimit }

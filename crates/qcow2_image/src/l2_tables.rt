@@ -89,7 +89,7 @@ impl<S: Storage, F: WrappedFormat<S>> Qcow2<S, F> {
         ensures keeps_rest { KeepsRestOn self.old self.new }
         ensures elsewhere { IfOk result (λ table. 0 < table) }
         ensures sound { (p : Pending) (out : List (Option Prepared)) → ImageInvariant S.view F.backing p self.old out
-            → EnsuresSoundly S.view F.backing offset self.old self.new out result
+            → EnsuresSoundly S.view F.backing p offset self.old self.new out result
             (Ensures S.view F.backing p self.old self.new out offset result) }
         ensures cached { IfOk result (λ table. IsSome (l2_at self.new.file.caches table)) }
         ensures quiet { HasOwnTable self.old offset → KeepsList self.old self.new }
@@ -118,7 +118,7 @@ impl<S: Storage, F: WrappedFormat<S>> Qcow2<S, F> {
         ensures keeps_rest { KeepsRestOn self.old self.new }
         ensures elsewhere { IfOk result (λ table. 0 < table) }
         ensures sound { (p : Pending) (out : List (Option Prepared)) → ImageInvariant S.view F.backing p self.old out
-            → OwnsSoundly S.view F.backing offset self.old self.new out result
+            → OwnsSoundly S.view F.backing p offset self.old self.new out result
             (OwnsTable S.view F.backing p self.old self.new out (l1_index_of self.old.file.header.fields offset) result) }
         ensures quiet { HasOwnTable self.old offset → self.new ≡ self.old }
         ensures own { HasOwnTable self.old offset → IfOk result (λ table. table ≡ own_table self.old offset) }
@@ -150,7 +150,7 @@ impl<S: Storage, F: WrappedFormat<S>> Qcow2<S, F> {
         ensures elsewhere { IfOk result (λ table. 0 < table) }
         ensures l1_table { IfErr result (IsFaultOrKeepsL1Table self.old self.new) }
         ensures sound { (p : Pending) (out : List (Option Prepared)) → ImageInvariant S.view F.backing p self.old out
-            → NamesShared S.view self.old index old → EntersSoundly S.view F.backing index self.old out result
+            → NamesShared S.view self.old index old → EntersSoundly S.view F.backing p index self.old out result
             (OwnsTable S.view F.backing p self.old self.new out index result) }
     {
         self.file
@@ -179,7 +179,7 @@ impl<S: Storage, F: WrappedFormat<S>> Qcow2<S, F> {
         ensures sound { (p : Pending) (out : List (Option Prepared)) → ImageInvariant S.view F.backing p self.old out
             → NamesShared S.view self.old index old
             → SaysKnown self.old.file.header.fields (known_in S.view self.old.file) index table
-            → EntersSoundly S.view F.backing index self.old out result
+            → EntersSoundly S.view F.backing p index self.old out result
             (OwnsTable S.view F.backing p self.old self.new out index result) }
     {
         let entry = ClustersToFreeEntry::metadata(old, ClusterCount::new(1));
@@ -207,7 +207,7 @@ impl<S: Storage, F: WrappedFormat<S>> Qcow2<S, F> {
         ensures sound { (p : Pending) (out : List (Option Prepared)) → ImageInvariant S.view F.backing p self.old out
             → MayName S.view self.old index
             → SaysKnown self.old.file.header.fields (known_in S.view self.old.file) index table
-            → EntersSoundly S.view F.backing index self.old out result
+            → EntersSoundly S.view F.backing p index self.old out result
             (EntersTable S.view F.backing p self.old self.new out index result) }
     {
         let Some(allocator) = &mut self.allocator else {

@@ -175,7 +175,7 @@ impl<S: Storage, F: WrappedFormat<S>> Qcow2<S, F> {
             (NeedsFarEntry self.old offset)) }
         ensures limit { refuses_to_prepare self.old offset length ≡ None → 0 < length → (out : List (Option Prepared))
             → (abstract_of S.view F.backing self.old out).is_sound
-            → IfLimit result (IsLimited S.view F.backing (offset + 1) self.old) }
+            → IfLimit result (IsLimited S.view F.backing [] (offset + 1) self.old out) }
         ensures nothing { refuses_to_prepare self.old offset 0 ≡ None → length ≡ 0 → IsOk result
             × IfOk result IsOfNothing × (self.new ≡ self.old) }
         ensures taken { refuses_to_prepare self.old offset length ≡ None → (out : List (Option Prepared))
@@ -306,9 +306,9 @@ impl<S: Storage, F: WrappedFormat<S>> Qcow2<S, F> {
         ensures taken { IsMetPreparing refusal → result ≡ TablePrepared → refusal ≡ TablePrepared }
         ensures fault { IsFault refusal → (result ≡ refusal) × (self.new ≡ self.old) }
         ensures idle { HasNothingToFree self.old → (result ≡ refusal) × (self.new ≡ self.old) }
-        ensures told { (out : List (Option Prepared))
+        ensures told { ((result ≡ refusal) ⊎ IsOfTables result) × ((out : List (Option Prepared))
             → ImageInvariant S.view F.backing (pending_in S.view F.backing self.old out) self.old out
-            → (result ≡ refusal) ⊎ IsFault result }
+            → (result ≡ refusal) ⊎ IsFault result) }
         ensures emptied { IsTrue (is_writable self.old) → (out : List (Option Prepared))
             → ImageInvariant S.view F.backing (pending_in S.view F.backing self.old out) self.old out
             → FreesRefused self.new result }

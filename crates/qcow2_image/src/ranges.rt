@@ -1,5 +1,5 @@
 //! The clusters of a prepared range behind its first one.
-ghost use Rattle.qcow2_image.specs.Limits.{IfLimit, IsLimited};
+ghost use Rattle.qcow2_image.specs.Limits.{IfLimit, IsLimitedTaking};
 ghost use Rattle.qcow2_image.specs.SoundParts.{BehindSoundly, FillsSoundly, RestSoundly};
 ghost use Rattle.qcow2_image.specs.ImageSteps.{ImageFails, ImageStep};
 ghost use Rattle.std.specs.Prelude.{ℕ, List, Option, ◌≡◌, ◌≢◌, ◌+◌, ◌-◌, ◌*◌, ◌%◌, ◌<◌, min, true, Some, None, Ok};
@@ -59,7 +59,8 @@ impl<S: Storage, F: WrappedFormat<S>> Qcow2<S, F> {
         ensures sound { (start : Qcow2 S F) (out : List (Option Prepared)) (k : ℕ) → slice_get out k ≡ Some None
             → prepared.old.table ≡ Some table
             → IsReadied S.view F.backing start self.old out k prepared.old.guest length overwrite prepared.old
-            → RestSoundly S.view F.backing length overwrite prepared.old prepared.new self.old self.new result
+            → RestSoundly S.view F.backing start length overwrite prepared.old prepared.new self.old self.new out
+            result
             (GoesOn S.view F.backing start self.new out k length overwrite prepared.new result) }
         ensures longer { IsLongerMapping self.old.file.header.fields length prepared.old prepared.new }
     {
@@ -88,7 +89,7 @@ impl<S: Storage, F: WrappedFormat<S>> Qcow2<S, F> {
         ensures sound { (out : List (Option Prepared)) (k : ℕ) → slice_get out k ≡ Some (Some prepared.old)
             → MayGoOn self.old.file.header.fields length table prepared.old
             → ImageInvariant S.view F.backing (pending_in S.view F.backing self.old out) self.old out
-            → BehindSoundly S.view F.backing prepared.old length overwrite self.old self.new result
+            → BehindSoundly S.view F.backing prepared.old length overwrite self.old self.new out result
             (GoesNext S.view F.backing self.old self.new out k length overwrite prepared.old prepared.new result) }
         ensures same { result ≢ Ok true → prepared.new ≡ prepared.old }
         ensures room { vec_capacity prepared.new.shares ≡ vec_capacity prepared.old.shares }
@@ -118,7 +119,7 @@ impl<S: Storage, F: WrappedFormat<S>> Qcow2<S, F> {
         ensures sound { (out : List (Option Prepared)) (k : ℕ) → slice_get out k ≡ Some (Some prepared.now)
             → MayGoOn self.old.file.header.fields length table prepared.now
             → ImageInvariant S.view F.backing (pending_in S.view F.backing self.old out) self.old out
-            → BehindSoundly S.view F.backing prepared.now length overwrite self.old self.new result
+            → BehindSoundly S.view F.backing prepared.now length overwrite self.old self.new out result
             (FindsBehind S.view F.backing self.old self.new out length overwrite prepared.now result) }
     {
         let Some(next) = prepared.guest.checked_add(prepared.length) else {
@@ -160,7 +161,7 @@ impl<S: Storage, F: WrappedFormat<S>> Qcow2<S, F> {
             → IfErr result (IsMetAlone (IsCopiedCompressed self.old.file.header.fields old.now offset length overwrite)
             ⊥) }
         ensures limit { (p : Pending) (out : List (Option Prepared)) → ImageInvariant S.view F.backing p self.old out
-            → HoldsAll S.view F.backing p out → IfLimit result (IsLimited S.view F.backing 1 self.old) }
+            → HoldsAll S.view F.backing p out → IfLimit result (IsLimitedTaking S.view F.backing p 1 self.old out) }
         ensures shares { (p : Pending) (out : List (Option Prepared)) → ImageInvariant S.view F.backing p self.old out
             → HoldsAll S.view F.backing p out
             → SharesAt S.view F.backing p self.old self.new out offset length overwrite old.now host result }
@@ -195,7 +196,7 @@ impl<S: Storage, F: WrappedFormat<S>> Qcow2<S, F> {
         ensures header { KeepsHeader self.old.file.header self.new.file.header }
         ensures sound { (p : Pending) (out : List (Option Prepared)) → ImageInvariant S.view F.backing p self.old out
             → HoldsAll S.view F.backing p out
-            → FillsSoundly S.view F.backing old.now offset length overwrite self.old self.new result
+            → FillsSoundly S.view F.backing p old.now offset length overwrite self.old self.new out result
             (GainsAt S.view F.backing p self.old self.new out offset length overwrite old.now cluster result) }
         ensures nameable { IfOk result (λ run. IsSome run → IsHostCluster self.old.file.header.fields.cluster_bits cluster) }
     {
@@ -220,7 +221,7 @@ impl<S: Storage, F: WrappedFormat<S>> Qcow2<S, F> {
         ensures fault { (p : Pending) (out : List (Option Prepared)) → ImageInvariant S.view F.backing p self.old out
             → IfErr result IsFaultOrLimit }
         ensures limit { (p : Pending) (out : List (Option Prepared)) → ImageInvariant S.view F.backing p self.old out
-            → HoldsAll S.view F.backing p out → IfLimit result (IsLimited S.view F.backing 1 self.old) }
+            → HoldsAll S.view F.backing p out → IfLimit result (IsLimitedTaking S.view F.backing p 1 self.old out) }
         ensures nameable { IfOk result (λ run. IsSome run → IsHostCluster self.old.file.header.fields.cluster_bits cluster) }
         ensures list { ListGrows self.old self.new }
         ensures takes { (p : Pending) (out : List (Option Prepared)) → ImageInvariant S.view F.backing p self.old out

@@ -1,13 +1,13 @@
 //! A larger disk.
-ghost use Rattle.qcow2_image.specs.Limits.{IfLimit, IsLimited};
+ghost use Rattle.qcow2_image.specs.Limits.{IfLimit, IsLimited, IsLimitedUnseen};
 ghost use Rattle.std.specs.Prelude.{◌≡◌, ◌-◌, ◌<◌, [], false, IfErr, IsTrue, OnOk};
 ghost use Rattle.qcow2_image.specs.Faults.{CountsImageFaults};
 ghost use Rattle.qcow2_image.specs.Image.{is_failed, is_writable};
 ghost use Rattle.qcow2_image.specs.Refusals.{IsMet, MarksFailed, IsFaultOrLimit};
 ghost use Rattle.qcow2_laws.specs.CrashInvariant.{Pending};
-ghost use Rattle.qcow2_image.specs.Growing.{Resizes, GrowsDisk, KeepsSurplus, ReachesSize};
+ghost use Rattle.qcow2_image.specs.Growing.{Resizes, GrowsDisk, KeepsSurplus, LeavesSound, ReachesSize};
 ghost use Rattle.qcow2_image.specs.L1Entries.{ReachesOffset};
-ghost use Rattle.qcow2_image.specs.UnseenSteps.{ListGrows};
+ghost use Rattle.qcow2_image.specs.UnseenSteps.{ListGrows, UnseenStep, pending_with_listed};
 ghost use Rattle.qcow2_image.specs.ImageInvariant.{ImageInvariant, abstract_of};
 
 use crate::Qcow2;
@@ -24,7 +24,8 @@ impl<S: Storage, F: WrappedFormat<S>> Qcow2<S, F> {
         ensures fault { is_failed self.old ≡ false → IsTrue (is_writable self.old)
             → (abstract_of S.view F.backing self.old []).is_sound → IfErr result IsFaultOrLimit }
         ensures limit { (abstract_of S.view F.backing self.old []).is_sound
-            → IfLimit result (IsLimited S.view F.backing size self.old) }
+            → IfLimit result (IsLimited S.view F.backing [] size self.old []
+            × LeavesSound S.view F.backing self.old self.new) }
         ensures marks { MarksFailed self.old self.new result }
         ensures faults { CountsImageFaults S.view F.backing self.old self.new result }
     {
@@ -51,7 +52,8 @@ impl<S: Storage, F: WrappedFormat<S>> Qcow2<S, F> {
         ensures fault { IsTrue (is_writable self.old) → (p : Pending) → ImageInvariant S.view F.backing p self.old []
             → IfErr result IsFaultOrLimit }
         ensures limit { (p : Pending) → ImageInvariant S.view F.backing p self.old []
-            → IfLimit result (IsLimited S.view F.backing size self.old) }
+            → IfLimit result (IsLimitedUnseen S.view F.backing p size self.old []
+            × UnseenStep S.view F.backing p (pending_with_listed p self.old self.new) self.old self.new []) }
         ensures failed { is_failed self.new ≡ is_failed self.old }
         ensures writable { is_writable self.new ≡ is_writable self.old }
         ensures faults { CountsImageFaults S.view F.backing self.old self.new result }

@@ -31,7 +31,8 @@ ghost use Rattle.qcow2_image.specs.Refusals.{MarksRefused};
 ghost use Rattle.qcow2_image.specs.Resizing.{CantUncover, EndsTail, FreesTurn, GrowsTables, GrowsTo};
 ghost use Rattle.qcow2_image.specs.Resizing.{IsFaultOrCantUncover, IsMetShrinking, IsResized, Shrinks};
 ghost use Rattle.qcow2_image.specs.Resizing.{UncoversClusters, UncoversNext, UncoversTail, WritesSize, WritesSizeLast};
-ghost use Rattle.qcow2_image.specs.Resizing.{boundary_in, refuses_to_resize, size_after, takes_over};
+ghost use Rattle.qcow2_image.specs.Resizing.{all_given_by_grow, boundary_in, refuses_to_resize, size_after};
+ghost use Rattle.qcow2_image.specs.Resizing.{takes_over};
 ghost use Rattle.qcow2_image.specs.Faults.{CountsImageFaults, NoFewerFaults, TellsEachIn, TellsFault};
 
 use crate::Qcow2;
@@ -246,7 +247,8 @@ impl<S: Storage, F: WrappedFormat<S>> Qcow2<S, F> {
             (known_in S.view self.old.file) e ⊎ ((e ≡ Preallocation) × IsTrue (takes_over self.old mode))) }
         ensures limit { refuses_to_resize self.old ≡ None → size_of self.old < size → (out : List (Option Prepared))
             → (abstract_of S.view F.backing self.old out).is_sound
-            → IfLimit result (IsLimited S.view F.backing (boundary_in self.old size) self.old) }
+            → IfLimit result (IsLimited S.view F.backing (all_given_by_grow S.view F.backing self.old size mode)
+            (boundary_in self.old size) self.old out) }
         ensures image { size_of self.old < size → IsResized (size_after result (size_of self.old) size) self.old self.new }
         ensures sees { GrowsTo S.view F.backing self.old self.new size mode result }
         ensures last { (out : List (Option Prepared)) → (abstract_of S.view F.backing self.old out).is_sound
@@ -328,7 +330,7 @@ impl<S: Storage, F: WrappedFormat<S>> Qcow2<S, F> {
             → OnOk result (IsPlacedNear self.new.l1_table) }
         ensures limit { (out : List (Option Prepared))
             → ImageInvariant S.view F.backing (pending_in S.view F.backing self.old out) self.old out
-            → IfLimit result (IsLimited S.view F.backing (offset + 1) self.old) }
+            → IfLimit result (IsLimited S.view F.backing [] (offset + 1) self.old out) }
         ensures fault { (out : List (Option Prepared))
             → ImageInvariant S.view F.backing (pending_in S.view F.backing self.old out) self.old out
             → IfErr result IsFaultOrLimit }
@@ -359,7 +361,7 @@ impl<S: Storage, F: WrappedFormat<S>> Qcow2<S, F> {
             → OnOk result (IsPlacedNear self.new.l1_table) }
         ensures limit { (out : List (Option Prepared))
             → ImageInvariant S.view F.backing (pending_in S.view F.backing self.old out) self.old out
-            → IfLimit result (IsLimited S.view F.backing (offset + 1) self.old) }
+            → IfLimit result (IsLimited S.view F.backing [] (offset + 1) self.old out) }
         ensures fault { (out : List (Option Prepared))
             → ImageInvariant S.view F.backing (pending_in S.view F.backing self.old out) self.old out
             → IfErr result IsFaultOrLimit }

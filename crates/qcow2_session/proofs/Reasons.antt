@@ -19,6 +19,7 @@ use Rattle.qcow2_image.specs.Refusals.{IsMet, IsMetPreparing, passes, refuse_if,
 use Rattle.qcow2_image.specs.declared.image.Qcow2.{Qcow2}
 use Rattle.qcow2_image.specs.declared.prepared.Prepared.{Prepared}
 use Rattle.qcow2_session.specs.Conversions.{IsMetImporting, IsReasonNotToWrite}
+use Rattle.qcow2_disk.specs.Stops.{GivenBytes}
 use Rattle.qcow2_image.specs.Limits.{IsLimited}
 use Rattle.qcow2_session.specs.Sessions.{cluster_size_of}
 use Rattle.qcow2_session.proofs.Causing.{same_error, then_none}
@@ -60,10 +61,10 @@ module _ {S F : Type 0} (view : S → StorageView) (backing : F → BackingView)
       part_under old.file.header.fields mid.file.header.fields clusters from to under.offset out (omega (arith, low, under.low)) (omega (arith, high, under.high)) under.under
 
   -- a part of a range that is looked at later
-  pub reason_within : (from to first last : ℕ) → from ≤ first → last ≤ to → (out : List (Option Prepared)) (e : ImageError) → (IsLimited view backing last mid → IsLimited view backing to old)
+  pub reason_within : (from to first last : ℕ) → from ≤ first → last ≤ to → (out : List (Option Prepared)) (e : ImageError) → (((given : List GivenBytes) × IsLimited view backing given last mid out) → (given : List GivenBytes) × IsLimited view backing given to old out)
       → IsReasonNotToWrite view backing mid new first last out e → IsReasonNotToWrite view backing old new from to out e
   reason_within from to first last low high out e wider reason = ⊎_elim
-      (λ (met : IsMet e × (e ≡ I.Limit → IsLimited view backing last mid)). inl (met.0, λ is. wider (met.1 is)))
+      (λ (met : IsMet e × (e ≡ I.Limit → (given : List GivenBytes) × IsLimited view backing given last mid out)). inl (met.0, λ is. wider (met.1 is)))
       (λ (rest : ((e ≡ I.ReadOnly) × (is_writable mid ≡ false)) ⊎ ((e ≡ I.TablePrepared) × IsUnderMappingIn mid.file.header.fields first last out)). ⊎_elim
       (λ (r : (e ≡ I.ReadOnly) × (is_writable mid ≡ false)). inr (inl (r.0, sym same.writable ∙ r.1)))
       (λ (t : (e ≡ I.TablePrepared) × IsUnderMappingIn mid.file.header.fields first last out). inr (inr (t.0, carried from to first last low high out t.1)))
@@ -74,7 +75,7 @@ module _ {S F : Type 0} (view : S → StorageView) (backing : F → BackingView)
   pub write_reason : (at n : ℕ) → is_failed mid ≡ false → refuses_to_read old at n ≡ None → (out : List (Option Prepared)) (e : ImageError) (k : ℕ) (X : Type 0)
       → IfSome (refuses_to_prepare mid at n) (λ x. (◌≡◌ {A = Result (Unit {0}) (ImageError × ℕ)} (Err (e, k)) (Err (x, 0))) × X)
       → (refuses_to_prepare mid at n ≡ None → IsMetPreparing e × (0 < n)) → (refuses_to_prepare mid at n ≡ None → e ≡ I.TablePrepared → IsUnderMappingIn mid.file.header.fields at (at + n) out)
-      → (refuses_to_prepare mid at n ≡ None → e ≡ I.Limit → IsLimited view backing (at + n) old) → IsReasonNotToWrite view backing old new at (at + n) out e
+      → (refuses_to_prepare mid at n ≡ None → e ≡ I.Limit → (given : List GivenBytes) × IsLimited view backing given (at + n) old out) → IsReasonNotToWrite view backing old new at (at + n) out e
   write_reason at n works none out e k X early late taken limit = ⊎_elim
       (λ (closed : (e ≡ I.ReadOnly) × (is_writable mid ≡ false)). inr (inl (closed.0, sym same.writable ∙ closed.1)))
       (λ (free : refuses_to_prepare mid at n ≡ None).

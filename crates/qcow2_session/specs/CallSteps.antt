@@ -1,5 +1,5 @@
 -- What a command, a read or a conversion leaves of an image as it was, whatever the contents are, and what it counts.
-use Rattle.std.specs.Prelude.{◌≡◌, ◌+◌, ℕ, true, List, Option, Result, IfErr}
+use Rattle.std.specs.Prelude.{◌≡◌, ◌+◌, ℕ, true, List, [], Option, Result, IfErr}
 use Rattle.image_access.specs.Backing.{BackingView}
 use Rattle.image_access.specs.Moments.{StorageView}
 use Rattle.qcow2_alloc.specs.ImageFile.{known_in}
@@ -42,7 +42,7 @@ module _ {S F : Type 0} (view : S → StorageView) (backing : F → BackingView)
   pub record WritesSoundly (offset n : ℕ) (out : List (Option Prepared)) (result : Result ℕ ImageError) : Type 0 where
     pub met : IfErr result (IsMetTaking (HasPrepared out) (IsUnderMapping old.file.header.fields offset out) (CopiesCompressed offset n true new.file.header.fields (known_in view new.file)) (NeedsFarEntry old offset))
     pub taken : HeedsFirst view backing old out offset n result
-    pub limit : IfLimit result (IsLimited view backing (offset + n) old)
+    pub limit : IfLimit result (IsLimited view backing [] (offset + n) old out)
 
   module _ {T : Type 0} (result : Result T ImageError) where
     -- A read of several parts leaves the header in memory too, and writes nothing where no cached table is modified.

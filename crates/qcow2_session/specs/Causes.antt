@@ -2,7 +2,7 @@
 use Rattle.qcow2_alloc.specs.declared.error.ImageError.TheVariants as I
 use Rattle.qcow2_session.specs.declared.session.Command.TheVariants as C
 use Rattle.qcow2_session.specs.declared.session.Reply.TheVariants as R
-use Rattle.std.specs.Prelude.{ℕ, ◌+◌, ◌<◌, ◌≤◌, ◌≡◌, ◌↔◌, ◌⊎◌, ◌&&◌, not, nat_lt, true, false, length, List, Option, Some, None, Ok, Err, IfSome, IsNone, MatchOption, slice_get}
+use Rattle.std.specs.Prelude.{ℕ, ◌+◌, ◌<◌, ◌≤◌, ◌≡◌, ◌↔◌, ◌⊎◌, ◌&&◌, not, nat_lt, true, false, length, List, [], ◌∷◌, Option, Some, None, Ok, Err, IfSome, IsNone, MatchOption, slice_get}
 use Rattle.std.specs.Option.{option_or}
 use Rattle.image_access.specs.Backing.{BackingView}
 use Rattle.image_access.specs.Moments.{StorageView}
@@ -30,6 +30,7 @@ use Rattle.qcow2_image.specs.declared.mapping.MappingKind.TheVariants.{Raw}
 use Rattle.qcow2_image.specs.declared.mapping.Place.TheVariants.{Image}
 use Rattle.qcow2_image.specs.declared.prepared.Prepared.{Prepared}
 use Rattle.qcow2_session.specs.CountedFaults.{refusal_in}
+use Rattle.qcow2_disk.specs.Mappings.{given_of}
 use Rattle.qcow2_image.specs.Limits.{IsLimited}
 use Rattle.qcow2_session.specs.Sessions.{HeedsMappings, NeedsFarToWrite}
 use Rattle.qcow2_session.specs.declared.session.Command.{Command}
@@ -175,7 +176,7 @@ module _ {S F : Type 0} (view : S → StorageView) (backing : F → BackingView)
 
   -- A write is refused for a limit only where it met one. It is refused 20 only where the rest of its range has that cause, behind the bytes that are told as written. What is prepared is heeded by each of its parts.
   abbrev pub StopsRightly : (offset : ℕ) → List ℕ → Reply → Type 0
-  StopsRightly offset bytes (R.WriteRefused e n) = (e ≡ I.Limit → IsLimited view backing (offset + length bytes) old) × HeedsMappings view backing old before offset bytes (Err (e, n)) × (e ≡ I.Overflow → NeedsFarToWrite view backing old offset bytes n)
+  StopsRightly offset bytes (R.WriteRefused e n) = (e ≡ I.Limit → IsLimited view backing (given_of offset bytes ∷ []) (offset + length bytes) old before) × HeedsMappings view backing old before offset bytes (Err (e, n)) × (e ≡ I.Overflow → NeedsFarToWrite view backing old offset bytes n)
   StopsRightly offset bytes R.Done = HeedsMappings view backing old before offset bytes (Ok tt)
   StopsRightly offset bytes reply = Unit {0}
 

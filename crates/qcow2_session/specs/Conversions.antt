@@ -97,7 +97,7 @@ module _ {S F : Type 0} (view : S → StorageView) (backing : F → BackingView)
   -- Why a range isn't written that may be read: what the work meets, which may be a limit. Or that the image isn't to be written, or that an L2 table of the range is kept for a mapping.
   abbrev pub IsReasonNotToWrite : (from to : ℕ) → List (Option Prepared) → ImageError → Type 0
   IsReasonNotToWrite from to out e =
-      (IsMet e × (e ≡ Limit → IsLimited view backing to old)) ⊎ (((e ≡ ReadOnly) × (is_writable old ≡ false)) ⊎ ((e ≡ TablePrepared) × IsUnderMappingIn old.file.header.fields from to out))
+      (IsMet e × (e ≡ Limit → (given : List GivenBytes) × IsLimited view backing given to old out)) ⊎ (((e ≡ ReadOnly) × (is_writable old ≡ false)) ⊎ ((e ≡ TablePrepared) × IsUnderMappingIn old.file.header.fields from to out))
 
   -- the guest sees what it saw
   abbrev pub IsUnchanged : {A : Type 0} → Result A ImageError → Type 0

@@ -9,6 +9,7 @@ ghost use Rattle.qcow2_alloc.specs.ImageFile.{known_in};
 ghost use Rattle.qcow2_image.specs.Backings.{HasPrepared};
 ghost use Rattle.qcow2_image.specs.BehindHeader.{StaysBehindHeader};
 ghost use Rattle.qcow2_image.specs.Found.{IsFoundWhole, further_by};
+ghost use Rattle.qcow2_disk.specs.Mappings.{given_of};
 ghost use Rattle.qcow2_image.specs.Limits.{IsLimited};
 ghost use Rattle.qcow2_image.specs.ListedClusters.{ListsNoMore};
 ghost use Rattle.qcow2_image.specs.MetAlone.{CopiesCompressed, IsCacheHeld, IsMetMapped, IsMetReadingRange};
@@ -311,7 +312,8 @@ pub fn write<S: Storage, F: WrappedFormat<S>>(
         → HeedsMappings S.view F.backing image.old out offset bytes.now result }
     ensures limit { refuses_to_prepare image.old offset (length bytes.now) ≡ None → (out : List (Option Prepared))
         → (abstract_of S.view F.backing image.old out).is_sound
-        → IfErr result (λ (e, n). e ≡ Limit → IsLimited S.view F.backing (offset + length bytes.now) image.old) }
+        → IfErr result (λ (e, n). e ≡ Limit → IsLimited S.view F.backing (given_of offset bytes.now ∷ [])
+        (offset + length bytes.now) image.old out) }
     ensures freeing { (out : List (Option Prepared)) → (abstract_of S.view F.backing image.old out).is_sound
         → OnOk result (ListsNoMore image.old image.new) }
     ensures within { IfErr result (λ (e, n). n ≤ length bytes.now) }

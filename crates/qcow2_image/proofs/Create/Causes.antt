@@ -144,26 +144,27 @@ module _ {S : Type 0} (builder : Qcow2CreateBuilder S) where
   pub too_long : (size : ℕ) → builder.cluster_size ≡ size → ¬ (builder.size ≤ longest_disk size) → longest_disk builder.cluster_size < builder.size
   too_long size is not = subst (λ n. longest_disk n < builder.size) (sym is) (elim (cases_lt (longest_disk size) builder.size) [ inl past ↦ past | inr le ↦ absurd (not le) ])
 
-  module _ (view : S → StorageView) where
-    pub fault_reason : (e : ImageError) → IsFault e → IsReasonNotToCreate view builder e
-    fault_reason e (inl is) = subst (λ (x : ImageError). IsReasonNotToCreate view builder x) (sym is) tt
-    fault_reason e (inr is) = subst (λ (x : ImageError). IsReasonNotToCreate view builder x) (sym is) tt
+  module _ (view : S → StorageView) (storage : S) where
+    pub fault_reason : (e : ImageError) → IsFault e → IsReasonNotToCreate view builder storage e
+    fault_reason e (inl is) = subst (λ (x : ImageError). IsReasonNotToCreate view builder storage x) (sym is) tt
+    fault_reason e (inr is) = subst (λ (x : ImageError). IsReasonNotToCreate view builder storage x) (sym is) tt
 
     -- what is refused before any work
-    pub reason_against : (e : ImageError) → IsReasonAgainst builder e → IsReasonNotToCreate view builder e
+    pub reason_against : (e : ImageError) → IsReasonAgainst builder e → IsReasonNotToCreate view builder storage e
     reason_against I.InvalidOption why = why
     reason_against I.Preallocation why = why
     reason_against I.Limit why = inl why
     reason_against e why = absurd why
 
-    reason_of : (e : ImageError) → IsFaultOrLimit e → (e ≡ I.Limit → LacksPlaceCreating view builder) → IsReasonNotToCreate view builder e
+    reason_of : (e : ImageError) → IsFaultOrLimit e → (e ≡ I.Limit → LacksPlaceCreating view builder storage) → IsReasonNotToCreate view builder storage e
     reason_of e (inl fault) lacks = fault_reason e fault
-    reason_of e (inr is) lacks = subst (λ (x : ImageError). IsReasonNotToCreate view builder x) (sym is) (inr (lacks is))
+    reason_of e (inr is) lacks = subst (λ (x : ImageError). IsReasonNotToCreate view builder storage x) (sym is) (inr (lacks is))
 
-    pub reasons_of : {T : Type 0} (r : Result T ImageError) → IfErr r IsFaultOrLimit → IfErr r (λ e. e ≡ I.Limit → LacksPlaceCreating view builder) → IfErr r (IsReasonNotToCreate view builder)
+    pub reasons_of : {T : Type 0} (r : Result T ImageError) → IfErr r IsFaultOrLimit → IfErr r (λ e. e ≡ I.Limit → LacksPlaceCreating view builder storage) → IfErr r (IsReasonNotToCreate view builder storage)
     reasons_of (Ok x) why lacks = tt
     reasons_of (Err e) why lacks = reason_of e why lacks
 
+  module _ (view : S → StorageView) where
     -- a new image stands, and its disk can't be made larger
     module _ (bits order : ℕ) (v : HeaderView) (is : v ≡ new_header bits order (backing_name_in builder) (backing_format_in builder) None) (contents : List ℕ) (new_image : IsNewImage v.fields (byte_at contents)) where
       header_new : header (byte_at contents) ≡ (new_header bits order (backing_name_in builder) (backing_format_in builder) None).fields
@@ -178,9 +179,9 @@ module _ {S : Type 0} (builder : Qcow2CreateBuilder S) where
       pub stands_uncleared : (header (byte_at contents)).autoclear ≡ 0
       stands_uncleared = ap (λ (h : HeaderFields). h.autoclear) header_new
 
-      pub lacks_creating : builder.cluster_size ≡ 2 ^ bits → builder.refcount_width ≡ 2 ^ order → {T : Type 0} (r : Result T ImageError) → IfErr r (λ e. e ≡ I.Limit → CantEnlarge view none_below builder.size contents)
-          → IfErr r (λ e. e ≡ I.Limit → LacksPlaceCreating view builder)
-      lacks_creating clusters counts r lacks =
+      pub lacks_creating : builder.cluster_size ≡ 2 ^ bits → builder.refcount_width ≡ 2 ^ order → {T : Type 0} (storage : S) (r : Result T ImageError) → IfErr r (λ e. e ≡ I.Limit → CantEnlarge view none_below builder.preallocate builder.size contents storage)
+          → IfErr r (λ e. e ≡ I.Limit → LacksPlaceCreating view builder storage)
+      lacks_creating clusters counts storage r lacks =
           limits_as r
           (λ cant. record {
             contents = contents;
@@ -197,7 +198,7 @@ module _ {S : Type 0} (builder : Qcow2CreateBuilder S) where
 
       opening_reason : (e : ImageError) → IsRefusedRightly (view storage).contents true N.Nothing e → IsReasonNotToCreateOpen view builder (last, e)
       opening_reason e why = elim (opening_fault (view storage).contents consistent e why) [
-        | inl fault ↦ fault_reason e fault
+        | inl fault ↦ fault_reason view last e fault
         | inr is ↦ absurd (no_limit (view storage).contents consistent (subst (λ (x : ImageError). IsRefusedRightly (view storage).contents true N.Nothing x) is why))
       ]
 

@@ -14,9 +14,10 @@ use Rattle.qcow2_alloc.specs.declared.clusters_to_free.ClustersToFreeEntry.{Clus
 use Rattle.qcow2_alloc.specs.declared.error.ImageError.{ImageError}
 use Rattle.qcow2_alloc.specs.declared.error.ImageError.TheVariants as I
 use Rattle.qcow2_alloc.specs.ImageFile.{known_in, view_in}
-use Rattle.qcow2_image.specs.Calls.{FlushesImage}
+use Rattle.qcow2_disk.specs.Calls.{IsRefusalByFault}
+use Rattle.qcow2_image.specs.Calls.{FlushesImage, refusal_of}
 use Rattle.qcow2_image.specs.declared.image.Qcow2.{Qcow2}
-use Rattle.qcow2_image.specs.Growing.{KeepsSurplus}
+use Rattle.qcow2_image.specs.Growing.{KeepsSurplus, LeavesSound}
 use Rattle.qcow2_image.specs.Image.{HasNothingToFree, is_writable, size_of}
 use Rattle.qcow2_image.specs.ImageInvariant.{abstract_of, new_data_by, of_data, of_tables, over_all, surplus_in, to_free}
 use Rattle.qcow2_image.specs.Resizing.{GrowsTo, IsResized, size_after}
@@ -38,6 +39,17 @@ module _ {S F : Type 0} (view : S → StorageView) (backing : F → BackingView)
         surplus = ((sees []).acts.works sound).surplus now;
       }
   surplus_taken old new size mode (Err e) sound no_larger image sees = tt
+
+  -- a limit leaves it so
+  pub left_taking : (old new : Qcow2 S F) (size : ℕ) (mode : PreallocateMode) (r : Result (Unit {0}) ImageError) → (abstract_of view backing old []).is_sound → IsResized (size_after r (size_of old) size) old new → GrowsTo view backing old new size mode r
+      → IfLimit r (LeavesSound view backing old new)
+  left_taking old new size mode (Ok x) sound image sees = tt
+  left_taking old new size mode (Err e) sound image sees = λ is.
+      let works = (sees []).acts.works sound in
+      elim ((sees []).answer sound) [
+        | inl still ↦ record { keeps = record { sound = still.0; writable = image.writable; surplus = works.surplus still.0 }; leaks = works.leaks }
+        | inr failed ↦ absurd (subst (λ (x : ImageError). IsRefusalByFault (refusal_of x)) is failed.0)
+      ]
 
   -- what is counted more than named is the surplus, where nothing is prepared or to be freed
   stored : (image : Qcow2 S F) (b : Bytes) (k : ℕ) → surplus_in view backing image [] k ≡ 0 → known_in view image.file ≡ b → HasNothingToFree image → surplus_of image.file.header.fields b k ≡ 0

@@ -21,9 +21,12 @@ use Rattle.qcow2_image.specs.declared.image.Qcow2.{Qcow2}
 use Rattle.qcow2_image.specs.LongerTables.{RefusedMove, UnseenMove}
 use Rattle.qcow2_image.proofs.Grow.Lengths.{fits_grown, reaches_begun, reaches_told}
 use Rattle.qcow2_image.specs.L1Entries.{ReachesOffset}
-use Rattle.qcow2_image.specs.Growing.{FitsSize, Lasts, Extends, Resizes, GrowsDisk, KeepsSurplus, WritesBack, ReachesSize, GrowsWhole}
+use Rattle.qcow2_image.specs.Growing.{FitsSize, Lasts, Extends, Resizes, GrowsDisk, KeepsSurplus, LeavesSound, WritesBack, ReachesSize, GrowsWhole}
 use Rattle.qcow2_image.specs.Image.{size_of, is_failed, is_writable}
-use Rattle.qcow2_image.proofs.Call.Marked.{MayMarkBy}
+use Rattle.qcow2_image.proofs.Call.Marked.{MayMark, MayMarkBy}
+use Rattle.qcow2_image.proofs.Call.Refused.{stays_kept, stays_then}
+use Rattle.qcow2_image.specs.CallParts.{UnseenCall}
+use Rattle.qcow2_image.specs.Limits.{IfLimit}
 use Rattle.qcow2_alloc.specs.FreeList.{with_listed}
 use Rattle.qcow2_image.proofs.Flush.Freeing.{all_listed, beside}
 use Rattle.qcow2_image.specs.UnseenSteps.{UnseenFreeingStep, FreesListed, UnseenStep, ListGrows, pending_with_listed}
@@ -161,6 +164,20 @@ module _ {S F : Type 0} (view : S → StorageView) (backing : F → BackingView)
     surplus_grown writable new done r answer rest marks resizes grows =
         subst (λ (s : Result (Unit {0}) ImageError). OnOk s (KeepsSurplus view backing old new)) (sym answer)
         (subst (λ (i : Qcow2 S F). OnOk done (KeepsSurplus view backing old i)) (sym rest) (kept done (is_failed new) writable resizes grows marks))
+
+  -- ---- a larger L1 table met a limit
+  pub left_sound : {A B : Type 0} (old begun big new : Qcow2 S F) → (call : UnseenCall view backing old begun []) → is_writable big ≡ is_writable old → (r : Result (Unit {0}) ImageError) → new ≡ record big { is_failed = is_failed new } → MayMarkBy r (is_failed big) (is_failed new)
+      → (A → B) → IfLimit r (A × UnseenStep view backing (pending_in view backing begun []) (pending_with_listed (pending_in view backing begun []) begun big) begun big []) → IfLimit r (B × LeavesSound view backing old new)
+  left_sound old begun big new call writable (Ok x) rest marks to limit = tt
+  left_sound old begun big new call writable (Err e) rest marks to limit = λ is.
+      let met = limit is in
+      let whole = stays_then view backing [] old begun big call (stays_kept view backing [] begun big call.sound met.1) in
+      let kept : is_failed new ≡ is_failed big = subst (λ (x : ImageError). MayMark x (is_failed big) (is_failed new)) is marks in
+      let same : new ≡ big = rest ∙ ap (λ (f : Bool). record big { is_failed = f }) kept in (
+        to met.0,
+        subst (λ (i : Qcow2 S F). LeavesSound view backing old i) (sym same)
+            (record { keeps = record { sound = whole.sound; writable = writable; surplus = whole.works.surplus whole.sound }; leaks = whole.works.leaks }),
+      )
 
   -- ---- what is listed is freed, and all tables are written
   extends_tidying : (p q : Pending) (a b : Qcow2 S F) → UnseenFreeingStep view backing p q a b [] → Extends view backing p q a b []

@@ -34,7 +34,7 @@ use Rattle.qcow2_image.proofs.Clear.ClearCalls.{under_before}
 use Rattle.qcow2_image.proofs.Clear.Ranges.{table_end, table_whole}
 use Rattle.qcow2_image.proofs.Grow.Lengths.{place_same, reaching_stays, reaching_stays_shorter, reaching_stays_then}
 use Rattle.qcow2_image.proofs.Moved.{file_step_then}
-use Rattle.qcow2_image.proofs.Prepare.Lacked.{limited_since, other_limit}
+use Rattle.qcow2_image.proofs.Prepare.Lacked.{limited_from, limited_less, other_limit}
 use Rattle.std.proofs.lemmas.Nat.{pow_pos}
 use Rattle.qcow2_image.proofs.Preallocate.Covers.{covers_before, covers_cleared, covers_from, covers_none, covers_stay, covers_then}
 use Rattle.qcow2_image.proofs.Preallocate.Pieces.{none_of}
@@ -199,7 +199,8 @@ module _ {S F : Type 0} (view : S → StorageView) (backing : F → BackingView)
     refused_after goes e then = record {
       left = left_after e then.left;
       taken = λ is. taken_wider a.file.header.fields b.file.header.fields x' y' from to out first.header low' high' (then.taken is);
-      limit = λ is. limited_since high' goes (then.limit is);
+      limit = λ is. limited_from (omega arith) high' goes first.sound (wider_works a b x y from to low high first.works)
+          (limited_less (given_by_zeros x' y' ∷ []) (given_by_zeros from to ∷ []) (zeros_wider x' y' from to low' high') (zeros_touch (cluster_size b.file.header.fields) x' y' from to low' high') (then.limit is));
     }
 
   -- a part, and then clusters are freed, which no guest sees

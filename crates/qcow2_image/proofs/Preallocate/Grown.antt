@@ -28,7 +28,7 @@ use Rattle.qcow2_image.proofs.Preallocate.Filled.{met_taken, refused_here}
 use Rattle.qcow2_image.proofs.Preallocate.Covers.{boundary}
 use Rattle.qcow2_image.proofs.Preallocate.Pieces.{none_of}
 use Rattle.qcow2_image.proofs.Preallocate.Zeros.{zeros_shown}
-use Rattle.qcow2_image.proofs.Prepare.Lacked.{limited_not}
+use Rattle.qcow2_image.proofs.Prepare.Lacked.{limited_less, limited_not}
 use Rattle.qcow2_image.proofs.Sizes.{disk_size}
 use Rattle.qcow2_image.proofs.UngivenCovers.{touches_part}
 
@@ -135,7 +135,7 @@ module _ {S F : Type 0} (view : S → StorageView) (backing : F → BackingView)
       grown_refused e refused = record {
         left = ⊎_elim (λ (part : FillsSome view backing (size_of old) end old new out). inl (in_part part)) (λ (interrupted : InterruptedGiving view backing (given_by_zeros (size_of old) end ∷ []) old new out e). inr (broken e interrupted)) refused.left;
         taken = λ is. (hides, subst (λ n. IsUnderMappingIn old.file.header.fields n end out) size_is (refused.taken is));
-        limit = refused.limit;
+        limit = λ is. limited_less (given_by_zeros (size_of old) end ∷ []) (all_given_by_growing view backing old size mode) given_zeros zeros_touched (refused.limit is);
       }
 
       pub grown_or_refused : (first from : ℕ) → first ≡ first_zeros (cluster_size old.file.header.fields) from size mode → from ≡ size_of old → (r : Result (Unit {0}) ImageError) → FillsOrRefuses view backing first from end old new out r → FillsGrownOrRefuses view backing size mode old new out r

@@ -2,11 +2,11 @@
 use Rattle.qcow2_image.specs.Image.{ImageStays, IsBegun}
 use Rattle.qcow2_image.specs.ImageSteps.{ImageStep}
 use Rattle.qcow2_image.specs.Ranges.{TakesDataAt}
-use Rattle.qcow2_image.specs.UnseenSteps.{RefusedFillingStep, TakesData, pending_with_listed}
-use Rattle.qcow2_image.specs.Limits.{GoesTo, IfLimit, IsLimited, LacksPlace, l1_clusters}
+use Rattle.qcow2_image.specs.UnseenSteps.{RefusedFillingStep, TakesData, UnseenFillingStep, pending_with_listed}
+use Rattle.qcow2_image.specs.Limits.{GoesTo, IfLimit, IsLimited, IsLimitedAmong, IsLimitedIn, IsLimitedTaking, IsLimitedUnseen, IsLimitedWith, LacksPlace, l1_clusters}
 use Rattle.qcow2_image.proofs.Call.BehindHeader.{behind_begun, behind_then}
 use Rattle.qcow2_image.proofs.Call.ImageSteps.{step_none}
-use Rattle.std.proofs.Common.{◌≡◌, ◌⊎◌, inl, inr, ℕ, ◌+◌, ◌<◌, ◌≤◌, List, Option, Some, Result, Ok, Err, refl, sym, ap, ◌∙◌, subst, arith}
+use Rattle.std.proofs.Common.{◌≡◌, ◌⊎◌, inl, inr, ℕ, ◌+◌, ◌<◌, ◌≤◌, List, [], ◌∷◌, ◌++◌, Option, Some, Result, Ok, Err, refl, sym, ap, ◌∙◌, subst, arith}
 use Rattle.std.proofs.lemmas.Bool.{cases_lt}
 use Rattle.std.proofs.lemmas.Nat.{le-div, pow_pos}
 use Rattle.std.specs.Prelude.{IfErr, IsErr, IsErrAnd, IsSome, None, OnOk, max, length, ◌-◌, ◌*◌, ◌/◌, ◌^◌}
@@ -22,15 +22,22 @@ use Rattle.qcow2_alloc.specs.declared.error.ImageError.TheVariants as I
 use Rattle.qcow2_alloc.specs.ImageError.{IsFault}
 use Rattle.qcow2_alloc.specs.ImageFile.{KeepsHeader}
 use Rattle.qcow2_alloc.specs.Limits.{IsFaultOr}
-use Rattle.qcow2_image.specs.CallParts.{RefusedCall}
+use Rattle.qcow2_disk.specs.Calls.{EffectOnSound}
+use Rattle.qcow2_metadata.specs.Guest.{Value}
+use Rattle.qcow2_disk.specs.Stops.{GivenBytes, IsGiven}
+use Rattle.qcow2_disk.proofs.Compose.{TouchesLess, works_less, works_then}
+use Rattle.qcow2_image.specs.CallParts.{RefusedCall, UnseenCall}
+use Rattle.qcow2_image.proofs.Call.Refused.{image_step_stays, stays_kept}
 use Rattle.qcow2_image.specs.declared.image.Qcow2.{Qcow2}
 use Rattle.qcow2_image.specs.declared.prepared.Prepared.{Prepared}
-use Rattle.qcow2_image.specs.ImageInvariant.{ImageInvariant, pending_in}
+use Rattle.qcow2_image.specs.ImageInvariant.{ImageInvariant, abstract_of, image_abstraction, pending_in}
 use Rattle.qcow2_image.specs.LongerTables.{IsLongerL1, clusters_of}
 use Rattle.qcow2_image.specs.Found.{l1_index_of}
 use Rattle.qcow2_image.specs.L1Entries.{HasFarEntry, EndsBefore, HasNearEntry, IsPlacedNear}
 use Rattle.qcow2_image.specs.Refusals.{IsFaultOrLimit, IsUnlimited}
 use Rattle.qcow2_image.proofs.Call.Unlimited.{fault_unlimited}
+use Rattle.qcow2_image.proofs.Free.{free_places}
+use Rattle.qcow2_image.proofs.Preallocate.Pieces.{enters, none_of}
 use Rattle.qcow2_alloc.proofs.AllocationSteps.{handed_on}
 
 -- ---- refusals
@@ -86,53 +93,137 @@ module _ {S F : Type 0} {view : S → StorageView} where
   pub goes_then : {a b c : Qcow2 S F} → GoesTo view a b → GoesTo view b c → GoesTo view a c
   goes_then first then = record { image = record { number = then.image.number ∙ first.image.number; size = then.image.size ∙ first.image.size; writable = then.image.writable ∙ first.image.writable; external = then.image.external ∙ first.image.external }; header_cluster = behind_then first.header_cluster then.header_cluster }
 
-module _ {S F : Type 0} {view : S → StorageView} {backing : F → BackingView} {near far : ℕ} {old mid : Qcow2 S F} where
-  pub limited_since : near ≤ far → GoesTo view old mid → IsLimited view backing near mid → IsLimited view backing far old
-  limited_since upto goes met = record {
+pub limits_both : {A : Type 0} (C D : Type 0) (r : Result A ImageError) → IfLimit r C → IfLimit r D → IfLimit r (C × D)
+limits_both C D (Ok x) first second = tt
+limits_both C D (Err e) first second = λ is. (first is, second is)
+
+-- ---- what two lists of gifts give
+given_before : (first then : List GivenBytes) (o : ℕ) (w : Value) → IsGiven first o w → IsGiven (first ++ then) o w
+given_before [] then o w is = absurd is
+given_before (x ∷ first) then o w is = elim is [ inl here ↦ inl here | inr later ↦ inr (given_before first then o w later) ]
+
+given_behind : (first then : List GivenBytes) (o : ℕ) (w : Value) → IsGiven then o w → IsGiven (first ++ then) o w
+given_behind [] then o w is = is
+given_behind (x ∷ first) then o w is = inr (given_behind first then o w is)
+
+ungiven_before : (size : ℕ) (first then : List GivenBytes) → TouchesLess size first (first ++ then)
+ungiven_before size [] then g not = tt
+ungiven_before size (x ∷ first) then g not = (not.0, ungiven_before size first then g not.1)
+
+ungiven_behind : (size : ℕ) (first then : List GivenBytes) → TouchesLess size then (first ++ then)
+ungiven_behind size [] then g not = not
+ungiven_behind size (x ∷ first) then g not = ungiven_behind size first then g not.1
+
+-- ---- a limit that a part met, of a call
+module _ {S F : Type 0} {view : S → StorageView} where
+  -- up to a further end
+  pub limited_in_upto : {Keeps : Qcow2 S F → Type 0} {near far : ℕ} {old : Qcow2 S F} → near ≤ far → IsLimitedIn view Keeps near old → IsLimitedIn view Keeps far old
+  limited_in_upto upto met = record { mid = met.mid; before = met.before; kept = met.kept; offset = met.offset; below = let lt = met.below in omega (arith, upto, lt); limit = met.limit }
+
+  -- from a state before it
+  pub limited_in_since : {Keeps Keeps' : Qcow2 S F → Type 0} {end : ℕ} {old mid : Qcow2 S F} → GoesTo view old mid → ((image : Qcow2 S F) → Keeps image → Keeps' image) → IsLimitedIn view Keeps end mid → IsLimitedIn view Keeps' end old
+  limited_in_since goes keeps met = record { mid = met.mid; before = goes_then goes met.before; kept = keeps met.mid met.kept; offset = met.offset; below = met.below; limit = met.limit }
+
+module _ {S F : Type 0} {view : S → StorageView} {backing : F → BackingView} {end : ℕ} {old : Qcow2 S F} {out : List (Option Prepared)} where
+  called : (Keeps : Qcow2 S F → Type 0) → ((mid : Qcow2 S F) → Keeps mid → UnseenCall view backing old mid out) → IsLimitedIn view Keeps end old → IsLimitedAmong view backing [] end old out
+  called Keeps call met = record { mid = met.mid; now = out; before = met.before; few = omega arith; works = (call met.mid met.kept).works; sound = (call met.mid met.kept).sound; offset = met.offset; below = met.below; limit = met.limit }
+
+  -- a part of a call that no guest sees
+  pub limited_unseen : ImageInvariant view backing (pending_in view backing old out) old out → IsLimitedUnseen view backing (pending_in view backing old out) end old out → IsLimitedAmong view backing [] end old out
+  limited_unseen sound met = called _ (λ mid keeps. stays_kept view backing out old mid sound keeps) met
+
+  -- one that took a cluster for data
+  pub limited_taking : ImageInvariant view backing (pending_in view backing old out) old out → IsLimitedTaking view backing (pending_in view backing old out) end old out → IsLimitedAmong view backing [] end old out
+  limited_taking sound met = called _ (λ mid keeps. image_step_stays view backing out old mid sound keeps) met
+
+-- a place more for a mapping
+pub places_enter : {S F : Type 0} (view : S → StorageView) (backing : F → BackingView) (image : Qcow2 S F) (out : List (Option Prepared)) → EffectOnSound (abstract_of view backing image out) (abstract_of view backing image (None ∷ out)) [] []
+places_enter view backing image out = enters (image_abstraction view backing) (free_places view backing) (λ d. refl) image out
+
+-- ---- a limit that was met, seen from an earlier state
+module _ {S F : Type 0} {view : S → StorageView} {backing : F → BackingView} where
+  pub limited_from : {most most' near far : ℕ} {given : List GivenBytes} {old mid : Qcow2 S F} {out between : List (Option Prepared)} → most ≤ most' → near ≤ far → GoesTo view old mid → ImageInvariant view backing (pending_in view backing mid between) mid between
+      → EffectOnSound (abstract_of view backing old out) (abstract_of view backing mid between) given [] → IsLimitedWith view backing most given near mid between → IsLimitedWith view backing most' given far old out
+  limited_from {given = given} {old = old} {mid = mid} {out = out} {between = between} more upto goes sound works met = record {
     mid = met.mid;
+    now = met.now;
     before = goes_then goes met.before;
-    pending = met.pending;
-    out = met.out;
+    few = let few = met.few in omega (arith, more, few);
+    works = works_then (abstract_of view backing old out) (abstract_of view backing mid between) (abstract_of view backing met.mid met.now) given [] sound works met.works;
     sound = met.sound;
     offset = met.offset;
     below = let lt = met.below in omega (arith, upto, lt);
     limit = met.limit;
   }
 
-  pub limited_behind : near ≤ far → ImageStep view old mid → IsLimited view backing near mid → IsLimited view backing far old
-  limited_behind upto step met = limited_since upto (goes_step step) met
+  -- with room for more mappings, up to a further end
+  pub limited_within : {most most' near far : ℕ} {given : List GivenBytes} {old : Qcow2 S F} {out : List (Option Prepared)} → most ≤ most' → near ≤ far → IsLimitedWith view backing most given near old out → IsLimitedWith view backing most' given far old out
+  limited_within more upto met = record {
+    mid = met.mid;
+    now = met.now;
+    before = met.before;
+    few = let few = met.few in omega (arith, more, few);
+    works = met.works;
+    sound = met.sound;
+    offset = met.offset;
+    below = let lt = met.below in omega (arith, upto, lt);
+    limit = met.limit;
+  }
 
--- up to a further end
-pub limited_upto : {S F : Type 0} {view : S → StorageView} {backing : F → BackingView} {near far : ℕ} {old : Qcow2 S F} → near ≤ far → IsLimited view backing near old → IsLimited view backing far old
-limited_upto upto met = limited_behind upto step_none met
+  -- of a call that may give more
+  pub limited_giving : {most end : ℕ} (given : List GivenBytes) {old : Qcow2 S F} {out : List (Option Prepared)} → IsLimitedWith view backing most [] end old out → IsLimitedWith view backing most given end old out
+  limited_giving given met = record { mid = met.mid; now = met.now; before = met.before; few = met.few; works = none_of _ _ given met.works; sound = met.sound; offset = met.offset; below = met.below; limit = met.limit }
 
--- of each refusal
-pub limits_since : {S F : Type 0} {view : S → StorageView} (backing : F → BackingView) {near far : ℕ} {old mid : Qcow2 S F} {A : Type 0} (r : Result A ImageError) → near ≤ far → GoesTo view old mid → IfLimit r (IsLimited view backing near mid) → IfLimit r (IsLimited view backing far old)
-limits_since backing (Ok x) upto goes met = tt
-limits_since backing (Err e) upto goes met = λ is. limited_since upto goes (met is)
+  -- of one that gives all that this gave
+  pub limited_less : {most end : ℕ} (given fewer : List GivenBytes) {old : Qcow2 S F} {out : List (Option Prepared)} → ((o : ℕ) (w : Value) → IsGiven given o w → IsGiven fewer o w) → TouchesLess (cluster_size old.file.header.fields) given fewer
+      → IsLimitedWith view backing most given end old out → IsLimitedWith view backing most fewer end old out
+  limited_less given fewer within touches met = record { mid = met.mid; now = met.now; before = met.before; few = met.few; works = works_less _ _ given fewer [] (λ o w is. inr (within o w is)) touches met.works; sound = met.sound; offset = met.offset; below = met.below; limit = met.limit }
+
+  -- behind a part of a call, with what each of them gives
+  pub limited_joined : {near far : ℕ} {old mid : Qcow2 S F} {out : List (Option Prepared)} → near ≤ far → GoesTo view old mid → ImageInvariant view backing (pending_in view backing mid out) mid out → (first : List GivenBytes)
+      → EffectOnSound (abstract_of view backing old out) (abstract_of view backing mid out) first [] → ((given : List GivenBytes) × IsLimited view backing given near mid out) → (given : List GivenBytes) × IsLimited view backing given far old out
+  limited_joined {old = old} {mid = mid} {out = out} upto goes sound first works met = (
+    first ++ met.0,
+    limited_from (omega arith) upto goes sound (works_less (abstract_of view backing old out) (abstract_of view backing mid out) first (first ++ met.0) [] (λ o w is. inr (given_before first met.0 o w is)) (ungiven_before (cluster_size old.file.header.fields) first met.0) works)
+        (limited_less met.0 (first ++ met.0) (given_behind first met.0) (ungiven_behind (cluster_size mid.file.header.fields) first met.0) met.1),
+  )
+
+  pub limited_more : {end : ℕ} {given : List GivenBytes} {old : Qcow2 S F} {out : List (Option Prepared)} → IsLimitedAmong view backing given end old out → IsLimited view backing given end old out
+  limited_more met = limited_within (omega arith) (omega arith) met
+
+  pub limited_upto : {near far : ℕ} {given : List GivenBytes} {old : Qcow2 S F} {out : List (Option Prepared)} → near ≤ far → IsLimited view backing given near old out → IsLimited view backing given far old out
+  limited_upto upto met = limited_within (omega arith) upto met
+
+  -- behind a part that no guest sees
+  pub limited_since : {near far : ℕ} {given : List GivenBytes} {old mid : Qcow2 S F} {out : List (Option Prepared)} → near ≤ far → GoesTo view old mid → UnseenCall view backing old mid out → IsLimited view backing given near mid out → IsLimited view backing given far old out
+  limited_since {given = given} upto goes call met = limited_from (omega arith) upto goes call.sound (none_of _ _ given call.works) met
 
 -- ---- where clusters were refused
-module _ {S F : Type 0} (view : S → StorageView) (backing : F → BackingView) (out : List (Option Prepared)) (p : Pending) (old new : Qcow2 S F) where
-  pub limited_left : {C : Type 0} (offset : ℕ) (e : ImageError) → ImageInvariant view backing p new out ⊎ IsFault e → GoesTo view old new → (C → LacksPlace view offset new) → IsFaultOr C e → e ≡ I.Limit → IsLimited view backing (offset + 1) old
-  limited_left {C} offset e left goes lacks why is = elim left [
-    | inl sound ↦ record { mid = new; before = goes; pending = p; out = out; sound = sound; offset = offset; below = omega arith; limit = inr (lacks (cause_of C e why is)) }
+module _ {S F : Type 0} {view : S → StorageView} {Keeps : Qcow2 S F → Type 0} {old : Qcow2 S F} where
+  pub limited_left : {C : Type 0} (new : Qcow2 S F) (offset : ℕ) (e : ImageError) → Keeps new ⊎ IsFault e → GoesTo view old new → (C → LacksPlace view offset new) → IsFaultOr C e → e ≡ I.Limit → IsLimitedIn view Keeps (offset + 1) old
+  limited_left {C} new offset e left goes lacks why is = elim left [
+    | inl keeps ↦ record { mid = new; before = goes; kept = keeps; offset = offset; below = omega arith; limit = inr (lacks (cause_of C e why is)) }
     | inr fault ↦ other_limit _ e (fault_unlimited e fault) is
   ]
 
-  pub limits_left : {A C : Type 0} (r : Result A ImageError) → IfErr r (λ e. ImageInvariant view backing p new out ⊎ IsFault e) → GoesTo view old new → (C → LacksPlace view 0 new) → IfErr r (IsFaultOr C) → IfLimit r (IsLimited view backing 1 old)
-  limits_left (Ok x) left goes lacks why = tt
-  limits_left (Err e) left goes lacks why = limited_left 0 e left goes lacks why
+module _ {S F : Type 0} (view : S → StorageView) (Keeps : Qcow2 S F → Type 0) (old : Qcow2 S F) where
+  pub limits_left : {A C : Type 0} (new : Qcow2 S F) (r : Result A ImageError) → IfErr r (λ e. Keeps new ⊎ IsFault e) → GoesTo view old new → (C → LacksPlace view 0 new) → IfErr r (IsFaultOr C) → IfLimit r (IsLimitedIn view Keeps 1 old)
+  limits_left new (Ok x) left goes lacks why = tt
+  limits_left new (Err e) left goes lacks why = limited_left {Keeps = Keeps} new 0 e left goes lacks why
 
 module _ {S F : Type 0} (view : S → StorageView) (backing : F → BackingView) (out : List (Option Prepared)) (p : Pending) (old new : Qcow2 S F) where
-  -- an allocation that was refused left all sound, or broke off
-  pub filling_left : (e : ImageError) → RefusedFillingStep view backing p old new out e → ImageInvariant view backing (pending_with_listed p old new) new out ⊎ IsFault e
-  filling_left e left = elim left [ inl stays ↦ inl stays.sound | inr broken ↦ inr broken.interrupted.fault ]
+  abbrev Fills : Type 0
+  Fills = UnseenFillingStep view backing p (pending_with_listed p old new) old new out
 
-  pub left_taken : (r : Result ClustersToFreeEntry ImageError) → TakesData view backing p old new out r → IfErr r (λ e. ImageInvariant view backing (pending_with_listed p old new) new out ⊎ IsFault e)
+  -- an allocation that was refused left all sound, or broke off
+  pub filling_left : (e : ImageError) → RefusedFillingStep view backing p old new out e → Fills ⊎ IsFault e
+  filling_left e left = elim left [ inl stays ↦ inl stays | inr broken ↦ inr broken.interrupted.fault ]
+
+  pub left_taken : (r : Result ClustersToFreeEntry ImageError) → TakesData view backing p old new out r → IfErr r (λ e. Fills ⊎ IsFault e)
   left_taken (Ok n) takes = tt
   left_taken (Err e) takes = filling_left e takes
 
-  pub left_taken_at : (cluster : ℕ) (r : Result (Option ClustersToFreeEntry) ImageError) → TakesDataAt view backing p old new out cluster r → IfErr r (λ e. ImageInvariant view backing (pending_with_listed p old new) new out ⊎ IsFault e)
+  pub left_taken_at : (cluster : ℕ) (r : Result (Option ClustersToFreeEntry) ImageError) → TakesDataAt view backing p old new out cluster r → IfErr r (λ e. Fills ⊎ IsFault e)
   left_taken_at cluster (Ok None) takes = tt
   left_taken_at cluster (Ok (Some n)) takes = tt
   left_taken_at cluster (Err e) takes = filling_left e takes

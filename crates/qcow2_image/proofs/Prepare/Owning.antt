@@ -135,7 +135,7 @@ module _ {S F : Type 0} (view : S → StorageView) (backing : F → BackingView)
           may = λ own. shared.may (subst NamesOwn e own);
         }
 
-    followed : (new : Qcow2 S F) → UnseenStep view backing p (pending_with_listed p mid new) mid new out → UnseenStep view backing p (pending_with_listed p old new) old new out
+    pub followed : (new : Qcow2 S F) → UnseenStep view backing p (pending_with_listed p mid new) mid new out → UnseenStep view backing p (pending_with_listed p old new) old new out
     followed new keeps = subst (λ (q : Pending). UnseenStep view backing p q old new out) (ap (λ l. pending_with_listed p (record old { file = record old.file { free_list = l } }) new) list) (keeps_then view backing out old mid new p p (pending_with_listed p mid new) (λ k some. some) kept keeps)
 
     pub left_then : (new : Qcow2 S F) (e : ImageError) → RefusedStep view backing p mid new out e → RefusedStep view backing p old new out e

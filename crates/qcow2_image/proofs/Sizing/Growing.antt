@@ -40,6 +40,12 @@ use Rattle.qcow2_image.proofs.Sizes.{disk_size}
 use Rattle.qcow2_image.proofs.Sizing.Shrinking.{of_fault}
 use Rattle.qcow2_image.proofs.Sizing.Tails.{works_asking}
 
+-- behind a part that no guest sees, what is given past the end is the same
+pub given_growing : {S F : Type 0} (view : S → StorageView) (backing : F → BackingView) (out : List (Option Prepared)) (old mid : Qcow2 S F) (size : ℕ) (mode : PreallocateMode) → UnseenCall view backing old mid out
+    → all_given_by_growing view backing mid size mode ≡ all_given_by_grow view backing old size mode
+given_growing view backing out old mid size mode call =
+    ap (λ s. given_by_grow s (disk_of view backing mid) size mode) call.works.setting ∙ ap (λ (g : Guest). given_by_grow (setting_of view backing old) g.disk size mode) call.same
+
 module _ {S F : Type 0} (view : S → StorageView) (backing : F → BackingView) (old : Qcow2 S F) (size : ℕ) (mode : PreallocateMode) (usable : is_failed old ≡ false) (larger : size_of old < size) where
   abbrev given_bytes : List GivenBytes
   given_bytes = all_given_by_grow view backing old size mode
@@ -94,7 +100,7 @@ module _ {S F : Type 0} (view : S → StorageView) (backing : F → BackingView)
       disk_is = ap (λ (g : Guest). g.disk) call.same
 
       given_bytes_are : all_given_by_growing view backing mid size mode ≡ given_bytes
-      given_bytes_are = ap (λ s. given_by_grow s (disk_of view backing mid) size mode) setting_is ∙ ap (λ d. given_by_grow (setting_of view backing old) d size mode) disk_is
+      given_bytes_are = given_growing view backing out old mid size mode call
 
       behind : (new : Qcow2 S F) → EffectOnSound (abstract_of view backing mid out) (abstract_of view backing new out) (all_given_by_growing view backing mid size mode) [] → EffectOnSound (abstract_of view backing old out) (abstract_of view backing new out) given_bytes []
       behind new works =

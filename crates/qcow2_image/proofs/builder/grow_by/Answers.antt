@@ -1,4 +1,4 @@
-use Rattle.qcow2_image.proofs.Prepare.Lacked.{goes_step, limits_since}
+use Rattle.qcow2_image.proofs.Prepare.Lacked.{limited_giving, limited_upto, limits_as, limits_both}
 use Rattle.qcow2_image.proofs.Call.ImageSteps.{step_none}
 use Rattle.qcow2_image.proofs.Preallocate.Grown.{up_least}
 use Rattle.std.proofs.lemmas.Nat.{pow_pos}
@@ -8,7 +8,7 @@ use Rattle.std.proofs.Common.{[], ◌-◌, sym, subst}
 use Rattle.qcow2_image.specs.Created.{GrowsBy}
 use Rattle.qcow2_image.proofs.Create.Faults.{grown_fault}
 use Rattle.qcow2_image.proofs.Sizing.ShrinkCalls.{resize_works}
-use Rattle.qcow2_image.proofs.Create.Leaks.{surplus_taken, taking_limited}
+use Rattle.qcow2_image.proofs.Create.Leaks.{left_taking, surplus_taken, taking_limited}
 use Rattle.qcow2_image.proofs.Create.TakingPlace.{takes_by}
 use Rattle.qcow2_image.proofs.builder.grow_by.Goals as goal
 
@@ -41,7 +41,8 @@ returns-in_default-clause-surplus g c = λ usable sound.
 pub returns-in-None-clause-limit : goal.returns-in-None-clause-limit
 returns-in-None-clause-limit g c = λ usable sound.
     let h = c.args.image.now.file.header.fields in
-    limits_since _ c.grow.result (up_least (cluster_size h) c.args.size (pow_pos h.cluster_bits)) (goes_step step_none) (c.grow.ensures.limit sound)
+    limits_as c.grow.result (λ met. (limited_giving _ (limited_upto (up_least (cluster_size h) c.args.size (pow_pos h.cluster_bits)) met.0), met.1)) (c.grow.ensures.limit sound)
 
 pub returns-in_default-clause-limit : goal.returns-in_default-clause-limit
-returns-in_default-clause-limit g c = λ usable sound. taking_limited _ (size_of c.args.image.now) c.args.size c.resize_grow.result (λ le. (c.resize_grow.ensures.no_larger usable le).0) (λ lt. c.resize_grow.ensures.limit usable lt [] sound)
+returns-in_default-clause-limit g c = λ usable sound. taking_limited _ (size_of c.args.image.now) c.args.size c.resize_grow.result (λ le. (c.resize_grow.ensures.no_larger usable le).0)
+    (λ lt. limits_both _ _ c.resize_grow.result (c.resize_grow.ensures.limit usable lt [] sound) (left_taking g.S.Storage.view g.F.BackingDisk.backing c.args.image.now c.resize_grow.new.self c.args.size c.args.mode c.resize_grow.result sound (c.resize_grow.ensures.image lt) c.resize_grow.ensures.sees))

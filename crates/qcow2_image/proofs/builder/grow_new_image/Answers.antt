@@ -72,6 +72,9 @@ returns-in-Ok-clause-limit g c = λ honest unwritten new_image uncleared.
       is_opened = is;
       stands = (c.in-Ok.ensures.step.storage.contents honest).contents ∙ opened_none true contents uncleared;
       emptied = c.in-Ok.ensures.list honest unwritten.consistent;
-      limit = met;
+      limit = met.0;
+      left = c.grow_and_flush-done.new.image;
+      is_left = sym c.into_storage.ensures;
+      leaves = met.1;
     })
     (c.grow_and_flush-done.ensures.limit (usable_opened view below image is c.in-Ok.ensures.image.writable_is) is.sound)

@@ -1,4 +1,4 @@
-use Rattle.qcow2_image.proofs.Prepare.Lacked.{limited_since}
+use Rattle.qcow2_image.proofs.Prepare.Lacked.{limited_joined}
 use Rattle.qcow2_session.proofs.convert.import_all.Goals as goal
 use Rattle.std.proofs.Common.{sym, ◌≡◌, ◌+◌, ◌-◌, ◌%◌, ◌<◌, ◌≤◌, ◌++◌, drop, length, take, refl, ap, ◌∙◌, subst, arith, min, ℕ, rules}
 use Rattle.std.proofs.Math.Nat.{zero-mod, add-mod_right}
@@ -109,7 +109,7 @@ returns-in_err-import_at-clause-late g c = λ none size out sound.
     subst (λ r. IfErr r (IsReasonNotToWrite g.S.Storage.view g.F.BackingDisk.backing c.args.image.now c.import_at.new.image 0 c.args.size out)) (sym (refused_is _ c.in_err-import_at.field-0.0 c.from_residual.ensures))
     (reason_within g.S.Storage.view g.F.BackingDisk.backing c.args.image.now c.loop-at.image c.import_at.new.image c.loop-at.invariant.image (ap (λ (x : Setting). x.cluster_size) (first.acts.works sound).setting) 0 c.args.size c.loop-at.at (c.loop-at.at + count)
     (omega arith) (omega (arith, c.min-count.ensures, c.loop-at-test.true, long)) out c.in_err-import_at.field-0.0
-    (limited_since upto (record { image = c.loop-at.invariant.image; header_cluster = c.loop-at.invariant.behind }))
+    (λ met. limited_joined upto (record { image = c.loop-at.invariant.image; header_cluster = c.loop-at.invariant.behind }) now _ (first.acts.works sound) met)
     (c.in_err-import_at.ensures.late (part_of_disk c.args.image.now c.loop-at.image c.loop-at.invariant.image c.loop-at.at count (omega (arith, c.min-count.ensures, c.loop-at-test.true, long, size)) now.works none) out now))
 
 pub returns-in_err-import_at-clause-met : goal.returns-in_err-import_at-clause-met

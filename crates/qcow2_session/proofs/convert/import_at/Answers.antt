@@ -1,5 +1,5 @@
 use Rattle.qcow2_session.proofs.convert.import_at.Goals as goal
-use Rattle.std.proofs.Common.{◌≡◌, ◌+◌, ◌-◌, ◌∙◌, inl, length, None, true, false, refl, sym, ap, subst, arith, rules}
+use Rattle.std.proofs.Common.{◌≡◌, ◌+◌, ◌-◌, ◌∙◌, inl, length, [], ◌∷◌, None, true, false, refl, sym, ap, subst, arith, rules}
 use Rattle.std.specs.Prelude.{IfErr}
 use Rattle.image_access.specs.Contents.{bytes_at}
 use Rattle.qcow2_disk.specs.AbstractImages.{Setting}
@@ -7,7 +7,7 @@ use Rattle.qcow2_image.specs.Refusals.{refuses_to_read}
 use Rattle.qcow2_image.proofs.Call.FaultCounts.{faults_then}
 use Rattle.qcow2_image.proofs.Call.MetErrors.{storage_met}
 use Rattle.qcow2_image.proofs.Call.Unlimited.{storage_unlimited}
-use Rattle.qcow2_image.proofs.Prepare.Lacked.{limited_since, other_limit}
+use Rattle.qcow2_image.proofs.Prepare.Lacked.{limited_from, other_limit}
 use Rattle.qcow2_session.proofs.ImportLimits.{reading_unlimited}
 use Rattle.qcow2_alloc.proofs.AllocationSteps.{fault_of_storage}
 use Rattle.qcow2_alloc.specs.ImageFile.{known_in}
@@ -16,7 +16,9 @@ use Rattle.qcow2_session.specs.Conversions.{IsMetImporting, IsReasonNotToWrite}
 use Rattle.qcow2_session.proofs.Reasons.{read_importing, write_importing, write_reason}
 use Rattle.std.proofs.lemmas.Grind.{common_steps}
 use Rattle.qcow2_alloc.specs.ImageError.{of_storage}
+use Rattle.qcow2_disk.specs.Mappings.{given_of}
 use Rattle.qcow2_image.specs.ImageInvariant.{abstract_of}
+use Rattle.qcow2_image.proofs.Preallocate.Pieces.{none_of}
 use Rattle.qcow2_session.proofs.Counting.{converted, converting_image, converting_raw, fewer_since, image_tells, image_marks, so_far_call, so_far_none, so_far_then}
 use Rattle.qcow2_session.proofs.Differing.{other_bytes, reading_differs}
 use Rattle.qcow2_session.proofs.Converting.{does_nothing, interrupted, interrupted_here, at_refused, at_shown, at_written, at_unwritten}
@@ -109,7 +111,11 @@ returns-in-Err-clause-late g c = λ none out sound.
     subst (λ n. IsReasonNotToWrite view below c.args.image.now c.write.new.image c.args.at (c.args.at + n) out c.in-Err.refusal) long
     (write_reason view below c.args.image.now c.read_into.new.image c.write.new.image c.in_ok-read_into.ensures.step.image (ap (λ (x : Setting). x.cluster_size) (first.acts.works sound).setting) c.args.at (length c.read.new.buf) now.works
     (subst (λ n. refuses_to_read c.args.image.now c.args.at n ≡ None) (sym long) none) out c.in-Err.refusal _ _ c.in-Err.ensures.early c.in-Err.ensures.late (λ free t. c.in-Err.ensures.taken free out now t)
-    (λ free is. limited_since (omega arith) (record { image = c.read_into.ensures.step.image; header_cluster = c.read_into.ensures.step.header_cluster }) (c.in-Err.ensures.limit free out now is)))
+    (λ free is. (
+      given_of c.args.at c.read.new.buf ∷ [],
+      limited_from (omega arith) (omega arith) (record { image = c.read_into.ensures.step.image; header_cluster = c.read_into.ensures.step.header_cluster }) now
+          (none_of _ _ (given_of c.args.at c.read.new.buf ∷ []) (first.acts.works sound)) (c.in-Err.ensures.limit free out now is),
+    )))
 
 pub returns-in_err-read-clause-met : goal.returns-in_err-read-clause-met
 returns-in_err-read-clause-met g c = λ none out sound.

@@ -1,12 +1,14 @@
 use Rattle.qcow2_image.proofs.Call.OnceWritten.{counts_on}
 use Rattle.qcow2_session.proofs.Marking.{parts_answered, parts_behind, parts_beyond}
 use Rattle.qcow2_session.proofs.session.write.Goals as goal
-use Rattle.std.proofs.Common.{◌≡◌, ℕ, ◌∙◌, subst, take, drop, length, ◌<◌, ap, arith, ◌+◌, ◌≤◌, refl, ◌%◌, ◌-◌}
+use Rattle.std.proofs.Common.{◌≡◌, ℕ, ◌∙◌, subst, take, drop, length, [], ◌∷◌, ◌<◌, ap, arith, ◌+◌, ◌≤◌, refl, ◌%◌, ◌-◌}
 use Rattle.std.specs.Prelude.{IfSome, Option, Some, None, Result, Err, Ok}
 use Rattle.std.proofs.lemmas.Grind.{common_steps}
 use Rattle.std.proofs.lemmas.List.{take_rest}
 use Rattle.qcow2_disk.specs.Calls.{another}
 use Rattle.qcow2_disk.specs.AbstractImages.{Setting}
+use Rattle.qcow2_disk.specs.Mappings.{given_of}
+use Rattle.qcow2_disk.proofs.Compose.{works_less}
 use Rattle.qcow2_image.specs.ImageInvariant.{abstract_of}
 use Rattle.qcow2_image.specs.Calls.{refusal_of}
 use Rattle.qcow2_session.proofs.Writing.{ends_on, write_refused}
@@ -14,7 +16,7 @@ use Rattle.qcow2_session.proofs.Heeding.{heeded_first, heeded_more}
 use Rattle.qcow2_session.proofs.WrittenParts.{first_given, never_first, no_more_then, stops_behind, stops_first, writes_on}
 use Rattle.qcow2_session.specs.Sessions.{LeavesCopied, Writes, cluster_size_of}
 use Rattle.qcow2_image.specs.L1Entries.{NeedsFarEntry}
-use Rattle.qcow2_image.proofs.Prepare.Lacked.{limited_since}
+use Rattle.qcow2_image.proofs.Prepare.Lacked.{limited_from, limited_giving}
 use Rattle.qcow2_image.specs.Preparing.{IsTaken}
 use Rattle.qcow2_session.proofs.Beyond.{part_refused}
 use Rattle.qcow2_session.proofs.Turns.{does_less, refuses_here, refuses_if, nothing_refused}
@@ -209,7 +211,7 @@ returns-clause-freeing g c = λ out sound. c.loop-done.invariant.freeing out sou
 -- ---- the part at which it was refused
 
 pub returns-in-Err-clause-limit : goal.returns-in-Err-clause-limit
-returns-in-Err-clause-limit g c = λ none out sound. (c.in-Err.ensures.sound none out sound).limit
+returns-in-Err-clause-limit g c = λ none out sound is. limited_giving (given_of c.args.offset c.args.bytes.now ∷ []) ((c.in-Err.ensures.sound none out sound).limit is)
 
 pub returns-in-Err-clause-taken_part : goal.returns-in-Err-clause-taken_part
 returns-in-Err-clause-taken_part g c = λ none out sound.
@@ -232,9 +234,11 @@ returns-in-Err-write_some-clause-limit g c = λ none out sound is.
     let rest = length (drop c.loop-done.done c.args.bytes.now) in
     let still = ((c.loop-done.invariant.written out).answer sound).0 in
     let within : c.in-Some.at + rest ≤ c.args.offset + n = let at = c.in-Some.ensures.1 in grind (arith, common_steps) in
-    limited_since within (record { image = c.loop-done.invariant.image; header_cluster = c.loop-done.invariant.behind })
-    (((rw (take_rest c.args.bytes.now c.loop-done.done) at c.in-Err-write_some.ensures.sound)
-    (part_prepares old mid c.loop-done.invariant.image c.args.offset n c.in-Some.at rest (grind (arith, common_steps)) (grind (arith, common_steps)) still.works (omega (arith, c.loop-done-test.true)) none) out still).limit is)
+    let first = first_given (abstract_of g.S.Storage.view g.F.BackingDisk.backing old out) c.args.offset c.loop-done.done c.args.bytes.now in
+    limited_from (omega arith) within (record { image = c.loop-done.invariant.image; header_cluster = c.loop-done.invariant.behind }) still
+    (works_less _ _ (given_of c.args.offset (take c.loop-done.done c.args.bytes.now) ∷ []) (given_of c.args.offset c.args.bytes.now ∷ []) [] first.values first.touches ((c.loop-done.invariant.written out).acts.works sound))
+    (limited_giving (given_of c.args.offset c.args.bytes.now ∷ []) (((rw (take_rest c.args.bytes.now c.loop-done.done) at c.in-Err-write_some.ensures.sound)
+    (part_prepares old mid c.loop-done.invariant.image c.args.offset n c.in-Some.at rest (grind (arith, common_steps)) (grind (arith, common_steps)) still.works (omega (arith, c.loop-done-test.true)) none) out still).limit is))
 
 pub returns-in-Err-write_some-clause-taken_part : goal.returns-in-Err-write_some-clause-taken_part
 returns-in-Err-write_some-clause-taken_part g c = λ none out sound.

@@ -397,7 +397,7 @@ returns-in_err-prepared-clause-sound g c = λ none out sound.
             ],
             c.in_err-prepared.ensures.taken none out sound is,
           ));
-      limit = subst (λ r. IfLimit r (IsLimited view g.F.BackingDisk.backing (c.args.offset + n) old)) (sym (refused_is _ e c.from_residual.ensures))
+      limit = subst (λ r. IfLimit r (IsLimited view g.F.BackingDisk.backing [] (c.args.offset + n) old out)) (sym (refused_is _ e c.from_residual.ensures))
           (λ is. limited_upto (omega (arith, some)) (c.in_err-prepared.ensures.limit none some out sound is));
     }
 

@@ -56,8 +56,8 @@ returns-clause-cause g c = λ honest.
     let contents = (view mid).contents in
     let is = c.new-header.ensures.value in
     let lacks = c.grow_new_image.ensures.limit there.0.honest none (stands_new builder view bits order v is contents there.1) (stands_uncleared builder view bits order v is contents there.1) in
-    reasons_of builder view c.grow_new_image.result.1 (c.grow_new_image.ensures.fault there.0.honest none (stands_third builder view bits order v is contents there.1))
-    (lacks_creating builder view bits order v is contents there.1 c.in-Ok.ensures.fits.clusters c.in-Ok.ensures.fits.counts c.grow_new_image.result.1 lacks)
+    reasons_of builder view c.grow_new_image.result.0 c.grow_new_image.result.1 (c.grow_new_image.ensures.fault there.0.honest none (stands_third builder view bits order v is contents there.1))
+    (lacks_creating builder view bits order v is contents there.1 c.in-Ok.ensures.fits.clusters c.in-Ok.ensures.fits.counts c.grow_new_image.result.0 c.grow_new_image.result.1 lacks)
 
 pub returns-in-Err-clause-refused : goal.returns-in-Err-clause-refused
 returns-in-Err-clause-refused g c = λ none. (ap Err (same_error (c.in-Err.ensures.refused none)), refl)
@@ -69,10 +69,10 @@ pub returns-in-Err-clause-limit : goal.returns-in-Err-clause-limit
 returns-in-Err-clause-limit g c = λ allowed no long. (ap Err (same_error (c.in-Err.ensures.limit allowed no long)), refl)
 
 pub returns-in-Err-clause-cause : goal.returns-in-Err-clause-cause
-returns-in-Err-clause-cause g c = λ honest. reason_against c.args.self g.S.Storage.view c.in-Err.refusal c.in-Err.ensures.cause
+returns-in-Err-clause-cause g c = λ honest. reason_against c.args.self g.S.Storage.view c.args.self.image c.in-Err.refusal c.in-Err.ensures.cause
 
 pub returns-in-Err-write_new_image-clause-cause : goal.returns-in-Err-write_new_image-clause-cause
-returns-in-Err-write_new_image-clause-cause g c = λ honest. fault_reason c.args.self g.S.Storage.view c.in-Err-write_new_image.refusal c.in-Err-write_new_image.ensures.fault
+returns-in-Err-write_new_image-clause-cause g c = λ honest. fault_reason c.args.self g.S.Storage.view _ c.in-Err-write_new_image.refusal c.in-Err-write_new_image.ensures.fault
 
 pub returns-in-Err-write_new_image-clause-refused : goal.returns-in-Err-write_new_image-clause-refused
 returns-in-Err-write_new_image-clause-refused g c = λ none. absurd (none (is_allowed c.args.self c.in-Ok.logarithms c.in-Ok.ensures.fits))

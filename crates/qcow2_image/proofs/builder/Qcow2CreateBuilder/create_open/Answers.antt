@@ -36,6 +36,8 @@ returns-in-Ok-open-clause-opens g c = λ honest.
       opener = c.in-Ok.opener;
       answered = c.in-Ok.ensures;
       created = made;
+      stops = c.create-storage.ensures.stops honest;
+      faults = (subst (λ (r : Result _ _). FaultsTold (view builder.image).faults (view storage).faults r) c.in_default.is c.create-storage.ensures.faults).told;
       new = new;
       over = subst (λ (b : Qcow2OpenBuilder _ _). image.backing ≡ option_flatten b.backing) c.write.ensures c.in-Ok-open.ensures.over;
       step = step;
@@ -51,7 +53,7 @@ pub returns-in-Err-clause-cause : goal.returns-in-Err-clause-cause
 returns-in-Err-clause-cause g c = λ honest.
     let view = g.S.Storage.view in
     inl (record {
-      reason = subst (λ (r : Result _ _). IfErr r (IsReasonNotToCreate view c.args.self)) c.in-Err.is (c.create-storage.ensures.cause honest);
+      reason = subst (λ (r : Result _ _). IfErr r (IsReasonNotToCreate view c.args.self c.create-storage.result.0)) c.in-Err.is (c.create-storage.ensures.cause honest);
       stops = c.create-storage.ensures.stops honest;
       faults = subst (λ (r : Result _ _). FaultsTold (view c.args.self.image).faults (view c.create-storage.result.0).faults r) c.in-Err.is c.create-storage.ensures.faults;
     })
@@ -64,11 +66,22 @@ returns-in-Err-open-clause-cause g c = λ honest.
       opener = c.in-Ok.opener;
       answered = c.in-Ok.ensures;
       created = made_so view c.args.self c.create-storage.result.0 c.create-storage.result.1 c.in_default.field-0 c.in_default.is (c.create-storage.ensures.created honest);
+      stops = c.create-storage.ensures.stops honest;
+      faults = (subst (λ (r : Result _ _). FaultsTold (view c.args.self.image).faults (view c.create-storage.result.0).faults r) c.in_default.is c.create-storage.ensures.faults).told;
       step = subst (λ (b : Qcow2OpenBuilder _ _). OpeningStep {F = g.row.F.Denot} view (view b.image) b.writable (files_missing b.backing) (Err (c.in-Err-open.storage, c.in-Err-open.refusal))) c.write.ensures c.in-Err-open.ensures.step;
     })
 
 pub returns-in-Err-builder-clause-closed : goal.returns-in-Err-builder-clause-closed
-returns-in-Err-builder-clause-closed g c = λ none. (c.create-storage.result.0, c.in-Err-builder.ensures)
+returns-in-Err-builder-clause-closed g c = λ none.
+    let view = g.S.Storage.view in
+    let storage = c.create-storage.result.0 in
+    record {
+      made = storage;
+      answered = c.in-Err-builder.ensures;
+      faults = (subst (λ (r : Result _ _). FaultsTold (view c.args.self.image).faults (view storage).faults r) c.in_default.is c.create-storage.ensures.faults).told;
+      created = λ honest. made_so view c.args.self storage c.create-storage.result.1 c.in_default.field-0 c.in_default.is (c.create-storage.ensures.created honest);
+      stops = λ honest. c.create-storage.ensures.stops honest;
+    }
 
 pub returns-in-Err-clause-refused : goal.returns-in-Err-clause-refused
 returns-in-Err-clause-refused g c = λ none. refused_open c.create-storage.result.0 c.args.self.image c.in-Err.refusal I.InvalidOption c.create-storage.result.1 c.in-Err.is (c.create-storage.ensures.refused none)

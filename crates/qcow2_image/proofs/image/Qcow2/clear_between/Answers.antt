@@ -46,13 +46,13 @@ returns-in-Err-clause-pinned g c = λ own is. c.in-Err.ensures.pinned own (c.fre
 pub returns-in-Err-clause-limit : goal.returns-in-Err-clause-limit
 returns-in-Err-clause-limit g c = λ out sound whole is.
     c.in-Err.ensures.limit out sound whole
-    (limited_frees g.S.Storage.view g.F.BackingDisk.backing out c.args.self.now c.clear_in_table.new.self c.free_after.new.self c.in-Err.refusal c.free_after.result (c.in-Err.ensures.clears out sound whole) c.free_after.ensures.fault (c.free_after.ensures.told out) is)
+    (limited_frees g.S.Storage.view g.F.BackingDisk.backing out c.args.self.now c.clear_in_table.new.self c.free_after.new.self c.in-Err.refusal c.free_after.result (c.in-Err.ensures.clears out sound whole) c.free_after.ensures.fault (c.free_after.ensures.told.1 out) is)
 
 pub returns-in-Err-clause-met : goal.returns-in-Err-clause-met
 returns-in-Err-clause-met g c = λ out sound whole.
     let old = c.args.self.now in
     met_freed g.S.Storage.view g.F.BackingDisk.backing out (IsMetTaking (HasPrepared out) (IsUnderMapping old.file.header.fields c.args.from out) ⊥ (NeedsFarEntry old c.args.from)) (λ e fault. inl (inl (inl fault))) old c.clear_in_table.new.self c.free_after.new.self c.in-Err.refusal c.free_after.result (c.in-Err.ensures.clears out sound whole) c.free_after.ensures.fault
-    (c.free_after.ensures.told out) (c.in-Err.ensures.met out sound whole)
+    (c.free_after.ensures.told.1 out) (c.in-Err.ensures.met out sound whole)
 
 pub returns-in-Ok-clause-step : goal.returns-in-Ok-clause-step
 returns-in-Ok-clause-step g c = c.in-Ok.ensures.step

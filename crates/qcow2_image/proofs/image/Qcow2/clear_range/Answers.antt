@@ -3,7 +3,7 @@ use Rattle.qcow2_image.proofs.image.Qcow2.clear_range.Goals as goal
 use Rattle.qcow2_alloc.specs.ImageStorage.{is_changed_of}
 use Rattle.std.proofs.lemmas.Bool.{or_right}
 use Rattle.qcow2_image.proofs.Call.OnceWritten.{answered_counts, counts_begun, fails_marked, fails_once, kept_noted, notes_begun, notes_part, notes_since}
-use Rattle.std.proofs.Common.{◌≡◌, ◌<◌, ◌+◌, ◌-◌, ℕ, min, sym, ap, ◌∙◌, subst, arith, inl, refl}
+use Rattle.std.proofs.Common.{◌≡◌, ◌<◌, ◌+◌, ◌-◌, [], ℕ, min, sym, ap, ◌∙◌, subst, arith, inl, refl}
 use Rattle.std.specs.Prelude.{Ok, Err, IfErr, IfOk, IsTrue, Result}
 use Rattle.qcow2_alloc.specs.declared.error.ImageError.TheVariants.{Memory, TablePrepared}
 use Rattle.qcow2_image.specs.Backings.{HasPrepared}
@@ -126,8 +126,8 @@ returns-in_err-mark_failure-clause-fails g c =
           let call = b.seen out sound in
           subst (λ (image : Qcow2 _ _). FreesRefused image e) (sym c.mark_failure.ensures.rest) (subst (λ (r : Result _ _). IfErr r (FreesRefused entries)) done (c.clear_between-cleared.ensures.freed out call.sound (b.whole out call)));
       limit = λ none some out sound is.
-          let why = subst (λ (r : Result _ _). IfLimit r (IsLimited view below (c.in_ok-from.from + 1) begun)) done (c.clear_between-cleared.ensures.limit out (b.seen out sound).sound (b.whole out (b.seen out sound))) in
-          limited_since (omega arith) (goes_begun c.begin.ensures.stays c.begin.ensures.begun) (subst (λ k. IsLimited view below (k + 1) begun) b.first_is (why is));
+          let why = subst (λ (r : Result _ _). IfLimit r (IsLimited view below [] (c.in_ok-from.from + 1) begun out)) done (c.clear_between-cleared.ensures.limit out (b.seen out sound).sound (b.whole out (b.seen out sound))) in
+          limited_since (omega arith) (goes_begun c.begin.ensures.stays c.begin.ensures.begun) (b.seen out sound) (subst (λ k. IsLimited view below [] (k + 1) begun out) b.first_is (why is));
     })
 
 pub returns-in_err-mark_failure-clause-sound : goal.returns-in_err-mark_failure-clause-sound

@@ -1,4 +1,3 @@
-use Rattle.qcow2_image.specs.UnseenSteps.{pending_with_listed}
 use Rattle.qcow2_metadata.specs.declared.header.HeaderFields.{HeaderFields}
 use Rattle.qcow2_alloc.proofs.ListedAfter.{header_format}
 use Rattle.qcow2_image.specs.Found.{l1_index_of}
@@ -87,8 +86,8 @@ returns-in_err-pending-clause-limit g c = λ p out sound longer offset many.
     let left = none_taken_for_table view g.F.BackingDisk.backing out p old sound file c.allocate_meta.new.self c.allocate_meta.ensures.step.marks.pins c.allocate_meta.ensures.step.list c.allocate_meta.ensures.step.header
     (leaked_still old c.in-Some.allocator c.allocate_meta.new.self c.in-Some.is took.leaks) e took.found.takes (took.found.hint own.hint) in
     hands_limit c.from_residual.result e c.from_residual.ensures
-    (limited_left view g.F.BackingDisk.backing out (pending_with_listed p old new) old new offset e
-    (elim left [ inl stays ↦ inl stays.sound | inr broken ↦ inr broken.interrupted.fault ]) (record { image = (returns-in_err-pending-clause-stays g c).image; header_cluster = returns-in_err-pending-clause-header_cluster g c bits })
+    (limited_left new offset e
+    (elim left [ inl stays ↦ inl stays | inr broken ↦ inr broken.interrupted.fault ]) (record { image = (returns-in_err-pending-clause-stays g c).image; header_cluster = returns-in_err-pending-clause-header_cluster g c bits })
     (λ full. record { allocator = c.allocate_meta.new.self; is = refl; lacks = inl (c.cluster_count.result, inr is, full) })
     (took.found.limit own.hint (clusters.1 (omega (arith, many)))))
 

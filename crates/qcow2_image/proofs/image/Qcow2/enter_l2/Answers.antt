@@ -1,5 +1,4 @@
 use Rattle.qcow2_image.proofs.Call.Unlimited.{looking_unlimited}
-use Rattle.qcow2_image.specs.UnseenSteps.{pending_with_listed}
 use Rattle.qcow2_alloc.proofs.Steps.{told_of}
 use Rattle.qcow2_image.proofs.image.Qcow2.enter_l2.Goals as goal
 use Rattle.std.proofs.Common.{refl, sym, ◌∙◌, subst, ◌<◌, inl, inr, ap, arith, rules}
@@ -134,6 +133,6 @@ returns-in_err-pending-clause-sound g c = λ p out sound may says.
       does = handed_on (EntersTable view below p old taken out c.args.index) c.from_residual.result e c.from_residual.ensures left;
       met = λ near. hands_met (IsMetTaking (HasPrepared out) ⊥ ⊥ ⊥) c.from_residual.result e c.from_residual.ensures (elim why [ inl fault ↦ inl (inl (inl fault)) | inr cause ↦ inl (inl (inr cause.0)) ]);
       limit = λ near. hands_limit c.from_residual.result e c.from_residual.ensures
-          (limited_left view below out (pending_with_listed p old taken) old taken 0 e (elim left [ inl stays ↦ inl stays.sound | inr broken ↦ inr broken.interrupted.fault ]) (goes_step (returns-in_err-pending-clause-step g c))
+          (limited_left taken 0 e (elim left [ inl stays ↦ inl stays | inr broken ↦ inr broken.interrupted.fault ]) (goes_step (returns-in_err-pending-clause-step g c))
           (λ full. record { allocator = a; is = refl; lacks = inl (1, inl refl, full) }) why);
     }

@@ -5,7 +5,7 @@ use Rattle.std.proofs.Common.{◌≡◌, ◌∙◌, ◌+◌, ◌^◌, ◌≤◌,
 use Rattle.qcow2_laws.specs.CrashInvariant.{Pending}
 use Rattle.qcow2_alloc.proofs.AllocationSteps.{handed_on}
 use Rattle.qcow2_image.specs.ImageInvariant.{ImageInvariant, abstract_of, pending_in}
-use Rattle.qcow2_image.specs.Preallocation.{FillsFirst, FillsPart}
+use Rattle.qcow2_image.specs.Preallocation.{FillsFirst, FillsPart, given_by_zeros}
 use Rattle.qcow2_image.proofs.Call.Called.{works_none}
 use Rattle.qcow2_image.proofs.Flush.Freeing.{all_listed, beside, freed_refused, tidy_stays}
 use Rattle.qcow2_image.proofs.Free.{free_places}
@@ -15,7 +15,7 @@ use Rattle.qcow2_image.proofs.Call.FaultCounts.{counted_as, counted_of, counted_
 use Rattle.qcow2_image.specs.Faults.{CountsImageFaults}
 use Rattle.qcow2_image.proofs.Call.MetErrors.{tables_met}
 use Rattle.qcow2_image.proofs.Call.Unlimited.{fault_unlimited}
-use Rattle.qcow2_image.proofs.Prepare.Lacked.{goes_step, limited_upto, other_limit}
+use Rattle.qcow2_image.proofs.Prepare.Lacked.{goes_step, limited_giving, limited_upto, other_limit}
 use Rattle.qcow2_alloc.specs.ImageError.{IsFault}
 use Rattle.qcow2_alloc.specs.ImageFile.{known_in}
 use Rattle.qcow2_alloc.specs.declared.error.ImageError.{ImageError}
@@ -68,7 +68,7 @@ returns-in_err-prepared-clause-sound g c = λ out sound.
             left = fill_unseen view below out old new c.args.from c.args.to e ((c.in_err-prepared.ensures.sound some out sound).readies);
             taken = λ is. let t = (c.in_err-prepared.ensures.sound some out sound).taken is in
                 taken_here old.file.header.fields c.args.from c.args.to out lt (record { place = t.place; other = t.other; is_out = t.is_out; keeps_table = t.keeps_table; same_table = t.same_table });
-            limit = λ is. limited_upto (omega (arith, lt)) ((c.in_err-prepared.ensures.sound some out sound).limit is);
+            limit = λ is. limited_giving (given_by_zeros c.args.from c.args.to ∷ []) (limited_upto (omega (arith, lt)) ((c.in_err-prepared.ensures.sound some out sound).limit is));
           });
       met = λ whole near. hands_met (IsMetTaking (HasPrepared out) (HasPrepared out) (HasCompressedIn c.args.from c.args.to old.file.header.fields (known_in view old.file)) ⊥) c.from_residual.result e c.from_residual.ensures
           (met_piece view below out (pending_in view below old out) old sound c.args.from c.args.to lt near c.min.result (omega (arith, asked, lt)) true e ((c.in_err-prepared.ensures.sound some out sound).met));
@@ -103,7 +103,7 @@ returns-in-Err-clause-sound g c = λ out sound.
             taken = λ is. met_taken e c.in-Err.ensures.fails.cause (c.free_after.ensures.taken (inl c.in-Err.ensures.fails.cause) is);
             limit = λ is.
                 let gone = sound_now view below out old mid p from n sound ready answered fits c.put_zeros.new.self c.release_prepared.new.self c.free_after.new.self to e e' within put c.release_prepared.ensures.sees c.free_after.ensures.fault in
-                elim (c.free_after.ensures.told out gone) [ inl same ↦ other_limit _ e c.in-Err.ensures.fails.limited (sym same ∙ is) | inr fault ↦ other_limit _ e' (fault_unlimited e' fault) is ];
+                elim (c.free_after.ensures.told.1 out gone) [ inl same ↦ other_limit _ e c.in-Err.ensures.fails.limited (sym same ∙ is) | inr fault ↦ other_limit _ e' (fault_unlimited e' fault) is ];
           });
       met = λ whole near. let fault = c.in-Err.ensures.fault (all_behind view below out old c.prepare.new.self p c.args.from c.args.to c.most.result c.min.result c.min-count.result sound ready answered lt whole few asked counted (c.in_ok-prepared.ensures.some some).some) in
           inl (inl (inl (subst (λ (x : ImageError). IsFault x) (sym (c.free_after.ensures.fault fault).0) fault)));

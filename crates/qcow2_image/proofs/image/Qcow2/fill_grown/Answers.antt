@@ -39,7 +39,7 @@ returns-in-Err-clause-fills g c = λ out sound.
     record {
       left = grown_freed view below out old mid new size c.args.mode c.in-Err.refusal c.free_after.result refused.left c.free_after.ensures.fault (c.free_after.ensures.frees out);
       taken = λ is. refused.taken (c.free_after.ensures.taken c.in-Err.ensures.fails.cause is);
-      limit = λ is. elim (grown_told view below out old mid new size c.args.mode c.in-Err.refusal c.free_after.result refused.left c.free_after.ensures.fault (c.free_after.ensures.told out)) [
+      limit = λ is. elim (grown_told view below out old mid new size c.args.mode c.in-Err.refusal c.free_after.result refused.left c.free_after.ensures.fault (c.free_after.ensures.told.1 out)) [
         | inl same ↦ refused.limit (sym same ∙ is)
         | inr fault ↦ other_limit _ c.free_after.result (fault_unlimited c.free_after.result fault) is
       ];
@@ -64,7 +64,7 @@ returns-in-Err-clause-met g c = λ out sound near.
     let h = old.file.header.fields in
     let refused = c.in-Err.ensures.fills out sound in
     met_filling_freed out c.args.mode c.args.old (rounded_up (cluster_size h) c.args.size) h (known_in view old.file) c.in-Err.refusal c.free_after.result
-    (grown_told view g.F.BackingDisk.backing out old c.fill_behind.new.self c.free_after.new.self c.args.size c.args.mode c.in-Err.refusal c.free_after.result refused.left c.free_after.ensures.fault (c.free_after.ensures.told out)) (c.in-Err.ensures.met out sound near)
+    (grown_told view g.F.BackingDisk.backing out old c.fill_behind.new.self c.free_after.new.self c.args.size c.args.mode c.in-Err.refusal c.free_after.result refused.left c.free_after.ensures.fault (c.free_after.ensures.told.1 out)) (c.in-Err.ensures.met out sound near)
 
 pub returns-in-Err-clause-step : goal.returns-in-Err-clause-step
 returns-in-Err-clause-step g c = step_then c.fill_behind.ensures.step c.free_after.ensures.step

@@ -49,17 +49,17 @@ pub returns-in-Err-clause-idle : goal.returns-in-Err-clause-idle
 returns-in-Err-clause-idle g c = λ none. absurd (let no : Ok tt ≡ Err c.in-Err.fault = sym (c.free_listed.ensures.idle none).0 ∙ c.in-Err.is in cc)
 
 pub returns-then-is_last-clause-told : goal.returns-then-is_last-clause-told
-returns-then-is_last-clause-told g c = λ out sound. inl refl
+returns-then-is_last-clause-told g c = (inl refl, λ out sound. inl refl)
 
 pub returns-in-Ok-clause-told : goal.returns-in-Ok-clause-told
-returns-in-Ok-clause-told g c = λ out sound. inl refl
+returns-in-Ok-clause-told g c = (inl refl, λ out sound. inl refl)
 
 pub returns-in-Err-clause-told : goal.returns-in-Err-clause-told
-returns-in-Err-clause-told g c = λ out sound.
+returns-in-Err-clause-told g c =
     let view = g.S.Storage.view in
     let below = g.F.BackingDisk.backing in
     let old = c.args.self.now in
-    inr (c.in-Err.ensures.faults (beside view below old out) out (subst (λ (x : Pending). ImageInvariant view below x old out) (all_listed view below old out) sound))
+    (inr c.in-Err.ensures.cause, λ out sound. inr (c.in-Err.ensures.faults (beside view below old out) out (subst (λ (x : Pending). ImageInvariant view below x old out) (all_listed view below old out) sound)))
 
 pub returns-then-is_last-clause-keeps_rest : goal.returns-then-is_last-clause-keeps_rest
 returns-then-is_last-clause-keeps_rest g c = record { header = refl; backing = refl }

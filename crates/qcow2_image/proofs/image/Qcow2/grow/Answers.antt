@@ -1,4 +1,6 @@
-use Rattle.qcow2_image.proofs.Prepare.Lacked.{goes_begun, limits_since}
+use Rattle.qcow2_image.proofs.Prepare.Lacked.{goes_begun, limited_more, limited_since, limited_unseen}
+use Rattle.qcow2_image.proofs.Call.Called.{listed}
+use Rattle.qcow2_image.proofs.Call.Refused.{stays_kept}
 use Rattle.qcow2_image.specs.Limits.{IfLimit, IsLimited}
 use Rattle.std.proofs.Common.{◌≡◌, [], ◌-◌, ◌<◌, ◌∙◌, Result, sym, subst, arith}
 use Rattle.std.specs.Prelude.{IfErr}
@@ -7,7 +9,8 @@ use Rattle.qcow2_image.specs.Refusals.{IsFaultOrLimit, IsMet, MarksFailed}
 use Rattle.qcow2_image.proofs.Call.FaultCounts.{counted_marked}
 use Rattle.qcow2_image.specs.ImageInvariant.{pending_in}
 use Rattle.qcow2_image.proofs.Call.Marked.{may_mark, marks_since}
-use Rattle.qcow2_image.proofs.Grow.Grown.{grown_so, surplus_grown}
+use Rattle.qcow2_image.proofs.Grow.Grown.{grown_so, left_sound, surplus_grown}
+use Rattle.qcow2_image.specs.Growing.{LeavesSound}
 use Rattle.qcow2_image.proofs.image.Qcow2.grow.Goals as goal
 
 pub returns-clause-grows : goal.returns-clause-grows
@@ -47,8 +50,11 @@ returns-clause-limit g c = λ sound.
     let below = g.F.BackingDisk.backing in
     let old = c.args.self.now in
     let p = pending_in view below old [] in
-    subst (λ (r : Result _ _). IfLimit r (IsLimited view below c.args.size old)) (sym c.mark_failure.ensures.answer)
-    (limits_since _ c.grow_to-done.result (omega arith) (goes_begun c.begin.ensures.stays c.begin.ensures.begun) (c.grow_to-done.ensures.limit p (c.begin.ensures.keeps p [] sound).sound))
+    let mid = c.begin.new.self in
+    let stays = stays_kept view below [] old mid sound (listed view below [] old mid (λ s. record { keeps = c.begin.ensures.keeps p [] s; list = c.begin.ensures.list }) sound) in
+    subst (λ (r : Result _ _). IfLimit r (IsLimited view below [] c.args.size old [] × LeavesSound view below old c.mark_failure.new.self)) (sym c.mark_failure.ensures.answer)
+    (left_sound view below old mid c.grow_to-done.new.self c.mark_failure.new.self stays (c.grow_to-done.ensures.writable ∙ c.begin.ensures.stays.image.writable) c.grow_to-done.result c.mark_failure.ensures.rest (may_mark c.grow_to-done.new.self c.mark_failure.new.self c.grow_to-done.result c.mark_failure.ensures.marks)
+    (λ met. limited_since (omega arith) (goes_begun c.begin.ensures.stays c.begin.ensures.begun) stays (limited_more (limited_unseen stays.sound met))) (c.grow_to-done.ensures.limit (pending_in view below mid []) stays.sound))
 
 pub returns-clause-fault : goal.returns-clause-fault
 returns-clause-fault g c = λ works writable sound.

@@ -5,7 +5,7 @@ use Rattle.qcow2_alloc.specs.declared.image_file.ImageFile.{ImageFile}
 use Rattle.qcow2_alloc.specs.ImageFile.{has_noted, known_in}
 use Rattle.qcow2_image.proofs.Call.Notes.{same_kept}
 use Rattle.qcow2_alloc.proofs.KeptMarks.{notes_then}
-use Rattle.std.proofs.Common.{inl, inr, ◌≡◌, ◌∙◌, ◌+◌, ◌-◌, ◌<◌, max, sym, ap, subst, arith, refl, rules}
+use Rattle.std.proofs.Common.{[], inl, inr, ◌≡◌, ◌∙◌, ◌+◌, ◌-◌, ◌<◌, max, sym, ap, subst, arith, refl, rules}
 use Rattle.std.specs.Prelude.{Err, IfErr, IsTrue, Ok, OnOk, Result}
 use Rattle.qcow2_metadata.specs.declared.header.HeaderFields.{HeaderFields}
 use Rattle.qcow2_metadata.specs.EntryTable.{entry_count}
@@ -25,7 +25,7 @@ use Rattle.qcow2_image.specs.Preallocation.{FillsGrown, FillsGrownOrRefuses}
 use Rattle.qcow2_image.specs.Refusals.{FreesRefused, IsFaultOrLimit, IsMet, IsUnlimited}
 use Rattle.qcow2_image.proofs.Prepare.Taken.{if_err}
 use Rattle.qcow2_image.proofs.Call.Marked.{MayMarkBy, marks_memory, may_mark}
-use Rattle.qcow2_image.specs.Resizing.{GrowsTables, GrowsTo, LacksZeros, RefusesUnchanged, WritesSizeLast}
+use Rattle.qcow2_image.specs.Resizing.{GrowsTables, GrowsTo, LacksZeros, RefusesUnchanged, WritesSizeLast, all_given_by_grow}
 use Rattle.image_access.specs.declared.storage.PreallocateMode.TheVariants.{Zero}
 use Rattle.qcow2_image.proofs.Call.Refused.{stays_then}
 use Rattle.qcow2_image.proofs.Clear.ClearCalls.{err_is}
@@ -34,7 +34,7 @@ use Rattle.qcow2_image.proofs.Moved.{file_step_then}
 use Rattle.qcow2_image.proofs.Preallocate.Filled.{met_taken}
 use Rattle.qcow2_image.proofs.Preallocate.Turns.{same_version}
 use Rattle.qcow2_image.proofs.Preallocate.Untaken.{untaken_grown}
-use Rattle.qcow2_image.proofs.Sizing.Growing.{grows_in_part, grows_not, grows_sized, last_in_part, last_not, last_sized, reaches_lengthened, unchanged_not}
+use Rattle.qcow2_image.proofs.Sizing.Growing.{given_growing, grows_in_part, grows_not, grows_sized, last_in_part, last_not, last_sized, reaches_lengthened, unchanged_not}
 use Rattle.qcow2_image.proofs.Sizing.GrownTables.{leaves_sized, reaches_filled, refuses_version, tables_sized, taken_behind}
 use Rattle.qcow2_image.proofs.Sizing.Noted.{counted_noted, grows_noted, tables_noted, unchanged_noted}
 use Rattle.qcow2_image.proofs.Sizing.Shrinking.{begun_call}
@@ -44,7 +44,7 @@ use Rattle.qcow2_alloc.proofs.Outcomes.{err_as}
 use Rattle.qcow2_image.specs.Noted.{FailsOnceWritten}
 use Rattle.qcow2_image.proofs.Call.OnceWritten.{kept_noted, fails_marked, fails_once}
 use Rattle.qcow2_image.proofs.Call.BehindHeader.{behind_by, behind_call, behind_none, behind_then}
-use Rattle.qcow2_image.proofs.Prepare.Lacked.{faults_unlimited, goes_begun, goes_step, goes_then, hands_limit, limited_since, unlimited_all}
+use Rattle.qcow2_image.proofs.Prepare.Lacked.{faults_unlimited, goes_begun, goes_step, goes_then, hands_limit, limited_giving, limited_since, unlimited_all}
 use Rattle.qcow2_image.proofs.Preallocate.Grown.{up_least}
 use Rattle.qcow2_image.proofs.Preallocate.Turns.{same_size}
 use Rattle.std.proofs.lemmas.Nat.{pow_pos}
@@ -201,7 +201,7 @@ returns-in_err-mark_failure-clause-sound g c = λ out sound.
     let e = c.in_err-mark_failure.field-0.0 in
     let offset = c.args.size - 1 in
     let marked = is_failed c.mark_failure.new.self in
-    let limited = subst (λ (r : Result _ _). IfLimit r (IsLimited view below (offset + 1) begun)) done (c.renew_l1_table-longer.ensures.limit out (first out sound).sound) in
+    let limited = subst (λ (r : Result _ _). IfLimit r (IsLimited view below [] (offset + 1) begun out)) done (c.renew_l1_table-longer.ensures.limit out (first out sound).sound) in
     let begins = goes_begun c.begin.ensures.stays c.begin.ensures.begun in
     let freed = subst (λ (r : Result _ _). IfErr r (FreesRefused mid)) done (c.renew_l1_table-longer.ensures.freed out (first out sound).sound) in
     record {
@@ -209,7 +209,7 @@ returns-in_err-mark_failure-clause-sound g c = λ out sound.
           (inl (inl (inl (subst (λ (r : Result _ _). IfErr r IsFaultOrLimit) done (c.renew_l1_table-longer.ensures.fault out (first out sound).sound)))));
       limit = let larger = c.requires.larger in
           let least = up_least (cluster_size h) c.args.size (pow_pos h.cluster_bits) in
-          hands_limit c.from_residual.result e c.from_residual.ensures (λ is. limited_since (omega (arith, larger, least)) begins (limited is));
+          hands_limit c.from_residual.result e c.from_residual.ensures (λ is. limited_giving (all_given_by_grow view below old c.args.size c.args.mode) (limited_since (omega (arith, larger, least)) begins (first out sound) (limited is)));
       last = subst (λ (image : Qcow2 _ _). WritesSizeLast view below old image) (sym c.mark_failure.ensures.rest)
           (last_not view below old c.args.size c.args.mode c.requires.usable c.requires.larger begun mid e (is_failed c.mark_failure.new.self) first
           (λ out sound. subst (MakesEntry view below begun mid out) done (c.renew_l1_table-longer.ensures.makes out sound)) out sound);
@@ -227,7 +227,7 @@ returns-in_err-mark_failure-clause-sound g c = λ out sound.
                 let larger = c.requires.larger in
                 elim why [
                   | inl fault ↦ inr (inl fault)
-                  | inr is ↦ inr (inr (is, limited_since (omega (arith, larger)) begins (limited is)))
+                  | inr is ↦ inr (inr (is, limited_since (omega (arith, larger)) begins (first out sound) (limited is)))
                 ];
           });
       freed = subst (λ (r : Result _ _). IfErr r (FreesRefused c.mark_failure.new.self)) (sym (err_is c.from_residual.result c.from_residual.ensures))
@@ -272,7 +272,7 @@ returns-in_err-mark_fault-clause-sound g c = λ out sound.
       limit = let refused = subst (FillsGrownOrRefuses view below c.args.size c.args.mode long filled out) done (c.fill_grown-filled.ensures.fills out call.sound) in
           let end = ap (λ n. rounded_up n c.args.size) (same_size old.file.header.fields long.file.header.fields call.header) in
           let goes = subst (λ (image : Qcow2 _ _). GoesTo view old image) (sym same) (goes_then (goes_begun c.begin.ensures.stays c.begin.ensures.begun) (goes_step c.renew_l1_table-longer.ensures.step)) in
-          hands_limit c.from_residual-in_err-mark_fault.result e c.from_residual-in_err-mark_fault.ensures (λ is. limited_since (omega (arith, end)) goes (refused.limit is));
+          hands_limit c.from_residual-in_err-mark_fault.result e c.from_residual-in_err-mark_fault.ensures (λ is. limited_since (omega (arith, end)) goes call (subst (λ given. IsLimited view below given (rounded_up (cluster_size long.file.header.fields) c.args.size) long out) (given_growing view below out old long c.args.size c.args.mode call) (refused.limit is)));
       last = let longer : (out : _) → ImageInvariant view below (pending_in view below old out) old out → UnseenCall view below old c.mark_failure.new.self out = λ out sound.
           let call = first out sound in
           subst (λ (image : Qcow2 _ _). UnseenCall view below old image out) (sym same) (stays_then view below out old begun mid call (subst (MakesEntry view below begun mid out) made (c.renew_l1_table-longer.ensures.makes out call.sound))) in

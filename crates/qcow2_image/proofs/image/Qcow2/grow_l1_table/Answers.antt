@@ -5,6 +5,7 @@ use Rattle.qcow2_metadata.specs.EntryTable.{entry_count, EntryTableView}
 use Rattle.qcow2_alloc.proofs.AllocationSteps.{handed_on}
 use Rattle.qcow2_image.specs.LongerTables.{Lengthens}
 use Rattle.qcow2_image.proofs.Grow.Lengthened.{is_longer, lengthened, refused_none}
+use Rattle.qcow2_image.proofs.Prepare.Entering.{as_listed_after, keeps_none}
 use Rattle.qcow2_image.proofs.Prepare.Owning.{refused}
 use Rattle.qcow2_image.proofs.Prepare.Lacked.{hands_either, hands_limit, other_limit, goes_step}
 use Rattle.qcow2_image.proofs.Call.Unlimited.{fault_unlimited, short_fault, short_unlimited}
@@ -47,7 +48,7 @@ returns-in-Ok-clause-noted g c = c.in-Ok.ensures.noted
 pub returns-then-index-ge-MAX_L1_ENTRIES-clause-limit : goal.returns-then-index-ge-MAX_L1_ENTRIES-clause-limit
 returns-then-index-ge-MAX_L1_ENTRIES-clause-limit g c = λ p out sound offset at is.
     let past : 4194304 ≤ c.args.index = let past = c.if-index-ge-MAX_L1_ENTRIES.true in grind (arith, nat_tests) in
-    record { mid = c.args.self.now; before = goes_step step_none; pending = p; out = out; sound = sound; offset = offset; below = omega arith; limit = inl (subst (λ i. 4194304 ≤ i) at past) }
+    record { mid = c.args.self.now; before = goes_step step_none; kept = as_listed_after g.S.Storage.view g.F.BackingDisk.backing out p c.args.self.now c.args.self.now refl (keeps_none g.S.Storage.view g.F.BackingDisk.backing out p c.args.self.now sound); offset = offset; below = omega arith; limit = inl (subst (λ i. 4194304 ≤ i) at past) }
 
 pub returns-in_err-table-clause-limit : goal.returns-in_err-table-clause-limit
 returns-in_err-table-clause-limit g c = λ p out sound offset at.

@@ -2,9 +2,10 @@ use Rattle.qcow2_alloc.proofs.AllocationSteps.{handed_on}
 use Rattle.qcow2_image.specs.declared.image.Qcow2.{Qcow2}
 use Rattle.qcow2_image.specs.Growing.{Resizes}
 use Rattle.qcow2_image.specs.UnseenSteps.{pending_with_listed}
-use Rattle.std.proofs.Common.{◌≡◌, ◌+◌, arith, [], refl, ap, ◌∙◌, ◌-◌, ◌/◌, ◌^◌, ◌≤◌}
+use Rattle.std.proofs.Common.{◌≡◌, ◌+◌, arith, [], inl, inr, refl, ap, ◌∙◌, ◌-◌, ◌/◌, ◌^◌, ◌≤◌}
 use Rattle.qcow2_image.specs.Found.{l1_index_of}
-use Rattle.qcow2_image.proofs.Prepare.Lacked.{faults_or_limit, faults_unlimited, hands_either, hands_limit, unlimited_all, limited_upto}
+use Rattle.qcow2_image.proofs.Prepare.Lacked.{faults_or_limit, faults_unlimited, hands_either, hands_limit, unlimited_all, limited_in_upto, other_limit}
+use Rattle.qcow2_image.proofs.Call.Unlimited.{fault_unlimited}
 use Rattle.qcow2_image.specs.Image.{is_failed, is_writable}
 use Rattle.qcow2_image.proofs.Call.FaultCounts.{counted_on, counted_since, untouched}
 use Rattle.qcow2_image.proofs.Create.Causes.{faults_met}
@@ -65,7 +66,10 @@ returns-in_err-grow_l1_table-clause-limit g c = λ p sound.
     let idx : c.l1_index.result ≡ l1_index_of c.args.self.now.file.header.fields (c.args.size - 1) =
     c.l1_index.ensures ∙ ap (λ m. m / 2 ^ c.cluster_bits-bits.result / (2 ^ c.cluster_bits-bits.result / 8)) c.new.ensures ∙ ap (λ n. (c.args.size - 1) / 2 ^ n / (2 ^ n / 8)) c.cluster_bits-bits.ensures.value in
     let upto : c.args.size - 1 + 1 ≤ c.args.size = omega (arith, c.requires) in
-    hands_limit c.from_residual.result c.in_err-grow_l1_table.field-0.0 c.from_residual.ensures (λ is. limited_upto upto (c.in_err-grow_l1_table.ensures.limit p [] sound (c.args.size - 1) idx is))
+    hands_limit c.from_residual.result c.in_err-grow_l1_table.field-0.0 c.from_residual.ensures (λ is. (
+      limited_in_upto upto (c.in_err-grow_l1_table.ensures.limit p [] sound (c.args.size - 1) idx is),
+      elim (c.in_err-grow_l1_table.ensures.lengthens p [] sound) [ inl keeps ↦ keeps | inr broken ↦ other_limit _ c.in_err-grow_l1_table.field-0.0 (fault_unlimited c.in_err-grow_l1_table.field-0.0 broken.interrupted.fault) is ],
+    ))
 
 pub returns-clause-limit : goal.returns-clause-limit
 returns-clause-limit g c = λ p sound.

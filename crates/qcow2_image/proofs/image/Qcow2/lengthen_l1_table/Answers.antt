@@ -11,7 +11,7 @@ use Rattle.qcow2_image.specs.LongerTables.{MakesEntry}
 use Rattle.qcow2_image.proofs.Flush.Freeing.{all_listed, beside}
 use Rattle.qcow2_image.proofs.Grow.Lengthened.{freed_then, refused_moved, stays_moved}
 use Rattle.qcow2_alloc.proofs.Outcomes.{on_no_ok, on_ok}
-use Rattle.qcow2_image.proofs.Prepare.Lacked.{faults_or_limit, faults_unlimited, hands_either, hands_limit, unlimited_all}
+use Rattle.qcow2_image.proofs.Prepare.Lacked.{faults_or_limit, faults_unlimited, hands_either, hands_limit, limited_more, limited_unseen, unlimited_all}
 use Rattle.qcow2_image.proofs.Call.ImageSteps.{step_then}
 use Rattle.qcow2_image.proofs.image.Qcow2.lengthen_l1_table.Goals as goal
 
@@ -56,7 +56,7 @@ returns-in_err-grow_l1_table-clause-limit g c = λ out sound.
     let old = c.args.self.now in
     let idx : c.l1_index-index.result ≡ l1_index_of old.file.header.fields c.args.offset =
     c.l1_index-index.ensures ∙ ap (λ n. n / 2 ^ c.cluster_bits.result / (2 ^ c.cluster_bits.result / 8)) c.new.ensures ∙ ap (λ b. c.args.offset / 2 ^ b / (2 ^ b / 8)) c.cluster_bits.ensures.value in
-    hands_limit c.from_residual.result c.in_err-grow_l1_table.field-0.0 c.from_residual.ensures (c.in_err-grow_l1_table.ensures.limit (pending_in g.S.Storage.view g.F.BackingDisk.backing old out) out sound c.args.offset idx)
+    hands_limit c.from_residual.result c.in_err-grow_l1_table.field-0.0 c.from_residual.ensures (λ is. limited_more (limited_unseen sound (c.in_err-grow_l1_table.ensures.limit (pending_in g.S.Storage.view g.F.BackingDisk.backing old out) out sound c.args.offset idx is)))
 
 pub returns-clause-limit : goal.returns-clause-limit
 returns-clause-limit g c = λ out sound.

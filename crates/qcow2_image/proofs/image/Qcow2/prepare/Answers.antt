@@ -68,8 +68,8 @@ returns-in-Err-clause-sound g c = λ some out sound.
       freeing = tt;
       readies = back_then_freed g.S.Storage.view g.F.BackingDisk.backing out c.args.self.now c.prepare_range.new.self c.free_after.new.self c.in-Err.refusal c.free_after.result ((c.in-Err.ensures.sound some out sound).readies) c.free_after.ensures.fault (c.free_after.ensures.frees out);
       met = met_freed g.S.Storage.view g.F.BackingDisk.backing out (IsMetTaking (HasPrepared out) (IsTaken h known c.args.offset c.args.length out) (CopiesCompressed c.args.offset c.args.length c.args.overwrite h known) (NeedsFarEntry old c.args.offset)) (λ e fault. inl (inl (inl fault))) old c.prepare_range.new.self c.free_after.new.self c.in-Err.refusal c.free_after.result
-          ((c.in-Err.ensures.sound some out sound).readies) c.free_after.ensures.fault (c.free_after.ensures.told out) ((c.in-Err.ensures.sound some out sound).met);
+          ((c.in-Err.ensures.sound some out sound).readies) c.free_after.ensures.fault (c.free_after.ensures.told.1 out) ((c.in-Err.ensures.sound some out sound).met);
       taken = λ is. (c.in-Err.ensures.sound some out sound).taken (c.free_after.ensures.taken c.in-Err.ensures.fails.cause is);
       limit = λ is. (c.in-Err.ensures.sound some out sound).limit
-          (limited_frees view g.F.BackingDisk.backing out old mid new c.in-Err.refusal c.free_after.result ((c.in-Err.ensures.sound some out sound).readies) c.free_after.ensures.fault (c.free_after.ensures.told out) is);
+          (limited_frees view g.F.BackingDisk.backing out old mid new c.in-Err.refusal c.free_after.result ((c.in-Err.ensures.sound some out sound).readies) c.free_after.ensures.fault (c.free_after.ensures.told.1 out) is);
     }

@@ -1,7 +1,7 @@
-use Rattle.qcow2_image.proofs.Prepare.Lacked.{goes_begun, limits_since}
+use Rattle.qcow2_image.proofs.Prepare.Lacked.{goes_begun, limited_since, limits_as}
 use Rattle.qcow2_image.specs.Limits.{IfLimit, IsLimited}
 use Rattle.qcow2_image.proofs.image.Qcow2.prepare_data_mapping.Goals as goal
-use Rattle.std.proofs.Common.{◌≡◌, ◌⊎◌, ◌<◌, sym, ◌∙◌, subst, arith, ap, refl, ⊎_elim, inl, inr, ◌≤◌, rules, ◌+◌}
+use Rattle.std.proofs.Common.{◌≡◌, ◌⊎◌, ◌<◌, [], sym, ◌∙◌, subst, arith, ap, refl, ⊎_elim, inl, inr, ◌≤◌, rules, ◌+◌}
 use Rattle.std.specs.Prelude.{IfErr, IfOk, None, Result, Some, IsNone}
 use Rattle.qcow2_alloc.specs.declared.error.ImageError.TheVariants.{TablePrepared}
 use Rattle.qcow2_alloc.specs.ImageFile.{known_in}
@@ -136,8 +136,8 @@ returns-clause-limit g c = λ may some out sound.
     let old = c.args.self.now in
     let mid = c.begin.new.self in
     let stays = stays_kept view below out old mid sound (listed view below out old mid (λ s. record { keeps = c.begin.ensures.keeps (pending_in view below old out) out s; list = c.begin.ensures.list }) sound) in
-    subst (λ (r : Result _ _). IfLimit r (IsLimited view below (c.args.offset + 1) old)) (sym c.mark_failure.ensures.answer)
-    (limits_since _ c.prepare-prepared.result (omega arith) (goes_begun c.begin.ensures.stays c.begin.ensures.begun) ((c.prepare-prepared.ensures.sound some out stays.sound).limit))
+    subst (λ (r : Result _ _). IfLimit r (IsLimited view below [] (c.args.offset + 1) old out)) (sym c.mark_failure.ensures.answer)
+    (limits_as c.prepare-prepared.result (limited_since (omega arith) (goes_begun c.begin.ensures.stays c.begin.ensures.begun) stays) ((c.prepare-prepared.ensures.sound some out stays.sound).limit))
 
 pub returns-in_err-check_prepare-clause-met : goal.returns-in_err-check_prepare-clause-met
 returns-in_err-check_prepare-clause-met g c = λ none some out sound.

@@ -9,13 +9,15 @@ use Rattle.qcow2_alloc.proofs.AllocationSteps.{handed_on}
 use Rattle.qcow2_alloc.proofs.ListedAfter.{header_format, header_then}
 use Rattle.qcow2_image.specs.declared.image.Qcow2.{Qcow2}
 use Rattle.qcow2_image.specs.CallParts.{IsReadied, PreparesRange}
+use Rattle.qcow2_image.specs.Limits.{GoesTo}
 use Rattle.qcow2_image.proofs.Call.Refused.{back_refused}
 use Rattle.qcow2_image.proofs.Free.{free_places}
 use Rattle.qcow2_image.proofs.Prepare.Onward.{release_prepared_broken, refused_free}
 use Rattle.qcow2_image.proofs.Call.FaultCounts.{counted_as, counted_still}
 use Rattle.qcow2_alloc.proofs.KeptMarks.{notes_then}
 use Rattle.qcow2_image.proofs.Call.BehindHeader.{behind_then}
-use Rattle.qcow2_image.proofs.Prepare.Lacked.{hands_limit, limited_since}
+use Rattle.qcow2_image.proofs.Call.ImageSteps.{step_none}
+use Rattle.qcow2_image.proofs.Prepare.Lacked.{goes_step, hands_limit, limited_from, places_enter}
 use Rattle.std.proofs.lemmas.Nat.{pow_pos, mod_below}
 use Rattle.qcow2_image.specs.MetAlone.{CopiesCompressed, IsMetTaking}
 use Rattle.qcow2_image.proofs.Prepare.MetRanges.{alone_as}
@@ -154,6 +156,6 @@ returns-in-Err-clause-sound g c = λ out sound holds.
           let size : cluster_size hm ≡ cluster_size h = ap (λ (x : HeaderFields). cluster_size x) (header_format old.file.header mid.file.header c.in_ok-prepared.ensures.header) in
           inl (alone_as (λ found. compressed_as h hm (known_in view old.file) (known_in view mid.file) c.args.offset n c.args.overwrite size ready.covers (subst (λ o. CopiesCompressed o n c.args.overwrite hm (known_in view mid.file)) first.guest found)) (λ no. no)
           c.in-Err.refusal ((c.in-Err.ensures.sound old (None ∷ out) 0 refl first.under ready).met));
-      limit = λ some is. limited_since (omega arith) (record { image = c.prepare_first.ensures.step.stays.image; header_cluster = c.prepare_first.ensures.step.header_cluster some })
-          ((c.in-Err.ensures.sound old (None ∷ out) 0 refl first.under ready).limit is);
+      limit = λ some is. let goes : GoesTo view old mid = record { image = c.prepare_first.ensures.step.stays.image; header_cluster = c.prepare_first.ensures.step.header_cluster some } in
+          limited_from (omega arith) (omega arith) (goes_step step_none) placed (places_enter view below old out) ((c.in-Err.ensures.sound old (None ∷ out) 0 refl first.under ready).limit goes is);
     }

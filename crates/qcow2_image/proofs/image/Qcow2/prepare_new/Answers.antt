@@ -21,7 +21,7 @@ use Rattle.qcow2_image.proofs.Prepare.ReadyingNew.{back_none, readied_new}
 use Rattle.qcow2_alloc.proofs.KeptMarks.{notes_none, notes_then}
 use Rattle.qcow2_image.proofs.Call.Notes.{same_kept, pins_kept}
 use Rattle.qcow2_image.proofs.Call.BehindHeader.{behind_by, behind_none, behind_tables, behind_then, behind_zero}
-use Rattle.qcow2_image.proofs.Prepare.Lacked.{hands_limit, other_limit}
+use Rattle.qcow2_image.proofs.Prepare.Lacked.{hands_limit, limited_more, limited_taking, other_limit}
 use Rattle.qcow2_metadata.specs.TableBytes.{HasPlace}
 use Rattle.qcow2_image.proofs.Prepare.Lacking.{named_place}
 use Rattle.qcow2_alloc.specs.ImageFile.{known_in}
@@ -96,7 +96,7 @@ returns-in_err-pending-clause-sound g c = λ out sound holds.
           (c.in_err-pending.ensures.gains (pending_in view below old out) out sound (λ n. omega arith));
       met = hands_met (IsMetTaking (HasPrepared out) ⊥ (IsCopiedCompressed c.args.self.now.file.header.fields c.args.old.now c.args.offset c.args.length c.args.overwrite) ⊥) c.from_residual-in_err-pending.result c.in_err-pending.field-0.0 c.from_residual-in_err-pending.ensures (inl (c.in_err-pending.ensures.met p out sound (λ k. omega arith)));
       limit = hands_limit c.from_residual-in_err-pending.result c.in_err-pending.field-0.0 c.from_residual-in_err-pending.ensures
-          (c.in_err-pending.ensures.limit (pending_in view g.F.BackingDisk.backing old out) out sound (λ k. omega arith));
+          (λ is. limited_more (limited_taking sound (c.in_err-pending.ensures.limit (pending_in view g.F.BackingDisk.backing old out) out sound (λ k. omega arith) is)));
     }
 
 pub returns-in-Ok-clause-sound : goal.returns-in-Ok-clause-sound

@@ -16,7 +16,7 @@ use Rattle.std.specs.Prelude.{IsSome, IfSome}
 use Rattle.qcow2_alloc.proofs.KeptMarks.{notes_then}
 use Rattle.qcow2_image.proofs.Call.BehindHeader.{behind_then}
 use Rattle.qcow2_image.proofs.Prepare.Pinned.{found_pins, met_untaken, prepared_unpinned, unpinned_refused}
-use Rattle.qcow2_image.proofs.Prepare.Lacked.{hands_limit, other_limit, goes_step, limits_since}
+use Rattle.qcow2_image.proofs.Prepare.Lacked.{hands_limit, other_limit, goes_step, limited_since, limits_as}
 use Rattle.qcow2_metadata.specs.Header.{cluster_size}
 use Rattle.qcow2_metadata.specs.declared.header.HeaderFields.{HeaderFields}
 use Rattle.qcow2_image.specs.L1Entries.{NeedsFarEntry}
@@ -161,5 +161,5 @@ returns-in-None-clause-sound g c = λ some out sound.
       answers = answers;
       freeing = if_ok c.prepare_in.result
           (λ q is none. let place = is.existing.0 none in absurd ((nowhere_before view old mid c.args.offset c.args.length found.0.header found.0.covers nowhere) place.0 place.1)) answers;
-      limit = limits_since _ c.prepare_in.result (omega arith) (goes_step c.table_for.ensures.step) ((c.prepare_in.ensures.sound out found.0.sound found.1).limit c.in_ok-table.ensures.elsewhere);
+      limit = limits_as c.prepare_in.result (limited_since (omega arith) (goes_step c.table_for.ensures.step) found.0) ((c.prepare_in.ensures.sound out found.0.sound found.1).limit c.in_ok-table.ensures.elsewhere);
     }

@@ -1,4 +1,4 @@
-use Rattle.std.proofs.Common.{◌≡◌, ◌-◌, ◌*◌, ◌%◌, ◌<◌, true, false, inr, refl, sym, ap, ◌∙◌, subst, arith, min, ◌+◌, rules}
+use Rattle.std.proofs.Common.{◌≡◌, ◌-◌, ◌*◌, ◌%◌, ◌<◌, ◌≤◌, length, true, false, inr, refl, sym, ap, ◌∙◌, subst, arith, min, ◌+◌, rules}
 use Rattle.std.specs.Prelude.{Ok, Err, Some, None, slice_set, vec_capacity}
 use Rattle.qcow2_metadata.specs.Header.{cluster_size}
 use Rattle.qcow2_alloc.proofs.AllocationSteps.{handed_on}
@@ -7,12 +7,12 @@ use Rattle.qcow2_image.specs.declared.prepared.Prepared.{Prepared}
 use Rattle.qcow2_image.specs.CallParts.{IsReadied}
 use Rattle.qcow2_image.specs.Limits.{GoesTo}
 use Rattle.qcow2_image.specs.Ranges.{BreaksOff, Ends, GoesNext, GoesOn}
-use Rattle.qcow2_image.proofs.Call.Slots.{get_set_same}
+use Rattle.qcow2_image.proofs.Call.Slots.{get_set_same, length_set}
 use Rattle.qcow2_image.proofs.Prepare.Onward.{may_go_on, so_far_all, so_far_ends, so_far_next}
 use Rattle.qcow2_image.proofs.Call.FaultCounts.{counted_ok, counted_on, faults_then}
 use Rattle.qcow2_alloc.proofs.KeptMarks.{notes_none, notes_then}
 use Rattle.qcow2_image.proofs.Call.BehindHeader.{behind_none, behind_then}
-use Rattle.qcow2_image.proofs.Prepare.Lacked.{hands_limit, limited_since}
+use Rattle.qcow2_image.proofs.Prepare.Lacked.{goes_then, hands_limit, limited_from}
 use Rattle.qcow2_disk.specs.Found.{rest_of_table}
 use Rattle.qcow2_metadata.specs.declared.header.HeaderFields.{HeaderFields}
 use Rattle.qcow2_alloc.specs.ImageFile.{known_in}
@@ -128,10 +128,10 @@ returns-in_err-prepare_next-clause-sound g c = λ start out k free under is.
           (compressed_at now.file.header.fields (known_in view now.file) p.guest n (q.guest + q.length) (n - q.length) c.args.overwrite (omega (arith, guest)) (omega (arith, bound, less)) (omega (arith, guest, bound, less))
           (inr (next_begins view below now (slice_set out k (Some q)) k q (get_set_same out k (Some q) None free) n c.args.table c.args.overwrite may before.sound)) copied))
           (λ no. no) e ((c.in_err-prepare_next.ensures.sound (slice_set out k (Some q)) k (get_set_same out k (Some q) None free) may before.sound).met));
-      limit = let may = may_go_on view below old now p q n c.min-end.result c.args.table c.args.overwrite so bound c.loop-prepared-test.true start out k under is in
+      limit = λ goes. let may = may_go_on view below old now p q n c.min-end.result c.args.table c.args.overwrite so bound c.loop-prepared-test.true start out k under is in
           let so_far : GoesTo view old now = record { image = so.stays.image; header_cluster = c.loop-prepared.invariant.behind } in
           hands_limit c.from_residual.result e c.from_residual.ensures
-          (λ limit. limited_since (omega arith) so_far ((c.in_err-prepare_next.ensures.sound (slice_set out k (Some q)) k (get_set_same out k (Some q) None free) may before.sound).limit limit));
+          (λ limit. limited_from (subst (λ n. n ≤ length out) (sym (length_set out k (Some q))) (omega arith)) (omega arith) (goes_then goes so_far) before.sound before.works ((c.in_err-prepare_next.ensures.sound (slice_set out k (Some q)) k (get_set_same out k (Some q) None free) may before.sound).limit limit));
     }
 
 pub returns-then-not-branch-clause-sound : goal.returns-then-not-branch-clause-sound

@@ -14,7 +14,7 @@ use Rattle.qcow2_image.proofs.Grow.Lengthened.{freed_then, makes_none, refused_m
 use Rattle.std.specs.Prelude.{IfErr}
 use Rattle.qcow2_image.specs.NewTables.{IsFaultOrLacksTable}
 use Rattle.qcow2_image.proofs.Prepare.Lacking.{fault_or_lacking, not_within, short_lacking}
-use Rattle.qcow2_image.proofs.Prepare.Lacked.{faults_unlimited, hands_limit, unlimited_all, faults_or_limit, hands_either}
+use Rattle.qcow2_image.proofs.Prepare.Lacked.{faults_unlimited, hands_limit, limited_more, limited_unseen, unlimited_all, faults_or_limit, hands_either}
 
 pub returns-then-in_bounds-clause-length : goal.returns-then-in_bounds-clause-length
 returns-then-in_bounds-clause-length g c =
@@ -71,7 +71,7 @@ returns-in_err-grow_l1_table-clause-sound g c = λ out sound.
       fault = hands_either c.from_residual.result c.in_err-grow_l1_table.field-0.0 c.from_residual.ensures (c.in_err-grow_l1_table.ensures.fault c.requires.writable (pending_in g.S.Storage.view g.F.BackingDisk.backing c.args.self.now out) out sound);
       limit = let idx : c.l1_index-index.result ≡ at =
           c.l1_index-index.ensures ∙ ap (λ n. n / 2 ^ c.cluster_bits.result / (2 ^ c.cluster_bits.result / 8)) c.new.ensures ∙ ap (λ b. c.args.offset / 2 ^ b / (2 ^ b / 8)) c.cluster_bits.ensures.value in
-          hands_limit c.from_residual.result e c.from_residual.ensures (c.in_err-grow_l1_table.ensures.limit (pending_in view below old out) out sound c.args.offset idx);
+          hands_limit c.from_residual.result e c.from_residual.ensures (λ is. limited_more (limited_unseen sound (c.in_err-grow_l1_table.ensures.limit (pending_in view below old out) out sound c.args.offset idx is)));
       lacks = let idx : c.l1_index-index.result ≡ l1_index_of old.file.header.fields c.args.offset =
           c.l1_index-index.ensures ∙ ap (λ n. n / 2 ^ c.cluster_bits.result / (2 ^ c.cluster_bits.result / 8)) c.new.ensures ∙ ap (λ b. c.args.offset / 2 ^ b / (2 ^ b / 8)) c.cluster_bits.ensures.value in
           let p = pending_in view below old out in

@@ -25,12 +25,12 @@ returns-in-Ok-clause-noted g c = c.in-Ok.ensures.noted
 pub returns-in-Err-clause-limit : goal.returns-in-Err-clause-limit
 returns-in-Err-clause-limit g c = λ out sound is.
     c.in-Err.ensures.limit out sound
-    (limited_frees g.S.Storage.view g.F.BackingDisk.backing out c.args.self.now c.lengthen_l1_table.new.self c.free_after.new.self c.in-Err.refusal c.free_after.result (c.in-Err.ensures.makes out sound) c.free_after.ensures.fault (c.free_after.ensures.told out) is)
+    (limited_frees g.S.Storage.view g.F.BackingDisk.backing out c.args.self.now c.lengthen_l1_table.new.self c.free_after.new.self c.in-Err.refusal c.free_after.result (c.in-Err.ensures.makes out sound) c.free_after.ensures.fault (c.free_after.ensures.told.1 out) is)
 
 pub returns-in-Err-clause-fault : goal.returns-in-Err-clause-fault
 returns-in-Err-clause-fault g c = λ out sound.
     either_frees g.S.Storage.view g.F.BackingDisk.backing out c.args.self.now c.lengthen_l1_table.new.self c.free_after.new.self c.in-Err.refusal c.free_after.result
-    (c.in-Err.ensures.makes out sound) c.free_after.ensures.fault (c.free_after.ensures.told out) (c.in-Err.ensures.fault out sound)
+    (c.in-Err.ensures.makes out sound) c.free_after.ensures.fault (c.free_after.ensures.told.1 out) (c.in-Err.ensures.fault out sound)
 
 pub returns-in-Err-clause-step : goal.returns-in-Err-clause-step
 returns-in-Err-clause-step g c = step_then c.lengthen_l1_table.ensures.step c.free_after.ensures.step

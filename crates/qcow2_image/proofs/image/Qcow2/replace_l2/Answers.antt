@@ -6,10 +6,10 @@ use Rattle.qcow2_image.specs.Limits.{GoesTo}
 use Rattle.qcow2_image.specs.NewTables.{OwnsTable}
 use Rattle.qcow2_image.proofs.Prepare.Entering.{as_listed_after}
 use Rattle.qcow2_image.proofs.Map.Loading.{caches_moved, with_caches}
-use Rattle.qcow2_image.proofs.Prepare.Owning.{refused, says_copy, shared_still, owned_then}
+use Rattle.qcow2_image.proofs.Prepare.Owning.{followed, refused, says_copy, shared_still, owned_then}
 use Rattle.qcow2_alloc.proofs.KeptMarks.{notes_then, notes_of_both}
 use Rattle.qcow2_image.proofs.Call.BehindHeader.{behind_caches, behind_then, behind_first, above_zero}
-use Rattle.qcow2_image.proofs.Prepare.Lacked.{hands_limit, other_limit, limits_since}
+use Rattle.qcow2_image.proofs.Prepare.Lacked.{hands_limit, limited_in_since, limits_as, other_limit}
 use Rattle.qcow2_alloc.specs.ImageFile.{contents_in}
 use Rattle.qcow2_image.proofs.Prepare.Lacking.{named_place, loads_looking}
 use Rattle.qcow2_image.specs.Backings.{HasPrepared}
@@ -63,7 +63,7 @@ returns-clause-sound g c = λ p out sound shared.
     record {
       does = owned_then view below out p old sound c.args.index mid kept refl c.swap_l2.new.self c.swap_l2.result swapped.does;
       met = λ near. swapped.met (record { within = near.within; room = near.room });
-      limit = λ near. limits_since _ c.swap_l2.result (omega arith) loaded (swapped.limit (record { within = near.within; room = near.room }));
+      limit = λ near. limits_as c.swap_l2.result (limited_in_since loaded (followed view below out p old sound c.args.index mid kept refl)) (swapped.limit (record { within = near.within; room = near.room }));
     }
 
 pub returns-clause-elsewhere : goal.returns-clause-elsewhere

@@ -7,6 +7,7 @@ use Rattle.qcow2_metadata.specs.L2Mapping.{IsHostCluster}
 use Rattle.qcow2_alloc.specs.Limits.{IsPastLimits}
 use Rattle.qcow2_alloc.specs.ImageFile.{known_in}
 use Rattle.qcow2_alloc.specs.declared.error.ImageError.TheVariants.{UnalignedTable}
+use Rattle.qcow2_alloc.proofs.AllocationSteps.{handed_on}
 use Rattle.qcow2_alloc.proofs.KeptTables.Standing.{own_cluster}
 use Rattle.qcow2_image.specs.declared.prepared.Share.TheVariants.{New}
 use Rattle.qcow2_image.specs.Ranges.{GainsAt, SharesAt}
@@ -27,6 +28,11 @@ returns-in_err-old_data-clause-shares g c = λ p out sound holds.
     let below = g.F.BackingDisk.backing in
     let old = c.args.self.now in
     any_refusal (λ r. SharesAt view below p old old out c.args.offset c.args.length c.args.overwrite c.args.old.now c.args.host r) c.from_residual.result (search rules) (back_none view below out old p sound)
+
+pub returns-in_err-pending-clause-shares : goal.returns-in_err-pending-clause-shares
+returns-in_err-pending-clause-shares g c = λ p out sound holds.
+    handed_on (SharesAt g.S.Storage.view g.F.BackingDisk.backing p c.args.self.now c.new_cluster_at.new.self out c.args.offset c.args.length c.args.overwrite c.args.old.now c.args.host) c.from_residual-in_err-pending.result c.in_err-pending.field-0.0 c.from_residual-in_err-pending.ensures
+    ((c.in_err-pending.ensures.sound p out sound holds).does)
 
 pub returns-in_default-2-clause-shares : goal.returns-in_default-2-clause-shares
 returns-in_default-2-clause-shares g c = λ p out sound holds.

@@ -13,7 +13,7 @@ use Rattle.qcow2_image.proofs.Call.Refused.{back_refused}
 use Rattle.qcow2_image.proofs.Prepare.Gaining.{listed_after_same}
 use Rattle.qcow2_image.proofs.Prepare.KeptShares.{behind_alone, behind_kept}
 use Rattle.qcow2_image.proofs.Prepare.Behind.{behind_in_place, ends_elsewhere, finds_shared, next_cluster, next_says}
-use Rattle.qcow2_image.proofs.Prepare.Lacked.{hands_limit, other_limit}
+use Rattle.qcow2_image.proofs.Prepare.Lacked.{hands_limit, limited_taking, limits_as, other_limit}
 use Rattle.qcow2_disk.specs.Found.{IsCompressed}
 use Rattle.qcow2_image.specs.MetAlone.{HasUnannounced, IsCopiedCompressed}
 use Rattle.qcow2_image.proofs.Prepare.Taken.{if_err}
@@ -151,7 +151,7 @@ returns-in-None-2-clause-sound g c = λ out k at may sound.
             subst (λ x. HasUnannounced (cluster_size h) x (c.args.length - p.length) c.args.overwrite) c.in-Some.ensures.1 (subst (λ x. HasUnannounced (cluster_size h) c.in-Some.next x c.args.overwrite) c.saturating_sub-left.ensures copied.1),
           )) (λ no. no))
           (c.share_at.ensures.met (pending_in view below old out) out sound (λ m. omega arith) aligned);
-      limit = c.share_at.ensures.limit (pending_in view below old out) out sound (λ m. omega arith);
+      limit = limits_as c.share_at.result (limited_taking sound) (c.share_at.ensures.limit (pending_in view below old out) out sound (λ m. omega arith));
     }
 
 pub returns-in_err-old-clause-sound : goal.returns-in_err-old-clause-sound

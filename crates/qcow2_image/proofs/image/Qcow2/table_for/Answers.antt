@@ -8,7 +8,7 @@ use Rattle.qcow2_laws.specs.CrashInvariant.{Pending}
 use Rattle.qcow2_alloc.proofs.AllocationSteps.{handed_on}
 use Rattle.qcow2_image.specs.CallParts.{FindsTable}
 use Rattle.qcow2_image.specs.ImageInvariant.{ImageInvariant, pending_in}
-use Rattle.qcow2_image.proofs.Call.Refused.{finds, finds_after, left_refused, stays_kept}
+use Rattle.qcow2_image.proofs.Call.Refused.{finds, finds_after, left_refused, stays_kept, stays_then}
 use Rattle.qcow2_image.proofs.Flush.Freeing.{all_listed, beside, freed_refused, tidy_stays}
 use Rattle.std.specs.Prelude.{IfErr, IsTrue, OnOk}
 use Rattle.qcow2_alloc.proofs.KeptTables.Turning.{always_ok}
@@ -18,7 +18,7 @@ use Rattle.qcow2_image.proofs.Prepare.Owning.{left_alone}
 use Rattle.qcow2_image.proofs.Grow.Lengths.{own_after}
 use Rattle.qcow2_image.specs.NewTables.{IsFaultOrLacksTable}
 use Rattle.qcow2_image.proofs.Call.FaultCounts.{counted_on, counted_since, faults_then, same_of}
-use Rattle.qcow2_image.proofs.Prepare.Lacked.{hands_limit, near_reached, other_limit, limited_behind, goes_step, limits_since}
+use Rattle.qcow2_image.proofs.Prepare.Lacked.{hands_limit, near_reached, other_limit, goes_step, limited_more, limited_since, limited_unseen, limited_upto, limits_as}
 use Rattle.qcow2_alloc.proofs.Outcomes.{not_both}
 use Rattle.qcow2_metadata.specs.declared.header.HeaderFields.{HeaderFields}
 use Rattle.qcow2_image.proofs.Call.Unlimited.{fault_unlimited}
@@ -114,7 +114,7 @@ returns-then-has_own_l2-clause-sound g c = λ out sound.
       finds = finds view below out c.args.self.now c.ensure_l2.new.self sound c.ensure_l2.ensures.keeps_rest c.args.offset c.ensure_l2.result ((c.ensure_l2.ensures.sound (pending_in view below c.args.self.now out) out sound).ready);
       met = met_as (IsMetTaking (HasPrepared out) ⊥ ⊥ ⊥) (IsMetTaking (HasPrepared out) ⊥ ⊥ (NeedsFarEntry c.args.self.now c.args.offset)) c.ensure_l2.result (taking_as (λ held. held) (λ no. no) (λ no. no) (λ no. absurd no))
           ((c.ensure_l2.ensures.sound (pending_in g.S.Storage.view g.F.BackingDisk.backing c.args.self.now out) out sound).met (inl (c.has_own_l2.ensures.0 c.if-has_own_l2.true)));
-      limit = limits_since _ c.ensure_l2.result (omega arith) (goes_step step_none) ((c.ensure_l2.ensures.sound (pending_in view below c.args.self.now out) out sound).limit (inl (c.has_own_l2.ensures.0 c.if-has_own_l2.true)));
+      limit = limits_as c.ensure_l2.result (λ met. limited_upto (omega arith) (limited_more (limited_unseen sound met))) ((c.ensure_l2.ensures.sound (pending_in view below c.args.self.now out) out sound).limit (inl (c.has_own_l2.ensures.0 c.if-has_own_l2.true)));
       lacks = λ none. (c.ensure_l2.ensures.sound (pending_in g.S.Storage.view g.F.BackingDisk.backing c.args.self.now out) out sound).lacks none;
       freeing = always_ok c.ensure_l2.result (inl (c.ensure_l2.ensures.quiet (c.has_own_l2.ensures.0 c.if-has_own_l2.true)).list);
     }
@@ -164,7 +164,7 @@ returns-in_err-own_l2-clause-sound g c = λ out sound.
       limit = let near : HasNearEntry long (l1_index_of long.file.header.fields c.args.offset) =
           near_reached old long c.args.offset sound.l1_table.bits (λ far. not_both c.has_far_entry.result (c.has_far_entry.ensures.1 far) c.if-has_far_entry.false) c.reach_entry.ensures.none c.in_ok-reach_entry.ensures.placed c.in_ok-reach_entry.ensures.length (ap (λ (h : HeaderFields). l1_index_of h c.args.offset) reached.header) in
           hands_limit c.from_residual-in_err-own_l2.result e c.from_residual-in_err-own_l2.ensures
-          (λ is. limited_behind (omega arith) c.reach_entry.ensures.step ((c.in_err-own_l2.ensures.sound (pending_in view below long out) out reached.sound).limit (inr near) is));
+          (λ is. limited_since (omega arith) (goes_step c.reach_entry.ensures.step) reached (limited_more (limited_unseen reached.sound ((c.in_err-own_l2.ensures.sound (pending_in view below long out) out reached.sound).limit (inr near) is))));
       lacks = λ none. handed_on (λ r. IfErr r (IsFaultOrLacksTable view c.own_l2.new.self c.args.offset)) c.from_residual-in_err-own_l2.result c.in_err-own_l2.field-0.0 c.from_residual-in_err-own_l2.ensures
           ((c.in_err-own_l2.ensures.sound (pending_in view below long out) out ((c.in_ok-reach_entry.ensures.sound out sound).makes).sound).lacks);
     }
@@ -219,7 +219,9 @@ returns-clause-sound g c = λ out sound.
           (finds view below out freed new second.sound c.ensure_l2-2.ensures.keeps_rest c.args.offset c.ensure_l2-2.result ((c.ensure_l2-2.ensures.sound (pending_in view below freed out) out second.sound).ready))));
       met = let first = stays_kept view below out long mid reached.sound owned.0 in
           met_as (IsMetTaking (HasPrepared out) ⊥ ⊥ ⊥) (IsMetTaking (HasPrepared out) ⊥ ⊥ (NeedsFarEntry old c.args.offset)) c.ensure_l2-2.result (taking_as (λ held. held) (λ no. no) (λ no. no) (λ no. absurd no)) ((c.ensure_l2-2.ensures.sound (pending_in view below freed out) out second.sound).met (inl own));
-      limit = limits_since _ c.ensure_l2-2.result (omega arith) (goes_step (step_then (step_then c.reach_entry.ensures.step c.own_l2.ensures.step) c.free_listed.ensures.step)) ((c.ensure_l2-2.ensures.sound (pending_in view below freed out) out second.sound).limit (inl own));
+      limit = limits_as c.ensure_l2-2.result
+          (λ met. limited_since (omega arith) (goes_step (step_then (step_then c.reach_entry.ensures.step c.own_l2.ensures.step) c.free_listed.ensures.step)) (stays_then view below out old long freed reached (stays_then view below out long mid freed first second)) (limited_more (limited_unseen second.sound met)))
+          ((c.ensure_l2-2.ensures.sound (pending_in view below freed out) out second.sound).limit (inl own));
       lacks = λ none. (c.ensure_l2-2.ensures.sound (pending_in view below freed out) out second.sound).lacks none;
       freeing = always_ok c.ensure_l2-2.result (inr ((c.ensure_l2-2.ensures.quiet own).list ∙ c.in_ok-free_listed.ensures.emptied writable));
     }

@@ -1,4 +1,4 @@
-use Rattle.std.proofs.Common.{◌≡◌, ◌∙◌, ◌+◌, ◌-◌, ◌^◌, ◌<◌, inl, min, ap, subst, sym, arith, rules}
+use Rattle.std.proofs.Common.{◌≡◌, ◌∙◌, ◌+◌, ◌-◌, ◌^◌, ◌<◌, [], ◌∷◌, inl, min, ap, subst, sym, arith, rules}
 use Rattle.std.specs.Prelude.{IsTrue}
 use Rattle.qcow2_disk.specs.Found.{rest_of_table}
 use Rattle.qcow2_metadata.specs.EntryTable.{entry_count}
@@ -9,14 +9,14 @@ use Rattle.qcow2_alloc.specs.ImageFile.{contents_in, known_in}
 use Rattle.qcow2_image.specs.Clearing.{IsClearable}
 use Rattle.qcow2_image.specs.declared.discarding.Clearance.TheVariants.{KeptZeros}
 use Rattle.qcow2_image.specs.ImageInvariant.{ImageInvariant, abstract_of, pending_in}
-use Rattle.qcow2_image.specs.Preallocation.{FillsFirst}
+use Rattle.qcow2_image.specs.Preallocation.{FillsFirst, given_by_zeros}
 use Rattle.qcow2_image.proofs.Call.Called.{works_none}
 use Rattle.qcow2_image.proofs.Flush.Freeing.{all_listed, beside, freed_refused, tidy_stays}
 use Rattle.qcow2_image.proofs.Preallocate.Filled.{cleared_fills, fill_unseen, fills_none, fills_refused, fills_stays, next_whole, next_within, taken_here}
 use Rattle.qcow2_image.proofs.Preallocate.Untaken.{untaken_cleared}
 use Rattle.qcow2_image.proofs.Call.MetErrors.{tables_met}
 use Rattle.qcow2_image.proofs.Call.Unlimited.{fault_unlimited}
-use Rattle.qcow2_image.proofs.Prepare.Lacked.{limited_upto}
+use Rattle.qcow2_image.proofs.Prepare.Lacked.{limited_giving, limited_upto}
 use Rattle.qcow2_image.proofs.Preallocate.Met.{under_prepared, never_far}
 use Rattle.qcow2_image.specs.Backings.{HasPrepared}
 use Rattle.qcow2_image.specs.MetAlone.{IsMetTaking}
@@ -87,7 +87,7 @@ returns-in_err-clear_between-clause-sound g c = λ out sound order whole third.
           (record {
             left = fill_unseen view below out old new from to e (c.in_err-clear_between.ensures.clears out sound can);
             taken = λ same. taken_here h from to out c.if-to-from.false (c.in_err-clear_between.ensures.taken out sound same);
-            limit = λ limit. limited_upto (omega (arith, lt)) (c.in_err-clear_between.ensures.limit out sound can limit);
+            limit = λ limit. limited_giving (given_by_zeros from to ∷ []) (limited_upto (omega (arith, lt)) (c.in_err-clear_between.ensures.limit out sound can limit));
           });
       met = λ near. let can : IsClearable c.args.self.now.file.header.fields KeptZeros c.args.from c.min-next.result = record {
         begins = whole.0;
