@@ -7,12 +7,7 @@ import subprocess
 
 from checks import QIMG, Checks, answers, contents, create, equal, put, ran, shown
 
-POINTERS = slice(48, 60)
-
-
-def without_pointers(header):
-    """The bytes of the first cluster, but for where the reftable stands."""
-    return header[:POINTERS.start] + header[POINTERS.stop:]
+REFTABLE = 48
 
 
 def a_header_that_is_not_counted():
@@ -30,24 +25,48 @@ def nothing_is_counted():
     put("disk", 1024, bytes(512))
     before = contents("disk")
     answers("disk", [("fill 0 512 11", "ok"), ("flush", "ok")])
-    equal(contents("disk")[:512], before[:512], "the first cluster")
+    equal(contents("disk")[:1024], before[:1024], "the header and the reftable")
+
+
+def tables_that_are_not_counted(cluster, clusters):
+    """Of an image with an L1 table of four clusters, an L2 table and a cluster of data, the counts of these clusters are 0."""
+    size = 4 * cluster // 8 * (cluster // 8) * cluster
+    create("disk", size, cluster)
+    answers("disk", [("fill 0 512 11", "ok"), ("flush", "ok")])
+    before = contents("disk")
+    equal(len(before) // cluster, 9, "clusters: a header, a reftable, a refblock, an L1 table of four, an L2 table, and data")
+    for each in clusters:
+        put("disk", 2 * cluster + 2 * each, bytes(2))
+    far = size // 2
+    answers("disk", [(f"fill {cluster} {2 * cluster} 22", "ok"), (f"fill {far} 512 33", "ok"), ("flush", "ok")])
+    answers("disk", [("read 0 2", "data 1111"), (f"read {cluster} 2", "data 2222"), (f"read {far} 2", "data 3333"), (f"fill {far} 512 44", "ok")])
+    after = contents("disk")
+    equal(after[:2 * cluster], before[:2 * cluster], "the header and the reftable")
+    equal(after[3 * cluster:3 * cluster + 8], before[3 * cluster:3 * cluster + 8], "the entry of the L2 table")
+    equal(after[7 * cluster:7 * cluster + 8], before[7 * cluster:7 * cluster + 8], "the entry of the data")
+    equal(after[8 * cluster:9 * cluster], before[8 * cluster:9 * cluster], "the data")
+    counts = [int.from_bytes(after[at:at + 2], "big") for at in range(2 * cluster, 2 * cluster + 26, 2)]
+    equal(counts, [0 if each in clusters else 1 for each in range(13)], "the counts")
 
 
 def a_reftable_without_clusters():
+    """Nothing tells which clusters are in use, so none is taken, and a place that has one is written still."""
     create("disk", 65536, 512)
-    put("disk", POINTERS.start + 8, bytes(4))
-    before = contents("disk")
     answers("disk", [("fill 0 512 11", "ok"), ("flush", "ok")])
-    equal(without_pointers(contents("disk")[:512]), without_pointers(before[:512]), "the first cluster")
+    put("disk", REFTABLE + 8, bytes(4))
+    before = contents("disk")
+    answers("disk", [("fill 512 512 22", "refused 13 limit"), ("flush", "ok")], status=1)
+    equal(contents("disk"), before, "the contents")
+    answers("disk", [("fill 0 512 33", "ok"), ("read 0 2", "data 3333"), ("flush", "ok")])
 
 
 def a_reftable_at_offset_0():
-    """The header's own cluster is where it would lie, and it has no entry: a longer one lies elsewhere."""
+    """The header's own cluster is where it would lie, and it has no entry."""
     create("disk", 65536, 512)
-    put("disk", POINTERS.start, bytes(12))
+    put("disk", REFTABLE, bytes(12))
     before = contents("disk")
-    answers("disk", [("fill 0 512 11", "ok"), ("flush", "ok")])
-    equal(without_pointers(contents("disk")[:512]), without_pointers(before[:512]), "the first cluster")
+    answers("disk", [("fill 0 512 11", "refused 13 limit"), ("flush", "ok")], status=1)
+    equal(contents("disk"), before, "the contents")
 
 
 def a_first_range_without_a_refblock(cluster, width):
@@ -152,6 +171,9 @@ def main():
     checks = Checks()
     for check in (a_header_that_is_not_counted, nothing_is_counted, a_reftable_without_clusters, an_l1_table_that_ends_past_64_bits, a_tail_that_cant_be_dropped, many_leaks_in_little_memory):
         checks.run(check.__name__, check)
+    for cluster in (512, 65536):
+        for clusters in ((0,), (1,), (2,), (3,), (3, 4, 5, 6), (7,), range(8)):
+            checks.run(f"tables that aren't counted, {cluster} {list(clusters)}", tables_that_are_not_counted, cluster, clusters)
     for cluster, width in ((512, 16), (512, 64), (65536, 16), (2 << 20, 1)):
         checks.run(f"a first range without a refblock, {cluster} {width}", a_first_range_without_a_refblock, cluster, width)
     none_free, any_answer = r"refused 13 limit\n", r"ok\n|refused \d+ .*\n(refused 16 failed\n)?"

@@ -278,7 +278,8 @@ impl<S: Storage, F: WrappedFormat<S>> Qcow2<S, F> {
         Ok(allocator)
     }
 
-    // Loads the L1 table and, for writing, the reftable.
+    // Loads the L1 table and, for writing, the reftable. No cluster that these name is taken then, even if it isn't
+    // counted.
     fn load_tables(file: &mut ImageFile<S>, writable: bool) -> Result<Tables, ImageError>
         ensures allocator { IfOk result (λ tables. is_some tables.allocator ≡ writable) }
         ensures storage { LeavesFile S.view writable file.old file.new result }
@@ -307,7 +308,8 @@ impl<S: Storage, F: WrappedFormat<S>> Qcow2<S, F> {
                 allocator: None,
             });
         }
-        let allocator = Self::load_allocator(file)?;
+        let mut allocator = Self::load_allocator(file)?;
+        allocator.spare_named(file, &l1_table);
         Ok(Tables {
             l1_table,
             allocator: Some(allocator),

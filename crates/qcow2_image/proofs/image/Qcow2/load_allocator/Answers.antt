@@ -34,7 +34,7 @@ returns-clause-loaded g c = λ p new_tables.
       stays_then view below p old file new read then,
       record {
         reftable = then.reftable c.in_ok-allocator.allocator.reftable (c.in_ok-allocator.ensures.begins.reftable new_tables.sound.honest);
-        hint = λ k low. let first = c.in_ok-allocator.ensures.begins.first in absurd (omega (arith, first, low));
+        hint = λ k passed. absurd (c.in_ok-allocator.ensures.begins.passed k passed);
       },
     )
 

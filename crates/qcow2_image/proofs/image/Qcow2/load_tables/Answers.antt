@@ -4,7 +4,9 @@ use Rattle.qcow2_alloc.specs.declared.allocation.Allocator.{Allocator}
 use Rattle.qcow2_alloc.specs.declared.error.ImageError.{ImageError}
 use Rattle.qcow2_alloc.specs.ImageFile.{contents_in}
 use Rattle.qcow2_alloc.specs.LoadedTables.{IsReasonAgainstReftable, ReftableReads}
+use Rattle.qcow2_alloc.specs.SparedHeaders.{StandsBehindHeader}
 use Rattle.qcow2_alloc.proofs.AllocationSteps.{handed_on}
+use Rattle.qcow2_alloc.proofs.KeptAllocators.{spared_kept}
 use Rattle.qcow2_image.specs.Readable.{IsReasonAgainstTables, NeededTablesRead}
 use Rattle.qcow2_image.proofs.Open.Left.{file_read, file_refused, file_then, file_then_refused}
 use Rattle.qcow2_image.specs.Opened.{LeavesFile}
@@ -28,7 +30,7 @@ returns-clause-loaded g c = λ p new_tables.
     let l1 = c.load_l1_table.ensures in
     let read = new_tables_then g.S.Storage.view g.F.BackingDisk.backing p c.args.file.now c.load_l1_table.new.file new_tables l1.rest l1.honest l1.same in
     let done = c.in_ok-allocator.ensures.loaded p read.new_tables in
-    record { new_tables = done.0.new_tables; l1_table = done.0.l1_table _ (c.in_ok-l1_table.ensures.table new_tables.sound.honest); reftable = done.1 }
+    record { new_tables = done.0.new_tables; l1_table = done.0.l1_table _ (c.in_ok-l1_table.ensures.table new_tables.sound.honest); reftable = spared_kept g.S.Storage.view c.load_allocator.new.file c.in_ok-allocator.allocator c.spare_named.new.self c.spare_named.ensures.rest (c.spare_named.ensures.sound p (record { sound = done.0.new_tables.sound; reftable = done.1.reftable }) (done.0.l1_table _ (c.in_ok-l1_table.ensures.table new_tables.sound.honest)).entries) done.1 }
 
 pub returns-clause-since : goal.returns-clause-since
 returns-clause-since g c = λ p new_tables.
@@ -132,7 +134,7 @@ returns-clause-header_cluster g c = λ are names.
     let l1 = c.in_ok-l1_table.ensures.header_cluster (subst (λ (f : ImageFile _). NamesTablesBehind f.header.fields) same loaded.0) in
     let as_wide : c.load_allocator.new.file.header.fields.cluster_bits ≡ c.args.file.now.header.fields.cluster_bits =
     ap (λ (h : HeaderFields). h.cluster_bits) c.in_ok-allocator.ensures.format ∙ ap (λ (f : ImageFile _). f.header.fields.cluster_bits) same in
-    behind_loaded loaded.1 (subst (λ n. IsL1TableBehind n c.in_ok-l1_table.l1_table) (sym as_wide) l1)
+    behind_loaded (subst (λ (a : Allocator). StandsBehindHeader c.load_allocator.new.file.header.fields.cluster_bits a.reftable c.load_allocator.new.file) (sym c.spare_named.ensures.rest) loaded.1) (subst (λ n. IsL1TableBehind n c.in_ok-l1_table.l1_table) (sym as_wide) l1)
 
 pub returns-then-not-writable-clause-caches : goal.returns-then-not-writable-clause-caches
 returns-then-not-writable-clause-caches g c = ap (λ (f : ImageFile _). f.caches) c.load_l1_table.ensures.rest

@@ -24,7 +24,7 @@ returns-clause-takes g c = λ p out sound holds.
     let allocator : AllocatorInvariant view c.in-Some.allocator p c.args.self.now.file = record { sound = sound.file; reftable = own.reftable } in
     takes_data_at view g.F.BackingDisk.backing out c.args.self.now p sound holds c.allocate_data_at.new.file c.allocate_data_at.new.self c.allocate_data_at.ensures.step.marks.pins c.allocate_data_at.ensures.step.list c.allocate_data_at.ensures.step.header
     (leaked_still c.args.self.now c.in-Some.allocator c.allocate_data_at.new.self c.in-Some.is ((c.allocate_data_at.ensures.sound p allocator).leaks)) c.args.cluster c.allocate_data_at.result
-    ((c.allocate_data_at.ensures.sound p allocator).takes) (none_used view c.allocate_data_at.new.file c.args.self.now.file.header.fields c.args.cluster _ c.allocate_data_at.result ((c.allocate_data_at.ensures.sound p allocator).none)) (((c.allocate_data_at.ensures.sound p allocator).hint own.hint))
+    ((c.allocate_data_at.ensures.sound p allocator).takes) (none_used view c.allocate_data_at.new.file c.args.self.now.file.header.fields c.args.cluster _ c.allocate_data_at.result ((c.allocate_data_at.ensures.sound p allocator).none own.hint)) (((c.allocate_data_at.ensures.sound p allocator).hint own.hint))
 
 pub returns-clause-list : goal.returns-clause-list
 returns-clause-list g c = lists_grow c.args.self.now (record c.args.self.now { file = c.allocate_data_at.new.file; allocator = Some c.allocate_data_at.new.self }) c.allocate_data_at.ensures.step.list
