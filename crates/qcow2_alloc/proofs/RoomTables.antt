@@ -45,7 +45,7 @@ counting_beside h sizes b b' old t first blocks clusters n grown before outside 
     outside (place / cluster_size h) apart (place + k) (in_one (cluster_size h) place k (grown.aligned (c / counts_per_block h)) lt)))
     ∙ before c none some
 
--- so they do while their own clusters stay
+-- the counts in a room's refblocks stay while the clusters of these refblocks stay
 pub counting_still : (h : HeaderFields) (sizes : Sizes h) (b b' : Bytes) (old t : EntryTableView) (first blocks clusters n : ℕ) → IsGrown h old t first blocks clusters → Counting h b old t first n
     → ((c : ℕ) → 0 < run_at first blocks c → SameIn (cluster_size h) c b b') → Counting h b' old t first n
 counting_still h sizes b b' old t first blocks clusters n grown before same c none some =

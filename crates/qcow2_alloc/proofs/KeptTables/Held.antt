@@ -37,7 +37,7 @@ module _ {S V E : Type 0} (steps : Steps S ℕ V E) (bytes : V → List ℕ) (ke
   all_held s t (e ∷ es) fs o h =
       ap bytes_held h.8 ∙ next_held e h.2 es h.4 (entry_held s h.1 e h.0 h.2 h.5) (all_held h.1 t es h.4 h.3 h.6)
 
--- so of refblocks
+-- a flush of the refblocks leaves each held one its bytes
 pub blocks_held : {S : Type 0} (view : S → StorageView) (old new : ImageStorage S) (caches : MetadataCaches S) (rb : Cache (RefBlockCacheBackend S) ℕ RefBlockView) (result : Result Unit₀ (CacheError ℕ MetadataError))
     → Flushes (rb_steps (λ s. view (storage_of s)) caches.rb.backend.header.fields) old caches.rb.entries result new rb.entries
     → (c : ℕ) → option_map (λ (b : RefBlockView). b.bytes) (rb_at (record caches { rb = rb }) c) ≡ option_map (λ (b : RefBlockView). b.bytes) (rb_at caches c)
