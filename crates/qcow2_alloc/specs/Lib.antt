@@ -43,5 +43,6 @@ pub mod SparedClusters
 pub mod SparedHeaders
 pub mod CacheSteps
 pub mod Steps
+pub mod BegunAnew
 pub mod Uses
 pub mod TableCache

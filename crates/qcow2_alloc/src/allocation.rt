@@ -1,5 +1,5 @@
 //! Taking clusters of the image's file.
-ghost use Rattle.std.specs.Prelude.{◌≡◌, false, ◌+◌, ◌-◌, ◌^◌, ◌<◌, ◌≤◌, Bool, IfOk, OnOk, IsSome, IsTrue, MatchResult};
+ghost use Rattle.std.specs.Prelude.{◌≡◌, false, ◌+◌, ◌-◌, ◌^◌, ◌<◌, ◌≤◌, Bool, IfOk, OnOk, OnErr, IsSome, IsTrue, MatchResult};
 ghost use Rattle.qcow2_laws.specs.Clusters.{L2DependsOnRb};
 ghost use Rattle.qcow2_laws.specs.CrashInvariant.{Pending};
 ghost use Rattle.qcow2_alloc.specs.Allocation.{MayTake, TakesSomeRun, is_data, Allocates, SameLeaks};
@@ -9,6 +9,8 @@ ghost use Rattle.qcow2_alloc.specs.Steps.{AllocatesSoundly, BeginsFrom, ReadsFil
 ghost use Rattle.qcow2_alloc.specs.ImageError.{IsOfTables};
 ghost use Rattle.qcow2_alloc.specs.ImageFile.{view_in, contents_in, AllocatorInvariant};
 ghost use Rattle.qcow2_alloc.specs.LoadedTables.{IsReasonAgainstReftable, ReftableReads};
+ghost use Rattle.qcow2_alloc.specs.ImageStorage.{SameNotes};
+ghost use Rattle.qcow2_alloc.specs.BegunAnew.{BeginsAnew};
 ghost use Rattle.qcow2_alloc.specs.MetadataCaches.{order_of};
 ghost use Rattle.qcow2_metadata.specs.L2Mapping.{IsHostCluster};
 
@@ -40,25 +42,41 @@ impl Allocator {
             → MatchResult result (λ allocator. ReftableReads file.old.header.fields (contents_in S.view file.old))
             (IsReasonAgainstReftable file.old.header.fields (contents_in S.view file.old)) }
         ensures begins { IfOk result (BeginsFrom S.view file.old file.new) }
+        ensures unnoted { SameNotes file.old.storage file.new.storage }
     {
         let bits = file.header.cluster_bits();
         let Some(cluster) = file.header.reftable_offset().checked_cluster(bits) else {
             return Err(ImageError::UnalignedTable);
         };
         let entries = file.header.reftable_entries() as usize;
-        let reftable = RefTable::load(
-            file.alloc,
-            &mut file.storage,
-            &file.header,
-            cluster,
-            entries,
-        )?;
+        let reftable = file
+            .storage
+            .load_reftable(file.alloc, &file.header, cluster, entries)?;
         Ok(Allocator {
             reftable,
             first_free_cluster: 0,
             leaked_clusters: 0,
             named: NumberRuns::new(file.alloc, MOST_SPARED),
         })
+    }
+
+    /// Loads the reftable anew, and begins the search for free clusters anew. What couldn't be freed stays counted. Refused as `new` is,
+    /// and then all of it stays.
+    pub fn load_anew<S: Storage>(&mut self, file: &mut ImageFile<S>) -> Result<(), ImageError>
+        ensures step { ReadsFile S.view file.old file.new }
+        ensures unnoted { SameNotes file.old.storage file.new.storage }
+        ensures fails { Fails S.view file.old.storage file.new.storage result IsOfTables }
+        ensures why { (view_in S.view file.old).is_honest
+            → MatchResult result (λ done. ReftableReads file.old.header.fields (contents_in S.view file.old))
+            (IsReasonAgainstReftable file.old.header.fields (contents_in S.view file.old)) }
+        ensures begins { OnOk result (BeginsAnew S.view file.old file.new self.new) }
+        ensures leaks { self.new.leaked_clusters ≡ self.old.leaked_clusters }
+        ensures refused { OnErr result (self.new ≡ self.old) }
+    {
+        let leaked_clusters = self.leaked_clusters;
+        *self = Allocator::new(file)?;
+        self.leaked_clusters = leaked_clusters;
+        Ok(())
     }
 
     /// How many clusters couldn't be freed, up to the greatest `u64`.

@@ -63,10 +63,10 @@ pub returns-in_default-clause-step : goal.returns-in_default-clause-step
 returns-in_default-clause-step g c = record { rest = refl; honest = search rules; same = search rules; time = search rules }
 
 pub returns-in_err-reftable-clause-step : goal.returns-in_err-reftable-clause-step
-returns-in_err-reftable-clause-step g c = record { rest = refl; honest = c.in_err-reftable.ensures.calls.honest; same = c.load.ensures.same; time = c.in_err-reftable.ensures.calls.time }
+returns-in_err-reftable-clause-step g c = record { rest = refl; honest = c.in_err-reftable.ensures.calls.honest; same = c.load_reftable.ensures.same; time = c.in_err-reftable.ensures.calls.time }
 
 pub returns-clause-step : goal.returns-clause-step
-returns-clause-step g c = record { rest = refl; honest = c.in_ok-reftable.ensures.calls.honest; same = c.load.ensures.same; time = c.in_ok-reftable.ensures.calls.time }
+returns-clause-step g c = record { rest = refl; honest = c.in_ok-reftable.ensures.calls.honest; same = c.load_reftable.ensures.same; time = c.in_ok-reftable.ensures.calls.time }
 
 pub returns-in_err-reftable-clause-begins : goal.returns-in_err-reftable-clause-begins
 returns-in_err-reftable-clause-begins g c = if_no_ok _ c.from_residual.result (of_metadata c.in_err-reftable.field-0.0) c.from_residual.ensures
@@ -77,9 +77,9 @@ returns-clause-begins g c = record {
   passed = λ k passed. elim passed [ inl below ↦ absurd (omega (arith, below)) | inr spared ↦ c.new.ensures k spared ];
   leaks = refl;
   reftable = λ honest.
-      table_loaded g.S.Storage.view c.args.file.now c.load.new.storage c.in_ok-reftable.reftable c.in-Some.cluster c.cluster_bits-bits.result c.reftable_entries-entries.result c.reftable_offset.result
+      table_loaded g.S.Storage.view c.args.file.now c.load_reftable.new.self c.in_ok-reftable.reftable c.in-Some.cluster c.cluster_bits-bits.result c.reftable_entries-entries.result c.reftable_offset.result
       c.in_ok-reftable.ensures.table c.in_ok-reftable.ensures.length c.cluster_bits-bits.ensures.value c.in-Some.ensures.cluster c.reftable_offset.ensures c.reftable_entries-entries.ensures.value
-      (c.in_ok-reftable.ensures.of_image honest) (c.load.ensures.same honest);
+      (c.in_ok-reftable.ensures.of_image honest) (c.load_reftable.ensures.same honest);
   header_cluster = λ named are.
       let h = c.args.file.now.header.fields in
       let at : c.in-Some.cluster * 2 ^ c.cluster_bits-bits.result ≡ h.reftable_offset = c.in-Some.ensures.cluster ∙ c.reftable_offset.ensures in
