@@ -1,15 +1,17 @@
 -- Where an allocator begins that loaded its reftable anew.
-use Rattle.std.specs.Prelude.{◌≡◌}
+use Rattle.std.specs.Prelude.{◌≡◌, ℕ}
 use Rattle.image_access.specs.Moments.{StorageView}
 use Rattle.qcow2_alloc.specs.BehindHeader.{AreBehindHeader}
 use Rattle.qcow2_alloc.specs.SparedHeaders.{NamesReftableBehind, StandsBehindHeader}
 use Rattle.qcow2_alloc.specs.ImageFile.{view_in, HasReftable}
+use Rattle.qcow2_alloc.specs.LowestRuns.{IsPassed}
 use Rattle.qcow2_alloc.specs.declared.allocation.Allocator.{Allocator}
 use Rattle.qcow2_alloc.specs.declared.image_file.ImageFile.{ImageFile}
 
--- It looks for free clusters from the first one on. Its reftable is the one on an honest storage, and stands behind cluster 0 where the header names it there.
+-- It looks for free clusters from the first one on, and passes over none yet. Its reftable is the one on an honest storage, and stands behind cluster 0 where the header names it there.
 pub record BeginsAnew {S : Type 0} (view : S → StorageView) (old new : ImageFile S) (allocator : Allocator) : Type 0 where
   pub first : allocator.first_free_cluster ≡ 0
+  pub passed : (k : ℕ) → ¬ IsPassed allocator k
   pub reftable : (view_in view old).is_honest → HasReftable view new allocator.reftable
   pub header_cluster : NamesReftableBehind old.header.fields → AreBehindHeader old.header.fields.cluster_bits old.caches
       → StandsBehindHeader old.header.fields.cluster_bits allocator.reftable new

@@ -19,6 +19,7 @@ pub mod Write
 pub mod Prepare
 pub mod Commit
 pub mod Flush
+pub mod Invalidate
 pub mod Call
 pub mod Clear
 pub mod Sizing

@@ -37,3 +37,4 @@ pub mod PreparedPlaces
 pub mod ImageSteps
 pub mod SoundParts
 pub mod Storages
+pub mod Invalidated

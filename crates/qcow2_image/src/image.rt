@@ -90,7 +90,7 @@ impl<S: Storage, F: WrappedFormat<S>> Qcow2<S, F> {
     ghost use Rattle.qcow2_alloc.specs.ImageFile.{contents_in, known_in, view_in};
     ghost use Rattle.qcow2_image.specs.UnseenSteps.{UnseenStep, FreesListed};
     ghost use Rattle.qcow2_alloc.specs.FreeList.{with_listed};
-    ghost use Rattle.qcow2_alloc.specs.ImageStorage.{storage_of};
+    ghost use Rattle.qcow2_alloc.specs.ImageStorage.{storage_of, SameNotes};
     ghost use Rattle.qcow2_image.specs.Refusals.{unusable, IsMet, MarksFailed, MarksRefused};
     ghost use Rattle.image_access.specs.Moments.{ContentsStay, EachMomentSince, IsLeftBy};
     ghost use Rattle.qcow2_metadata.specs.Bytes.{byte_at};
@@ -219,7 +219,7 @@ impl<S: Storage, F: WrappedFormat<S>> Qcow2<S, F> {
     }
 
     // A table without entries lies nowhere.
-    fn load_l1_table(file: &mut ImageFile<S>) -> Result<L1Table, ImageError>
+    pub(crate) fn load_l1_table(file: &mut ImageFile<S>) -> Result<L1Table, ImageError>
         ensures rest { file.new ≡ record file.old { storage = file.new.storage } }
         ensures honest { (view_in S.view file.old).is_honest → (view_in S.view file.new).is_honest }
         ensures faults { FaultsTold (view_in S.view file.old).faults (view_in S.view file.new).faults result }
@@ -230,7 +230,7 @@ impl<S: Storage, F: WrappedFormat<S>> Qcow2<S, F> {
         ensures why { (view_in S.view file.old).is_honest
             → MatchResult result (λ table. L1TableReads file.old.header.fields (contents_in S.view file.old))
             (IsReasonAgainstL1Table file.old.header.fields (contents_in S.view file.old)) }
-        ensures caches { file.new.caches ≡ file.old.caches }
+        ensures unnoted { SameNotes file.old.storage file.new.storage }
         ensures header_cluster { NamesTablesBehind file.old.header.fields → IfOk result (IsL1TableBehind file.old.header.fields.cluster_bits) }
     {
         let bits = file.header.cluster_bits();
@@ -241,13 +241,9 @@ impl<S: Storage, F: WrappedFormat<S>> Qcow2<S, F> {
         if entries == 0 {
             return Ok(L1Table::new_cleared(file.alloc, &file.header, 0)?);
         }
-        let table = L1Table::load(
-            file.alloc,
-            &mut file.storage,
-            &file.header,
-            cluster,
-            entries,
-        )?;
+        let table = file
+            .storage
+            .load_l1_table(file.alloc, &file.header, cluster, entries)?;
         Ok(table)
     }
 

@@ -8,6 +8,7 @@ mod cow;
 mod discarding;
 mod first_cluster;
 mod image;
+mod invalidation;
 mod io_func;
 mod l1_tables;
 mod l2_tables;

@@ -3,6 +3,7 @@ mod commands;
 mod creating;
 mod flushes;
 mod images;
+mod invalidation;
 mod mappings;
 mod overlays;
 mod recorded;

@@ -20,9 +20,9 @@ use Rattle.qcow2_image.proofs.image.Qcow2.load_l1_table.Goals as goal
 
 pub returns-clause-table : goal.returns-clause-table
 returns-clause-table g c = λ honest.
-    l1_loaded g.S.Storage.view g.F.BackingDisk.backing c.args.file.now c.load.new.storage c.in_ok-table.table c.in-Some.cluster c.cluster_bits-bits.result c.l1_table_entries-entries.result c.l1_table_offset.result
-    c.in_ok-table.ensures.table c.in_ok-table.ensures.length c.cluster_bits-bits.ensures.value c.in-Some.ensures.cluster c.l1_table_offset.ensures c.l1_table_entries-entries.ensures.value
-    (c.in_ok-table.ensures.of_image honest) (c.load.ensures.same honest)
+    l1_loaded g.S.Storage.view g.F.BackingDisk.backing c.args.file.now c.load_l1_table.new.self c.in_ok-table.table c.in-Some.cluster c.cluster_bits-bits.result c.l1_table_entries-entries.result c.l1_table_offset.result
+    c.in_ok-table.ensures.table c.in_ok-table.ensures.whole.0 c.cluster_bits-bits.ensures.value c.in-Some.ensures.cluster c.l1_table_offset.ensures c.l1_table_entries-entries.ensures.value
+    (c.in_ok-table.ensures.of_image honest) (c.load_l1_table.ensures.same honest)
 
 pub returns-then-entries-eq0-clause-table : goal.returns-then-entries-eq0-clause-table
 returns-then-entries-eq0-clause-table g c = λ honest.
@@ -35,7 +35,7 @@ returns-clause-why g c = λ honest.
     let n = c.l1_table_entries-entries.result in
     let entries : n ≡ h.l1_entries = c.l1_table_entries-entries.ensures.value in
     let at : c.in-Some.cluster * 2 ^ h.cluster_bits ≡ h.l1_offset = ap (λ n. c.in-Some.cluster * 2 ^ n) (sym c.cluster_bits-bits.ensures.value) ∙ c.in-Some.ensures.cluster ∙ c.l1_table_offset.ensures in
-    entries_read h.l1_entries c.in_ok-table.table.bytes (l1_entry h b) L1EntryReads c.in_ok-table.ensures.is_table.reads (c.in_ok-table.ensures.of_image honest (sym at, sym entries))
+    entries_read h.l1_entries c.in_ok-table.table.bytes (l1_entry h b) L1EntryReads c.in_ok-table.ensures.whole.1.reads (c.in_ok-table.ensures.of_image honest (sym at, sym entries))
 
 pub returns-in_err-table-clause-why : goal.returns-in_err-table-clause-why
 returns-in_err-table-clause-why g c = λ honest.

@@ -1,0 +1,5 @@
+pub mod Dropped
+pub mod Pinned
+pub mod Reasons
+pub mod Reading
+pub mod Calls

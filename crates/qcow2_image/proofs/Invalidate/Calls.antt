@@ -1,0 +1,168 @@
+-- An image whose tables were dropped and read anew, from the parts of the call.
+use Rattle.std.proofs.Common.{◌≡◌, ℕ, ◌<◌, List, inl, inr, Result, Ok, Err, refl, sym, ap, ◌∙◌, subst}
+use Rattle.std.specs.Prelude.{IfSome, IsSome, OnOk, Option}
+use Rattle.image_access.specs.Backing.{BackingView}
+use Rattle.image_access.specs.Moments.{StorageView}
+use Rattle.qcow2_metadata.specs.Bytes.{byte_at}
+use Rattle.qcow2_metadata.specs.Header.{HeaderView, header, with_fields, with_tables_of}
+use Rattle.qcow2_metadata.specs.declared.header.HeaderFields.{HeaderFields}
+use Rattle.qcow2_laws.specs.CrashInvariant.{Pending}
+use Rattle.qcow2_alloc.specs.CachePins.{l2_pins, CachesHaveRoom}
+use Rattle.qcow2_alloc.specs.ImageError.{IsFault}
+use Rattle.qcow2_alloc.specs.ImageFile.{contents_in, known_in, view_in, HasReftable}
+use Rattle.qcow2_alloc.specs.MetadataCaches.{l2_at, rb_at}
+use Rattle.qcow2_alloc.specs.declared.cache.MetadataCaches.{MetadataCaches}
+use Rattle.qcow2_alloc.specs.declared.error.ImageError.{ImageError}
+use Rattle.qcow2_alloc.specs.declared.error.ImageError.TheVariants as I
+use Rattle.qcow2_alloc.specs.declared.image_file.ImageFile.{ImageFile}
+use Rattle.qcow2_alloc.proofs.KeptMarks.{notes_then}
+use Rattle.qcow2_image.specs.BehindHeader.{NamesTablesBehind}
+use Rattle.qcow2_image.specs.Image.{is_writable, leaked_in, ImageStays, IsBegun}
+use Rattle.qcow2_image.specs.ImageInvariant.{HasL1Table, ImageInvariant}
+use Rattle.qcow2_image.specs.ImageSteps.{ImageStep}
+use Rattle.qcow2_image.specs.Invalidated.{DropsCached, HeedsPrepared, HoldsNoTable, IsAsStored, IsAtRest, IsReasonAgainstPlaces, IsReasonAgainstReading, IsReasonNotToRead, ReadsAnew, ReadsPlaces, ReadsTables}
+use Rattle.qcow2_image.specs.PinnedTables.{HasPinnedTable}
+use Rattle.qcow2_image.specs.Readable.{IsReasonAgainstTables}
+use Rattle.qcow2_image.specs.Unwritten.{ContentsStayThroughout}
+use Rattle.qcow2_image.specs.declared.image.Qcow2.{Qcow2}
+use Rattle.qcow2_image.specs.declared.prepared.Prepared.{Prepared}
+use Rattle.qcow2_image.proofs.Call.BehindHeader.{behind_then}
+use Rattle.qcow2_image.proofs.Call.ImageSteps.{step_then}
+use Rattle.qcow2_image.proofs.Invalidate.Reading.{silent_then}
+use Rattle.qcow2_image.proofs.Invalidate.Reasons.{l1_fault, places_fault, reftable_fault}
+
+-- what holds in any case holds of an answer
+pub on_any : {A E : Type 0} {P : Type 0} (r : Result A E) → P → OnOk r P
+on_any (Ok x) holds = holds
+on_any (Err e) holds = tt
+
+pub on_map : {A E : Type 0} {P Q : Type 0} (r : Result A E) → (P → Q) → OnOk r P → OnOk r Q
+on_map (Ok x) follows holds = follows holds
+on_map (Err e) follows holds = tt
+
+stays_on : {S F : Type 0} {a b c : Qcow2 S F} → ImageStays a b → ImageStays b c → ImageStays a c
+stays_on first then = record {
+  image = record {
+    number = then.image.number ∙ first.image.number;
+    size = then.image.size ∙ first.image.size;
+    writable = then.image.writable ∙ first.image.writable;
+    external = then.image.external ∙ first.image.external;
+  };
+  failed = then.failed ∙ first.failed;
+}
+
+module _ {S F : Type 0} (view : S → StorageView) (a b d : Qcow2 S F) (step : ImageStep view a b) (drops : DropsCached a b) (places : ReadsPlaces view b d) where
+  same_header : b.file.header ≡ a.file.header
+  same_header = ap (λ (i : Qcow2 S F). i.file.header) drops.rest
+
+  same_view : view_in view b.file ≡ view_in view a.file
+  same_view = ap (λ (i : Qcow2 S F). view_in view i.file) drops.rest
+
+  -- the storage of the first image was read
+  pub silent_places : (view_in view a.file).is_honest → ContentsStayThroughout (view_in view a.file) (view_in view d.file)
+  silent_places = subst (λ (v : StorageView). v.is_honest → ContentsStayThroughout v (view_in view d.file)) same_view places.silent
+
+  pub honest_places : (view_in view a.file).is_honest → (view_in view b.file).is_honest
+  honest_places honest = subst (λ (v : StorageView). v.is_honest) (sym same_view) honest
+
+  module _ (e : Qcow2 S F) (tables : ReadsTables view d e) where
+    last_header : e.file.header ≡ d.file.header
+    last_header = ap (λ (i : Qcow2 S F). i.file.header) tables.rest
+
+    pub anew_then : ReadsAnew view a e
+    anew_then =
+        let first = step_then step places.part in
+        record {
+          part = record {
+            stays = stays_on first.stays tables.part.stays;
+            notes = notes_then first.notes tables.part.notes;
+            header_cluster = λ names. behind_then first.header_cluster (tables.part.header_cluster (subst (λ (v : HeaderView). NamesTablesBehind v.fields) last_header names));
+          };
+          rest = record {
+            header = subst (λ (v : HeaderView). v ≡ with_fields a.file.header (with_tables_of a.file.header.fields v.fields)) (sym last_header)
+                (subst (λ (v : HeaderView). d.file.header ≡ with_fields v (with_tables_of v.fields d.file.header.fields)) same_header places.header);
+            below = ap (λ (i : Qcow2 S F). i.backing) tables.rest ∙ ap (λ (i : Qcow2 S F). i.backing) places.rest ∙ ap (λ (i : Qcow2 S F). i.backing) drops.rest;
+            leaks = tables.leaks ∙ ap (λ (i : Qcow2 S F). leaked_in i) places.rest ∙ drops.leaks;
+          };
+          silent = λ honest. silent_then (view_in view a.file) (view_in view d.file) (view_in view e.file) honest (silent_places honest) tables.silent;
+        }
+
+    -- no table came into the caches
+    pub none_held_then : HoldsNoTable b → HoldsNoTable e
+    none_held_then none =
+        let same : e.file.caches ≡ b.file.caches = ap (λ (i : Qcow2 S F). i.file.caches) tables.rest ∙ ap (λ (i : Qcow2 S F). i.file.caches) places.rest in
+        record { tables = λ k. ap (λ (m : MetadataCaches S). l2_at m k) same ∙ none.tables k; blocks = λ k. ap (λ (m : MetadataCaches S). rb_at m k) same ∙ none.blocks k }
+
+    pub as_stored : (backing : F → BackingView) → (view_in view a.file).is_honest → with_tables_of b.file.header.fields (header (contents_in view b.file)) ≡ d.file.header.fields
+        → HasL1Table view backing e.file e.l1_table × IfSome e.allocator (λ x. HasReftable view e.file x.reftable) → IsAsStored view backing e
+    as_stored backing honest there has =
+        let all = silent_then (view_in view a.file) (view_in view d.file) (view_in view e.file) honest (silent_places honest) tables.silent in
+        let same : (view_in view e.file).contents ≡ (view_in view b.file).contents = all.0 honest ∙ sym (ap (λ (v : StorageView). v.contents) same_view) in
+        let fields : e.file.header.fields ≡ with_tables_of b.file.header.fields (header (contents_in view b.file)) = ap (λ (v : HeaderView). v.fields) last_header ∙ sym there in
+        record {
+          header_is =
+              subst (λ (h : HeaderFields). with_tables_of h (header (contents_in view e.file)) ≡ h) (sym fields)
+              (ap (λ (c : List ℕ). with_tables_of b.file.header.fields (header (byte_at c))) same);
+          l1_table = has.0;
+          reftable = has.1;
+        }
+
+-- ---- why it is refused
+module _ {S F : Type 0} (view : S → StorageView) (old new : Qcow2 S F) where
+  pub places_reason : (e : ImageError) → IsReasonAgainstPlaces old.file.header.fields (contents_in view old.file) (is_writable old) e → IsReasonAgainstReading view old new e
+  places_reason (I.StillInUse tables) why = absurd why
+  places_reason e why = inl why
+
+  pub tables_reason : (e : ImageError) → IsReasonAgainstTables (with_tables_of old.file.header.fields (header (contents_in view old.file))) (contents_in view old.file) (is_writable old) e → IsReasonAgainstReading view old new e
+  tables_reason (I.StillInUse tables) why = absurd (elim why [ inl none ↦ none | inr none ↦ none.2 ])
+  tables_reason e why = inr why
+
+  -- on a sound image without a prepared mapping
+  pub reading_fault : (backing : F → BackingView) (p : Pending) (out : List (Option Prepared)) → ImageInvariant view backing p old out → ¬ HasPinnedTable old → (e : ImageError) → IsReasonAgainstReading view old new e → IsFault e
+  reading_fault backing p out sound none (I.StillInUse tables) why = absurd (elim why [ inl has ↦ none has.0 | inr full ↦ full sound.file.room ])
+  reading_fault backing p out sound none e why =
+      let h = old.file.header.fields in
+      let b = contents_in view old.file in
+      let top = sound.file.caches.kept.kept.crash_invariant.top in
+      elim why [
+        | inl places ↦ places_fault h b top (is_writable old) e places
+        | inr tables ↦ elim (subst (λ (k : HeaderFields). IsReasonAgainstTables (with_tables_of h k) b (is_writable old) e) top.header_is tables) [
+          | inl l1 ↦ l1_fault h b top e l1
+          | inr reftable ↦ reftable_fault h b top e reftable.2
+        ]
+      ]
+
+-- ---- since the call began, and after it was marked
+module _ {S F : Type 0} (view : S → StorageView) (old begun : Qcow2 S F) (begins : IsBegun old begun) where
+  has_begun : HasPinnedTable old → HasPinnedTable begun
+  has_begun has = record { cluster = has.cluster; pins = subst (λ (m : MetadataCaches S). 0 < l2_pins m has.cluster) (sym begins.caches) has.pins }
+
+  had_begun : HasPinnedTable begun → HasPinnedTable old
+  had_begun has = record { cluster = has.cluster; pins = subst (λ (m : MetadataCaches S). 0 < l2_pins m has.cluster) begins.caches has.pins }
+
+  pub heeds_begun : (r : Result (Unit {0}) ImageError) → HeedsPrepared begun r → HeedsPrepared old r
+  heeds_begun (Ok x) none = λ has. none (has_begun has)
+  heeds_begun (Err (I.StillInUse tables)) heeds = tt
+  heeds_begun (Err I.Memory) heeds = tt
+  heeds_begun (Err e) none = λ has. none (has_begun has)
+
+  room_begun : CachesHaveRoom old.file.caches → CachesHaveRoom begun.file.caches
+  room_begun room = subst CachesHaveRoom (sym begins.caches) (record { tables = room.tables; some = room.some; free = room.free })
+
+  not_read : (e : ImageError) → IsReasonNotToRead begun.file.header.fields (contents_in view begun.file) (is_writable begun) e → IsReasonNotToRead old.file.header.fields (contents_in view old.file) (is_writable old) e
+  not_read e why = subst (λ (s : S). IsReasonNotToRead old.file.header.fields (byte_at (view s).contents) (is_writable old) e) begins.storage
+      (subst (λ (i : Qcow2 S F). IsReasonNotToRead i.file.header.fields (contents_in view begun.file) (is_writable i) e) begins.rest why)
+
+  pub why_begun : (mid new : Qcow2 S F) → new.file ≡ mid.file → (e : ImageError) → IsReasonAgainstReading view begun mid e → IsReasonAgainstReading view old new e
+  why_begun mid new same (I.StillInUse tables) why = elim why [
+    | inl has ↦ inl (had_begun has.0, subst (λ (f : ImageFile S). (c : ℕ) → IsSome (l2_at f.caches c) → 0 < l2_pins f.caches c) (sym same) has.1)
+    | inr full ↦ inr (λ room. full (room_begun room))
+  ]
+  why_begun mid new same e why = not_read e why
+
+  -- the image that begins is at rest too
+  pub rests_begun : known_in view begun.file ≡ known_in view old.file → IsAtRest view old → IsAtRest view begun
+  rests_begun known rest = record {
+    freed = ap (λ (i : Qcow2 S F). i.file.free_list) begins.rest ∙ rest.freed;
+    written = known ∙ rest.written ∙ ap (λ (s : S). byte_at (view s).contents) (sym begins.storage);
+  }

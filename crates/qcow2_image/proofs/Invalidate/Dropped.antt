@@ -1,0 +1,207 @@
+-- Tables are dropped of an image at rest: no guest sees it.
+use Rattle.std.proofs.Common.{◌≡◌, ℕ, ◌<◌, ◌/◌, ◌==◌, Bool, false, inl, inr, List, [], ◌∷◌, length, map, Option, Some, None, Result, Ok, Err, refl, sym, ap, ◌∙◌, subst, arith}
+use Rattle.std.specs.Prelude.{◌≢◌, IfErr, IfSome, OnOk}
+use mathlib.Core.Path.{fun_ext}
+use Rattle.image_access.specs.Backing.{BackingView}
+use Rattle.image_access.specs.Moments.{StorageView}
+use Rattle.qcow2_metadata.specs.Bytes.{Bytes, byte_at}
+use Rattle.qcow2_metadata.specs.EntryTable.{EntryTableView, entry_count}
+use Rattle.qcow2_metadata.specs.Header.{cluster_size}
+use Rattle.qcow2_metadata.specs.L2Table.{L2TableView}
+use Rattle.qcow2_metadata.specs.declared.header.HeaderFields.{HeaderFields}
+use Rattle.qcow2_laws.specs.Clusters.{Direction}
+use Rattle.qcow2_laws.specs.CrashInvariant.{Pending, CrashInvariant}
+use Rattle.qcow2_alloc.specs.AsyncLruCache.{pinned, pins_at, value_at}
+use Rattle.qcow2_alloc.specs.CachePins.{l2_pins, CachesHaveRoom, LeavesPinned}
+use Rattle.qcow2_alloc.specs.BehindHeader.{KeepBehindHeader}
+use Rattle.qcow2_alloc.specs.ImageFile.{contents_in, known_in, view_in}
+use Rattle.qcow2_alloc.specs.KeptTables.{cached_tables}
+use Rattle.qcow2_alloc.specs.MetadataCaches.{known_of, l2_tables, order_of, CacheInvariant, TakenOff, TakesOff, UnseenCacheStep}
+use Rattle.qcow2_alloc.specs.declared.async_lru_cache.slot.Slot.{Slot}
+use Rattle.qcow2_alloc.specs.declared.clusters_to_free.ClustersToFreeEntry.{ClustersToFreeEntry}
+use Rattle.qcow2_alloc.specs.declared.error.ImageError.{ImageError}
+use Rattle.qcow2_alloc.specs.declared.error.ImageError.TheVariants as I
+use Rattle.qcow2_alloc.specs.declared.image_file.ImageFile.{ImageFile}
+use Rattle.qcow2_alloc.specs.KeptAllocators.{IsAllocatorOf}
+use Rattle.qcow2_alloc.specs.declared.allocation.Allocator.{Allocator}
+use Rattle.qcow2_alloc.specs.declared.cache.MetadataCaches.{MetadataCaches}
+use Rattle.qcow2_alloc.proofs.KeptTables.Turning.{safe_none}
+use Rattle.qcow2_alloc.proofs.CachedEntries.FirstPinned.{none_pinned}
+use Rattle.qcow2_alloc.proofs.CachedEntries.Pins.{pinned_twice}
+use Rattle.qcow2_alloc.proofs.HeaderClusters.{bytes_stay}
+use Rattle.qcow2_image.specs.BehindHeader.{IsBesideNumbers, KeepsTablesBehind}
+use Rattle.qcow2_image.specs.Faults.{CountsImageFaults, SameFaults}
+use Rattle.qcow2_image.specs.Image.{leaked_by, leaked_in}
+use Rattle.qcow2_image.specs.Invalidated.{HeedsPrepared, HoldsNoTable, HoldsPinnedAlone, IsAtRest, IsReasonAgainstReading}
+use Rattle.qcow2_image.specs.PinnedTables.{HasPinnedTable}
+use Rattle.qcow2_image.proofs.Call.FaultCounts.{counted_ok, fewer_of}
+use Rattle.qcow2_image.proofs.Call.Called.{keeps_then}
+use Rattle.qcow2_image.proofs.Invalidate.Pinned.{held_pinned, some_pinned}
+use Rattle.qcow2_image.proofs.Invalidate.Reading.{begins_over}
+use Rattle.qcow2_image.proofs.Map.Loading.{caches_moved}
+use Rattle.qcow2_image.specs.ImageInvariant.{HasL1Table, ImageInvariant}
+use Rattle.qcow2_image.specs.UnseenSteps.{UnseenStep}
+use Rattle.qcow2_image.specs.declared.image.Qcow2.{Qcow2}
+use Rattle.qcow2_image.specs.declared.prepared.Prepared.{Prepared}
+
+module _ {S : Type 0} (h : HeaderFields) (p : Pending) (v : StorageView) (caches caches' : MetadataCaches S) (sound : CacheInvariant h p caches (byte_at v.contents))
+    (rest : known_of h caches (byte_at v.contents) ≡ byte_at v.contents) {U : Type 0} (off : TakenOff U h caches caches' (byte_at v.contents)) where
+  -- what is known is what stands there still
+  pub rests_still : known_of h caches' (byte_at v.contents) ≡ byte_at v.contents
+  rests_still = fun_ext (λ o. elim (off.known (o / cluster_size h)) [
+    | inl stands ↦ stands o refl
+    | inr same ↦ same o refl ∙ ap (λ (b : Bytes). b o) rest
+  ])
+
+  pub dropped_unseen : v.is_honest → order_of caches' ≡ order_of caches → UnseenCacheStep h p v caches v caches'
+  dropped_unseen honest order = record {
+    honest = honest;
+    sound = off.sound p (subst (λ (k : Bytes). CrashInvariant h (order_of caches') p (byte_at v.contents) k) (rest ∙ sym rests_still)
+        (subst (λ (d : Direction). CrashInvariant h d p (byte_at v.contents) (known_of h caches (byte_at v.contents))) (sym order) sound.kept.kept.crash_invariant));
+    known = rests_still ∙ sym rest;
+    named_blocks = off.named_blocks;
+    since = safe_none v (known_of h caches (byte_at v.contents));
+  }
+
+-- the tables in memory give way to others that are those on the storage too
+module _ {S F : Type 0} (view : S → StorageView) (backing : F → BackingView) (p : Pending) (a b : Qcow2 S F) (out : List (Option Prepared)) (step : UnseenStep view backing p p a b out) where
+  pub with_tables : (table : EntryTableView) (allocator : Option Allocator) → HasL1Table view backing b.file table → IfSome allocator (IsAllocatorOf view b.file) → leaked_by allocator ≡ leaked_in b
+      → UnseenStep view backing p p a (record b { l1_table = table; allocator = allocator }) out
+  with_tables table allocator l1 reftable leaks = record {
+    sound = record {
+      works = step.sound.works;
+      file = step.sound.file;
+      l1_table = l1;
+      reftable = reftable;
+      below = step.sound.below;
+      ready = λ k q at. let r = step.sound.ready k q at in record { own = r.own; mapped = r.mapped };
+      pinned = step.sound.pinned;
+      once = step.sound.once;
+    };
+    safe_step = step.safe_step;
+    since = step.since;
+    unseen = step.unseen;
+    copied = step.copied;
+    below = step.below;
+    list = record { more = step.list.more; is = step.list.is };
+    leaks = leaks ∙ step.leaks;
+  }
+
+-- ---- an image at rest whose tables are dropped
+module _ {S F : Type 0} (view : S → StorageView) (backing : F → BackingView) (image : Qcow2 S F) (caches' : MetadataCaches S) (list' : List ClustersToFreeEntry) (none : list' ≡ []) {U : Type 0} (taken : TakesOff U image.file.caches caches')
+    (order : order_of caches' ≡ order_of image.file.caches) (room : CachesHaveRoom image.file.caches → CachesHaveRoom caches') (pins : (table : ℕ) → l2_pins caches' table ≡ l2_pins image.file.caches table)
+    (rest : IsAtRest view image) (p : Pending) (out : List (Option Prepared)) (sound : ImageInvariant view backing p image out) where
+  off : TakenOff U image.file.header.fields image.file.caches caches' (contents_in view image.file)
+  off = taken image.file.header.fields p (contents_in view image.file) sound.file.caches
+
+  abbrev pub dropped : Qcow2 S F
+  dropped = record image { file = record image.file { caches = caches'; free_list = list' } }
+
+  pub dropped_moved : UnseenStep view backing p p image dropped out
+  dropped_moved =
+      let stay = dropped_unseen image.file.header.fields p (view_in view image.file) image.file.caches caches' sound.file.caches rest.written off sound.file.honest order in
+      subst (λ (l : List ClustersToFreeEntry). UnseenStep view backing p p image (record image { file = record image.file { caches = caches'; free_list = l } }) out) (rest.freed ∙ sym none)
+      (caches_moved view backing image out p sound image.file.storage caches' stay room pins)
+
+  pub rests_there : IsAtRest view dropped
+  rests_there = record { freed = none; written = rests_still image.file.header.fields p (view_in view image.file) image.file.caches caches' sound.file.caches rest.written off }
+
+-- ---- what dropping the tables of a cache answers
+module _ {V : Type 0} where
+  pub left_none : (es fs : List (ℕ × Slot V)) (r : Result (Unit {0}) ImageError) → LeavesPinned es r fs → OnOk r (fs ≡ [])
+  left_none es fs (Ok x) left = left.1
+  left_none es fs (Err e) left = tt
+
+  pub none_held : (es : List (ℕ × Slot V)) → es ≡ [] → (c : ℕ) → value_at (λ k. c == k) es ≡ None
+  none_held es is c = ap (λ (l : List (ℕ × Slot V)). value_at (λ k. c == k) l) is
+
+  pub not_of_storage : (es fs : List (ℕ × Slot V)) (r : Result (Unit {0}) ImageError) → LeavesPinned es r fs → IfErr r (λ e. e ≢ I.Storage)
+  not_of_storage es fs (Ok x) left = tt
+  not_of_storage es fs (Err e) left = λ is. absurd (elim left.1 [
+    | inl memory ↦ let bad : I.Memory ≡ I.Storage = sym memory.0 ∙ is in cc
+    | inr used ↦ let bad : I.StillInUse used.0 ≡ I.Storage = sym used.1 ∙ is in cc
+  ])
+
+  -- where entries were in use some have a pin
+  pub lacks_room : (es fs : List (ℕ × Slot V)) (e : ImageError) → LeavesPinned es (Err e) fs → ¬ (pinned es ≡ [])
+  lacks_room es fs e left none = let some = left.0 in let empty = ap length none in absurd (omega (arith, some, empty))
+
+module _ {S F : Type 0} (view : S → StorageView) (backing : F → BackingView) (old new : Qcow2 S F) where
+  -- no storage is called
+  pub counted_held : (r : Result (Unit {0}) ImageError) → SameFaults view backing old new → IfErr r (λ e. e ≢ I.Storage) → CountsImageFaults view backing old new r
+  counted_held (Ok x) same other = counted_ok view backing old new x same
+  counted_held (Err e) same other = record { no_fewer = fewer_of view backing old new same; rose = λ is. absurd (other is); told = λ _. same }
+
+  -- no mapping was prepared
+  pub none_in_use : (none : pinned old.file.caches.l2.entries ≡ []) → ¬ HasPinnedTable old
+  none_in_use none has = let no = none_pinned (λ k. has.cluster == k) old.file.caches.l2.entries none in let some = has.pins in absurd (omega (arith, no, some))
+
+  pub heeds_none : ¬ HasPinnedTable old → (r : Result (Unit {0}) ImageError) → HeedsPrepared old r
+  heeds_none none (Ok x) = none
+  heeds_none none (Err (I.StillInUse tables)) = tt
+  heeds_none none (Err I.Memory) = tt
+  heeds_none none (Err e) = none
+
+  pub heeds_left : (e : ImageError) → LeavesPinned old.file.caches.l2.entries (Err e) new.file.caches.l2.entries → HeedsPrepared {T = Unit {0}} old (Err e)
+  heeds_left e left = elim left.1 [
+    | inl memory ↦ subst (λ (x : ImageError). HeedsPrepared {T = Unit {0}} old (Err x)) (sym memory.0) tt
+    | inr used ↦ subst (λ (x : ImageError). HeedsPrepared {T = Unit {0}} old (Err x)) (sym used.1) tt
+  ]
+
+  pub why_left : (e : ImageError) → LeavesPinned old.file.caches.l2.entries (Err e) new.file.caches.l2.entries → ((c : ℕ) → l2_pins new.file.caches c ≡ l2_pins old.file.caches c) → IsReasonAgainstReading view old new e
+  why_left e left pins = elim left.1 [
+    | inl memory ↦ subst (IsReasonAgainstReading view old new) (sym memory.0) (inl tt)
+    | inr used ↦
+        let is = used.3 in
+        let all : pinned new.file.caches.l2.entries ≡ new.file.caches.l2.entries = ap pinned is ∙ pinned_twice old.file.caches.l2.entries ∙ sym is in
+        let long = ap length is in
+        let many = left.0 in
+        let some = some_pinned new.file.caches.l2.entries all (omega (arith, long, many)) in
+        let has : HasPinnedTable old = record { cluster = some.0; pins = subst (λ n. 0 < n) (pins some.0) some.1 } in
+        subst (IsReasonAgainstReading view old new) (sym used.1) (inl (has, λ c held. held_pinned (λ k. c == k) new.file.caches.l2.entries all held))
+  ]
+
+  -- a refblock had a pin
+  pub why_blocks : {V : Type 0} (es fs : List (ℕ × Slot V)) (r : Result (Unit {0}) ImageError) → LeavesPinned es r fs → (CachesHaveRoom old.file.caches → pinned es ≡ []) → IfErr r (IsReasonAgainstReading view old new)
+  why_blocks es fs (Ok x) left free = tt
+  why_blocks es fs (Err e) left free = elim left.1 [
+    | inl memory ↦ subst (IsReasonAgainstReading view old new) (sym memory.0) (inl tt)
+    | inr used ↦ subst (IsReasonAgainstReading view old new) (sym used.1) (inr (λ room. lacks_room es fs e left (free room)))
+  ]
+
+-- without an L2 table there is no entry for one
+no_entry : {A B : Type 0} (f : A → B) (es : List A) → map f es ≡ [] → es ≡ []
+no_entry f [] is = refl
+no_entry f (e ∷ es) is = absurd (cc)
+
+pub no_entries : {S : Type 0} (caches caches' : MetadataCaches S) → caches.l2.entries ≡ [] → l2_tables caches' ≡ l2_tables caches → caches'.l2.entries ≡ []
+no_entries caches caches' none same = no_entry _ caches'.l2.entries (same ∙ ap (λ es. cached_tables caches.l2.backend.header.fields.cluster_bits (λ (t : L2TableView). t.bytes) (λ t. t.is_modified) es) none)
+
+pub holds_none : {S F : Type 0} (new : Qcow2 S F) → new.file.caches.l2.entries ≡ [] → (r : Result (Unit {0}) ImageError) → OnOk r (new.file.caches.rb.entries ≡ []) → OnOk r (HoldsNoTable new)
+holds_none new tables (Ok x) blocks = record { tables = none_held new.file.caches.l2.entries tables; blocks = none_held new.file.caches.rb.entries blocks }
+holds_none new tables (Err e) blocks = tt
+
+-- an allocator that looks for free clusters from the first one on, and keeps its reftable
+pub behind_dropped : {S : Type 0} {own : ℕ} {l1 : EntryTableView} {v : StorageView} {caches caches' : MetadataCaches S} {o : Option Allocator} {a a' : Allocator} → o ≡ Some a → a'.reftable ≡ a.reftable → KeepBehindHeader caches caches'
+    → KeepsTablesBehind own l1 v caches o own l1 v caches' (Some a')
+behind_dropped {v = v} is same keeps = record {
+  kept = λ bits lies. record {
+    header = lies.header;
+    l1 = lies.l1;
+    caches = keeps bits lies.caches;
+    reftable = subst (λ (t : EntryTableView). (t.cluster_bits ≡ bits) × (0 < entry_count t → ¬ (t.cluster ≡ Some 0))) (sym same)
+        (subst (λ (x : Option Allocator). IfSome x (λ r. (r.reftable.cluster_bits ≡ bits) × (0 < entry_count r.reftable → ¬ (r.reftable.cluster ≡ Some 0)))) is lies.reftable);
+  };
+  bytes = λ bits lies honest. bytes_stay (IsBesideNumbers bits) v;
+}
+
+-- both kinds of tables are dropped, and the allocator begins anew
+pub anew_moved : {S F : Type 0} (view : S → StorageView) (backing : F → BackingView) (p : Pending) (old mid : Qcow2 S F) (caches' : MetadataCaches S) (a a' : Allocator) (out : List (Option Prepared)) → UnseenStep view backing p p old mid out
+    → UnseenStep view backing p p mid (record mid { file = record mid.file { caches = caches' } }) out → mid.allocator ≡ Some a → a' ≡ record a { first_free_cluster = 0 }
+    → UnseenStep view backing p p old (record mid { file = record mid.file { caches = caches' }; allocator = Some a' }) out
+anew_moved view backing p old mid caches' a a' out first second is anew =
+    let last : Qcow2 _ _ = record mid { file = record mid.file { caches = caches' } } in
+    let own : IsAllocatorOf view last.file a = subst (λ (x : Option Allocator). IfSome x (IsAllocatorOf view last.file)) is second.sound.reftable in
+    keeps_then view backing out old mid (record last { allocator = Some a' }) p p p (λ k h. h) first
+    (with_tables view backing p mid last out second mid.l1_table (Some a') second.sound.l1_table (begins_over view last.file a a' anew own)
+    (ap (λ (x : Allocator). x.leaked_clusters) anew ∙ sym (ap (λ (x : Option Allocator). leaked_by x) is)))

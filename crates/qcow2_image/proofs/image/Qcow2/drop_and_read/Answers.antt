@@ -1,0 +1,86 @@
+use Rattle.std.proofs.Common.{Bool, ◌≡◌, ◌∙◌, List, ℕ, Result, refl, sym, ap, subst}
+use Rattle.std.specs.Prelude.{IfErr}
+use Rattle.std.proofs.lemmas.Result.{IfErr-weaker}
+use Rattle.qcow2_metadata.specs.Bytes.{byte_at}
+use Rattle.qcow2_metadata.specs.Header.{header, with_tables_of}
+use Rattle.qcow2_metadata.specs.declared.header.HeaderFields.{HeaderFields}
+use Rattle.qcow2_alloc.specs.ImageFile.{contents_in}
+use Rattle.qcow2_alloc.specs.declared.error.ImageError.{ImageError}
+use Rattle.qcow2_alloc.proofs.AllocationSteps.{handed_on}
+use Rattle.qcow2_image.specs.Image.{is_writable}
+use Rattle.qcow2_image.specs.Invalidated.{IsReasonAgainstPlaces, IsReasonAgainstReading}
+use Rattle.qcow2_image.specs.Readable.{IsReasonAgainstTables}
+use Rattle.qcow2_image.specs.declared.image.Qcow2.{Qcow2}
+use Rattle.qcow2_image.proofs.Call.Called.{keeps_then}
+use Rattle.qcow2_image.proofs.Invalidate.Calls.{anew_then, as_stored, honest_places, none_held_then, on_any, on_map, places_reason, silent_places, tables_reason}
+use Rattle.qcow2_image.proofs.image.Qcow2.drop_and_read.Goals as goal
+
+pub returns-in_err-read_places-clause-why : goal.returns-in_err-read_places-clause-why
+returns-in_err-read_places-clause-why g c = λ honest.
+    let view = g.S.Storage.view in
+    let old = c.args.self.now in
+    let dropped = c.drop_cached.new.self in
+    let placed = c.read_places.new.self in
+    let drops = c.drop_cached.ensures in
+    let places = c.read_places.ensures in
+    let e = c.in_err-read_places.field-0.0 in
+    let why = c.in_err-read_places.ensures.why (honest_places view old dropped placed drops.step drops.rest places.step honest) in
+    let there = subst (λ (w : Bool). IsReasonAgainstPlaces dropped.file.header.fields (contents_in view dropped.file) w e) drops.step.stays.image.writable why in
+    let here = subst (λ (i : Qcow2 _ _). IsReasonAgainstPlaces i.file.header.fields (contents_in view i.file) (is_writable old) e) drops.rest.rest there in
+    handed_on (λ (r : Result _ ImageError). IfErr r (IsReasonAgainstReading view old placed)) c.from_residual-in_err-read_places.result e c.from_residual-in_err-read_places.ensures (places_reason view old placed e here)
+
+pub returns-in_err-read_places-clause-keeps : goal.returns-in_err-read_places-clause-keeps
+returns-in_err-read_places-clause-keeps g c = λ rest p out sound.
+    let first = c.drop_cached.ensures.keeps rest p out sound in
+    keeps_then g.S.Storage.view g.F.BackingDisk.backing out c.args.self.now c.drop_cached.new.self c.read_places.new.self p p p (λ k h. h) first (c.read_places.ensures.keeps p out first.sound)
+
+pub returns-clause-step : goal.returns-clause-step
+returns-clause-step g c = anew_then g.S.Storage.view c.args.self.now c.drop_cached.new.self c.read_places.new.self c.drop_cached.ensures.step c.drop_cached.ensures.rest c.read_places.ensures.step c.read_tables.new.self c.read_tables.ensures.step
+
+pub returns-clause-why : goal.returns-clause-why
+returns-clause-why g c = λ honest.
+    let view = g.S.Storage.view in
+    let old = c.args.self.now in
+    let dropped = c.drop_cached.new.self in
+    let placed = c.read_places.new.self in
+    let drops = c.drop_cached.ensures in
+    let places = c.read_places.ensures in
+    let new = c.read_tables.new.self in
+    let there = honest_places view old dropped placed drops.step drops.rest places.step honest in
+    let silent = silent_places view old dropped placed drops.step drops.rest places.step honest in
+    let named = c.in_ok-read_places.ensures.read there in
+    IfErr-weaker c.read_tables.result (IsReasonAgainstTables placed.file.header.fields (contents_in view placed.file) (is_writable placed)) (IsReasonAgainstReading view old new)
+    (λ e why.
+    let first = subst (λ (w : Bool). IsReasonAgainstTables placed.file.header.fields (contents_in view placed.file) w e) (places.step.part.stays.image.writable ∙ drops.step.stays.image.writable) why in
+    let second = subst (λ (k : List ℕ). IsReasonAgainstTables placed.file.header.fields (byte_at k) (is_writable old) e) (silent.0 honest) first in
+    let third = subst (λ (h : HeaderFields). IsReasonAgainstTables h (contents_in view old.file) (is_writable old) e) (sym named) second in
+    tables_reason view old new e (subst (λ (i : Qcow2 _ _). IsReasonAgainstTables (with_tables_of i.file.header.fields (header (contents_in view i.file))) (contents_in view old.file) (is_writable old) e) drops.rest.rest third))
+    (c.read_tables.ensures.why (silent.1.honest honest))
+
+pub returns-clause-dropped : goal.returns-clause-dropped
+returns-clause-dropped g c =
+    on_any c.read_tables.result
+    (none_held_then g.S.Storage.view c.args.self.now c.drop_cached.new.self c.read_places.new.self c.drop_cached.ensures.step c.drop_cached.ensures.rest c.read_places.ensures.step c.read_tables.new.self c.read_tables.ensures.step c.in_ok-drop_cached.ensures.dropped)
+
+pub returns-clause-read : goal.returns-clause-read
+returns-clause-read g c = λ honest.
+    let view = g.S.Storage.view in
+    let old = c.args.self.now in
+    let dropped = c.drop_cached.new.self in
+    let placed = c.read_places.new.self in
+    let drops = c.drop_cached.ensures in
+    let places = c.read_places.ensures in
+    let there = honest_places view old dropped placed drops.step drops.rest places.step honest in
+    let silent = silent_places view old dropped placed drops.step drops.rest places.step honest in
+    on_map c.read_tables.result (as_stored view old dropped placed drops.step drops.rest places.step c.read_tables.new.self c.read_tables.ensures.step g.F.BackingDisk.backing honest (c.in_ok-read_places.ensures.read there))
+    (c.read_tables.ensures.read (silent.1.honest honest))
+
+pub returns-clause-keeps : goal.returns-clause-keeps
+returns-clause-keeps g c = λ rest p out sound.
+    let view = g.S.Storage.view in
+    let below = g.F.BackingDisk.backing in
+    let old = c.args.self.now in
+    let placed = c.read_places.new.self in
+    let first = c.drop_cached.ensures.keeps rest p out sound in
+    let second = keeps_then view below out old c.drop_cached.new.self placed p p p (λ k h. h) first (c.read_places.ensures.keeps p out first.sound) in
+    keeps_then view below out old placed c.read_tables.new.self p p p (λ k h. h) second (c.read_tables.ensures.keeps p out second.sound)

@@ -1,0 +1,76 @@
+use Rattle.std.proofs.Common.{◌≡◌, ◌∙◌, true, false, [], Result, sym, ap, subst}
+use Rattle.std.specs.Prelude.{IfErr}
+use Rattle.std.proofs.lemmas.Result.{IfErr-weaker}
+use Rattle.qcow2_disk.specs.Calls.{IsSame}
+use Rattle.qcow2_alloc.specs.ImageError.{IsFault}
+use Rattle.qcow2_alloc.specs.declared.error.ImageError.{ImageError}
+use Rattle.qcow2_image.specs.Calls.{AnswersCall}
+use Rattle.qcow2_image.specs.Image.{is_failed}
+use Rattle.qcow2_image.specs.ImageInvariant.{pending_in}
+use Rattle.qcow2_image.specs.Invalidated.{HeedsPrepared, IsReasonAgainstReading}
+use Rattle.qcow2_image.specs.Refusals.{IsMet}
+use Rattle.qcow2_image.specs.declared.image.Qcow2.{Qcow2}
+use Rattle.qcow2_image.proofs.Backings.{some_prepared}
+use Rattle.qcow2_image.proofs.Call.Called.{keeps_then, told_answers, tells_quietly}
+use Rattle.qcow2_image.proofs.Call.Marked.{may_mark}
+use Rattle.qcow2_image.proofs.Map.Loading.{if_ok_any}
+use Rattle.qcow2_image.proofs.Invalidate.Calls.{heeds_begun, reading_fault, rests_begun, why_begun}
+use Rattle.qcow2_image.proofs.image.Qcow2.invalidate_cache.Goals as goal
+
+pub returns-clause-fails : goal.returns-clause-fails
+returns-clause-fails g c =
+    let view = g.S.Storage.view in
+    let old = c.args.self.now in
+    let begun = c.begin.new.self in
+    let read = c.drop_and_read-done.new.self in
+    let new = c.mark_failure.new.self in
+    let r = c.drop_and_read-done.result in
+    let answer = sym c.mark_failure.ensures.answer in
+    let same = ap (λ (i : Qcow2 _ _). i.file) c.mark_failure.ensures.rest in
+    record {
+      failed = λ bad. absurd (let no : false ≡ true = sym c.if-self.false ∙ bad in cc);
+      cause = λ _. subst (λ (x : Result _ _). IfErr x IsMet) answer c.drop_and_read-done.ensures.fails.cause;
+      prepared = λ _. subst (λ (x : Result _ _). HeedsPrepared old x) answer (heeds_begun view old begun c.begin.ensures.begun r c.drop_and_read-done.ensures.prepared);
+      why =
+          λ _ honest.
+          subst (λ (x : Result _ _). IfErr x (IsReasonAgainstReading view old new)) answer
+          (IfErr-weaker r (IsReasonAgainstReading view begun read) (IsReasonAgainstReading view old new) (λ e. why_begun view old begun c.begin.ensures.begun read new same e) (c.drop_and_read-done.ensures.why (subst (λ s. (view s).is_honest) (sym c.begin.ensures.storage) honest)));
+      list = λ _. ap (λ (i : Qcow2 _ _). i.file.free_list) c.mark_failure.ensures.rest ∙ c.drop_and_read-done.ensures.list;
+    }
+
+pub returns-clause-sound : goal.returns-clause-sound
+returns-clause-sound g c =
+    let view = g.S.Storage.view in
+    let below = g.F.BackingDisk.backing in
+    let old = c.args.self.now in
+    let begun = c.begin.new.self in
+    let read = c.drop_and_read-done.new.self in
+    let new = c.mark_failure.new.self in
+    let r = c.drop_and_read-done.result in
+    let answer = sym c.mark_failure.ensures.answer in
+    let same = ap (λ (i : Qcow2 _ _). i.file) c.mark_failure.ensures.rest in
+    record {
+      same =
+          λ rest.
+          subst (λ (image : Qcow2 _ _). AnswersCall view below old image [] (λ done was is. is ≡ was) c.mark_failure.result) (sym c.mark_failure.ensures.rest)
+          (subst (λ (x : Result _ _). AnswersCall view below old (record read { is_failed = is_failed new }) [] (λ done was is. is ≡ was) x) answer
+          (told_answers view below old (record read { is_failed = is_failed new }) (λ done was is. is ≡ was) r
+          (tells_quietly view below old read
+          (λ out sound.
+          let p = pending_in view below old out in
+          let first = c.begin.ensures.keeps p out sound in
+          let there = rests_begun view old begun c.begin.ensures.begun (c.begin.ensures.known p out sound) rest in
+          record {
+            keeps = keeps_then view below out old begun read p p p (λ k h. h) first (c.drop_and_read-done.ensures.keeps there p out first.sound);
+            list = c.drop_and_read-done.ensures.list ∙ sym rest.freed;
+          })
+          (is_failed new) (λ done v w. IsSame v w) r (may_mark read new r c.mark_failure.ensures.marks) (c.drop_and_read-done.ensures.step.part.stays.image.number ∙ c.begin.ensures.stays.image.number)
+          c.if-self.false (λ out sound same. if_ok_any r (λ done. same)))));
+      fault =
+          λ rest out sound none.
+          let first = c.begin.ensures.keeps (pending_in view below old out) out sound in
+          subst (λ (x : Result _ _). IfErr x IsFault) answer
+          (IfErr-weaker r (IsReasonAgainstReading view begun read) IsFault
+          (λ e why. reading_fault view old new below (pending_in view below old out) out sound (λ has. none (some_prepared view below old out sound has.cluster has.pins)) e (why_begun view old begun c.begin.ensures.begun read new same e why))
+          (c.drop_and_read-done.ensures.why first.sound.file.honest));
+    }

@@ -1,0 +1,98 @@
+use Rattle.std.proofs.Common.{◌∙◌, ◌*◌, ◌<◌, List, ℕ, Result, inr, sym, ap, subst}
+use Rattle.std.specs.Prelude.{IfErr}
+use Rattle.qcow2_metadata.specs.Bytes.{byte_at}
+use Rattle.qcow2_metadata.specs.Header.{HeaderView, header, entries_per_cluster}
+use Rattle.qcow2_metadata.specs.HeaderLoad.{IsReasonToRefuse}
+use Rattle.qcow2_metadata.specs.declared.error.MetadataError.{MetadataError}
+use Rattle.qcow2_metadata.specs.declared.header.HeaderFields.{HeaderFields}
+use Rattle.qcow2_alloc.specs.ImageError.{of_metadata}
+use Rattle.qcow2_alloc.specs.ImageFile.{contents_in, view_in}
+use Rattle.qcow2_alloc.specs.declared.error.ImageError.{ImageError}
+use Rattle.qcow2_alloc.proofs.AllocationSteps.{handed_on}
+use Rattle.qcow2_image.specs.Image.{is_writable}
+use Rattle.qcow2_image.specs.Invalidated.{IsReasonAgainstPlaces}
+use Rattle.qcow2_image.specs.UnseenSteps.{UnseenStep}
+use Rattle.qcow2_image.specs.Unwritten.{ContentsStayThroughout}
+use Rattle.qcow2_image.proofs.Map.Loading.{read_moved}
+use Rattle.qcow2_image.proofs.Map.Quiet.{kept_throughout}
+use Rattle.qcow2_image.proofs.Invalidate.Reading.{notes_through, places_read, same_notes, same_places, silent_moved, silent_read, silent_then, stays_over, takes_over}
+use Rattle.qcow2_image.proofs.Invalidate.Reasons.{header_against}
+use Rattle.qcow2_image.proofs.image.Qcow2.read_places.Goals as goal
+
+pub returns-in_err-invalidate_cache-clause-keeps : goal.returns-in_err-invalidate_cache-clause-keeps
+returns-in_err-invalidate_cache-clause-keeps g c = λ p out sound.
+    read_moved g.S.Storage.view g.F.BackingDisk.backing c.args.self.now out p sound c.invalidate_cache.new.self c.invalidate_cache.ensures.calls c.invalidate_cache.ensures.same
+
+pub returns-in_err-header-clause-why : goal.returns-in_err-header-clause-why
+returns-in_err-header-clause-why g c = λ honest.
+    let old = c.args.self.now in
+    let h = old.file.header.fields in
+    let b = contents_in g.S.Storage.view old.file in
+    let e = c.in_err-header.field-0.0 in
+    let why = subst (λ (l : List ℕ). IsReasonToRefuse (header (byte_at l)) (byte_at l) c.is_some-writable.result e) (c.invalidate_cache.ensures.same honest) (c.in_err-header.ensures.refused (c.invalidate_cache.ensures.calls.honest honest)) in
+    handed_on (λ (r : Result _ ImageError). IfErr r (IsReasonAgainstPlaces h b (is_writable old))) c.from_residual-in_err-header.result (of_metadata e) c.from_residual-in_err-header.ensures
+    (header_against h b (is_writable old) e (subst (λ w. IsReasonToRefuse (header b) b w e) c.is_some-writable.ensures why))
+
+pub returns-in_err-header-clause-keeps : goal.returns-in_err-header-clause-keeps
+returns-in_err-header-clause-keeps g c = λ p out sound.
+    let view = g.S.Storage.view in
+    let old = c.args.self.now in
+    let honest = sound.file.honest in
+    let calls = c.invalidate_cache.ensures.calls in
+    let same = c.invalidate_cache.ensures.same in
+    let silent = silent_then (view_in view old.file) (view c.invalidate_cache.new.self.storage) (view c.load_header.new.self.storage) honest (kept_throughout _ _ calls.time same honest) (silent_read _ _ c.load_header.result c.load_header.ensures.reads) in
+    silent_moved view g.F.BackingDisk.backing old out p sound c.load_header.new.self silent
+
+pub returns-in_err-update-clause-step : goal.returns-in_err-update-clause-step
+returns-in_err-update-clause-step g c =
+    let view = g.S.Storage.view in
+    let old = c.args.self.now in
+    let calls = c.invalidate_cache.ensures.calls in
+    let first : (view_in view old.file).is_honest → ContentsStayThroughout (view_in view old.file) (view c.invalidate_cache.new.self.storage) = λ honest. kept_throughout (view_in view old.file) (view c.invalidate_cache.new.self.storage) calls.time c.invalidate_cache.ensures.same honest in
+    places_read view old c.load_header.new.self c.update.new.self (notes_through view old.file.storage c.invalidate_cache.new.self c.load_header.new.self c.invalidate_cache.ensures.unnoted (same_notes view c.invalidate_cache.new.self c.load_header.new.self c.load_header.ensures.rest))
+    (λ honest. silent_then (view_in view old.file) (view c.invalidate_cache.new.self.storage) (view c.load_header.new.self.storage) honest (first honest) (silent_read _ _ c.load_header.result c.load_header.ensures.reads))
+    (λ honest. c.load_header.ensures.reads.honest (calls.honest honest)) (stays_over old.file.header c.update.new.self c.in_err-update.ensures.same)
+
+pub returns-in_err-update-clause-why : goal.returns-in_err-update-clause-why
+returns-in_err-update-clause-why g c = λ honest.
+    let old = c.args.self.now in
+    let h = old.file.header.fields in
+    let b = contents_in g.S.Storage.view old.file in
+    let e = c.in_err-update.field-0.0 in
+    let there = (c.in_ok-header.ensures.ok (c.invalidate_cache.ensures.calls.honest honest)).fields ∙ ap (λ (l : List ℕ). header (byte_at l)) (c.invalidate_cache.ensures.same honest) in
+    handed_on (λ (r : Result _ ImageError). IfErr r (IsReasonAgainstPlaces h b (is_writable old))) c.from_residual-in_err-update.result (of_metadata e) c.from_residual-in_err-update.ensures
+    (subst (λ (x : MetadataError). IsReasonAgainstPlaces h b (is_writable old) (of_metadata x)) (sym c.in_err-update.ensures.err.0) (inr (subst (λ (k : HeaderFields). 1048576 < k.reftable_clusters * entries_per_cluster h) there c.in_err-update.ensures.err.1)))
+
+pub returns-in_err-update-clause-keeps : goal.returns-in_err-update-clause-keeps
+returns-in_err-update-clause-keeps g c = λ p out sound.
+    let view = g.S.Storage.view in
+    let below = g.F.BackingDisk.backing in
+    let old = c.args.self.now in
+    let honest = sound.file.honest in
+    let calls = c.invalidate_cache.ensures.calls in
+    let same = c.invalidate_cache.ensures.same in
+    let silent = silent_then (view_in view old.file) (view c.invalidate_cache.new.self.storage) (view c.load_header.new.self.storage) honest (kept_throughout _ _ calls.time same honest) (silent_read _ _ c.load_header.result c.load_header.ensures.reads) in
+    subst (λ (v : HeaderView). UnseenStep view below p p old (record old { file = record old.file { storage = c.load_header.new.self; header = v } }) out) (sym c.in_err-update.ensures.same) (silent_moved view below old out p sound c.load_header.new.self silent)
+
+pub returns-clause-step : goal.returns-clause-step
+returns-clause-step g c =
+    let view = g.S.Storage.view in
+    let old = c.args.self.now in
+    let calls = c.invalidate_cache.ensures.calls in
+    let first : (view_in view old.file).is_honest → ContentsStayThroughout (view_in view old.file) (view c.invalidate_cache.new.self.storage) = λ honest. kept_throughout (view_in view old.file) (view c.invalidate_cache.new.self.storage) calls.time c.invalidate_cache.ensures.same honest in
+    places_read view old c.load_header.new.self c.update.new.self (notes_through view old.file.storage c.invalidate_cache.new.self c.load_header.new.self c.invalidate_cache.ensures.unnoted (same_notes view c.invalidate_cache.new.self c.load_header.new.self c.load_header.ensures.rest))
+    (λ honest. silent_then (view_in view old.file) (view c.invalidate_cache.new.self.storage) (view c.load_header.new.self.storage) honest (first honest) (silent_read _ _ c.load_header.result c.load_header.ensures.reads))
+    (λ honest. c.load_header.ensures.reads.honest (calls.honest honest)) (takes_over old.file.header c.update.new.self c.in_ok-header.header.fields c.in_ok-update.ensures.ok)
+
+pub returns-clause-keeps : goal.returns-clause-keeps
+returns-clause-keeps g c = λ p out sound.
+    let view = g.S.Storage.view in
+    let below = g.F.BackingDisk.backing in
+    let old = c.args.self.now in
+    let honest = sound.file.honest in
+    let calls = c.invalidate_cache.ensures.calls in
+    let same = c.invalidate_cache.ensures.same in
+    let there = (c.in_ok-header.ensures.ok (calls.honest honest)).fields ∙ ap (λ (l : List ℕ). header (byte_at l)) (same honest) in
+    let silent = silent_then (view_in view old.file) (view c.invalidate_cache.new.self.storage) (view c.load_header.new.self.storage) honest (kept_throughout _ _ calls.time same honest) (silent_read _ _ c.load_header.result c.load_header.ensures.reads) in
+    subst (λ (v : HeaderView). UnseenStep view below p p old (record old { file = record old.file { storage = c.load_header.new.self; header = v } }) out)
+    (sym (same_places old.file.header c.update.new.self c.in_ok-header.header.fields (contents_in view old.file) sound.file.caches.kept.kept.crash_invariant.top there c.in_ok-update.ensures.ok)) (silent_moved view below old out p sound c.load_header.new.self silent)

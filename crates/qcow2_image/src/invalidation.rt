@@ -1,0 +1,120 @@
+//! Dropping what an image keeps of its file, and reading its tables anew.
+ghost use Rattle.std.specs.Prelude.{◌≡◌, List, [], Option, IfErr, IfSome, OnOk};
+ghost use Rattle.qcow2_alloc.specs.ImageError.{IsOfTables};
+ghost use Rattle.qcow2_alloc.specs.ImageFile.{view_in, contents_in, HasReftable};
+ghost use Rattle.qcow2_laws.specs.CrashInvariant.{Pending};
+ghost use Rattle.qcow2_metadata.specs.Header.{header, with_tables_of};
+ghost use Rattle.qcow2_image.specs.Image.{is_writable, HasNothingToFree};
+ghost use Rattle.qcow2_image.specs.ImageInvariant.{HasL1Table, ImageInvariant};
+ghost use Rattle.qcow2_image.specs.ImageSteps.{ImageFails, ImageStep};
+ghost use Rattle.qcow2_image.specs.Invalidated.{DropsCached, HeedsPrepared, HoldsNoTable, IsAsStored, IsAtRest};
+ghost use Rattle.qcow2_image.specs.Invalidated.{IsReasonAgainstPlaces, IsReasonAgainstReading};
+ghost use Rattle.qcow2_image.specs.Invalidated.{ReadsPlaces, ReadsTables};
+ghost use Rattle.qcow2_image.specs.Invalidated.{InvalidatesSoundly, InvalidatingFails, InvalidatingStep};
+ghost use Rattle.qcow2_image.specs.Invalidated.{ReadsAnew};
+ghost use Rattle.qcow2_image.specs.Readable.{IsReasonAgainstTables};
+ghost use Rattle.qcow2_image.specs.Refusals.{IsMet};
+ghost use Rattle.qcow2_image.specs.UnseenSteps.{UnseenStep};
+ghost use Rattle.qcow2_image.specs.declared.prepared.Prepared.{Prepared};
+
+use crate::{ImageError, Qcow2};
+use image_access::{Storage, WrappedFormat};
+
+#[tactic(auto, using(crate::proofs::Call::MetErrors::tables_met, crate::proofs::Call::MetErrors::storage_met, crate::proofs::Call::MetErrors::metadata_met))]
+impl<S: Storage, F: WrappedFormat<S>> Qcow2<S, F> {
+    /// Drops all that it keeps of its file, unwritten, and reads anew where its tables stand, the L1 table and the reftable:
+    /// for an image that another program wrote to. Call `flush` before, with no mapping prepared: what isn't flushed is
+    /// lost, and clusters that wait to be freed stay leaked. The disk below is left alone.
+    /// Refused 16 (failed). Then 21 (still in use) while a mapping is prepared that isn't existing; by then the clusters to
+    /// be freed are forgotten, and the L2 tables of no such mapping are dropped. Then what reading meets: 19 (metadata),
+    /// 13 (limit), 4 (unaligned table). Where the work meets them: 14 (memory), 15 (storage).
+    pub fn invalidate_cache(&mut self) -> Result<(), ImageError>
+        ensures step { InvalidatingStep S.view F.backing self.old self.new result }
+        ensures fails { InvalidatingFails S.view F.backing self.old self.new result }
+        ensures sound { InvalidatesSoundly S.view F.backing self.old self.new result }
+    {
+        if self.is_failed {
+            return Err(ImageError::Failed);
+        }
+        self.begin();
+        let done = self.drop_and_read();
+        self.mark_failure(done)
+    }
+
+    fn drop_and_read(&mut self) -> Result<(), ImageError>
+        ensures step { ReadsAnew S.view self.old self.new }
+        ensures fails { ImageFails S.view F.backing self.old self.new result IsMet }
+        ensures prepared { HeedsPrepared self.old result }
+        ensures why { (view_in S.view self.old.file).is_honest
+            → IfErr result (IsReasonAgainstReading S.view self.old self.new) }
+        ensures list { HasNothingToFree self.new }
+        ensures dropped { OnOk result (HoldsNoTable self.new) }
+        ensures read { (view_in S.view self.old.file).is_honest → OnOk result (IsAsStored S.view F.backing self.new) }
+        ensures keeps { IsAtRest S.view self.old → (p : Pending) (out : List (Option Prepared))
+            → ImageInvariant S.view F.backing p self.old out → UnseenStep S.view F.backing p p self.old self.new out }
+    {
+        self.drop_cached()?;
+        self.read_places()?;
+        self.read_tables()
+    }
+
+    // Forgets the clusters to be freed, and drops the L2 tables, then the refblocks.
+    fn drop_cached(&mut self) -> Result<(), ImageError>
+        ensures step { ImageStep S.view self.old self.new }
+        ensures rest { DropsCached self.old self.new }
+        ensures fails { ImageFails S.view F.backing self.old self.new result IsOfTables }
+        ensures prepared { HeedsPrepared self.old result }
+        ensures why { IfErr result (IsReasonAgainstReading S.view self.old self.new) }
+        ensures dropped { OnOk result (HoldsNoTable self.new) }
+        ensures keeps { IsAtRest S.view self.old → (p : Pending) (out : List (Option Prepared))
+            → ImageInvariant S.view F.backing p self.old out → UnseenStep S.view F.backing p p self.old self.new out }
+    {
+        let _forgotten = self.file.free_list.take();
+        self.file.caches.invalidate_l2()?;
+        match &mut self.allocator {
+            Some(allocator) => allocator.invalidate_rb_cache(&mut self.file),
+            None => self.file.caches.invalidate_rb(),
+        }
+    }
+
+    // Reads where the L1 table and the reftable stand.
+    fn read_places(&mut self) -> Result<(), ImageError>
+        ensures step { ReadsPlaces S.view self.old self.new }
+        ensures fails { ImageFails S.view F.backing self.old self.new result IsOfTables }
+        ensures read { (view_in S.view self.old.file).is_honest
+            → OnOk result (with_tables_of self.old.file.header.fields
+            (header (contents_in S.view self.old.file)) ≡ self.new.file.header.fields) }
+        ensures why { (view_in S.view self.old.file).is_honest → IfErr result (IsReasonAgainstPlaces
+            self.old.file.header.fields (contents_in S.view self.old.file) (is_writable self.old)) }
+        ensures keeps { (p : Pending) (out : List (Option Prepared)) → ImageInvariant S.view F.backing p self.old out
+            → UnseenStep S.view F.backing p p self.old self.new out }
+    {
+        self.file.storage.invalidate_cache()?;
+        let writable = self.allocator.is_some();
+        let header = self.file.storage.load_header(self.file.alloc, writable)?;
+        self.file.header.update(&header)?;
+        Ok(())
+    }
+
+    // Reads the L1 table and, for writing, the reftable.
+    fn read_tables(&mut self) -> Result<(), ImageError>
+        ensures step { ReadsTables S.view self.old self.new }
+        ensures fails { ImageFails S.view F.backing self.old self.new result IsMet }
+        ensures read { (view_in S.view self.old.file).is_honest
+            → OnOk result (HasL1Table S.view F.backing self.new.file self.new.l1_table
+            × IfSome self.new.allocator (λ a. HasReftable S.view self.new.file a.reftable)) }
+        ensures why { (view_in S.view self.old.file).is_honest → IfErr result (IsReasonAgainstTables
+            self.old.file.header.fields (contents_in S.view self.old.file) (is_writable self.old)) }
+        ensures keeps { (p : Pending) (out : List (Option Prepared)) → ImageInvariant S.view F.backing p self.old out
+            → UnseenStep S.view F.backing p p self.old self.new out }
+    {
+        let table = Self::load_l1_table(&mut self.file)?;
+        let Some(allocator) = &mut self.allocator else {
+            self.l1_table = table;
+            return Ok(());
+        };
+        allocator.load_anew(&mut self.file)?;
+        self.l1_table = table;
+        Ok(())
+    }
+}
