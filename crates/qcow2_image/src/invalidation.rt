@@ -96,7 +96,7 @@ impl<S: Storage, F: WrappedFormat<S>> Qcow2<S, F> {
         Ok(())
     }
 
-    // Reads the L1 table and, for writing, the reftable.
+    // Reads the L1 table and, for writing, the reftable. No cluster that these name is taken then, even if it isn't counted.
     fn read_tables(&mut self) -> Result<(), ImageError>
         ensures step { ReadsTables S.view self.old self.new }
         ensures fails { ImageFails S.view F.backing self.old self.new result IsMet }
@@ -114,6 +114,7 @@ impl<S: Storage, F: WrappedFormat<S>> Qcow2<S, F> {
             return Ok(());
         };
         allocator.load_anew(&mut self.file)?;
+        allocator.spare_named(&self.file, &table);
         self.l1_table = table;
         Ok(())
     }

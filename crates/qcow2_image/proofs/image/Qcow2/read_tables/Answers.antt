@@ -1,8 +1,12 @@
 use Rattle.std.proofs.Common.{◌≡◌, ◌∙◌, Some, refl, sym, ap, subst}
 use Rattle.std.specs.Prelude.{Option, IfSome, is_some}
 use Rattle.qcow2_alloc.specs.BehindHeader.{AreBehindHeader}
-use Rattle.qcow2_alloc.specs.ImageFile.{view_in, HasReftable}
+use Rattle.qcow2_alloc.specs.ImageFile.{contents_in, view_in, AllocatorInvariant, HasReftable}
 use Rattle.qcow2_alloc.specs.KeptAllocators.{IsAllocatorOf}
+use Rattle.qcow2_alloc.specs.LowestRuns.{NoFreeBelowHint}
+use Rattle.qcow2_alloc.proofs.KeptAllocators.{spared_kept}
+use Rattle.qcow2_laws.specs.CrashInvariant.{Pending}
+use Rattle.qcow2_metadata.specs.EntryTable.{IsL1TableOf}
 use Rattle.qcow2_alloc.specs.declared.allocation.Allocator.{Allocator}
 use Rattle.qcow2_alloc.specs.declared.image_file.ImageFile.{ImageFile}
 use Rattle.qcow2_alloc.specs.SparedHeaders.{NamesReftableBehind, StandsBehindHeader}
@@ -101,18 +105,21 @@ returns-clause-step g c =
     let mid = c.load_l1_table.new.file in
     let anew = c.load_anew.ensures in
     let last = c.load_anew.new.file in
-    let a' = c.load_anew.new.self in
+    let a = c.load_anew.new.self in
+    let spared = c.spare_named.ensures in
+    let a' : Allocator = record a { named = c.spare_named.new.self.named } in
     let is : last ≡ record old.file { storage = last.storage } = anew.step.rest ∙ ap (λ (f : ImageFile _). record f { storage = last.storage }) l1.rest in
     let through : (view_in view old.file).is_honest → ContentsStayThroughout (view_in view old.file) (view_in view last) = λ honest. silent_then (view_in view old.file) (view_in view mid) (view_in view last) honest (kept_throughout (view_in view old.file) (view_in view mid) l1.time l1.same honest) (λ there. kept_throughout (view_in view mid) (view_in view last) anew.step.time anew.step.same there) in
     let table = c.in_ok-table.table in
     let begins = c.in_ok-load_anew.ensures.begins in
-    subst (λ (f : ImageFile _). ReadsTables view old (record old { file = f; l1_table = table; allocator = Some a' })) (sym is)
+    subst (λ (x : Allocator). ReadsTables view old (record old { file = last; l1_table = table; allocator = Some x })) (sym spared.rest)
+    (subst (λ (f : ImageFile _). ReadsTables view old (record old { file = f; l1_table = table; allocator = Some a' })) (sym is)
     (tables_read view old last.storage table (Some a') (notes_through view old.file.storage mid.storage last.storage l1.unnoted anew.unnoted) through (λ honest. anew.step.honest (l1.honest honest)) (sym (ap (λ (x : Option Allocator). is_some x) c.in-Some.is))
     (anew.leaks ∙ sym (ap leaked_by c.in-Some.is))
     (λ names bits lies.
     let are : AreBehindHeader old.file.header.fields.cluster_bits old.file.caches = subst (λ n. AreBehindHeader n old.file.caches) (sym lies.header) lies.caches in
     let stands = subst (λ (f : ImageFile _). NamesReftableBehind f.header.fields → AreBehindHeader f.header.fields.cluster_bits f.caches → StandsBehindHeader f.header.fields.cluster_bits a'.reftable last) l1.rest begins.header_cluster names.reftable are in
-    both_behind lies (c.in_ok-table.ensures.header_cluster names) stands))
+    both_behind lies (c.in_ok-table.ensures.header_cluster names) stands)))
 
 pub returns-clause-keeps : goal.returns-clause-keeps
 returns-clause-keeps g c = λ p out sound.
@@ -123,7 +130,9 @@ returns-clause-keeps g c = λ p out sound.
     let mid = c.load_l1_table.new.file in
     let anew = c.load_anew.ensures in
     let last = c.load_anew.new.file in
-    let a' = c.load_anew.new.self in
+    let a = c.load_anew.new.self in
+    let spared = c.spare_named.ensures in
+    let a' : Allocator = record a { named = c.spare_named.new.self.named } in
     let is : last ≡ record old.file { storage = last.storage } = anew.step.rest ∙ ap (λ (f : ImageFile _). record f { storage = last.storage }) l1.rest in
     let through : (view_in view old.file).is_honest → ContentsStayThroughout (view_in view old.file) (view_in view last) = λ honest. silent_then (view_in view old.file) (view_in view mid) (view_in view last) honest (kept_throughout (view_in view old.file) (view_in view mid) l1.time l1.same honest) (λ there. kept_throughout (view_in view mid) (view_in view last) anew.step.time anew.step.same there) in
     let honest = sound.file.honest in
@@ -133,5 +142,23 @@ returns-clause-keeps g c = λ p out sound.
     let now : Qcow2 _ _ = record old { file = record old.file { storage = last.storage } } in
     let has : HasL1Table view below (record old.file { storage = mid.storage }) table = subst (λ (f : ImageFile _). HasL1Table view below f table) l1.rest (c.in_ok-table.ensures.table honest) in
     let has_now = l1_still view below (record old.file { storage = mid.storage }) last.storage (anew.step.same (l1.honest honest)) table has in
-    let own = begins_of view now.file a' begins.passed (subst (λ (f : ImageFile _). HasReftable view f a'.reftable) is (begins.reftable (l1.honest honest))) in
-    subst (λ (f : ImageFile _). UnseenStep view below p p old (record old { file = f; l1_table = table; allocator = Some a' }) out) (sym is) (with_tables view below p old now out read table (Some a') has_now own (anew.leaks ∙ sym (ap leaked_by c.in-Some.is)))
+    let own = begins_of view now.file a begins.passed (subst (λ (f : ImageFile _). HasReftable view f a.reftable) is (begins.reftable (l1.honest honest))) in
+    let hint = subst (λ (f : ImageFile _). (p : Pending) → AllocatorInvariant view a p f → IsL1TableOf f.header.fields (contents_in view f) table → NoFreeBelowHint view a f → NoFreeBelowHint view c.spare_named.new.self f) is spared.sound p (record { sound = read.sound.file; reftable = own.reftable }) has_now.entries in
+    let kept = spared_kept view now.file a c.spare_named.new.self spared.rest hint own in
+    let leaks : leaked_by (Some c.spare_named.new.self) ≡ leaked_by old.allocator = ap (λ (x : Allocator). x.leaked_clusters) spared.rest ∙ anew.leaks ∙ sym (ap leaked_by c.in-Some.is) in
+    subst (λ (f : ImageFile _). UnseenStep view below p p old (record old { file = f; l1_table = table; allocator = Some c.spare_named.new.self }) out) (sym is) (with_tables view below p old now out read table (Some c.spare_named.new.self) has_now kept leaks)
+
+pub returns-clause-read : goal.returns-clause-read
+returns-clause-read g c = λ honest.
+    let view = g.S.Storage.view in
+    let below = g.F.BackingDisk.backing in
+    let old = c.args.self.now in
+    let l1 = c.load_l1_table.ensures in
+    let anew = c.load_anew.ensures in
+    let last = c.load_anew.new.file in
+    let is : last ≡ record c.load_l1_table.new.file { storage = last.storage } = anew.step.rest in
+    let has = l1_still view below c.load_l1_table.new.file last.storage (anew.step.same (l1.honest honest)) c.in_ok-table.table (c.in_ok-table.ensures.table honest) in
+    (
+      subst (λ (f : ImageFile _). HasL1Table view below f c.in_ok-table.table) (sym is) has,
+      subst (λ (x : Allocator). HasReftable view last x.reftable) (sym c.spare_named.ensures.rest) (c.in_ok-load_anew.ensures.begins.reftable (l1.honest honest)),
+    )
