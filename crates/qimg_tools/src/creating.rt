@@ -24,7 +24,8 @@ pub fn create<S: Storage>(
     ensures limit { IsAllowed (builder_of storage size layout) → longest_disk layout.cluster_size < size
         → (result.1 ≡ Err Limit) × (result.0 ≡ storage) }
     ensures stops { (S.view storage).is_honest → StopsCreating layout.preallocate size (S.view storage) (S.view result.0) }
-    ensures cause { (S.view storage).is_honest → IfErr result.1 (IsReasonNotToCreate S.view (builder_of storage size layout)) }
+    ensures cause { (S.view storage).is_honest
+        → IfErr result.1 (IsReasonNotToCreate S.view (builder_of storage size layout) result.0) }
     ensures faults { FaultsTold (S.view storage).faults (S.view result.0).faults result.1 }
 {
     let builder = laid_out(storage, size, layout);
@@ -54,7 +55,7 @@ pub fn create_over<S: Storage>(
         → longest_disk layout.cluster_size < size → (result.1 ≡ Err Limit) × (result.0 ≡ storage) }
     ensures stops { (S.view storage).is_honest → StopsCreating layout.preallocate size (S.view storage) (S.view result.0) }
     ensures cause { (S.view storage).is_honest
-        → IfErr result.1 (IsReasonNotToCreate S.view (builder_over storage size layout name format)) }
+        → IfErr result.1 (IsReasonNotToCreate S.view (builder_over storage size layout name format) result.0) }
     ensures faults { FaultsTold (S.view storage).faults (S.view result.0).faults result.1 }
 {
     let builder = laid_out(storage, size, layout).backing(name, format);

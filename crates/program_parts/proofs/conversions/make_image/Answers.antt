@@ -200,7 +200,7 @@ returns-in-Ok-open_alone-clause-limit g c = λ honest layout long.
 
 pub returns-in-Err-clause-cause : goal.returns-in-Err-clause-cause
 returns-in-Err-clause-cause g c = λ raw_honest honest.
-    inl (fault_reason (asked_for c.args.storage (length (g.R.Storage.view c.args.raw.now).contents) c.args.cluster c.args.width) g.S.Storage.view _ (subst IsFault (sym c.from.ensures) (fault_of_storage c.in-Err.e)))
+    inl (fault_reason (asked_for c.args.storage (length (g.R.Storage.view c.args.raw.now).contents) c.args.cluster c.args.width) g.S.Storage.view _ _ (subst IsFault (sym c.from.ensures) (fault_of_storage c.in-Err.e)))
 
 pub returns-in-Err-created-clause-cause : goal.returns-in-Err-created-clause-cause
 returns-in-Err-created-clause-cause g c = λ raw_honest honest.
@@ -208,8 +208,8 @@ returns-in-Err-created-clause-cause g c = λ raw_honest honest.
     let asked = asked_so c.args.storage c.in-Ok.size c.args.cluster c.args.width c.new.result c.size-2.result c.cluster_size.result c.refcount_width.result c.new.ensures c.size-2.ensures c.cluster_size.ensures c.refcount_width.ensures ∙ ap (λ n. asked_for c.args.storage n c.args.cluster c.args.width) (c.in-Ok.ensures.size raw_honest) in
     let from = subst (λ (b : Qcow2CreateBuilder g.row.S.Denot). (view b.image).is_honest) (sym asked) honest in
     let e = c.in-Err-created.e in
-    inl (subst (λ (b : Qcow2CreateBuilder g.row.S.Denot). IsReasonNotToCreate view b e) asked
-    (of_err (IsReasonNotToCreate view c.refcount_width.result) c.create-storage.result.1 e c.in-Err-created.is (c.create-storage.ensures.cause from)))
+    inl (subst (λ (b : Qcow2CreateBuilder g.row.S.Denot). IsReasonNotToCreate view b c.create-storage.result.0 e) asked
+    (of_err (IsReasonNotToCreate view c.refcount_width.result c.create-storage.result.0) c.create-storage.result.1 e c.in-Err-created.is (c.create-storage.ensures.cause from)))
 
 pub returns-in-Err-open_alone-clause-cause : goal.returns-in-Err-open_alone-clause-cause
 returns-in-Err-open_alone-clause-cause g c = λ raw_honest honest.
