@@ -4,7 +4,7 @@ use Rattle.qcow2_session.specs.declared.session.Command.TheVariants as C
 use Rattle.qcow2_session.specs.declared.session.Reply.TheVariants as R
 use Rattle.std.proofs.Common.{◌≡◌, ◌⊎◌, ◌+◌, ◌<◌, ◌≤◌, inl, inr, ℕ, Bool, true, false, not, IsTrue, List, Option, Some, None, Bor, refl, sym, ap, ◌∙◌, subst, arith}
 use Rattle.std.specs.Global.{Global}
-use Rattle.std.specs.Prelude.{Vec, ◌∷◌, length, ◌&&◌, ◌==◌, nat_lt, IfSome, IfErr, IfOk, IsSome, MatchOption, Result, Ok, Err, is_some, slice_get}
+use Rattle.std.specs.Prelude.{Vec, [], ◌∷◌, length, ◌&&◌, ◌==◌, nat_lt, IfSome, IfErr, IfOk, IsSome, MatchOption, Result, Ok, Err, is_some, slice_get}
 use Rattle.std.specs.Option.{option_or}
 use Rattle.std.proofs.lemmas.Bool.{cases_lt, eq-eqb, lt-ltb, ltb-true}
 use Rattle.std.proofs.lemmas.Grind.{common_steps}
