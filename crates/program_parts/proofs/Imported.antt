@@ -21,7 +21,7 @@ use Rattle.qcow2_image.specs.ImageInvariant.{abstract_of, backing_bytes}
 use Rattle.qcow2_image.proofs.Create.Leaks.{no_leaks_flushed}
 use Rattle.qcow2_image.proofs.Free.{whole}
 use Rattle.qcow2_session.specs.Conversions.{IsRawOf, Imports}
-use Rattle.program_parts.specs.Conversions.{IsImageOf, zeros_below}
+use Rattle.program_parts.specs.Conversions.{IsImageMade, IsImageOf, IsImageOfSize, zeros_below}
 
 -- an image without a disk below has zeros there
 pub none_below : {S F : Type 0} (view : S → StorageView) (backing : F → BackingView) (below : Option F) → is_some below ≡ false → backing_bytes view backing below ≡ zeros_below
@@ -86,3 +86,9 @@ module _ {S F : Type 0} (view : S → StorageView) (backing : F → BackingView)
         counts = counts;
         no_leaks = leaks_none (record { sound = done.0; writable = same.writable; surplus = (does.acts.works opened.sound).surplus done.0 }) writable clean empty none;
       }
+
+-- what was made, whatever the raw disk is
+pub made_of : {E : Type 0} (r : Result ℕ E) (raw storage : StorageView) (cluster width size asked : ℕ) → storage.is_honest → IsImageOfSize asked (byte_at storage.contents) → size ≡ asked → IfOk r (λ n. n ≡ size)
+    → (raw.is_honest → IfOk r (λ n. IsImageOf storage raw.contents cluster width)) → IfOk r (λ n. IsImageMade raw n storage cluster width)
+made_of (Ok n) raw storage cluster width size asked honest image same count is = record { honest = honest; image = subst (λ k. IsImageOfSize k (byte_at storage.contents)) (sym (count ∙ same)) image; disk = is }
+made_of (Err e) raw storage cluster width size asked honest image same count is = tt

@@ -8,3 +8,6 @@ pub mod Making
 pub mod Refused
 pub mod TakenIn
 pub mod Compared
+pub mod Placed
+pub mod OnlyRead
+pub mod Copied

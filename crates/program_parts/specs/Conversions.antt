@@ -48,6 +48,17 @@ pub record IsImageOfSize (n : ℕ) (b : Bytes) : Type 0 where
   pub consistent : IsConsistent b
   pub size : (header b).size ≡ n
 
+-- how many bytes were made: as many as an honest raw disk has, and as the disk of an opened image has
+pub record CountsBytes (raw : StorageView) (is_opened : Type 0) (size n : ℕ) : Type 0 where
+  pub raw_disk : raw.is_honest → n ≡ length raw.contents
+  pub disk : is_opened → n ≡ size
+
+-- What was made of a raw disk: a consistent image of a disk of so many bytes, whatever was read. Of an honest raw disk its bytes were.
+pub record IsImageMade (raw : StorageView) (n : ℕ) (storage : StorageView) (cluster width : ℕ) : Type 0 where
+  pub honest : storage.is_honest
+  pub image : IsImageOfSize n (byte_at storage.contents)
+  pub disk : raw.is_honest → IsImageOf storage raw.contents cluster width
+
 -- What a stop may leave while an image of so many bytes is made. It is nothing that is taken for an image, or a consistent image of no bytes or of that many.
 abbrev pub IsStopOfMaking : ℕ → Bytes → Type 0
 IsStopOfMaking n b = (begins_image b ≡ false) ⊎ (IsImageOfSize 0 b ⊎ IsImageOfSize n b)

@@ -9,7 +9,10 @@ use Rattle.qcow2_metadata.specs.Consistent.{IsConsistent}
 use Rattle.qcow2_metadata.specs.Guest.{known_byte}
 use Rattle.qcow2_disk.specs.AbstractImages.{guest_of}
 use Rattle.qcow2_disk.specs.Disk.{Disk}
+use Rattle.qcow2_alloc.specs.Quiet.{IsQuiet}
+use Rattle.qcow2_image.specs.Image.{storage_of_image}
 use Rattle.qcow2_image.specs.ImageInvariant.{abstract_of}
+use Rattle.qcow2_image.specs.Unwritten.{HoldsNothingModified}
 use Rattle.qcow2_image.specs.declared.image.Qcow2.{Qcow2}
 use Rattle.program_parts.specs.Conversions.{disk_alone}
 use Rattle.program_parts.specs.declared.disks.OpenDisk.{OpenDisk}
@@ -17,44 +20,72 @@ use Rattle.program_parts.specs.declared.disks.OpenDisk.TheVariants as D
 use Rattle.program_parts.specs.declared.comparing.Comparison.{Comparison}
 use Rattle.program_parts.specs.declared.comparing.Comparison.TheVariants as C
 
--- a disk, and that reads return its bytes
+-- a disk, and that reads return its bytes; what it lies on, and that nothing waits there to be written
 pub record SeenDisk : Type 1 where
   pub disk : Disk
   pub is_honest : Type 0
+  pub storage : StorageView
+  pub is_written : Type 0
 
 -- the disk is this one, and reads return its bytes
 pub record IsSeenAs (d : Disk) (seen : SeenDisk) : Type 0 where
   pub honest : seen.is_honest
   pub disk : seen.disk ≡ d
 
+-- A call only reads. Where nothing waits to be written, nothing does then, and an honest storage has kept its contents at each moment.
+pub record IsOnlyRead (old new : SeenDisk) : Type 0 where
+  pub written : old.is_written → new.is_written
+  pub quiet : old.is_written → old.storage.is_honest → IsQuiet old.storage new.storage
+
+-- an honest storage has kept its contents at each moment
+abbrev pub IsKeptQuietly : StorageView → StorageView → Type 0
+IsKeptQuietly old new = old.is_honest → IsQuiet old new
+
 -- the disk that these bytes are
 abbrev pub raw_disk : List ℕ → Disk
 raw_disk bytes = record { size = length bytes; value = λ o. known_byte (byte_at bytes o) }
 
 abbrev pub seen_raw : StorageView → SeenDisk
-seen_raw storage = record { disk = raw_disk storage.contents; is_honest = storage.is_honest }
+seen_raw storage = record { disk = raw_disk storage.contents; is_honest = storage.is_honest; storage = storage; is_written = Unit {0} }
 
 -- the disk that an open image's guest sees; it is honest while it is sound
 abbrev pub seen_image : {S F : Type 0} → (S → StorageView) → (F → BackingView) → Qcow2 S F → SeenDisk
-seen_image view backing image = let v = abstract_of view backing image [] in record { disk = (guest_of v).disk; is_honest = v.is_sound }
+seen_image view backing image = let v = abstract_of view backing image [] in record { disk = (guest_of v).disk; is_honest = v.is_sound; storage = view (storage_of_image image); is_written = HoldsNothingModified image }
 
 abbrev pub seen_open : {S : Type 0} → (S → StorageView) → OpenDisk S → SeenDisk
 seen_open view (D.Raw raw) = seen_raw (view raw.storage)
 seen_open view (D.Image image) = seen_image view (λ _. record { bytes = []; faults = 0; is_honest = Unit {0} }) image
 
--- the disk that the bytes of a storage are, or that of the image that they are
-abbrev pub disk_held : Format → StorageView → Disk
-disk_held Format.Raw storage = raw_disk storage.contents
-disk_held Format.Qcow2 storage = disk_alone (byte_at storage.contents)
+-- what an open disk lies on
+abbrev pub storage_under : {S : Type 0} → OpenDisk S → S
+storage_under (D.Raw raw) = raw.storage
+storage_under (D.Image image) = storage_of_image image
+
+-- the disk that bytes are, or that of the image that they are
+abbrev pub disk_in : Format → List ℕ → Disk
+disk_in Format.Raw bytes = raw_disk bytes
+disk_in Format.Qcow2 bytes = disk_alone (byte_at bytes)
 
 -- it is any bytes, or a consistent image
+abbrev pub HoldsDiskIn : Format → List ℕ → Type 0
+HoldsDiskIn Format.Raw bytes = Unit {0}
+HoldsDiskIn Format.Qcow2 bytes = IsConsistent (byte_at bytes)
+
+-- the same of the bytes of a storage
+abbrev pub disk_held : Format → StorageView → Disk
+disk_held format storage = disk_in format storage.contents
+
 abbrev pub HoldsDisk : Format → StorageView → Type 0
-HoldsDisk Format.Raw storage = Unit {0}
-HoldsDisk Format.Qcow2 storage = IsConsistent (byte_at storage.contents)
+HoldsDisk format storage = HoldsDiskIn format storage.contents
 
 -- the disk that an honest storage holds in a format is opened
 abbrev pub IsOpenedAs : Format → StorageView → SeenDisk → Type 0
 IsOpenedAs format storage seen = storage.is_honest → HoldsDisk format storage → IsSeenAs (disk_held format storage) seen
+
+-- It lies on a storage that was only read so far, and nothing waits there to be written.
+pub record LiesOn (storage : StorageView) (seen : SeenDisk) : Type 0 where
+  pub written : seen.is_written
+  pub quiet : IsKeptQuietly storage seen.storage
 
 -- ---- the same bytes
 

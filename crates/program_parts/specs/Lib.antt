@@ -1,7 +1,9 @@
 pub mod Comparing
 pub mod Conversions
+pub mod Copies
 pub mod Disks
 pub mod Lines
 pub mod Numbers
+pub mod Places
 pub mod Reports
 pub mod Vetting

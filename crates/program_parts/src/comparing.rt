@@ -1,6 +1,6 @@
 //! Whether two disks are the same.
 ghost use Rattle.std.specs.Prelude.{◌≡◌, ◌+◌, ◌^◌, ◌<◌, length, Ok, IfOk, MatchOption};
-ghost use Rattle.program_parts.specs.Disks.{IsComparisonOf, IsComparisonIn};
+ghost use Rattle.program_parts.specs.Disks.{IsComparisonOf, IsComparisonIn, IsKeptQuietly, IsOnlyRead};
 ghost use Rattle.program_parts.specs.Comparing.{IsComparedUpTo, IsFirstOther};
 
 use crate::disks::{DiskReader, open_disk};
@@ -43,13 +43,15 @@ impl From<AllocError> for Unread {
     }
 }
 
-/// Compares the disks that two storages hold, each in a format, and hands the storages back. Where one can't be opened or read, the answer
-/// is why: 4 (unaligned table), 7 (compressed), 12 (dependency), 13 (limit), 14 (memory), 15 (storage), 19 (metadata).
+/// Compares the disks that two storages hold, each in a format, and hands the storages back, which are only read.
+/// Where one can't be opened or read, the answer is why: 4 (unaligned table), 7 (compressed), 12 (dependency), 13
+/// (limit), 14 (memory), 15 (storage), 19 (metadata).
 pub fn compare_storages<S: Storage, T: Storage>(
     alloc: Global,
     one: (S, Format),
     other: (T, Format),
 ) -> (S, T, Result<Comparison, Unread>)
+    ensures step { IsKeptQuietly (S.view one.0) (S.view result.0) × IsKeptQuietly (T.view other.0) (T.view result.1) }
     ensures compared { IfOk result.2 (IsComparisonIn one.1 (S.view one.0) other.1 (T.view other.0)) }
 {
     let mut one = match open_disk(alloc, one.0, one.1) {
@@ -77,6 +79,7 @@ pub fn compare<A: DiskReader, B: DiskReader>(
     one: &mut A,
     other: &mut B,
 ) -> Result<Comparison, Unread>
+    ensures step { IsOnlyRead (A.seen one.old) (A.seen one.new) × IsOnlyRead (B.seen other.old) (B.seen other.new) }
     ensures compared { (A.seen one.old).is_honest → (B.seen other.old).is_honest
         → IfOk result (IsComparisonOf (A.seen one.old).disk (B.seen other.old).disk) }
 {
@@ -110,6 +113,7 @@ fn compare_all<A: DiskReader, B: DiskReader>(
 ) -> Result<Comparison, Unread>
     requires some { 0 < length bytes.old }
     requires both { length others.old ≡ length bytes.old }
+    ensures step { IsOnlyRead (A.seen one.old) (A.seen one.new) × IsOnlyRead (B.seen other.old) (B.seen other.new) }
     ensures compared { (A.seen one.old).is_honest → (B.seen other.old).is_honest → size ≡ (A.seen one.old).disk.size
         → size ≡ (B.seen other.old).disk.size
         → IfOk result (IsComparisonOf (A.seen one.old).disk (B.seen other.old).disk) }
@@ -135,6 +139,7 @@ fn compare_at<A: DiskReader, B: DiskReader>(
 ) -> Result<Option<u64>, Unread>
     requires both { length others.old ≡ length bytes.old }
     requires reach { at + length bytes.old < 2 ^ 64 }
+    ensures step { IsOnlyRead (A.seen one.old) (A.seen one.new) × IsOnlyRead (B.seen other.old) (B.seen other.new) }
     ensures compared { IsComparedUpTo (A.seen one.old) (A.seen one.new) (B.seen other.old) (B.seen other.new) at
         (at + length bytes.old) result }
 {

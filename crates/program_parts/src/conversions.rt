@@ -14,8 +14,9 @@ ghost use Rattle.qcow2_alloc.specs.ImageError.{IsFault};
 ghost use Rattle.qcow2_alloc.specs.declared.error.ImageError.TheVariants.{InvalidOption, Limit};
 ghost use Rattle.qcow2_alloc.specs.Quiet.{IsQuiet};
 ghost use Rattle.qcow2_session.specs.Conversions.{Imports, IsLeft, IsMetImporting, IsOfImporting};
-ghost use Rattle.program_parts.specs.Conversions.{CountsBoth, IsImageOf, IsImageOfSize, IsLayout, IsMetExporting};
-ghost use Rattle.program_parts.specs.Conversions.{IsReasonNotToMake, IsRefusedUntouched, IsStopOfMaking, IsUnopened};
+ghost use Rattle.program_parts.specs.Conversions.{CountsBoth, CountsBytes, IsImageMade, IsImageOfSize, IsLayout};
+ghost use Rattle.program_parts.specs.Conversions.{IsMetExporting, IsReasonNotToMake, IsRefusedUntouched};
+ghost use Rattle.program_parts.specs.Conversions.{IsStopOfMaking, IsUnopened};
 ghost use Rattle.program_parts.specs.Conversions.{IsExport, KeepsDisk, OpensToExport, asked_for};
 
 use image_access::{Storage, WrappedFormat};
@@ -36,8 +37,8 @@ pub fn make_image<R: Storage, S: Storage>(
     cluster: u64,
     width: u64,
 ) -> (S, Result<u64, ImageError>)
-    ensures image { (R.view raw.old).is_honest → (S.view storage).is_honest
-        → IfOk result.1 (λ n. IsImageOf (S.view result.0) (R.view raw.old).contents cluster width) }
+    ensures image { (S.view storage).is_honest
+        → IfOk result.1 (λ n. IsImageMade (R.view raw.old) n (S.view result.0) cluster width) }
     ensures count { (R.view raw.old).is_honest → IfOk result.1 (λ n. n ≡ length (R.view raw.old).contents) }
     ensures raw { IsLeft (R.view raw.old) (R.view raw.new) }
     ensures stops { (R.view raw.old).is_honest → (S.view storage).is_honest
@@ -79,7 +80,8 @@ fn fill<R: Storage, S: Storage, F: WrappedFormat<S>>(
     image: &mut Qcow2<S, F>,
 ) -> Result<u64, ImageError>
     ensures sees { (R.view raw.old).is_honest → IfOk result (λ n. Imports S.view F.backing image.old image.new (R.view raw.old).contents (Ok n)) }
-    ensures count { (R.view raw.old).is_honest → IfOk result (λ n. n ≡ length (R.view raw.old).contents) }
+    ensures count { let opened = IsOpened (abstract_of S.view F.backing image.old []) in
+        IfOk result (CountsBytes (R.view raw.old) opened (size_of image.old)) }
     ensures image { IsSameImage image.old image.new }
     ensures emptied { IsTrue (is_writable image.old) → IfOk result (λ n. HasNothingToFree image.new) }
     ensures raw { IsLeft (R.view raw.old) (R.view raw.new) }
@@ -124,6 +126,7 @@ pub fn make_raw_disk<S: Storage, R: Storage>(
 ) -> (S, Result<u64, ImageError>)
     ensures raw { (R.view raw.old).is_honest → (S.view storage).is_honest → IsConsistent (byte_at (S.view storage).contents)
         → IfOk result.1 (λ n. IsExport (S.view storage).contents n (R.view raw.new).contents) }
+    ensures honest { (R.view raw.old).is_honest → (R.view raw.new).is_honest }
     ensures image { (S.view storage).is_honest → IsConsistent (byte_at (S.view storage).contents) → KeepsDisk (S.view storage) (S.view result.0) }
     ensures another { (S.view storage).is_honest → NeedsAnother (S.view storage).contents
         → ContentsStay (S.view storage) (S.view result.0) × (raw.new ≡ raw.old) }
@@ -148,6 +151,7 @@ pub fn make_raw_disk<S: Storage, R: Storage>(
 // Flushes a raw disk that was made whole, so that what it holds back is written before that is told.
 fn flushed<R: Storage>(raw: &mut R, copied: Result<u64, ImageError>) -> Result<u64, ImageError>
     ensures same { ContentsStay (R.view raw.old) (R.view raw.new) }
+    ensures honest { (R.view raw.old).is_honest → (R.view raw.new).is_honest }
     ensures told { IfOk result (λ n. copied ≡ Ok n) }
     ensures cause { IfErr result (λ e. (copied ≡ Err e) ⊎ IsFault e) }
     ensures faults { (before now raw_before : ℕ) → CountsBoth before now raw_before (R.view raw.old).faults copied

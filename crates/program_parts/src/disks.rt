@@ -1,7 +1,8 @@
 //! Disks to be read: those of images, and raw ones.
-ghost use Rattle.std.specs.Prelude.{◌≡◌, ◌+◌, ◌≤◌, length, IfOk, OnOk};
+ghost use Rattle.std.specs.Prelude.{◌≡◌, ◌+◌, ◌≤◌, length, IfOk, MatchResult, OnOk};
 ghost use Rattle.qcow2_disk.specs.Calls.{Shows};
-ghost use Rattle.program_parts.specs.Disks.{IsOpenedAs, IsSeenAs, SeenDisk, seen_open};
+ghost use Rattle.program_parts.specs.Disks.{IsKeptQuietly, IsOnlyRead, IsOpenedAs, IsSeenAs, LiesOn, SeenDisk};
+ghost use Rattle.program_parts.specs.Disks.{seen_open, storage_under};
 
 use image_access::{Format, Storage, WrappedFormat};
 use qcow2_image::{ImageError, NoBacking, Qcow2};
@@ -15,11 +16,13 @@ pub trait DiskReader: Drop {
 
     /// The number of its bytes.
     fn byte_count(&mut self) -> Result<u64, ImageError>
+        ensures step { IsOnlyRead (seen self.old) (seen self.new) }
         ensures size { (seen self.old).is_honest → IfOk result (λ n. n ≡ (seen self.old).disk.size) }
         ensures same { (seen self.old).is_honest → OnOk result (IsSeenAs (seen self.old).disk (seen self.new)) };
 
     /// Fills the buffer with the bytes from an offset on. They have to lie below the disk's end. After a refusal it may hold any bytes.
     fn read_bytes(&mut self, at: u64, bytes: &mut [u8]) -> Result<(), ImageError>
+        ensures step { IsOnlyRead (seen self.old) (seen self.new) }
         ensures read { (seen self.old).is_honest → at + length bytes.old ≤ (seen self.old).disk.size
             → OnOk result (Shows (seen self.old).disk at bytes.new) }
         ensures same { (seen self.old).is_honest → OnOk result (IsSeenAs (seen self.old).disk (seen self.new)) };
@@ -71,7 +74,9 @@ pub enum OpenDisk<S: Storage> {
 
 impl<S: Storage> OpenDisk<S> {
     /// The storage.
-    pub fn into_storage(self) -> S {
+    pub fn into_storage(self) -> S
+        ensures { result ≡ storage_under self }
+    {
         match self {
             OpenDisk::Raw(disk) => disk.storage,
             OpenDisk::Image(image) => image.into_storage(),
@@ -106,6 +111,8 @@ pub fn open_disk<S: Storage>(
     storage: S,
     format: Format,
 ) -> Result<OpenDisk<S>, (S, ImageError)>
+    ensures step { MatchResult result (λ disk. LiesOn (S.view storage) (seen_open S.view disk))
+        (λ refused. IsKeptQuietly (S.view storage) (S.view refused.0)) }
     ensures opened { IfOk result (λ disk. IsOpenedAs format (S.view storage) (seen_open S.view disk)) }
 {
     match format {

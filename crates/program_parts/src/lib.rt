@@ -3,16 +3,22 @@
 
 mod comparing;
 mod conversions;
+mod copying;
+mod disk_below;
 mod disk_storage;
 mod disks;
 mod numbers;
+mod placing;
 mod report;
 mod vetting;
 
 pub use comparing::{Comparison, Unread, compare, compare_storages};
 pub use conversions::{disk_size, make_image, make_raw_disk};
+pub use copying::copy_raw_disk;
+pub use disk_below::DiskBelow;
 pub use disk_storage::DiskStorage;
 pub use disks::{DiskReader, OpenDisk, RawDisk, open_disk};
 pub use numbers::number;
+pub use placing::{Conversion, Place, Unmade, Unplaced, convert};
 pub use report::{print_breaches, print_report};
 pub use vetting::{Vetted, vet};

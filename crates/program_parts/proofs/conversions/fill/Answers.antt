@@ -68,3 +68,9 @@ pub returns-then-branch-count-clause-met : goal.returns-then-branch-count-clause
 returns-then-branch-count-clause-met g c = λ honest same opened.
     let left = c.to_qcow2.ensures.step.raw_left honest in
     absurd (c.if-branch-count.true (c.in_ok-size.ensures.size left.0 ∙ ap length left.1 ∙ sym (((c.in_ok-count.ensures.sees honest []).answer opened.sound).1.0)))
+
+pub returns-clause-count : goal.returns-clause-count
+returns-clause-count g c = record {
+  raw_disk = λ honest. let left = c.to_qcow2.ensures.step.raw_left honest in sym c.if-branch-count.false ∙ c.in_ok-size.ensures.size left.0 ∙ ap length left.1;
+  disk = λ opened. let any = c.in_ok-count.ensures.any in ((any.2 []).answer opened.sound).1.0 ∙ any.1;
+}

@@ -1,4 +1,5 @@
 use Rattle.std.proofs.Common.{◌≡◌, ℕ, Result, Ok, Err, refl, sym, ap, ◌∙◌, subst, length, ◌<◌, inl, inr}
+use Rattle.std.specs.Prelude.{IfOk}
 use Rattle.qcow2_alloc.specs.Faults.{FaultsTold}
 use Rattle.qcow2_alloc.specs.declared.error.ImageError.{ImageError}
 use Rattle.qcow2_image.proofs.Create.Causes.{told_opening, fault_reason}
@@ -8,10 +9,10 @@ use Rattle.qcow2_metadata.specs.Header.{header}
 use Rattle.qcow2_image.specs.declared.builder.Qcow2CreateBuilder.{Qcow2CreateBuilder}
 use Rattle.qcow2_image.specs.Image.{storage_of_image}
 use Rattle.qcow2_image.proofs.Create.NewDisks.{new_disk_consistent}
-use Rattle.program_parts.specs.Conversions.{CountsBoth, IsImageOf, IsImageOfSize, IsStopOfMaking, IsMetOnceCreated, asked_for}
+use Rattle.program_parts.specs.Conversions.{CountsBoth, IsImageMade, IsImageOf, IsImageOfSize, IsStopOfMaking, IsMetOnceCreated, asked_for}
 use Rattle.qcow2_metadata.specs.declared.header.HeaderFields.{HeaderFields}
 use Rattle.image_access.specs.Moments.{EachMomentSince}
-use Rattle.program_parts.proofs.Imported.{of_ok, ok_both, has_image}
+use Rattle.program_parts.proofs.Imported.{of_ok, ok_both, ok_then, has_image, made_of}
 use Rattle.program_parts.proofs.Making.{counts_imported, counts_opened, new_image, once_opened, then_opened, while_created, while_opened}
 use Rattle.qcow2_alloc.proofs.AllocationSteps.{fault_of_storage}
 use Rattle.qcow2_alloc.specs.ImageError.{IsFault}
@@ -21,7 +22,7 @@ use Rattle.program_parts.proofs.Refused.{allocates_alone, asked_so, err_then, he
 use Rattle.program_parts.proofs.conversions.make_image.Goals as goal
 
 pub returns-in-Ok-open_alone-clause-image : goal.returns-in-Ok-open_alone-clause-image
-returns-in-Ok-open_alone-clause-image g c = λ raw_honest honest.
+returns-in-Ok-open_alone-clause-image g c = λ honest.
     let view = g.S.Storage.view in
     let bytes = (g.R.Storage.view c.size.new.self).contents in
     let built = c.refcount_width.ensures in
@@ -39,14 +40,25 @@ returns-in-Ok-open_alone-clause-image g c = λ raw_honest honest.
     let then : IsImageOfSize c.refcount_width.result.size (byte_at (view (storage_of_image c.in-Ok-open_alone.image)).contents) = once_opened c.refcount_width.result.size (view c.create-storage.result.0) (view (storage_of_image c.in-Ok-open_alone.image)) first since in
     let from = c.in-Ok-open_alone.ensures.opens made.honest (new_disk_consistent c.refcount_width.result.preallocate c.refcount_width.result.size (byte_at (view c.create-storage.result.0).contents) made.new_disk) in
     let writable = c.in-Ok-open_alone.ensures.image.writable_is in
+    let image = c.in-Ok-open_alone.image in
+    let sized = ap (λ (h : HeaderFields). h.size) (header_is view _ image from.opened (view (storage_of_image image)).contents refl) ∙ then.size in
+    let filling = c.fill-imported.ensures.stops c.refcount_width.result.size from.opened then in
+    subst (λ s. IfOk c.fill-imported.result (λ n. IsImageMade (g.R.Storage.view c.args.raw.now) n (view s) c.args.cluster c.args.width)) (sym c.into_storage.ensures)
+    (made_of c.fill-imported.result (g.R.Storage.view c.args.raw.now) (view (storage_of_image c.fill-imported.new.image)) c.args.cluster c.args.width _ c.refcount_width.result.size
+    (filling.honest (c.in-Ok-open_alone.ensures.step.storage.honest made.honest)) (c.fill-imported.ensures.stands c.refcount_width.result.size from.opened then) sized
+    (ok_then c.fill-imported.result (λ n counts. counts.disk from.opened) c.fill-imported.ensures.count)
+    (λ raw_honest.
     ok_both c.fill-imported.result (λ n imports empty.
-    subst (λ b. IsImageOf (view c.into_storage.result) b c.args.cluster c.args.width) (c.size.ensures.same raw_honest)
-    (subst (λ s. IsImageOf (view s) bytes c.args.cluster c.args.width) (sym c.into_storage.ensures)
+    subst (λ b. IsImageOf (view (storage_of_image c.fill-imported.new.image)) b c.args.cluster c.args.width) (c.size.ensures.same raw_honest)
     (subst (λ k. IsImageOf (view (storage_of_image c.fill-imported.new.image)) bytes k c.args.width) (made.clusters ∙ clusters_are)
     (has_image view _ c.in-Ok-open_alone.image c.fill-imported.new.image bytes n c.args.width (header (byte_at (view c.create-storage.result.0).contents))
     (counts_imported view _ c.in-Ok-open_alone.image c.fill-imported.new.image c.refcount_width.result.size bytes (Ok n) imports from.opened then ∙ counts_opened c.refcount_width.result.size _ _ first since ∙ made.counts ∙ width_is) from.opened c.in-Ok-open_alone.ensures.below (c.in-Ok-open_alone.ensures.image.format made.honest) writable
-    (λ k. ap (λ (f : ℕ → ℕ). f k) from.surplus ∙ made.no_leaks k) c.fill-imported.ensures.image empty imports))))
-    (c.fill-imported.ensures.sees (c.size.ensures.calls.honest raw_honest)) (c.fill-imported.ensures.emptied writable)
+    (λ k. ap (λ (f : ℕ → ℕ). f k) from.surplus ∙ made.no_leaks k) c.fill-imported.ensures.image empty imports)))
+    (c.fill-imported.ensures.sees (c.size.ensures.calls.honest raw_honest)) (c.fill-imported.ensures.emptied writable)))
+
+pub returns-in-Ok-open_alone-clause-count : goal.returns-in-Ok-open_alone-clause-count
+returns-in-Ok-open_alone-clause-count g c = λ raw_honest.
+    ok_then c.fill-imported.result (λ n counts. counts.raw_disk (c.size.ensures.calls.honest raw_honest) ∙ ap length (c.size.ensures.same raw_honest)) c.fill-imported.ensures.count
 
 pub returns-in-Err-clause-faults : goal.returns-in-Err-clause-faults
 returns-in-Err-clause-faults g c =

@@ -76,3 +76,6 @@ returns-in-Ok-clause-another g c = λ honest needs. absurd (c.in-Ok.ensures.step
 
 pub returns-in-Err-clause-another : goal.returns-in-Err-clause-another
 returns-in-Err-clause-another g c = λ honest needs. ((c.in-Err.ensures.step.another honest needs).1.0, refl)
+
+pub returns-in-Ok-clause-honest : goal.returns-in-Ok-clause-honest
+returns-in-Ok-clause-honest g c = λ honest. c.flushed-exported.ensures.honest (c.to_raw-copied.ensures.step.honest honest)

@@ -1,0 +1,39 @@
+//! A disk below an image.
+use crate::disk_storage::DiskStorage;
+use crate::disks::DiskReader;
+use image_access::{BackingDisk, Storage, StorageError};
+use qcow2_image::ImageError;
+
+/// A disk that lies below an image, which shows where that one has nothing of its own. Of what it holds nothing is
+/// known. Each read that fails is counted.
+#[derive(Drop)]
+pub struct DiskBelow<D: DiskReader> {
+    storage: DiskStorage<D>,
+    size: u64,
+}
+
+impl<D: DiskReader> DiskBelow<D> {
+    /// A disk that is to lie below an image. Refused as its size is: 14 (memory), 15 (storage).
+    pub fn new(disk: D) -> Result<Self, ImageError> {
+        let mut disk = disk;
+        let size = disk.byte_count()?;
+        Ok(DiskBelow {
+            storage: DiskStorage::new(disk),
+            size,
+        })
+    }
+}
+
+impl<D: DiskReader> BackingDisk for DiskBelow<D> {
+    ghost use Rattle.std.specs.Prelude.{[]};
+
+    ghost backing = { λ below. record { bytes = []; faults = below.storage.faults; is_honest = ⊥ } };
+
+    fn size(&self) -> u64 {
+        self.size
+    }
+
+    fn read(&mut self, at: u64, buf: &mut [u8]) -> Result<(), StorageError> {
+        self.storage.read(at, buf)
+    }
+}
