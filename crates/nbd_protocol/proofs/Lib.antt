@@ -1,0 +1,5 @@
+pub mod Acts
+pub mod Does
+pub mod Extents
+pub mod Ranges
+pub mod Sends

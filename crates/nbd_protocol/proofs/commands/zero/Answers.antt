@@ -1,0 +1,16 @@
+use Rattle.std.proofs.Common.{◌≡◌, ◌+◌, ◌-◌, ◌≤◌, ℕ, subst, arith}
+use Rattle.nbd_protocol.specs.Devices.{MayZero, Zeroes}
+use Rattle.nbd_protocol.proofs.Acts.{acts_then}
+use Rattle.nbd_protocol.proofs.Ranges.{may_so_far, may_then, zeroes_join}
+use Rattle.nbd_protocol.proofs.commands.zero.Goals as goal
+
+pub returns : goal.returns
+returns g c = let view = g.D.Device.view in
+    let a = view c.args.device.now in let b = view c.zero_units.new.device in let d = view c.write_zeros-2.new.device in let end = c.args.offset + c.args.count in let at = c.in_ok-at.at in
+    let low : c.args.offset ≤ at = c.in_ok-at.ensures.within.0 in
+    let high : at ≤ end = c.in_ok-at.ensures.within.1 in
+    let is : at + (end - at) ≡ end = omega arith in
+    acts_then a b d (λ done. Zeroes at (at + (end - at)) b d) (λ done. Zeroes c.args.offset end a d) (MayZero at (at + (end - at)) b d) (MayZero c.args.offset end a d) c.write_zeros-2.result
+    (λ sound. (c.in_ok-at.ensures.zeroes sound).0) c.write_zeros-2.ensures
+    (λ sound done z. zeroes_join c.args.offset at end a b d (c.in_ok-at.ensures.zeroes sound).1 (subst (λ (k : ℕ). Zeroes at k b d) is z) low high)
+    (λ sound m. may_then c.args.offset end at end a b d (may_so_far c.args.offset at end a b (c.in_ok-at.ensures.zeroes sound).1 high) (subst (λ (k : ℕ). MayZero at k b d) is m) low (omega arith))

@@ -1,0 +1,6 @@
+pub mod Commands
+pub mod Devices
+pub mod Options
+pub mod Reading
+pub mod Replies
+pub mod Requests

@@ -1,0 +1,312 @@
+//! What a request does to a device.
+ghost use Rattle.std.specs.Prelude.{◌≡◌, ◌+◌, ◌^◌, ◌<◌, ◌≤◌, ◌++◌, All, IfOk, IsTrue, OnOk, length, true};
+ghost use Rattle.nbd_protocol.specs.Commands.{Does, MayDo, PersistsLast, changes, end_of, total};
+ghost use Rattle.nbd_protocol.specs.Devices.{Acts, Clears, MayZero, Persists, Shows, Stays, Zeroes};
+ghost use Rattle.nbd_protocol.specs.declared.request.Command.TheVariants.{Flush};
+
+use crate::device::{Device, Errno, State};
+use crate::replies::Extent;
+use crate::request::{Command, Request};
+use std::alloc::Global;
+
+/// The greatest payload, in bytes.
+pub(crate) const MOST: u32 = 32 << 20;
+
+// How many zeros one write has at most.
+const CHUNK: u64 = 65536;
+
+// How many runs of the disk one reply has at most.
+const EXTENTS: usize = 1024;
+
+/// Flushes, and then syncs.
+pub(crate) fn persist<D: Device>(device: &mut D) -> Result<(), Errno>
+    ensures persisted { OnOk result (Persists D.Flushed D.Synced device.old device.new) }
+    ensures last { OnOk result (PersistsLast D.Flushed D.Synced device.new) }
+    ensures stays { Acts (D.view device.old) (D.view device.new) (λ done. Stays (D.view device.old) (D.view device.new))
+        (Stays (D.view device.old) (D.view device.new)) result }
+{
+    device.flush()?;
+    device.sync()
+}
+
+/// Refuses a request whose range passes the disk's end, which changes a read-only disk, or which has an unknown flag.
+pub(crate) fn check<D: Device>(device: &D, request: &Request) -> Result<(), Errno>
+    ensures fits { OnOk result (end_of request.now < 2 ^ 64) }
+    ensures within { OnOk result ((D.view device.now).is_sound → end_of request.now ≤ (D.view device.now).size) }
+    ensures writable { OnOk result ((D.view device.now).is_read_only ≡ true → changes request.now.command ≡ true → ⊥) }
+{
+    let writes = matches!(
+        request.command,
+        Command::Write | Command::Trim | Command::WriteZeroes
+    );
+    if request.flags.unknown {
+        return Err(Errno::Invalid);
+    }
+    if writes && device.is_read_only() {
+        return Err(Errno::NotPermitted);
+    }
+    match request.offset.checked_add(u64::from(request.length)) {
+        Some(end) if end <= device.size() => Ok(()),
+        _ if matches!(request.command, Command::Write | Command::WriteZeroes) => Err(
+            Errno::NoSpace,
+        ),
+        _ => Err(Errno::Invalid),
+    }
+}
+
+// Discards whole units of a range, until it has no more, where the device can.
+fn trim<D: Device>(device: &mut D, offset: u64, length: u32) -> Result<(), Errno>
+    requires { offset + length < 2 ^ 64 }
+    ensures { Acts (D.view device.old) (D.view device.new) (λ done. MayZero offset (offset + length) (D.view device.old) (D.view device.new))
+        (MayZero offset (offset + length) (D.view device.old) (D.view device.new)) result }
+{
+    let mut at = offset;
+    let mut rest = u64::from(length);
+    for _ in 0..u64::MAX {
+        if !device.can_clear() {
+            break;
+        }
+        let (from, count) = device.discard(at, rest)?;
+        if count == 0 {
+            break;
+        }
+        let next = from.saturating_add(count);
+        rest = rest.saturating_sub(next.saturating_sub(at));
+        at = next;
+    }
+    Ok(())
+}
+
+// Zeroes whole units of a range.
+fn clear<D: Device>(
+    device: &mut D,
+    offset: u64,
+    length: u64,
+    keeps_place: bool,
+) -> Result<(u64, u64), Errno>
+    ensures { Acts (D.view device.old) (D.view device.new) (λ part. Clears offset length part (D.view device.old) (D.view device.new))
+        (Stays (D.view device.old) (D.view device.new)) result }
+{
+    if keeps_place {
+        device.zero(offset, length)
+    } else {
+        device.discard(offset, length)
+    }
+}
+
+// Writes zeros to a range, piece by piece.
+fn write_zeros<D: Device>(
+    device: &mut D,
+    zeros: &[u8],
+    offset: u64,
+    count: u64,
+) -> Result<(), Errno>
+    requires zeros { All (λ b. b ≡ 0) zeros.now }
+    requires some { 0 < length zeros.now }
+    requires fits { offset + count < 2 ^ 64 }
+    ensures { Acts (D.view device.old) (D.view device.new) (λ done. Zeroes offset (offset + count) (D.view device.old) (D.view device.new))
+        (MayZero offset (offset + count) (D.view device.old) (D.view device.new)) result }
+{
+    let mut at = offset;
+    let mut rest = count;
+    while rest > 0 {
+        let some = rest.min(zeros.len() as u64);
+        device.write(at, &zeros[..some as usize])?;
+        at += some;
+        rest -= some;
+    }
+    Ok(())
+}
+
+// Lets a range read as zeros, from its front on, by whole units that are zeroed and by writes of what lies between them. Answers up to where.
+fn zero_units<D: Device>(
+    device: &mut D,
+    zeros: &[u8],
+    offset: u64,
+    count: u64,
+    keeps_place: bool,
+) -> Result<u64, Errno>
+    requires zeros { All (λ b. b ≡ 0) zeros.now }
+    requires some { 0 < length zeros.now }
+    requires fits { offset + count < 2 ^ 64 }
+    ensures within { IfOk result (λ at. (offset ≤ at) × (at ≤ offset + count)) }
+    ensures zeroes { Acts (D.view device.old) (D.view device.new) (λ at. Zeroes offset at (D.view device.old) (D.view device.new))
+        (MayZero offset (offset + count) (D.view device.old) (D.view device.new)) result }
+{
+    let mut at = offset;
+    let mut rest = count;
+    for _ in 0..u64::MAX {
+        let (from, cleared) = clear(device, at, rest, keeps_place)?;
+        if cleared == 0 {
+            break;
+        }
+        let cut = from.saturating_sub(at).min(rest);
+        write_zeros(device, zeros, at, cut)?;
+        let done = cut.saturating_add(cleared).min(rest);
+        at += done;
+        rest -= done;
+    }
+    Ok(at)
+}
+
+// Lets a range read as zeros: whole units without a write, where the device can, and the rest by writes.
+fn zero<D: Device>(
+    device: &mut D,
+    zeros: &[u8],
+    offset: u64,
+    count: u64,
+    keeps_place: bool,
+) -> Result<(), Errno>
+    requires zeros { All (λ b. b ≡ 0) zeros.now }
+    requires some { 0 < length zeros.now }
+    requires fits { offset + count < 2 ^ 64 }
+    ensures { Acts (D.view device.old) (D.view device.new) (λ done. Zeroes offset (offset + count) (D.view device.old) (D.view device.new))
+        (MayZero offset (offset + count) (D.view device.old) (D.view device.new)) result }
+{
+    if count == 0 || !device.can_clear() {
+        return write_zeros(device, zeros, offset, count);
+    }
+    let at = zero_units(device, zeros, offset, count, keeps_place)?;
+    write_zeros(device, zeros, at, offset + count - at)
+}
+
+// Fills a buffer with zeros, and writes them where nothing else can zero a range.
+fn write_zeroes<D: Device>(
+    device: &mut D,
+    request: &Request,
+    buffer: &mut Vec<u8>,
+) -> Result<(), Errno>
+    requires { end_of request.now < 2 ^ 64 }
+    ensures { Acts (D.view device.old) (D.view device.new)
+        (λ done. Zeroes request.now.offset (end_of request.now) (D.view device.old) (D.view device.new))
+        (MayZero request.now.offset (end_of request.now) (D.view device.old) (D.view device.new)) result }
+{
+    let length = u64::from(request.length);
+    buffer.clear();
+    buffer.resize(CHUNK as usize, 0)?;
+    zero(
+        device,
+        buffer,
+        request.offset,
+        length,
+        request.flags.keeps_place,
+    )
+}
+
+/// Does what a request asks that has no answer of its own: the buffer holds the payload of a write, and any bytes then.
+pub(crate) fn perform<D: Device>(
+    device: &mut D,
+    request: &Request,
+    buffer: &mut Vec<u8>,
+) -> Result<(), Errno>
+    ensures does { Acts (D.view device.old) (D.view device.new)
+        (λ done. Does request.now.command request.now buffer.old.items (D.view device.old) (D.view device.new))
+        (MayDo request.now.command request.now buffer.old.items (D.view device.old) (D.view device.new)) result }
+    ensures durable { request.now.flags.durable ≡ true → OnOk result (PersistsLast D.Flushed D.Synced device.new) }
+    ensures flushed { request.now.command ≡ Flush → OnOk result (PersistsLast D.Flushed D.Synced device.new) }
+    ensures writable { OnOk result ((D.view device.old).is_read_only ≡ true → changes request.now.command ≡ true → ⊥) }
+{
+    check(device, request)?;
+    change(device, request, buffer)?;
+    if !request.flags.durable && !matches!(request.command, Command::Flush) {
+        return Ok(());
+    }
+    persist(device)
+}
+
+// What it changes.
+fn change<D: Device>(device: &mut D, request: &Request, buffer: &mut Vec<u8>) -> Result<(), Errno>
+    requires { end_of request.now < 2 ^ 64 }
+    ensures { Acts (D.view device.old) (D.view device.new)
+        (λ done. Does request.now.command request.now buffer.old.items (D.view device.old) (D.view device.new))
+        (MayDo request.now.command request.now buffer.old.items (D.view device.old) (D.view device.new)) result }
+{
+    match request.command {
+        Command::Write => device.write(request.offset, buffer),
+        Command::Trim => trim(device, request.offset, request.length),
+        Command::WriteZeroes => write_zeroes(device, request, buffer),
+        Command::Flush => Ok(()),
+        Command::Cache => Ok(()),
+        _ => Err(Errno::Invalid),
+    }
+}
+
+/// Fills a buffer with the bytes that a read asks for. After a refusal it holds any bytes.
+pub(crate) fn read_disk<D: Device>(
+    device: &mut D,
+    request: &Request,
+    buffer: &mut Vec<u8>,
+) -> Result<(), Errno>
+    ensures count { OnOk result (length buffer.new.items ≡ request.now.length) }
+    ensures within { OnOk result ((D.view device.old).is_sound → end_of request.now ≤ (D.view device.old).size) }
+    ensures few { OnOk result (request.now.length ≤ 33554432) }
+    ensures shows { Acts (D.view device.old) (D.view device.new)
+        (λ done. Shows (D.view device.old) request.now.offset buffer.new.items × Stays (D.view device.old) (D.view device.new))
+        (Stays (D.view device.old) (D.view device.new)) result }
+{
+    check(device, request)?;
+    if request.length == 0 || request.length > MOST {
+        return Err(Errno::Invalid);
+    }
+    buffer.clear();
+    buffer.resize(request.length as usize, 0)?;
+    device.read(request.offset, buffer)
+}
+
+// What stands for the disk from an offset on, and for how many bytes: as many as lookups in turn say the same of.
+fn run_at<D: Device>(device: &mut D, offset: u64, max: u64) -> Result<(State, u64), Errno>
+    requires { offset + max < 2 ^ 64 }
+    ensures stays { Acts (D.view device.old) (D.view device.new)
+        (λ found. Stays (D.view device.old) (D.view device.new)) (Stays (D.view device.old) (D.view device.new)) result }
+    ensures within { IfOk result (λ found. found.1 ≤ max) }
+{
+    let (state, count) = device.look_up(offset, max)?;
+    let mut done = count.min(max);
+    for _ in 0..EXTENTS {
+        if done == max {
+            break;
+        }
+        let (next, count) = device.look_up(offset + done, max - done)?;
+        if next != state || count == 0 {
+            break;
+        }
+        done += count.min(max - done);
+    }
+    Ok((state, done))
+}
+
+/// The runs of the disk that a request asks for: one, or as many as the range has, up to 1,024.
+pub(crate) fn extents<D: Device>(
+    alloc: Global,
+    device: &mut D,
+    request: &Request,
+) -> Result<Vec<Extent>, Errno>
+    ensures few { IfOk result (λ found. length found.items ≤ 1024) }
+    ensures within { IfOk result (λ found. total found.items ≤ request.now.length) }
+    ensures stays { Acts (D.view device.old) (D.view device.new)
+        (λ found. Stays (D.view device.old) (D.view device.new)) (Stays (D.view device.old) (D.view device.new)) result }
+{
+    check(device, request)?;
+    if request.length == 0 {
+        return Err(Errno::Invalid);
+    }
+    let most = if request.flags.one_extent { 1 } else { EXTENTS };
+    let mut found = Vec::new(alloc);
+    let mut done = 0;
+    for _ in 0..most {
+        let rest = u64::from(request.length - done);
+        let (state, count) = run_at(device, request.offset + u64::from(done), rest)?;
+        if count == 0 {
+            break;
+        }
+        found.push(Extent {
+            length: count as u32,
+            state,
+        })?;
+        done += count as u32;
+    }
+    if found.is_empty() {
+        return Err(Errno::Io);
+    }
+    Ok(found)
+}

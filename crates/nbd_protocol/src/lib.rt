@@ -1,0 +1,14 @@
+//! A server of the NBD protocol over any reader, writer and block device.
+#![tactic(auto)]
+
+mod commands;
+mod device;
+mod negotiation;
+mod options;
+mod reading;
+mod replies;
+mod request;
+mod serving;
+
+pub use device::{Device, Errno, State};
+pub use serving::serve;
