@@ -1,5 +1,6 @@
 # qimg    proves and builds the program, and leaves it as build/qimg
 # tools   the same of qimg-tools, left as build/qimg-tools
+# nbd     the same of qimg-nbd, left as build/qimg-nbd
 # demo    makes an image in a new folder, writes a cluster and reads it back, by the program as it stands in the source, before any proof
 # test    every proof, wrong bodies, every test, and the scripts under tests/; with ANEW=1 nothing is taken from what earlier runs proved
 # bodies  every wrong body, or with names of crates behind it (make bodies qcow2_alloc) each of theirs
@@ -18,7 +19,7 @@ $(crates): bodies ; @:
 
 else
 
-.PHONY: qimg tools demo test bench
+.PHONY: qimg tools nbd demo test bench
 
 qimg:
 	@mkdir -p build
@@ -30,6 +31,11 @@ tools:
 	@mkdir -p build
 	@cd crates/qimg_tools && rt run -- --version >&2
 	@cp crates/qimg_tools/out/qimg_tools build/qimg-tools
+
+nbd:
+	@mkdir -p build
+	@cd crates/qimg_nbd && { rt run >&2 || test $$? -eq 2; }
+	@cp crates/qimg_nbd/out/qimg_nbd build/qimg-nbd
 
 demo:
 	@folder=$$(mktemp -d) && trap 'rm -r "$$folder"' EXIT && cd crates/qimg && \

@@ -1,0 +1,9 @@
+use Rattle.std.proofs.Common.{[]}
+use Rattle.qimg_nbd.proofs.Images.{answered_flush, refused_same}
+use Rattle.qimg_nbd.proofs.image_device.ImageDeviceDevice.flush.Goals as goal
+
+pub returns-in-Ok-clause-stays : goal.returns-in-Ok-clause-stays
+returns-in-Ok-clause-stays g c = answered_flush g.S.Storage.view g.F.BackingDisk.backing c.args.self.now.image c.flush.new.self _ (c.in-Ok.ensures.sees [])
+
+pub returns-in-Err-clause-stays : goal.returns-in-Err-clause-stays
+returns-in-Err-clause-stays g c = refused_same g.S.Storage.view g.F.BackingDisk.backing c.args.self.now.image c.flush.new.self _ _ (c.in-Err.ensures.sees [])
