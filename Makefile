@@ -46,7 +46,7 @@ demo:
 test:
 	@tests/all.py $(if $(ANEW), --anew)
 
-bench: qimg
+bench: qimg nbd
 	@tests/install.sh
 	@bench/compare.py
 

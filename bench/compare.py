@@ -11,6 +11,7 @@ import os
 import random
 import resource
 import shutil
+import socket
 import subprocess
 import sys
 import tempfile
@@ -19,6 +20,7 @@ from dataclasses import dataclass, field
 
 ROOT = os.path.dirname(os.path.dirname(os.path.abspath(__file__)))
 QIMG = os.environ.get("QIMG", os.path.join(ROOT, "build", "qimg"))
+QIMG_NBD = os.environ.get("QIMG_NBD", os.path.join(ROOT, "build", "qimg-nbd"))
 MIB = 1048576
 SIZES = (65536, 4096, 512)
 LEAST = 3
@@ -50,6 +52,60 @@ class Side:
             raise AssertionError(f"{' '.join(self.words)} ended with status {done.returncode}")
         with open("memory", encoding="utf-8") as it:
             return after.ru_utime + after.ru_stime - before.ru_utime - before.ru_stime, seconds, int(it.read())
+
+
+@dataclass
+class Server:
+    """A block server of a copy of a file on the socket `s`, the words of which begin with those given, and how qemu-img works on it. Only the server's own figures count."""
+
+    words: list
+    work: list
+    of: str
+    takes_socket: bool = False
+
+    def run(self):
+        """As of a side: seconds of a processor, seconds by the clock, and peak memory in KiB."""
+        shutil.copyfile(self.of, "disk")
+        start = time.monotonic()
+        server = self.listening() if self.takes_socket else self.accepting()
+        subprocess.run(["qemu-img", "bench", "-f", "raw", *map(str, self.work), "nbd+unix:///?socket=s"], check=True, stdout=subprocess.DEVNULL)
+        _, status, used = os.wait4(server, 0)
+        if status != 0:
+            raise AssertionError(f"{' '.join(self.words)} ended with status {status}")
+        return used.ru_utime + used.ru_stime, time.monotonic() - start, used.ru_maxrss
+
+    def accepting(self):
+        """Starts a server that speaks on its standard input and output, once a client has come, as socat and inetd do."""
+        listener = socket.socket(socket.AF_UNIX)
+        listener.bind("s")
+        listener.listen()
+        child = os.fork()
+        if child == 0:
+            taken, _ = listener.accept()
+            os.unlink("s")
+            os.dup2(taken.fileno(), 0)
+            os.dup2(taken.fileno(), 1)
+            os.execvp(self.words[0], self.words)
+        listener.close()
+        return child
+
+    def listening(self):
+        """Starts a server that makes the socket itself."""
+        server = subprocess.Popen(self.words).pid
+        while not os.path.exists("s"):
+            time.sleep(0.001)
+        return server
+
+
+def served(cluster, *work):
+    """The same requests of qemu-img to qimg-nbd and to qemu-nbd, over an image of 256 MiB of data."""
+    image = full(cluster, 256 * MIB)
+    return [Server([QIMG_NBD, "disk"], work, image), Server(["qemu-nbd", "-f", "qcow2", "--cache=unsafe", "-k", os.path.abspath("s"), "disk"], work, image, takes_socket=True)]
+
+
+def random_requests(cluster, *work):
+    """Requests of 4 KiB, each 1,052,672 bytes behind the one before, and around."""
+    return served(cluster, "-c", 40000, "-d", 1, "-s", 4096, "-S", MIB + 4096, *work)
 
 
 def qimg(*words, **more):
@@ -202,6 +258,10 @@ ROWS = [
     ("create: `format` beside `metadata`", SIZES, lambda cluster: created(cluster, "format", "metadata")),
     ("create: `full` beside `falloc`", SIZES, lambda cluster: created(cluster, "full", "falloc")),
     ("create: `write` beside `full`", SIZES, lambda cluster: created(cluster, "write", "full")),
+    ("nbd: reads of 64 KiB in order, over a socket", (65536, 4096), lambda cluster: served(cluster, "-c", 4000, "-d", 1, "-s", 65536)),
+    ("nbd: writes of 64 KiB in order", (65536, 4096), lambda cluster: served(cluster, "-c", 4000, "-d", 1, "-s", 65536, "-w")),
+    ("nbd: reads of 4 KiB here and there", (65536, 4096), random_requests),
+    ("nbd: writes of 4 KiB here and there", (65536, 4096), lambda cluster: random_requests(cluster, "-w")),
     ("alone: create `full`, beside `write`", SIZES, full_beside_written),
     ("alone: write and flush with 128 tables in memory, beside 4", (65536, 4096), flushes),
     ("alone: random writes over 1 GiB, beside 64 MiB", (65536, 4096), larger),

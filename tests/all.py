@@ -16,7 +16,7 @@ ROOT = os.path.dirname(os.path.dirname(os.path.abspath(__file__)))
 FAILURES = re.compile(r"NOT PROVED|NOT REFUSED|NOT TRIED|BAD EDIT|FAILED|: error")
 PROVED = re.compile(r"rt: (\w+) (?:proved$|is kept: )")
 TRIED = re.compile(r"wrong bodies: \d+ of \d+ tried, \d+ left")
-SCRIPTS = ["tests/program.py", "tests/causes.py", "tests/writes.py", "tests/prepared.py", "tests/clearing.py", "tests/resizing.py", "tests/preallocation.py", "tests/failures.py", "tests/each.py", "tests/caches.py", "tests/stops.py", "tests/interop/write.py", "tests/interop/growing.py", "tests/interop/open.py", "tests/interop/versions.py", "tests/interop/overlay.py", "tests/hostile.py", "tests/convert.py", "tests/check.py", "tests/tools.py", "tests/pages.py"]
+SCRIPTS = ["tests/program.py", "tests/causes.py", "tests/writes.py", "tests/prepared.py", "tests/clearing.py", "tests/resizing.py", "tests/preallocation.py", "tests/failures.py", "tests/each.py", "tests/caches.py", "tests/stops.py", "tests/interop/write.py", "tests/interop/growing.py", "tests/interop/open.py", "tests/interop/versions.py", "tests/interop/overlay.py", "tests/hostile.py", "tests/convert.py", "tests/check.py", "tests/tools.py", "tests/nbd.py", "tests/pages.py"]
 
 
 def counts(words, told, look=lambda line: None):
@@ -97,7 +97,7 @@ class Parts:
 
 def scripts(parts):
     """Runs the scripts on real files, those that need QEMU's tools only where these are there."""
-    if not (has_program("qimg", "qimg", "qimg") and has_program("qimg_tools", "qimg-tools", "tools")):
+    if not (has_program("qimg", "qimg", "qimg") and has_program("qimg_tools", "qimg-tools", "tools") and has_program("qimg_nbd", "qimg-nbd", "nbd")):
         print("a program wasn't built", flush=True)
         parts.run("scripts", lambda: (0, len(SCRIPTS), 0))
     elif not succeeds(["tests/install.sh"]):
