@@ -157,8 +157,7 @@ returns-clause-read g c = λ honest.
     let anew = c.load_anew.ensures in
     let last = c.load_anew.new.file in
     let is : last ≡ record c.load_l1_table.new.file { storage = last.storage } = anew.step.rest in
-    let has = l1_still view below c.load_l1_table.new.file last.storage (anew.step.same (l1.honest honest)) c.in_ok-table.table (c.in_ok-table.ensures.table honest) in
-    (
+    let has = l1_still view below c.load_l1_table.new.file last.storage (anew.step.same (l1.honest honest)) c.in_ok-table.table (c.in_ok-table.ensures.table honest) in (
       subst (λ (f : ImageFile _). HasL1Table view below f c.in_ok-table.table) (sym is) has,
       subst (λ (x : Allocator). HasReftable view last x.reftable) (sym c.spare_named.ensures.rest) (c.in_ok-load_anew.ensures.begins.reftable (l1.honest honest)),
     )
