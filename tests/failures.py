@@ -248,8 +248,8 @@ def nearly_full():
 
 
 def each_growth_of_calls_given_twice():
-    """A call whose growth is refused changes nothing, and given again it is done: its answer and the file are as they are without. A write alone may fail the image, since memory for a new
-    refblock is asked for once its cluster is counted."""
+    """A call whose growth is refused changes nothing, and given again it is done: its answer and the file are as they are without. A call that takes or frees clusters may fail the
+    image, where memory is asked for once a count has changed."""
     library = refuser()
     nearly_full()
     shutil.copy("full", "disk")
@@ -280,7 +280,7 @@ def each_growth_of_calls_given_twice():
         word = CALLS[refused // 2].split()[0]
         met.add(word)
         if FAILED.strip() in answers:
-            equal(word, "fill", f"the call that failed the image at growth {growth}")
+            equal(word in ("fill", "zero", "dany", "dback", "flush"), True, f"the call that failed the image at growth {growth}: {word}")
             checks.consistent("disk")
             continue
         answers[refused] = wanted[refused]

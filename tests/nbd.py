@@ -105,8 +105,8 @@ def copies(cluster):
         tool("cmp", "raw", name)
 
 
-def qemu_io(*commands):
-    return tool("qemu-io", "-f", "raw", *[word for command in commands for word in ("-c", command)], URI)
+def qemu_io(*commands, options=()):
+    return tool("qemu-io", *options, "-f", "raw", *[word for command in commands for word in ("-c", command)], URI)
 
 
 def reads_what_qemu_wrote(cluster):
@@ -189,7 +189,7 @@ def killed(cluster):
             os.remove("s")
         consistent("disk")
         with served("disk", "-r"):
-            told = qemu_io(f"read -P {value} 0 {8 * cluster}")
+            told = qemu_io(f"read -P {value} 0 {8 * cluster}", options=["-r"])
         equal("Pattern verification failed" in told, False, "what was flushed")
 
 

@@ -23,7 +23,7 @@ OF_THE_CODE = re.compile(r"README\.md|crates/.*|docs/(ARCHITECTURE|PROOFS|WRONG_
 ROW = re.compile(r"^\|[^|]*\| `(\w+)` \| \[`(\w+)`\]\(\.\./crates/(\w+)/([^)]*)\) \| (?:`(\w+)`|.*) ?\|$", re.MULTILINE)
 # the files whose words build moments: those of storages, runs and calls, of steps, of an image's file and its caches, of creating, and of images that are only read
 WORDS_OF_MOMENTS = re.compile(r"""crates/(image_access/proofs/EachMomentSince|qcow2_disk/proofs/(Compose|RunSteps)|qcow2_laws/proofs/SafeSteps|qcow2_alloc/proofs/(FileSteps|HeaderClusters|KeptTables/\w+)
-    |qcow2_image/proofs/(Create/\w+|Map/Unmodified|Sizing/Noted))\.antt$""", re.VERBOSE)
+    |qcow2_image/proofs/(Create/\w+|Invalidate/Reading|Map/Unmodified|Sizing/Noted))\.antt$""", re.VERBOSE)
 # a record with its moments, one of `EachMomentSince`, and a record that is taken over with other contents
 MOMENT = re.compile(r"\b(moments|later) = |\brecord [^{}]*[\w)] \{[^{}]*\b(contents) = ")
 # a number in the words of a page, the file that has it, and how it is written there: # stands for the number
