@@ -35,6 +35,11 @@ def answers(script):
     return [answer for _, answer in script]
 
 
+def refused_at(given, refusal):
+    """The number of the first answer that is this refusal. That of a write has how many bytes were written behind it."""
+    return next(number for number, answer in enumerate(given) if answer.startswith(refusal))
+
+
 def new():
     create("disk", 65536, CLUSTER)
 
@@ -69,15 +74,25 @@ class Allowed:
         checks.consistent(file)
         size = int(one(file, "size").removeprefix("size "))
         equal(size in self.of_size, True, f"{what}: the size {size}")
-        found = bytes.fromhex(one(file, f"read 0 {size}").removeprefix("data ").replace("-", ""))
+        found = exported(file)
         if found == self.disk[:size]:
             return
-        may = [{value} for value in self.disk[:size]]
-        for at, length, value in self.since:
-            for place in range(at, min(at + length, size)):
-                may[place].add(value)
-        wrong = next((place for place, value in enumerate(found) if value not in may[place]), None)
-        equal(wrong, None, f"{what}: a byte that was never given there")
+        wrong = next((at for at in range(0, size, CLUSTER) if not self.may_be(at, found[at:at + CLUSTER])), None)
+        equal(wrong, None, f"{what}: the cluster with a byte that was never given there")
+
+    def may_be(self, at, part):
+        """Whether these bytes may be found from an offset on."""
+        old, end = self.disk[at:at + len(part)], at + len(part)
+        if part == old or any(start <= at and end <= start + length and part == bytes([value]) * len(part) for start, length, value in self.since):
+            return True
+        given = [(start - at, start + length - at, value) for start, length, value in self.since if start < end and at < start + length]
+        return all(it == old[place] or any(start <= place < stop and it == value for start, stop, value in given) for place, it in enumerate(part))
+
+
+def exported(file):
+    """The bytes of the disk."""
+    equal(checks.ran("export", file, "raw", stdout=subprocess.PIPE, stderr=subprocess.DEVNULL, timeout=600)[0], 0, "the status of an export")
+    return contents("raw")
 
 
 def one(file, line):
@@ -114,10 +129,11 @@ def each_call(call, least):
         if given == [STORAGE]:
             Allowed(65536, {}, {}).look("disk", f"opening at call {number}")
             continue
-        at = given.index(STORAGE)
+        at = refused_at(given, STORAGE)
         equal(given[:at], answers(S1)[:at], f"the answers before call {number}")
-        equal(set(given[at + 1:]) - {FAILED, "misuse"}, set(), f"the answers after call {number}")
-        equal(len(given), len(S1), f"how many answers at call {number}")
+        equal({it for it in given[at + 1:] if not it.startswith(FAILED)} - {"misuse"}, set(), f"the answers after call {number}")
+        # the flush at the end is refused too, in a line of its own
+        equal(len(given), len(S1) + 1, f"how many answers at call {number}")
         allowed = Allowed(65536, GIVES, SIZES)
         for line in range(at):
             allowed.begin(line)
@@ -146,10 +162,11 @@ def each_growth():
             equal(given in ([], [MEMORY]), True, f"growth {growth}, where nothing was called: {given}")
             checks.consistent("disk", 0)
             continue
-        at = given.index(MEMORY)
+        at = refused_at(given, MEMORY)
         equal(given[:at], answers(S1)[:at], f"the answers before growth {growth}")
         met.add(S1[at][0])
-        checks.consistent("disk", 0 if FAILED not in given else None)
+        is_failed = any(it.startswith(FAILED) for it in given)
+        checks.consistent("disk", None if is_failed else 0)
         given_again(library, growth, at)
     raise AssertionError("more than 2,000 growths")
 
@@ -161,15 +178,15 @@ def given_again(library, growth, at):
         new()
         _, output, _ = refusing(library, near, ["run", "disk"], text(twice))
         given = output.splitlines()
-        if given[:at + 1] == [*answers(S1)[:at], MEMORY]:
-            if FAILED not in given:
+        if len(given) > at + 1 and given[:at] == answers(S1)[:at] and given[at].startswith(MEMORY):
+            if not any(it.startswith(FAILED) for it in given):
                 equal(given[at + 1:], answers(S1)[at:], f"the answers after line {S1[at][0]} was refused and given again")
             return
     raise AssertionError(f"line {S1[at][0]} wasn't refused again near growth {growth}")
 
 
 def recorded(script):
-    """The image before the script, and each write: at which line it was made, where, and the bytes. The lines are given one by one to one run: a line's answer is printed behind its writes."""
+    """The image before the script, and each write: where it was made, and the bytes."""
     before = contents("disk")
     done = subprocess.run(["strace", "-f", "-qq", "-xx", "-s", "1048576", "-e", "trace=pwrite64", "-o", "calls", checks.QIMG, "run", "disk"], input=text(script), stdout=subprocess.PIPE, timeout=600)
     equal((done.returncode, done.stdout.decode().splitlines()), (0, answers(script)), "the answers")
@@ -177,14 +194,23 @@ def recorded(script):
         return before, [(int(at), bytes.fromhex(data.replace("\\x", ""))) for data, at in WRITE.findall(calls.read())]
 
 
-def writes_until(script, size, width, lines):
-    """How many writes the first lines of the script make."""
+def line_of(script, size, width, number):
+    """The line in which the write of that number is made: the one that is refused where it fails. Past the lines it is the flush at the end."""
     create("part", size, CLUSTER, width)
-    done = subprocess.run(["strace", "-f", "-qq", "-c", "-e", "trace=pwrite64", "-o", "counted", checks.QIMG, "run", "part"], input=text(script[:lines]), stdout=subprocess.PIPE, timeout=600)
-    equal(done.returncode, 0, "the status")
-    with open("counted", encoding="ascii") as counted:
-        found = re.search(r"(\d+)\s+pwrite64", counted.read())
-    return int(found[1]) if found else 0
+    given = failing("part", "pwrite64", number, ["run", "part"], input=text(script))[1].splitlines()
+    return refused_at(given, STORAGE)
+
+
+def ends_of(script, size, width, count):
+    """For each line how many writes were made when it ended, of so many."""
+    ends, low = [], 0
+    for line in range(len(script)):
+        high = count
+        while low < high:
+            middle = (low + high) // 2
+            low, high = (middle + 1, high) if line_of(script, size, width, middle + 1) <= line else (low, middle)
+        ends.append(low)
+    return ends
 
 
 def each_stop(script, gives, sizes, size, width, every):
@@ -192,7 +218,7 @@ def each_stop(script, gives, sizes, size, width, every):
     looked at."""
     create("disk", size, CLUSTER, width)
     before, writes = recorded(script)
-    ends = [writes_until(script, size, width, lines + 1) for lines in range(len(script))]
+    ends = ends_of(script, size, width, len(writes))
     equal(ends[-1], len(writes), "how many writes there are")
     held, line, allowed, data = bytearray(before), 0, Allowed(size, gives, sizes), 0
     for number, (at, put) in enumerate(writes):
@@ -215,7 +241,7 @@ def each_stop(script, gives, sizes, size, width, every):
 def runs_on(file, number):
     """The first script has answers, but where a range is beyond the size, or its slot is empty for that."""
     done = subprocess.run([checks.QIMG, "run", file], input=text(S1), stdout=subprocess.PIPE, stderr=subprocess.DEVNULL, timeout=600)
-    refused = [it for it in done.stdout.decode().splitlines() if it.startswith("refused") and it != "refused 2 beyond size"]
+    refused = [it for it in done.stdout.decode().splitlines() if it.startswith("refused") and not it.startswith("refused 2 ")]
     equal(refused, [], f"the first script on the image after write {number}")
     checks.consistent(file)
 
@@ -239,7 +265,8 @@ def ends_on(data, script, what):
     done = subprocess.run([checks.QIMG, "run", "changed"], input=text(script), stdout=subprocess.PIPE, stderr=subprocess.DEVNULL, timeout=60)
     lines = done.stdout.decode().splitlines()
     is_refused = len(lines) == 1 and lines[0].startswith("refused ")
-    equal(done.returncode in (0, 1) and (is_refused or len(lines) == len(script)), True, f"{what}: status {done.returncode}, {lines}")
+    # a flush at the end that is refused is told too
+    equal(done.returncode in (0, 1) and (is_refused or len(lines) - len(script) in (0, 1)), True, f"{what}: status {done.returncode}, {lines}")
 
 
 def main():
