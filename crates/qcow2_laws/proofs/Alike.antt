@@ -17,9 +17,9 @@ use Rattle.qcow2_laws.proofs.Places.{in_one, div_mono}
 use Rattle.qcow2_laws.proofs.Shown.{shown_data, shown_zero, shown_uncovered}
 
 -- ---- a guest byte that stands at a place
-module _ (s : DriverState) (sound : StateInvariant s) (copied : Bool) (o place : ℕ) (at : IsDataAt s.header s.known copied o place) where
+module _ (s : DriverState) (sound : StateInvariant s) (inside : s.header.incompatible ≡ 0) (copied : Bool) (o place : ℕ) (at : IsDataAt s.header s.known copied o place) where
   pub at_shown : (backing : Bytes) → (disk s.known backing).value o ≡ known_byte (s.on_storage place)
-  at_shown backing = shown_data s sound backing o at.0 copied at.1 ∙ ap (λ n. known_byte (s.on_storage n)) at.2
+  at_shown backing = shown_data s sound inside backing o at.0 copied at.1 ∙ ap (λ n. known_byte (s.on_storage n)) at.2
 
 -- ---- bytes that stand in a row
 
@@ -94,10 +94,10 @@ module _ (h : HeaderFields) (b : Bytes) (offset n : ℕ) (run : IsAlikeRun h b o
 
 -- ---- what guests read of a run
 module _ (s : DriverState) (sound : StateInvariant s) (offset n : ℕ) (run : IsAlikeRun s.header s.known offset n) (backing : Bytes) where
-  pub run_shows_data : (host : ℕ) (copied : Bool) → cover s.header s.known (offset / cluster_size s.header) ≡ Data host copied
+  pub run_shows_data : s.header.incompatible ≡ 0 → (host : ℕ) (copied : Bool) → cover s.header s.known (offset / cluster_size s.header) ≡ Data host copied
       → (i : ℕ) → i < n → (disk s.known backing).value (offset + i) ≡ known_byte (s.on_storage (host + offset % cluster_size s.header + i))
-  run_shows_data host copied is i lt =
-      at_shown s sound copied (offset + i) (host + offset % cluster_size s.header + i) (run_data s.header s.known offset n run host copied is i lt) backing
+  run_shows_data inside host copied is i lt =
+      at_shown s sound inside copied (offset + i) (host + offset % cluster_size s.header + i) (run_data s.header s.known offset n run host copied is i lt) backing
 
   pub run_shows_zero : (kept : Option (ℕ × Bool)) → cover s.header s.known (offset / cluster_size s.header) ≡ Zero kept → (i : ℕ) → i < n → (disk s.known backing).value (offset + i) ≡ known_byte 0
   run_shows_zero kept is i lt = let at = run_zero s.header s.known offset n run kept is i lt in shown_zero s sound backing (offset + i) at.0 at.1

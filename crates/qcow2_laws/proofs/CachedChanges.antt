@@ -4,23 +4,26 @@ use Rattle.std.proofs.lemmas.Bool.{cases_eq, cases_lt, eq-eqb, ne_eqb, cond-true
 use Rattle.std.proofs.lemmas.Nat.{mod_below}
 use Rattle.qcow2_metadata.specs.Bytes.{Bytes}
 use Rattle.qcow2_metadata.specs.declared.header.HeaderFields.{HeaderFields}
-use Rattle.qcow2_metadata.specs.Header.{cluster_size, entries_per_cluster, count_width, counts_per_block}
-use Rattle.qcow2_metadata.specs.Entries.{l2_entry, block_count}
-use Rattle.qcow2_metadata.specs.Cover.{cover}
-use Rattle.qcow2_metadata.specs.Named.{in_cluster, named_by_cover}
+use Rattle.qcow2_metadata.specs.Header.{cluster_size, entries_per_cluster, count_width, counts_per_block, has_data_file}
+use Rattle.qcow2_metadata.specs.Entries.{l2_entry, block_count, host_offset}
+use Rattle.qcow2_metadata.specs.Cover.{cover, entry_cover}
+use Rattle.qcow2_metadata.specs.Guest.{guest_value, value_under}
+use Rattle.qcow2_metadata.specs.Named.{in_cluster}
+use Rattle.qcow2_metadata.specs.Named.{named_by_cover}
+use Rattle.qcow2_laws.specs.Guests.{named_by_guest, marked_by_cover}
 use Rattle.qcow2_metadata.specs.Consistent.{CoverIsAligned}
 use Rattle.qcow2_metadata.specs.TableBytes.{entry_at, ChangesEntry}
 use Rattle.qcow2_metadata.specs.RefBlock.{count_in, ChangesCount}
 use Rattle.qcow2_metadata.specs.L2Table.{copied_host}
 use Rattle.qcow2_metadata.specs.declared.l2_mapping.L2Mapping.{L2Mapping}
 use Rattle.qcow2_metadata.specs.declared.l2_mapping.L2Mapping.TheVariants.{Data, Zero, Compressed, Uncovered}
-use Rattle.qcow2_laws.specs.Guests.{names, table_at, marked_by_cover}
+use Rattle.qcow2_laws.specs.Guests.{names, marks, table_at, marked_by_guest}
 use Rattle.qcow2_laws.specs.Changes.{one_at}
 use Rattle.qcow2_laws.specs.Tops.{IsSameOutside}
 use Rattle.qcow2_laws.specs.SafeSteps.{DriverState, StateInvariant}
-use Rattle.qcow2_laws.specs.Steps.{block_of, CountRises, CountFalls}
-use Rattle.qcow2_laws.proofs.Places.{Sizes, Sizes-from, count_in as count_found}
-use Rattle.qcow2_laws.proofs.Guests.{guest_le, names_within}
+use Rattle.qcow2_laws.specs.Steps.{block_of, CountRises, CountFalls, EntryChanges, guest_at}
+use Rattle.qcow2_laws.proofs.Places.{Sizes, Sizes-from, count_in as count_found, cover_at}
+use Rattle.qcow2_laws.proofs.Guests.{uncovered_names, uncovered_marks, own_names, own_marks, own_data_of, guest_le, names_within}
 use Rattle.qcow2_laws.proofs.Writes.{new_data_is_unnamed}
 
 one_here : (i : ℕ) → one_at i i ≡ 1
@@ -64,26 +67,26 @@ module _ (h : HeaderFields) (known known' : Bytes) (c : ℕ) (old new : List ℕ
 
 -- ---- what an entry takes from what is held, where its cover becomes another one
 pub record Takes (h : HeaderFields) (enough : ℕ → ℕ) (before after : L2Mapping) : Type 0 where
-  pub new_data : (c : ℕ) → named_by_cover h c after - named_by_cover h c before ≤ enough c
-  pub marked : (c : ℕ) → marked_by_cover h c after ≤ marked_by_cover h c before + (named_by_cover h c after - named_by_cover h c before)
+  pub new_data : (c : ℕ) → named_by_guest h c after - named_by_guest h c before ≤ enough c
+  pub marked : (c : ℕ) → marked_by_guest h c after ≤ marked_by_guest h c before + (named_by_guest h c after - named_by_guest h c before)
   pub aligned : CoverIsAligned h after
 
 -- it names nothing any more
 pub takes_nothing : (h : HeaderFields) (new_data : ℕ → ℕ) (before : L2Mapping) → Takes h new_data before Uncovered × Takes h new_data before (Zero None)
 takes_nothing h new_data before = (
-  record { new_data = λ c. omega arith; marked = λ c. omega arith; aligned = tt },
-  record { new_data = λ c. omega arith; marked = λ c. omega arith; aligned = tt },
+  record { new_data = λ c. let n = uncovered_names h c in omega (arith, n); marked = λ c. let m = uncovered_marks h c in omega (arith, m); aligned = tt },
+  record { new_data = λ c. let n = uncovered_names h c in omega (arith, n); marked = λ c. let m = uncovered_marks h c in omega (arith, m); aligned = tt },
 )
 
 -- it keeps the host cluster that it marked copied
-copied_alone : (h : HeaderFields) (host c : ℕ) (v : L2Mapping) → copied_host v ≡ Some host → (named_by_cover h c v ≡ in_cluster h c host) × (marked_by_cover h c v ≡ in_cluster h c host)
-copied_alone h host c (Data place true) is = let e : place ≡ host = some_is is in (ap (in_cluster h c) e, ap (in_cluster h c) e)
+cover_copied_alone : (h : HeaderFields) (host c : ℕ) (v : L2Mapping) → copied_host v ≡ Some host → (named_by_cover h c v ≡ in_cluster h c host) × (marked_by_cover h c v ≡ in_cluster h c host)
+cover_copied_alone h host c (Data place true) is = let e : place ≡ host = some_is is in (ap (in_cluster h c) e, ap (in_cluster h c) e)
   where
     some_is : {a b : ℕ} → Some a ≡ Some b → a ≡ b
     some_is e = cc
-copied_alone h host c (Data place false) is = absurd (cc)
-copied_alone h host c (Zero None) is = absurd (cc)
-copied_alone h host c (Zero (Some k)) is = kept_alone k is
+cover_copied_alone h host c (Data place false) is = absurd (cc)
+cover_copied_alone h host c (Zero None) is = absurd (cc)
+cover_copied_alone h host c (Zero (Some k)) is = kept_alone k is
   where
     some_is : {a b : ℕ} → Some a ≡ Some b → a ≡ b
     some_is e = cc
@@ -94,20 +97,27 @@ copied_alone h host c (Zero (Some k)) is = kept_alone k is
 
     kept_alone : (k : ℕ × Bool) → cond k.1 (Some k.0) None ≡ Some host → (in_cluster h c k.0 ≡ in_cluster h c host) × (cond k.1 (in_cluster h c k.0) 0 ≡ in_cluster h c host)
     kept_alone k e = by_mark k.0 k.1 e
-copied_alone h host c (Compressed place sectors) is = absurd (cc)
-copied_alone h host c Uncovered is = absurd (cc)
+cover_copied_alone h host c (Compressed place sectors) is = absurd (cc)
+cover_copied_alone h host c Uncovered is = absurd (cc)
+
+-- so it is of what guests name: a kept host cluster is named as before, by any of these
+same_as : (h : HeaderFields) (host c : ℕ) (v w : L2Mapping) → copied_host v ≡ Some host → copied_host w ≡ Some host → (named_by_guest h c v ≡ named_by_guest h c w) × (marked_by_guest h c v ≡ marked_by_guest h c w) × (marked_by_guest h c w ≡ named_by_guest h c w)
+same_as h host c v w is also =
+    let a = cover_copied_alone h host c v is in
+    let b = cover_copied_alone h host c w also in
+    (ap (λ n. cond (has_data_file h) 0 n) (a.0 ∙ sym b.0), ap (λ n. cond (has_data_file h) 0 n) (a.1 ∙ sym b.1), ap (λ n. cond (has_data_file h) 0 n) (b.1 ∙ sym b.0))
 
 pub takes_own : (h : HeaderFields) (new_data : ℕ → ℕ) (before : L2Mapping) (host : ℕ) → host % cluster_size h ≡ 0 → copied_host before ≡ Some host
     → Takes h new_data before (Data host true) × Takes h new_data before (Zero (Some (host, true)))
 takes_own h new_data before host aligned is = (
   record {
-    new_data = λ c. let own = copied_alone h host c before is in omega (arith, own.0);
-    marked = λ c. let own = copied_alone h host c before is in omega (arith, own.1);
+    new_data = λ c. let own = same_as h host c before (Data host true) is refl in omega (arith, own.0);
+    marked = λ c. let own = same_as h host c before (Data host true) is refl in omega (arith, own.1, own.2);
     aligned = aligned;
   },
   record {
-    new_data = λ c. let own = copied_alone h host c before is in omega (arith, own.0);
-    marked = λ c. let own = copied_alone h host c before is in omega (arith, own.1);
+    new_data = λ c. let own = same_as h host c before (Zero (Some (host, true))) is refl in omega (arith, own.0);
+    marked = λ c. let own = same_as h host c before (Zero (Some (host, true))) is refl in omega (arith, own.1, own.2);
     aligned = aligned;
   },
 )
@@ -125,16 +135,22 @@ in_most h c place = elim (cases_eq (place / cluster_size h) c) [
   | inr ne ↦ let none : in_cluster h c place ≡ 0 = cond-false {A = ℕ} _ 1 0 (ne_eqb (place / cluster_size h) c ne) in omega arith
 ]
 
+data_at_most : (h : HeaderFields) (c host : ℕ) → named_by_guest h c (Data host true) ≤ in_cluster h c host
+data_at_most h c host = elim (has_data_file h) as (λ t. cond t 0 (in_cluster h c host) ≤ in_cluster h c host) [ true ↦ omega arith | false ↦ omega arith ]
+
+marked_as_named : (h : HeaderFields) (c host : ℕ) → marked_by_guest h c (Data host true) ≡ named_by_guest h c (Data host true)
+marked_as_named h c host = refl
+
 pub takes_new_data : (s : DriverState) (g host : ℕ) → StateInvariant s → host % cluster_size s.header ≡ 0 → 0 < s.pending.new_data (host / cluster_size s.header) → Takes s.header s.pending.new_data (cover s.header s.known g) (Data host true)
 takes_new_data s g host sound aligned some = record {
-  new_data = λ c. elim (cases_lt 0 (in_cluster s.header c host)) [
+  new_data = λ c. let n = data_at_most s.header c host in elim (cases_lt 0 (in_cluster s.header c host)) [
     | inl here ↦
         let most = in_most s.header c host in
         let enough : 0 < s.pending.new_data c = subst (λ n. 0 < s.pending.new_data n) (in_at s.header c host here) some in
         omega arith
     | inr none ↦ omega arith
   ];
-  marked = λ c. elim (cases_lt 0 (in_cluster s.header c host)) [
+  marked = λ c. let n = data_at_most s.header c host in let m = marked_as_named s.header c host in elim (cases_lt 0 (in_cluster s.header c host)) [
     | inl here ↦
         let enough : 0 < s.pending.new_data c = subst (λ n. 0 < s.pending.new_data n) (in_at s.header c host here) some in
         let unnamed = new_data_is_unnamed s.header s.direction s.pending s.on_storage s.known sound c enough in

@@ -7,20 +7,20 @@ use Rattle.qcow2_metadata.specs.Header.{cluster_size}
 use Rattle.qcow2_metadata.specs.Entries.{count}
 use Rattle.qcow2_metadata.specs.Cover.{cover}
 use Rattle.qcow2_metadata.specs.Guest.{guest_value}
-use Rattle.qcow2_metadata.specs.Named.{named_by_cover}
+use Rattle.qcow2_laws.specs.Guests.{named_by_guest}
 use Rattle.qcow2_metadata.specs.Consistent.{CoverIsAligned}
 use Rattle.qcow2_metadata.specs.declared.l2_mapping.L2Mapping.{L2Mapping}
 use Rattle.qcow2_disk.specs.Stops.{GivenBytes, IsGiven, Checkpoint, checkpoint_with, StopOkEverywhere}
 use Rattle.qcow2_laws.specs.Clusters.{Direction, L2DependsOnRb, RbDependsOnL2}
-use Rattle.qcow2_laws.specs.Guests.{guests, over_guests, names, marks, named_in_either, marked_by_cover}
+use Rattle.qcow2_laws.specs.Guests.{guests, over_guests, names, marks, named_in_either, marked_by_guest}
 use Rattle.qcow2_laws.specs.CrashInvariant.{SameTop, Pending, cluster, CrashInvariant, SameCovers, SameCounts}
 use Rattle.qcow2_laws.specs.Changes.{one_at, with_new_data, with_new_tables, without_old_tables, without_old_data, new_data_to_old_data, new_data_to_old_tables, new_tables_to_old_tables, remapped}
 use Rattle.qcow2_laws.proofs.Clusters.{Good, allocate_data, allocate_table, free_table, free_data, drop_new_data, undo, abandon, remap, new_data_unnamed}
 use Rattle.qcow2_laws.proofs.Places.{Sizes-from}
-use Rattle.qcow2_laws.proofs.Guests.{over_guests-same, over_guests-change, guest_le, names_within}
+use Rattle.qcow2_laws.proofs.Guests.{own_data_of, over_guests-same, over_guests-change, guest_le, names_within}
 use Rattle.qcow2_laws.proofs.Tops.{SameTop-trans, IsTop-top, SameTop-refl}
 use Rattle.qcow2_laws.proofs.Mixes.{tied, good}
-use Rattle.qcow2_laws.proofs.Consistency.{known_consistent}
+use Rattle.qcow2_laws.proofs.Consistency.{known_consistent, own_of_kept}
 use Rattle.qcow2_laws.proofs.Values.{guest_value-same, kept_shown}
 
 pub one_at-le : (c k : ℕ) → one_at c k ≤ 1
@@ -46,10 +46,10 @@ module _ (h : HeaderFields) (d : Direction) (p p' : Pending) (on_storage known k
       → CrashInvariant h d p' on_storage known'
   counts_changed numbers =
       let now : (c : ℕ) → Good d (cluster h p' on_storage known' c) (p'.surplus c) = λ c.
-      let in_known = sym (sum_same (named_by_cover h c)) in
-      let in_either = sym (max_same (named_by_cover h c)) in
-      let marks_known = sym (sum_same (marked_by_cover h c)) in
-      let marks_either = sym (max_same (marked_by_cover h c)) in
+      let in_known = sym (sum_same (named_by_guest h c)) in
+      let in_either = sym (max_same (named_by_guest h c)) in
+      let marks_known = sym (sum_same (marked_by_guest h c)) in
+      let marks_either = sym (max_same (marked_by_guest h c)) in
       subst (λ k. Good d k (p'.surplus c)) (λ j. record (cluster h p' on_storage known' c) { in_known = in_known j; in_either = in_either j; marks_known = marks_known j; marks_either = marks_either j }) (numbers c) in
       record {
         top = crash_invariant.top;
@@ -58,8 +58,8 @@ module _ (h : HeaderFields) (d : Direction) (p p' : Pending) (on_storage known k
         ordered = λ c. (now c).ordered;
         aligned = crash_invariant.aligned;
         known_aligned = λ g. subst (CoverIsAligned h) (covers g) (crash_invariant.known_aligned g);
-        own = λ g c marked. crash_invariant.own g c (subst (λ v. 0 < marked_by_cover h c v) (sym (covers g)) marked);
-        not_overlaid = λ o some. let same = max_same (named_by_cover h (o / cluster_size h)) in bytes o (omega arith);
+        own = λ g c marked. crash_invariant.own g c (subst (λ v. 0 < marked_by_guest h c v) (sym (covers g)) marked);
+        not_overlaid = λ o some. let same = max_same (named_by_guest h (o / cluster_size h)) in bytes o (omega arith);
       }
 
 -- the guest sees what it saw
@@ -69,9 +69,9 @@ module _ (h : HeaderFields) (d d' : Direction) (p p' : Pending) (on_storage know
   pub covers_kept : (backing : Bytes) (m : Checkpoint) → StopOkEverywhere backing m known → StopOkEverywhere backing m known'
   covers_kept backing m kept =
       kept_shown h backing m [] known known' (IsTop-top h on_storage known crash_invariant.same_top crash_invariant.top).header_is (IsTop-top h on_storage known' crash_invariant'.same_top crash_invariant'.top).header_is
-      (known_consistent h d' p' on_storage known' crash_invariant')
+      (known_consistent h d' p' on_storage known' crash_invariant' (own_of_kept h backing m known (IsTop-top h on_storage known crash_invariant.same_top crash_invariant.top).header_is kept))
       (λ i lt. sym (crash_invariant.same_top.first_cluster i lt) ∙ crash_invariant'.same_top.first_cluster i lt)
-      (λ o. inl (sym (guest_value-same h known known' backing o (covers (o / cluster_size h)) (crash_invariant.known_aligned (o / cluster_size h)) (λ place some.
+      (λ o. inl (sym (guest_value-same h known known' backing o (own_data_of h (own_of_kept h backing m known (IsTop-top h on_storage known crash_invariant.same_top crash_invariant.top).header_is kept)) (covers (o / cluster_size h)) (crash_invariant.known_aligned (o / cluster_size h)) (λ place some.
       bytes place (
       let within = names_within h known (place / cluster_size h) (o / cluster_size h) (Sizes-from h on_storage crash_invariant.top.header_reads) some in
       let le = guest_le h (λ k. max (names h on_storage (place / cluster_size h) k) (names h known (place / cluster_size h) k)) (o / cluster_size h) within in
@@ -153,10 +153,10 @@ module _ (h : HeaderFields) (d : Direction) (p : Pending) (on_storage known know
 
   now : (c : ℕ) → Good d (cluster h (remapped p (λ c. names h known c g0) (λ c. names h known' c g0)) on_storage known' c) (p.surplus c)
   now c =
-      let in_known = sum_changed (named_by_cover h c) in
-      let in_either = max_changed (named_by_cover h c) in
-      let marks_known = sum_changed (marked_by_cover h c) in
-      let marks_either = max_changed (marked_by_cover h c) in
+      let in_known = sum_changed (named_by_guest h c) in
+      let in_either = max_changed (named_by_guest h c) in
+      let marks_known = sum_changed (marked_by_guest h c) in
+      let marks_either = max_changed (marked_by_guest h c) in
       let taken = new_data c in
       let checkpoint = marked c in
       let next = remap d (cluster h p on_storage known c) (p.surplus c) (names h known c g0) (names h known' c g0)
@@ -191,10 +191,10 @@ module _ (h : HeaderFields) (d : Direction) (p : Pending) (on_storage known know
     ];
     own = λ g c some. elim (cases_eq g g0) [
       | inl e ↦ subst (λ n. names h on_storage c n ≤ marks h on_storage c n) (sym e) (own_there c (subst (λ n. 0 < marks h known' c n) e some))
-      | inr ne ↦ crash_invariant.own g c (subst (λ v. 0 < marked_by_cover h c v) (sym (others g ne)) some)
+      | inr ne ↦ crash_invariant.own g c (subst (λ v. 0 < marked_by_guest h c v) (sym (others g ne)) some)
     ];
     not_overlaid = λ o some.
-        let changed = max_changed (named_by_cover h (o / cluster_size h)) in
+        let changed = max_changed (named_by_guest h (o / cluster_size h)) in
         let taken = new_data (o / cluster_size h) in
         let as_before : 0 < named_in_either h on_storage known (o / cluster_size h) + p.new_data (o / cluster_size h) = omega arith in
         crash_invariant.not_overlaid o as_before ∙ bytes o as_before;
@@ -206,10 +206,10 @@ module _ (h : HeaderFields) (d : Direction) (p : Pending) (on_storage known know
       → StopOkEverywhere backing m known → StopOkEverywhere backing (checkpoint_with given [] m) known'
   mapping_kept backing m given there kept =
       kept_shown h backing m given known known' (IsTop-top h on_storage known crash_invariant.same_top crash_invariant.top).header_is (IsTop-top h on_storage known' entry_mapped.same_top crash_invariant.top).header_is
-      (known_consistent h d (remapped p (λ c. names h known c g0) (λ c. names h known' c g0)) on_storage known' entry_mapped) top.first_cluster
+      (known_consistent h d (remapped p (λ c. names h known c g0) (λ c. names h known' c g0)) on_storage known' entry_mapped (own_of_kept h backing m known (IsTop-top h on_storage known crash_invariant.same_top crash_invariant.top).header_is kept)) top.first_cluster
       (λ o. elim (cases_eq (o / cluster_size h) g0) [
         | inl here ↦ there o here
-        | inr other ↦ inl (sym (guest_value-same h known known' backing o (others (o / cluster_size h) other) (crash_invariant.known_aligned (o / cluster_size h)) (λ place some.
+        | inr other ↦ inl (sym (guest_value-same h known known' backing o (own_data_of h (own_of_kept h backing m known (IsTop-top h on_storage known crash_invariant.same_top crash_invariant.top).header_is kept)) (others (o / cluster_size h) other) (crash_invariant.known_aligned (o / cluster_size h)) (λ place some.
             bytes place (
             let inside = names_within h known (place / cluster_size h) (o / cluster_size h) (Sizes-from h on_storage crash_invariant.top.header_reads) some in
             let le = guest_le h (λ k. max (names h on_storage (place / cluster_size h) k) (names h known (place / cluster_size h) k)) (o / cluster_size h) inside in

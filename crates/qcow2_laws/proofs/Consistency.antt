@@ -1,18 +1,19 @@
 -- A guarded image is consistent, and a consistent image is guarded.
-use Rattle.std.proofs.Common.{◌≡◌, ℕ, ◌+◌, ◌*◌, ◌/◌, ◌<◌, ◌≢◌, Bool, cond, refl, sym, ◌∙◌, arith, subst}
+use Rattle.std.proofs.Common.{◌≡◌, ℕ, ◌+◌, ◌*◌, ◌/◌, ◌%◌, ◌<◌, ◌≢◌, Bool, false, true, cond, eqb, ap, refl, sym, ◌∙◌, arith, subst}
 use Rattle.std.specs.Prelude.{IsTrue, Option, Some, None}
 use Rattle.std.proofs.lemmas.Bool.{eq-eqb, ne_eqb, cond-true, cond-false}
 use Rattle.qcow2_metadata.specs.Bytes.{Bytes}
 use Rattle.qcow2_metadata.specs.declared.header.HeaderFields.{HeaderFields}
-use Rattle.qcow2_metadata.specs.Header.{cluster_size, entries_per_cluster}
+use Rattle.qcow2_metadata.specs.Header.{header, cluster_size, entries_per_cluster, has_data_file}
 use Rattle.qcow2_metadata.specs.Entries.{l1_entry, is_copied, count}
 use Rattle.qcow2_metadata.specs.Cover.{cover}
 use Rattle.qcow2_metadata.specs.Named.{named, table_in, in_cluster}
 use Rattle.qcow2_metadata.specs.Consistent.{Consistent, IsConsistent, EachCover, CoverIsAligned, KeptIsOwn, CopiedIsOwn}
 use Rattle.qcow2_metadata.specs.declared.l2_mapping.L2Mapping.{L2Mapping}
 use Rattle.qcow2_metadata.specs.declared.l2_mapping.L2Mapping.TheVariants.{Data, Zero, Compressed, Uncovered}
+use Rattle.qcow2_disk.specs.Stops.{Checkpoint, StopOkEverywhere}
 use Rattle.qcow2_laws.specs.Clusters.{Direction}
-use Rattle.qcow2_laws.specs.Guests.{over_guests, marks, marked_by_cover, marked_by_kept, marked_by_l1_table, table_at}
+use Rattle.qcow2_laws.specs.Guests.{over_guests, marks, marked_by_cover, marked_by_guest, marked_by_kept, marked_by_l1_table, table_at}
 use Rattle.qcow2_laws.specs.CrashInvariant.{Pending, cluster, CrashInvariant}
 use Rattle.qcow2_laws.proofs.Sums.{term_le-sum_below}
 use Rattle.qcow2_laws.proofs.Places.{Sizes, Sizes-from, cover_at}
@@ -55,15 +56,18 @@ l1_marked h b i lt real copied =
 each_entry : (h : HeaderFields) (b : Bytes) (P : L2Mapping → Type 0) → Sizes h → ((g : ℕ) → P (cover h b g)) → EachCover h b P
 each_entry h b P sizes each i j lt real within = subst P (cover_at h b i j sizes real within) (each (i * entries_per_cluster h + j))
 
-module _ (h : HeaderFields) (d : Direction) (p : Pending) (on_storage known : Bytes) (crash_invariant : CrashInvariant h d p on_storage known) where
+module _ (h : HeaderFields) (d : Direction) (p : Pending) (on_storage known : Bytes) (crash_invariant : CrashInvariant h d p on_storage known) (own : h.incompatible ≡ 0) where
   sizes : Sizes h
   sizes = Sizes-from h on_storage crash_invariant.top.header_reads
+
+  own_data : has_data_file h ≡ false
+  own_data = ap (λ n. eqb (n / 4 % 2) 1) own
 
   fine_at : (c : ℕ) → Fine (cluster h p on_storage known c)
   fine_at c = fine d (cluster h p on_storage known c) (p.surplus c) (tied h p on_storage known c) (good h d p on_storage known crash_invariant c)
 
   owned : (c : ℕ) → 0 < marked_by_l1_table h on_storage c + over_guests h (marks h on_storage c) → Owned h on_storage c
-  owned c some = let f = (fine_at c).copied some in (named-is h on_storage c sizes ∙ f.0, f.1)
+  owned c some = let f = (fine_at c).copied some in (named-is h on_storage c sizes own_data ∙ f.0, f.1)
 
   pub consistent : Consistent h on_storage
   consistent = record {
@@ -72,21 +76,25 @@ module _ (h : HeaderFields) (d : Direction) (p : Pending) (on_storage known : By
     l1_reads = crash_invariant.top.l1_reads;
     reftable_reads = crash_invariant.top.reftable_reads;
     no_snapshots = crash_invariant.top.no_snapshots;
-    no_data_file = crash_invariant.top.no_data_file;
+    no_data_file = own;
     l1_aligned = crash_invariant.top.l1_aligned;
     reftable_aligned = crash_invariant.top.reftable_aligned;
     l2_tables_aligned = crash_invariant.top.l2_tables_aligned;
     refblocks_aligned = crash_invariant.top.refblocks_aligned;
     data_aligned = each_entry h on_storage (CoverIsAligned h) sizes crash_invariant.aligned;
-    counted = λ c. let e = named-is h on_storage c sizes in let f = (fine_at c).counted in omega arith;
-    tables_once = λ c some. named-is h on_storage c sizes ∙ (fine_at c).tables (omega (arith, some));
+    counted = λ c. let e = named-is h on_storage c sizes own_data in let f = (fine_at c).counted in omega arith;
+    tables_once = λ c some. named-is h on_storage c sizes own_data ∙ (fine_at c).tables (omega (arith, some));
     copied_tables = λ i lt real copied. owned (table_at h on_storage i / cluster_size h) (let s = l1_marked h on_storage i lt real copied in omega arith);
     copied_data = each_entry h on_storage (CopiedIsOwn h on_storage) sizes (λ g. cover_own h on_storage (cover h on_storage g)
-        (λ c some. owned c (let le = guest_le h (marks h on_storage c) g (names_within h on_storage c g sizes (let m = marks-le h c (cover h on_storage g) in omega arith)) in omega arith)));
+        (λ c some. let is : marked_by_guest h c (cover h on_storage g) ≡ marked_by_cover h c (cover h on_storage g) = cond-false {A = ℕ} _ _ _ own_data in owned c (let le = guest_le h (marks h on_storage c) g (names_within h on_storage c g sizes (let m = marks-le h c (cover h on_storage g) in omega arith)) in omega arith)));
   }
 
   pub crash_invariant_consistent : IsConsistent on_storage
   crash_invariant_consistent = subst (λ t. Consistent t on_storage) (sym crash_invariant.top.header_is) consistent
 
-pub known_consistent : (h : HeaderFields) (d : Direction) (p : Pending) (on_storage known : Bytes) → CrashInvariant h d p on_storage known → IsConsistent known
-known_consistent h d p on_storage known crash_invariant = crash_invariant_consistent h d p known known (known_crash_invariant h d p on_storage known crash_invariant)
+pub known_consistent : (h : HeaderFields) (d : Direction) (p : Pending) (on_storage known : Bytes) → CrashInvariant h d p on_storage known → h.incompatible ≡ 0 → IsConsistent known
+known_consistent h d p on_storage known crash_invariant own = crash_invariant_consistent h d p known known (known_crash_invariant h d p on_storage known crash_invariant) own
+
+-- what was kept at a stop has its data in the image itself
+pub own_of_kept : (h : HeaderFields) (backing : Bytes) (m : Checkpoint) (b : Bytes) → header b ≡ h → StopOkEverywhere backing m b → h.incompatible ≡ 0
+own_of_kept h backing m b is kept = ap (λ (t : HeaderFields). t.incompatible) (sym is) ∙ kept.consistent.no_data_file

@@ -6,8 +6,8 @@ use Rattle.qcow2_metadata.specs.Header.{cluster_size, with_reftable}
 use Rattle.qcow2_metadata.specs.Entries.{l1_entry}
 use Rattle.qcow2_metadata.specs.Cover.{cover, cover_under}
 use Rattle.qcow2_metadata.specs.Guest.{guest_value}
-use Rattle.qcow2_metadata.specs.Named.{named_by_cover}
-use Rattle.qcow2_laws.specs.Guests.{over_guests, names}
+use Rattle.qcow2_laws.specs.Guests.{named_by_guest}
+use Rattle.qcow2_laws.specs.Guests.{over_guests, guests, names, marks, marked_by_guest, marked_by_l1_table}
 use Rattle.qcow2_laws.specs.CrashInvariant.{SameCovers}
 use Rattle.qcow2_laws.specs.Unseen.{KeepsFormat}
 use Rattle.qcow2_laws.proofs.Guests.{over_guests-same}
@@ -57,7 +57,7 @@ module _ (h h' : HeaderFields) (e : KeepsFormat h h') where
   over_guests_format f = ap (λ (k : HeaderFields). over_guests k f) e ∙ over_guests_with h h'.reftable_offset h'.reftable_clusters f
 
   pub names_format : (b : Bytes) (c g : ℕ) → names h' b c g ≡ names h b c g
-  names_format b c g = ap (λ (k : HeaderFields). named_by_cover k c (cover h' b g)) e ∙ ap (named_by_cover h c) (cover_format b g)
+  names_format b c g = ap (λ (k : HeaderFields). named_by_guest k c (cover h' b g)) e ∙ ap (named_by_guest h c) (cover_format b g)
 
   -- how often all guest clusters name a cluster, or mark it
   pub guests_format : (b : Bytes) (c : ℕ) → over_guests h' (names h' b c) ≡ over_guests h (names h b c)

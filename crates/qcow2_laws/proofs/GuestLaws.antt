@@ -27,7 +27,7 @@ pub longer_l1_table_keeps_guests : LongerL1TableKeepsGuests
 longer_l1_table_keeps_guests s on_storage' known' offset entries sound writes new = guests_kept s.header offset entries s.direction s.pending s.on_storage s.known on_storage' known' sound writes new
 
 -- ---- the size
-module _ (s : DriverState) (backing : Bytes) (sound : StateInvariant s) where
+module _ (s : DriverState) (backing : Bytes) (sound : StateInvariant s) (inside : s.header.incompatible ≡ 0) where
   known_is : header s.known ≡ s.header
   known_is = known_header s sound
 
@@ -45,12 +45,12 @@ module _ (s : DriverState) (backing : Bytes) (sound : StateInvariant s) where
 
   pub storage_kept : StopOkEverywhere backing checkpoint s.on_storage
   unfolding disk_with
-  storage_kept = record { consistent = crash_invariant_consistent s.header s.direction s.pending s.on_storage s.known sound; rest = header_rest_same s.on_storage; size = inl refl; values = λ o. inl refl }
+  storage_kept = record { consistent = crash_invariant_consistent s.header s.direction s.pending s.on_storage s.known sound inside; rest = header_rest_same s.on_storage; size = inl refl; values = λ o. inl refl }
 
   pub known_kept : StopOkEverywhere backing checkpoint s.known
   unfolding disk_with
   known_kept = record {
-    consistent = known_consistent s.header s.direction s.pending s.on_storage s.known sound;
+    consistent = known_consistent s.header s.direction s.pending s.on_storage s.known sound inside;
     rest = first_keeps_rest s.header s.on_storage s.known sound.top.header_is known_is sound.same_top.first_cluster;
     size = inl (size_is s.header s.known backing known_is ∙ sym (size_is s.header s.on_storage backing sound.top.header_is));
     values = λ o. elim (cases_lt o (guests s.header * cluster_size s.header)) [
@@ -67,13 +67,13 @@ module _ (s : DriverState) (backing : Bytes) (sound : StateInvariant s) where
   ]
 
 pub size_stays_unless_asked : SizeStaysUnlessAsked
-size_stays_unless_asked s backing image given sound kept =
-    old_size s backing sound given image (kept (checkpoint s backing sound) (storage_kept s backing sound) (known_kept s backing sound))
+size_stays_unless_asked s backing image given sound inside kept =
+    old_size s backing sound inside given image (kept (checkpoint s backing sound inside) (storage_kept s backing sound inside) (known_kept s backing sound inside))
 
-pub size_stays_in_calls : (s : DriverState) (old new : AbstractImage) (given : List GivenBytes) → StateInvariant s → stored_bytes old ≡ s.on_storage → old.known ≡ s.known → EffectOnSound old new given [] → HasSizeSince old.storage new.storage s.header.size
-size_stays_in_calls s old new given sound is known works =
-    let starts : StartsAt old (checkpoint s old.setting.backing sound) = (
-      subst (StopOkEverywhere old.setting.backing (checkpoint s old.setting.backing sound)) (sym is) (storage_kept s old.setting.backing sound),
-      subst (StopOkEverywhere old.setting.backing (checkpoint s old.setting.backing sound)) (sym known) (known_kept s old.setting.backing sound),
+pub size_stays_in_calls : (s : DriverState) (old new : AbstractImage) (given : List GivenBytes) → StateInvariant s → s.header.incompatible ≡ 0 → stored_bytes old ≡ s.on_storage → old.known ≡ s.known → EffectOnSound old new given [] → HasSizeSince old.storage new.storage s.header.size
+size_stays_in_calls s old new given sound inside is known works =
+    let starts : StartsAt old (checkpoint s old.setting.backing sound inside) = (
+      subst (StopOkEverywhere old.setting.backing (checkpoint s old.setting.backing sound inside)) (sym is) (storage_kept s old.setting.backing sound inside),
+      subst (StopOkEverywhere old.setting.backing (checkpoint s old.setting.backing sound inside)) (sym known) (known_kept s old.setting.backing sound inside),
     ) in
-    passes_if (λ c. (header (byte_at c)).size ≡ s.header.size) (λ c kept. old_size s old.setting.backing sound given (byte_at c) kept) (works.stops (checkpoint s old.setting.backing sound) starts).moments
+    passes_if (λ c. (header (byte_at c)).size ≡ s.header.size) (λ c kept. old_size s old.setting.backing sound inside given (byte_at c) kept) (works.stops (checkpoint s old.setting.backing sound inside) starts).moments

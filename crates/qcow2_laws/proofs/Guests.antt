@@ -1,17 +1,17 @@
 -- Sums over all guest clusters.
-use Rattle.std.proofs.Common.{◌≡◌, ℕ, ◌+◌, ◌*◌, ◌/◌, ◌%◌, ◌<◌, ◌≤◌, ◌≢◌, ◌^◌, Bool, true, false, cond, eqb, sym, ap, ◌∙◌, arith, inl, inr}
+use Rattle.std.proofs.Common.{◌≡◌, ℕ, ◌+◌, ◌*◌, ◌/◌, ◌%◌, ◌<◌, ◌≤◌, ◌≢◌, ◌^◌, Bool, true, false, cond, eqb, sym, ap, ◌∙◌, refl, arith, inl, inr}
 use Rattle.std.specs.Prelude.{Option, Some, None}
 use Rattle.std.proofs.lemmas.Bool.{cases_eq, cases_lt, ne_eqb, cond-false, cond-true, eq-eqb}
 use Rattle.std.proofs.lemmas.Nat.{div-mul-add, div-add-mod', mod_below, mul-le}
 use Rattle.qcow2_metadata.specs.Bytes.{Bytes, sum_below}
 use Rattle.qcow2_metadata.specs.declared.header.HeaderFields.{HeaderFields}
-use Rattle.qcow2_metadata.specs.Header.{entries_per_cluster}
+use Rattle.qcow2_metadata.specs.Header.{entries_per_cluster, has_data_file}
 use Rattle.qcow2_metadata.specs.Entries.{l1_entry, l2_entry, is_copied}
 use Rattle.qcow2_metadata.specs.Cover.{cover, entry_cover}
 use Rattle.qcow2_metadata.specs.Named.{in_cluster, table_in, named_by_cover, named_by_kept, named_by_l2_table, named_by_l2_tables, named_by_l1_table, named_for_tables, named}
 use Rattle.qcow2_metadata.specs.declared.l2_mapping.L2Mapping.{L2Mapping}
 use Rattle.qcow2_metadata.specs.declared.l2_mapping.L2Mapping.TheVariants.{Data, Zero, Compressed, Uncovered}
-use Rattle.qcow2_laws.specs.Guests.{guests, over_guests, marked_by_kept, marked_by_cover, names, table_at, marked_by_l1_table}
+use Rattle.qcow2_laws.specs.Guests.{guests, over_guests, marked_by_kept, marked_by_cover, named_by_guest, marked_by_guest, names, table_at, marked_by_l1_table}
 use Rattle.qcow2_laws.proofs.Sums.{sum_below-le, sum_below-same, sum_below-zero, sum_below-change, sum_below-rows, term_le-sum_below, two_terms_le-sum_below, some_term}
 use Rattle.qcow2_laws.proofs.Places.{Sizes, l1_entry-past, cover_none, cover_at}
 
@@ -53,11 +53,32 @@ past_guests h b g sizes past =
       | inr le ↦ le
     ])))
 
+nothing_either : (t : Bool) → cond t 0 0 ≡ (let n : ℕ = 0 in n)
+nothing_either true = refl
+nothing_either false = refl
+
+pub uncovered_names : (h : HeaderFields) (c : ℕ) → named_by_guest h c Uncovered ≡ 0
+uncovered_names h c = nothing_either (has_data_file h)
+
+pub uncovered_marks : (h : HeaderFields) (c : ℕ) → marked_by_guest h c Uncovered ≡ 0
+uncovered_marks h c = nothing_either (has_data_file h)
+
+-- where the data stand in the image itself, what stands for guest clusters names and marks what it says
+pub own_names : (h : HeaderFields) (c : ℕ) (v : L2Mapping) → has_data_file h ≡ false → named_by_guest h c v ≡ named_by_cover h c v
+own_names h c v own = cond-false {A = ℕ} (has_data_file h) 0 (named_by_cover h c v) own
+
+pub own_marks : (h : HeaderFields) (c : ℕ) (v : L2Mapping) → has_data_file h ≡ false → marked_by_guest h c v ≡ marked_by_cover h c v
+own_marks h c v own = cond-false {A = ℕ} (has_data_file h) 0 (marked_by_cover h c v) own
+
+-- a header without incompatible bits
+pub own_data_of : (h : HeaderFields) → h.incompatible ≡ 0 → has_data_file h ≡ false
+own_data_of h none = ap (λ n. eqb (n / 4 % 2) 1) none
+
 -- what a guest cluster names is part of the sum
 pub names_within : (h : HeaderFields) (b : Bytes) (c g : ℕ) → Sizes h → 0 < names h b c g → g < guests h
 names_within h b c g sizes some = elim (cases_lt g (guests h)) [
   | inl lt ↦ lt
-  | inr past ↦ absurd (let none : names h b c g ≡ 0 = ap (named_by_cover h c) (past_guests h b g sizes past) in omega (arith, some, none))
+  | inr past ↦ absurd (let none : names h b c g ≡ 0 = ap (named_by_guest h c) (past_guests h b g sizes past) ∙ uncovered_names h c in omega (arith, some, none))
 ]
 
 -- ---- marks are names
@@ -66,11 +87,14 @@ kept-marks : (h : HeaderFields) (c : ℕ) (k : Option (ℕ × Bool)) → marked_
 kept-marks h c None = omega arith
 kept-marks h c (Some k) = elim (k.1) as (λ t. cond t (in_cluster h c k.0) 0 ≤ in_cluster h c k.0) [ true ↦ omega arith | false ↦ omega arith ]
 
-pub marks-le : (h : HeaderFields) (c : ℕ) (v : L2Mapping) → marked_by_cover h c v ≤ named_by_cover h c v
-marks-le h c (Data host copied) = elim copied as (λ t. cond t (in_cluster h c host) 0 ≤ in_cluster h c host) [ true ↦ omega arith | false ↦ omega arith ]
-marks-le h c (Zero kept) = kept-marks h c kept
-marks-le h c (Compressed host sectors) = omega arith
-marks-le h c Uncovered = omega arith
+cover_marks-le : (h : HeaderFields) (c : ℕ) (v : L2Mapping) → marked_by_cover h c v ≤ named_by_cover h c v
+cover_marks-le h c (Data host copied) = elim copied as (λ t. cond t (in_cluster h c host) 0 ≤ in_cluster h c host) [ true ↦ omega arith | false ↦ omega arith ]
+cover_marks-le h c (Zero kept) = kept-marks h c kept
+cover_marks-le h c (Compressed host sectors) = omega arith
+cover_marks-le h c Uncovered = omega arith
+
+pub marks-le : (h : HeaderFields) (c : ℕ) (v : L2Mapping) → marked_by_guest h c v ≤ named_by_guest h c v
+marks-le h c v = elim (has_data_file h) as (λ t. cond t 0 (marked_by_cover h c v) ≤ cond t 0 (named_by_cover h c v)) [ true ↦ omega arith | false ↦ cover_marks-le h c v ]
 
 all_of : (t : Bool) (n : ℕ) → 0 < cond t n 0 → n ≤ cond t n 0
 all_of true n some = omega arith
@@ -80,11 +104,14 @@ kept-all : (h : HeaderFields) (c : ℕ) (k : Option (ℕ × Bool)) → 0 < marke
 kept-all h c None some = omega arith
 kept-all h c (Some k) some = all_of (k.1) (in_cluster h c k.0) some
 
-pub marks-all : (h : HeaderFields) (c : ℕ) (v : L2Mapping) → 0 < marked_by_cover h c v → named_by_cover h c v ≤ marked_by_cover h c v
-marks-all h c (Data host copied) some = all_of copied (in_cluster h c host) some
-marks-all h c (Zero kept) some = kept-all h c kept some
-marks-all h c (Compressed host sectors) some = absurd (omega arith)
-marks-all h c Uncovered some = absurd (omega arith)
+cover_marks-all : (h : HeaderFields) (c : ℕ) (v : L2Mapping) → 0 < marked_by_cover h c v → named_by_cover h c v ≤ marked_by_cover h c v
+cover_marks-all h c (Data host copied) some = all_of copied (in_cluster h c host) some
+cover_marks-all h c (Zero kept) some = kept-all h c kept some
+cover_marks-all h c (Compressed host sectors) some = absurd (omega arith)
+cover_marks-all h c Uncovered some = absurd (omega arith)
+
+pub marks-all : (h : HeaderFields) (c : ℕ) (v : L2Mapping) → 0 < marked_by_guest h c v → named_by_guest h c v ≤ marked_by_guest h c v
+marks-all h c v = elim (has_data_file h) as (λ t. 0 < cond t 0 (marked_by_cover h c v) → cond t 0 (named_by_cover h c v) ≤ cond t 0 (marked_by_cover h c v)) [ true ↦ λ some. omega arith | false ↦ cover_marks-all h c v ]
 
 pub l1_marks-le : (h : HeaderFields) (b : Bytes) (c : ℕ) → marked_by_l1_table h b c ≤ named_by_l1_table h b c
 unfolding marked_by_l1_table named_by_l1_table
@@ -96,23 +123,26 @@ l1_marks-le h b c = sum_below-le h.l1_entries _ _ (λ i lt. below (is_copied (l1
 
 -- ---- a cluster is named by tables and by guest clusters
 
-pub named-guests : (h : HeaderFields) (b : Bytes) (c : ℕ) → Sizes h → named_by_l2_tables h b c ≡ over_guests h (names h b c)
+pub named-guests : (h : HeaderFields) (b : Bytes) (c : ℕ) → Sizes h → has_data_file h ≡ false → named_by_l2_tables h b c ≡ over_guests h (names h b c)
 unfolding named_by_l2_tables named_by_l2_table over_guests
-named-guests h b c sizes =
+named-guests h b c sizes own_data =
     sum_below-same h.l1_entries _ _ (λ i lt. row i) ∙ sum_below-rows h.l1_entries (entries_per_cluster h) (names h b c)
   where
+    is : (v : L2Mapping) → named_by_guest h c v ≡ named_by_cover h c v
+    is v = cond-false {A = ℕ} _ _ _ own_data
+
     row : (i : ℕ) → cond (eqb (table_at h b i) 0) 0 (sum_below (entries_per_cluster h) (λ j. named_by_cover h c (entry_cover h (l2_entry b (table_at h b i) j))))
         ≡ sum_below (entries_per_cluster h) (λ j. names h b c (i * entries_per_cluster h + j))
     row i = elim (cases_eq (table_at h b i) 0) [
       | inl none ↦
           cond-true {A = ℕ} _ _ _ (eq-eqb (table_at h b i) 0 none)
           ∙ sym (sum_below-zero (entries_per_cluster h) (λ j. names h b c (i * entries_per_cluster h + j)) (λ j lt.
-          ap (named_by_cover h c) (cover_none h b (i * entries_per_cluster h + j) (ap (table_at h b) (div-mul-add i (entries_per_cluster h) j lt) ∙ none))))
+          ap (named_by_guest h c) (cover_none h b (i * entries_per_cluster h + j) (ap (table_at h b) (div-mul-add i (entries_per_cluster h) j lt) ∙ none)) ∙ uncovered_names h c))
       | inr real ↦
           cond-false {A = ℕ} _ _ _ (ne_eqb (table_at h b i) 0 real)
-          ∙ sum_below-same (entries_per_cluster h) _ _ (λ j lt. ap (named_by_cover h c) (sym (cover_at h b i j sizes real lt)))
+          ∙ sum_below-same (entries_per_cluster h) _ _ (λ j lt. sym (ap (named_by_guest h c) (cover_at h b i j sizes real lt) ∙ is _))
     ]
 
-pub named-is : (h : HeaderFields) (b : Bytes) (c : ℕ) → Sizes h → named h b c ≡ named_for_tables h b c + over_guests h (names h b c)
+pub named-is : (h : HeaderFields) (b : Bytes) (c : ℕ) → Sizes h → has_data_file h ≡ false → named h b c ≡ named_for_tables h b c + over_guests h (names h b c)
 unfolding named
-named-is h b c sizes = let e = named-guests h b c sizes in omega arith
+named-is h b c sizes own_data = let e = named-guests h b c sizes own_data in omega arith

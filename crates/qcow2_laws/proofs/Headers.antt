@@ -155,7 +155,6 @@ module _ (h : HeaderFields) (size autoclear : ℕ) (d : Direction) (p : Pending)
     l1_reads = λ i lt. subst L1EntryReads (resized_l1 i) (crash_invariant.top.l1_reads i lt);
     reftable_reads = λ k lt. subst ReftableEntryReads (resized_reftable k) (crash_invariant.top.reftable_reads k lt);
     no_snapshots = crash_invariant.top.no_snapshots;
-    no_data_file = crash_invariant.top.no_data_file;
     l1_aligned = crash_invariant.top.l1_aligned;
     reftable_aligned = crash_invariant.top.reftable_aligned;
     l2_tables_aligned = λ i lt. subst (λ e. IsAligned h (host_offset e)) (resized_l1 i) (crash_invariant.top.l2_tables_aligned i lt);

@@ -7,13 +7,15 @@ use Rattle.qcow2_metadata.specs.Bytes.{Bytes, byte_at}
 use Rattle.qcow2_metadata.specs.Header.{cluster_size}
 use Rattle.qcow2_metadata.specs.Cover.{cover}
 use Rattle.qcow2_metadata.specs.Guest.{Value, known_byte, value_under}
-use Rattle.qcow2_metadata.specs.Named.{in_cluster, named_by_cover}
+use Rattle.qcow2_metadata.specs.Named.{in_cluster}
+use Rattle.qcow2_laws.proofs.Guests.{own_names, own_marks, own_data_of}
+use Rattle.qcow2_laws.specs.Guests.{named_by_guest}
 use Rattle.qcow2_metadata.specs.Consistent.{CoverIsAligned}
 use Rattle.qcow2_metadata.specs.declared.l2_mapping.L2Mapping.TheVariants.{Data, Zero}
 use Rattle.qcow2_disk.specs.Disk.{disk}
 use Rattle.qcow2_disk.specs.Stops.{IsGiven}
 use Rattle.qcow2_disk.specs.Mappings.{given_of}
-use Rattle.qcow2_laws.specs.Guests.{names, named_in_either}
+use Rattle.qcow2_laws.specs.Guests.{names, marks, marked_by_guest, named_in_either}
 use Rattle.qcow2_laws.specs.CrashInvariant.{Pending}
 use Rattle.qcow2_laws.specs.Tops.{WritesAt}
 use Rattle.qcow2_laws.specs.SafeSteps.{DriverState, StateInvariant, SafeStep}
@@ -29,12 +31,12 @@ use Rattle.qcow2_laws.proofs.Shown.{shown_zero}
 use Rattle.qcow2_laws.proofs.PutRuns.{run_written, given_has}
 use Rattle.qcow2_laws.proofs.MappedAnew.{Maps, pending_after, entry_unseen, entry_maps}
 
-module _ (s : DriverState) (sound : StateInvariant s) (g host : ℕ) (is : cover s.header s.known g ≡ Zero (Some (host, true))) where
+module _ (s : DriverState) (sound : StateInvariant s) (inside : s.header.incompatible ≡ 0) (g host : ℕ) (is : cover s.header s.known g ≡ Zero (Some (host, true))) where
   pub kept_aligned : host % cluster_size s.header ≡ 0
   kept_aligned = subst (CoverIsAligned s.header) is (sound.known_aligned g)
 
   kept_names : (c : ℕ) → names s.header s.known c g ≡ in_cluster s.header c host
-  kept_names c = ap (named_by_cover s.header c) is
+  kept_names c = ap (named_by_guest s.header c) is ∙ own_names s.header c (Zero (Some (host, true))) (own_data_of s.header inside)
 
   -- its bytes are used, and no table is laid over them
   pub kept_unlaid : (k : ℕ) → k < cluster_size s.header → s.on_storage (host + k) ≡ s.known (host + k)
@@ -48,7 +50,7 @@ module _ (s : DriverState) (sound : StateInvariant s) (g host : ℕ) (is : cover
       subst (λ n. 0 < named_in_either s.header s.on_storage s.known n + s.pending.new_data n) (sym here) (omega arith))
 
 -- ---- bytes are written into it
-module _ (s : DriverState) (on_storage' known' : Bytes) (sound : StateInvariant s) (g host at : ℕ) (bytes : List ℕ) (is : cover s.header s.known g ≡ Zero (Some (host, true))) (fits : at + length bytes ≤ cluster_size s.header)
+module _ (s : DriverState) (on_storage' known' : Bytes) (sound : StateInvariant s) (inside : s.header.incompatible ≡ 0) (g host at : ℕ) (bytes : List ℕ) (is : cover s.header s.known g ≡ Zero (Some (host, true))) (fits : at + length bytes ≤ cluster_size s.header)
     (writes : WritesAt (host + at) (length bytes) s.on_storage s.known on_storage' known') (there : (i : ℕ) → i < length bytes → on_storage' (host + at + i) ≡ byte_at bytes i) where
   kept_there : (i : ℕ) → i < length bytes → IsHostedAt s Kept (g * cluster_size s.header + at + i) (host + at + i)
   kept_there i lt =
@@ -59,7 +61,7 @@ module _ (s : DriverState) (on_storage' known' : Bytes) (sound : StateInvariant 
 
   pub kept_written : WritesRun (λ _. Kept) (g * cluster_size s.header + at) (host + at) bytes (given_of (g * cluster_size s.header + at) bytes ∷ []) s (record s { on_storage = on_storage'; known = known' })
   kept_written =
-      run_written s on_storage' known' (λ _. Kept) (g * cluster_size s.header + at) (host + at) bytes (given_of (g * cluster_size s.header + at) bytes ∷ []) sound kept_there (given_has (g * cluster_size s.header + at) bytes) writes there
+      run_written s on_storage' known' (λ _. Kept) (g * cluster_size s.header + at) (host + at) bytes (given_of (g * cluster_size s.header + at) bytes ∷ []) sound inside kept_there (given_has (g * cluster_size s.header + at) bytes) writes there
 
   -- zeros are what is shown there
   zeros_shown : ((i : ℕ) → i < length bytes → byte_at bytes i ≡ 0) → (backing : Bytes) (o : ℕ) (v : Value) → IsGiven (given_of (g * cluster_size s.header + at) bytes ∷ []) o v
@@ -75,16 +77,16 @@ module _ (s : DriverState) (on_storage' known' : Bytes) (sound : StateInvariant 
 
 pub kept_cluster_is_written : KeptClusterIsWritten
 kept_cluster_is_written = record {
-  bytes = λ s on_storage' known' g host at bytes sound is fits writes there.
-      let w = kept_written s on_storage' known' sound g host at bytes is fits writes there in (w.safe_step, w.shows);
-  zeros = λ s on_storage' known' g host at bytes sound is fits writes there zeros. kept_zeroed s on_storage' known' sound g host at bytes is fits writes there zeros;
+  bytes = λ s on_storage' known' g host at bytes sound inside is fits writes there.
+      let w = kept_written s on_storage' known' sound inside g host at bytes is fits writes there in (w.safe_step, w.shows);
+  zeros = λ s on_storage' known' g host at bytes sound inside is fits writes there zeros. kept_zeroed s on_storage' known' sound inside g host at bytes is fits writes there zeros;
 }
 
 -- ---- it becomes data
-module _ (s : DriverState) (known' : Bytes) (i j host : ℕ) (sound : StateInvariant s) (changes : EntryChanges s known' i j)
+module _ (s : DriverState) (known' : Bytes) (i j host : ℕ) (sound : StateInvariant s) (inside : s.header.incompatible ≡ 0) (changes : EntryChanges s known' i j)
     (was : cover s.header s.known (guest_at s.header i j) ≡ Zero (Some (host, true))) (is : cover s.header known' (guest_at s.header i j) ≡ Data host true) where
   same_names : (c : ℕ) → names s.header known' c (guest_at s.header i j) ≡ names s.header s.known c (guest_at s.header i j)
-  same_names c = ap (named_by_cover s.header c) is ∙ sym (ap (named_by_cover s.header c) was)
+  same_names c = ap (named_by_guest s.header c) is ∙ sym (ap (named_by_guest s.header c) was)
 
   pub kept_pending : pending_after s known' (guest_at s.header i j) ≡ s.pending
   kept_pending =
@@ -94,18 +96,18 @@ module _ (s : DriverState) (known' : Bytes) (i j host : ℕ) (sound : StateInvar
 
   host_bytes : (k : ℕ) → k < cluster_size s.header → known' (host + k) ≡ s.on_storage (host + k)
   host_bytes k lt =
-      let here = in_one (cluster_size s.header) host k (kept_aligned s sound (guest_at s.header i j) host was) lt in
-      let named = kept_names s sound (guest_at s.header i j) host was (host / cluster_size s.header) in
+      let here = in_one (cluster_size s.header) host k (kept_aligned s sound inside (guest_at s.header i j) host was) lt in
+      let named = kept_names s sound inside (guest_at s.header i j) host was (host / cluster_size s.header) in
       let own = in_own s.header host in
       let some = named_some s s sound (host / cluster_size s.header) (guest_at s.header i j) (omega arith) in
       let used : 0 < used_by_guests s ((host + k) / cluster_size s.header) = subst (λ n. 0 < used_by_guests s n) (sym here) (omega arith) in
-      (entry_unseen s known' i j sound changes s.pending).bytes (host + k) used ∙ sym (kept_unlaid s sound (guest_at s.header i j) host was k lt)
+      (entry_unseen s known' i j sound changes s.pending).bytes (host + k) used ∙ sym (kept_unlaid s sound inside (guest_at s.header i j) host was k lt)
 
   pub kept_committed : Maps (guest_at s.header i j) s (record s { known = known' }) (λ backing o. known_byte (s.on_storage (host + o % cluster_size s.header)))
   kept_committed =
       subst (λ (p : Pending). Maps (guest_at s.header i j) s (record s { pending = p; known = known' }) (λ backing o. known_byte (s.on_storage (host + o % cluster_size s.header)))) kept_pending
-      (entry_maps s known' i j sound changes (λ backing o. known_byte (s.on_storage (host + o % cluster_size s.header))) (λ backing o here.
+      (entry_maps s known' i j sound changes inside (λ backing o. known_byte (s.on_storage (host + o % cluster_size s.header))) (λ backing o here.
       ap (value_under s.header known' known' backing o) is ∙ ap known_byte (host_bytes (o % cluster_size s.header) (mod_below o (cluster_size s.header) (pow_pos s.header.cluster_bits)))))
 
 pub kept_cluster_is_committed : KeptClusterIsCommitted
-kept_cluster_is_committed s known' i j host sound changes was is = let m = kept_committed s known' i j host sound changes was is in (m.safe_step, m.shows)
+kept_cluster_is_committed s known' i j host sound inside changes was is = let m = kept_committed s known' i j host sound inside changes was is in (m.safe_step, m.shows)

@@ -5,7 +5,7 @@ use Rattle.qcow2_metadata.specs.Bytes.{Bytes}
 use Rattle.qcow2_metadata.specs.declared.header.HeaderFields.{HeaderFields}
 use Rattle.qcow2_metadata.specs.Header.{cluster_size}
 use Rattle.qcow2_metadata.specs.Tables.{CachedTable, known, overlays}
-use Rattle.qcow2_metadata.specs.Named.{named_by_cover}
+use Rattle.qcow2_laws.specs.Guests.{named_by_guest}
 use Rattle.qcow2_laws.specs.Clusters.{Direction}
 use Rattle.qcow2_laws.specs.Guests.{names}
 use Rattle.qcow2_laws.specs.CrashInvariant.{Pending, CrashInvariant, SameCovers}
@@ -45,7 +45,7 @@ refblock_changed h d d' p p' l2s front back t t' on_storage kept aligned stands 
           no_entry =
               let same = over_guests-same h (λ g. max (names h on_storage c g) (names h (known_bytes (cluster_size h) l2s (front ++ t ∷ back) on_storage) c g))
               (λ g. max (names h on_storage c g) (names h (known_bytes (cluster_size h) l2s (front ++ t' ∷ back) on_storage) c g))
-              (λ g. ap (λ v. max (names h on_storage c g) (named_by_cover h c v)) (covers g)) in
+              (λ g. ap (λ v. max (names h on_storage c g) (named_by_guest h c v)) (covers g)) in
               sym same ∙ unnamed.no_entry;
         }))
       ]

@@ -7,7 +7,8 @@ use Rattle.qcow2_metadata.specs.declared.header.HeaderFields.{HeaderFields}
 use Rattle.qcow2_metadata.specs.Header.{cluster_size, entries_per_cluster}
 use Rattle.qcow2_metadata.specs.Entries.{l1_entry, reftable_entry, count, count_under, host_offset, block_offset, is_copied, L1EntryReads, ReftableEntryReads}
 use Rattle.qcow2_metadata.specs.Cover.{cover, cover_under}
-use Rattle.qcow2_metadata.specs.Named.{in_run, table_in, named_for_tables, named_by_reftable, named_by_l1_table, named_by_cover}
+use Rattle.qcow2_metadata.specs.Named.{in_run, table_in, named_for_tables, named_by_reftable, named_by_l1_table}
+use Rattle.qcow2_laws.specs.Guests.{named_by_guest}
 use Rattle.qcow2_metadata.specs.Consistent.{IsAligned}
 use Rattle.qcow2_disk.specs.Disk.{disk, disk_with}
 use Rattle.qcow2_disk.specs.Stops.{Checkpoint, StopOkEverywhere}
@@ -21,7 +22,7 @@ use Rattle.qcow2_laws.proofs.Sums.{sum_below-same, sum_below-longer}
 use Rattle.qcow2_laws.proofs.Places.{Sizes-from, l1-same, l1_entry-past}
 use Rattle.qcow2_laws.proofs.Writes.{new_tables_is_unnamed}
 use Rattle.qcow2_laws.proofs.Shares.{shares, in_l1, in_run-le, l1_has}
-use Rattle.qcow2_laws.proofs.Guests.{guest_le, names_within}
+use Rattle.qcow2_laws.proofs.Guests.{uncovered_names, guest_le, names_within}
 use Rattle.qcow2_laws.proofs.Tops.{IsTop-top}
 use Rattle.qcow2_laws.proofs.Mixes.{tied}
 use Rattle.qcow2_laws.proofs.Values.{value_is, size_is}
@@ -78,7 +79,6 @@ module _ (h : HeaderFields) (offset entries : ℕ) (d : Direction) (p : Pending)
     l1_reads = λ i lt. each_l1 L1EntryReads zero_reads crash_invariant.top.l1_reads i;
     reftable_reads = λ k lt. subst ReftableEntryReads (now_reftable k) (crash_invariant.top.reftable_reads k lt);
     no_snapshots = crash_invariant.top.no_snapshots;
-    no_data_file = crash_invariant.top.no_data_file;
     l1_aligned = new.aligned;
     reftable_aligned = crash_invariant.top.reftable_aligned;
     l2_tables_aligned = λ i lt. each_l1 (λ e. IsAligned h (host_offset e)) zero_aligned crash_invariant.top.l2_tables_aligned i;
@@ -173,18 +173,18 @@ module _ (h : HeaderFields) (offset entries : ℕ) (d : Direction) (p : Pending)
   used_same : (c : ℕ) → over_guests (with_places h (with_l1_at h offset entries)) (names (with_places h (with_l1_at h offset entries)) known' c) ≡ over_guests h (names h known c)
   used_same c =
       sym (known_sum h (with_l1_at h offset entries) d p (renamed p (λ k. in_run h k offset (8 * entries)) (in_l1 h)) on_storage known on_storage' known' crash_invariant
-      top_now same_top_now new.longer covers known_covers not_overlaid (named_by_cover h c) refl)
+      top_now same_top_now new.longer covers known_covers not_overlaid (named_by_guest h c) (uncovered_names h c))
 
-  disk_same : (backing : Bytes) → disk known' backing ≡ disk known backing
+  disk_same : h.incompatible ≡ 0 → (backing : Bytes) → disk known' backing ≡ disk known backing
   unfolding disk_with
-  disk_same backing =
+  disk_same inside backing =
       let was = (IsTop-top h on_storage known crash_invariant.same_top crash_invariant.top).header_is in
       let is = (IsTop-top (with_places h (with_l1_at h offset entries)) on_storage' known' same_top_now top_now).header_is in
       let size : (disk known' backing).size ≡ (disk known backing).size = size_is (with_places h (with_l1_at h offset entries)) known' backing is ∙ sym (size_is h known backing was) in
       let value : (disk known' backing).value ≡ (disk known backing).value = fun_ext (λ o.
       value_is (with_places h (with_l1_at h offset entries)) known' backing o is
       ∙ sym (same_value h (with_l1_at h offset entries) d p (renamed p (λ k. in_run h k offset (8 * entries)) (in_l1 h)) on_storage known on_storage' known' crash_invariant
-      top_now same_top_now new.longer covers known_covers not_overlaid known known' backing known_covers crash_invariant.known_aligned (λ g place some.
+      top_now same_top_now new.longer covers known_covers not_overlaid inside known known' backing known_covers crash_invariant.known_aligned (λ g place some.
       sym (bytes_stay place (let t = (tied h p on_storage known (place / cluster_size h)).known in let n = named_once place g some in omega arith))) o)
       ∙ sym (value_is h known backing o was)) in
       λ j. record { size = size j; value = value j }

@@ -7,6 +7,7 @@ pub mod Tops
 pub mod Mixes
 pub mod Consistency
 pub mod Opened
+pub mod OpenedBeside
 pub mod Values
 pub mod Changes
 pub mod Shares
@@ -36,3 +37,4 @@ pub mod PutRuns
 pub mod MappedAnew
 pub mod MappedRanges
 pub mod KeptClusters
+pub mod BesideDisks

@@ -8,7 +8,8 @@ use Rattle.qcow2_metadata.specs.Bytes.{Bytes}
 use Rattle.qcow2_metadata.specs.Header.{header, cluster_size}
 use Rattle.qcow2_metadata.specs.Cover.{cover}
 use Rattle.qcow2_metadata.specs.Guest.{Value, known_byte, value_under}
-use Rattle.qcow2_metadata.specs.Named.{in_cluster, named_by_cover, named_for_tables}
+use Rattle.qcow2_metadata.specs.Named.{in_cluster, named_for_tables}
+use Rattle.qcow2_laws.specs.Guests.{named_by_guest}
 use Rattle.qcow2_metadata.specs.Consistent.{CoverIsAligned}
 use Rattle.qcow2_metadata.specs.declared.l2_mapping.L2Mapping.TheVariants.{Data, Zero, Uncovered}
 use Rattle.qcow2_disk.specs.Disk.{disk}
@@ -20,6 +21,7 @@ use Rattle.qcow2_laws.specs.SafeSteps.{DriverState, StateInvariant, SafeStep}
 use Rattle.qcow2_laws.specs.Steps.{guest_at, EntryChanges}
 use Rattle.qcow2_laws.specs.Unseen.{IsMappedAnew, with_cluster}
 use Rattle.qcow2_laws.proofs.Places.{in_one}
+use Rattle.qcow2_laws.proofs.Guests.{own_names, own_data_of, uncovered_names, over_guests-change}
 use Rattle.qcow2_laws.proofs.Tops.{for_tables-top, IsTop-top}
 use Rattle.qcow2_laws.proofs.Mixes.{tied}
 use Rattle.qcow2_laws.proofs.Values.{value_is}
@@ -76,7 +78,7 @@ module _ (s : DriverState) (known' : Bytes) (i j : ℕ) (sound : StateInvariant 
       inr (inl (inside.0, inside.1, sym (value_is s.header known' backing o new_header) ∙ ap (disk known' backing).value (sym inside.2))))
 
   -- it shows what its new cover gives
-  module _ (values : Bytes → ℕ → Value)
+  module _ (inside : s.header.incompatible ≡ 0) (values : Bytes → ℕ → Value)
       (are : (backing : Bytes) (o : ℕ) → o / cluster_size s.header ≡ guest_at s.header i j → value_under s.header known' known' backing o (cover s.header known' (guest_at s.header i j)) ≡ values backing o) where
     value_now : (backing : Bytes) (o : ℕ)
         → (disk known' backing).value o ≡ cond (eqb (o / cluster_size s.header) (guest_at s.header i j)) (values backing o) ((disk s.known backing).value o)
@@ -89,7 +91,7 @@ module _ (s : DriverState) (known' : Bytes) (i j : ℕ) (sound : StateInvariant 
               ∙ sym (cond-true _ _ _ (eq-eqb _ _ here))
           | inr other ↦
               let unseen = entry_unseen (pending_after s known' (guest_at s.header i j)) in
-              value_stays s new sound safe_step_on.sound refl backing o (unseen.covers (o / cluster_size s.header) other) (λ place some.
+              value_stays s new sound inside safe_step_on.sound refl backing o (unseen.covers (o / cluster_size s.header) other) (λ place some.
               unseen.bytes place (let named = named_some s new sound (place / cluster_size s.header) (o / cluster_size s.header) some in omega arith))
               ∙ sym (cond-false _ _ _ (ne_eqb _ _ other))
         ]
@@ -101,20 +103,20 @@ module _ (s : DriverState) (known' : Bytes) (i j : ℕ) (sound : StateInvariant 
       shows = λ backing.
           let new : DriverState = record s { pending = pending_after s known' (guest_at s.header i j); known = known' } in
           let value : (disk known' backing).value ≡ (with_cluster (cluster_size s.header) (disk s.known backing) (guest_at s.header i j) (values backing)).value = fun_ext (λ o. value_now backing o) in
-          λ k. record { size = size_stays s new sound safe_step_on.sound refl backing k; value = value k };
+          λ k. record { size = size_stays s new sound inside safe_step_on.sound refl backing k; value = value k };
     }
 
   -- ---- as zeros, or as nothing
-  pub entry_zeroed : (kept : Option (ℕ × Bool)) → cover s.header known' (guest_at s.header i j) ≡ Zero kept
+  pub entry_zeroed : s.header.incompatible ≡ 0 → (kept : Option (ℕ × Bool)) → cover s.header known' (guest_at s.header i j) ≡ Zero kept
       → Maps (guest_at s.header i j) s (record s { pending = pending_after s known' (guest_at s.header i j); known = known' }) (λ backing o. known_byte 0)
-  entry_zeroed kept is = entry_maps (λ backing o. known_byte 0) (λ backing o here. ap (value_under s.header known' known' backing o) is)
+  entry_zeroed inside kept is = entry_maps inside (λ backing o. known_byte 0) (λ backing o here. ap (value_under s.header known' known' backing o) is)
 
-  pub entry_uncovered : cover s.header known' (guest_at s.header i j) ≡ Uncovered
+  pub entry_uncovered : s.header.incompatible ≡ 0 → cover s.header known' (guest_at s.header i j) ≡ Uncovered
       → Maps (guest_at s.header i j) s (record s { pending = pending_after s known' (guest_at s.header i j); known = known' }) (λ backing o. known_byte (backing o))
-  entry_uncovered is = entry_maps (λ backing o. known_byte (backing o)) (λ backing o here. ap (value_under s.header known' known' backing o) is)
+  entry_uncovered inside is = entry_maps inside (λ backing o. known_byte (backing o)) (λ backing o here. ap (value_under s.header known' known' backing o) is)
 
   -- ---- as data of a host cluster that is held
-  module _ (host : ℕ) (is : cover s.header known' (guest_at s.header i j) ≡ Data host true) (some : 0 < s.pending.new_data (host / cluster_size s.header)) where
+  module _ (inside : s.header.incompatible ≡ 0) (host : ℕ) (is : cover s.header known' (guest_at s.header i j) ≡ Data host true) (some : 0 < s.pending.new_data (host / cluster_size s.header)) where
     aligned : host % cluster_size s.header ≡ 0
     aligned = subst (CoverIsAligned s.header) is changes.aligned
 
@@ -127,7 +129,7 @@ module _ (s : DriverState) (known' : Bytes) (i j : ℕ) (sound : StateInvariant 
 
     pub private_committed : Maps (guest_at s.header i j) s (record s { pending = pending_after s known' (guest_at s.header i j); known = known' })
         (λ backing o. known_byte (s.on_storage (host + o % cluster_size s.header)))
-    private_committed = entry_maps (λ backing o. known_byte (s.on_storage (host + o % cluster_size s.header))) (λ backing o here.
+    private_committed = entry_maps inside (λ backing o. known_byte (s.on_storage (host + o % cluster_size s.header))) (λ backing o here.
         ap (value_under s.header known' known' backing o) is ∙ ap known_byte (host_bytes (o % cluster_size s.header) (mod_below o (cluster_size s.header) (pow_pos s.header.cluster_bits))))
 
     -- what the guest cluster named before isn't the new host cluster
@@ -147,7 +149,7 @@ module _ (s : DriverState) (known' : Bytes) (i j : ℕ) (sound : StateInvariant 
     ]
 
     names_new : (c : ℕ) → names s.header known' c (guest_at s.header i j) ≡ in_cluster s.header c host
-    names_new c = ap (named_by_cover s.header c) is
+    names_new c = ap (named_by_guest s.header c) is ∙ own_names s.header c (Data host true) (own_data_of s.header inside)
 
     -- what of it is pending then
     pub committed_new_data : (c : ℕ) → (pending_after s known' (guest_at s.header i j)).new_data c ≡ s.pending.new_data c - in_cluster s.header c host

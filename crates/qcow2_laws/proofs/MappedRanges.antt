@@ -4,9 +4,10 @@ use mathlib.Core.Path.{fun_ext}
 use Rattle.std.proofs.lemmas.Bool.{cases_lt, cond-true, cond-false, eq-eqb, ne_eqb}
 use Rattle.std.proofs.lemmas.Nat.{div-add-mod', div-mul-add, mod_below, pow_pos}
 use Rattle.qcow2_metadata.specs.Bytes.{Bytes, laid_over}
+use Rattle.qcow2_metadata.specs.declared.header.HeaderFields.{HeaderFields}
 use Rattle.qcow2_metadata.specs.Header.{cluster_size}
 use Rattle.qcow2_metadata.specs.Cover.{cover}
-use Rattle.qcow2_metadata.specs.Named.{named_by_cover}
+use Rattle.qcow2_laws.specs.Guests.{named_by_guest}
 use Rattle.qcow2_metadata.specs.Guest.{Value, known_byte}
 use Rattle.qcow2_metadata.specs.declared.l2_mapping.L2Mapping.{L2Mapping}
 use Rattle.qcow2_metadata.specs.declared.l2_mapping.L2Mapping.TheVariants.{Data, Zero, Compressed, Uncovered}
@@ -159,37 +160,37 @@ entry_used : (s : DriverState) (known' : Bytes) (i j : ℕ) (c : ℕ) → StateI
 entry_used s known' i j c sound changes =
     let others = (entry_unseen s known' i j sound changes s.pending).covers in
     let in_guests = guest_within s.header s.direction s.pending s.on_storage s.known known' sound i j changes.real changes.within changes.outside changes.entries in
-    let sum = over_guests-change s.header (names s.header known' c) (names s.header s.known c) (guest_at s.header i j) in_guests (λ g ne. ap (named_by_cover s.header c) (sym (others g ne))) in
+    let sum = over_guests-change s.header (names s.header known' c) (names s.header s.known c) (guest_at s.header i j) in_guests (λ g ne. ap (named_by_guest s.header c) (sym (others g ne))) in
     let new_data = changes.new_data c in
     omega (arith, sum, new_data)
 
 module _ (kind : L2Mapping → Type 0) (values : Bytes → ℕ → Value) (first : ℕ)
-    (are : (s : DriverState) (known' : Bytes) (i j : ℕ) → StateInvariant s → EntryChanges s known' i j → kind (cover s.header known' (guest_at s.header i j))
+    (are : (s : DriverState) (known' : Bytes) (i j : ℕ) → StateInvariant s → s.header.incompatible ≡ 0 → EntryChanges s known' i j → kind (cover s.header known' (guest_at s.header i j))
     → Maps (guest_at s.header i j) s (record s { pending = pending_after s known' (guest_at s.header i j); known = known' }) values) where
-  entry_then : (n : ℕ) (a b c : DriverState) → MapsRange first n a b values → MapsEntry kind (first + n) b c → MapsRange first (suc n) a c values
-  entry_then n a b c one entry =
+  entry_then : (n : ℕ) (a b c : DriverState) → a.header.incompatible ≡ 0 → MapsRange first n a b values → MapsEntry kind (first + n) b c → MapsRange first (suc n) a c values
+  entry_then n a b c inside one entry =
       subst (λ c. MapsRange first (suc n) a c values) (sym entry.is)
       (maps_next first n a b _ values one (subst (λ g. Maps g b (record b { pending = pending_after b entry.known (guest_at b.header entry.row entry.column); known = entry.known }) values) entry.here
-      (are b entry.known entry.row entry.column one.safe_step.sound entry.changes entry.maps))
+      (are b entry.known entry.row entry.column one.safe_step.sound (ap (λ (h : HeaderFields). h.incompatible) one.header ∙ inside) entry.changes entry.maps))
       (λ k some. let le = entry_used b entry.known entry.row entry.column k one.safe_step.sound entry.changes in omega arith))
 
-  pub maps_in_turn : (n : ℕ) (s new : DriverState) → StateInvariant s → MapsInTurn kind first n s new → MapsRange first n s new values
-  maps_in_turn zero s new sound same = subst (λ (b : DriverState). MapsRange first 0 s b values) (sym same) (maps_none s first values sound)
-  maps_in_turn (suc n) s new sound turn = entry_then n s turn.0 new (maps_in_turn n s turn.0 sound turn.1) turn.2
+  pub maps_in_turn : (n : ℕ) (s new : DriverState) → StateInvariant s → s.header.incompatible ≡ 0 → MapsInTurn kind first n s new → MapsRange first n s new values
+  maps_in_turn zero s new sound inside same = subst (λ (b : DriverState). MapsRange first 0 s b values) (sym same) (maps_none s first values sound)
+  maps_in_turn (suc n) s new sound inside turn = entry_then n s turn.0 new inside (maps_in_turn n s turn.0 sound inside turn.1) turn.2
 
-zeros_map : (s : DriverState) (known' : Bytes) (i j : ℕ) → StateInvariant s → EntryChanges s known' i j → (v : L2Mapping) → cover s.header known' (guest_at s.header i j) ≡ v → IsZeros v
+zeros_map : (s : DriverState) (known' : Bytes) (i j : ℕ) → StateInvariant s → s.header.incompatible ≡ 0 → EntryChanges s known' i j → (v : L2Mapping) → cover s.header known' (guest_at s.header i j) ≡ v → IsZeros v
     → Maps (guest_at s.header i j) s (record s { pending = pending_after s known' (guest_at s.header i j); known = known' }) (λ backing o. known_byte 0)
-zeros_map s known' i j sound changes (Zero kept) is zeros = entry_zeroed s known' i j sound changes kept is
-zeros_map s known' i j sound changes (Data host copied) is zeros = absurd zeros
-zeros_map s known' i j sound changes (Compressed host sectors) is zeros = absurd zeros
-zeros_map s known' i j sound changes Uncovered is zeros = absurd zeros
+zeros_map s known' i j sound inside changes (Zero kept) is zeros = entry_zeroed s known' i j sound changes inside kept is
+zeros_map s known' i j sound inside changes (Data host copied) is zeros = absurd zeros
+zeros_map s known' i j sound inside changes (Compressed host sectors) is zeros = absurd zeros
+zeros_map s known' i j sound inside changes Uncovered is zeros = absurd zeros
 
 pub clusters_in_turn_are_a_range : ClustersInTurnAreARange
 clusters_in_turn_are_a_range = record {
-  zeroed = λ s new first n sound turn.
-      let r = maps_in_turn IsZeros (λ backing o. known_byte 0) first (λ s known' i j sound changes zeros. zeros_map s known' i j sound changes _ refl zeros) n s new sound turn in
+  zeroed = λ s new first n sound inside turn.
+      let r = maps_in_turn IsZeros (λ backing o. known_byte 0) first (λ s known' i j sound inside changes zeros. zeros_map s known' i j sound inside changes _ refl zeros) n s new sound inside turn in
       record { safe_step = r.safe_step; shows = r.shows };
-  uncovered = λ s new first n sound turn.
-      let r = maps_in_turn (λ v. v ≡ Uncovered) (λ backing o. known_byte (backing o)) first (λ s known' i j sound changes none. entry_uncovered s known' i j sound changes none) n s new sound turn in
+  uncovered = λ s new first n sound inside turn.
+      let r = maps_in_turn (λ v. v ≡ Uncovered) (λ backing o. known_byte (backing o)) first (λ s known' i j sound inside changes none. entry_uncovered s known' i j sound changes inside none) n s new sound inside turn in
       record { safe_step = r.safe_step; shows = r.shows };
 }

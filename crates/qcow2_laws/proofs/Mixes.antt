@@ -5,11 +5,11 @@ use Rattle.qcow2_metadata.specs.declared.header.HeaderFields.{HeaderFields}
 use Rattle.qcow2_metadata.specs.Header.{cluster_size, entries_per_cluster, counts_per_block}
 use Rattle.qcow2_metadata.specs.Entries.{reftable_entry, count, host_offset, block_offset}
 use Rattle.qcow2_metadata.specs.Cover.{cover}
-use Rattle.qcow2_metadata.specs.Named.{named_by_cover}
+use Rattle.qcow2_laws.specs.Guests.{named_by_guest}
 use Rattle.qcow2_metadata.specs.Consistent.{CoverIsAligned}
 use Rattle.qcow2_metadata.specs.declared.l2_mapping.L2Mapping.{L2Mapping}
 use Rattle.qcow2_laws.specs.Clusters.{Direction, Neither, L2DependsOnRb, RbDependsOnL2}
-use Rattle.qcow2_laws.specs.Guests.{over_guests, names, marks, marked_by_cover, named_in_either, table_at}
+use Rattle.qcow2_laws.specs.Guests.{over_guests, names, marks, marked_by_guest, named_in_either, table_at}
 use Rattle.qcow2_laws.specs.CrashInvariant.{IsTop, SameTop, Pending, cluster, CrashInvariant, IsPartly, SameCovers, IsInOrder, IsMixed, MayTurn}
 use Rattle.qcow2_laws.proofs.Clusters.{Tied, Good, Nearer, InOrder, mix, turn_from_free, turn_to_l2, turn_to_rb, turn_free, turn_free_too}
 use Rattle.qcow2_laws.proofs.Places.{Sizes, Sizes-from, SameFrom-in, SameFrom-sym, l1-same, reftable-same, has_table, has_block, count-same, cover-same}
@@ -107,10 +107,10 @@ module _ (h : HeaderFields) (d : Direction) (p : Pending) (on_storage known b : 
   nearer : (c : ℕ) → Nearer (cluster h p on_storage known c) (over_guests h (names h b c)) (named_in_either h b known c)
       (over_guests h (marks h b c)) (over_guests h (λ g. max (marks h b c g) (marks h known c g))) (count h b c)
   nearer c = record {
-    in_storage = over_guests-le h _ _ (λ g. one_of (named_by_cover h c) _ _ _ (pick g));
-    in_either = over_guests-le h _ _ (λ g. two_of (named_by_cover h c) _ _ _ (pick g));
-    marks_in_storage = over_guests-le h _ _ (λ g. one_of (marked_by_cover h c) _ _ _ (pick g));
-    marks_either = over_guests-le h _ _ (λ g. two_of (marked_by_cover h c) _ _ _ (pick g));
+    in_storage = over_guests-le h _ _ (λ g. one_of (named_by_guest h c) _ _ _ (pick g));
+    in_either = over_guests-le h _ _ (λ g. two_of (named_by_guest h c) _ _ _ (pick g));
+    marks_in_storage = over_guests-le h _ _ (λ g. one_of (marked_by_guest h c) _ _ _ (pick g));
+    marks_either = over_guests-le h _ _ (λ g. two_of (marked_by_guest h c) _ _ _ (pick g));
     count = either_count h on_storage known b crash_invariant.top crash_invariant.same_top mixed.partly c;
   }
 
@@ -118,12 +118,12 @@ module _ (h : HeaderFields) (d : Direction) (p : Pending) (on_storage known b : 
       (over_guests h (marks h b c)) (over_guests h (λ g. max (marks h b c g) (marks h known c g))) (count h b c)
   in_order Neither o c = tt
   in_order L2DependsOnRb o c = elim o [
-    | inl same ↦ inl (as_on_storage h on_storage b same (named_by_cover h c), as_on_storage h on_storage b same (marked_by_cover h c))
+    | inl same ↦ inl (as_on_storage h on_storage b same (named_by_guest h c), as_on_storage h on_storage b same (marked_by_guest h c))
     | inr same ↦ inr (sym (same c))
   ]
   in_order RbDependsOnL2 o c = elim o [
     | inl same ↦ inl (sym (same c))
-    | inr same ↦ inr (as_known h known b same (named_by_cover h c), as_known h known b same (marked_by_cover h c))
+    | inr same ↦ inr (as_known h known b same (named_by_guest h c), as_known h known b same (marked_by_guest h c))
   ]
 
   good_mix : (c : ℕ) → Good d (cluster h p b known c) (p.surplus c)
@@ -149,8 +149,8 @@ module _ (h : HeaderFields) (d : Direction) (p : Pending) (on_storage known b : 
     ];
     known_aligned = crash_invariant.known_aligned;
     own = λ g c marked. elim (pick g) [
-      | inl same ↦ subst (λ v. named_by_cover h c v ≤ marked_by_cover h c v) (sym same) (crash_invariant.own g c marked)
-      | inr same ↦ subst (λ v. named_by_cover h c v ≤ marked_by_cover h c v) (sym same) (marks-all h c (cover h known g) marked)
+      | inl same ↦ subst (λ v. named_by_guest h c v ≤ marked_by_guest h c v) (sym same) (crash_invariant.own g c marked)
+      | inr same ↦ subst (λ v. named_by_guest h c v ≤ marked_by_guest h c v) (sym same) (marks-all h c (cover h known g) marked)
     ];
     not_overlaid = λ o some.
         let le = (nearer (o / cluster_size h)).in_either in
@@ -182,11 +182,11 @@ turned L2DependsOnRb L2DependsOnRb h p on_storage known c x may g = g
 turned L2DependsOnRb RbDependsOnL2 h p on_storage known c x may g = turn_to_l2 (cluster h p on_storage known c) x (tied h p on_storage known c) (may c) g
 turned RbDependsOnL2 RbDependsOnL2 h p on_storage known c x may g = g
 turned RbDependsOnL2 L2DependsOnRb h p on_storage known c x may g =
-    turn_to_rb (cluster h p on_storage known c) x (tied h p on_storage known c) (as_known h known on_storage (λ k. sym (may k)) (named_by_cover h c)) (as_known h known on_storage (λ k. sym (may k)) (marked_by_cover h c)) g
+    turn_to_rb (cluster h p on_storage known c) x (tied h p on_storage known c) (as_known h known on_storage (λ k. sym (may k)) (named_by_guest h c)) (as_known h known on_storage (λ k. sym (may k)) (marked_by_guest h c)) g
 turned L2DependsOnRb Neither h p on_storage known c x may g =
-    turn_free_too (cluster h p on_storage known c) x (tied h p on_storage known c) (may.0 c) (as_known h known on_storage (λ k. sym (may.1 k)) (named_by_cover h c)) (as_known h known on_storage (λ k. sym (may.1 k)) (marked_by_cover h c)) g
+    turn_free_too (cluster h p on_storage known c) x (tied h p on_storage known c) (may.0 c) (as_known h known on_storage (λ k. sym (may.1 k)) (named_by_guest h c)) (as_known h known on_storage (λ k. sym (may.1 k)) (marked_by_guest h c)) g
 turned RbDependsOnL2 Neither h p on_storage known c x may g =
-    turn_free (cluster h p on_storage known c) x (tied h p on_storage known c) (may.0 c) (as_known h known on_storage (λ k. sym (may.1 k)) (named_by_cover h c)) (as_known h known on_storage (λ k. sym (may.1 k)) (marked_by_cover h c)) g
+    turn_free (cluster h p on_storage known c) x (tied h p on_storage known c) (may.0 c) (as_known h known on_storage (λ k. sym (may.1 k)) (named_by_guest h c)) (as_known h known on_storage (λ k. sym (may.1 k)) (marked_by_guest h c)) g
 
 pub turned_crash_invariant : (h : HeaderFields) (d to : Direction) (p : Pending) (on_storage known : Bytes) → MayTurn d to h on_storage known → CrashInvariant h d p on_storage known → CrashInvariant h to p on_storage known
 turned_crash_invariant h d to p on_storage known may crash_invariant = record {

@@ -150,7 +150,6 @@ module _ (h : HeaderFields) (d : Direction) (p p' : Pending) (on_storage known o
     l1_reads = λ i lt. subst L1EntryReads (l1 i) (crash_invariant.top.l1_reads i lt);
     reftable_reads = λ k lt. each_block ReftableEntryReads new.reads k (crash_invariant.top.reftable_reads k lt);
     no_snapshots = crash_invariant.top.no_snapshots;
-    no_data_file = crash_invariant.top.no_data_file;
     l1_aligned = crash_invariant.top.l1_aligned;
     reftable_aligned = crash_invariant.top.reftable_aligned;
     l2_tables_aligned = λ i lt. subst (λ e. IsAligned h (host_offset e)) (l1 i) (crash_invariant.top.l2_tables_aligned i lt);

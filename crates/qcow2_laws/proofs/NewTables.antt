@@ -160,7 +160,6 @@ module _ (h : HeaderFields) (d : Direction) (p : Pending) (on_storage known on_s
     l1_reads = λ i lt. each_l1 L1EntryReads new.reads i (crash_invariant.top.l1_reads i lt);
     reftable_reads = λ k lt. subst ReftableEntryReads (reftable k) (crash_invariant.top.reftable_reads k lt);
     no_snapshots = crash_invariant.top.no_snapshots;
-    no_data_file = crash_invariant.top.no_data_file;
     l1_aligned = crash_invariant.top.l1_aligned;
     reftable_aligned = crash_invariant.top.reftable_aligned;
     l2_tables_aligned = λ i lt. each_l1 (λ e. IsAligned h (host_offset e)) new.aligned i (crash_invariant.top.l2_tables_aligned i lt);

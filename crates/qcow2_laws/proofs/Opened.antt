@@ -1,11 +1,11 @@
 -- A consistent image is guarded as it is opened.
 use Rattle.std.proofs.Common.{◌≡◌, ℕ, ◌+◌, ◌/◌, ◌%◌, ◌<◌, ◌≤◌, ◌≢◌, Bool, true, false, cond, eqb, refl, sym, ap, ◌∙◌, arith, subst, inl, inr, max}
 use Rattle.std.specs.Prelude.{Option, Some, None}
-use Rattle.std.proofs.lemmas.Bool.{cases_eq, cases_lt, eq-eqb, eqb-true}
+use Rattle.std.proofs.lemmas.Bool.{cases_eq, cases_lt, cond-false, eq-eqb, eqb-true}
 use Rattle.std.proofs.lemmas.Nat.{mod_below}
 use Rattle.qcow2_metadata.specs.Bytes.{Bytes}
 use Rattle.qcow2_metadata.specs.declared.header.HeaderFields.{HeaderFields}
-use Rattle.qcow2_metadata.specs.Header.{header, cluster_size, entries_per_cluster}
+use Rattle.qcow2_metadata.specs.Header.{header, cluster_size, entries_per_cluster, has_data_file}
 use Rattle.qcow2_metadata.specs.Entries.{l1_entry, is_copied, count}
 use Rattle.qcow2_metadata.specs.Cover.{cover}
 use Rattle.qcow2_metadata.specs.Named.{named_for_tables, named_by_l1_table, table_in, in_cluster}
@@ -13,7 +13,7 @@ use Rattle.qcow2_metadata.specs.Consistent.{Consistent, EachCover, CoverIsAligne
 use Rattle.qcow2_metadata.specs.declared.l2_mapping.L2Mapping.{L2Mapping}
 use Rattle.qcow2_metadata.specs.declared.l2_mapping.L2Mapping.TheVariants.{Data, Zero, Compressed, Uncovered}
 use Rattle.qcow2_laws.specs.Clusters.{Neither, ClusterInvariant}
-use Rattle.qcow2_laws.specs.Guests.{over_guests, names, marks, marked_by_cover, marked_by_kept, marked_by_l1_table, table_at}
+use Rattle.qcow2_laws.specs.Guests.{over_guests, names, marks, marked_by_cover, marked_by_guest, marked_by_kept, marked_by_l1_table, table_at}
 use Rattle.qcow2_laws.specs.CrashInvariant.{cluster, CrashInvariant}
 use Rattle.qcow2_laws.specs.Opened.{nothing_pending, surplus_of}
 use Rattle.qcow2_laws.proofs.Sums.{some_term}
@@ -22,7 +22,7 @@ use Rattle.qcow2_laws.proofs.Guests.{named-is, over_guests-same, some_guest, mar
 use Rattle.qcow2_laws.proofs.Tops.{SameTop-refl}
 
 -- what holds of each entry of each table, and of none, holds of each guest cluster
-each_cover : (h : HeaderFields) (b : Bytes) (P : L2Mapping → Type 0) → Sizes h → P Uncovered → EachCover h b P → (g : ℕ) → P (cover h b g)
+pub each_cover : (h : HeaderFields) (b : Bytes) (P : L2Mapping → Type 0) → Sizes h → P Uncovered → EachCover h b P → (g : ℕ) → P (cover h b g)
 each_cover h b P sizes none each g = elim (cases_eq (table_at h b (g / entries_per_cluster h)) 0) [
   | inl free ↦ subst P (sym (cover_none h b g free)) none
   | inr real ↦ subst P (sym (cover_in h b g real))
@@ -30,7 +30,7 @@ each_cover h b P sizes none each g = elim (cases_eq (table_at h b (g / entries_p
 ]
 
 -- where a test is 1, it passes
-passes : (t : Bool) (n : ℕ) → 0 < cond t n 0 → (t ≡ true) × (0 < n)
+pub passes : (t : Bool) (n : ℕ) → 0 < cond t n 0 → (t ≡ true) × (0 < n)
 passes true n some = (refl, some)
 passes false n some = absurd (omega arith)
 
@@ -64,6 +64,9 @@ module _ (h : HeaderFields) (b : Bytes) (ok : Consistent h b) where
   sizes : Sizes h
   sizes = Sizes-from h b ok.header_reads
 
+  own_data : has_data_file h ≡ false
+  own_data = ap (λ n. eqb (n / 4 % 2) 1) ok.no_data_file
+
   sole_counted : (c : ℕ) → 0 < marked_by_l1_table h b c → count h b c ≡ 1
   unfolding marked_by_l1_table
   sole_counted c some =
@@ -75,7 +78,7 @@ module _ (h : HeaderFields) (b : Bytes) (ok : Consistent h b) where
   marks_counted : (c : ℕ) → 0 < over_guests h (marks h b c) → count h b c ≡ 1
   marks_counted c some =
       let t = some_guest h (marks h b c) some in
-      cover_counted h b c (cover h b t.0) (each_cover h b (CopiedIsOwn h b) sizes tt ok.copied_data t.0) t.2
+      cover_counted h b c (cover h b t.0) (each_cover h b (CopiedIsOwn h b) sizes tt ok.copied_data t.0) (let is : marked_by_guest h c (cover h b t.0) ≡ marked_by_cover h c (cover h b t.0) = cond-false {A = ℕ} _ _ _ own_data in omega (arith, t.2, is))
 
   alone : (c : ℕ) → 0 < marked_by_l1_table h b c + over_guests h (marks h b c) → count h b c ≤ 1
   alone c some = elim (cases_lt 0 (marked_by_l1_table h b c)) [
@@ -92,7 +95,7 @@ module _ (h : HeaderFields) (b : Bytes) (ok : Consistent h b) where
 
   each_cluster : (c : ℕ) → ClusterInvariant (cluster h (nothing_pending (surplus_of h b)) b b c) (surplus_of h b c)
   each_cluster c =
-      let e = named-is h b c sizes in
+      let e = named-is h b c sizes own_data in
       let counted = ok.counted c in
       let either = twice (names h b c) in
       record {
@@ -112,7 +115,6 @@ module _ (h : HeaderFields) (b : Bytes) (ok : Consistent h b) where
       l1_reads = ok.l1_reads;
       reftable_reads = ok.reftable_reads;
       no_snapshots = ok.no_snapshots;
-      no_data_file = ok.no_data_file;
       l1_aligned = ok.l1_aligned;
       reftable_aligned = ok.reftable_aligned;
       l2_tables_aligned = ok.l2_tables_aligned;
@@ -121,7 +123,7 @@ module _ (h : HeaderFields) (b : Bytes) (ok : Consistent h b) where
     same_top = SameTop-refl h b;
     each_cluster = each_cluster;
     ordered = λ c.
-        let e = named-is h b c sizes in
+        let e = named-is h b c sizes own_data in
         let counted = ok.counted c in
         let either = twice (names h b c) in
         let marked = twice (marks h b c) in

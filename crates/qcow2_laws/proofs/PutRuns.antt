@@ -8,13 +8,15 @@ use Rattle.qcow2_metadata.specs.Bytes.{Bytes, byte_at, laid_over}
 use Rattle.qcow2_metadata.specs.Header.{cluster_size}
 use Rattle.qcow2_metadata.specs.Cover.{cover}
 use Rattle.qcow2_metadata.specs.Guest.{known_byte}
-use Rattle.qcow2_metadata.specs.Named.{in_cluster, named_by_cover, named_for_tables}
+use Rattle.qcow2_metadata.specs.Named.{in_cluster, named_for_tables}
+use Rattle.qcow2_laws.proofs.Guests.{own_names, own_marks, own_data_of}
+use Rattle.qcow2_laws.specs.Guests.{named_by_guest}
 use Rattle.qcow2_metadata.specs.Consistent.{CoverIsAligned}
-use Rattle.qcow2_metadata.specs.declared.l2_mapping.L2Mapping.TheVariants.{Zero}
+use Rattle.qcow2_metadata.specs.declared.l2_mapping.L2Mapping.TheVariants.{Data, Zero}
 use Rattle.qcow2_disk.specs.Disk.{disk, with_values}
 use Rattle.qcow2_disk.specs.Stops.{GivenBytes, IsGiven}
 use Rattle.qcow2_disk.specs.Mappings.{given_of}
-use Rattle.qcow2_laws.specs.Guests.{names, marks, marked_by_cover, named_in_either}
+use Rattle.qcow2_laws.specs.Guests.{names, marks, marked_by_guest, named_in_either}
 use Rattle.qcow2_laws.specs.CrashInvariant.{SameCovers, SameIn}
 use Rattle.qcow2_laws.specs.Tops.{IsSameOutside, WritesAt}
 use Rattle.qcow2_laws.specs.Writes.{IsWritten}
@@ -66,14 +68,14 @@ record IsOwnAt (s : DriverState) (o place : ℕ) : Type 0 where
   named : (c : ℕ) → names s.header s.known c (o / cluster_size s.header) ≡ in_cluster s.header c host
   marked : marks s.header s.known (host / cluster_size s.header) (o / cluster_size s.header) ≡ 1
 
-module _ (s : DriverState) (sound : StateInvariant s) (o place : ℕ) where
+module _ (s : DriverState) (sound : StateInvariant s) (inside : s.header.incompatible ≡ 0) (o place : ℕ) where
   own_in_place : IsDataAt s.header s.known true o place → IsOwnAt s o place
   own_in_place at = record {
     host = at.0;
     begins = at.2;
     aligned = subst (CoverIsAligned s.header) at.1 (sound.known_aligned (o / cluster_size s.header));
-    named = λ c. ap (named_by_cover s.header c) at.1;
-    marked = ap (marked_by_cover s.header (at.0 / cluster_size s.header)) at.1 ∙ in_own s.header at.0;
+    named = λ c. ap (named_by_guest s.header c) at.1 ∙ own_names s.header c (Data at.0 true) (own_data_of s.header inside);
+    marked = ap (marked_by_guest s.header (at.0 / cluster_size s.header)) at.1 ∙ own_marks s.header (at.0 / cluster_size s.header) (Data at.0 true) (own_data_of s.header inside) ∙ in_own s.header at.0;
   }
 
   own_kept : IsHostedAt s Kept o place → IsOwnAt s o place
@@ -81,8 +83,8 @@ module _ (s : DriverState) (sound : StateInvariant s) (o place : ℕ) where
     host = at.0;
     begins = at.2;
     aligned = subst (CoverIsAligned s.header) at.1 (sound.known_aligned (o / cluster_size s.header));
-    named = λ c. ap (named_by_cover s.header c) at.1;
-    marked = ap (marked_by_cover s.header (at.0 / cluster_size s.header)) at.1 ∙ in_own s.header at.0;
+    named = λ c. ap (named_by_guest s.header c) at.1 ∙ own_names s.header c (Zero (Some (at.0, true))) (own_data_of s.header inside);
+    marked = ap (marked_by_guest s.header (at.0 / cluster_size s.header)) at.1 ∙ own_marks s.header (at.0 / cluster_size s.header) (Zero (Some (at.0, true))) (own_data_of s.header inside) ∙ in_own s.header at.0;
   }
 
   -- it is held, or its own and given
@@ -127,19 +129,19 @@ module _ (s : DriverState) (sound : StateInvariant s) (o place : ℕ) where
     ]
 
 -- ---- the write: n values from a place on, for guest bytes from an offset on
-module _ (s : DriverState) (on_storage' known' : Bytes) (sound : StateInvariant s) (hosting : ℕ → Hosting) (offset place n : ℕ) (value : ℕ → ℕ) (given : List GivenBytes)
+module _ (s : DriverState) (on_storage' known' : Bytes) (sound : StateInvariant s) (inside : s.header.incompatible ≡ 0) (hosting : ℕ → Hosting) (offset place n : ℕ) (value : ℕ → ℕ) (given : List GivenBytes)
     (hosts : (i : ℕ) → i < n → IsHostedAt s (hosting (offset + i)) (offset + i) (place + i))
     (gives : (i : ℕ) → i < n → IsGivenAt given (hosting (offset + i)) (offset + i) (value i))
     (writes : WritesAt place n s.on_storage s.known on_storage' known') (there : (i : ℕ) → i < n → on_storage' (place + i) ≡ value i) where
   kind : (i : ℕ) → i < n
       → ((0 < s.pending.new_data ((place + i) / cluster_size s.header)) × IsHeld (hosting (offset + i))) ⊎ (IsOwnAt s (offset + i) (place + i) × IsGiven given (offset + i) (known_byte (value i)))
-  kind i lt = sorted s sound (offset + i) (place + i) given (value i) (hosting (offset + i)) (hosts i lt) (gives i lt)
+  kind i lt = sorted s sound inside (offset + i) (place + i) given (value i) (hosting (offset + i)) (hosts i lt) (gives i lt)
 
   pub known_there : (i : ℕ) → i < n → known' (place + i) ≡ value i
   known_there i lt =
       sym (writes.agree (place + i) (sound.not_overlaid (place + i) (elim (kind i lt) [
         | inl new_data ↦ let some = new_data.0 in omega arith
-        | inr own ↦ let some = own_in_either s sound (offset + i) (place + i) own.0 in omega arith
+        | inr own ↦ let some = own_in_either s sound inside (offset + i) (place + i) own.0 in omega arith
       ])))
       ∙ there i lt
 
@@ -156,7 +158,7 @@ module _ (s : DriverState) (on_storage' known' : Bytes) (sound : StateInvariant 
       → SameIn (cluster_size s.header) k s.on_storage on_storage' × SameIn (cluster_size s.header) k s.known known'
   new_data_stays k some apart = untouched k (λ i lt here. elim (kind i lt) [
     | inl new_data ↦ apart i lt new_data.1 here
-    | inr own ↦ let none = own_unheld s sound (offset + i) (place + i) own.0 in let has : 0 < s.pending.new_data ((place + i) / cluster_size s.header) = subst (λ c. 0 < s.pending.new_data c) (sym here) some in absurd (omega arith)
+    | inr own ↦ let none = own_unheld s sound inside (offset + i) (place + i) own.0 in let has : 0 < s.pending.new_data ((place + i) / cluster_size s.header) = subst (λ c. 0 < s.pending.new_data c) (sym here) some in absurd (omega arith)
   ])
 
   -- each byte of an own cluster that is written to is as it was, or given
@@ -165,7 +167,7 @@ module _ (s : DriverState) (on_storage' known' : Bytes) (sound : StateInvariant 
   gives_at i lt own o in_k = elim (in_range o place n) [
     | inl out ↦ inl (writes.others o out, writes.known_others o out)
     | inr j ↦
-        let in_host : o / cluster_size s.header ≡ own.host / cluster_size s.header = in_k ∙ own_here s sound (offset + i) (place + i) own in
+        let in_host : o / cluster_size s.header ≡ own.host / cluster_size s.header = in_k ∙ own_here s sound inside (offset + i) (place + i) own in
         let h_is : own.host / cluster_size s.header * cluster_size s.header + own.host % cluster_size s.header ≡ own.host = div-add-mod' own.host (cluster_size s.header) in
         let o_is : o / cluster_size s.header * cluster_size s.header + o % cluster_size s.header ≡ o = div-add-mod' o (cluster_size s.header) in
         let g_is : (offset + i) / cluster_size s.header * cluster_size s.header + (offset + i) % cluster_size s.header ≡ offset + i = div-add-mod' (offset + i) (cluster_size s.header) in
@@ -177,7 +179,7 @@ module _ (s : DriverState) (on_storage' known' : Bytes) (sound : StateInvariant 
         let byte : known' o ≡ value j.0 = ap known' (sym j.2) ∙ known_there j.0 j.1 in
         elim (kind j.0 j.1) [
           | inl new_data ↦ absurd (
-              let none = own_unheld s sound (offset + i) (place + i) own in
+              let none = own_unheld s sound inside (offset + i) (place + i) own in
               let some : 0 < s.pending.new_data ((place + i) / cluster_size s.header) = subst (λ c. 0 < s.pending.new_data c) (ap (λ n. n / cluster_size s.header) j.2 ∙ in_k) new_data.0 in
               omega arith)
           | inr bytes_given ↦ inr (subst (λ (p : ℕ). IsGiven given p (known_byte (known' o))) (sym is) (subst (λ (b : ℕ). IsGiven given (offset + j.0) (known_byte b)) (sym byte) bytes_given.1))
@@ -193,7 +195,7 @@ module _ (s : DriverState) (on_storage' known' : Bytes) (sound : StateInvariant 
         | inl new_data ↦ inr (inl (new_data_is_unnamed s.header s.direction s.pending s.on_storage s.known sound k (subst (λ c. 0 < s.pending.new_data c) some.2 new_data.0)))
         | inr own ↦ inr (inr (record {
           guest = (offset + some.0) / cluster_size s.header;
-          marked = subst (λ c. 0 < marks s.header s.known c ((offset + some.0) / cluster_size s.header)) some.2 (own_marked s sound (offset + some.0) (place + some.0) own.0);
+          marked = subst (λ c. 0 < marks s.header s.known c ((offset + some.0) / cluster_size s.header)) some.2 (own_marked s sound inside (offset + some.0) (place + some.0) own.0);
           gives = λ o in_k. gives_at some.0 some.1 own.0 o (in_k ∙ sym some.2);
         }))
       ]
@@ -223,7 +225,7 @@ module _ (s : DriverState) (on_storage' known' : Bytes) (sound : StateInvariant 
               omega arith
           | inr own ↦
               apart at.0 at.1 own.0 (its_own s.header s.direction s.pending s.on_storage s.known on_storage' known' given sound written
-              ((place + at.0) / cluster_size s.header) ((offset + at.0) / cluster_size s.header) g (own_marked s sound (offset + at.0) (place + at.0) own.0) (omega arith))
+              ((place + at.0) / cluster_size s.header) ((offset + at.0) / cluster_size s.header) g (own_marked s sound inside (offset + at.0) (place + at.0) own.0) (omega arith))
         ])
   ]
 
@@ -247,10 +249,10 @@ module _ (s : DriverState) (on_storage' known' : Bytes) (sound : StateInvariant 
     new_data_stay : (o i : ℕ) → i < n → (offset + i) / cluster_size s.header ≡ o / cluster_size s.header → 0 < s.pending.new_data ((place + i) / cluster_size s.header)
         → (disk known' backing).value o ≡ (disk s.known backing).value o
     new_data_stay o i lt here new_data =
-        value_stays s new sound safe_step_on.sound refl backing o (covers_stay (o / cluster_size s.header)) (stays_named (o / cluster_size s.header) (λ j j_lt own in_g.
-        let same : (place + i) / cluster_size s.header ≡ own.host / cluster_size s.header = own_cluster s sound (offset + j) (place + j) own (offset + i) (place + i) (here ∙ sym in_g) (omega arith) in
-        let at : (place + j) / cluster_size s.header ≡ (place + i) / cluster_size s.header = own_here s sound (offset + j) (place + j) own ∙ sym same in
-        let none = own_unheld s sound (offset + j) (place + j) own in
+        value_stays s new sound inside safe_step_on.sound refl backing o (covers_stay (o / cluster_size s.header)) (stays_named (o / cluster_size s.header) (λ j j_lt own in_g.
+        let same : (place + i) / cluster_size s.header ≡ own.host / cluster_size s.header = own_cluster s sound inside (offset + j) (place + j) own (offset + i) (place + i) (here ∙ sym in_g) (omega arith) in
+        let at : (place + j) / cluster_size s.header ≡ (place + i) / cluster_size s.header = own_here s sound inside (offset + j) (place + j) own ∙ sym same in
+        let none = own_unheld s sound inside (offset + j) (place + j) own in
         let has : 0 < s.pending.new_data ((place + j) / cluster_size s.header) = subst (λ c. 0 < s.pending.new_data c) (sym at) new_data in
         absurd (omega arith)))
 
@@ -267,7 +269,7 @@ module _ (s : DriverState) (on_storage' known' : Bytes) (sound : StateInvariant 
           | inl below ↦ inl (omega arith)
           | inr past ↦ inr (omega arith)
         ] in
-        at_shown new safe_step_on.sound true o to (now_at o to was) backing ∙ sym (ap known_byte (writes.others to beside)) ∙ sym (at_shown s sound true o to was backing)
+        at_shown new safe_step_on.sound inside true o to (now_at o to was) backing ∙ sym (ap known_byte (writes.others to beside)) ∙ sym (at_shown s sound inside true o to was backing)
 
     beside : (o i : ℕ) → i < n → (offset + i) / cluster_size s.header ≡ o / cluster_size s.header → (o < offset) ⊎ (offset + n ≤ o) → (k : Hosting) → IsHostedAt s k (offset + i) (place + i)
         → (disk known' backing).value o ≡ (disk s.known backing).value o
@@ -278,7 +280,7 @@ module _ (s : DriverState) (on_storage' known' : Bytes) (sound : StateInvariant 
     at_written : (i : ℕ) → i < n → (k : Hosting) → IsHostedAt s k (offset + i) (place + i)
         → (disk known' backing).value (offset + i) ≡ cond (is_private_hosting k) ((disk s.known backing).value (offset + i)) (laid_over offset n (λ j. known_byte (value j)) (disk s.known backing).value (offset + i))
     at_written i lt InPlace at =
-        at_shown new safe_step_on.sound true (offset + i) (place + i) (now_at (offset + i) (place + i) at) backing
+        at_shown new safe_step_on.sound inside true (offset + i) (place + i) (now_at (offset + i) (place + i) at) backing
         ∙ ap known_byte (there i lt)
         ∙ sym (laid_inside offset n (λ j. known_byte (value j)) (disk s.known backing).value i lt)
     at_written i lt Kept at = zeros_stay (offset + i) (offset + i) (place + i) refl at
@@ -292,7 +294,7 @@ module _ (s : DriverState) (on_storage' known' : Bytes) (sound : StateInvariant 
       | inl out ↦
           let same : (disk known' backing).value o ≡ (disk s.known backing).value o = elim (meets (cluster_size s.header) offset (o / cluster_size s.header) n) [
             | inl some ↦ beside o some.0 some.1 some.2 out (hosting (offset + some.0)) (hosts some.0 some.1)
-            | inr none ↦ value_stays s new sound safe_step_on.sound refl backing o (covers_stay (o / cluster_size s.header)) (others_stay (o / cluster_size s.header) none)
+            | inr none ↦ value_stays s new sound inside safe_step_on.sound refl backing o (covers_stay (o / cluster_size s.header)) (others_stay (o / cluster_size s.header) none)
           ] in
           same_either (is_private_hosting (hosting o)) _ _ _ same (same ∙ sym (laid_outside offset n (λ j. known_byte (value j)) (disk s.known backing).value o out))
     ]
@@ -300,35 +302,35 @@ module _ (s : DriverState) (on_storage' known' : Bytes) (sound : StateInvariant 
     pub shows_run : disk known' backing ≡ record (disk s.known backing) { value = λ o. cond (is_private_hosting (hosting o)) ((disk s.known backing).value o) ((with_values (disk s.known backing) offset n (λ j. known_byte (value j))).value o) }
     shows_run =
         let now : (disk known' backing).value ≡ (λ o. cond (is_private_hosting (hosting o)) ((disk s.known backing).value o) ((with_values (disk s.known backing) offset n (λ j. known_byte (value j))).value o)) = fun_ext value_now in
-        λ j. record { size = size_stays s new sound safe_step_on.sound refl backing j; value = now j }
+        λ j. record { size = size_stays s new sound inside safe_step_on.sound refl backing j; value = now j }
 
-pub run_written : (s : DriverState) (on_storage' known' : Bytes) (hosting : ℕ → Hosting) (offset place : ℕ) (bytes : List ℕ) (given : List GivenBytes) → StateInvariant s
+pub run_written : (s : DriverState) (on_storage' known' : Bytes) (hosting : ℕ → Hosting) (offset place : ℕ) (bytes : List ℕ) (given : List GivenBytes) → StateInvariant s → s.header.incompatible ≡ 0
     → ((i : ℕ) → i < length bytes → IsHostedAt s (hosting (offset + i)) (offset + i) (place + i))
     → ((i : ℕ) → i < length bytes → IsGivenAt given (hosting (offset + i)) (offset + i) (byte_at bytes i))
     → WritesAt place (length bytes) s.on_storage s.known on_storage' known' → ((i : ℕ) → i < length bytes → on_storage' (place + i) ≡ byte_at bytes i)
     → WritesRun hosting offset place bytes given s (record s { on_storage = on_storage'; known = known' })
-run_written s on_storage' known' hosting offset place bytes given sound hosts gives writes there = record {
-  safe_step = safe_step_on s on_storage' known' sound hosting offset place (length bytes) (byte_at bytes) given hosts gives writes there;
-  covers = covers_stay s on_storage' known' sound hosting offset place (length bytes) (byte_at bytes) given hosts gives writes there;
-  l1 = l1_stays s on_storage' known' sound hosting offset place (length bytes) (byte_at bytes) given hosts gives writes there;
-  there = known_there s on_storage' known' sound hosting offset place (length bytes) (byte_at bytes) given hosts gives writes there;
-  others = others_stay s on_storage' known' sound hosting offset place (length bytes) (byte_at bytes) given hosts gives writes there;
-  new_data = new_data_stays s on_storage' known' sound hosting offset place (length bytes) (byte_at bytes) given hosts gives writes there;
-  shows = shows_run s on_storage' known' sound hosting offset place (length bytes) (byte_at bytes) given hosts gives writes there;
+run_written s on_storage' known' hosting offset place bytes given sound inside hosts gives writes there = record {
+  safe_step = safe_step_on s on_storage' known' sound inside hosting offset place (length bytes) (byte_at bytes) given hosts gives writes there;
+  covers = covers_stay s on_storage' known' sound inside hosting offset place (length bytes) (byte_at bytes) given hosts gives writes there;
+  l1 = l1_stays s on_storage' known' sound inside hosting offset place (length bytes) (byte_at bytes) given hosts gives writes there;
+  there = known_there s on_storage' known' sound inside hosting offset place (length bytes) (byte_at bytes) given hosts gives writes there;
+  others = others_stay s on_storage' known' sound inside hosting offset place (length bytes) (byte_at bytes) given hosts gives writes there;
+  new_data = new_data_stays s on_storage' known' sound inside hosting offset place (length bytes) (byte_at bytes) given hosts gives writes there;
+  shows = shows_run s on_storage' known' sound inside hosting offset place (length bytes) (byte_at bytes) given hosts gives writes there;
 }
 
 -- no table stands at such a place
-pub beside_tables : (s : DriverState) (hosting : Hosting) (o place : ℕ) → StateInvariant s → IsHostedAt s hosting o place → named_for_tables s.header s.on_storage (place / cluster_size s.header) ≡ 0
-beside_tables s InPlace o place sound at =
-    (marked_alone s.header s.direction s.pending s.on_storage s.known sound (place / cluster_size s.header) (o / cluster_size s.header) (own_marked s sound o place (own_in_place s sound o place at))).0
-beside_tables s Kept o place sound at =
-    (marked_alone s.header s.direction s.pending s.on_storage s.known sound (place / cluster_size s.header) (o / cluster_size s.header) (own_marked s sound o place (own_kept s sound o place at))).0
-beside_tables s Held o place sound at = (new_data_is_unnamed s.header s.direction s.pending s.on_storage s.known sound (place / cluster_size s.header) at).no_table
+pub beside_tables : (s : DriverState) (hosting : Hosting) (o place : ℕ) → StateInvariant s → s.header.incompatible ≡ 0 → IsHostedAt s hosting o place → named_for_tables s.header s.on_storage (place / cluster_size s.header) ≡ 0
+beside_tables s InPlace o place sound inside at =
+    (marked_alone s.header s.direction s.pending s.on_storage s.known sound (place / cluster_size s.header) (o / cluster_size s.header) (own_marked s sound inside o place (own_in_place s sound inside o place at))).0
+beside_tables s Kept o place sound inside at =
+    (marked_alone s.header s.direction s.pending s.on_storage s.known sound (place / cluster_size s.header) (o / cluster_size s.header) (own_marked s sound inside o place (own_kept s sound inside o place at))).0
+beside_tables s Held o place sound inside at = (new_data_is_unnamed s.header s.direction s.pending s.on_storage s.known sound (place / cluster_size s.header) at).no_table
 
 pub run_is_written : RunIsWritten
 run_is_written = record {
-  written = λ s on_storage' known' hosting offset place bytes given sound hosts gives writes there. run_written s on_storage' known' hosting offset place bytes given sound hosts gives writes there;
-  beside_tables = λ s hosting o place sound at. beside_tables s hosting o place sound at;
+  written = λ s on_storage' known' hosting offset place bytes given sound inside hosts gives writes there. run_written s on_storage' known' hosting offset place bytes given sound inside hosts gives writes there;
+  beside_tables = λ s hosting o place sound inside at. beside_tables s hosting o place sound inside at;
 }
 
 -- ---- over data in place alone
@@ -338,7 +340,7 @@ pub given_has : (offset : ℕ) (bytes : List ℕ) (i : ℕ) → i < length bytes
 given_has offset bytes i lt = let e : i ≡ offset + i - offset = omega arith in inl (omega arith, omega arith, ap (λ j. known_byte (byte_at bytes j)) e)
 
 -- ---- into one cluster that is held
-module _ (s : DriverState) (on_storage' known' : Bytes) (sound : StateInvariant s) (c : ℕ) (new_data : 0 < s.pending.new_data c) (outside : IsSameOutside (cluster_size s.header) c s.on_storage on_storage')
+module _ (s : DriverState) (on_storage' known' : Bytes) (sound : StateInvariant s) (inside : s.header.incompatible ≡ 0) (c : ℕ) (new_data : 0 < s.pending.new_data c) (outside : IsSameOutside (cluster_size s.header) c s.on_storage on_storage')
     (known_outside : IsSameOutside (cluster_size s.header) c s.known known') (agree : (o : ℕ) → s.on_storage o ≡ s.known o → on_storage' o ≡ known' o) where
   beyond : (o : ℕ) → (o < c * cluster_size s.header) ⊎ (c * cluster_size s.header + cluster_size s.header ≤ o) → o / cluster_size s.header ≢ c
   beyond o out here =
@@ -357,12 +359,12 @@ module _ (s : DriverState) (on_storage' known' : Bytes) (sound : StateInvariant 
   private_written =
       let value : ℕ → ℕ = λ i. on_storage' (c * cluster_size s.header + i) in
       record {
-        safe_step = safe_step_on s on_storage' known' sound (λ _. Held) 0 (c * cluster_size s.header) (cluster_size s.header) value [] hosts_cluster (λ i lt. tt) writes_cluster (λ i lt. refl);
+        safe_step = safe_step_on s on_storage' known' sound inside (λ _. Held) 0 (c * cluster_size s.header) (cluster_size s.header) value [] hosts_cluster (λ i lt. tt) writes_cluster (λ i lt. refl);
         unseen = record {
           header = refl;
-          covers = covers_stay s on_storage' known' sound (λ _. Held) 0 (c * cluster_size s.header) (cluster_size s.header) value [] hosts_cluster (λ i lt. tt) writes_cluster (λ i lt. refl);
+          covers = covers_stay s on_storage' known' sound inside (λ _. Held) 0 (c * cluster_size s.header) (cluster_size s.header) value [] hosts_cluster (λ i lt. tt) writes_cluster (λ i lt. refl);
           bytes = λ o other some. sym (known_outside o other);
         };
-        l1 = l1_stays s on_storage' known' sound (λ _. Held) 0 (c * cluster_size s.header) (cluster_size s.header) value [] hosts_cluster (λ i lt. tt) writes_cluster (λ i lt. refl);
-        shows = λ backing. shows_run s on_storage' known' sound (λ _. Held) 0 (c * cluster_size s.header) (cluster_size s.header) value [] hosts_cluster (λ i lt. tt) writes_cluster (λ i lt. refl) backing;
+        l1 = l1_stays s on_storage' known' sound inside (λ _. Held) 0 (c * cluster_size s.header) (cluster_size s.header) value [] hosts_cluster (λ i lt. tt) writes_cluster (λ i lt. refl);
+        shows = λ backing. shows_run s on_storage' known' sound inside (λ _. Held) 0 (c * cluster_size s.header) (cluster_size s.header) value [] hosts_cluster (λ i lt. tt) writes_cluster (λ i lt. refl) backing;
       }

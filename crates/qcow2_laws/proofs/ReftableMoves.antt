@@ -168,7 +168,6 @@ module _ (h : HeaderFields) (offset clusters : ℕ) (blocks counted : ℕ → �
     l1_reads = λ i lt. subst L1EntryReads (now_l1 i) (crash_invariant.top.l1_reads i lt);
     reftable_reads = λ k lt. subst ReftableEntryReads (now_reftable k) (new.reads k);
     no_snapshots = crash_invariant.top.no_snapshots;
-    no_data_file = crash_invariant.top.no_data_file;
     l1_aligned = crash_invariant.top.l1_aligned;
     reftable_aligned = new.aligned;
     l2_tables_aligned = λ i lt. subst (λ e. IsAligned h (host_offset e)) (now_l1 i) (crash_invariant.top.l2_tables_aligned i lt);

@@ -7,7 +7,8 @@ use Rattle.qcow2_metadata.specs.Header.{header, cluster_size, entries_per_cluste
 use Rattle.qcow2_metadata.specs.Entries.{count}
 use Rattle.qcow2_metadata.specs.Cover.{cover}
 use Rattle.qcow2_metadata.specs.Guest.{guest_value, value_under}
-use Rattle.qcow2_metadata.specs.Named.{named_by_cover, named_for_tables}
+use Rattle.qcow2_metadata.specs.Named.{named_for_tables}
+use Rattle.qcow2_laws.specs.Guests.{named_by_guest}
 use Rattle.qcow2_metadata.specs.Consistent.{CoverIsAligned}
 use Rattle.qcow2_metadata.specs.declared.l2_mapping.L2Mapping.{L2Mapping}
 use Rattle.qcow2_metadata.specs.declared.l2_mapping.L2Mapping.TheVariants.{Uncovered}
@@ -15,18 +16,18 @@ use Rattle.qcow2_disk.specs.Disk.{disk}
 use Rattle.qcow2_disk.specs.HeaderRest.{IsOfHeaderRest}
 use Rattle.qcow2_disk.specs.Stops.{IsAsked, Checkpoint, checkpoint_with, StopOkEverywhere}
 use Rattle.qcow2_laws.specs.Clusters.{Direction, RbDependsOnL2}
-use Rattle.qcow2_laws.specs.Guests.{guests, over_guests, names, named_in_either, marked_by_cover, marked_by_l1_table}
+use Rattle.qcow2_laws.specs.Guests.{guests, over_guests, names, named_in_either, marked_by_guest, marked_by_l1_table}
 use Rattle.qcow2_laws.specs.CrashInvariant.{IsTop, SameTop, Pending, cluster, CrashInvariant, SameCovers}
 use Rattle.qcow2_laws.specs.Tops.{Places, with_places, KeepsCovers}
 use Rattle.qcow2_laws.proofs.Clusters.{Good, rename}
 use Rattle.qcow2_laws.proofs.Sums.{sum_below-same, sum_below-longer}
 use Rattle.qcow2_laws.proofs.Places.{Sizes, Sizes-from}
-use Rattle.qcow2_laws.proofs.Guests.{past_guests, guest_le, names_within, l1_marks-le}
+use Rattle.qcow2_laws.proofs.Guests.{uncovered_names, uncovered_marks, own_names, own_data_of, past_guests, guest_le, names_within, l1_marks-le}
 use Rattle.qcow2_laws.proofs.Mixes.{tied, good}
 use Rattle.qcow2_laws.proofs.Shares.{shares}
 use Rattle.qcow2_laws.proofs.Writes.{written_covers}
 use Rattle.qcow2_laws.proofs.Tops.{IsTop-top, rest_kept, from_start}
-use Rattle.qcow2_laws.proofs.Consistency.{crash_invariant_consistent, known_consistent}
+use Rattle.qcow2_laws.proofs.Consistency.{crash_invariant_consistent, known_consistent, own_of_kept}
 use Rattle.qcow2_laws.proofs.Values.{shown, value_is, size_is}
 use Rattle.qcow2_disk.proofs.Stops.{kept_on}
 
@@ -77,12 +78,12 @@ module _ (h : HeaderFields) (a : Places) (d : Direction) (p p' : Pending) (on_st
   }) (p'.surplus c)) → CrashInvariant (with_places h a) d p' on_storage' known'
   top_changed numbers =
       let now : (c : ℕ) → Good d (cluster (with_places h a) p' on_storage' known' c) (p'.surplus c) = λ c.
-      let in_storage = storage_sum (named_by_cover h c) refl in
-      let in_known = known_sum (named_by_cover h c) refl in
-      let in_either = either_sum (named_by_cover h c) refl in
-      let marks_in_storage = storage_sum (marked_by_cover h c) refl in
-      let marks_known = known_sum (marked_by_cover h c) refl in
-      let marks_either = either_sum (marked_by_cover h c) refl in
+      let in_storage = storage_sum (named_by_guest h c) (uncovered_names h c) in
+      let in_known = known_sum (named_by_guest h c) (uncovered_names h c) in
+      let in_either = either_sum (named_by_guest h c) (uncovered_names h c) in
+      let marks_in_storage = storage_sum (marked_by_guest h c) (uncovered_marks h c) in
+      let marks_known = known_sum (marked_by_guest h c) (uncovered_marks h c) in
+      let marks_either = either_sum (marked_by_guest h c) (uncovered_marks h c) in
       subst (λ k. Good d k (p'.surplus c)) (λ j. record (cluster (with_places h a) p' on_storage' known' c) {
         in_storage = in_storage j;
         in_known = in_known j;
@@ -98,8 +99,8 @@ module _ (h : HeaderFields) (a : Places) (d : Direction) (p p' : Pending) (on_st
         ordered = λ c. (now c).ordered;
         aligned = λ g. subst (CoverIsAligned h) (covers g) (crash_invariant.aligned g);
         known_aligned = λ g. subst (CoverIsAligned h) (known_covers g) (crash_invariant.known_aligned g);
-        own = λ g c some. subst (λ v. named_by_cover h c v ≤ marked_by_cover h c v) (covers g) (crash_invariant.own g c (subst (λ v. 0 < marked_by_cover h c v) (sym (known_covers g)) some));
-        not_overlaid = λ o some. not_overlaid o (let e = either_sum (named_by_cover h (o / cluster_size h)) refl in omega arith);
+        own = λ g c some. subst (λ v. named_by_guest h c v ≤ marked_by_guest h c v) (covers g) (crash_invariant.own g c (subst (λ v. 0 < marked_by_guest h c v) (sym (known_covers g)) some));
+        not_overlaid = λ o some. not_overlaid o (let e = either_sum (named_by_guest h (o / cluster_size h)) (uncovered_names h (o / cluster_size h)) in omega arith);
       }
 
   -- the same, by how often tables are named anew: i are fresh and counted on the storage, s are counted with it, u are no longer named
@@ -148,11 +149,11 @@ module _ (h : HeaderFields) (a : Places) (d : Direction) (p p' : Pending) (on_st
       }) next))
 
   -- ---- what guests see
-  pub same_value : (b b' backing : Bytes) → KeepsCovers h a b b' → ((g : ℕ) → CoverIsAligned h (cover h b g)) → ((g o : ℕ) → 0 < names h b (o / cluster_size h) g → b o ≡ b' o)
+  pub same_value : h.incompatible ≡ 0 → (b b' backing : Bytes) → KeepsCovers h a b b' → ((g : ℕ) → CoverIsAligned h (cover h b g)) → ((g o : ℕ) → 0 < names h b (o / cluster_size h) g → b o ≡ b' o)
       → (o : ℕ) → guest_value h b b backing o ≡ guest_value (with_places h a) b' b' backing o
   unfolding guest_value
-  same_value b b' backing keeps aligned bytes o =
-      shown h b b' backing o (cover h b (o / cluster_size h)) (aligned (o / cluster_size h)) (λ place some. bytes (o / cluster_size h) place some)
+  same_value own b b' backing keeps aligned bytes o =
+      shown h b b' backing o (cover h b (o / cluster_size h)) (aligned (o / cluster_size h)) (λ place some. bytes (o / cluster_size h) place (let e = own_names h (place / cluster_size h) (cover h b (o / cluster_size h)) (own_data_of h own) in omega (arith, some, e)))
       ∙ ap (λ v. value_under h b' b' backing o v) (keeps (o / cluster_size h))
 
   module _ (crash_invariant' : CrashInvariant (with_places h a) d p' on_storage' known')
@@ -174,19 +175,21 @@ module _ (h : HeaderFields) (a : Places) (d : Direction) (p p' : Pending) (on_st
 
     pub moved_kept : StopOkEverywhere backing m on_storage → StopOkEverywhere backing (checkpoint_with [] asked m) on_storage'
     moved_kept kept =
-        kept_on backing m [] asked on_storage on_storage' (crash_invariant_consistent (with_places h a) d p' on_storage' known' crash_invariant')
+        let own = own_of_kept h backing m on_storage crash_invariant.top.header_is kept in
+        kept_on backing m [] asked on_storage on_storage' (crash_invariant_consistent (with_places h a) d p' on_storage' known' crash_invariant' own)
         (rest_kept h (with_places h a) on_storage on_storage' crash_invariant.top.header_is top.header_is refl refl rest) (size_too on_storage on_storage' crash_invariant.top.header_is top.header_is)
         (λ o. inl (value_is (with_places h a) on_storage' backing o top.header_is
-        ∙ sym (same_value on_storage on_storage' backing covers crash_invariant.aligned (λ g place some. storage_bytes place (in_sum on_storage (place / cluster_size h) g some (omega arith))) o)
+        ∙ sym (same_value own on_storage on_storage' backing covers crash_invariant.aligned (λ g place some. storage_bytes place (in_sum on_storage (place / cluster_size h) g some (omega arith))) o)
         ∙ sym (value_is h on_storage backing o crash_invariant.top.header_is))) kept
 
     pub moved_known_kept : StopOkEverywhere backing m known → StopOkEverywhere backing (checkpoint_with [] asked m) known'
     moved_known_kept kept =
         let was = (IsTop-top h on_storage known crash_invariant.same_top crash_invariant.top).header_is in
+        let own = own_of_kept h backing m known was kept in
         let is = (IsTop-top (with_places h a) on_storage' known' same_top top).header_is in
-        kept_on backing m [] asked known known' (known_consistent (with_places h a) d p' on_storage' known' crash_invariant')
+        kept_on backing m [] asked known known' (known_consistent (with_places h a) d p' on_storage' known' crash_invariant' own)
         (rest_kept h (with_places h a) known known' was is refl refl (λ o lt of_rest.
         sym (from_start (cluster_size h) on_storage' known' same_top.first_cluster o lt) ∙ rest o lt of_rest ∙ from_start (cluster_size h) on_storage known crash_invariant.same_top.first_cluster o lt)) (size_too known known' was is)
         (λ o. inl (value_is (with_places h a) known' backing o is
-        ∙ sym (same_value known known' backing known_covers crash_invariant.known_aligned (λ g place some. known_bytes place (in_sum known (place / cluster_size h) g some (omega arith))) o)
+        ∙ sym (same_value own known known' backing known_covers crash_invariant.known_aligned (λ g place some. known_bytes place (in_sum known (place / cluster_size h) g some (omega arith))) o)
         ∙ sym (value_is h known backing o was))) kept

@@ -6,7 +6,8 @@ use Rattle.qcow2_metadata.specs.Bytes.{Bytes}
 use Rattle.qcow2_metadata.specs.Header.{cluster_size}
 use Rattle.qcow2_metadata.specs.Cover.{cover}
 use Rattle.qcow2_metadata.specs.Guest.{known_byte, guest_value, value_under}
-use Rattle.qcow2_metadata.specs.Named.{named_by_cover}
+use Rattle.qcow2_laws.proofs.Guests.{own_names, own_data_of}
+use Rattle.qcow2_laws.specs.Guests.{named_by_guest}
 use Rattle.qcow2_metadata.specs.Consistent.{CoverIsAligned}
 use Rattle.qcow2_metadata.specs.declared.l2_mapping.L2Mapping.{L2Mapping}
 use Rattle.qcow2_metadata.specs.declared.l2_mapping.L2Mapping.TheVariants.{Data, Zero, Uncovered}
@@ -39,12 +40,12 @@ module _ (s : DriverState) (sound : StateInvariant s) where
   shown_uncovered backing o is = shown_under backing o Uncovered is
 
   -- ---- a guest cluster with data in a host cluster
-  module _ (g host : ℕ) (copied : Bool) (is : cover s.header s.known g ≡ Data host copied) where
+  module _ (inside : s.header.incompatible ≡ 0) (g host : ℕ) (copied : Bool) (is : cover s.header s.known g ≡ Data host copied) where
     pub data_aligned : host % cluster_size s.header ≡ 0
     data_aligned = subst (CoverIsAligned s.header) is (sound.known_aligned g)
 
     pub data_named : names s.header s.known (host / cluster_size s.header) g ≡ 1
-    data_named = ap (named_by_cover s.header (host / cluster_size s.header)) is ∙ in_own s.header host
+    data_named = ap (named_by_guest s.header (host / cluster_size s.header)) is ∙ own_names s.header (host / cluster_size s.header) (Data host copied) (own_data_of s.header inside) ∙ in_own s.header host
 
     -- no table is laid over them
     pub data_unlaid : (k : ℕ) → k < cluster_size s.header → s.on_storage (host + k) ≡ s.known (host + k)
@@ -56,11 +57,11 @@ module _ (s : DriverState) (sound : StateInvariant s) where
         let t = (tied s.header s.pending s.on_storage s.known (host / cluster_size s.header)).known in
         subst (λ n. 0 < named_in_either s.header s.on_storage s.known n + s.pending.new_data n) (sym here) (omega arith))
 
-  pub shown_data : (backing : Bytes) (o host : ℕ) (copied : Bool) → cover s.header s.known (o / cluster_size s.header) ≡ Data host copied
+  pub shown_data : s.header.incompatible ≡ 0 → (backing : Bytes) (o host : ℕ) (copied : Bool) → cover s.header s.known (o / cluster_size s.header) ≡ Data host copied
       → (disk s.known backing).value o ≡ known_byte (s.on_storage (host + o % cluster_size s.header))
-  shown_data backing o host copied is =
+  shown_data inside backing o host copied is =
       shown_under backing o (Data host copied) is
-      ∙ ap known_byte (sym (data_unlaid (o / cluster_size s.header) host copied is (o % cluster_size s.header) (mod_below o (cluster_size s.header) (pow_pos s.header.cluster_bits))))
+      ∙ ap known_byte (sym (data_unlaid inside (o / cluster_size s.header) host copied is (o % cluster_size s.header) (mod_below o (cluster_size s.header) (pow_pos s.header.cluster_bits))))
 
 -- ---- bytes are written to one cluster
 

@@ -23,8 +23,8 @@ use Rattle.qcow2_laws.proofs.SafeSteps.{safe_step_then, safe_step_less}
 
 pub sound_is_consistent : SoundIsConsistent
 sound_is_consistent = record {
-  on_storage = λ s sound. crash_invariant_consistent s.header s.direction s.pending s.on_storage s.known sound;
-  known = λ s sound. known_consistent s.header s.direction s.pending s.on_storage s.known sound;
+  on_storage = λ s sound own. crash_invariant_consistent s.header s.direction s.pending s.on_storage s.known sound own;
+  known = λ s sound own. known_consistent s.header s.direction s.pending s.on_storage s.known sound own;
   opened = λ b ok. opened_crash_invariant (header b) b ok refl;
 }
 

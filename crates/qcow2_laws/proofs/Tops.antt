@@ -92,7 +92,6 @@ IsTop-top h b c same top =
       l1_reads = λ i lt. subst L1EntryReads (same.l1 i) (top.l1_reads i lt);
       reftable_reads = λ k lt. subst ReftableEntryReads (same.reftable k) (top.reftable_reads k lt);
       no_snapshots = top.no_snapshots;
-      no_data_file = top.no_data_file;
       l1_aligned = top.l1_aligned;
       reftable_aligned = top.reftable_aligned;
       l2_tables_aligned = λ i lt. subst (λ e. IsAligned h (host_offset e)) (same.l1 i) (top.l2_tables_aligned i lt);

@@ -6,7 +6,8 @@ use Rattle.qcow2_metadata.specs.declared.header.HeaderFields.{HeaderFields}
 use Rattle.qcow2_metadata.specs.Header.{header, cluster_size}
 use Rattle.qcow2_metadata.specs.Entries.{l1_entry}
 use Rattle.qcow2_metadata.specs.Cover.{cover}
-use Rattle.qcow2_metadata.specs.Named.{named_by_cover, named_for_tables}
+use Rattle.qcow2_metadata.specs.Named.{named_for_tables}
+use Rattle.qcow2_laws.specs.Guests.{named_by_guest}
 use Rattle.qcow2_disk.specs.Disk.{disk, disk_with}
 use Rattle.qcow2_laws.specs.Guests.{over_guests, names, named_in_either}
 use Rattle.qcow2_laws.specs.CrashInvariant.{SameCovers, SameIn}
@@ -16,7 +17,7 @@ use Rattle.qcow2_laws.specs.SafeSteps.{DriverState, StateInvariant}
 use Rattle.qcow2_laws.specs.Steps.{block_of}
 use Rattle.qcow2_laws.specs.Unseen.{used_by_guests, SameUsedBytes, KeepsFormat, IsUnseen, SameL1Table}
 use Rattle.qcow2_laws.proofs.Places.{Sizes-from}
-use Rattle.qcow2_laws.proofs.Guests.{over_guests-same, guest_le, names_within}
+use Rattle.qcow2_laws.proofs.Guests.{own_data_of, over_guests-same, guest_le, names_within}
 use Rattle.qcow2_laws.proofs.Formats.{format_refl, format_same, format_then, size_format, l1_format, covers_format, guests_format, value_format}
 use Rattle.qcow2_laws.proofs.Tops.{for_tables-top, IsTop-top}
 use Rattle.qcow2_laws.proofs.Mixes.{tied}
@@ -29,7 +30,7 @@ use Rattle.qcow2_laws.proofs.NewTables.{outside_eight, known_covers}
 
 -- a cluster is named as often where the same covers stand
 named_same : (h : HeaderFields) (known known' : Bytes) (c : ℕ) → SameCovers h known known' → over_guests h (names h known c) ≡ over_guests h (names h known' c)
-named_same h known known' c covers = over_guests-same h (names h known c) (names h known' c) (λ g. ap (named_by_cover h c) (covers g))
+named_same h known known' c covers = over_guests-same h (names h known c) (names h known' c) (λ g. ap (named_by_guest h c) (covers g))
 
 pub unseen_none : (s : DriverState) → IsUnseen s s
 unseen_none s = record { header = format_refl s.header; covers = λ g. refl; bytes = λ o some. refl }
@@ -183,7 +184,7 @@ module _ (old new : DriverState) (sound : StateInvariant old) where
       let le = guest_le old.header (names old.header old.known c) g within in
       omega arith
 
-  module _ (sound' : StateInvariant new) (header : KeepsFormat old.header new.header) (backing : Bytes) where
+  module _ (inside : old.header.incompatible ≡ 0) (sound' : StateInvariant new) (header : KeepsFormat old.header new.header) (backing : Bytes) where
     pub size_stays : (disk new.known backing).size ≡ (disk old.known backing).size
     size_stays = size_is new.header new.known backing (known_header new sound') ∙ ap (λ (h : HeaderFields). h.size) header ∙ sym (size_is old.header old.known backing (known_header old sound))
 
@@ -194,7 +195,7 @@ module _ (old new : DriverState) (sound : StateInvariant old) where
     value_stays o same bytes =
         value_is new.header new.known backing o (known_header new sound')
         ∙ value_format old.header new.header header new.known backing o
-        ∙ sym (guest_value-same old.header old.known new.known backing o same (sound.known_aligned (o / cluster_size old.header)) (λ place some. sym (bytes place some)))
+        ∙ sym (guest_value-same old.header old.known new.known backing o (own_data_of old.header inside) same (sound.known_aligned (o / cluster_size old.header)) (λ place some. sym (bytes place some)))
         ∙ sym (value_is old.header old.known backing o (known_header old sound))
 
     pub disk_stays : SameCovers old.header old.known new.known
@@ -205,5 +206,5 @@ module _ (old new : DriverState) (sound : StateInvariant old) where
         value_stays o (covers (o / cluster_size old.header)) (λ place some. bytes place (named_some (place / cluster_size old.header) (o / cluster_size old.header) some))) in
         λ j. record { size = size_stays j; value = value j }
 
-  pub unseen_disk : StateInvariant new → IsUnseen old new → (backing : Bytes) → disk new.known backing ≡ disk old.known backing
-  unseen_disk sound' unseen backing = disk_stays sound' unseen.header backing unseen.covers (λ place some. unseen.bytes place (omega arith))
+  pub unseen_disk : old.header.incompatible ≡ 0 → StateInvariant new → IsUnseen old new → (backing : Bytes) → disk new.known backing ≡ disk old.known backing
+  unseen_disk inside sound' unseen backing = disk_stays inside sound' unseen.header backing unseen.covers (λ place some. unseen.bytes place (omega arith))

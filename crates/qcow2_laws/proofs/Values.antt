@@ -1,13 +1,15 @@
 -- Guest bytes stay where covers, and the bytes that they name, stay.
-use Rattle.std.proofs.Common.{◌≡◌, ℕ, ◌+◌, ◌-◌, ◌*◌, ◌/◌, ◌%◌, ◌<◌, ◌⊎◌, List, [], refl, sym, ap, ◌∙◌, arith, inl, inr, subst, max}
+use Rattle.std.proofs.Common.{false, ◌≡◌, ℕ, ◌+◌, ◌-◌, ◌*◌, ◌/◌, ◌%◌, ◌<◌, ◌⊎◌, List, [], refl, sym, ap, ◌∙◌, arith, inl, inr, subst, max}
 use Rattle.std.proofs.lemmas.Bool.{cond-true, le-leb, and_from}
 use Rattle.std.proofs.lemmas.Nat.{mod_below, pow_pos}
 use Rattle.qcow2_metadata.specs.Bytes.{Bytes, SameFrom}
 use Rattle.qcow2_metadata.specs.declared.header.HeaderFields.{HeaderFields}
-use Rattle.qcow2_metadata.specs.Header.{header, cluster_size}
+use Rattle.qcow2_metadata.specs.Header.{header, cluster_size, has_data_file}
 use Rattle.qcow2_metadata.specs.Cover.{cover}
 use Rattle.qcow2_metadata.specs.Guest.{known_byte, compressed_byte, guest_value, value_under, bytes_of_sectors}
-use Rattle.qcow2_metadata.specs.Named.{named_by_cover, in_cluster}
+use Rattle.qcow2_metadata.specs.Named.{in_cluster}
+use Rattle.qcow2_metadata.specs.Named.{named_by_cover}
+use Rattle.qcow2_laws.specs.Guests.{named_by_guest}
 use Rattle.qcow2_metadata.specs.Consistent.{CoverIsAligned, IsConsistent}
 use Rattle.qcow2_metadata.specs.declared.l2_mapping.L2Mapping.{L2Mapping}
 use Rattle.qcow2_metadata.specs.declared.l2_mapping.L2Mapping.TheVariants.{Data, Zero, Compressed, Uncovered}
@@ -18,8 +20,8 @@ use Rattle.qcow2_laws.specs.Guests.{names}
 use Rattle.qcow2_laws.specs.CrashInvariant.{Pending, CrashInvariant, IsMixed}
 use Rattle.qcow2_laws.proofs.Places.{Sizes, Sizes-from, in_one, div_mono}
 use Rattle.qcow2_laws.proofs.Tops.{bytes_from-same, first_keeps_rest, IsTop-top}
-use Rattle.qcow2_laws.proofs.Guests.{guest_le, names_within}
-use Rattle.qcow2_laws.proofs.Consistency.{in_own, crash_invariant_consistent}
+use Rattle.qcow2_laws.proofs.Guests.{guest_le, names_within, own_names, own_data_of}
+use Rattle.qcow2_laws.proofs.Consistency.{in_own, crash_invariant_consistent, own_of_kept}
 use Rattle.qcow2_laws.proofs.Mixes.{mixed_crash_invariant, either_cover, top_kept}
 use Rattle.qcow2_disk.proofs.Stops.{kept_on, kept_either}
 
@@ -40,12 +42,12 @@ shown h b c backing o (Compressed host sectors) aligned same =
     omega (arith, one))))
 shown h b c backing o Uncovered aligned same = refl
 
-pub guest_value-same : (h : HeaderFields) (b c backing : Bytes) (o : ℕ) → cover h b (o / cluster_size h) ≡ cover h c (o / cluster_size h)
+pub guest_value-same : (h : HeaderFields) (b c backing : Bytes) (o : ℕ) → has_data_file h ≡ false → cover h b (o / cluster_size h) ≡ cover h c (o / cluster_size h)
     → CoverIsAligned h (cover h b (o / cluster_size h)) → ((place : ℕ) → 0 < names h b (place / cluster_size h) (o / cluster_size h) → b place ≡ c place)
     → guest_value h b b backing o ≡ guest_value h c c backing o
 unfolding guest_value
-guest_value-same h b c backing o same aligned bytes =
-    shown h b c backing o (cover h b (o / cluster_size h)) aligned bytes ∙ ap (λ v. value_under h c c backing o v) same
+guest_value-same h b c backing o own same aligned bytes =
+    shown h b c backing o (cover h b (o / cluster_size h)) aligned (λ place some. bytes place (let e = own_names h (place / cluster_size h) (cover h b (o / cluster_size h)) own in omega (arith, some, e))) ∙ ap (λ v. value_under h c c backing o v) same
 
 -- ---- disks of images whose headers are known
 
@@ -88,12 +90,12 @@ module _ (h : HeaderFields) (d : Direction) (p : Pending) (on_storage known b : 
   unlaid_known g place some =
       crash_invariant.not_overlaid place (let le = guest_le h (λ k. max (names h on_storage (place / cluster_size h) k) (names h known (place / cluster_size h) k)) g (names_within h known (place / cluster_size h) g sizes some) in omega arith)
 
-  either_value : (backing : Bytes) (o : ℕ) → (guest_value h b b backing o ≡ guest_value h on_storage on_storage backing o) ⊎ (guest_value h b b backing o ≡ guest_value h known known backing o)
-  either_value backing o =
+  either_value : has_data_file h ≡ false → (backing : Bytes) (o : ℕ) → (guest_value h b b backing o ≡ guest_value h on_storage on_storage backing o) ⊎ (guest_value h b b backing o ≡ guest_value h known known backing o)
+  either_value own backing o =
       let g = o / cluster_size h in
       elim (either_cover h on_storage known b crash_invariant.top crash_invariant.same_top mixed.partly (o / cluster_size h)) [
-        | inl same ↦ inl (sym (guest_value-same h on_storage b backing o (sym same) (crash_invariant.aligned g) (λ place some. sym (as_on_storage place (unlaid_storage g place some)))))
-        | inr same ↦ inr (sym (guest_value-same h known b backing o (sym same) (crash_invariant.known_aligned g)
+        | inl same ↦ inl (sym (guest_value-same h on_storage b backing o own (sym same) (crash_invariant.aligned g) (λ place some. sym (as_on_storage place (unlaid_storage g place some)))))
+        | inr same ↦ inr (sym (guest_value-same h known b backing o own (sym same) (crash_invariant.known_aligned g)
             (λ place some. let u = unlaid_known g place some in sym (as_on_storage place u ∙ u))))
       ]
 
@@ -103,11 +105,12 @@ module _ (h : HeaderFields) (d : Direction) (p : Pending) (on_storage known b : 
       let now = mixed_crash_invariant h d p on_storage known b crash_invariant mixed in
       let at_b = now.top.header_is in
       let at_storage = crash_invariant.top.header_is in
+      let own = own_of_kept h backing m on_storage crash_invariant.top.header_is kept in
       let at_known = (IsTop-top h on_storage known crash_invariant.same_top crash_invariant.top).header_is in
-      kept_either backing m on_storage known b (crash_invariant_consistent h d p b known now)
+      kept_either backing m on_storage known b (crash_invariant_consistent h d p b known now own)
       (first_keeps_rest h on_storage b at_storage at_b (top_kept h on_storage known b crash_invariant.top crash_invariant.same_top mixed.partly).first_cluster)
       (size_is h b backing at_b ∙ sym (size_is h on_storage backing at_storage))
-      (λ o. elim (either_value backing o) [
+      (λ o. elim (either_value (own_data_of h own) backing o) [
         | inl is ↦ inl (value_is h b backing o at_b ∙ is ∙ sym (value_is h on_storage backing o at_storage))
         | inr is ↦ inr (value_is h b backing o at_b ∙ is ∙ sym (value_is h known backing o at_known))
       ]) kept known_kept

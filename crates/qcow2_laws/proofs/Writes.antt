@@ -1,28 +1,30 @@
 -- Writes to clusters that no table stands in keep the guard, and what was kept, with what they give.
-use Rattle.std.proofs.Common.{◌≡◌, ℕ, ◌+◌, ◌*◌, ◌/◌, ◌%◌, ◌<◌, ◌≤◌, ◌⊎◌, List, [], refl, sym, ap, ◌∙◌, arith, inl, inr, subst, max}
+use Rattle.std.proofs.Common.{false, ◌≡◌, ℕ, ◌+◌, ◌*◌, ◌/◌, ◌%◌, ◌<◌, ◌≤◌, ◌⊎◌, List, [], refl, sym, ap, ◌∙◌, arith, inl, inr, subst, max}
 use Rattle.std.proofs.lemmas.Bool.{cases_eq, cases_lt}
 use Rattle.std.proofs.lemmas.Nat.{div-add-mod', mod_below, mod-mul-add, pow_pos}
 use Rattle.qcow2_metadata.specs.Bytes.{Bytes}
 use Rattle.qcow2_metadata.specs.declared.header.HeaderFields.{HeaderFields}
-use Rattle.qcow2_metadata.specs.Header.{cluster_size}
+use Rattle.qcow2_metadata.specs.Header.{cluster_size, has_data_file}
 use Rattle.qcow2_metadata.specs.Entries.{count}
 use Rattle.qcow2_metadata.specs.Cover.{cover}
 use Rattle.qcow2_metadata.specs.Guest.{Value, known_byte, guest_value, value_under}
-use Rattle.qcow2_metadata.specs.Named.{named_by_cover, named_for_tables, in_cluster}
+use Rattle.qcow2_metadata.specs.Named.{named_for_tables, in_cluster}
+use Rattle.qcow2_metadata.specs.Named.{named_by_cover}
+use Rattle.qcow2_laws.specs.Guests.{named_by_guest, marked_by_cover}
 use Rattle.qcow2_metadata.specs.Consistent.{CoverIsAligned}
 use Rattle.qcow2_metadata.specs.declared.l2_mapping.L2Mapping.{L2Mapping}
 use Rattle.qcow2_metadata.specs.declared.l2_mapping.L2Mapping.TheVariants.{Data, Zero, Compressed, Uncovered}
 use Rattle.qcow2_disk.specs.Stops.{GivenBytes, IsGiven, Checkpoint, checkpoint_with, StopOkEverywhere}
 use Rattle.qcow2_laws.specs.Clusters.{Direction, Neither, L2DependsOnRb, RbDependsOnL2}
-use Rattle.qcow2_laws.specs.Guests.{over_guests, names, marks, named_in_either, marked_by_cover}
+use Rattle.qcow2_laws.specs.Guests.{over_guests, names, marks, named_in_either, marked_by_guest}
 use Rattle.qcow2_laws.specs.CrashInvariant.{Pending, cluster, CrashInvariant, SameTop, SameCovers, SameCounts, SameIn}
 use Rattle.qcow2_laws.specs.Writes.{IsUnnamed, IsWritten}
 use Rattle.qcow2_laws.proofs.Clusters.{Good, Written, new_data_unnamed, new_tables_unnamed, unused_unnamed, named_once}
 use Rattle.qcow2_laws.proofs.Places.{Sizes, Sizes-from, in_one}
-use Rattle.qcow2_laws.proofs.Guests.{over_guests-same, guest_le, two_guests_le, names_within, marks-le}
+use Rattle.qcow2_laws.proofs.Guests.{own_names, own_marks, own_data_of, over_guests-same, guest_le, two_guests_le, names_within, marks-le}
 use Rattle.qcow2_laws.proofs.Tops.{SameTop-sym, SameTop-trans, for_tables-top, copied_l1_refs-top, IsTop-top}
 use Rattle.qcow2_laws.proofs.Mixes.{tied, good, as_known}
-use Rattle.qcow2_laws.proofs.Consistency.{in_own, crash_invariant_consistent, known_consistent}
+use Rattle.qcow2_laws.proofs.Consistency.{in_own, crash_invariant_consistent, known_consistent, own_of_kept}
 use Rattle.qcow2_laws.proofs.Shares.{top_stays, covers_stay, counts_stay}
 use Rattle.qcow2_laws.proofs.Values.{shown, kept_shown}
 
@@ -38,12 +40,12 @@ module _ (h : HeaderFields) (d : Direction) (p : Pending) (on_storage known on_s
   good_too c =
       let table_refs = for_tables-top h on_storage on_storage' c top in
       let copied_l1_refs = copied_l1_refs-top h on_storage on_storage' c top in
-      let in_storage = over_guests-same h (names h on_storage c) (names h on_storage' c) (λ g. ap (named_by_cover h c) (covers g)) in
-      let in_known = over_guests-same h (names h known c) (names h known' c) (λ g. ap (named_by_cover h c) (known_covers g)) in
-      let in_either = sym (either_same (named_by_cover h c)) in
-      let marks_in_storage = over_guests-same h (marks h on_storage c) (marks h on_storage' c) (λ g. ap (marked_by_cover h c) (covers g)) in
-      let marks_known = over_guests-same h (marks h known c) (marks h known' c) (λ g. ap (marked_by_cover h c) (known_covers g)) in
-      let marks_either = sym (either_same (marked_by_cover h c)) in
+      let in_storage = over_guests-same h (names h on_storage c) (names h on_storage' c) (λ g. ap (named_by_guest h c) (covers g)) in
+      let in_known = over_guests-same h (names h known c) (names h known' c) (λ g. ap (named_by_guest h c) (known_covers g)) in
+      let in_either = sym (either_same (named_by_guest h c)) in
+      let marks_in_storage = over_guests-same h (marks h on_storage c) (marks h on_storage' c) (λ g. ap (marked_by_guest h c) (covers g)) in
+      let marks_known = over_guests-same h (marks h known c) (marks h known' c) (λ g. ap (marked_by_guest h c) (known_covers g)) in
+      let marks_either = sym (either_same (marked_by_guest h c)) in
       subst (λ k. Good d k (p.surplus c)) (λ j. record (cluster h p on_storage' known' c) {
         table_refs = table_refs j;
         copied_l1_refs = copied_l1_refs j;
@@ -66,8 +68,8 @@ module _ (h : HeaderFields) (d : Direction) (p : Pending) (on_storage known on_s
     aligned = λ g. subst (CoverIsAligned h) (covers g) (crash_invariant.aligned g);
     known_aligned = λ g. subst (CoverIsAligned h) (known_covers g) (crash_invariant.known_aligned g);
     own = λ g c some.
-        subst (λ v. named_by_cover h c v ≤ marked_by_cover h c v) (covers g) (crash_invariant.own g c (subst (λ v. 0 < marked_by_cover h c v) (sym (known_covers g)) some));
-    not_overlaid = λ o some. not_overlaid o (let e = either_same (named_by_cover h (o / cluster_size h)) in omega arith);
+        subst (λ v. named_by_guest h c v ≤ marked_by_guest h c v) (covers g) (crash_invariant.own g c (subst (λ v. 0 < marked_by_guest h c v) (sym (known_covers g)) some));
+    not_overlaid = λ o some. not_overlaid o (let e = either_same (named_by_guest h (o / cluster_size h)) in omega arith);
   }
 
 -- ---- what is pending, or counted nowhere, is unnamed
@@ -85,7 +87,7 @@ module _ (h : HeaderFields) (d : Direction) (p : Pending) (on_storage known : By
       written Neither covers = tt
       written L2DependsOnRb covers = tt
       written RbDependsOnL2 covers =
-          (as_known h known on_storage (λ k. sym (covers refl k)) (named_by_cover h c), as_known h known on_storage (λ k. sym (covers refl k)) (marked_by_cover h c))
+          (as_known h known on_storage (λ k. sym (covers refl k)) (named_by_guest h c), as_known h known on_storage (λ k. sym (covers refl k)) (marked_by_guest h c))
 
   -- a fresh cluster may still be named by an entry on the storage, unless L2 tables are written
   pub new_tables_is_unnamed : 0 < p.new_tables c → (d ≡ RbDependsOnL2 → SameCovers h on_storage known) → IsUnnamed h on_storage known c
@@ -131,14 +133,19 @@ shown_given h b b' backing o given (Compressed host sectors) aligned each =
     inl (sym (shown h b b' backing o (Compressed host sectors) tt (λ place some. elim (each place some) [ inl same ↦ same | inr change ↦ absurd (omega (arith, change.0)) ])))
 shown_given h b b' backing o given Uncovered aligned each = inl refl
 
-guest_given : (h : HeaderFields) (b b' backing : Bytes) (o : ℕ) (given : List GivenBytes) → cover h b (o / cluster_size h) ≡ cover h b' (o / cluster_size h) → CoverIsAligned h (cover h b (o / cluster_size h))
+guest_given : (h : HeaderFields) (b b' backing : Bytes) (o : ℕ) (given : List GivenBytes) → has_data_file h ≡ false → cover h b (o / cluster_size h) ≡ cover h b' (o / cluster_size h) → CoverIsAligned h (cover h b (o / cluster_size h))
     → ((place : ℕ) → 0 < names h b (place / cluster_size h) (o / cluster_size h)
     → (b place ≡ b' place) ⊎ ((0 < marks h b (place / cluster_size h) (o / cluster_size h)) × (place % cluster_size h ≡ o % cluster_size h → (b place ≡ b' place) ⊎ IsGiven given o (known_byte (b' place)))))
     → (guest_value h b' b' backing o ≡ guest_value h b b backing o) ⊎ IsGiven given o (guest_value h b' b' backing o)
 unfolding guest_value
-guest_given h b b' backing o given same aligned each =
+guest_given h b b' backing o given own same aligned each =
     let e : value_under h b' b' backing o (cover h b (o / cluster_size h)) ≡ value_under h b' b' backing o (cover h b' (o / cluster_size h)) = ap (λ v. value_under h b' b' backing o v) same in
-    elim (shown_given h b b' backing o given (cover h b (o / cluster_size h)) aligned each) [
+    elim (shown_given h b b' backing o given (cover h b (o / cluster_size h)) aligned (λ place some.
+    let v = cover h b (o / cluster_size h) in
+    elim (each place (let e = own_names h (place / cluster_size h) (cover h b (o / cluster_size h)) own in omega (arith, some, e))) [
+      | inl is ↦ inl is
+      | inr marked ↦ inr (let m = own_marks h (place / cluster_size h) (cover h b (o / cluster_size h)) own in omega (arith, marked.0, m), marked.1)
+    ])) [
       | inl is ↦ inl (sym e ∙ is)
       | inr bytes_given ↦ inr (subst (λ (v : Value). IsGiven given o v) e bytes_given)
     ]
@@ -247,13 +254,15 @@ module _ (h : HeaderFields) (d : Direction) (p : Pending) (on_storage known on_s
 
   pub written_kept : (backing : Bytes) (m : Checkpoint) → StopOkEverywhere backing m on_storage → StopOkEverywhere backing (checkpoint_with given [] m) on_storage'
   written_kept backing m kept =
-      kept_shown h backing m given on_storage on_storage' crash_invariant.top.header_is written_crash_invariant.top.header_is (crash_invariant_consistent h d p on_storage' known' written_crash_invariant)
+      let own = own_of_kept h backing m on_storage crash_invariant.top.header_is kept in
+      kept_shown h backing m given on_storage on_storage' crash_invariant.top.header_is written_crash_invariant.top.header_is (crash_invariant_consistent h d p on_storage' known' written_crash_invariant own)
       (top_stays h on_storage on_storage' crash_invariant.top storage_stays).first_cluster
-      (λ o. guest_given h on_storage on_storage' backing o given (now_covers (o / cluster_size h)) (crash_invariant.aligned (o / cluster_size h)) (storage_place o)) kept
+      (λ o. guest_given h on_storage on_storage' backing o given (own_data_of h own) (now_covers (o / cluster_size h)) (crash_invariant.aligned (o / cluster_size h)) (storage_place o)) kept
 
   pub written_known_kept : (backing : Bytes) (m : Checkpoint) → StopOkEverywhere backing m known → StopOkEverywhere backing (checkpoint_with given [] m) known'
   written_known_kept backing m kept =
+      let own = own_of_kept h backing m known (IsTop-top h on_storage known crash_invariant.same_top crash_invariant.top).header_is kept in
       kept_shown h backing m given known known' (IsTop-top h on_storage known crash_invariant.same_top crash_invariant.top).header_is
-      (IsTop-top h on_storage' known' written_crash_invariant.same_top written_crash_invariant.top).header_is (known_consistent h d p on_storage' known' written_crash_invariant)
+      (IsTop-top h on_storage' known' written_crash_invariant.same_top written_crash_invariant.top).header_is (known_consistent h d p on_storage' known' written_crash_invariant own)
       (top_stays h known known' (IsTop-top h on_storage known crash_invariant.same_top crash_invariant.top) known_stays).first_cluster
-      (λ o. guest_given h known known' backing o given (known_covers (o / cluster_size h)) (crash_invariant.known_aligned (o / cluster_size h)) (known_place o)) kept
+      (λ o. guest_given h known known' backing o given (own_data_of h own) (known_covers (o / cluster_size h)) (crash_invariant.known_aligned (o / cluster_size h)) (known_place o)) kept

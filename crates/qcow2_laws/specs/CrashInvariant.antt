@@ -18,7 +18,6 @@ pub record IsTop (h : HeaderFields) (b : Bytes) : Type 0 where
   pub l1_reads : (i : ℕ) → i < h.l1_entries → L1EntryReads (l1_entry h b i)
   pub reftable_reads : (k : ℕ) → k < reftable_entries h → ReftableEntryReads (reftable_entry h b k)
   pub no_snapshots : h.snapshots ≡ 0
-  pub no_data_file : h.incompatible ≡ 0
   pub l1_aligned : IsAligned h h.l1_offset
   pub reftable_aligned : IsAligned h h.reftable_offset
   pub l2_tables_aligned : (i : ℕ) → i < h.l1_entries → IsAligned h (table_at h b i)

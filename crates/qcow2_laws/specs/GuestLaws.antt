@@ -37,7 +37,7 @@ pub record KeepsGuests (old new : DriverState) : Type 0 where
   pub bytes : SameUsedBytes old new
   pub used : (c : ℕ) → used_by_guests new c ≡ used_by_guests old c
   pub surplus : (c : ℕ) → new.pending.surplus c ≡ old.pending.surplus c
-  pub disk : (backing : Bytes) → disk new.known backing ≡ disk old.known backing
+  pub disk : old.header.incompatible ≡ 0 → (backing : Bytes) → disk new.known backing ≡ disk old.known backing
 
 -- A longer L1 table keeps what guests see.
 abbrev pub LongerL1TableKeepsGuests : Type 0
@@ -48,7 +48,7 @@ LongerL1TableKeepsGuests =
 -- Where no other size is asked for, whatever is kept of the storage and of what is known has the old size.
 abbrev pub SizeStaysUnlessAsked : Type 0
 SizeStaysUnlessAsked =
-    (s : DriverState) (backing image : Bytes) (given : List GivenBytes) → StateInvariant s
+    (s : DriverState) (backing image : Bytes) (given : List GivenBytes) → StateInvariant s → s.header.incompatible ≡ 0
     → ((m : Checkpoint) → StopOkEverywhere backing m s.on_storage → StopOkEverywhere backing m s.known → StopOkEverywhere backing (checkpoint_with given [] m) image) → (header image).size ≡ s.header.size
 
 -- each moment of a storage since has this size
@@ -88,24 +88,24 @@ pub record ClearsRange (first n : ℕ) (old new : DriverState) (now : Bytes → 
 
 -- Guest clusters that are zeroed or uncovered in turn are a range of the disk that is.
 pub record ClustersInTurnAreARange : Type 0 where
-  pub zeroed : (s new : DriverState) (first n : ℕ) → StateInvariant s → MapsInTurn IsZeros first n s new → ClearsRange first n s new (λ backing d from to. zeroed_between d from to)
-  pub uncovered : (s new : DriverState) (first n : ℕ) → StateInvariant s → MapsInTurn (λ v. v ≡ Uncovered) first n s new → ClearsRange first n s new (λ backing d from to. uncovered d backing from to)
+  pub zeroed : (s new : DriverState) (first n : ℕ) → StateInvariant s → s.header.incompatible ≡ 0 → MapsInTurn IsZeros first n s new → ClearsRange first n s new (λ backing d from to. zeroed_between d from to)
+  pub uncovered : (s new : DriverState) (first n : ℕ) → StateInvariant s → s.header.incompatible ≡ 0 → MapsInTurn (λ v. v ≡ Uncovered) first n s new → ClearsRange first n s new (λ backing d from to. uncovered d backing from to)
 
 -- ---- a cluster that a zero entry keeps
 
 -- Bytes are written into it, where they stand once the guest cluster has it as data: this gives them at their guest offsets, and zeros give nothing. The disk stays.
 pub record KeptClusterIsWritten : Type 0 where
-  pub bytes : (s : DriverState) (on_storage' known' : Bytes) (g host at : ℕ) (bytes : List ℕ) → StateInvariant s → cover s.header s.known g ≡ Zero (Some (host, true)) → at + length bytes ≤ cluster_size s.header
+  pub bytes : (s : DriverState) (on_storage' known' : Bytes) (g host at : ℕ) (bytes : List ℕ) → StateInvariant s → s.header.incompatible ≡ 0 → cover s.header s.known g ≡ Zero (Some (host, true)) → at + length bytes ≤ cluster_size s.header
       → WritesAt (host + at) (length bytes) s.on_storage s.known on_storage' known' → ((i : ℕ) → i < length bytes → on_storage' (host + at + i) ≡ byte_at bytes i)
       → SafeStep s (record s { on_storage = on_storage'; known = known' }) (λ _. given_of (g * cluster_size s.header + at) bytes ∷ []) [] × ((backing : Bytes) → disk known' backing ≡ disk s.known backing)
-  pub zeros : (s : DriverState) (on_storage' known' : Bytes) (g host at : ℕ) (bytes : List ℕ) → StateInvariant s → cover s.header s.known g ≡ Zero (Some (host, true)) → at + length bytes ≤ cluster_size s.header
+  pub zeros : (s : DriverState) (on_storage' known' : Bytes) (g host at : ℕ) (bytes : List ℕ) → StateInvariant s → s.header.incompatible ≡ 0 → cover s.header s.known g ≡ Zero (Some (host, true)) → at + length bytes ≤ cluster_size s.header
       → WritesAt (host + at) (length bytes) s.on_storage s.known on_storage' known' → ((i : ℕ) → i < length bytes → on_storage' (host + at + i) ≡ byte_at bytes i) → ((i : ℕ) → i < length bytes → byte_at bytes i ≡ 0)
       → SafeStep s (record s { on_storage = on_storage'; known = known' }) (λ _. []) []
 
 -- It becomes data: the guest cluster shows its bytes, and what is pending stays.
 abbrev pub KeptClusterIsCommitted : Type 0
 KeptClusterIsCommitted =
-    (s : DriverState) (known' : Bytes) (i j host : ℕ) → StateInvariant s → EntryChanges s known' i j → cover s.header s.known (guest_at s.header i j) ≡ Zero (Some (host, true))
+    (s : DriverState) (known' : Bytes) (i j host : ℕ) → StateInvariant s → s.header.incompatible ≡ 0 → EntryChanges s known' i j → cover s.header s.known (guest_at s.header i j) ≡ Zero (Some (host, true))
     → cover s.header known' (guest_at s.header i j) ≡ Data host true
     → SafeStep s (record s { known = known' })
     (λ backing. given_shown (disk known' backing) (guest_at s.header i j * cluster_size s.header) (guest_at s.header i j * cluster_size s.header + cluster_size s.header) ∷ []) []
@@ -158,9 +158,9 @@ pub record WritesRun (hosting : ℕ → Hosting) (offset place : ℕ) (bytes : L
 
 -- One storage write goes over a run of clusters, each of them data in place, kept or new data. Guests see at once what is in place, and nothing else of it. No table stands at such a place.
 pub record RunIsWritten : Type 0 where
-  pub written : (s : DriverState) (on_storage' known' : Bytes) (hosting : ℕ → Hosting) (offset place : ℕ) (bytes : List ℕ) (given : List GivenBytes) → StateInvariant s
+  pub written : (s : DriverState) (on_storage' known' : Bytes) (hosting : ℕ → Hosting) (offset place : ℕ) (bytes : List ℕ) (given : List GivenBytes) → StateInvariant s → s.header.incompatible ≡ 0
       → ((i : ℕ) → i < length bytes → IsHostedAt s (hosting (offset + i)) (offset + i) (place + i))
       → ((i : ℕ) → i < length bytes → IsGivenAt given (hosting (offset + i)) (offset + i) (byte_at bytes i))
       → WritesAt place (length bytes) s.on_storage s.known on_storage' known' → ((i : ℕ) → i < length bytes → on_storage' (place + i) ≡ byte_at bytes i)
       → WritesRun hosting offset place bytes given s (record s { on_storage = on_storage'; known = known' })
-  pub beside_tables : (s : DriverState) (hosting : Hosting) (o place : ℕ) → StateInvariant s → IsHostedAt s hosting o place → named_for_tables s.header s.on_storage (place / cluster_size s.header) ≡ 0
+  pub beside_tables : (s : DriverState) (hosting : Hosting) (o place : ℕ) → StateInvariant s → s.header.incompatible ≡ 0 → IsHostedAt s hosting o place → named_for_tables s.header s.on_storage (place / cluster_size s.header) ≡ 0

@@ -2,7 +2,7 @@
 use Rattle.std.specs.Prelude.{ℕ, ◌*◌, Bool, Option, Some, None, max, if◌then◌else◌}
 use Rattle.qcow2_metadata.specs.Bytes.{Bytes, sum_below}
 use Rattle.qcow2_metadata.specs.declared.header.HeaderFields.{HeaderFields}
-use Rattle.qcow2_metadata.specs.Header.{entries_per_cluster}
+use Rattle.qcow2_metadata.specs.Header.{entries_per_cluster, has_data_file}
 use Rattle.qcow2_metadata.specs.Entries.{l1_entry, host_offset, is_copied}
 use Rattle.qcow2_metadata.specs.Cover.{cover}
 use Rattle.qcow2_metadata.specs.Named.{in_cluster, table_in, named_by_cover}
@@ -28,12 +28,19 @@ marked_by_cover h cluster (Zero kept) = marked_by_kept h cluster kept
 marked_by_cover h cluster (Compressed host sectors) = 0
 marked_by_cover h cluster Uncovered = 0
 
+-- Of the image's own clusters a guest cluster names none, and marks none, where the data stand in another file.
+abbrev pub named_by_guest : HeaderFields → ℕ → L2Mapping → ℕ
+named_by_guest h cluster v = if has_data_file h then 0 else named_by_cover h cluster v
+
+abbrev pub marked_by_guest : HeaderFields → ℕ → L2Mapping → ℕ
+marked_by_guest h cluster v = if has_data_file h then 0 else marked_by_cover h cluster v
+
 -- how often a guest cluster names a host cluster, and marks it copied
 abbrev pub names : HeaderFields → Bytes → ℕ → ℕ → ℕ
-names h b cluster guest = named_by_cover h cluster (cover h b guest)
+names h b cluster guest = named_by_guest h cluster (cover h b guest)
 
 abbrev pub marks : HeaderFields → Bytes → ℕ → ℕ → ℕ
-marks h b cluster guest = marked_by_cover h cluster (cover h b guest)
+marks h b cluster guest = marked_by_guest h cluster (cover h b guest)
 
 -- how often guest clusters name a host cluster at most, each in the one image or in the other
 abbrev pub named_in_either : HeaderFields → Bytes → Bytes → ℕ → ℕ

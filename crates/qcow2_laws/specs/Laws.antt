@@ -30,8 +30,8 @@ opened_state b = record { header = header b; direction = Neither; pending = noth
 
 -- What is on the storage, and what is known, is consistent; and a consistent image is sound as it is opened.
 pub record SoundIsConsistent : Type 0 where
-  pub on_storage : (s : DriverState) → StateInvariant s → IsConsistent s.on_storage
-  pub known : (s : DriverState) → StateInvariant s → IsConsistent s.known
+  pub on_storage : (s : DriverState) → StateInvariant s → s.header.incompatible ≡ 0 → IsConsistent s.on_storage
+  pub known : (s : DriverState) → StateInvariant s → s.header.incompatible ≡ 0 → IsConsistent s.known
   pub opened : (b : Bytes) → IsConsistent b → StateInvariant (opened_state b)
 
 -- Some cached tables are written in an order that the direction allows; or the direction turns.

@@ -6,6 +6,7 @@ pub mod Changes
 pub mod Writes
 pub mod Tops
 pub mod Unseen
+pub mod Beside
 pub mod Caches
 pub mod SafeSteps
 pub mod Steps

@@ -1,0 +1,44 @@
+-- When an image is consistent whose data stand in another file: its guest clusters name no cluster of the image.
+use Rattle.std.specs.Prelude.{ℕ, ◌-◌, ◌*◌, ◌/◌, ◌≡◌, ◌≢◌, ◌<◌, ◌≤◌, true, IsTrue, ⊤, Option, Some, None}
+use Rattle.qcow2_metadata.specs.Bytes.{Bytes}
+use Rattle.qcow2_metadata.specs.declared.header.HeaderFields.{HeaderFields}
+use Rattle.qcow2_metadata.specs.Header.{header, HeaderReads, ReftableFits, cluster_size, reftable_entries, has_data_file}
+use Rattle.qcow2_metadata.specs.Entries.{l1_entry, reftable_entry, count, host_offset, block_offset, is_copied, L1EntryReads, ReftableEntryReads}
+use Rattle.qcow2_metadata.specs.Cover.{cover}
+use Rattle.qcow2_metadata.specs.Named.{named_for_tables}
+use Rattle.qcow2_metadata.specs.Consistent.{IsAligned, EachCover, CoverIsAligned}
+use Rattle.qcow2_metadata.specs.declared.l2_mapping.L2Mapping.{L2Mapping}
+use Rattle.qcow2_metadata.specs.declared.l2_mapping.L2Mapping.TheVariants.{Data, Zero, Compressed, Uncovered}
+
+-- what stands for a guest cluster stands at its own offset in that file, and data are marked copied; nothing is compressed
+abbrev pub StandsAtGuest : HeaderFields → ℕ → L2Mapping → Type 0
+StandsAtGuest h g (Data host copied) = (host ≡ g * cluster_size h) × IsTrue copied
+StandsAtGuest h g (Zero None) = ⊤
+StandsAtGuest h g (Zero (Some k)) = k.0 ≡ g * cluster_size h
+StandsAtGuest h g (Compressed place sectors) = ⊥
+StandsAtGuest h g Uncovered = ⊤
+
+-- named once and counted once, as a table's cluster
+abbrev pub IsOwnTable : HeaderFields → Bytes → ℕ → Type 0
+IsOwnTable h b place = (named_for_tables h b (place / cluster_size h) ≡ 1) × (count h b (place / cluster_size h) ≡ 1)
+
+pub record ConsistentBeside (h : HeaderFields) (b : Bytes) : Type 0 where
+  pub header_reads : HeaderReads h b
+  pub reftable_fits : ReftableFits h
+  pub l1_reads : (i : ℕ) → i < h.l1_entries → L1EntryReads (l1_entry h b i)
+  pub reftable_reads : (k : ℕ) → k < reftable_entries h → ReftableEntryReads (reftable_entry h b k)
+  pub no_snapshots : h.snapshots ≡ 0
+  pub external : has_data_file h ≡ true
+  pub l1_aligned : IsAligned h h.l1_offset
+  pub reftable_aligned : IsAligned h h.reftable_offset
+  pub l2_tables_aligned : (i : ℕ) → i < h.l1_entries → IsAligned h (host_offset (l1_entry h b i))
+  pub refblocks_aligned : (k : ℕ) → k < reftable_entries h → IsAligned h (block_offset (reftable_entry h b k))
+  pub data_aligned : EachCover h b (CoverIsAligned h)
+  pub counted : (cluster : ℕ) → named_for_tables h b cluster ≤ count h b cluster
+  pub tables_once : (cluster : ℕ) → named_for_tables h b cluster ≢ 0 → named_for_tables h b cluster ≡ 1
+  pub copied_tables : (i : ℕ) → i < h.l1_entries → host_offset (l1_entry h b i) ≢ 0 → IsTrue (is_copied (l1_entry h b i)) → IsOwnTable h b (host_offset (l1_entry h b i))
+  pub at_guests : (g : ℕ) → StandsAtGuest h g (cover h b g)
+
+-- how much more often each cluster is counted than tables name it
+abbrev pub table_surplus_of : HeaderFields → Bytes → ℕ → ℕ
+table_surplus_of h b c = count h b c - named_for_tables h b c
