@@ -5,7 +5,8 @@ use Rattle.qcow2_metadata.specs.Bytes.{Bytes}
 use Rattle.qcow2_metadata.specs.declared.header.HeaderFields.{HeaderFields}
 use Rattle.qcow2_metadata.specs.Header.{reftable_entries}
 use Rattle.qcow2_metadata.specs.Entries.{l1_entry, reftable_entry, block_offset, count}
-use Rattle.qcow2_metadata.specs.Named.{in_cluster, table_in, named_by_cover, named_by_reftable, named_for_tables}
+use Rattle.qcow2_metadata.specs.Named.{in_cluster, table_in, named_by_reftable, named_for_tables}
+use Rattle.qcow2_laws.specs.Guests.{named_by_guest}
 use Rattle.qcow2_laws.specs.Clusters.{Direction}
 use Rattle.qcow2_laws.specs.CrashInvariant.{Pending, CrashInvariant, SameCovers}
 use Rattle.qcow2_laws.specs.Guests.{names}
@@ -38,6 +39,6 @@ pub counts_follow : (h : HeaderFields) (d d' : Direction) (p p' : Pending) (on_s
 counts_follow h d d' p p' on_storage on_storage' known known' old new covers table_refs c same =
     let before = (old.each_cluster c).tally in
     let after = (new.each_cluster c).tally in
-    let used = over_guests-same h (names h known c) (names h known' c) (λ g. ap (named_by_cover h c) (covers g)) in
+    let used = over_guests-same h (names h known c) (names h known' c) (λ g. ap (named_by_guest h c) (covers g)) in
     let more = table_refs c in
     omega arith

@@ -12,7 +12,8 @@ use Rattle.qcow2_metadata.specs.Entries.{l1_entry, reftable_entry, block_offset,
 use Rattle.qcow2_metadata.specs.EntryTable.{EntryTableView, IsRefTableOf, entry_count}
 use Rattle.qcow2_metadata.specs.TableBytes.{entry_at}
 use Rattle.qcow2_metadata.specs.L2Mapping.{IsHostCluster}
-use Rattle.qcow2_metadata.specs.Named.{in_cluster, table_in, named_by_cover, named_by_reftable, named_by_l1_table, named_for_tables}
+use Rattle.qcow2_metadata.specs.Named.{in_cluster, table_in, named_by_reftable, named_by_l1_table, named_for_tables}
+use Rattle.qcow2_laws.specs.Guests.{named_by_guest}
 use Rattle.qcow2_laws.specs.Changes.{one_at}
 use Rattle.qcow2_laws.specs.Clusters.{Direction}
 use Rattle.qcow2_laws.specs.CrashInvariant.{Pending, CrashInvariant, SameCovers}
@@ -92,7 +93,7 @@ l1_named_with h offset clusters b k = refl
 module _ (h h' : HeaderFields) (format : KeepsFormat h h') (d d' : Direction) (p p' : Pending) (on_storage on_storage' known known' : Bytes) (old : CrashInvariant h d p on_storage known) (new : CrashInvariant h' d' p' on_storage' known')
     (covers : SameCovers h known known') (l1 : (i : ℕ) → l1_entry h on_storage' i ≡ l1_entry h on_storage i) (k : ℕ) where
   guests_alike : over_guests h' (names h' known' k) ≡ over_guests h (names h known k)
-  guests_alike = guests_format h h' format known' k ∙ over_guests-same h (names h known' k) (names h known k) (λ g. ap (named_by_cover h k) (sym (covers g)))
+  guests_alike = guests_format h h' format known' k ∙ over_guests-same h (names h known' k) (names h known k) (λ g. ap (named_by_guest h k) (sym (covers g)))
 
   header_format : in_cluster h' k 0 ≡ in_cluster h k 0
   header_format = ap (λ (j : HeaderFields). in_cluster j k 0) format

@@ -7,7 +7,8 @@ use Rattle.qcow2_metadata.specs.declared.header.HeaderFields.{HeaderFields}
 use Rattle.qcow2_metadata.specs.declared.l2_mapping.L2Mapping.{L2Mapping}
 use Rattle.qcow2_metadata.specs.Header.{cluster_size, entries_per_cluster}
 use Rattle.qcow2_metadata.specs.Entries.{host_offset}
-use Rattle.qcow2_metadata.specs.Named.{named_by_l1_table, named_by_reftable, named_by_cover}
+use Rattle.qcow2_metadata.specs.Named.{named_by_l1_table, named_by_reftable}
+use Rattle.qcow2_laws.specs.Guests.{named_by_guest}
 use Rattle.qcow2_metadata.specs.Tables.{CachedTable, known, overlays}
 use Rattle.qcow2_laws.specs.Clusters.{Direction}
 use Rattle.qcow2_laws.specs.CrashInvariant.{Pending, CrashInvariant, SameCovers, SameIn}
@@ -104,7 +105,7 @@ module _ (h : HeaderFields) (d : Direction) (p : Pending) (l2s rbs : List Cached
     still_unnamed : (c : ℕ) → IsUnnamed h on_storage (known_bytes size l2s rbs on_storage) c → IsUnnamed h on_storage (known_bytes size l2s (t ∷ rbs) on_storage) c
     still_unnamed c unnamed = record {
       no_table = unnamed.no_table;
-      no_entry = over_guests-same h _ _ (λ g. ap (λ (m : L2Mapping). max (names h on_storage c g) (named_by_cover h c m)) (sym (same_covers g))) ∙ unnamed.no_entry;
+      no_entry = over_guests-same h _ _ (λ g. ap (λ (m : L2Mapping). max (names h on_storage c g) (named_by_guest h c m)) (sym (same_covers g))) ∙ unnamed.no_entry;
     }
 
     pub rb_laid : AreElsewhere t.place rbs → AreKept h d p' l2s (t ∷ rbs) on_storage

@@ -15,7 +15,8 @@ use Rattle.qcow2_metadata.specs.declared.l2_mapping.L2Mapping.{L2Mapping}
 use Rattle.qcow2_metadata.specs.Header.{cluster_size}
 use Rattle.qcow2_metadata.specs.L2Table.{L2TableView}
 use Rattle.qcow2_metadata.specs.RefBlock.{RefBlockView}
-use Rattle.qcow2_metadata.specs.Named.{named_by_l1_table, named_by_cover}
+use Rattle.qcow2_metadata.specs.Named.{named_by_l1_table}
+use Rattle.qcow2_laws.specs.Guests.{named_by_guest}
 use Rattle.qcow2_metadata.specs.Tables.{CachedTable, known, overlays}
 use Rattle.qcow2_laws.specs.Clusters.{Direction}
 use Rattle.qcow2_laws.specs.CrashInvariant.{Pending, CrashInvariant, IsPartly}
@@ -205,7 +206,7 @@ module _ (h : HeaderFields) (d : Direction) (p : Pending) (l2s rbs l2s' rbs' : L
     no_table = unnamed.no_table;
     no_entry =
         let le : named_in_either h on_storage (known_bytes size l2s' rbs' on_storage) c ≤ named_in_either h on_storage (known_bytes size l2s rbs on_storage) c =
-        over_guests-le h _ _ (λ g. less_named (named_by_cover h c) _ _ _ (either_cover h on_storage (known_bytes size l2s rbs on_storage) (known_bytes size l2s' rbs' on_storage) are.kept.crash_invariant.top are.kept.crash_invariant.same_top off_partly g)) in
+        over_guests-le h _ _ (λ g. less_named (named_by_guest h c) _ _ _ (either_cover h on_storage (known_bytes size l2s rbs on_storage) (known_bytes size l2s' rbs' on_storage) are.kept.crash_invariant.top are.kept.crash_invariant.same_top off_partly g)) in
         let none = unnamed.no_entry in
         omega arith;
   }
