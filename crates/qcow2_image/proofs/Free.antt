@@ -55,6 +55,7 @@ module _ {S F : Type 0} (view : S → StorageView) (backing : F → BackingView)
       file = subst (λ q. FileInvariant view q image.file) same s.file;
       l1_table = s.l1_table;
       reftable = s.reftable;
+      inside = s.inside;
       below = s.below;
       ready = λ k q e. let there = at k q e in s.ready there.0 q there.1;
       pinned = λ t. s.pinned t ∙ pins t;
@@ -73,7 +74,7 @@ module _ {S F : Type 0} (view : S → StorageView) (backing : F → BackingView)
   whole image out sound =
       let stand = state_in view image.file (pending_in view backing image out) in
       record {
-        consistent = sound_is_consistent.known stand sound.file.caches.kept.kept.crash_invariant;
+        consistent = sound_is_consistent.known stand sound.file.caches.kept.kept.crash_invariant sound.inside;
         in_image = refl;
         cluster_size = ap (λ (h : HeaderFields). cluster_size h) (sym (known_header stand sound.file.caches.kept.kept.crash_invariant));
       }

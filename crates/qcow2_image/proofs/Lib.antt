@@ -1,6 +1,7 @@
 pub mod Sound
 pub mod Formats
 pub mod Ready
+pub mod Inside
 pub mod Shares
 pub mod Apart
 pub mod Moving

@@ -32,6 +32,7 @@ use Rattle.qcow2_image.specs.declared.prepared.Share.{Share}
 use Rattle.qcow2_image.specs.declared.prepared.Share.TheVariants.{InPlace, Kept, New}
 use Rattle.qcow2_image.specs.UnseenSteps.{freed_by, HoldsAll}
 use Rattle.qcow2_image.specs.ImageInvariant.{of_data, of_tables, to_free, new_data_in, new_data_by, over_all, is_entered, cluster_of, begin_of, host_begin_of, place_of, share_of, IsShareAt, IsPending, IsReadyWith, is_private, ImageInvariant}
+use Rattle.qcow2_image.proofs.Inside.{names_inside}
 use Rattle.qcow2_image.proofs.Sound.{free_more}
 
 -- ---- lists of shares
@@ -259,9 +260,9 @@ module _ (h : HeaderFields) (known on_storage : Bytes) (q : Prepared) (o : ℕ) 
     by_table (Some t) pending = stands_as shared.share shared.entered shared.is (pending.each shared.index shared.share shared.is)
 
 -- a cluster that a zero entry keeps is used
-pub kept_used : (s : DriverState) → StateInvariant s → (g host : ℕ) → cover s.header s.known g ≡ Zero (Some (host, true)) → 0 < over_guests s.header (names s.header s.known (host / cluster_size s.header))
-kept_used s sound g host is =
-    let named : names s.header s.known (host / cluster_size s.header) g ≡ in_cluster s.header (host / cluster_size s.header) host = ap (named_by_cover s.header (host / cluster_size s.header)) is in
+pub kept_used : (s : DriverState) → StateInvariant s → s.header.incompatible ≡ 0 → (g host : ℕ) → cover s.header s.known g ≡ Zero (Some (host, true)) → 0 < over_guests s.header (names s.header s.known (host / cluster_size s.header))
+kept_used s sound inside g host is =
+    let named : names s.header s.known (host / cluster_size s.header) g ≡ in_cluster s.header (host / cluster_size s.header) host = names_inside s.header inside s.known (host / cluster_size s.header) g ∙ ap (named_by_cover s.header (host / cluster_size s.header)) is in
     let own = in_own s.header host in
     named_some s s sound (host / cluster_size s.header) g (omega arith)
 
@@ -270,13 +271,13 @@ pub used_unlaid : (s : DriverState) → StateInvariant s → (o : ℕ) → 0 < u
 used_unlaid s sound o some = let t = (tied s.header s.pending s.on_storage s.known (o / cluster_size s.header)).known in sound.not_overlaid o (omega arith)
 
 -- so is where a private byte of a mapping stands that is out
-pub standing_used : (s : DriverState) → StateInvariant s → (q : Prepared) (o : ℕ) → new_data_by q (place_of s.header q o / cluster_size s.header) ≤ s.pending.new_data (place_of s.header q o / cluster_size s.header) → Standing s.header s.known q o
+pub standing_used : (s : DriverState) → StateInvariant s → s.header.incompatible ≡ 0 → (q : Prepared) (o : ℕ) → new_data_by q (place_of s.header q o / cluster_size s.header) ≤ s.pending.new_data (place_of s.header q o / cluster_size s.header) → Standing s.header s.known q o
     → 0 < used_by_guests s (place_of s.header q o / cluster_size s.header)
-standing_used s sound q o holds (in_new new_data) = omega arith
-standing_used s sound q o holds (in_kept host is place) =
-    let aligned = kept_aligned s sound (o / cluster_size s.header) host is in
+standing_used s sound inside q o holds (in_new new_data) = omega arith
+standing_used s sound inside q o holds (in_kept host is place) =
+    let aligned = kept_aligned s sound inside (o / cluster_size s.header) host is in
     let here : place_of s.header q o / cluster_size s.header ≡ host / cluster_size s.header = ap (λ n. n / cluster_size s.header) place ∙ in_one (cluster_size s.header) host (o % cluster_size s.header) aligned (mod_below o (cluster_size s.header) (pow_pos s.header.cluster_bits)) in
-    let used = kept_used s sound (o / cluster_size s.header) host is in
+    let used = kept_used s sound inside (o / cluster_size s.header) host is in
     subst (λ c. 0 < used_by_guests s c) (sym here) (omega arith)
 
 module _ {S F : Type 0} (view : S → StorageView) (backing : F → BackingView) (image : Qcow2 S F) (out : List (Option Prepared)) (p : Pending) (sound : ImageInvariant view backing p image out) where
@@ -289,4 +290,4 @@ module _ {S F : Type 0} (view : S → StorageView) (backing : F → BackingView)
       let place = place_of image.file.header.fields q o / cluster_size image.file.header.fields in
       let all = over_all_at new_data_by out k q at (place_of image.file.header.fields q o / cluster_size image.file.header.fields) in
       let new_data = holds (place_of image.file.header.fields q o / cluster_size image.file.header.fields) in
-      standing_used (state_in view image.file p) sound.file.caches.kept.kept.crash_invariant q o (omega arith) (private_stands k q at o private)
+      standing_used (state_in view image.file p) sound.file.caches.kept.kept.crash_invariant sound.inside q o (omega arith) (private_stands k q at o private)

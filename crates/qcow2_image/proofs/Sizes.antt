@@ -19,7 +19,7 @@ module _ {S F : Type 0} (view : S → StorageView) (backing : F → BackingView)
   disk_size = sym (shown_size (state_in view image.file (pending_in view backing image out)) sound.file.caches.kept.kept.crash_invariant (backing_bytes view backing image.backing))
 
   has_no_data_file : is_external image ≡ false
-  has_no_data_file = ap (λ bits. has_data_file (record image.file.header.fields { incompatible = bits })) sound.file.caches.kept.kept.crash_invariant.top.no_data_file
+  has_no_data_file = ap (λ bits. has_data_file (record image.file.header.fields { incompatible = bits })) sound.inside
 
   pub sound_is_usable : unusable image ≡ None
   sound_is_usable =

@@ -190,6 +190,8 @@ module _ {S F : Type 0} (view : S → StorageView) (backing : F → BackingView)
   pub record ImageInvariant (p : Pending) (image : Qcow2 S F) (out : List (Option Prepared)) : Type 0 where
     pub works : is_failed image ≡ false
     pub file : FileInvariant view p image.file
+    -- its data are in the image's own file
+    pub inside : image.file.header.fields.incompatible ≡ 0
     pub l1_table : HasL1Table image.file image.l1_table
     pub reftable : IfSome image.allocator (IsAllocatorOf view image.file)
     pub below : IsHonestBacking image.backing

@@ -103,6 +103,7 @@ module _ {S F : Type 0} (view : S → StorageView) (backing : F → BackingView)
   -- a sound file with the header that stands there, whose caches hold nothing that is modified or pinned
   pub record IsFresh (p : Pending) (file : ImageFile S) : Type 0 where
     pub sound : FileInvariant view p file
+    pub inside : file.header.fields.incompatible ≡ 0
     pub header : IsHeaderIn file.header (view_in view file).contents
     pub clean : (on_storage : Bytes) → known_of file.header.fields file.caches on_storage ≡ on_storage
     pub unpinned : (cluster : ℕ) → l2_pins file.caches cluster ≡ 0

@@ -329,6 +329,7 @@ impl<S: Storage, F: WrappedFormat<S>> Qcow2<S, F> {
         requires near { first + count < 2 ^ 64 }
         ensures cause { IfErr result IsMet }
         ensures only_faults { (p : Pending) (i : ℕ) → FileInvariant S.view p self.now.file
+            → self.now.file.header.fields.incompatible ≡ 0
             → IsEntryAt self.now.file.header.fields (known_in S.view self.now.file) i table
             (first % entries_per_cluster self.now.file.header.fields)
             → first / entries_per_cluster self.now.file.header.fields ≡ i
@@ -355,6 +356,7 @@ impl<S: Storage, F: WrappedFormat<S>> Qcow2<S, F> {
     ) -> Result<(), ImageError>
         ensures cause { IfErr result IsMet }
         ensures only_faults { (p : Pending) (i : ℕ) → FileInvariant S.view p self.now.file
+            → self.now.file.header.fields.incompatible ≡ 0
             → IsEntryAt self.now.file.header.fields (known_in S.view self.now.file) i table
             (cluster % entries_per_cluster self.now.file.header.fields)
             → cluster / entries_per_cluster self.now.file.header.fields ≡ i → IsSome (l2_at self.now.file.caches table)

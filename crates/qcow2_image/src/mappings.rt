@@ -343,6 +343,7 @@ impl<S: Storage, F: WrappedFormat<S>> Qcow2<S, F> {
             → IsOk result }
         ensures limited { IfErr result IsUnlimited }
         ensures place { (p : Pending) → FileInvariant S.view p self.now.file
+            → self.now.file.header.fields.incompatible ≡ 0
             → IsEntryAt self.now.file.header.fields (known_in S.view self.now.file)
             (l1_index_of self.now.file.header.fields offset) table (l2_index_of self.now.file.header.fields offset)
             → 0 < length → IfOk result (IsPlaceOf self.now.file.header.fields
@@ -404,6 +405,7 @@ impl<S: Storage, F: WrappedFormat<S>> Qcow2<S, F> {
         ensures cause { IfErr result IsMet }
         ensures limited { IfErr result IsUnlimited }
         ensures reads { (p : Pending) (i : ℕ) → FileInvariant S.view p self.now.file
+            → self.now.file.header.fields.incompatible ≡ 0
             → IsEntryAt self.now.file.header.fields (known_in S.view self.now.file) i table
             (cluster % entries_per_cluster self.now.file.header.fields)
             → cluster / entries_per_cluster self.now.file.header.fields ≡ i → IsSome (l2_at self.now.file.caches table)

@@ -120,7 +120,7 @@ module _ {S F : Type 0} (view : S → StorageView) (backing : F → BackingView)
       let inside : i < n = omega (arith, lt, length-replicate {A = ℕ} n 0) in
       elim (cases_lt at h.size) [
         | inl lies ↦ let run = found.run lies in
-            zero_shown (state_in view image.file (pending_in view backing image out)) sound.file.caches.kept.kept.crash_invariant at n run.longest.alike (is_some image.backing) below
+            zero_shown (state_in view image.file (pending_in view backing image out)) sound.file.caches.kept.kept.crash_invariant sound.inside at n run.longest.alike (is_some image.backing) below
             (cover h known (at / cluster_size h)) refl (none_below view backing image.backing) explicit run.kind_is i inside
             ∙ ap known_byte (sym (get_or-replicate n i 0 0 inside))
         | inr past ↦ let never = (found.past past).0 in absurd cc

@@ -48,8 +48,8 @@ freeing_step_kept view backing old new out p p' keeps = record { sound = keeps.s
 module _ {S F : Type 0} (view : S → StorageView) (backing : F → BackingView) (old new : Qcow2 S F) (out : List (Option Prepared)) where
   -- with the clusters that are to be freed since, all that is pending is known
   pub followed : ImageInvariant view backing (pending_in view backing old out) old out → ListGrows old new
-      → StateInvariant (state_in view new.file (pending_with_listed (pending_in view backing old out) old new)) → pending_with_listed (pending_in view backing old out) old new ≡ pending_in view backing new out
-  followed sound grows still = pending_is view backing new out (pending_with_listed (pending_in view backing old out) old new) still (record {
+      → ImageInvariant view backing (pending_with_listed (pending_in view backing old out) old new) new out → pending_with_listed (pending_in view backing old out) old new ≡ pending_in view backing new out
+  followed sound grows still = pending_is view backing new out (pending_with_listed (pending_in view backing old out) old new) still.file.caches.kept.kept.crash_invariant still.inside (record {
     new_data = λ k. refl;
     new_tables = λ k. refl;
     old_tables = λ k. let e = ap (λ l. to_free of_tables l k) grows.is ∙ free_more of_tables old.file.free_list grows.more k in omega arith;
@@ -110,14 +110,14 @@ module _ {S F : Type 0} (view : S → StorageView) (backing : F → BackingView)
 
     pub still_seen : UnseenFreeingStep view backing p p' old new out → guest_of (abstract_of view backing new out) ≡ guest_of (abstract_of view backing old out)
     still_seen freeing_step = still_shown freeing_step.sound (format_file_step old.file.header.fields new.file.header.fields freeing_step.unseen.header) freeing_step.unseen.bytes
-        (unseen_disk (state_in view old.file p) (state_in view new.file p') sound.file.caches.kept.kept.crash_invariant freeing_step.sound.file.caches.kept.kept.crash_invariant freeing_step.unseen) freeing_step.below
+        (unseen_disk (state_in view old.file p) (state_in view new.file p') sound.file.caches.kept.kept.crash_invariant sound.inside freeing_step.sound.file.caches.kept.kept.crash_invariant freeing_step.unseen) freeing_step.below
 
   -- ---- a whole call that no guest sees
 
   module _ (sound : ImageInvariant view backing (pending_in view backing old out) old out)
       (keeps : UnseenStep view backing (pending_in view backing old out) (pending_with_listed (pending_in view backing old out) old new) old new out) where
     pending_now : pending_with_listed (pending_in view backing old out) old new ≡ pending_in view backing new out
-    pending_now = followed sound keeps.list keeps.sound.file.caches.kept.kept.crash_invariant
+    pending_now = followed sound keeps.list keeps.sound
 
     pub sound_now : ImageInvariant view backing (pending_in view backing new out) new out
     sound_now = subst (λ (q : Pending). ImageInvariant view backing q new out) pending_now keeps.sound

@@ -36,7 +36,7 @@ module _ {S F : Type 0} (view : S → StorageView) (backing : F → BackingView)
 
   module _ (given : Bytes → List GivenBytes) (p : Pending) (steps : Steps given p) where
     pending_now : p ≡ pending_in view backing new out'
-    pending_now = pending_is view backing new out' p steps.safe_step.sound steps.only
+    pending_now = pending_is view backing new out' p steps.safe_step.sound steps.sound.inside steps.only
 
     pub stepped_sound : ImageInvariant view backing (pending_in view backing new out') new out'
     stepped_sound = subst (λ (q : Pending). ImageInvariant view backing q new out') pending_now steps.sound

@@ -222,9 +222,9 @@ module _ {S F : Type 0} (view : S → StorageView) (backing : F → BackingView)
     shown_over KeptZeros below d from to = zeroed_between d from to
 
     ranged : (x : Clearance) → MapsInTurn (is_cleared x) g n s s' → ClearsRange g n s s' (shown_over x)
-    ranged Uncovered turn = clusters_in_turn_are_a_range.uncovered s s' g n sound.file.caches.kept.kept.crash_invariant turn
-    ranged Zeros turn = clusters_in_turn_are_a_range.zeroed s s' g n sound.file.caches.kept.kept.crash_invariant turn
-    ranged KeptZeros turn = clusters_in_turn_are_a_range.zeroed s s' g n sound.file.caches.kept.kept.crash_invariant turn
+    ranged Uncovered turn = clusters_in_turn_are_a_range.uncovered s s' g n sound.file.caches.kept.kept.crash_invariant sound.inside turn
+    ranged Zeros turn = clusters_in_turn_are_a_range.zeroed s s' g n sound.file.caches.kept.kept.crash_invariant sound.inside turn
+    ranged KeptZeros turn = clusters_in_turn_are_a_range.zeroed s s' g n sound.file.caches.kept.kept.crash_invariant sound.inside turn
 
     range : ClearsRange g n s s' (shown_over how)
     range = ranged how all.turn
@@ -265,6 +265,7 @@ module _ {S F : Type 0} (view : S → StorageView) (backing : F → BackingView)
         file = file_invariant_of all.sound_now.file.honest all.sound_now.file.caches all.sound_now.file.named_blocks all.sound_now.file.room;
         l1_table = record { cluster = sound.l1_table.cluster; bits = sound.l1_table.bits; count = sound.l1_table.count; entries = sound.l1_table.entries };
         reftable = reftable_still view (record a.file { caches = caches }) final.file refl refl (λ k. refl) a.allocator all.sound_now.reftable;
+        inside = all.sound_now.inside;
         below = all.sound_now.below;
         ready = λ j r there. let ready = all.sound_now.ready j r there in record { own = ready.own; mapped = ready.mapped };
         pinned = all.sound_now.pinned;

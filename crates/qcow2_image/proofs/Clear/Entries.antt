@@ -41,6 +41,7 @@ use Rattle.qcow2_image.specs.declared.discarding.Clearance.TheVariants.{Uncovere
 use Rattle.qcow2_image.specs.declared.image.Qcow2.{Qcow2}
 use Rattle.qcow2_image.specs.declared.prepared.Prepared.{Prepared}
 use Rattle.qcow2_image.specs.ImageInvariant.{ImageInvariant, IsPending, IsReadyWith, cluster_of, listed_run, of_data, pins_by, to_free}
+use Rattle.qcow2_image.proofs.Inside.{names_inside}
 use Rattle.qcow2_image.proofs.Apart.{pins_own, same_row}
 use Rattle.qcow2_image.proofs.Commit.Committing.{cover_now, known_entry_changes, listed_has, counts_now}
 use Rattle.qcow2_image.proofs.Open.Reftables.{reftable_still}
@@ -219,13 +220,13 @@ module _ {S F : Type 0} (view : S → StorageView) (backing : F → BackingView)
     covers : SameOtherCovers guest s s'
 
   zeros_mapped : (v : L2Mapping) → cover h known guest ≡ v → IsZeros v → Mapped
-  zeros_mapped (Zero kept) is zeros = let m = entry_zeroed s known row column crash_invariant changes kept is in record { sound_then = m.safe_step.sound; covers = m.unseen.covers }
+  zeros_mapped (Zero kept) is zeros = let m = entry_zeroed s known row column crash_invariant changes sound.inside kept is in record { sound_then = m.safe_step.sound; covers = m.unseen.covers }
   zeros_mapped (Data host checkpoint) is zeros = absurd zeros
   zeros_mapped (Compressed host sectors) is zeros = absurd zeros
   zeros_mapped M.Uncovered is zeros = absurd zeros
 
   mapped_as : (x : Clearance) → is_cleared x (cover h known guest) → Mapped
-  mapped_as Uncovered is = let m = entry_uncovered s known row column crash_invariant changes is in record { sound_then = m.safe_step.sound; covers = m.unseen.covers }
+  mapped_as Uncovered is = let m = entry_uncovered s known row column crash_invariant changes sound.inside is in record { sound_then = m.safe_step.sound; covers = m.unseen.covers }
   mapped_as Zeros is = zeros_mapped (cover h known guest) refl is
   mapped_as KeptZeros is = zeros_mapped (cover h known guest) refl is
 
@@ -277,6 +278,7 @@ module _ {S F : Type 0} (view : S → StorageView) (backing : F → BackingView)
         (clears.marks.room sound.file.room);
     l1_table = record { cluster = sound.l1_table.cluster; bits = sound.l1_table.bits; count = sound.l1_table.count; entries = sound.l1_table.entries };
     reftable = reftable_still view a.file final.file refl refl counts_stay a.allocator sound.reftable;
+    inside = sound.inside;
     below = sound.below;
     ready = λ j r there. let ready = sound.ready j r there in record { own = ready.own; mapped = still j r there r.table refl ready.mapped };
     pinned = λ table. clears.marks.pins table ∙ sound.pinned table;
@@ -287,7 +289,10 @@ module _ {S F : Type 0} (view : S → StorageView) (backing : F → BackingView)
   final_turn = record { known = known; row = row; column = column; here = refl; changes = changes; maps = is_now; is = same_stand }
 
   named_then : (k : ℕ) → names h known k guest ≡ named_by_cover h k (cover_once_cleared how old)
-  named_then k = ap (named_by_cover h k) covered
+  named_then k = names_inside h sound.inside known k guest ∙ ap (named_by_cover h k) covered
+
+  named_before : (k : ℕ) → names h s.known k guest ≡ named_by_cover h k old
+  named_before k = names_inside h sound.inside s.known k guest
 
   final_cleared : OneCleared view backing how row column a final out p
   final_cleared = record {
@@ -298,15 +303,16 @@ module _ {S F : Type 0} (view : S → StorageView) (backing : F → BackingView)
     stays = others;
     table_stays = ap host_offset (same_l1 row);
     counts = counts_stay;
-    new_data = λ reach k. let n = names_cleared h k how old reach in let then = named_then k in omega (arith, n, then);
+    new_data = λ reach k. let n = names_cleared h k how old reach in let then = named_then k in let before = named_before k in omega (arith, n, then, before);
     new_tables = λ k. refl;
     old_tables = λ k. refl;
     surplus = refl;
     old_data = λ reach k.
         let n = names_cleared h k how old reach in
         let then = named_then k in
+        let before = named_before k in
         let listed = listed_has (old_data_run h.cluster_bits old (cover_once_cleared how old)) k in
-        omega (arith, n, then, listed);
+        omega (arith, n, then, before, listed);
   }
 
   pub one_cleared : OneCleared view backing how row column a b out p

@@ -16,14 +16,14 @@ use Rattle.qcow2_metadata.specs.Cover.{cover, entry_cover}
 use Rattle.qcow2_metadata.specs.L2Mapping.{IsHostCluster, named_run, run_has}
 use Rattle.qcow2_metadata.proofs.NamedRuns.{named_by_cover-run}
 use Rattle.qcow2_metadata.specs.L2Table.{IsEntryHost, copied_entry, copied_host}
-use Rattle.qcow2_metadata.specs.Named.{in_cluster, named_by_cover, named_for_tables}
+use Rattle.qcow2_metadata.specs.Named.{in_cluster, named_for_tables}
 use Rattle.qcow2_metadata.specs.declared.l2_mapping.L2Mapping.TheVariants.{Data, Zero}
 use Rattle.qcow2_metadata.specs.Consistent.{CoverIsAligned}
 use Rattle.qcow2_metadata.proofs.MadeEntries.{cover_of-copied_entry, cluster_is_host}
 use Rattle.qcow2_disk.specs.Disk.{Disk, disk}
 use Rattle.qcow2_laws.specs.CrashInvariant.{Pending, CrashInvariant}
 use Rattle.qcow2_laws.specs.GuestLaws.{Kept as HostedKept, Held as HostedHeld}
-use Rattle.qcow2_laws.specs.Guests.{names, marks, marked_by_cover, table_at}
+use Rattle.qcow2_laws.specs.Guests.{names, marks, named_by_guest, marked_by_guest, table_at}
 use Rattle.qcow2_laws.specs.SafeSteps.{DriverState, StateInvariant, SafeStep}
 use Rattle.qcow2_disk.specs.Mappings.{PreparedMapping, given_shown, given_by_commit, committed, first_of, end_of}
 use Rattle.qcow2_disk.specs.Stops.{GivenBytes, IsGiven}
@@ -58,6 +58,7 @@ use Rattle.qcow2_image.proofs.Sound.{free_more}
 use Rattle.qcow2_image.specs.ImageInvariant.{to_free, of_data, of_tables, listed_run, new_data_in, new_data_by, pins_by, over_all, pending_in, abstract_of, meaning, is_entered, is_private, cluster_of, host_begin_of, share_of, backing_bytes, IsNewAt, IsShareAt, IsPending, IsReady, IsReadyWith, ImageInvariant}
 use Rattle.qcow2_image.proofs.Apart.{apart_guests}
 use Rattle.qcow2_image.proofs.Ready.{still_pending, still_share}
+use Rattle.qcow2_image.proofs.Inside.{names_inside}
 use Rattle.qcow2_image.proofs.Open.Reftables.{reftable_still}
 use Rattle.qcow2_image.proofs.Call.Slots.{get_set_other, get_set_same, length_set, over_all_set, slot_set}
 use Rattle.qcow2_image.proofs.Call.Stepped.{Steps, stepped_sound, stepped_works}
@@ -87,10 +88,10 @@ module _ (s : DriverState) (known' : Bytes) (i j entry : ℕ) (sound : StateInva
     within = within;
     outside = c.outside;
     entries = same_entries;
-    new_data = λ k. let b : names s.header known' k (guest_at s.header i j) ≡ named_by_cover s.header k (entry_cover s.header entry) = ap (named_by_cover s.header k) cover_now in let t = takes.new_data k in omega arith;
+    new_data = λ k. let b : names s.header known' k (guest_at s.header i j) ≡ named_by_guest s.header k (entry_cover s.header entry) = ap (named_by_guest s.header k) cover_now in let t = takes.new_data k in omega arith;
     marked = λ k.
-        let b : names s.header known' k (guest_at s.header i j) ≡ named_by_cover s.header k (entry_cover s.header entry) = ap (named_by_cover s.header k) cover_now in
-        let n : marks s.header known' k (guest_at s.header i j) ≡ marked_by_cover s.header k (entry_cover s.header entry) = ap (marked_by_cover s.header k) cover_now in
+        let b : names s.header known' k (guest_at s.header i j) ≡ named_by_guest s.header k (entry_cover s.header entry) = ap (named_by_guest s.header k) cover_now in
+        let n : marks s.header known' k (guest_at s.header i j) ≡ marked_by_guest s.header k (entry_cover s.header entry) = ap (marked_by_guest s.header k) cover_now in
         let t = takes.marked k in
         omega arith;
     aligned = subst (CoverIsAligned s.header) (sym cover_now) takes.aligned;
@@ -220,7 +221,7 @@ module _ {S F : Type 0} (view : S → StorageView) (backing : F → BackingView)
     -- what is so of a new cluster, and of one that a zero entry keeps
     no_table_as : (x : Share) → share ≡ x → IsTrue (is_entered x) → IsShareAt h s.known s.on_storage p i x → named_for_tables h s.on_storage (host / cluster_size h) ≡ 0
     no_table_as InPlace is entered at = absurd (let e : false ≡ true = entered in cc)
-    no_table_as Kept is entered at = beside_tables s HostedKept ((cluster_of h p + i) * cluster_size h) host sound.file.caches.kept.kept.crash_invariant (
+    no_table_as Kept is entered at = beside_tables s HostedKept ((cluster_of h p + i) * cluster_size h) host sound.file.caches.kept.kept.crash_invariant sound.inside (
       host,
       (
           let e : (cluster_of h p + i) * cluster_size h ≡ (cluster_of h p + i) * cluster_size h + 0 = omega arith in
@@ -232,7 +233,7 @@ module _ {S F : Type 0} (view : S → StorageView) (backing : F → BackingView)
           omega arith
           ),
     )
-    no_table_as (New taken old_data) is entered at = beside_tables s HostedHeld 0 host sound.file.caches.kept.kept.crash_invariant (new_data_there taken old_data is at)
+    no_table_as (New taken old_data) is entered at = beside_tables s HostedHeld 0 host sound.file.caches.kept.kept.crash_invariant sound.inside (new_data_there taken old_data is at)
 
     takes_as : (x : Share) → share ≡ x → IsTrue (is_entered x) → IsShareAt h s.known s.on_storage p i x → Takes h before.new_data (cover h s.known (guest_at h row column)) (Data host true)
     takes_as InPlace is entered at = absurd (let e : false ≡ true = entered in cc)
@@ -278,7 +279,7 @@ module _ {S F : Type 0} (view : S → StorageView) (backing : F → BackingView)
     made_as InPlace is entered at = absurd (let e : false ≡ true = entered in cc)
     made_as Kept is entered at = record {
       after = before;
-      mapped = kept_committed s known row column host sound.file.caches.kept.kept.crash_invariant changes (ap (cover h s.known) guest_is ∙ at.entry ∙ ap (λ n. Zero (Some (n, true))) (sym place)) covered;
+      mapped = kept_committed s known row column host sound.file.caches.kept.kept.crash_invariant sound.inside changes (ap (cover h s.known) guest_is ∙ at.entry ∙ ap (λ n. Zero (Some (n, true))) (sym place)) covered;
       new_data = λ c. let none : new_data_in (share ∷ []) c ≡ 0 = ap (λ (x : Share). new_data_in (x ∷ []) c) is in omega arith;
       new_tables = λ c. refl;
       old_tables = λ c. let none : to_free of_tables (old_data_by share) c ≡ 0 = ap (λ (x : Share). to_free of_tables (old_data_by x) c) is in omega arith;
@@ -289,9 +290,9 @@ module _ {S F : Type 0} (view : S → StorageView) (backing : F → BackingView)
         let new_data_host = new_data_there taken old_data is at in
         record {
           after = pending_after s known (guest_at h row column);
-          mapped = private_committed s known row column sound.file.caches.kept.kept.crash_invariant changes host covered new_data_host;
+          mapped = private_committed s known row column sound.file.caches.kept.kept.crash_invariant changes sound.inside host covered new_data_host;
           new_data = λ c.
-              let left = committed_new_data s known row column sound.file.caches.kept.kept.crash_invariant changes host covered new_data_host c in
+              let left = committed_new_data s known row column sound.file.caches.kept.kept.crash_invariant changes sound.inside host covered new_data_host c in
               let one = mine taken old_data is at c in
               let less = new_data_less p.shares.items i share was c in
               let all = over_all_at new_data_by out k p placed c in
@@ -299,8 +300,8 @@ module _ {S F : Type 0} (view : S → StorageView) (backing : F → BackingView)
           new_tables = λ c. refl;
           old_tables = λ c. let none : to_free of_tables (old_data_by share) c ≡ 0 = ap (λ (x : Share). to_free of_tables (old_data_by x) c) is ∙ ap (λ l. to_free of_tables l c) at.drops ∙ listed_tables (named_run h.cluster_bits (cover h s.known (cluster_of h p + i))) c in omega arith;
           old_data = λ c.
-              let more = committed_old_data s known row column sound.file.caches.kept.kept.crash_invariant changes host covered new_data_host c in
-              let named : names h s.known c (guest_at h row column) ≡ run_has (named_run h.cluster_bits (cover h s.known (cluster_of h p + i))) c = ap (names h s.known c) guest_is ∙ named_by_cover-run (cover h s.known (cluster_of h p + i)) h c at.reach in
+              let more = committed_old_data s known row column sound.file.caches.kept.kept.crash_invariant changes sound.inside host covered new_data_host c in
+              let named : names h s.known c (guest_at h row column) ≡ run_has (named_run h.cluster_bits (cover h s.known (cluster_of h p + i))) c = ap (names h s.known c) guest_is ∙ names_inside h sound.inside s.known c (cluster_of h p + i) ∙ named_by_cover-run (cover h s.known (cluster_of h p + i)) h c at.reach in
               let gone : to_free of_data (old_data_by share) c ≡ run_has (named_run h.cluster_bits (cover h s.known (cluster_of h p + i))) c =
               ap (λ (x : Share). to_free of_data (old_data_by x) c) is ∙ ap (λ l. to_free of_data l c) at.drops ∙ listed_has (named_run h.cluster_bits (cover h s.known (cluster_of h p + i))) c in
               omega arith;
@@ -393,6 +394,7 @@ module _ {S F : Type 0} (view : S → StorageView) (backing : F → BackingView)
           (marks.room sound.file.room);
       l1_table = record { cluster = sound.l1_table.cluster; bits = sound.l1_table.bits; count = sound.l1_table.count; entries = sound.l1_table.entries };
       reftable = reftable_still view old.file final.file refl refl (counts_now s known row column (copied_entry host) sound.file.caches.kept.kept.crash_invariant at_entry.real at_entry.within entry.change) old.allocator sound.reftable;
+      inside = sound.inside;
       below = sound.below;
       ready = ready_now;
       pinned = λ table. marks.pins table ∙ sound.pinned table ∙ sym (same_pins table);

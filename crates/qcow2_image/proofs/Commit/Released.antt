@@ -108,6 +108,7 @@ module _ {S F : Type 0} (view : S → StorageView) (backing : F → BackingView)
             (tables.room sound.file.room);
         l1_table = record { cluster = sound.l1_table.cluster; bits = sound.l1_table.bits; count = sound.l1_table.count; entries = sound.l1_table.entries };
         reftable = reftable_still view old.file left.file refl refl (λ k. ap (λ (b : Bytes). count h b k) (sym same_known)) old.allocator sound.reftable;
+        inside = sound.inside;
         below = sound.below;
         ready = λ j q there. let r = sound.ready j q (others_left out k j q there) in record { own = r.own; mapped = subst (λ (b : Bytes). IsReadyWith h b (contents_in view old.file) q q.table) (sym same_known) r.mapped };
         pinned = λ table. let all = over_all_left pins_by out k p at table in let was = sound.pinned table in let now = pins table in omega arith;

@@ -133,7 +133,7 @@ module _ {S F : Type 0} (view : S → StorageView) (backing : F → BackingView)
         let q = pending_with_listed p mid big in
         let all = extends_then p p q old mid big [] (size ∷ []) (extends_keeping p p old mid begun) resizes.0 in
         subst (λ (f : Bool). GrowsDisk view backing old (record big { is_failed = f }) size (Ok x)) (sym marks) (
-          subst (λ (r : Pending). Extends view backing p r old big (size ∷ [])) (pending_is view backing big [] q all.safe_step.sound (nothing_else grows)) all,
+          subst (λ (r : Pending). Extends view backing p r old big (size ∷ [])) (pending_is view backing big [] q all.safe_step.sound all.sound.inside (nothing_else grows)) all,
           resizes.1 ∙ sym (omega (arith, larger)),
           λ _. reaches,
           λ fits. fits_grown old.file.header.fields big.file.header.fields size fits larger (ap (λ (k : HeaderFields). k.cluster_bits) all.format) resizes.1
@@ -150,7 +150,7 @@ module _ {S F : Type 0} (view : S → StorageView) (backing : F → BackingView)
     same_surplus : (failed : Bool) → failed ≡ is_failed big → is_writable big ≡ is_writable old → ImageInvariant view backing (pending_with_listed p mid big) big [] → ListGrows mid big
         → KeepsSurplus view backing old (record big { is_failed = failed })
     same_surplus failed marks writable now grows =
-        let pending = pending_is view backing big [] (pending_with_listed p mid big) now.file.caches.kept.kept.crash_invariant (nothing_else grows) in
+        let pending = pending_is view backing big [] (pending_with_listed p mid big) now.file.caches.kept.kept.crash_invariant now.inside (nothing_else grows) in
         subst (λ (f : Bool). KeepsSurplus view backing old (record big { is_failed = f })) (sym marks)
         (record { sound = subst (λ (r : Pending). ImageInvariant view backing r big []) pending now; writable = writable; surplus = ap (λ (r : Pending). r.surplus) (sym pending) })
 

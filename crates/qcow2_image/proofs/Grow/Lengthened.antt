@@ -9,7 +9,8 @@ use Rattle.image_access.specs.Moments.{StorageView}
 use Rattle.qcow2_metadata.specs.declared.header.HeaderFields.{HeaderFields}
 use Rattle.qcow2_metadata.specs.Header.{HeaderView, cluster_size}
 use Rattle.qcow2_metadata.specs.EntryTable.{EntryTableView, entry_count}
-use Rattle.qcow2_metadata.specs.Named.{in_run, named_by_cover}
+use Rattle.qcow2_metadata.specs.Named.{in_run}
+use Rattle.qcow2_laws.specs.Guests.{named_by_guest}
 use Rattle.qcow2_metadata.specs.TableBytes.{entry_at}
 use Rattle.qcow2_laws.specs.Changes.{new_tables_to_old_tables}
 use Rattle.qcow2_laws.specs.CrashInvariant.{Pending}
@@ -67,7 +68,7 @@ module _ {S F : Type 0} (view : S → StorageView) (backing : F → BackingView)
     used_stay c some =
         let h = a.file.header.fields in
         let same : over_guests h (names h (known_in view a.file) c) ≡ over_guests h (names h (known_in view b.file) c) =
-        over_guests-same h (names h (known_in view a.file) c) (names h (known_in view b.file) c) (λ g. ap (named_by_cover h c) (keeps.unseen.covers g)) in
+        over_guests-same h (names h (known_in view a.file) c) (names h (known_in view b.file) c) (λ g. ap (named_by_guest h c) (keeps.unseen.covers g)) in
         let is = guests_format h b.file.header.fields keeps.unseen.header (known_in view b.file) c in
         let still = new_data c in
         grind arith
@@ -81,7 +82,7 @@ module _ {S F : Type 0} (view : S → StorageView) (backing : F → BackingView)
       covers = format_stay a.file.header.fields b.file.header.fields (known_in view a.file) (known_in view b.file) keeps.unseen.header keeps.unseen.covers;
       bytes = keeps.unseen.bytes;
       used = used_stay;
-      shows = unseen_disk (state_in view a.file p) (state_in view b.file q) sound.file.caches.kept.kept.crash_invariant keeps.sound.file.caches.kept.kept.crash_invariant keeps.unseen;
+      shows = unseen_disk (state_in view a.file p) (state_in view b.file q) sound.file.caches.kept.kept.crash_invariant sound.inside keeps.sound.file.caches.kept.kept.crash_invariant keeps.unseen;
       below = keeps.below;
       list = keeps.list;
       leaks = keeps.leaks;
@@ -320,7 +321,7 @@ module _ {S F : Type 0} (view : S → StorageView) (backing : F → BackingView)
 module _ {S F : Type 0} (view : S → StorageView) (backing : F → BackingView) (out : List (Option Prepared)) (old new : Qcow2 S F) (sound : ImageInvariant view backing (pending_in view backing old out) old out) where
   module _ (file_step : UnseenMove view backing (pending_in view backing old out) (pending_with_listed (pending_in view backing old out) old new) old new out) where
     pending_now : pending_with_listed (pending_in view backing old out) old new ≡ pending_in view backing new out
-    pending_now = followed view backing old new out sound file_step.list file_step.sound.file.caches.kept.kept.crash_invariant
+    pending_now = followed view backing old new out sound file_step.list file_step.sound
 
     pub stays_moved : UnseenCall view backing old new out
     stays_moved = record {

@@ -175,6 +175,7 @@ module _ {S F : Type 0} (view : S → StorageView) (backing : F → BackingView)
         entries = λ i. sym (ready.stands i) ∙ same_entries i ∙ sym (l1_now i);
       };
       reftable = reftable_now old.allocator sound.reftable;
+      inside = sound.inside;
       below = sound.below;
       ready = λ k r at. let was = sound.ready k r at in record {
         own = was.own;
@@ -193,7 +194,7 @@ module _ {S F : Type 0} (view : S → StorageView) (backing : F → BackingView)
       covers = guests_now.covers;
       bytes = guests_now.bytes;
       used = λ c some. subst (λ n. 0 < n) (sym (guests_now.used c)) some;
-      shows = guests_now.disk;
+      shows = guests_now.disk sound.inside;
       below = refl;
       list = record { more = []; is = sym (append-nil old.file.free_list) };
       leaks = refl;

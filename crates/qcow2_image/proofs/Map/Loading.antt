@@ -70,6 +70,7 @@ module _ {S F : Type 0} (view : S → StorageView) (backing : F → BackingView)
         file = file_invariant_of stay.honest stay.sound (stay.named_blocks sound.file.named_blocks) (room sound.file.room);
         l1_table = record { cluster = sound.l1_table.cluster; bits = sound.l1_table.bits; count = sound.l1_table.count; entries = λ i. sound.l1_table.entries i ∙ sym (l1_still i) };
         reftable = allocator_still old.allocator sound.reftable;
+        inside = sound.inside;
         below = sound.below;
         ready = λ k q at. let r = sound.ready k q at in record {
           own = r.own;

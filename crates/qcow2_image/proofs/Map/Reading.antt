@@ -21,13 +21,13 @@ pub none_below : {S F : Type 0} (view : S → StorageView) (backing : F → Back
 none_below view backing None none o = refl
 none_below view backing (Some f) none o = absurd cc
 
-module _ (s : DriverState) (sound : StateInvariant s) (offset n : ℕ) (run : IsAlikeRun s.header s.known offset n) (backed : Bool) (backing : Bytes) where
+module _ (s : DriverState) (sound : StateInvariant s) (inside : s.header.incompatible ≡ 0) (offset n : ℕ) (run : IsAlikeRun s.header s.known offset n) (backed : Bool) (backing : Bytes) where
   -- bytes in the file
   pub raw_shown : (v : L2Mapping) → cover s.header s.known (offset / cluster_size s.header) ≡ v → (external : Bool) (host : ℕ) (writable : Bool) → raw external host writable ≡ kind_at s.header backed offset v
       → (i : ℕ) → i < n → (disk s.known backing).value (offset + i) ≡ known_byte (s.on_storage (host + i))
   raw_shown (Data start copied) is external host writable kind i lt =
       let at : host ≡ start + offset % cluster_size s.header = cc in
-      run_shows_data s sound offset n run backing start copied is i lt ∙ ap (λ k. known_byte (s.on_storage (k + i))) (sym at)
+      run_shows_data s sound offset n run backing inside start copied is i lt ∙ ap (λ k. known_byte (s.on_storage (k + i))) (sym at)
   raw_shown (Zero kept) is external host writable kind i lt = absurd cc
   raw_shown (Compressed start sectors) is external host writable kind i lt = absurd cc
   raw_shown Uncovered is external host writable kind i lt = no_raw backed kind where

@@ -67,6 +67,7 @@ module _ {S F : Type 0} (view : S → StorageView) (backing : F → BackingView)
         new_tables = record {
           sound = file_invariant_of honest (cleared_sound on_storage' writes) (cleared_named_blocks on_storage' writes) new_tables.sound.room;
           header = subst (IsHeaderIn (with_fields file.header h')) (sym same) there;
+          inside = new_tables.inside;
           clean = new_tables.clean;
           unpinned = new_tables.unpinned;
           list = new_tables.list;

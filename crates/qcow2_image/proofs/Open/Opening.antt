@@ -6,6 +6,7 @@ use Rattle.image_access.specs.Moments.{StorageView, EachMomentSince, IsLeftBy}
 use Rattle.image_access.proofs.EachMomentSince.{passes_if}
 use Rattle.qcow2_metadata.specs.Bytes.{Bytes, byte_at}
 use Rattle.qcow2_metadata.specs.Header.{HeaderView, cluster_size}
+use Rattle.qcow2_metadata.specs.declared.header.HeaderFields.{HeaderFields}
 use Rattle.qcow2_metadata.specs.Consistent.{Consistent, IsConsistent}
 use Rattle.qcow2_metadata.specs.Entries.{l1_entry, reftable_entry}
 use Rattle.qcow2_metadata.specs.EntryTable.{EntryTableView, entry_table, NamesL1Table, IsL1TableOf}
@@ -81,6 +82,7 @@ module _ {S F : Type 0} (view : S → StorageView) (backing : F → BackingView)
           (subst (λ (c : List ℕ). CacheInvariant file.header.fields p file.caches (byte_at c)) (sym same) new_tables.sound.caches)
           (subst (λ (c : List ℕ). AreNamedBlocks file.header.fields (refblocks file.caches) (byte_at c)) (sym same) new_tables.sound.named_blocks)
           new_tables.sound.room;
+      inside = new_tables.inside;
       header = subst (λ (c : List ℕ). IsHeaderIn file.header c) (sym same) new_tables.header;
       clean = new_tables.clean;
       unpinned = new_tables.unpinned;
@@ -135,6 +137,7 @@ module _ {S F : Type 0} (view : S → StorageView) (backing : F → BackingView)
             (subst (λ (c : List ℕ). CacheInvariant file.header.fields (nothing_pending (surplus_of file.header.fields (byte_at contents))) file.caches (byte_at c)) (sym same) (sound p (byte_at contents) crash_invariant))
             (named_blocks (contents_in view file))
             room;
+        inside = ap (λ (h : HeaderFields). h.incompatible) there.fields ∙ consistent.no_data_file;
         header = subst (IsHeaderIn file.header) (sym same) there;
         clean = known;
         unpinned = pins;
@@ -150,12 +153,13 @@ module _ {S F : Type 0} (view : S → StorageView) (backing : F → BackingView)
         file = loaded.new_tables.sound;
         l1_table = loaded.l1_table;
         reftable = loaded.reftable;
+        inside = loaded.new_tables.inside;
         below = below;
         ready = λ k q none. absurd cc;
         pinned = loaded.new_tables.unpinned;
         once = λ table. omega arith;
       } in
-      let is : p ≡ pending_in view backing image [] = pending_is view backing image [] p loaded.new_tables.sound.caches.kept.kept.crash_invariant (record {
+      let is : p ≡ pending_in view backing image [] = pending_is view backing image [] p loaded.new_tables.sound.caches.kept.kept.crash_invariant loaded.new_tables.inside (record {
         new_data = λ k. refl;
         new_tables = λ k. refl;
         old_tables = λ k. ap (λ l. to_free of_tables l k) (sym loaded.new_tables.list);

@@ -40,6 +40,7 @@ module _ {S F : Type 0} (view : S → StorageView) (backing : F → BackingView)
     file = sound.file;
     l1_table = record { cluster = sound.l1_table.cluster; bits = sound.l1_table.bits; count = sound.l1_table.count; entries = sound.l1_table.entries };
     reftable = sound.reftable;
+    inside = sound.inside;
     below = stays;
     ready = λ k q there. absurd cc;
     pinned = sound.pinned;

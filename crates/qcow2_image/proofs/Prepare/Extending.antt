@@ -174,6 +174,7 @@ module _ {S F : Type 0} (view : S → StorageView) (backing : F → BackingView)
       file = behind.image_step.sound.file;
       l1_table = behind.image_step.sound.l1_table;
       reftable = behind.image_step.sound.reftable;
+      inside = behind.image_step.sound.inside;
       below = behind.image_step.sound.below;
       ready = ready_now;
       pinned = λ c. behind.image_step.sound.pinned c ∙ sym (same_pins c);

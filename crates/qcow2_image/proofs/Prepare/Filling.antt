@@ -153,7 +153,7 @@ module _ {S F : Type 0} (view : S → StorageView) (backing : F → BackingView)
     alone = writes view backing old out sound storage at bytes is no_table
 
     apart : Writes cluster (state_in view old.file p) (state_in view new.file p) (λ _. []) (λ below. disk (known_in view old.file) below)
-    apart = private_written (state_in view old.file p) (contents_in view new.file) (known_in view new.file) sound.file.caches.kept.kept.crash_invariant cluster own.new_data
+    apart = private_written (state_in view old.file p) (contents_in view new.file) (known_in view new.file) sound.file.caches.kept.kept.crash_invariant sound.inside cluster own.new_data
         (λ o other. alone.others o (outside o other)) (λ o other. alone.known_others o (outside o other)) alone.agree
 
     -- no private byte of a mapping stands there
@@ -166,9 +166,9 @@ module _ {S F : Type 0} (view : S → StorageView) (backing : F → BackingView)
     elsewhere j q at_j o (in_kept host kept place) here =
         let state = state_in view old.file p in
         let crash_invariant = sound.file.caches.kept.kept.crash_invariant in
-        let aligned = kept_aligned state crash_invariant (o / cluster_size h) host kept in
+        let aligned = kept_aligned state crash_invariant sound.inside (o / cluster_size h) host kept in
         let there : host / cluster_size h ≡ cluster = sym (ap (λ n. n / cluster_size h) place ∙ in_one (cluster_size h) host (o % cluster_size h) aligned (mod_below o (cluster_size h) (pow_pos h.cluster_bits))) ∙ here in
-        let used : 0 < over_guests h (names h (known_in view old.file) cluster) = subst (λ c. 0 < over_guests h (names h (known_in view old.file) c)) there (kept_used state crash_invariant (o / cluster_size h) host kept) in
+        let used : 0 < over_guests h (names h (known_in view old.file) cluster) = subst (λ c. 0 < over_guests h (names h (known_in view old.file) c)) there (kept_used state crash_invariant sound.inside (o / cluster_size h) host kept) in
         let t = (tied h p (contents_in view old.file) (known_in view old.file) cluster).known in
         let none = unnamed.no_entry in
         absurd (omega arith)
@@ -217,7 +217,7 @@ there_written view old new at bytes (Err e) w honest = tt
 -- where no guest sees a change the disk is the same
 pub disk_kept : {S F : Type 0} (view : S → StorageView) (backing : F → BackingView) (old new : Qcow2 S F) (out : List (Option Prepared)) (p : Pending) → ImageInvariant view backing p old out → UnseenStep view backing p p old new out → disk_of view backing new ≡ disk_of view backing old
 disk_kept view backing old new out p sound keeps =
-    unseen_disk (state_in view old.file p) (state_in view new.file p) sound.file.caches.kept.kept.crash_invariant keeps.sound.file.caches.kept.kept.crash_invariant keeps.unseen (backing_bytes view backing new.backing)
+    unseen_disk (state_in view old.file p) (state_in view new.file p) sound.file.caches.kept.kept.crash_invariant sound.inside keeps.sound.file.caches.kept.kept.crash_invariant keeps.unseen (backing_bytes view backing new.backing)
     ∙ ap (λ (b : Bool × Bytes). disk (known_in view old.file) b.1) keeps.below
 
 -- a range within one guest cluster is mapped alike

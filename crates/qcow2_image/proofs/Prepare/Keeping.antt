@@ -42,6 +42,7 @@ use Rattle.qcow2_image.specs.ImageInvariant.{backing_bytes, cluster_of, new_data
 use Rattle.qcow2_image.specs.UnseenSteps.{HoldsAll, IsFilled, IsKeptAlone, UnseenFillingStep, is_announced}
 use Rattle.qcow2_image.proofs.Apart.{same_row}
 use Rattle.qcow2_image.proofs.Call.Answered.{same_guest, same_slot}
+use Rattle.qcow2_image.proofs.Inside.{names_inside}
 use Rattle.qcow2_image.proofs.Map.Loading.{if_ok, still_moved}
 use Rattle.qcow2_image.proofs.Prepare.Filling.{image_step_kept, there_written, written_or_not}
 use Rattle.qcow2_image.proofs.Shares.{Standing, in_new, in_kept, over_all_at, private_shared, private_stands, ready_table, share_here, share_there}
@@ -76,7 +77,7 @@ module _ {S F : Type 0} (view : S → StorageView) (backing : F → BackingView)
       (host, ap (cover h s.known) (here i lt) ∙ is_kept.kept, omega (arith, rest))
 
   no_table : (i : ℕ) → i < length bytes → named_for_tables h (contents_in view old.file) ((host + at + i) / size) ≡ 0
-  no_table i lt = beside_tables s HostedKept (guest * size + at + i) (host + at + i) crash_invariant (hosts i lt)
+  no_table i lt = beside_tables s HostedKept (guest * size + at + i) (host + at + i) crash_invariant sound.inside (hosts i lt)
 
   module _ (storage : ImageStorage S) (honest : (view (storage_of storage)).is_honest) (time : EachMomentSince (view_in view old.file) (view (storage_of storage)) (IsLeftBy (view (storage_of storage))))
       (is : (view (storage_of storage)).contents ≡ overwritten (view_in view old.file).contents (host + at) bytes) where
@@ -87,10 +88,10 @@ module _ {S F : Type 0} (view : S → StorageView) (backing : F → BackingView)
     beside = writes view backing old out sound storage (host + at) bytes is no_table
 
     run : WritesRun (λ _. HostedKept) (guest * size + at) (host + at) bytes (given_of (guest * size + at) bytes ∷ []) s (state_in view new.file p)
-    run = kept_written s (contents_in view new.file) (known_in view new.file) crash_invariant guest host at bytes is_kept.kept fits beside (there view backing old out sound storage (host + at) bytes is)
+    run = kept_written s (contents_in view new.file) (known_in view new.file) crash_invariant sound.inside guest host at bytes is_kept.kept fits beside (there view backing old out sound storage (host + at) bytes is)
 
     safe_step : SafeStep s (state_in view new.file p) nothing_given []
-    safe_step = kept_zeroed s (contents_in view new.file) (known_in view new.file) crash_invariant guest host at bytes is_kept.kept fits beside (there view backing old out sound storage (host + at) bytes is) zeros
+    safe_step = kept_zeroed s (contents_in view new.file) (known_in view new.file) crash_invariant sound.inside guest host at bytes is_kept.kept fits beside (there view backing old out sound storage (host + at) bytes is) zeros
 
     -- no private byte of a mapping stands there
     module _ (j : ℕ) (r : Prepared) (there_is : slice_get out j ≡ Some (Some r)) (o : ℕ) (private : IsTrue (is_private view backing old r o)) where
@@ -112,12 +113,12 @@ module _ {S F : Type 0} (view : S → StorageView) (backing : F → BackingView)
       stays_kept : (first : ℕ) → cover h s.known (o / size) ≡ Zero (Some (first, true)) → place ≡ first + o % size → contents_in view new.file place ≡ contents_in view old.file place
       stays_kept first kept place_is =
           let rest = mod_below o size (pow_pos h.cluster_bits) in
-          let cluster : place / size ≡ first / size = ap (λ n. n / size) place_is ∙ in_one size first (o % size) (kept_aligned s crash_invariant (o / size) first kept) rest in
-          let named : names h s.known (place / size) (o / size) ≡ 1 = ap (named_by_cover h (place / size)) kept ∙ ap (λ c. in_cluster h c first) cluster ∙ in_own h first in
+          let cluster : place / size ≡ first / size = ap (λ n. n / size) place_is ∙ in_one size first (o % size) (kept_aligned s crash_invariant sound.inside (o / size) first kept) rest in
+          let named : names h s.known (place / size) (o / size) ≡ 1 = names_inside h sound.inside s.known (place / size) (o / size) ∙ ap (named_by_cover h (place / size)) kept ∙ ap (λ c. in_cluster h c first) cluster ∙ in_own h first in
           let known : known_in view new.file place ≡ s.known place = run.others (o / size) (λ i lt same. other (sym same ∙ here i lt)) place (omega (arith, named)) in
           let kept_now : cover h (known_in view new.file) (o / size) ≡ Zero (Some (first, true)) = sym (run.covers (o / size)) ∙ kept in
-          ap (contents_in view new.file) place_is ∙ kept_unlaid (state_in view new.file p) safe_step.sound (o / size) first kept_now (o % size) rest ∙ ap (known_in view new.file) (sym place_is) ∙ known
-          ∙ ap s.known place_is ∙ sym (kept_unlaid s crash_invariant (o / size) first kept (o % size) rest) ∙ ap (contents_in view old.file) (sym place_is)
+          ap (contents_in view new.file) place_is ∙ kept_unlaid (state_in view new.file p) safe_step.sound sound.inside (o / size) first kept_now (o % size) rest ∙ ap (known_in view new.file) (sym place_is) ∙ known
+          ∙ ap s.known place_is ∙ sym (kept_unlaid s crash_invariant sound.inside (o / size) first kept (o % size) rest) ∙ ap (contents_in view old.file) (sym place_is)
 
       by_standing : Standing h s.known r o → contents_in view new.file place ≡ contents_in view old.file place
       by_standing (in_new new_data) = stays_new_data new_data
@@ -167,7 +168,7 @@ module _ {S F : Type 0} (view : S → StorageView) (backing : F → BackingView)
   -- it begins where a cluster does
   pub host_whole : host / cluster_size hf * cluster_size hf ≡ host
   host_whole =
-      let none = kept_aligned (state_in view old.file p) sound.file.caches.kept.kept.crash_invariant (offset / cluster_size hf) host kept in
+      let none = kept_aligned (state_in view old.file p) sound.file.caches.kept.kept.crash_invariant sound.inside (offset / cluster_size hf) host kept in
       let is : host / cluster_size hf * cluster_size hf + host % cluster_size hf ≡ host = div-add-mod' host (cluster_size hf) in
       omega (arith, none, is)
 

@@ -20,7 +20,7 @@ use Rattle.qcow2_image.specs.PreparedPlaces.{MarkedIsBehind}
 use Rattle.qcow2_image.specs.Preparing.{IsPlaceOf}
 use Rattle.qcow2_image.proofs.Write.Hosted.{behind_tables}
 
-module _ {S : Type 0} (view : S → StorageView) (p : Pending) (file : ImageFile S) (sound : FileInvariant view p file) where
+module _ {S : Type 0} (view : S → StorageView) (p : Pending) (file : ImageFile S) (sound : FileInvariant view p file) (inside : file.header.fields.incompatible ≡ 0) where
   abbrev h : HeaderFields
   h = file.header.fields
 
@@ -31,7 +31,7 @@ module _ {S : Type 0} (view : S → StorageView) (p : Pending) (file : ImageFile
   s = state_in view file p
 
   hosted_behind : (hosting : Hosting) (o place : ℕ) → IsHostedAt s hosting o place → cluster_size h ≤ place
-  hosted_behind hosting o place hosted = behind_tables h (contents_in view file) place (beside_tables s hosting o place sound.caches.kept.kept.crash_invariant hosted)
+  hosted_behind hosting o place hosted = behind_tables h (contents_in view file) place (beside_tables s hosting o place sound.caches.kept.kept.crash_invariant inside hosted)
 
   -- where the guest cluster begins
   row : (guest : ℕ) → guest * cluster_size h / cluster_size h ≡ guest

@@ -137,14 +137,14 @@ first_named h b =
     omega (arith, own, all)
 
 -- no data stand there
-hosted_behind : (s : DriverState) (hosting : Hosting) (o place : ℕ) → StateInvariant s → IsHostedAt s hosting o place → cluster_size s.header ≤ place
-hosted_behind s hosting o place sound hosted = elim (cases_lt place (cluster_size s.header)) [
+hosted_behind : (s : DriverState) (hosting : Hosting) (o place : ℕ) → StateInvariant s → s.header.incompatible ≡ 0 → IsHostedAt s hosting o place → cluster_size s.header ≤ place
+hosted_behind s hosting o place sound inside hosted = elim (cases_lt place (cluster_size s.header)) [
   | inr behind ↦ behind
   | inl below ↦
       let some = pow_pos s.header.cluster_bits in
       let here : place / cluster_size s.header ≡ 0 / cluster_size s.header = ap (λ n. n / cluster_size s.header) (let e : place ≡ 0 * cluster_size s.header + place = omega arith in e) ∙ div-mul-add 0 (cluster_size s.header) place below
       ∙ sym (ap (λ n. n / cluster_size s.header) (let e : 0 ≡ 0 * cluster_size s.header + 0 = omega arith in e) ∙ div-mul-add 0 (cluster_size s.header) 0 some) in
-      let none : named_for_tables s.header s.on_storage (0 / cluster_size s.header) ≡ 0 = ap (named_for_tables s.header s.on_storage) (sym here) ∙ beside_tables s hosting o place sound hosted in
+      let none : named_for_tables s.header s.on_storage (0 / cluster_size s.header) ≡ 0 = ap (named_for_tables s.header s.on_storage) (sym here) ∙ beside_tables s hosting o place sound inside hosted in
       let named = first_named s.header s.on_storage in
       absurd (omega (arith, none, named))
 ]
@@ -166,11 +166,11 @@ module _ {S F : Type 0} (view : S → StorageView) (backing : F → BackingView)
       let e : guest * cluster_size h ≡ guest * cluster_size h + 0 = omega arith in
       let row : guest * cluster_size h / cluster_size h ≡ guest = own_cluster h.cluster_bits guest in
       let rest : guest * cluster_size h % cluster_size h ≡ 0 = ap (λ n. n % cluster_size h) e ∙ mod-mul-add guest (cluster_size h) 0 some in
-      hosted_behind s HostedKept (guest * cluster_size h) host invariant (host, ap (cover h (known_in view image.file)) row ∙ kept, omega (arith, rest))
+      hosted_behind s HostedKept (guest * cluster_size h) host invariant sound.inside (host, ap (cover h (known_in view image.file)) row ∙ kept, omega (arith, rest))
 
   -- nor is it new
   pub new_behind : (cluster : ℕ) → 0 < p.new_data cluster → 0 < cluster
   new_behind cluster some =
       let size = pow_pos h.cluster_bits in
-      let behind : cluster_size h ≤ cluster * cluster_size h = hosted_behind s HostedHeld 0 (cluster * cluster_size h) invariant (subst (λ c. 0 < p.new_data c) (sym (own_cluster h.cluster_bits cluster)) some) in
+      let behind : cluster_size h ≤ cluster * cluster_size h = hosted_behind s HostedHeld 0 (cluster * cluster_size h) invariant sound.inside (subst (λ c. 0 < p.new_data c) (sym (own_cluster h.cluster_bits cluster)) some) in
       behind_first h.cluster_bits cluster (cluster * cluster_size h) refl (omega (arith, behind, size))

@@ -72,11 +72,11 @@ module _ {S F : Type 0} (view : S → StorageView) (backing : F → BackingView)
 module _ {S F : Type 0} (view : S → StorageView) (backing : F → BackingView) (out : List (Option Prepared)) (old mid : Qcow2 S F) (how : Clearance) (from to table : ℕ) (found : UnseenCall view backing old mid out) (held : HoldsTable view backing mid from table) where
   -- the entries of a range that is clearable stand in the held table, and reading them is refused for a fault alone
   pub reading_fault : IsClearable old.file.header.fields how from to → from < to → (first n : ℕ) (e : ImageError) → first ≡ from / cluster_size mid.file.header.fields → n ≡ (to - from) / cluster_size mid.file.header.fields
-      → ((q : Pending) (i : ℕ) → FileInvariant view q mid.file → IsEntryAt mid.file.header.fields (known_in view mid.file) i table (first % entries_per_cluster mid.file.header.fields) → first / entries_per_cluster mid.file.header.fields ≡ i
+      → ((q : Pending) (i : ℕ) → FileInvariant view q mid.file → mid.file.header.fields.incompatible ≡ 0 → IsEntryAt mid.file.header.fields (known_in view mid.file) i table (first % entries_per_cluster mid.file.header.fields) → first / entries_per_cluster mid.file.header.fields ≡ i
       → first % entries_per_cluster mid.file.header.fields + n ≤ entries_per_cluster mid.file.header.fields → IsSome (l2_at mid.file.caches table) → IsFault e) → IsFault e
   reading_fault whole some first n e at many faults =
       let h = mid.file.header.fields in
-      faults (pending_in view backing mid out) (l1_index_of h from) found.sound.file (subst (λ k. IsEntryAt h (known_in view mid.file) (l1_index_of h from) table (k % entries_per_cluster h)) (sym at) held.entry) (ap (λ k. k / entries_per_cluster h) at)
+      faults (pending_in view backing mid out) (l1_index_of h from) found.sound.file found.sound.inside (subst (λ k. IsEntryAt h (known_in view mid.file) (l1_index_of h from) table (k % entries_per_cluster h)) (sym at) held.entry) (ap (λ k. k / entries_per_cluster h) at)
       (subst (λ k. k % entries_per_cluster h + n ≤ entries_per_cluster h) (sym at) (subst (λ k. from / cluster_size h % entries_per_cluster h + k ≤ entries_per_cluster h) (sym many) (fits_table view backing out old mid how from to found whole some))) held.new_data
 
 -- a call that has begun needs an entry past 64 bits only where that was so before

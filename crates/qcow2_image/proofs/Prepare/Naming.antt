@@ -338,6 +338,7 @@ module _ {S F : Type 0} (view : S → StorageView) (backing : F → BackingView)
         file = file_invariant_of honest caches_named (λ c. inl (clean_free (cluster_size h) (refblocks old.file.caches) ready.stored.counts c)) sound.file.room;
         l1_table = l1_named;
         reftable = reftable_named old.allocator sound.reftable;
+        inside = sound.inside;
         below = sound.below;
         ready = λ j r there. let was = sound.ready j r there in record { own = was.own; mapped = ready_named j r was.mapped };
         pinned = sound.pinned;

@@ -14,7 +14,7 @@ use Rattle.qcow2_metadata.specs.Cover.{cover}
 use Rattle.qcow2_disk.specs.Alike.{IsDataAt}
 use Rattle.qcow2_disk.specs.Mappings.{PreparedMapping, is_copied_data}
 use Rattle.qcow2_laws.specs.SafeSteps.{DriverState, StateInvariant}
-use Rattle.qcow2_laws.proofs.Guests.{named-is}
+use Rattle.qcow2_laws.proofs.Guests.{named-is, own_data_of}
 use Rattle.qcow2_laws.proofs.Places.{Sizes-from}
 use Rattle.qcow2_laws.proofs.Tops.{for_tables-top, IsTop-top}
 use Rattle.qcow2_disk.specs.Found.{rest_of_table}
@@ -138,10 +138,10 @@ module _ {S F : Type 0} (view : S → StorageView) (old mid : Qcow2 S F) (offset
   nowhere_before never place at = subst (λ (x : HeaderFields). (place : ℕ) → ¬ IsWritableAt x (known_in view mid.file) offset n place) header never place (writable_before old.file.header.fields mid.file.header.fields (known_in view mid.file) (known_in view old.file) same offset n place at)
 
 -- what is held is counted once, and nothing names it
-pub new_data_alone : (s : DriverState) → StateInvariant s → (k : ℕ) → 0 < s.pending.new_data k → IsHeldAlone s.header s.known k
-new_data_alone s sound k some =
+pub new_data_alone : (s : DriverState) → StateInvariant s → s.header.incompatible ≡ 0 → (k : ℕ) → 0 < s.pending.new_data k → IsHeldAlone s.header s.known k
+new_data_alone s sound inside k some =
     let sizes = Sizes-from s.header s.known (IsTop-top s.header s.on_storage s.known sound.same_top sound.top).header_reads in
-    let named = named-is s.header s.known k sizes in
+    let named = named-is s.header s.known k sizes (own_data_of s.header inside) in
     let table_refs = for_tables-top s.header s.on_storage s.known k sound.same_top in
     let tally = (sound.each_cluster k).tally in
     let few = (sound.each_cluster k).pending (omega arith) in
@@ -247,7 +247,7 @@ module _ {S F : Type 0} (view : S → StorageView) (backing : F → BackingView)
         let more = new_data_at p.shares.items index taken old_data is it.first in
         let all = over_all_at new_data_by out k p at it.first in (
           rest_is it.first it.place,
-          inl (subst (IsHeldAlone h now) (sym (cluster_is it.first it.place)) (new_data_alone (state_in view image.file (pending_in view backing image out)) sound.file.caches.kept.kept.crash_invariant it.first (omega (arith, one, more, all)))),
+          inl (subst (IsHeldAlone h now) (sym (cluster_is it.first it.place)) (new_data_alone (state_in view image.file (pending_in view backing image out)) sound.file.caches.kept.kept.crash_invariant sound.inside it.first (omega (arith, one, more, all)))),
         )
 
   -- how far its L2 table reaches

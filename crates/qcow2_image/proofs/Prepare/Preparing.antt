@@ -47,6 +47,7 @@ module _ {S F : Type 0} (view : S → StorageView) (backing : F → BackingView)
         file = sound.file;
         l1_table = sound.l1_table;
         reftable = sound.reftable;
+        inside = sound.inside;
         below = sound.below;
         ready = existing_ready;
         pinned = λ c. sound.pinned c ∙ sym (same_pins c);

@@ -151,6 +151,7 @@ module _ {S F : Type 0} (view : S → StorageView) (backing : F → BackingView)
         (tables.room image_step.sound.file.room);
     l1_table = record { cluster = image_step.sound.l1_table.cluster; bits = image_step.sound.l1_table.bits; count = image_step.sound.l1_table.count; entries = image_step.sound.l1_table.entries };
     reftable = reftable_still view mid.file new.file refl refl (λ k. ap (λ (b : Bytes). count h b k) (sym same_known)) mid.allocator image_step.sound.reftable;
+    inside = image_step.sound.inside;
     below = image_step.sound.below;
     ready = λ j r at. let ready = ready_now j r at in record { own = ready.1; mapped = subst (λ (b : Bytes). IsReadyWith h b (contents_in view mid.file) r r.table) (sym same_known) ready.0 };
     pinned = λ c. let more = over_all_put pins_by out k p free c in let was = image_step.sound.pinned c in let n = pins c in omega arith;

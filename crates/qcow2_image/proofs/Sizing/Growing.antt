@@ -86,8 +86,8 @@ module _ {S F : Type 0} (view : S → StorageView) (backing : F → BackingView)
         let s = state_in view old.file (pending_in view backing old out) in
         let call = first out sound in
         elim (refused_then view backing out old begun mid call e (left out call.sound)) [
-          | inl stays ↦ passes_if (λ c. ((header (byte_at c)).size ≡ size_of old) ⊎ (c ≡ (view_in view mid.file).contents)) (λ c is. inl is) (size_stays_in_calls s v (abstract_of view backing mid out) [] crash_invariant refl refl stays.works)
-          | inr interrupted ↦ passes_if (λ c. ((header (byte_at c)).size ≡ size_of old) ⊎ (c ≡ (view_in view mid.file).contents)) (λ c is. inl is) (size_stays_in_calls s v (abstract_of view backing (record mid { is_failed = true }) out) [] crash_invariant refl refl interrupted.works)
+          | inl stays ↦ passes_if (λ c. ((header (byte_at c)).size ≡ size_of old) ⊎ (c ≡ (view_in view mid.file).contents)) (λ c is. inl is) (size_stays_in_calls s v (abstract_of view backing mid out) [] crash_invariant sound.inside refl refl stays.works)
+          | inr interrupted ↦ passes_if (λ c. ((header (byte_at c)).size ≡ size_of old) ⊎ (c ≡ (view_in view mid.file).contents)) (λ c is. inl is) (size_stays_in_calls s v (abstract_of view backing (record mid { is_failed = true }) out) [] crash_invariant sound.inside refl refl interrupted.works)
         ]
 
   -- ---- it was made, and zeros were put behind the end
@@ -175,7 +175,7 @@ module _ {S F : Type 0} (view : S → StorageView) (backing : F → BackingView)
       pub last_in_part : (out : List (Option Prepared)) → ImageInvariant view backing (pending_in view backing old out) old out → WritesSizeLast view backing old final
       last_in_part out sound =
           passes_if (λ c. ((header (byte_at c)).size ≡ size_of old) ⊎ (c ≡ (view_in view filled.file).contents)) (λ c is. inl is)
-          (size_stays_in_calls (state_in view old.file (pending_in view backing old out)) (abstract_of view backing old out) (abstract_of view backing final out) given_bytes sound.file.caches.kept.kept.crash_invariant refl refl (part_works out sound))
+          (size_stays_in_calls (state_in view old.file (pending_in view backing old out)) (abstract_of view backing old out) (abstract_of view backing final out) given_bytes sound.file.caches.kept.kept.crash_invariant sound.inside refl refl (part_works out sound))
 
     -- it was done, and the size was written or refused
     module _ (filled : Qcow2 S F) (fills : (out : List (Option Prepared)) → ImageInvariant view backing (pending_in view backing mid out) mid out → FillsGrown view backing size mode mid filled out) where
@@ -249,7 +249,7 @@ module _ {S F : Type 0} (view : S → StorageView) (backing : F → BackingView)
         last_sized marked time out sound =
             passes_on (λ c. ((header (byte_at c)).size ≡ size_of old) ⊎ (c ≡ (view_in view new.file).contents))
             (passes_if (λ c. ((header (byte_at c)).size ≡ size_of old) ⊎ (c ≡ (view_in view new.file).contents)) (λ c is. inl is)
-            (size_stays_in_calls (state_in view old.file (pending_in view backing old out)) (abstract_of view backing old out) (abstract_of view backing filled out) given_bytes sound.file.caches.kept.kept.crash_invariant refl refl (fills_works out sound)))
+            (size_stays_in_calls (state_in view old.file (pending_in view backing old out)) (abstract_of view backing old out) (abstract_of view backing filled out) given_bytes sound.file.caches.kept.kept.crash_invariant sound.inside refl refl (fills_works out sound)))
             (time (fills_sound out sound).file.honest) (λ c is. inr is)
 
 -- the L1 table has an entry for the last byte

@@ -32,6 +32,7 @@ module _ {S F : Type 0} (view : S → StorageView) (backing : F → BackingView)
     file = file_invariant_of s.file.honest s.file.caches s.file.named_blocks s.file.room;
     l1_table = record { cluster = s.l1_table.cluster; bits = s.l1_table.bits; count = s.l1_table.count; entries = s.l1_table.entries };
     reftable = reftable_noted image noted image.allocator s.reftable;
+    inside = s.inside;
     below = s.below;
     ready = λ k q at. let r = s.ready k q at in record { own = r.own; mapped = r.mapped };
     pinned = s.pinned;

@@ -400,7 +400,7 @@ module _ {S F : Type 0} (view : S → StorageView) (backing : F → BackingView)
       let m = abstract_of view backing mid out in
       passes_on (λ c. ((header (byte_at c)).size ≡ size_of old) ⊎ (c ≡ (view_in view new.file).contents))
       (passes_if (λ c. ((header (byte_at c)).size ≡ size_of old) ⊎ (c ≡ (view_in view new.file).contents)) (λ c is. inl is)
-      (size_stays_in_calls (state_in view old.file (pending_in view backing old out)) (abstract_of view backing old out) m works.0 sound.file.caches.kept.kept.crash_invariant refl refl works.1))
+      (size_stays_in_calls (state_in view old.file (pending_in view backing old out)) (abstract_of view backing old out) m works.0 sound.file.caches.kept.kept.crash_invariant sound.inside refl refl works.1))
       time (λ c is. inr is)
 
 -- ---- why it stops early

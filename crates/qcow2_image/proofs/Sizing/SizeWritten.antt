@@ -22,6 +22,7 @@ use Rattle.qcow2_laws.specs.CrashInvariant.{Pending}
 use Rattle.qcow2_laws.specs.SafeSteps.{SafeStep}
 use Rattle.qcow2_laws.specs.Tops.{WritesHeader, resized_places}
 use Rattle.qcow2_laws.specs.Unseen.{SameUsedBytes, used_by_guests}
+use Rattle.qcow2_laws.proofs.Guests.{own_data_of}
 use Rattle.qcow2_laws.proofs.Headers.{header_elsewhere, header_fixed, header_l1, header_known_l1, header_known_covers, header_known_counts}
 use Rattle.qcow2_laws.proofs.Mixes.{tied}
 use Rattle.qcow2_laws.proofs.SafeSteps.{step_safe_throughout}
@@ -176,6 +177,7 @@ module _ {S F : Type 0} (view : S → StorageView) (backing : F → BackingView)
               sound.file.room;
           l1_table = record { cluster = sound.l1_table.cluster; bits = sound.l1_table.bits; count = sound.l1_table.count; entries = λ i. sound.l1_table.entries i ∙ sym (l1 i) };
           reftable = reftable_now old.allocator sound.reftable;
+          inside = sound.inside;
           below = sound.below;
           ready = λ k q at. let was = sound.ready k q at in record {
             own = was.own;
@@ -203,7 +205,7 @@ module _ {S F : Type 0} (view : S → StorageView) (backing : F → BackingView)
         let value : (disk (known_in view sized.file) below).value ≡ (disk known below).value = fun_ext (λ o.
         value_is (with_size h size) (known_in view sized.file) below o is'
         ∙ value_sized h size (known_in view sized.file) below o
-        ∙ sym (guest_value-same h known (known_in view sized.file) below o (covers_now (o / cluster_size h)) (crash_invariant.known_aligned (o / cluster_size h))
+        ∙ sym (guest_value-same h known (known_in view sized.file) below o (own_data_of h sound.inside) (covers_now (o / cluster_size h)) (crash_invariant.known_aligned (o / cluster_size h))
         (λ place some. sym (used_bytes place (let one = named_some s s' crash_invariant (place / cluster_size h) (o / cluster_size h) some in omega arith))))
         ∙ sym (value_is h known below o was)) in
         λ j. record { size = now j; value = value j }
@@ -241,7 +243,7 @@ module _ {S F : Type 0} (view : S → StorageView) (backing : F → BackingView)
     now = sized view backing out q old sound size fits storage is honest
 
     pending_now : q ≡ pending_in view backing now out
-    pending_now = pending_is view backing now out q (safe_step_now view backing out q old sound size fits storage is honest).sound (record { new_data = λ k. refl; new_tables = λ k. refl; old_tables = λ k. refl; old_data = λ k. refl })
+    pending_now = pending_is view backing now out q (safe_step_now view backing out q old sound size fits storage is honest).sound sound.inside (record { new_data = λ k. refl; new_tables = λ k. refl; old_tables = λ k. refl; old_data = λ k. refl })
 
     pub sets_size : SetsSize view backing size old now out
     sets_size =

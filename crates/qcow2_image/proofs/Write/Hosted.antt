@@ -105,7 +105,7 @@ module _ {S F : Type 0} (view : S → StorageView) (backing : F → BackingView)
   all_hosted i lt = (hosted_with q.table refl (sound.ready k q placed).mapped i lt).0
 
   pub hosts_no_table : (i : ℕ) → i < n → named_for_tables h (contents_in view old.file) ((q.offset + at + i) / size) ≡ 0
-  hosts_no_table i lt = beside_tables s (hosting_in h q (q.guest + at + i)) (q.guest + at + i) (q.offset + at + i) sound.file.caches.kept.kept.crash_invariant (all_hosted i lt)
+  hosts_no_table i lt = beside_tables s (hosting_in h q (q.guest + at + i)) (q.guest + at + i) (q.offset + at + i) sound.file.caches.kept.kept.crash_invariant sound.inside (all_hosted i lt)
 
   -- so do all of them
   pub hosts_behind_header : (i : ℕ) → i < n → cluster_size old.file.header.fields ≤ q.offset + at + i

@@ -41,6 +41,7 @@ use Rattle.qcow2_image.specs.declared.prepared.Share.{Share}
 use Rattle.qcow2_image.specs.declared.prepared.Share.TheVariants.{InPlace, Kept, New}
 use Rattle.qcow2_image.specs.CallParts.{put_guest}
 use Rattle.qcow2_image.specs.ImageInvariant.{new_data_by, pending_in, abstract_of, meaning, is_entered, is_new, is_private, cluster_of, place_of, share_of, backing_bytes, IsReadyWith, ImageInvariant}
+use Rattle.qcow2_image.proofs.Inside.{names_inside}
 use Rattle.qcow2_image.proofs.Apart.{apart_guests}
 use Rattle.qcow2_image.proofs.Call.Answered.{same_guest, same_mapping, same_meaning}
 use Rattle.qcow2_image.proofs.Call.Slots.{over_all_two}
@@ -118,7 +119,7 @@ module _ {S F : Type 0} (view : S → StorageView) (backing : F → BackingView)
 
   -- ---- so one write goes over them
   run : WritesRun hosting (q.guest + at) (q.offset + at) bytes given_bytes s (state_in view new.file before)
-  run = run_written s (contents_in view new.file) (known_in view new.file) hosting (q.guest + at) (q.offset + at) bytes given_bytes sound.file.caches.kept.kept.crash_invariant hosts
+  run = run_written s (contents_in view new.file) (known_in view new.file) hosting (q.guest + at) (q.offset + at) bytes given_bytes sound.file.caches.kept.kept.crash_invariant sound.inside hosts
       (λ i lt. given_as (guest_of (abstract_of view backing old out)).disk m at bytes i lt (share_of h q ((q.guest + at + i) / size)) refl)
       (writes view backing old out sound storage (q.offset + at) bytes is no_table) (there view backing old out sound storage (q.offset + at) bytes is)
 
@@ -220,13 +221,13 @@ module _ {S F : Type 0} (view : S → StorageView) (backing : F → BackingView)
       kept_kept : contents_in view new.file place ≡ contents_in view old.file place
       kept_kept =
           let rest = mod_below o size (pow_pos h.cluster_bits) in
-          let aligned = kept_aligned s sound.file.caches.kept.kept.crash_invariant (o / size) host kept in
+          let aligned = kept_aligned s sound.file.caches.kept.kept.crash_invariant sound.inside (o / size) host kept in
           let cluster : place / size ≡ host / size = ap (λ n. n / size) here ∙ in_one size host (o % size) aligned rest in
-          let named : names h s.known (place / size) (o / size) ≡ 1 = ap (named_by_cover h (place / size)) kept ∙ ap (λ c. in_cluster h c host) cluster ∙ in_own h host in
+          let named : names h s.known (place / size) (o / size) ≡ 1 = names_inside h sound.inside s.known (place / size) (o / size) ∙ ap (named_by_cover h (place / size)) kept ∙ ap (λ c. in_cluster h c host) cluster ∙ in_own h host in
           let known : known_in view new.file place ≡ s.known place = run.others (o / size) (elsewhere q.table refl (sound.ready k q placed).mapped) place (omega (arith, named)) in
           let kept_now : cover h (known_in view new.file) (o / size) ≡ Zero (Some (host, true)) = sym (run.covers (o / size)) ∙ kept in
-          ap (contents_in view new.file) here ∙ kept_unlaid (state_in view new.file before) run.safe_step.sound (o / size) host kept_now (o % size) rest ∙ ap (known_in view new.file) (sym here) ∙ known
-          ∙ ap s.known here ∙ sym (kept_unlaid s sound.file.caches.kept.kept.crash_invariant (o / size) host kept (o % size) rest) ∙ ap (contents_in view old.file) (sym here)
+          ap (contents_in view new.file) here ∙ kept_unlaid (state_in view new.file before) run.safe_step.sound sound.inside (o / size) host kept_now (o % size) rest ∙ ap (known_in view new.file) (sym here) ∙ known
+          ∙ ap s.known here ∙ sym (kept_unlaid s sound.file.caches.kept.kept.crash_invariant sound.inside (o / size) host kept (o % size) rest) ∙ ap (contents_in view old.file) (sym here)
 
     by_standing : Standing h s.known r o → contents_in view new.file place ≡ contents_in view old.file place
     by_standing (in_new new_data) = kept_new_data new_data

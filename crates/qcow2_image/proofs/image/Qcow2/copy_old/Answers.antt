@@ -36,7 +36,7 @@ returns-in-Zero-clause-copies g c = λ p out sound mapped.
     if_ok c.write_zeros.result
     (λ done there i lt.
     ap known_byte (there i (let n = length-replicate {A = ℕ} c.args.length 0 in omega arith) ∙ get_or-replicate c.args.length i 0 0 lt)
-    ∙ sym (zero_shown (state_in view old.file p) sound.file.caches.kept.kept.crash_invariant c.args.guest c.args.length mapped.alike (is_some old.backing) (backing_bytes view below old.backing)
+    ∙ sym (zero_shown (state_in view old.file p) sound.file.caches.kept.kept.crash_invariant sound.inside c.args.guest c.args.length mapped.alike (is_some old.backing) (backing_bytes view below old.backing)
     (cover h (known_in view old.file) (c.args.guest / cluster_size h)) refl (none_below view below old.backing) c.in-Zero.explicit (ap found_kind (sym c.in-Zero.is) ∙ mapped.kind_is) i lt))
     (there_written view old c.write_zeros.new.self c.args.at zeros c.write_zeros.result c.write_zeros.ensures.written sound.file.honest)
 

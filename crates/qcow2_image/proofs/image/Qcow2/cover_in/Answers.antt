@@ -25,13 +25,13 @@ found_behind n size found known b same is tells behind missed =
     cc
 
 pub returns-then-not-is_behind_header-clause-reads : goal.returns-then-not-is_behind_header-clause-reads
-returns-then-not-is_behind_header-clause-reads g c = λ p i sound at here some.
+returns-then-not-is_behind_header-clause-reads g c = λ p i sound inside at here some.
     let view = g.S.Storage.view in
     let file = c.args.self.now.file in
     let is = cached_says view file p c.in-Some.held.now c.args.table i c.args.cluster sound c.in-Some.ensures.shows at here in
     absurd (found_behind c.cluster_size.result (cluster_size file.header.fields) c.in_ok-mapping.mapping (cover file.header.fields (known_in view file) c.args.cluster) c.is_behind_header.result c.cluster_size.ensures.value
-    (sym is ∙ sym c.in_ok-mapping.ensures.ok) c.is_behind_header.ensures.1 (marked_behind view p file sound c.args.cluster) c.if-not-is_behind_header.true)
+    (sym is ∙ sym c.in_ok-mapping.ensures.ok) c.is_behind_header.ensures.1 (marked_behind view p file sound inside c.args.cluster) c.if-not-is_behind_header.true)
 
 pub returns-in_err-mapping-clause-reads : goal.returns-in_err-mapping-clause-reads
-returns-in_err-mapping-clause-reads g c = λ p i sound at here some.
+returns-in_err-mapping-clause-reads g c = λ p i sound inside at here some.
     absurd (c.in_err-mapping.ensures.err.1 (cached_aligned g.S.Storage.view c.args.self.now.file p c.in-Some.held.now c.args.table i c.args.cluster sound c.in-Some.ensures.shows at here))

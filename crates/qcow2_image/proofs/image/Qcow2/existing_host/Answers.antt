@@ -11,7 +11,7 @@ use Rattle.qcow2_image.proofs.Prepare.MarkedPlaces.{place_behind}
 use Rattle.qcow2_image.proofs.image.Qcow2.existing_host.Goals as goal
 
 pub returns-then-found-length-clause-place : goal.returns-then-found-length-clause-place
-returns-then-found-length-clause-place g c = λ p sound at some.
+returns-then-found-length-clause-place g c = λ p sound inside at some.
     let h = c.args.self.now.file.header.fields in
     let known = known_in g.S.Storage.view c.args.self.now.file in
     let limit : c.min-max.result ≡ min c.args.length (rest_of_table h c.args.offset) = c.min-max.ensures ∙ ap (min c.args.length) c.rest_of_table.ensures.value in
@@ -19,14 +19,14 @@ returns-then-found-length-clause-place g c = λ p sound at some.
     short_of h known c.args.offset c.args.length c.in_ok-kind.found some (subst (λ m. IsLongestRun h known c.args.offset m c.in_ok-kind.found) limit run.longest) c.if-found-length.true
 
 pub returns-clause-place : goal.returns-clause-place
-returns-clause-place g c = λ p sound at some.
+returns-clause-place g c = λ p sound inside at some.
     let h = c.args.self.now.file.header.fields in
     let known = known_in g.S.Storage.view c.args.self.now.file in
     let limit : c.min-max.result ≡ min c.args.length (rest_of_table h c.args.offset) = c.min-max.ensures ∙ ap (min c.args.length) c.rest_of_table.ensures.value in
     let run = c.in_ok-kind.ensures.run p sound at (omega (arith, limit)) in
     let found = subst (IsPlaceOf h known c.args.offset c.args.length) (sym (c.writable_place.ensures ∙ ap writable_place run.kind_is))
     (place_found h known c.args.offset c.args.length c.in_ok-kind.found some (subst (λ m. IsLongestRun h known c.args.offset m c.in_ok-kind.found) limit run.longest) (is_some c.args.self.now.backing) (let l = c.if-found-length.false in omega arith)) in
-    let behind = place_behind g.S.Storage.view p c.args.self.now.file sound c.args.offset c.args.length c.writable_place.result some found in
+    let behind = place_behind g.S.Storage.view p c.args.self.now.file sound inside c.args.offset c.args.length c.writable_place.result some found in
     subst (IsPlaceOf h known c.args.offset c.args.length) (sym (c.behind_header.ensures.same (subst (λ n. IfSome c.writable_place.result (λ host. n ≤ host)) (sym c.cluster_size.ensures.value) behind))) found
 
 pub returns-clause-behind : goal.returns-clause-behind

@@ -18,4 +18,4 @@ returns-clause-reads g c = on_ok c.list_run.result (λ listed p i sound at here.
     (listed ∙ ap (λ r. c.args.list.now ++ listed_run r) run, subst IsInReach (sym says) c.in_ok-old.ensures.reach)) c.list_run.ensures.listed
 
 pub returns-in_err-old-clause-only_faults : goal.returns-in_err-old-clause-only_faults
-returns-in_err-old-clause-only_faults g c = λ p i sound at here some. absurd (let no = c.in_err-old.ensures.reads p i sound at here some in cc)
+returns-in_err-old-clause-only_faults g c = λ p i sound inside at here some. absurd (let no = c.in_err-old.ensures.reads p i sound inside at here some in cc)

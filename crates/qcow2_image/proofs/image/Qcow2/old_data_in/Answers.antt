@@ -26,10 +26,10 @@ returns-clause-reads g c =
     subst (λ n. ReadsAll g.S.Storage.view g.F.BackingDisk.backing c.args.how c.args.table c.args.first n c.args.self.now c.loop-i.old_data) all c.loop-i.invariant
 
 pub returns-in_err-list_old_data-clause-only_faults : goal.returns-in_err-list_old_data-clause-only_faults
-returns-in_err-list_old_data-clause-only_faults g c = λ p i sound at here fits some.
+returns-in_err-list_old_data-clause-only_faults g c = λ p i sound inside at here fits some.
     let image = c.args.self.now in
     let behind : c.new-cluster.result ≡ c.args.first + c.loop-i.i = c.new-cluster.ensures ∙ ap (λ n. n + c.loop-i.i) c.value.ensures in
     let there = entry_behind image.file.header.fields (known_in g.S.Storage.view image.file) c.args.table c.args.first c.args.count c.loop-i.i i at here fits (omega (arith, c.loop-i-test.true)) in
     handed_on (λ r. IfErr r IsFault) c.from_residual.result c.in_err-list_old_data.field-0.0 c.from_residual.ensures
-    (c.in_err-list_old_data.ensures.only_faults p i sound (subst (λ n. IsEntryAt image.file.header.fields (known_in g.S.Storage.view image.file) i c.args.table (n % entries_per_cluster image.file.header.fields)) (sym behind) there.0)
+    (c.in_err-list_old_data.ensures.only_faults p i sound inside (subst (λ n. IsEntryAt image.file.header.fields (known_in g.S.Storage.view image.file) i c.args.table (n % entries_per_cluster image.file.header.fields)) (sym behind) there.0)
     (ap (λ n. n / entries_per_cluster image.file.header.fields) behind ∙ there.1) some)

@@ -127,7 +127,7 @@ returns-in_err-old-clause-met g c = λ out sound holds.
     let view = g.S.Storage.view in
     let old = c.args.self.now in
     let entry = first_entry view g.F.BackingDisk.backing old c.args.offset c.args.table c.new.result c.cluster_bits.result c.cluster-cluster.result c.cluster-cluster.ensures c.new.ensures c.cluster_bits.ensures.value holds in
-    let read = c.in_err-old.ensures.reads (pending_in view g.F.BackingDisk.backing old out) (l1_index_of old.file.header.fields c.args.offset) sound.file entry.0 entry.1 holds.new_data in
+    let read = c.in_err-old.ensures.reads (pending_in view g.F.BackingDisk.backing old out) (l1_index_of old.file.header.fields c.args.offset) sound.file sound.inside entry.0 entry.1 holds.new_data in
     absurd (let e : false ≡ true = read in cc)
 
 pub returns-in-None-clause-met : goal.returns-in-None-clause-met

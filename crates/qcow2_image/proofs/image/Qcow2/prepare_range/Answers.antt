@@ -113,7 +113,7 @@ returns-in-Some-clause-sound g c = λ some out sound.
     let known = known_in view mid.file in
     let q = c.existing_at.result in
     let p = pending_in view below mid out in
-    let place = subst (IsPlaceOf h known c.args.offset c.args.length) c.in-Some.is (c.in_ok-host.ensures.place p found.0.sound.file found.1.entry some) in
+    let place = subst (IsPlaceOf h known c.args.offset c.args.length) c.in-Some.is (c.in_ok-host.ensures.place p found.0.sound.file found.0.sound.inside found.1.entry some) in
     record {
       met = search rules;
       taken = search rules;
@@ -135,17 +135,17 @@ returns-in-None-clause-sound g c = λ some out sound.
     let new = c.prepare_in.new.self in
     let size : cluster_size mid.file.header.fields ≡ cluster_size old.file.header.fields = ap (λ (x : HeaderFields). cluster_size x) found.0.header in
     let p = pending_in view g.F.BackingDisk.backing mid out in
-    let nowhere = subst (IsPlaceOf mid.file.header.fields (known_in view mid.file) c.args.offset c.args.length) c.in-None.is (c.in_ok-host.ensures.place p found.0.sound.file found.1.entry some) in
+    let nowhere = subst (IsPlaceOf mid.file.header.fields (known_in view mid.file) c.args.offset c.args.length) c.in-None.is (c.in_ok-host.ensures.place p found.0.sound.file found.0.sound.inside found.1.entry some) in
     let taken =
     let p = pending_in view below mid out in
-    let place = subst (IsPlaceOf mid.file.header.fields (known_in view mid.file) c.args.offset c.args.length) c.in-None.is (c.in_ok-host.ensures.place p found.0.sound.file found.1.entry some) in
+    let place = subst (IsPlaceOf mid.file.header.fields (known_in view mid.file) c.args.offset c.args.length) c.in-None.is (c.in_ok-host.ensures.place p found.0.sound.file found.0.sound.inside found.1.entry some) in
     if_err c.prepare_in.result
     (λ e taken is.
     taken_before view old mid c.args.offset c.args.length found.0.header found.0.covers out
     (taken_by view below mid p out found.0.sound c.args.offset c.in_ok-table.table found.1 (known_in view mid.file) c.args.length (taken is) place)) c.prepare_in.ensures.taken in
     let answers =
     let p = pending_in view below mid out in
-    let place = subst (IsPlaceOf mid.file.header.fields (known_in view mid.file) c.args.offset c.args.length) c.in-None.is (c.in_ok-host.ensures.place p found.0.sound.file found.1.entry some) in
+    let place = subst (IsPlaceOf mid.file.header.fields (known_in view mid.file) c.args.offset c.args.length) c.in-None.is (c.in_ok-host.ensures.place p found.0.sound.file found.0.sound.inside found.1.entry some) in
     let placed = (free_places view below).free mid [] out found.0.sound in
     if_ok c.prepare_in.result
     (λ q is. answered_before view old mid c.args.offset c.args.length found.0.header found.0.covers new.file.header.fields (known_in view new.file) q (meaning view below new q) is)

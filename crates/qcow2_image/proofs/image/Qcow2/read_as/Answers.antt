@@ -39,7 +39,7 @@ returns-in_ok-read-in-Raw-clause-shows g c = λ p out sound mapped i lt.
     let read : c.read.new.buf ≡ bytes_at contents c.in-Raw.offset n = c.in_ok-read-in-Raw.ensures.read sound.file.honest in
     let within : i < n = subst (λ m. i < m) (ap length read ∙ length-bytes_at contents c.in-Raw.offset n) lt in
     ap (λ (bytes : List ℕ). (disk (known_of h file.caches (byte_at bytes)) below).value (c.args.offset + i)) (c.read.ensures.same sound.file.honest)
-    ∙ raw_shown (state_in g.S.Storage.view file p) sound.file.caches.kept.kept.crash_invariant c.args.offset n mapped.alike (is_some c.args.self.now.backing) below
+    ∙ raw_shown (state_in g.S.Storage.view file p) sound.file.caches.kept.kept.crash_invariant sound.inside c.args.offset n mapped.alike (is_some c.args.self.now.backing) below
     (cover h (known_in g.S.Storage.view file) (c.args.offset / cluster_size h)) refl (is_data_file c.in-Raw.place) c.in-Raw.offset c.in-Raw.writable (ap found_kind (sym c.in-Raw.is) ∙ mapped.kind_is) i within
     ∙ ap known_byte (sym (ap (λ (b : List ℕ). byte_at b i) read ∙ byte_at-bytes_at contents c.in-Raw.offset n i within))
 
@@ -54,7 +54,7 @@ returns-in-Indirect-clause-shows g c = λ p out sound mapped.
     ap (λ b. disk (known_in g.S.Storage.view new.file) b.1) (c.read_backing.ensures.keeps p out sound).below ∙ ap (λ f. disk (known_in g.S.Storage.view f) below) c.read_backing.ensures.file in
     if_ok c.read_backing.result
     (λ done read i lt. ap (λ d. d.value (c.args.offset + i)) same
-    ∙ indirect_shown (state_in g.S.Storage.view file p) sound.file.caches.kept.kept.crash_invariant c.args.offset (length c.args.bytes.now) mapped.alike (is_some image.backing) below
+    ∙ indirect_shown (state_in g.S.Storage.view file p) sound.file.caches.kept.kept.crash_invariant sound.inside c.args.offset (length c.args.bytes.now) mapped.alike (is_some image.backing) below
     (cover h (known_in g.S.Storage.view file) (c.args.offset / cluster_size h)) refl c.in-Indirect.offset (ap found_kind (sym c.in-Indirect.is) ∙ mapped.kind_is) i (subst (λ m. i < m) read.0 lt)
     ∙ ap known_byte (sym (read.1 i lt)))
     (c.read_backing.ensures.reads sound.below)
@@ -67,7 +67,7 @@ returns-in-Zero-clause-shows g c = λ p out sound mapped i lt.
     let n = length c.args.bytes.now in
     let filled : c.fill.new.self ≡ replicate n 0 = search rules in
     let within : i < n = subst (λ m. i < m) (ap length filled ∙ length-replicate {A = ℕ} n 0) lt in
-    zero_shown (state_in g.S.Storage.view file p) sound.file.caches.kept.kept.crash_invariant c.args.offset n mapped.alike (is_some image.backing) (backing_bytes g.S.Storage.view g.F.BackingDisk.backing image.backing)
+    zero_shown (state_in g.S.Storage.view file p) sound.file.caches.kept.kept.crash_invariant sound.inside c.args.offset n mapped.alike (is_some image.backing) (backing_bytes g.S.Storage.view g.F.BackingDisk.backing image.backing)
     (cover h (known_in g.S.Storage.view file) (c.args.offset / cluster_size h)) refl (none_below g.S.Storage.view g.F.BackingDisk.backing image.backing) c.in-Zero.explicit (ap found_kind (sym c.in-Zero.is) ∙ mapped.kind_is) i within
     ∙ ap known_byte (sym (ap (λ (b : List ℕ). byte_at b i) filled ∙ get_or-replicate n i 0 0 within))
 

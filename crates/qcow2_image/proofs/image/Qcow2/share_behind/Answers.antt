@@ -164,7 +164,7 @@ returns-in_err-old-clause-sound g c = λ out k at may sound.
     let cluster : c.cluster-cluster.result ≡ (p.guest + p.length) / cluster_size h = c.cluster-cluster.ensures ∙ ap (λ o. o / 2 ^ c.cluster_bits.result) (c.new.ensures ∙ c.in-Some.ensures.1) ∙ ap (λ b. (p.guest + p.length) / 2 ^ b) c.cluster_bits.ensures.value in
     record {
       does = search rules;
-      met = absurd (let no : false ≡ true = next_reads view below old out k p at c.args.length c.args.table c.args.overwrite may sound c.cluster-cluster.result cluster (c.in_err-old.ensures.reads (pending_in view below old out) (l1_index_of h p.guest) sound.file) in cc);
+      met = absurd (let no : false ≡ true = next_reads view below old out k p at c.args.length c.args.table c.args.overwrite may sound c.cluster-cluster.result cluster (c.in_err-old.ensures.reads (pending_in view below old out) (l1_index_of h p.guest) sound.file sound.inside) in cc);
       limit = hands_limit c.from_residual.result c.in_err-old.field-0.0 c.from_residual.ensures (other_limit _ c.in_err-old.field-0.0 c.in_err-old.ensures.limited);
     }
 
