@@ -1,5 +1,5 @@
 """Which wrong bodies a run tries where it doesn't try all: those that a page names, all of the checker, one of each public function and of each method of a trait's impl, those of which the
-last commits changed what their trial reads, and of the others each tenth, in turn. What is taken in turn hangs on the tree that the last commit left: other commits take others."""
+last commits changed what their trial reads, but for names, and of the others each tenth, in turn. What is taken in turn hangs on the tree that the last commit left: other commits take others."""
 
 import contextlib
 import hashlib
@@ -13,7 +13,7 @@ from functools import lru_cache
 
 import clauses
 from bodies import LIST, alone, bodies_of, proof_files
-from promises import read
+from promises import files_below, read
 
 COMMITS = 30
 ONE_OF = 10
@@ -30,6 +30,8 @@ NAMED, WHOLE, PUBLIC, TOUCHED, IN_TURN = RULES = (
 # what a clause or an answer becomes that stands for those that were cut
 EMPTY = re.compile(r"ensures \w+ \{ (?:(\S+) ≡ \1|⊥ → ⊥) \}|\w+ = search rules;")
 DECLARED = re.compile(r"(\S+) :")
+WORDS = re.compile(r"\w+")
+SIGNS = re.compile(r"\w+|[^\w\s]")
 
 # bodies come file by file
 text_of = lru_cache(maxsize=8)(read)
@@ -82,23 +84,40 @@ def trial_reads(crate, folder, body):
     return " ".join(code), {path: answers_read(it) for path, it in kept.items()}
 
 
-def is_touched(crate, folder, body, former, former_folder):
-    """Whether a wrong body is new, or changed since, or what its trial reads has."""
-    was = former.get(body.name)
-    is_same = was is not None and (was.function, was.file, was.clause, was.needs, was.pairs) == (body.function, body.file, body.clause, body.needs, body.pairs)
-    return not is_same or trial_reads(crate, folder, body) != trial_reads(crate, former_folder, was)
+def trial_says(crate, folder, body):
+    """All that the trial of a wrong body reads, word by word and sign by sign. None where it can't be tried."""
+    reads = trial_reads(crate, folder, body)
+    if reads is None:
+        return None
+    answers = [it for path in sorted(reads[1]) for it in reads[1][path]]
+    return SIGNS.findall("\n".join([body.function, body.file, body.clause, body.needs, *(it for pair in body.pairs for it in pair), reads[0], *answers]))
+
+
+def words_in(folders):
+    """The words of all texts of crates, which are in these folders."""
+    files = [f"{folder}/{part}/{it}" for folder in folders for part in ("src", "specs", "proofs") for it in files_below(f"{folder}/{part}", (".rt", ".antt"))]
+    return {word for it in files for word in WORDS.findall(read(it))}
+
+
+def is_touched(then, now, words_then, words_now):
+    """Whether what a trial reads has changed, but for names: a name that is gone may have given way to one that is new, everywhere."""
+    if then is None or now is None or len(then) != len(now):
+        return True
+    names = {}
+    return any(old != new and (old in words_now or new in words_then or names.setdefault(old, new) != new) for old, new in zip(then, now))
 
 
 def touched(root, crates):
-    """The names of the wrong bodies of each crate that the last commits touched."""
+    """The names of the wrong bodies of each crate that the last commits made or changed, or of which they changed what the trial reads."""
     found = {}
     with before(root) as (folder, said):
         if said:
             print(f"wrong bodies: {said}", flush=True)
+        words_then, words_now = (words_in(f"{it}/{crate.name}" for crate, _ in crates) for it in (folder, f"{root}/crates"))
         for crate, bodies in crates:
             at = f"{folder}/{crate.name}"
-            former = {it.name: it for it in bodies_of(at)} if folder and os.path.isfile(f"{at}/{LIST}") else {}
-            found[crate.name] = {it.name for it in bodies if is_touched(crate.name, crate.folder, it, former, at)}
+            former = {it.name: trial_says(crate.name, at, it) for it in bodies_of(at)} if folder and os.path.isfile(f"{at}/{LIST}") else {}
+            found[crate.name] = {it.name for it in bodies if is_touched(former.get(it.name), trial_says(crate.name, crate.folder, it), words_then, words_now)}
     return found
 
 
