@@ -1,4 +1,4 @@
--- What a contract sees of an image.
+-- The view of an image in contracts: its storage, its known contents, its refcounts, and what a guest sees.
 use Rattle.std.specs.Prelude.{ℕ, ◌-◌, ◌≡◌, ◌++◌, ◌∷◌, Bool, false, List, Option, Some, None, slice_get}
 use Rattle.image_access.specs.Moments.{StorageView}
 use Rattle.qcow2_metadata.specs.Bytes.{Bytes, byte_at}
@@ -10,55 +10,55 @@ use Rattle.qcow2_metadata.specs.Consistent.{IsConsistent}
 use Rattle.qcow2_disk.specs.Disk.{Disk, disk_with}
 use Rattle.qcow2_disk.specs.Mappings.{PreparedMapping}
 
--- what doesn't change while commands run
+-- The properties of an image that stay the same while commands run.
 pub record Setting : Type 0 where
   pub cluster_size : ℕ
-  -- it has a backing disk, and this disk's bytes
+  -- Whether there is a backing disk, and the bytes of that disk.
   pub is_backed : Bool
   pub backing : Bytes
 
--- Where in the file a prepared mapping is to be written, and for how many bytes. An existing one needs no commit.
+-- Where in the file a prepared mapping is to be written: host offset and length in bytes. An existing range is written in place and needs no commit.
 pub record HostRange : Type 0 where
   pub offset : ℕ
   pub length : ℕ
   pub is_existing : Bool
 
--- what a guest sees: the disk, and the prepared mappings by their places
+-- What a guest sees: the disk, and the prepared mapping of each slot.
 pub record Guest : Type 0 where
   pub disk : Disk
   pub slots : ℕ → Option PreparedMapping
 
--- What a driver D with prepared mappings P is to say of itself. Some of it depends on the prepared mappings that are out, each at a place.
+-- The view that contracts have of a driver D with prepared mappings P. Lists of `Option P` hold the prepared mappings that are in use, by slot.
 pub record Abstraction (D P : Type 0) : Type 1 where
   pub number : D → ℕ
   pub number_of : P → ℕ
   pub setting : D → Setting
   pub is_failed : D → Bool
   pub storage : D → StorageView
-  -- how often the disk below has failed, up to the greatest u64
+  -- How many calls of the backing disk have failed. The counter stops at the greatest u64.
   pub faults_below : D → ℕ
-  -- the bytes on the storage with the modified tables laid over them
+  -- The known contents: the bytes on the storage with every modified cached table laid over its cluster.
   pub known : D → Bytes
-  -- the bytes that data stand in: the known ones, where the image itself has its data
+  -- The bytes that hold guest data: the known contents, if the image has no external data file.
   pub data_bytes : D → Bytes
-  -- it is as the driver keeps it, and its storage is honest
+  -- The driver's invariant holds, and the storage is honest.
   pub is_sound : D → List (Option P) → Type 0
   pub surplus : D → List (Option P) → ℕ → ℕ
-  -- how many clusters couldn't be freed, as the image counts them, up to the greatest u64
+  -- How many clusters could not be freed. The counter stops at the greatest u64.
   pub leaked : D → ℕ
-  -- how often a cluster is still to be freed, of an image that may write
+  -- How often each cluster waits to be freed. Images opened for reading have nothing to free.
   pub to_be_freed : D → ℕ → ℕ
   pub means : D → P → PreparedMapping
   pub host : P → HostRange
 
--- Places without a mapping say nothing of an image.
+-- An empty slot makes no difference to whether an image is sound, or to its surplus. A sound image has not failed.
 pub record HasFreePlaces {D P : Type 0} (spec : Abstraction D P) : Type 0 where
   pub free : (d : D) (a b : List (Option P)) → spec.is_sound d (a ++ b) → spec.is_sound d (a ++ None ∷ b)
   pub left : (d : D) (a b : List (Option P)) → spec.is_sound d (a ++ None ∷ b) → spec.is_sound d (a ++ b)
   pub surplus : (d : D) (a b : List (Option P)) → spec.surplus d (a ++ None ∷ b) ≡ spec.surplus d (a ++ b)
   pub works : (d : D) (out : List (Option P)) → spec.is_sound d out → spec.is_failed d ≡ false
 
--- the same of one image
+-- The view of one image with its prepared mappings.
 pub record AbstractImage : Type 1 where
   pub number : ℕ
   pub setting : Setting
@@ -96,25 +96,25 @@ abstract_image spec d out = record {
   hosts = λ k. meaning_at spec.host (slice_get out k);
 }
 
--- the bytes on its storage
+-- The bytes on the storage of an image.
 abbrev pub stored_bytes : AbstractImage → Bytes
 stored_bytes v = byte_at v.storage.contents
 
--- what a guest sees of it
+-- What a guest sees of an image.
 abbrev pub guest_of : AbstractImage → Guest
 guest_of v = record { disk = disk_with v.known v.data_bytes v.setting.backing; slots = v.slots }
 
--- how much more often each cluster is counted than named
+-- The surplus of each cluster in the bytes of an image: its refcount minus its references.
 abbrev pub surplus_of : HeaderFields → Bytes → ℕ → ℕ
 surplus_of h b c = count h b c - named h b c
 
--- what a sound image is
+-- Properties of a sound image.
 pub record IsWhole (v : AbstractImage) : Type 0 where
   pub consistent : IsConsistent v.known
   pub in_image : v.data_bytes ≡ v.known
   pub cluster_size : v.setting.cluster_size ≡ cluster_size (header v.known)
 
--- an image that was just opened: it is sound, and nothing is modified
+-- An image that was just opened: it is sound, and no cached table is modified.
 pub record IsOpened (v : AbstractImage) : Type 0 where
   pub sound : v.is_sound
   pub clean : v.known ≡ stored_bytes v

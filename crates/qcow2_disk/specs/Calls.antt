@@ -13,24 +13,24 @@ use Rattle.qcow2_disk.specs.Rules.{touched_from, touched_to}
 use Rattle.qcow2_disk.specs.AbstractImages.{Setting, Guest, AbstractImage, guest_of}
 use Rattle.qcow2_disk.specs.UngivenCovers.{UngivenStay}
 
--- why a call was refused, as far as the state after it and what it tells depend on that
+-- Why a call was refused, in the detail that the state after it depends on. Other refusals have their number.
 pub data Refusal : Type 0 where
   memory : Refusal
   storage : Refusal
-  -- no compressed data stand at this guest offset
+  -- The data at this guest offset are not compressed.
   not_compressed : (offset : ℕ) → Refusal
   another : ℕ → Refusal
 
--- the storage failed, or memory was refused
+-- The refusal is an I/O error or a failed allocation.
 abbrev pub IsRefusalByFault : Refusal → Type 0
 IsRefusalByFault memory = Unit {0}
 IsRefusalByFault storage = Unit {0}
 IsRefusalByFault (not_compressed offset) = ⊥
 IsRefusalByFault (another number) = ⊥
 
--- ---- what is said of every call
+-- ---- what every call does
 
--- where a stop may find the image, with what a call gives and asks
+-- Every stop during a call is safe at checkpoint m, extended by the values that the call gives and the sizes that it asks for.
 pub record Stops (old new : AbstractImage) (given : List GivenBytes) (asked : List ℕ) (m : Checkpoint) : Type 0 where
   pub moments : EachMomentSince old.storage new.storage (λ c. StopOkEverywhere old.setting.backing (checkpoint_with given asked m) (byte_at c))
   pub contents : LeavesKept old.setting.backing (checkpoint_with given asked m) new.storage
@@ -39,7 +39,7 @@ pub record Stops (old new : AbstractImage) (given : List GivenBytes) (asked : Li
 abbrev pub StartsAt : AbstractImage → Checkpoint → Type 0
 StartsAt v m = LeavesKept v.setting.backing m v.storage × StopOkEverywhere v.setting.backing m v.known
 
--- What a call does to a sound image. While it is sound, what stands for guest clusters of which the call gives no byte stays. No cluster is leaked, even where the call was refused or broke off.
+-- What a call does to a sound image. While the image stays sound, the mapping of every guest cluster that is given no byte stays the same. No cluster is leaked, even if the call is refused or fails.
 pub record EffectOnSound (old new : AbstractImage) (given : List GivenBytes) (asked : List ℕ) : Type 0 where
   pub setting : new.setting ≡ old.setting
   pub surplus : new.is_sound → new.surplus ≡ old.surplus
@@ -47,7 +47,7 @@ pub record EffectOnSound (old new : AbstractImage) (given : List GivenBytes) (as
   pub leaks : new.leaked ≡ old.leaked
   pub stops : (m : Checkpoint) → StartsAt old m → Stops old new given asked m
 
--- a failed image writes nothing more
+-- A failed image writes nothing more.
 pub record EffectOnFailed (old new : AbstractImage) : Type 0 where
   pub setting : new.setting ≡ old.setting
   pub failed : IsTrue new.is_failed
@@ -55,30 +55,30 @@ pub record EffectOnFailed (old new : AbstractImage) : Type 0 where
   pub moments : EachMomentSince old.storage new.storage (IsLeftBy old.storage)
   pub leaks : new.leaked ≡ old.leaked
 
--- a call that gives these values and asks for these sizes
+-- The effect of a call that gives these values and asks for these sizes.
 pub record CallEffect (old new : AbstractImage) (given : List GivenBytes) (asked : List ℕ) : Type 0 where
   pub number : new.number ≡ old.number
   pub works : old.is_sound → EffectOnSound old new given asked
   pub rests : IsTrue old.is_failed → EffectOnFailed old new
 
--- it was answered: the image is sound, and this was done
+-- The call succeeded: the image is sound, and `done` holds.
 pub record AnsweredEffect (old new : AbstractImage) (given : List GivenBytes) (asked : List ℕ) (done : Type 0) : Type 0 where
   pub acts : CallEffect old new given asked
   pub answer : old.is_sound → new.is_sound × done
 
--- it was refused: the image is sound, and this is so; or it failed, by a fault or want of memory. A fault always fails it.
+-- The call was refused. Either the image is sound and `still` holds, or the image failed, by an I/O error or a failed allocation. An I/O error always makes the image fail.
 pub record RefusedEffect (old new : AbstractImage) (given : List GivenBytes) (asked : List ℕ) (e : Refusal) (still : Type 0) : Type 0 where
   pub acts : CallEffect old new given asked
   pub answer : old.is_sound → (new.is_sound × still) ⊎ (IsRefusalByFault e × IsTrue new.is_failed)
   pub fault : e ≡ storage → IsTrue new.is_failed
 
--- the guest sees what it saw
+-- The guest sees what it saw before.
 abbrev pub IsSame : AbstractImage → AbstractImage → Type 0
 IsSame old new = guest_of new ≡ guest_of old
 
 -- ---- what single calls do
 
--- the disk has these bytes at an offset
+-- The disk has these bytes from `offset` on.
 abbrev pub Shows : Disk → ℕ → List ℕ → Type 0
 Shows d offset bytes = (i : ℕ) → i < length bytes → d.value (offset + i) ≡ known_byte (byte_at bytes i)
 
@@ -88,7 +88,7 @@ with_disk g d = record g { disk = d }
 abbrev pub with_slot : Guest → ℕ → Option PreparedMapping → Guest
 with_slot g slot m = record g { slots = λ k. if k == slot then m else g.slots k }
 
--- A refused write: the leading bytes that it names are there. Where memory was refused, of those behind them any may be.
+-- The disk after a refused write, of which the first n bytes were written. After a failed allocation, any of the other bytes may have been written too.
 pub record WritesSome (old : Disk) (offset : ℕ) (bytes : List ℕ) (n : ℕ) (new : Disk) : Type 0 where
   pub size : new.size ≡ old.size
   pub values : (o : ℕ) → (new.value o ≡ (with_bytes old offset (take n bytes)).value o) ⊎ (new.value o ≡ (with_bytes old offset bytes).value o)
@@ -97,7 +97,7 @@ abbrev pub MayWrite : Refusal → Guest → ℕ → List ℕ → ℕ → Guest �
 MayWrite memory old offset bytes n new = (n ≤ length bytes) × ((d : Disk) × WritesSome old.disk offset bytes n d × (new ≡ with_disk old d))
 MayWrite e old offset bytes n new = (n ≤ length bytes) × (new ≡ with_disk old (with_bytes old.disk offset (take n bytes)))
 
--- how whole clusters are cleared: to zeros without host clusters; to zeros that keep the host clusters which are marked copied; or to what the backing shows
+-- How whole clusters are cleared: to zeros, with their host clusters freed; to zeros, keeping host clusters that are marked copied; or unmapped, so that the backing disk shows.
 pub data Clearing : Type 0 where
   to_zero : Clearing
   to_kept_zero : Clearing
@@ -121,31 +121,31 @@ shows_old mode = false
 abbrev pub grown_to : Setting → Disk → ℕ → PreallocateMode → Disk
 grown_to x d size mode = if nat_le size d.size then d else grown x.cluster_size d size (shows_old mode)
 
--- A refused grow: where bytes are to be zeros past the size, they may be; else none changes.
+-- The disk after a refused growth: the size is the old one. If the new bytes were to be zeros, some bytes behind the old size may be zero already.
 pub record MayGrow (x : Setting) (old : Disk) (size : ℕ) (mode : PreallocateMode) (new : Disk) : Type 0 where
   pub same_size : new.size ≡ old.size
   pub values : (o : ℕ) → (new.value o ≡ old.value o)
       ⊎ ((shows_old mode ≡ false) × (old.size < size) × (old.size ≤ o) × (o < rounded_up x.cluster_size size) × (new.value o ≡ known_byte 0))
 
--- a size that isn't larger gives nothing
+-- A growth to a size that is not larger gives nothing.
 abbrev pub given_by_grow : Setting → Disk → ℕ → PreallocateMode → List GivenBytes
 given_by_grow x d size mode =
     if nat_le size d.size || shows_old mode then [] else given_shown (zeroed_between d d.size (rounded_up x.cluster_size size)) d.size (rounded_up x.cluster_size size) ∷ []
 
--- Where a shrink may end: at the old size; at the new one, where nothing was uncovered; or between, at the end of the clusters that were.
+-- Where a shrink may end: at the old size; at the new size, if nothing was unmapped; or at a cluster boundary between them, up to which clusters were unmapped.
 abbrev pub IsShrinkEnd : ℕ → (old size answer : ℕ) → Type 0
 IsShrinkEnd cluster_size old size answer = (answer ≡ old) ⊎ ((answer ≡ size) ⊎ ((rounded_up cluster_size answer ≡ answer) × (rounded_up cluster_size size < answer) × (answer < old)))
 
--- the new size, and the backing's bytes on whole clusters up to where it ends
+-- The disk after a shrink: it has the new size, and the backing disk shows in the clusters that were unmapped, up to `answer`.
 pub record IsShrunk (x : Setting) (old : Disk) (size answer : ℕ) (new : Disk) : Type 0 where
   pub no_smaller : old.size ≤ size → (answer ≡ old.size) × (new ≡ old)
   pub smaller : size < old.size → IsShrinkEnd x.cluster_size old.size size answer × (new ≡ shrunk x.cluster_size old x.backing size answer)
 
--- what it uncovers at most
+-- All values that a shrink may give: those of the backing disk, from the new end to the old end.
 abbrev pub given_by_shrink : Setting → Disk → ℕ → GivenBytes
 given_by_shrink x d size = given_shown (uncovered d x.backing (rounded_up x.cluster_size size) (rounded_up x.cluster_size d.size)) (rounded_up x.cluster_size size) (rounded_up x.cluster_size d.size)
 
--- what an answered one uncovered: the old size counts to its cluster's end
+-- The values that a successful shrink gave. The old size counts up to the end of its cluster.
 abbrev pub given_by_shrunk : Setting → Disk → (size answer : ℕ) → GivenBytes
 given_by_shrunk x d size answer =
     given_shown (shrunk x.cluster_size d x.backing size answer) (rounded_up x.cluster_size size) (if answer == d.size then rounded_up x.cluster_size answer else answer)

@@ -1,4 +1,4 @@
--- Laws that a user would quote.
+-- Laws for users of the library.
 use Rattle.std.specs.Prelude.{ℕ, ◌+◌, ◌≡◌, ◌<◌, Bool, false, IsTrue, List, length, Option, Some}
 use Rattle.qcow2_metadata.specs.Bytes.{Bytes, byte_at}
 use Rattle.qcow2_metadata.specs.Guest.{Value, known_byte}
@@ -10,7 +10,7 @@ use Rattle.qcow2_disk.specs.Mappings.{PreparedMapping}
 use Rattle.qcow2_disk.specs.AbstractImages.{Setting, Guest}
 use Rattle.qcow2_disk.specs.Runs.{Found, CommandMeaning, given_by, read, prepare, put, commit, discard, done, bytes_are, prepared_is}
 
--- Preparing, writing to private clusters and discarding leaves every guest byte.
+-- Preparing a range, putting bytes at private offsets of it and discarding it changes no guest byte.
 abbrev pub PrivateBytesAreUnseen : Type 0
 PrivateBytesAreUnseen =
     (x : Setting) (found : ℕ → Option Found) (g0 g1 g2 g3 : Guest) (slot offset n host count at : ℕ) (overwrite is_existing : Bool) (bytes : List ℕ)
@@ -19,7 +19,7 @@ PrivateBytesAreUnseen =
     → CommandMeaning x found g1 (put slot at bytes) done g2 → CommandMeaning x found g2 (discard slot) done g3
     → (g3.disk.size ≡ g0.disk.size) × ((o : ℕ) → g3.disk.value o ≡ g0.disk.value o)
 
--- What was put into a mapping and committed is read back, wherever it was private or in place.
+-- Bytes that were put into a mapping and committed are read back.
 abbrev pub CommittedIsReadBack : Type 0
 CommittedIsReadBack =
     (x : Setting) (found : ℕ → Option Found) (g0 g1 g2 g3 : Guest) (m : PreparedMapping) (slot at n i : ℕ) (bytes answer : List ℕ)
@@ -27,7 +27,7 @@ CommittedIsReadBack =
     → CommandMeaning x found g2 (read (m.from + at) n) (bytes_are answer) g3
     → i < length answer → i < length bytes → byte_at answer i ≡ byte_at bytes i
 
--- Before the commit the old bytes are read wherever the mapping is private, and the new ones at once wherever it is in place.
+-- Before the commit, a read returns the old bytes at private offsets of a mapping, and the new bytes at offsets in place.
 abbrev pub PutIsReadInPlace : Type 0
 PutIsReadInPlace =
     (x : Setting) (found : ℕ → Option Found) (g0 g1 g2 : Guest) (m : PreparedMapping) (slot at offset n i : ℕ) (bytes answer : List ℕ)
@@ -35,23 +35,23 @@ PutIsReadInPlace =
     → (IsTrue (m.is_private (offset + i)) → known_byte (byte_at answer i) ≡ g0.disk.value (offset + i))
     × (m.is_private (offset + i) ≡ false → known_byte (byte_at answer i) ≡ (with_bytes g0.disk (m.from + at) bytes).value (offset + i))
 
--- What a put gives where its mapping is hidden is what the disk shows: until the commit no stop leaves any of the bytes that were put there.
+-- A put to a hidden offset gives nothing but what the disk shows. So until the commit no stop leaves any byte that was put there.
 abbrev pub HiddenBytesAreNotGiven : Type 0
 HiddenBytesAreNotGiven =
     (x : Setting) (g : Guest) (m : PreparedMapping) (slot at o : ℕ) (bytes : List ℕ) (v : Value)
     → g.slots slot ≡ Some m → IsTrue (m.is_hidden o) → IsGiven (given_by x g (put slot at bytes)) o v → v ≡ g.disk.value o
 
--- A stop right after a flush gives exactly the disk.
+-- A stop right after a flush leaves exactly the disk.
 abbrev pub FlushedIsExact : Type 0
 FlushedIsExact =
     (backing header_bytes b : Bytes) (d : Disk) → StopOk backing (checkpoint_at d header_bytes) b
     → ((disk b backing).size ≡ d.size) × ((o : ℕ) → o < d.size → (disk b backing).value o ≡ d.value o)
 
--- other contents name the same backing file, and have the same extensions behind the header
+-- New contents of a header cluster name the same backing file, and have the same header extensions.
 pub record KeepsNames (old new : Bytes) : Type 0 where
   pub backing_name : backing_name (header new) new ≡ backing_name (header old) old
   pub extensions : (list : List (ℕ × List ℕ)) → AreExtensions old (cluster_size (header old)) (header old).header_length list → AreExtensions new (cluster_size (header new)) (header new).header_length list
 
--- Where the rest of a header that reads stays, so do its names and its extensions.
+-- If the rest of a readable header stays the same, its backing file name and its extensions do too.
 abbrev pub HeaderRestHasNames : Type 0
 HeaderRestHasNames = (old new : Bytes) → HeaderReads (header old) old → KeepsHeaderRest old new → KeepsNames old new

@@ -1,8 +1,8 @@
--- Rules of the driver: where clusters are allocated, what a call touches and answers, and what is copied.
+-- Which whole clusters a call on a range touches, and which offset and length it returns.
 use Rattle.std.specs.Prelude.{ℕ, ◌+◌, ◌-◌, ◌*◌, ◌/◌, ◌==◌, nat_lt, min, if◌then◌else◌}
 use Rattle.qcow2_metadata.specs.Header.{rounded_up, rounded_down}
 
--- the whole clusters of a range, where the last one counts as whole at the disk's end, within one L2 table
+-- The whole clusters of a range, within the L2 table of its first whole cluster. A part of a cluster at the end of the disk counts as whole.
 abbrev pub touched_from : ℕ → ℕ → ℕ
 touched_from cs offset = rounded_up cs offset
 
@@ -12,7 +12,7 @@ touched_to cs size offset length =
     let table = cs / 8 * cs in
     min (if end == size then rounded_up cs end else rounded_down cs end) (rounded_down table (rounded_up cs offset) + table)
 
--- the offset and the length that are answered
+-- The offset and the length that a clearing call returns.
 abbrev pub answered : ℕ → ℕ → ℕ → ℕ → ℕ × ℕ
 answered cs size offset length =
     let from = touched_from cs offset in

@@ -1,4 +1,4 @@
--- A run of commands with its replies.
+-- Commands, replies, and runs: the replies that a list of commands may get, and the disk after each.
 use Rattle.std.specs.Prelude.{ℕ, ◌+◌, ◌≡◌, ◌≢◌, ◌⊎◌, ◌≤◌, ◌<◌, ◌==◌, Bool, true, false, IsTrue, List, [], ◌∷◌, length, Option, Some, None, MatchOption, if◌then◌else◌}
 use Rattle.image_access.specs.Moments.{StorageView, EachMomentSince, IsLeftBy}
 use Rattle.image_access.specs.declared.storage.PreallocateMode.{PreallocateMode}
@@ -20,7 +20,7 @@ use Rattle.qcow2_disk.specs.Calls.{Refusal, memory, storage, not_compressed, ano
 pub data Command : Type 0 where
   read : (offset length : ℕ) → Command
   write : (offset : ℕ) → (bytes : List ℕ) → Command
-  -- what is found goes to a place of its own, from which it is read
+  -- A lookup. Its range is remembered at a place, for later reads.
   get_mapping : (place offset max : ℕ) → Command
   read_mapped : (place at length : ℕ) → Command
   prepare : (slot offset length : ℕ) → (overwrite : Bool) → Command
@@ -41,19 +41,19 @@ pub data Command : Type 0 where
 pub data Reply : Type 0 where
   done : Reply
   bytes_are : List ℕ → Reply
-  -- what so much of the range from an offset on is mapped to
+  -- The kind of the first `length` bytes of a range that begins at `from`.
   mapping_is : (from : ℕ) → (kind : Kind) → (length : ℕ) → Reply
-  -- where in the file it is to be written, and for how many bytes
+  -- Host offset and length of the prepared range.
   prepared_is : (host length : ℕ) → (is_existing : Bool) → Reply
   range_is : (offset length : ℕ) → Reply
-  -- no compressed data stand at this offset; none is told of no bytes
+  -- The data at this offset are not compressed. None if no bytes were asked for.
   plain_at : (offset : Option ℕ) → Reply
   number_is : ℕ → Reply
   refused : Refusal → Reply
   write_refused : Refusal → (done : ℕ) → Reply
   misuse : Reply
 
--- a guest range that was found: where it begins, and its length
+-- A guest range that a lookup found: offset and length.
 pub record Found : Type 0 where
   pub from : ℕ
   pub length : ℕ
@@ -62,7 +62,7 @@ abbrev pub given_at : Option PreparedMapping → (PreparedMapping → GivenBytes
 given_at None bytes_given = []
 given_at (Some m) bytes_given = bytes_given m ∷ []
 
--- what a command gives, and which sizes it asks for
+-- The values that a command gives, and the sizes that it asks for.
 abbrev pub given_by : Setting → Guest → Command → List GivenBytes
 given_by x g (write offset bytes) = given_of offset bytes ∷ []
 given_by x g (put slot at bytes) = given_at (g.slots slot) (λ m. given_by_put g.disk m at bytes)
@@ -77,7 +77,7 @@ asked_by (grow size mode) = size ∷ []
 asked_by (shrink size) = size ∷ []
 asked_by command = []
 
--- The slot or the range is wrong: nothing was found or is prepared there, or the range passes its end, or the place is taken.
+-- The slot or the range is wrong: the place or slot is empty, a slot to prepare is in use, or the range passes the end of the found range or mapping.
 abbrev pub IsMisuse : (ℕ → Option Found) → Guest → Command → Type 0
 IsMisuse found g (read_mapped place at n) = MatchOption (found place) (Unit {0}) (λ f. f.length < at + n)
 IsMisuse found g (prepare slot offset n overwrite) = g.slots slot ≢ None
@@ -86,7 +86,7 @@ IsMisuse found g (commit slot) = g.slots slot ≡ None
 IsMisuse found g (discard slot) = g.slots slot ≡ None
 IsMisuse found g command = ⊥
 
--- to this command the image may give this reply, and the guest then sees new; found is what was found last for each place
+-- The image may give this reply to this command, and the guest then sees `new`. `found` is the last lookup of each place.
 abbrev pub CommandMeaning : Setting → (ℕ → Option Found) → Guest → Command → Reply → Guest → Type 0
 CommandMeaning x found old (read offset n) (bytes_are bytes) new = (length bytes ≡ n) × Shows old.disk offset bytes × (new ≡ old)
 CommandMeaning x found old (write offset bytes) done new = new ≡ with_disk old (with_bytes old.disk offset bytes)
@@ -117,8 +117,8 @@ CommandMeaning x found old command (refused e) new = new ≡ old
 CommandMeaning x found old command misuse new = IsMisuse found old command × (new ≡ old)
 CommandMeaning x found old command reply new = ⊥
 
--- This may be answered: a read or a write is done, and a range prepared or cleared, within the size alone. A refused write names no more bytes than it has. The size, the number of leaks, dropping a mapping and a lookup at or past the size are refused by no want of memory, nor else.
--- A size that isn't larger, or isn't smaller, meets no fault.
+-- Limits of replies. A read, a write, a prepare or a clear of at least one byte succeeds only within the size. A refused write wrote no more bytes than it has. The size, the number of leaks and dropping a mapping are never refused, and neither is a lookup at or past the size.
+-- A growth to a size that is not larger, and a shrink to one that is not smaller, never fails by an I/O error or a failed allocation.
 abbrev pub MayAnswer : Disk → Command → Reply → Type 0
 MayAnswer d (read offset n) (bytes_are bytes) = 0 < n → offset + n ≤ d.size
 MayAnswer d (write offset bytes) done = 0 < length bytes → offset + length bytes ≤ d.size
@@ -133,7 +133,7 @@ MayAnswer d get_size (refused e) = ⊥
 MayAnswer d get_leaked (refused e) = ⊥
 MayAnswer d command reply = Unit {0}
 
--- A failed image answers 16, but for dropping a mapping and the getters, which it doesn't refuse. Where a slot or a range is misused, nothing is called.
+-- The replies of a failed image: refusal 16. Dropping a mapping, the getters and misuse are answered as usual.
 abbrev pub IsAnswerOfFailed : Command → Reply → Type 0
 IsAnswerOfFailed (read_mapped place at n) misuse = Unit {0}
 IsAnswerOfFailed (prepare slot offset n overwrite) misuse = Unit {0}
@@ -150,13 +150,13 @@ IsAnswerOfFailed command (refused e) = e ≡ another 16
 IsAnswerOfFailed command (write_refused e n) = (e ≡ another 16) × (n ≡ 0)
 IsAnswerOfFailed command reply = ⊥
 
--- the storage failed, or memory was refused
+-- The reply is an I/O error or a failed allocation.
 abbrev pub IsFaultReply : Reply → Type 0
 IsFaultReply (refused e) = IsRefusalByFault e
 IsFaultReply (write_refused e n) = IsRefusalByFault e
 IsFaultReply reply = ⊥
 
--- the storage failed
+-- The reply is an I/O error.
 abbrev pub IsStorageReply : Reply → Type 0
 IsStorageReply (refused e) = e ≡ storage
 IsStorageReply (write_refused e n) = e ≡ storage
@@ -166,7 +166,7 @@ abbrev pub found_after : (ℕ → Option Found) → Command → Reply → ℕ �
 found_after found (get_mapping place offset max) (mapping_is from kind n) k = if k == place then Some (record { from = from; length = n }) else found k
 found_after found command reply k = found k
 
--- A run so far: what the guest sees, what was found, and what was flushed last with what was given and asked since.
+-- The state of a run: what the guest sees, the last lookups, whether the image failed, and the checkpoint: the last flush with everything given and asked for since.
 pub record State : Type 0 where
   pub guest : Guest
   pub found : ℕ → Option Found
@@ -176,19 +176,19 @@ pub record State : Type 0 where
 abbrev pub started : AbstractImage → State
 started v = record { guest = guest_of v; found = λ _. None; is_failed = false; checkpoint = checkpoint_at (guest_of v).disk (stored_bytes v) }
 
--- the same with nothing found yet
+-- The state with no lookup remembered.
 abbrev pub begun : State → State
 begun s = record s { found = λ _. None }
 
--- a run that is over: its mappings are let go
+-- The state at the end of a run: no mapping is prepared any more.
 abbrev pub over : State → State
 over s = record s { guest = record s.guest { slots = λ _. None } }
 
--- the checkpoint of the command under way: what it gives and asks for is added before it returns
+-- The checkpoint while a command is under way. It includes what the command gives and asks for.
 abbrev pub checkpoint_during : Setting → State → Command → Checkpoint
 checkpoint_during x old command = checkpoint_with (given_by x old.guest command) (asked_by command) old.checkpoint
 
--- a flush that succeeded is the last one from then on; a shrink that was answered gave what it uncovered
+-- The checkpoint after a command. A successful flush starts a new one. A successful shrink gave the values that it unmapped.
 abbrev pub checkpoint_after : Setting → State → Command → Reply → Guest → Checkpoint
 checkpoint_after x old flush done new = checkpoint_at new.disk old.checkpoint.header_bytes
 checkpoint_after x old (shrink size) (number_is answer) new = checkpoint_with (given_by_shrunk x old.guest.disk size answer ∷ []) (asked_by (shrink size)) old.checkpoint
@@ -202,7 +202,7 @@ stepped x old command reply new failed = record {
   checkpoint = checkpoint_after x old command reply new;
 }
 
--- A fault of the storage makes the image fail, and refused memory may; nothing else does. From then on it answers as a failed one.
+-- One command of a run. An I/O error makes the image fail, and a failed allocation may. Nothing else does. A failed image answers as `IsAnswerOfFailed` says.
 abbrev pub CommandStep : Setting → State → Command → Reply → State → Type 0
 CommandStep x old command reply new =
     (IsTrue old.is_failed × IsAnswerOfFailed command reply × (new ≡ old))
@@ -215,16 +215,16 @@ Run x old (command ∷ commands) (reply ∷ replies) new = (mid : State) × Comm
 Run x old [] (reply ∷ replies) new = ⊥
 Run x old (command ∷ commands) [] new = ⊥
 
--- ---- what a stop leaves on the way
+-- ---- what a stop during a run leaves
 
--- While a call is under way, at each moment the bytes are what a stop may leave at its checkpoint; at its return, at the checkpoint then. An image that has failed writes nothing.
+-- What a stop during a call may leave. Until the return every moment is safe at checkpoint `under`, at the return at checkpoint `after`. An image that has failed writes nothing.
 pub record IsSafeWhile (backing : Bytes) (old new : StorageView) (failed : Bool) (under after : Checkpoint) : Type 0 where
   pub moments : failed ≡ false → EachMomentSince old new (λ c. StopOk backing under (byte_at c))
   pub at_return : LeavesOk backing after new
   pub silent : IsTrue failed → EachMomentSince old new (IsLeftBy old)
   pub unchanged : IsTrue failed → new.contents ≡ old.contents
 
--- An image at the return of a command, where it didn't fail: it is sound, and the guest sees what the run says. The known image is consistent, and no cluster was lost or gained since the start. Whether it failed or not, no cluster was leaked since.
+-- The image when a command returns. If it has not failed, it is sound, the guest sees the disk of the run, the known contents are consistent, and every surplus is the one at the start. No cluster leaked, even if the image failed.
 pub record RefinesGuest (v : AbstractImage) (s : State) (before : ℕ → ℕ) (leaked : ℕ) : Type 0 where
   pub works : s.is_failed ≡ false → v.is_sound
   pub failed : IsTrue s.is_failed → IsTrue v.is_failed
@@ -233,34 +233,34 @@ pub record RefinesGuest (v : AbstractImage) (s : State) (before : ℕ → ℕ) (
   pub surplus : s.is_failed ≡ false → v.surplus ≡ before
   pub leaks : v.leaked ≡ leaked
 
--- The moments on the way are the call's own. At whatever checkpoint a stop was safe as it began, each of them is safe with no more than it gives and asks.
+-- Moments during a call: at any checkpoint that was safe when the call began, they are safe with nothing more than what this call gives and asks for.
 abbrev pub IsOwnInterval : Bytes → (old new : StorageView) → (known : Bytes) → List GivenBytes → List ℕ → Type 0
 IsOwnInterval backing old new known given asked = (m : Checkpoint) → LeavesKept backing m old → StopOkEverywhere backing m known
     → EachMomentSince old new (λ c. StopOkEverywhere backing (checkpoint_with given asked m) (byte_at c))
 
--- What preparing answers is where the mapping in its slot is to be written. Of that mapping all is private but what was copied data, and hidden but where a zero cluster keeps its host cluster.
+-- The reply of a prepare is the host range of the mapping in its slot. Every byte of that mapping is private unless it was copied data, and hidden unless a zero entry keeps a host cluster.
 pub record IsPreparedRightly (before : Bytes) (new : AbstractImage) (slot n : ℕ) (host : HostRange) : Type 0 where
   pub written : new.hosts slot ≡ Some host
   pub private : 0 < n → (m : PreparedMapping) → new.slots slot ≡ Some m → IsPrivateIn (header before) before m
   pub hidden : (m : PreparedMapping) → new.slots slot ≡ Some m → IsHiddenIn (header new.known) new.known m
 
--- A read of n bytes of compressed data is refused as compressed (7) only where such stand at its offset, and as not compressed only where none do. The offset that is named is its own.
+-- When a special read of n bytes may be refused: as compressed (7) only if there are compressed data at its offset; as not compressed only if there are none, with the offset of the call. Neither is the answer for no bytes.
 abbrev pub IsRightlySpecial : (before : Bytes) → (offset n : ℕ) → Refusal → Type 0
 IsRightlySpecial before offset n (another number) = number ≡ 7 → (0 < n) × IsCompressedAt before offset
 IsRightlySpecial before offset n (not_compressed at) = (0 < n) × (at ≡ offset) × (¬ IsCompressedAt before offset)
 IsRightlySpecial before offset n memory = Unit {0}
 IsRightlySpecial before offset n storage = Unit {0}
 
--- so it is where the offset is answered in the place of the second refusal, and none of no bytes
+-- When `try_read_special` may return an offset: only its own, and only if the data there are not compressed. It returns none exactly for no bytes.
 abbrev pub IsRightlyPlain : (before : Bytes) → (offset n : ℕ) → Option ℕ → Type 0
 IsRightlyPlain before offset n (Some at) = (0 < n) × (at ≡ offset) × (¬ IsCompressedAt before offset)
 IsRightlyPlain before offset n None = n ≡ 0
 
--- A range was written: each guest cluster that it touches is copied data.
+-- After a write, each guest cluster that it touches is copied data.
 abbrev pub IsRightlyWritten : (offset n : ℕ) → (after : Bytes) → Type 0
 IsRightlyWritten offset n after = (g : ℕ) → Touches (cluster_size (header after)) offset (offset + n) g → is_copied_data (cover (header after) after g) ≡ true
 
--- What a lookup answers is what is found in the known bytes, which it leaves as they were. What is told of preparing, clearing, special reads and a larger size is so. After a write its clusters are copied data. After a flush nothing is left to be freed.
+-- The reply matches the tables. A lookup returns what the known contents hold, and leaves them unchanged. The replies of a prepare, a clear, a special read and a growth match the mappings before and after. After a write its clusters are copied data. After a flush no cluster waits to be freed.
 abbrev pub IsRightlyTold : Setting → (before : Bytes) → AbstractImage → Command → Reply → Type 0
 IsRightlyTold x before new (get_mapping place offset max) (mapping_is from kind n) = IsFoundIn new.known x.is_backed offset max kind n × (new.known ≡ before)
 IsRightlyTold x before new (prepare slot offset n overwrite) (prepared_is host count is_existing) = IsPreparedRightly before new slot n (record { offset = host; length = count; is_existing = is_existing })
@@ -273,20 +273,20 @@ IsRightlyTold x before new (grow size mode) done = IsRightlyGrown mode size befo
 IsRightlyTold x before new flush done = (c : ℕ) → new.to_be_freed c ≡ 0
 IsRightlyTold x before new command reply = Unit {0}
 
--- A resize writes its size last: each moment on the way has the size from before it, or is what stands at its return.
+-- A resize writes the size last: every moment before has the old size.
 abbrev pub ResizesLast : (size : ℕ) → (old new : StorageView) → Command → Type 0
 ResizesLast size old new (grow asked mode) = EachMomentSince old new (λ c. ((header (byte_at c)).size ≡ size) ⊎ (c ≡ new.contents))
 ResizesLast size old new (shrink asked) = EachMomentSince old new (λ c. ((header (byte_at c)).size ≡ size) ⊎ (c ≡ new.contents))
 ResizesLast size old new command = Unit {0}
 
--- What else is so of the stretch of one command, from a storage with what was known over it. Each moment on the way is its own, and a resize writes its size last. The reply is as the image is then. What stands for guest clusters of which it gives no byte stays.
+-- More about one command. Its moments are safe with what it gives and asks for, a resize writes the size last, the reply matches the tables, and the mapping of every guest cluster that is given no byte is the same.
 pub record IsCommandInterval (x : Setting) (old : StorageView) (known : Bytes) (new : AbstractImage) (s : State) (command : Command) (reply : Reply) (end : State) : Type 0 where
   pub own : s.is_failed ≡ false → IsOwnInterval x.backing old new.storage known (given_by x s.guest command) (asked_by command)
   pub sized : s.is_failed ≡ false → ResizesLast s.guest.disk.size old new.storage command
   pub told : end.is_failed ≡ false → IsRightlyTold x known new command reply
   pub beside : end.is_failed ≡ false → UngivenStay x.cluster_size (given_by x s.guest command) known new.known
 
--- Along a run: for each command there is the image at its return, with the mappings that are prepared then, and each moment on the way is safe.
+-- Along a run: when each command returns, the image agrees with the run, and every moment during the command is safe.
 abbrev pub RefinesAlong : {D P : Type 0} (spec : Abstraction D P) (x : Setting) (before : ℕ → ℕ) (leaked : ℕ) (old new : D) (s end : State) (commands : List Command) (replies : List Reply) → Run x s commands replies end → Type 0
 RefinesAlong spec x before leaked old new s end [] [] run = new ≡ old
 RefinesAlong {D = D} {P = P} spec x before leaked old new s end (command ∷ commands) (reply ∷ replies) run =
@@ -296,16 +296,16 @@ RefinesAlong {D = D} {P = P} spec x before leaked old new s end (command ∷ com
 RefinesAlong spec x before leaked old new s end [] (reply ∷ replies) run = ⊥
 RefinesAlong spec x before leaked old new s end (command ∷ commands) [] run = ⊥
 
--- the bytes are what a stop may leave at the checkpoint of one of a run's commands, or at its end
+-- A stop during one of the commands of a run, or after the last, may leave these bytes.
 abbrev pub IsStopIn : (x : Setting) (s end : State) (commands : List Command) (replies : List Reply) → Run x s commands replies end → Bytes → Type 0
 IsStopIn x s end [] [] run b = StopOk x.backing end.checkpoint b
 IsStopIn x s end (command ∷ commands) (reply ∷ replies) run b = StopOk x.backing (checkpoint_during x s command) b ⊎ IsStopIn x run.0 end commands replies run.2 b
 IsStopIn x s end [] (reply ∷ replies) run b = ⊥
 IsStopIn x s end (command ∷ commands) [] run b = ⊥
 
--- ---- what is said of runs
+-- ---- runs of an image
 
--- the image stands at this place of a run
+-- The image agrees with a state of a run.
 pub record RefinesState (x : Setting) (v : AbstractImage) (s : State) : Type 0 where
   pub setting : v.setting ≡ x
   pub works : s.is_failed ≡ false → v.is_sound
@@ -313,10 +313,10 @@ pub record RefinesState (x : Setting) (v : AbstractImage) (s : State) : Type 0 w
   pub guest : s.is_failed ≡ false → guest_of v ≡ s.guest
   pub known : s.is_failed ≡ false → StopOkEverywhere x.backing s.checkpoint v.known
   pub contents : s.is_failed ≡ false → LeavesKept x.backing s.checkpoint v.storage
-  -- what a stop now leaves
+  -- What a stop at this moment leaves.
   pub at_rest : LeavesOk x.backing s.checkpoint v.storage
 
--- one step of a run, with the moments on the way
+-- One command of a run, with the moments during it.
 pub record RefinesCommand (x : Setting) (old new : AbstractImage) (s : State) (command : Command) (reply : Reply) : Type 0 where
   pub end : State
   pub step : CommandStep x s command reply end
@@ -328,7 +328,7 @@ pub record RefinesCommand (x : Setting) (old new : AbstractImage) (s : State) (c
   pub since : end.is_failed ≡ false → s.is_failed ≡ false
 
 module _ {D P : Type 0} (spec : Abstraction D P) where
-  -- a whole run, from one image with its prepared mappings to another
+  -- A run from one image with its prepared mappings to another.
   pub record RefinesRun (x : Setting) (old : D) (before : List (Option P)) (new : D) (out : List (Option P)) (s : State) (commands : List Command) (replies : List Reply) : Type 0 where
     pub end : State
     pub run : Run x s commands replies end
@@ -337,11 +337,11 @@ module _ {D P : Type 0} (spec : Abstraction D P) where
     pub surplus : end.is_failed ≡ false → spec.surplus new out ≡ spec.surplus old before
     pub leaks : spec.leaked new ≡ spec.leaked old
 
-  -- a whole run, and then the mappings that are left are let go
+  -- A run after which all mappings that are left are dropped.
   pub record RefinesWholeRun (x : Setting) (old new : D) (s : State) (commands : List Command) (replies : List Reply) : Type 0 where
     pub end : State
     pub run : Run x s commands replies end
-    -- the image at the return of the last command
+    -- The image when the last command returned.
     pub last : D
     pub along : RefinesAlong spec x (spec.surplus old []) (spec.leaked old) old last s end commands replies run
     pub leaves : IsSafeWhile x.backing (spec.storage last) (spec.storage new) end.is_failed end.checkpoint end.checkpoint
@@ -349,18 +349,18 @@ module _ {D P : Type 0} (spec : Abstraction D P) where
     pub surplus : end.is_failed ≡ false → spec.surplus new [] ≡ spec.surplus old []
     pub leaks : spec.leaked new ≡ spec.leaked old
 
-  -- what is said of any list of commands with its replies, of an image that was just opened
+  -- What every list of commands with its replies does to an image that was just opened.
   pub record RefinesDisk (old new : D) (commands : List Command) (replies : List Reply) : Type 0 where
     pub end : State
-    -- the replies are a run of the disk
+    -- The replies are a run of the disk.
     pub run : Run (spec.setting old) (started (abstract_image spec old [])) commands replies end
-    -- Where it begins a stop is safe. Along it each moment is safe at the checkpoint of the command under way, and at each return the guest sees what the run says.
+    -- At the start a stop is safe. During the run every moment is safe at the checkpoint of the command under way. When each command returns, the guest sees the disk of the run.
     pub at_start : LeavesOk (spec.setting old).backing (started (abstract_image spec old [])).checkpoint (spec.storage old)
     pub last : D
     pub along : RefinesAlong spec (spec.setting old) (spec.surplus old []) (spec.leaked old) old last (started (abstract_image spec old [])) end commands replies run
-    -- Then the mappings that are left are let go, as safely, and the guest still sees it.
+    -- At the end the mappings that are left are dropped. This is as safe, and the guest still sees the disk of the run.
     pub leaves : IsSafeWhile (spec.setting old).backing (spec.storage last) (spec.storage new) end.is_failed end.checkpoint end.checkpoint
     pub at_end : RefinesGuest (abstract_image spec new []) (over end) (spec.surplus old []) (spec.leaked old)
     pub setting : spec.setting new ≡ spec.setting old
-    -- There is no other moment since it began.
+    -- There are no other moments since the start.
     pub since_start : (c : List ℕ) → (spec.storage new).had_since (spec.storage old).moment c → IsStopIn (spec.setting old) (started (abstract_image spec old [])) end commands replies run (byte_at c)

@@ -1,4 +1,4 @@
-//! What a guest sees of an image, and what a stop may leave of it: the abstract disk, commands and replies. Definitions, and laws about them: no function here does anything.
+//! The disk that a guest sees of an image, and what a stop may leave of it: definitions, and laws about them. The functions do nothing.
 #![tactic(auto)]
 
 mod laws;
