@@ -1,4 +1,4 @@
--- When an image is consistent whose data stand in another file: its guest clusters name no cluster of the image.
+-- Consistent images whose data are in an external file: their guest clusters use no cluster of the image.
 use Rattle.std.specs.Prelude.{ℕ, ◌-◌, ◌*◌, ◌/◌, ◌≡◌, ◌≢◌, ◌<◌, ◌≤◌, true, IsTrue, ⊤, Option, Some, None}
 use Rattle.qcow2_metadata.specs.Bytes.{Bytes}
 use Rattle.qcow2_metadata.specs.declared.header.HeaderFields.{HeaderFields}
@@ -10,7 +10,7 @@ use Rattle.qcow2_metadata.specs.Consistent.{IsAligned, EachCover, CoverIsAligned
 use Rattle.qcow2_metadata.specs.declared.l2_mapping.L2Mapping.{L2Mapping}
 use Rattle.qcow2_metadata.specs.declared.l2_mapping.L2Mapping.TheVariants.{Data, Zero, Compressed, Uncovered}
 
--- what stands for a guest cluster stands at its own offset in that file, and data are marked copied; nothing is compressed
+-- The mapping of a guest cluster, if the data are in an external file: data, and host clusters that zero entries keep, lie at the guest cluster's own offset. Data are marked copied, and nothing is compressed.
 abbrev pub StandsAtGuest : HeaderFields → ℕ → L2Mapping → Type 0
 StandsAtGuest h g (Data host copied) = (host ≡ g * cluster_size h) × IsTrue copied
 StandsAtGuest h g (Zero None) = ⊤
@@ -18,7 +18,7 @@ StandsAtGuest h g (Zero (Some k)) = k.0 ≡ g * cluster_size h
 StandsAtGuest h g (Compressed place sectors) = ⊥
 StandsAtGuest h g Uncovered = ⊤
 
--- named once and counted once, as a table's cluster
+-- The cluster of a table: it has one reference, and refcount 1.
 abbrev pub IsOwnTable : HeaderFields → Bytes → ℕ → Type 0
 IsOwnTable h b place = (named_for_tables h b (place / cluster_size h) ≡ 1) × (count h b (place / cluster_size h) ≡ 1)
 
@@ -39,6 +39,6 @@ pub record ConsistentBeside (h : HeaderFields) (b : Bytes) : Type 0 where
   pub copied_tables : (i : ℕ) → i < h.l1_entries → host_offset (l1_entry h b i) ≢ 0 → IsTrue (is_copied (l1_entry h b i)) → IsOwnTable h b (host_offset (l1_entry h b i))
   pub at_guests : (g : ℕ) → StandsAtGuest h g (cover h b g)
 
--- how much more often each cluster is counted than tables name it
+-- The surplus of each cluster, with references by tables only.
 abbrev pub table_surplus_of : HeaderFields → Bytes → ℕ → ℕ
 table_surplus_of h b c = count h b c - named_for_tables h b c

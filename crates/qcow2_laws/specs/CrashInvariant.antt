@@ -1,4 +1,4 @@
--- What is kept at every write, so that a stop leaves a consistent image.
+-- The invariant of every write: with it, a stop at any moment leaves a consistent image.
 use Rattle.std.specs.Prelude.{ℕ, ◌+◌, ◌/◌, ◌<◌, ◌≤◌, ◌≡◌, ◌⊎◌, max}
 use Rattle.qcow2_metadata.specs.Bytes.{Bytes, SameFrom}
 use Rattle.qcow2_metadata.specs.declared.header.HeaderFields.{HeaderFields}
@@ -10,7 +10,7 @@ use Rattle.qcow2_metadata.specs.Consistent.{CoverIsAligned, IsAligned}
 use Rattle.qcow2_laws.specs.Clusters.{Direction, Neither, L2DependsOnRb, RbDependsOnL2, Cluster, ClusterInvariant, Ordered}
 use Rattle.qcow2_laws.specs.Guests.{over_guests, names, marks, named_in_either, table_at, marked_by_l1_table}
 
--- header, L1 table and reftable read, and tables are aligned
+-- The header, the L1 table and the reftable are readable, and tables are aligned.
 pub record IsTop (h : HeaderFields) (b : Bytes) : Type 0 where
   pub header_is : header b ≡ h
   pub header_reads : HeaderReads h b
@@ -23,33 +23,33 @@ pub record IsTop (h : HeaderFields) (b : Bytes) : Type 0 where
   pub l2_tables_aligned : (i : ℕ) → i < h.l1_entries → IsAligned h (table_at h b i)
   pub refblocks_aligned : (k : ℕ) → k < reftable_entries h → IsAligned h (block_offset (reftable_entry h b k))
 
--- two images have the same header, L1 table and reftable
+-- Two images have the same header cluster, L1 table and reftable.
 pub record SameTop (h : HeaderFields) (b c : Bytes) : Type 0 where
   pub first_cluster : SameFrom 0 (cluster_size h) b c
   pub l1 : (i : ℕ) → l1_entry h b i ≡ l1_entry h c i
   pub reftable : (k : ℕ) → reftable_entry h b k ≡ reftable_entry h c k
 
--- the same stands for each guest cluster; each cluster is counted as often
+-- Each guest cluster has the same mapping in both images.
 abbrev pub SameCovers : HeaderFields → Bytes → Bytes → Type 0
 SameCovers h b c = (g : ℕ) → cover h b g ≡ cover h c g
 
 abbrev pub SameCounts : HeaderFields → Bytes → Bytes → Type 0
 SameCounts h b c = (cluster : ℕ) → count h b cluster ≡ count h c cluster
 
--- how often each cluster is counted without a known entry that names it, by kind
+-- How often the known refcount counts a cluster without a known reference, by reason.
 pub record Pending : Type 0 where
-  -- for data that no entry names yet
+  -- New data that no entry names yet.
   pub new_data : ℕ → ℕ
-  -- for a table that nothing names yet
+  -- A new table that nothing names yet.
   pub new_tables : ℕ → ℕ
-  -- for a former table, to be freed
+  -- An old table that waits to be freed.
   pub old_tables : ℕ → ℕ
-  -- for former data, to be freed
+  -- Old data that wait to be freed.
   pub old_data : ℕ → ℕ
-  -- for none of these
+  -- No reason: a positive surplus is a leak.
   pub surplus : ℕ → ℕ
 
--- on_storage is what is on the storage, known what is there with the modified tables laid over
+-- The numbers of one host cluster. `on_storage` are the bytes on the storage, `known` these with the modified tables laid over.
 abbrev pub cluster : HeaderFields → Pending → Bytes → Bytes → ℕ → Cluster
 cluster h p on_storage known c = record {
   table_refs = named_for_tables h on_storage c;
@@ -75,31 +75,31 @@ pub record CrashInvariant (h : HeaderFields) (d : Direction) (p : Pending) (on_s
   pub ordered : (c : ℕ) → Ordered d (cluster h p on_storage known c)
   pub aligned : (g : ℕ) → CoverIsAligned h (cover h on_storage g)
   pub known_aligned : (g : ℕ) → CoverIsAligned h (cover h known g)
-  -- where a guest cluster has a host cluster to itself, its entry on the storage has it so too, or doesn't name it
+  -- If the known entry of a guest cluster is marked copied for a host cluster, its entry on the storage is too, or does not name that cluster.
   pub own : (g c : ℕ) → 0 < marks h known c g → names h on_storage c g ≤ marks h on_storage c g
-  -- no table is laid over what entries name, or new data
+  -- No modified table covers data or new data.
   pub not_overlaid : (o : ℕ) → 0 < named_in_either h on_storage known (o / cluster_size h) + p.new_data (o / cluster_size h) → on_storage o ≡ known o
 
--- the same bytes in a cluster
+-- The two have the same bytes in the cluster.
 abbrev pub SameIn : ℕ → ℕ → Bytes → Bytes → Type 0
 SameIn size c b b' = (o : ℕ) → o / size ≡ c → b o ≡ b' o
 
--- each cluster is that of the one or of the other
+-- Each cluster has the bytes on the storage, or the known ones.
 abbrev pub IsPartly : ℕ → Bytes → Bytes → Bytes → Type 0
 IsPartly size on_storage known b = (c : ℕ) → SameIn size c b on_storage ⊎ SameIn size c b known
 
--- the one kind is as on the storage unless the other kind is written already
+-- Tables of the kind that must wait are unwritten, or those of the other kind are all written.
 abbrev pub IsInOrder : Direction → HeaderFields → Bytes → Bytes → Bytes → Type 0
 IsInOrder Neither h on_storage known b = Unit {0}
 IsInOrder L2DependsOnRb h on_storage known b = SameCovers h on_storage b ⊎ SameCounts h known b
 IsInOrder RbDependsOnL2 h on_storage known b = SameCounts h on_storage b ⊎ SameCovers h known b
 
--- some of the tables are written
+-- Some of the cached tables were written, in the order that the direction allows.
 pub record IsMixed (h : HeaderFields) (d : Direction) (on_storage known b : Bytes) : Type 0 where
   pub partly : IsPartly (cluster_size h) on_storage known b
   pub ordered : IsInOrder d h on_storage known b
 
--- when one direction may follow another
+-- When the direction may change: when the tables that had to be written first are written.
 abbrev pub MayTurn : Direction → Direction → HeaderFields → Bytes → Bytes → Type 0
 MayTurn Neither to h on_storage known = Unit {0}
 MayTurn L2DependsOnRb L2DependsOnRb h on_storage known = Unit {0}

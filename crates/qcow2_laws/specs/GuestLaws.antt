@@ -1,4 +1,4 @@
--- The laws of what guests see while steps are made: where tables move, and between flushes.
+-- Laws about what guests see: when tables move, when ranges are cleared, and when data are written between flushes.
 use Rattle.std.specs.Prelude.{ℕ, zero, suc, ◌+◌, ◌*◌, ◌/◌, ◌%◌, ◌<◌, ◌≤◌, ◌≡◌, ◌≢◌, Bool, true, false, List, [], ◌∷◌, length, Some, if◌then◌else◌}
 use Rattle.image_access.specs.Moments.{StorageView, EachMomentSince}
 use Rattle.qcow2_metadata.specs.Bytes.{Bytes, byte_at}
@@ -20,7 +20,7 @@ use Rattle.qcow2_laws.specs.SafeSteps.{DriverState, StateInvariant, SafeStep}
 use Rattle.qcow2_laws.specs.Unseen.{used_by_guests, SameUsedBytes, SameL1Table, with_cluster}
 use Rattle.qcow2_disk.specs.Alike.{IsDataAt}
 
--- where the image stands once its header names an L1 table at another place, of so many entries
+-- The state after the header points to an L1 table at `offset`, with this many entries.
 abbrev pub state_with_l1_table : DriverState → (offset entries : ℕ) → (on_storage' known' : Bytes) → DriverState
 state_with_l1_table s offset entries on_storage' known' = record {
   header = with_places s.header (with_l1_at s.header offset entries);
@@ -30,7 +30,7 @@ state_with_l1_table s offset entries on_storage' known' = record {
   known = known';
 }
 
--- What stands for each guest cluster stays, on the storage and as known, though the header changes. So do the bytes that guests use, how often they use each cluster, how much more often it is counted, and the disk.
+-- Guests keep what they have: the mapping of each guest cluster, on the storage and in the known contents; the bytes and the references of clusters that guests use; each surplus; and the disk.
 pub record KeepsGuests (old new : DriverState) : Type 0 where
   pub storage_covers : (g : ℕ) → cover old.header old.on_storage g ≡ cover new.header new.on_storage g
   pub covers : (g : ℕ) → cover old.header old.known g ≡ cover new.header new.known g
@@ -39,25 +39,25 @@ pub record KeepsGuests (old new : DriverState) : Type 0 where
   pub surplus : (c : ℕ) → new.pending.surplus c ≡ old.pending.surplus c
   pub disk : old.header.incompatible ≡ 0 → (backing : Bytes) → disk new.known backing ≡ disk old.known backing
 
--- A longer L1 table keeps what guests see.
+-- Replacing the L1 table by a longer one keeps what guests have.
 abbrev pub LongerL1TableKeepsGuests : Type 0
 LongerL1TableKeepsGuests =
     (s : DriverState) (on_storage' known' : Bytes) (offset entries : ℕ) → StateInvariant s → WritesHeader s.header (with_l1_at s.header offset entries) s.on_storage s.known on_storage' known'
     → IsNewL1 s.header s.direction s.pending s.on_storage s.known offset entries → KeepsGuests s (state_with_l1_table s offset entries on_storage' known')
 
--- Where no other size is asked for, whatever is kept of the storage and of what is known has the old size.
+-- If no other size is asked for, a stop leaves the old size.
 abbrev pub SizeStaysUnlessAsked : Type 0
 SizeStaysUnlessAsked =
     (s : DriverState) (backing image : Bytes) (given : List GivenBytes) → StateInvariant s → s.header.incompatible ≡ 0
     → ((m : Checkpoint) → StopOkEverywhere backing m s.on_storage → StopOkEverywhere backing m s.known → StopOkEverywhere backing (checkpoint_with given [] m) image) → (header image).size ≡ s.header.size
 
--- each moment of a storage since has this size
+-- The image has this size at every moment since.
 abbrev pub HasSizeSince : StorageView → StorageView → ℕ → Type 0
 HasSizeSince old new size = EachMomentSince old new (λ c. (header (byte_at c)).size ≡ size)
 
--- ---- several guest clusters in turn
+-- ---- several guest clusters, one after another
 
--- The entry of a guest cluster changes to a mapping of a kind, and no other does.
+-- The entry of one guest cluster changes to a mapping of this kind, and no other entry changes.
 pub record MapsEntry (kind : L2Mapping → Type 0) (guest : ℕ) (old new : DriverState) : Type 0 where
   pub known : Bytes
   pub row : ℕ
@@ -70,7 +70,7 @@ pub record MapsEntry (kind : L2Mapping → Type 0) (guest : ℕ) (old new : Driv
     known = known;
   }
 
--- the entries of n guest clusters from one on change so, one after another
+-- The entries of n guest clusters, from `first` on, change to this kind, one after another.
 abbrev pub MapsInTurn : (L2Mapping → Type 0) → (first n : ℕ) → DriverState → DriverState → Type 0
 MapsInTurn kind first zero old new = new ≡ old
 MapsInTurn kind first (suc n) old new = (mid : DriverState) × MapsInTurn kind first n old mid × MapsEntry kind (first + n) mid new
@@ -81,19 +81,19 @@ IsZeros (Data host copied) = ⊥
 IsZeros (Compressed host sectors) = ⊥
 IsZeros Uncovered = ⊥
 
--- It gives what the range shows then, and this is what the disk shows there: nothing else of it changes.
+-- The disk changes only in the range, and the step gives what the range then shows.
 pub record ClearsRange (first n : ℕ) (old new : DriverState) (now : Bytes → Disk → ℕ → ℕ → Disk) : Type 0 where
   pub safe_step : SafeStep old new (λ backing. given_shown (disk new.known backing) (first * cluster_size old.header) ((first + n) * cluster_size old.header) ∷ []) []
   pub shows : (backing : Bytes) → disk new.known backing ≡ now backing (disk old.known backing) (first * cluster_size old.header) ((first + n) * cluster_size old.header)
 
--- Guest clusters that are zeroed or uncovered in turn are a range of the disk that is.
+-- Zeroing or unmapping guest clusters one after another is zeroing or unmapping the range.
 pub record ClustersInTurnAreARange : Type 0 where
   pub zeroed : (s new : DriverState) (first n : ℕ) → StateInvariant s → s.header.incompatible ≡ 0 → MapsInTurn IsZeros first n s new → ClearsRange first n s new (λ backing d from to. zeroed_between d from to)
   pub uncovered : (s new : DriverState) (first n : ℕ) → StateInvariant s → s.header.incompatible ≡ 0 → MapsInTurn (λ v. v ≡ Uncovered) first n s new → ClearsRange first n s new (λ backing d from to. uncovered d backing from to)
 
 -- ---- a cluster that a zero entry keeps
 
--- Bytes are written into it, where they stand once the guest cluster has it as data: this gives them at their guest offsets, and zeros give nothing. The disk stays.
+-- Bytes are written to a host cluster that a zero entry keeps. The disk stays the same. A stop may leave the bytes visible, because the entry on the storage may still be a data entry. So the step gives them, unless they are zeros.
 pub record KeptClusterIsWritten : Type 0 where
   pub bytes : (s : DriverState) (on_storage' known' : Bytes) (g host at : ℕ) (bytes : List ℕ) → StateInvariant s → s.header.incompatible ≡ 0 → cover s.header s.known g ≡ Zero (Some (host, true)) → at + length bytes ≤ cluster_size s.header
       → WritesAt (host + at) (length bytes) s.on_storage s.known on_storage' known' → ((i : ℕ) → i < length bytes → on_storage' (host + at + i) ≡ byte_at bytes i)
@@ -102,7 +102,7 @@ pub record KeptClusterIsWritten : Type 0 where
       → WritesAt (host + at) (length bytes) s.on_storage s.known on_storage' known' → ((i : ℕ) → i < length bytes → on_storage' (host + at + i) ≡ byte_at bytes i) → ((i : ℕ) → i < length bytes → byte_at bytes i ≡ 0)
       → SafeStep s (record s { on_storage = on_storage'; known = known' }) (λ _. []) []
 
--- It becomes data: the guest cluster shows its bytes, and what is pending stays.
+-- The host cluster that a zero entry kept becomes data: the guest cluster shows its bytes, and nothing pending changes.
 abbrev pub KeptClusterIsCommitted : Type 0
 KeptClusterIsCommitted =
     (s : DriverState) (known' : Bytes) (i j host : ℕ) → StateInvariant s → s.header.incompatible ≡ 0 → EntryChanges s known' i j → cover s.header s.known (guest_at s.header i j) ≡ Zero (Some (host, true))
@@ -113,7 +113,7 @@ KeptClusterIsCommitted =
 
 -- ---- one storage write over a run of clusters
 
--- How a guest byte has a place to itself. It is copied data there, or the zero entry of its cluster keeps the place, or the place is new data and nothing names it.
+-- How a guest byte has its place in the file: as copied data; in a host cluster that the zero entry of its guest cluster keeps; or in new data that no entry names.
 pub data Hosting : Type 0 where
   InPlace : Hosting
   Kept : Hosting
@@ -129,23 +129,23 @@ IsHeld InPlace = ⊥
 IsHeld Kept = ⊥
 IsHeld Held = Unit {0}
 
--- what isn't in place is seen by no guest until it is committed
+-- Whether guests see a write to this place only after the commit.
 abbrev pub is_private_hosting : Hosting → Bool
 is_private_hosting InPlace = false
 is_private_hosting Kept = true
 is_private_hosting Held = true
 
--- a byte is given where a stop may leave it to be seen: new data are in no entry on the storage
+-- The byte is given, if a stop may leave it visible. New data need not be given: no entry on the storage names them.
 abbrev pub IsGivenAt : List GivenBytes → Hosting → (o byte : ℕ) → Type 0
 IsGivenAt given InPlace o byte = IsGiven given o (known_byte byte)
 IsGivenAt given Kept o byte = IsGiven given o (known_byte byte)
 IsGivenAt given Held o byte = Unit {0}
 
--- of bytes that are written from an offset on, guests see those in place
+-- The disk after a write over a run: guests see the bytes that are in place.
 abbrev pub with_seen_bytes : (ℕ → Hosting) → Disk → ℕ → List ℕ → Disk
 with_seen_bytes hosting d offset bytes = record d { value = λ o. if is_private_hosting (hosting o) then d.value o else (with_bytes d offset bytes).value o }
 
--- Bytes were written to the places of a guest range. All entries stay, and so does each byte that another guest cluster has, or that is new data elsewhere.
+-- Bytes were written to the places of a guest range. All entries stay the same, and so do the bytes of other guest clusters and of other new data.
 pub record WritesRun (hosting : ℕ → Hosting) (offset place : ℕ) (bytes : List ℕ) (given : List GivenBytes) (old new : DriverState) : Type 0 where
   pub safe_step : SafeStep old new (λ _. given) []
   pub covers : SameCovers old.header old.known new.known
@@ -156,7 +156,7 @@ pub record WritesRun (hosting : ℕ → Hosting) (offset place : ℕ) (bytes : L
       → SameIn (cluster_size old.header) k old.on_storage new.on_storage × SameIn (cluster_size old.header) k old.known new.known
   pub shows : (backing : Bytes) → disk new.known backing ≡ with_seen_bytes hosting (disk old.known backing) offset bytes
 
--- One storage write goes over a run of clusters, each of them data in place, kept or new data. Guests see at once what is in place, and nothing else of it. No table stands at such a place.
+-- One storage write over a run of clusters that are copied data, kept by zero entries, or new data. Guests see at once the bytes in place, and no others. No table lies at such a place.
 pub record RunIsWritten : Type 0 where
   pub written : (s : DriverState) (on_storage' known' : Bytes) (hosting : ℕ → Hosting) (offset place : ℕ) (bytes : List ℕ) (given : List GivenBytes) → StateInvariant s → s.header.incompatible ≡ 0
       → ((i : ℕ) → i < length bytes → IsHostedAt s (hosting (offset + i)) (offset + i) (place + i))

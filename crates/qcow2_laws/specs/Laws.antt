@@ -1,4 +1,4 @@
--- The laws of the order of writes: every step of the driver keeps the invariant, and leaves a stop as safe as before.
+-- The laws of the order of writes: each kind of step keeps the invariant, and leaves a stop as safe as before.
 use Rattle.std.specs.Prelude.{ℕ, ◌+◌, ◌-◌, ◌*◌, ◌/◌, ◌<◌, ◌≤◌, ◌≡◌, ◌⊎◌, List, [], ◌∷◌, ◌++◌}
 use Rattle.qcow2_metadata.specs.Bytes.{Bytes}
 use Rattle.qcow2_metadata.specs.declared.header.HeaderFields.{HeaderFields}
@@ -24,29 +24,29 @@ use Rattle.qcow2_laws.specs.Steps.{CountRises, CountFalls, guest_at, EntryChange
 abbrev pub nothing : Bytes → List GivenBytes
 nothing backing = []
 
--- an image as it is opened
+-- The state of an image right after it is opened.
 abbrev pub opened_state : Bytes → DriverState
 opened_state b = record { header = header b; direction = Neither; pending = nothing_pending (surplus_of (header b) b); on_storage = b; known = b }
 
--- What is on the storage, and what is known, is consistent; and a consistent image is sound as it is opened.
+-- In a state with the invariant, the storage and the known contents are consistent images. A consistent image has the invariant when it is opened.
 pub record SoundIsConsistent : Type 0 where
   pub on_storage : (s : DriverState) → StateInvariant s → s.header.incompatible ≡ 0 → IsConsistent s.on_storage
   pub known : (s : DriverState) → StateInvariant s → s.header.incompatible ≡ 0 → IsConsistent s.known
   pub opened : (b : Bytes) → IsConsistent b → StateInvariant (opened_state b)
 
--- Some cached tables are written in an order that the direction allows; or the direction turns.
+-- Some cached tables are written, in an order that the direction allows; or the direction changes.
 pub record MixIsSafe : Type 0 where
   pub mixed : (s : DriverState) (b : Bytes) → StateInvariant s → IsMixed s.header s.direction s.on_storage s.known b → SafeStep s (record s { on_storage = b }) nothing []
   pub turned : (s : DriverState) (to : Direction) → StateInvariant s → MayTurn s.direction to s.header s.on_storage s.known → SafeStep s (record s { direction = to }) nothing []
 
--- A cached table is written, or is not.
+-- One cached table is written or not, whatever the storage answers.
 pub record TableIsWritten : Type 0 where
   pub block : (h : HeaderFields) (d : Direction) (p : Pending) (l2s front back : List CachedTable) (t t' : CachedTable) (on_storage on_storage' : Bytes) → CacheInvariantOver h d p l2s (front ++ t ∷ back) on_storage
       → BlocksMayGo d l2s → IsWrittenSo (cluster_size h) t t' on_storage on_storage' → UnseenTableWrite h d p l2s (front ++ t ∷ back) on_storage l2s (front ++ t' ∷ back) on_storage'
   pub table : (h : HeaderFields) (d : Direction) (p : Pending) (front back rbs : List CachedTable) (t t' : CachedTable) (on_storage on_storage' : Bytes) → CacheInvariantOver h d p (front ++ t ∷ back) rbs on_storage
       → TablesMayGo d rbs → IsWrittenSo (cluster_size h) t t' on_storage on_storage' → UnseenTableWrite h d p (front ++ t ∷ back) rbs on_storage (front ++ t' ∷ back) rbs on_storage'
 
--- One count of a refblock changes.
+-- One refcount of a refblock changes.
 pub record CountIsChanged : Type 0 where
   pub data_allocated : (s : DriverState) (known' : Bytes) (c : ℕ) → StateInvariant s → s.direction ≡ L2DependsOnRb → CountRises s.header s.known known' c → ((o : ℕ) → o / cluster_size s.header ≡ c → s.on_storage o ≡ s.known o)
       → SafeStep s (record s { pending = with_new_data s.pending (one_at c); known = known' }) nothing []
@@ -57,19 +57,19 @@ pub record CountIsChanged : Type 0 where
   pub data_freed : (s : DriverState) (known' : Bytes) (c : ℕ) → StateInvariant s → s.direction ≡ RbDependsOnL2 → CountFalls s.header s.known known' c → 0 < s.pending.old_data c
       → SafeStep s (record s { pending = without_old_data s.pending (one_at c); known = known' }) nothing []
 
--- What is pending changes its kind.
+-- Pending clusters change their kind.
 pub record PendingIsChanged : Type 0 where
   pub old_data : (s : DriverState) (n : ℕ → ℕ) → StateInvariant s → ((c : ℕ) → n c ≤ 1) → ((c : ℕ) → 0 < n c → 0 < s.pending.new_data c) → SafeStep s (record s { pending = new_data_to_old_data s.pending n }) nothing []
   pub undone : (s : DriverState) (n : ℕ → ℕ) → StateInvariant s → ((c : ℕ) → n c ≤ 1) → ((c : ℕ) → 0 < n c → 0 < s.pending.new_data c) → SafeStep s (record s { pending = new_data_to_old_tables s.pending n }) nothing []
   pub abandoned : (s : DriverState) (n : ℕ → ℕ) → StateInvariant s → ((c : ℕ) → n c ≤ 1) → ((c : ℕ) → 0 < n c → 0 < s.pending.new_tables c) → SafeStep s (record s { pending = new_tables_to_old_tables s.pending n }) nothing []
 
--- One entry of an L2 table changes: a mapping is committed, zeroed or discarded.
+-- One entry of an L2 table changes: by a commit, by zeroing or by a discard.
 abbrev pub EntryIsChanged : Type 0
 EntryIsChanged =
     (s : DriverState) (known' : Bytes) (i j : ℕ) (given : Bytes → List GivenBytes) → StateInvariant s → EntryChanges s known' i j → ShowsGiven s.header s.known known' (guest_at s.header i j) given
     → SafeStep s (record s { pending = remapped s.pending (λ c. names s.header s.known c (guest_at s.header i j)) (λ c. names s.header known' c (guest_at s.header i j)); known = known' }) given []
 
--- Bytes are written where no table stands: to clusters that nothing names, or in place. Which clusters nothing names.
+-- Data are written to clusters without references, or in place. The clusters of new data, of new tables, and those with refcount 0 have no references.
 pub record DataIsWritten : Type 0 where
   pub written : (s : DriverState) (on_storage' known' : Bytes) (given : List GivenBytes) → StateInvariant s → IsWritten s.header s.on_storage s.known on_storage' known' given
       → SafeStep s (record s { on_storage = on_storage'; known = known' }) (λ backing. given) []
@@ -77,7 +77,7 @@ pub record DataIsWritten : Type 0 where
   pub new_tables : (s : DriverState) (c : ℕ) → StateInvariant s → 0 < s.pending.new_tables c → (s.direction ≡ RbDependsOnL2 → SameCovers s.header s.on_storage s.known) → IsUnnamed s.header s.on_storage s.known c
   pub unused : (s : DriverState) (c : ℕ) → StateInvariant s → count s.header s.known c ≡ 0 → count s.header s.on_storage c ≡ 0 → IsUnnamed s.header s.on_storage s.known c
 
--- A table is named: an L2 table by an L1 entry, a refblock by a reftable entry.
+-- A table gets its reference: an L2 table in an L1 entry, a refblock in a reftable entry.
 pub record TableIsNamed : Type 0 where
   pub l2_table : (s : DriverState) (on_storage' known' : Bytes) (i entry : ℕ) → StateInvariant s → WritesL1Entry s.header s.on_storage s.known on_storage' known' i entry → IsNewTable s.header s.direction s.pending s.on_storage s.known i entry
       → SafeStep s (record s { pending = renamed s.pending (λ c. table_in s.header c (host_offset entry)) (λ c. table_in s.header c (table_at s.header s.on_storage i)); on_storage = on_storage'; known = known' }) nothing []
@@ -86,13 +86,13 @@ pub record TableIsNamed : Type 0 where
       → count s.header s.on_storage (block_offset entry / cluster_size s.header) ≡ count s.header s.known (block_offset entry / cluster_size s.header)
       → (s.direction ≡ RbDependsOnL2 → SameCovers s.header s.on_storage s.known)
       → SafeStep s (record s { pending = named_now s.pending (λ c. table_in s.header c (block_offset entry)); on_storage = on_storage'; known = known' }) nothing []
-  -- a refblock that counts itself alone
+  -- A refblock that counts only itself gets its reference.
   pub itself : (s : DriverState) (on_storage' known' : Bytes) (k entry : ℕ) → StateInvariant s → WritesReftableEntry s.header s.on_storage s.known on_storage' known' k entry
       → IsNewBlock s.header s.on_storage s.known k entry (λ c. table_in s.header c (block_offset entry))
       → block_offset entry / cluster_size s.header / counts_per_block s.header ≡ k
       → SafeStep s (record s { on_storage = on_storage'; known = known' }) nothing []
 
--- The header is written: its size, or where the L1 table or the reftable stands.
+-- A field of the header is written: the size, or the pointer to the L1 table or the reftable.
 pub record HeaderIsWritten : Type 0 where
   pub size : (s : DriverState) (on_storage' known' : Bytes) (size autoclear : ℕ) → StateInvariant s → WritesHeader s.header (resized_places s.header size autoclear) s.on_storage s.known on_storage' known'
       → SafeStep s (record s { header = with_places s.header (resized_places s.header size autoclear); on_storage = on_storage'; known = known' }) nothing (size ∷ [])
@@ -116,10 +116,10 @@ pub record HeaderIsWritten : Type 0 where
         known = known';
       }) nothing []
 
--- Steps one after another; and what is kept is what a stop may leave.
+-- Two steps make one step. What is safe in the stronger form is what a stop may leave.
 pub record StepsCompose : Type 0 where
   pub steps : (a b c : DriverState) (first then : Bytes → List GivenBytes) (asked asks : List ℕ) → SafeStep a b first asked → SafeStep b c then asks → SafeStep a c (λ backing. then backing ++ first backing) (asks ++ asked)
-  -- what a step gives that was shown before isn't given
+  -- A step need not give values that the disk showed before it.
   pub less : (a b : DriverState) (given fewer : Bytes → List GivenBytes) (asked : List ℕ) → ((backing : Bytes) (o : ℕ) (v : Value) → IsGiven (given backing) o v → (v ≡ (disk a.known backing).value o) ⊎ IsGiven (fewer backing) o v)
       → SafeStep a b given asked → SafeStep a b fewer asked
   pub stop : (backing b : Bytes) (m : Checkpoint) → StopOkEverywhere backing m b → StopOk backing m b

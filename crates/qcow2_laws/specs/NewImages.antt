@@ -1,11 +1,11 @@
--- An image as creating writes it first: three clusters, no L1 table.
+-- A new image as it is first written: three clusters, and no L1 table.
 use Rattle.std.specs.Prelude.{ℕ, ◌*◌, ◌<◌, ◌≡◌, ◌≢◌, nat_lt, if◌then◌else◌}
 use Rattle.qcow2_metadata.specs.Bytes.{Bytes}
 use Rattle.qcow2_metadata.specs.declared.header.HeaderFields.{HeaderFields}
 use Rattle.qcow2_metadata.specs.Header.{header, HeaderReads, cluster_size, count_width, counts_per_block}
 use Rattle.qcow2_metadata.specs.Entries.{reftable_entry, block_count}
 
--- cluster 0 is the header, 1 the reftable, 2 a refblock that counts the three
+-- Cluster 0 is the header, cluster 1 the reftable, and cluster 2 a refblock that counts the three.
 pub record IsNewImage (h : HeaderFields) (b : Bytes) : Type 0 where
   pub header_is : header b ≡ h
   pub reads : HeaderReads h b

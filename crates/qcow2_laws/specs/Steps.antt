@@ -1,4 +1,4 @@
--- What the steps of the driver do to what is known, and to the bytes on the storage.
+-- What one step changes in the known contents and on the storage.
 use Rattle.std.specs.Prelude.{ℕ, ◌+◌, ◌-◌, ◌*◌, ◌/◌, ◌%◌, ◌<◌, ◌≤◌, ◌≡◌, ◌≢◌, ◌⊎◌, List}
 use Rattle.qcow2_metadata.specs.Bytes.{Bytes}
 use Rattle.qcow2_metadata.specs.declared.header.HeaderFields.{HeaderFields}
@@ -13,11 +13,11 @@ use Rattle.qcow2_laws.specs.Changes.{one_at}
 use Rattle.qcow2_laws.specs.Tops.{IsSameOutside}
 use Rattle.qcow2_laws.specs.SafeSteps.{DriverState}
 
--- the refblock that counts a cluster
+-- The offset of the refblock that counts a cluster, 0 for none.
 abbrev pub block_of : HeaderFields → Bytes → ℕ → ℕ
 block_of h b c = block_offset (reftable_entry h b (c / counts_per_block h))
 
--- a cluster's count rises from 0, in a refblock that there is
+-- The refcount of a cluster rises from 0 to 1, in an existing refblock.
 pub record CountRises (h : HeaderFields) (known known' : Bytes) (c : ℕ) : Type 0 where
   pub real : block_of h known c ≢ 0
   pub outside : IsSameOutside (cluster_size h) (block_of h known c / cluster_size h) known known'
@@ -25,18 +25,18 @@ pub record CountRises (h : HeaderFields) (known known' : Bytes) (c : ℕ) : Type
       → block_count known' (count_width h) (block_of h known c) i ≡ block_count known (count_width h) (block_of h known c) i + one_at (c % counts_per_block h) i
   pub free : count h known c ≡ 0
 
--- a cluster's count falls by one
+-- The refcount of a cluster falls by one.
 pub record CountFalls (h : HeaderFields) (known known' : Bytes) (c : ℕ) : Type 0 where
   pub real : block_of h known c ≢ 0
   pub outside : IsSameOutside (cluster_size h) (block_of h known c / cluster_size h) known known'
   pub less : (i : ℕ) → i < counts_per_block h
       → block_count known' (count_width h) (block_of h known c) i + one_at (c % counts_per_block h) i ≡ block_count known (count_width h) (block_of h known c) i
 
--- the guest cluster of entry j of the L2 table of L1 entry i
+-- The guest cluster of entry j in the L2 table of L1 entry i.
 abbrev pub guest_at : HeaderFields → ℕ → ℕ → ℕ
 guest_at h i j = i * entries_per_cluster h + j
 
--- Entry j of the L2 table of L1 entry i changes, and no other. What it names now beside the old was new data; what it marks now it named, and marked, or takes from new data.
+-- Entry j in the L2 table of L1 entry i changes, and no other. Clusters that it did not name before were new data. Clusters that it marks copied were marked before, or were new data.
 pub record EntryChanges (s : DriverState) (known' : Bytes) (i j : ℕ) : Type 0 where
   pub real : table_at s.header s.known i ≢ 0
   pub within : j < entries_per_cluster s.header
@@ -47,7 +47,7 @@ pub record EntryChanges (s : DriverState) (known' : Bytes) (i j : ℕ) : Type 0 
       ≤ marks s.header s.known c (guest_at s.header i j) + (names s.header known' c (guest_at s.header i j) - names s.header s.known c (guest_at s.header i j))
   pub aligned : CoverIsAligned s.header (cover s.header known' (guest_at s.header i j))
 
--- each byte of a guest cluster is as it was, or given
+-- Each byte of a guest cluster has its old value, or a given one.
 abbrev pub ShowsGiven : HeaderFields → Bytes → Bytes → ℕ → (Bytes → List GivenBytes) → Type 0
 ShowsGiven h known known' g given =
     (backing : Bytes) (o : ℕ) → o / cluster_size h ≡ g → (guest_value h known' known' backing o ≡ guest_value h known known backing o) ⊎ IsGiven (given backing) o (guest_value h known' known' backing o)

@@ -1,4 +1,4 @@
--- Images whose header, L1 table or reftable change, while all guest clusters keep their covers.
+-- Changes of the header, the L1 table or the reftable. The mapping of every guest cluster stays the same.
 use Rattle.std.specs.Prelude.{ℕ, ◌+◌, ◌*◌, ◌/◌, ◌%◌, ◌<◌, ◌≤◌, ◌≡◌, ◌≢◌, ◌⊎◌}
 use Rattle.qcow2_metadata.specs.Bytes.{Bytes, SameFrom}
 use Rattle.qcow2_metadata.specs.declared.header.HeaderFields.{HeaderFields}
@@ -11,7 +11,7 @@ use Rattle.qcow2_disk.specs.HeaderRest.{IsOfHeaderRest}
 use Rattle.qcow2_laws.specs.Clusters.{Direction, RbDependsOnL2}
 use Rattle.qcow2_laws.specs.CrashInvariant.{Pending, SameCovers}
 
--- the numbers of a header that are written again after it was created
+-- The header fields that an open image writes.
 pub record Places : Type 0 where
   pub size : ℕ
   pub l1_entries : ℕ
@@ -30,7 +30,7 @@ places_of h = record {
   autoclear = h.autoclear;
 }
 
--- the header with these
+-- The header with these fields.
 abbrev pub with_places : HeaderFields → Places → HeaderFields
 with_places h a = record h {
   size = a.size;
@@ -41,19 +41,19 @@ with_places h a = record h {
   autoclear = a.autoclear;
 }
 
--- the same stands for each guest cluster
+-- The mapping of each guest cluster is the same.
 abbrev pub KeepsCovers : HeaderFields → Places → Bytes → Bytes → Type 0
 KeepsCovers h a b b' = (g : ℕ) → cover h b g ≡ cover (with_places h a) b' g
 
--- the same bytes outside of one cluster
+-- The bytes outside of one cluster are the same.
 abbrev pub IsSameOutside : ℕ → ℕ → Bytes → Bytes → Type 0
 IsSameOutside size c b b' = (o : ℕ) → o / size ≢ c → b o ≡ b' o
 
--- the same bytes but for n from a place on
+-- All bytes are the same, except the n bytes from `place` on.
 abbrev pub IsSameBut : ℕ → ℕ → Bytes → Bytes → Type 0
 IsSameBut place n b b' = (o : ℕ) → (o < place) ⊎ (place + n ≤ o) → b o ≡ b' o
 
--- one entry of the L1 table is written, to the storage and to what is known
+-- One L1 entry is written, to the storage and to the known contents.
 pub record WritesL1Entry (h : HeaderFields) (on_storage known on_storage' known' : Bytes) (i entry : ℕ) : Type 0 where
   pub within : i < h.l1_entries
   pub others : IsSameBut (h.l1_offset + 8 * i) 8 on_storage on_storage'
@@ -61,19 +61,19 @@ pub record WritesL1Entry (h : HeaderFields) (on_storage known on_storage' known'
   pub is : l1_entry h on_storage' i ≡ entry
   pub known_is : l1_entry h known' i ≡ entry
 
--- the table that an L1 entry is to name: its cluster is that of a new table, counted on the storage, and it says what was said before
+-- An L1 entry may name this table: it lies in the cluster of a new table, which has its refcount on the storage, and it maps the guest clusters as before.
 pub record IsNewTable (h : HeaderFields) (d : Direction) (p : Pending) (on_storage known : Bytes) (i entry : ℕ) : Type 0 where
   pub reads : L1EntryReads entry
   pub real : host_offset entry ≢ 0
   pub aligned : IsAligned h (host_offset entry)
   pub new_tables : 0 < p.new_tables (host_offset entry / cluster_size h)
   pub counted : count h on_storage (host_offset entry / cluster_size h) ≡ count h known (host_offset entry / cluster_size h)
-  -- then the L2 tables are written
+  -- When the direction says so, the L2 tables are written before.
   pub written : d ≡ RbDependsOnL2 → SameCovers h on_storage known
   pub covers : (g : ℕ) → g / entries_per_cluster h ≡ i → cover h on_storage g ≡ entry_cover h (l2_entry on_storage (host_offset entry) (g % entries_per_cluster h))
   pub known_covers : (g : ℕ) → g / entries_per_cluster h ≡ i → cover h known g ≡ entry_cover h (l2_entry known (host_offset entry) (g % entries_per_cluster h))
 
--- one entry of the reftable is written, to the storage and to what is known
+-- One reftable entry is written, to the storage and to the known contents.
 pub record WritesReftableEntry (h : HeaderFields) (on_storage known on_storage' known' : Bytes) (k entry : ℕ) : Type 0 where
   pub within : k < reftable_entries h
   pub others : IsSameBut (h.reftable_offset + 8 * k) 8 on_storage on_storage'
@@ -81,7 +81,7 @@ pub record WritesReftableEntry (h : HeaderFields) (on_storage known on_storage' 
   pub is : reftable_entry h on_storage' k ≡ entry
   pub known_is : reftable_entry h known' k ≡ entry
 
--- the refblock that a reftable entry is to name where there is none, with these counts of its clusters
+-- A reftable entry that was empty may name this refblock, which holds these refcounts.
 pub record IsNewBlock (h : HeaderFields) (on_storage known : Bytes) (k entry : ℕ) (counts : ℕ → ℕ) : Type 0 where
   pub none : block_offset (reftable_entry h on_storage k) ≡ 0
   pub reads : ReftableEntryReads entry
@@ -90,9 +90,9 @@ pub record IsNewBlock (h : HeaderFields) (on_storage known : Bytes) (k entry : �
   pub says : (c : ℕ) → c / counts_per_block h ≡ k → block_count on_storage (count_width h) (block_offset entry) (c % counts_per_block h) ≡ counts c
   pub known_says : (c : ℕ) → c / counts_per_block h ≡ k → block_count known (count_width h) (block_offset entry) (c % counts_per_block h) ≡ counts c
 
--- ---- the header's own numbers are written
+-- ---- header fields are written
 
--- numbers of the header become these, on the storage and as known, and the rest of its cluster stays
+-- These header fields are written, on the storage and in the known contents. The rest of the header's cluster stays the same.
 pub record WritesHeader (h : HeaderFields) (a : Places) (on_storage known on_storage' known' : Bytes) : Type 0 where
   pub others : IsSameOutside (cluster_size h) 0 on_storage on_storage'
   pub known_others : IsSameOutside (cluster_size h) 0 known known'
@@ -110,7 +110,7 @@ with_l1_at h offset entries = record (places_of h) { l1_offset = offset; l1_entr
 abbrev pub with_reftable_at : HeaderFields → ℕ → ℕ → Places
 with_reftable_at h offset clusters = record (places_of h) { reftable_offset = offset; reftable_clusters = clusters }
 
--- an L1 table that stands in clusters of new tables, counted on the storage, and has the entries of the old one, and then none
+-- The header may point to this L1 table: it lies in clusters of new tables, which have their refcounts on the storage. It has the entries of the old table, and empty ones behind them.
 pub record IsNewL1 (h : HeaderFields) (d : Direction) (p : Pending) (on_storage known : Bytes) (offset entries : ℕ) : Type 0 where
   pub longer : h.l1_entries ≤ entries
   pub aligned : IsAligned h offset
@@ -119,8 +119,8 @@ pub record IsNewL1 (h : HeaderFields) (d : Direction) (p : Pending) (on_storage 
   pub new_tables : (c : ℕ) → 0 < in_run h c offset (8 * entries) → (0 < p.new_tables c) × (count h on_storage c ≡ count h known c)
   pub written : d ≡ RbDependsOnL2 → SameCovers h on_storage known
 
--- A reftable that stands in other clusters and has the entries of the old one, and more. Of each cluster it is said how often new refblocks stand in it, and
--- how often new refblocks count it, which no old one does. Each cluster of the table and of new refblocks is one of new tables, counted on the storage, or counted by new refblocks.
+-- The header may point to this reftable. It lies in other clusters than the old one, and has the entries of the old one and more. `blocks` counts the new refblocks in each cluster.
+-- `counted` counts how often new refblocks count each cluster, which no old refblock does. Each cluster of the table and of the new refblocks belongs to a new table and has its refcount on the storage, or is counted by the new refblocks.
 pub record IsNewReftable (h : HeaderFields) (d : Direction) (p : Pending) (on_storage known : Bytes) (offset clusters : ℕ) (blocks counted : ℕ → ℕ) : Type 0 where
   pub aligned : IsAligned h offset
   pub fits : ReftableFits (with_places h (with_reftable_at h offset clusters))

@@ -1,4 +1,4 @@
--- Steps of the driver that change nothing a guest sees, nor what is prepared for it; or nothing but one cluster of that.
+-- Steps that guests cannot see: they change no mapping and no byte of a cluster that guests use, or only those of one cluster.
 use Rattle.std.specs.Prelude.{ℕ, ◌+◌, ◌/◌, ◌<◌, ◌≡◌, ◌≢◌, ◌==◌, if◌then◌else◌}
 use Rattle.qcow2_metadata.specs.declared.header.HeaderFields.{HeaderFields}
 use Rattle.qcow2_metadata.specs.Header.{cluster_size, with_reftable}
@@ -10,29 +10,29 @@ use Rattle.qcow2_laws.specs.Guests.{over_guests, names}
 use Rattle.qcow2_laws.specs.CrashInvariant.{SameCovers}
 use Rattle.qcow2_laws.specs.SafeSteps.{DriverState}
 
--- how often a cluster is known to be named by guest clusters, or is new data for them
+-- References of guest clusters to a host cluster in the known contents, and its uses as new data.
 abbrev pub used_by_guests : DriverState → ℕ → ℕ
 used_by_guests s c = over_guests s.header (names s.header s.known c) + s.pending.new_data c
 
--- the same bytes in each cluster that guests use
+-- Each cluster that guests use has the same bytes.
 abbrev pub SameUsedBytes : DriverState → DriverState → Type 0
 SameUsedBytes old new = (o : ℕ) → 0 < used_by_guests old (o / cluster_size old.header) → new.known o ≡ old.known o
 
--- the header stays, but perhaps for where the reftable stands
+-- Every header field stays the same, except the pointer to the reftable.
 abbrev pub KeepsFormat : HeaderFields → HeaderFields → Type 0
 KeepsFormat h h' = h' ≡ with_reftable h h'.reftable_offset h'.reftable_clusters
 
--- so it does, and what stands for each guest cluster, with its bytes
+-- Guests cannot see the step: the header stays the same except for the pointer to the reftable, and so do all mappings and the bytes that guests use.
 pub record IsUnseen (old new : DriverState) : Type 0 where
   pub header : KeepsFormat old.header new.header
   pub covers : SameCovers old.header old.known new.known
   pub bytes : SameUsedBytes old new
 
--- the L1 table stays
+-- The L1 table stays the same.
 abbrev pub SameL1Table : DriverState → DriverState → Type 0
 SameL1Table old new = (i : ℕ) → l1_entry old.header new.on_storage i ≡ l1_entry old.header old.on_storage i
 
--- the same, but for the bytes of one host cluster
+-- Each cluster that guests use has the same bytes, except cluster c.
 abbrev pub SameUsedBytesBut : ℕ → DriverState → DriverState → Type 0
 SameUsedBytesBut c old new = (o : ℕ) → o / cluster_size old.header ≢ c → 0 < used_by_guests old (o / cluster_size old.header) → new.known o ≡ old.known o
 
@@ -41,7 +41,7 @@ pub record IsUnseenBut (c : ℕ) (old new : DriverState) : Type 0 where
   pub covers : SameCovers old.header old.known new.known
   pub bytes : SameUsedBytesBut c old new
 
--- the same, but for what stands for one guest cluster
+-- The mapping of each guest cluster is the same, except one.
 abbrev pub SameOtherCovers : ℕ → DriverState → DriverState → Type 0
 SameOtherCovers guest old new = (g : ℕ) → g ≢ guest → cover old.header old.known g ≡ cover old.header new.known g
 
@@ -50,6 +50,6 @@ pub record IsMappedAnew (guest : ℕ) (old new : DriverState) : Type 0 where
   pub covers : SameOtherCovers guest old new
   pub bytes : SameUsedBytes old new
 
--- a guest cluster shows these values
+-- The disk with these values in one guest cluster.
 abbrev pub with_cluster : ℕ → Disk → ℕ → (ℕ → Value) → Disk
 with_cluster size d guest values = record d { value = λ o. if o / size == guest then values o else d.value o }

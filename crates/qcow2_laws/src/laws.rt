@@ -1,4 +1,4 @@
-//! Laws: no function here does anything, its contract is the law.
+//! The laws of the order of writes: the functions do nothing, and each contract is a law.
 
 ghost use Rattle.qcow2_metadata.specs.Bytes.{Bytes, byte_at};
 ghost use Rattle.qcow2_metadata.specs.Consistent.{IsConsistent};
@@ -9,17 +9,17 @@ ghost use Rattle.qcow2_laws.specs.Opened.{HasNoLeaks};
 ghost use Rattle.qcow2_laws.specs.GuestLaws.{ClustersInTurnAreARange, KeptClusterIsCommitted, KeptClusterIsWritten, LongerL1TableKeepsGuests, RunIsWritten, SizeStaysUnlessAsked};
 ghost use Rattle.qcow2_laws.specs.Laws.{SoundIsConsistent, MixIsSafe, TableIsWritten, CountIsChanged, PendingIsChanged, EntryIsChanged, DataIsWritten, TableIsNamed, HeaderIsWritten, StepsCompose};
 
-/// Where the order of writes is kept, the storage and what is known are consistent images; a consistent image begins so.
+/// If the invariant of the order of writes holds, the storage and the known contents are consistent images. It holds of a consistent image right after opening.
 pub fn sound_is_consistent()
     ensures { SoundIsConsistent }
 {}
 
-/// Cached tables may be written in any order that the direction allows: the order of writes is kept, and a stop is as safe as before.
+/// Cached tables may be written in any order that the direction allows: the invariant still holds, and a stop is as safe as before.
 pub fn mix_is_safe()
     ensures { MixIsSafe }
 {}
 
-/// So is one table of the caches, whatever the storage answers.
+/// One cached table may be written when the direction allows it, whatever the storage answers.
 pub fn table_is_written()
     ensures { TableIsWritten }
 {}
@@ -29,12 +29,12 @@ pub fn count_is_changed()
     ensures { CountIsChanged }
 {}
 
-/// What was allocated is to be freed.
+/// A cluster that was allocated and not used waits to be freed.
 pub fn pending_is_changed()
     ensures { PendingIsChanged }
 {}
 
-/// A guest cluster is mapped anew, zeroed or discarded.
+/// A guest cluster is mapped, zeroed or discarded.
 pub fn entry_is_changed()
     ensures { EntryIsChanged }
 {}
@@ -44,37 +44,37 @@ pub fn data_is_written()
     ensures { DataIsWritten }
 {}
 
-/// A new L2 table or refblock is named.
+/// A new L2 table or refblock gets its reference.
 pub fn table_is_named()
     ensures { TableIsNamed }
 {}
 
-/// The size, the place of the L1 table or that of the reftable is written.
+/// The size, the pointer to the L1 table or the pointer to the reftable is written.
 pub fn header_is_written()
     ensures { HeaderIsWritten }
 {}
 
-/// Steps go together, and what they keep is what a stop may leave.
+/// Two steps make one step. What is safe in the stronger form is what a stop may leave.
 pub fn steps_compose()
     ensures { StepsCompose }
 {}
 
-/// An L1 table that takes the place of a shorter one keeps what guests see.
+/// Replacing the L1 table by a longer one keeps what guests see.
 pub fn longer_l1_table_keeps_guests()
     ensures { LongerL1TableKeepsGuests }
 {}
 
-/// Where no other size is asked for, a stop leaves the old size.
+/// If no other size is asked for, a stop leaves the old size.
 pub fn size_stays_unless_asked()
     ensures { SizeStaysUnlessAsked }
 {}
 
-/// Guest clusters that are zeroed or uncovered in turn are a range of the disk that is.
+/// Zeroing or unmapping guest clusters one after another is zeroing or unmapping the range.
 pub fn clusters_in_turn_are_a_range()
     ensures { ClustersInTurnAreARange }
 {}
 
-/// Bytes written to a cluster that a zero entry keeps aren't seen until it is committed; a stop may leave them.
+/// Bytes that are written to a cluster that a zero entry keeps are invisible until the commit, but a stop may leave them visible.
 pub fn kept_cluster_is_written()
     ensures { KeptClusterIsWritten }
 {}
@@ -84,12 +84,12 @@ pub fn kept_cluster_is_committed()
     ensures { KeptClusterIsCommitted }
 {}
 
-/// One storage write goes over clusters that are each data in place, kept by a zero entry or held. Guests see at once what is in place, and nothing else of it.
+/// One storage write goes over clusters that are copied data, kept by a zero entry, or new data. Guests see at once the bytes in place, and no others.
 pub fn run_is_written()
     ensures { RunIsWritten }
 {}
 
-/// The image of three clusters that creating begins with is consistent, of whatever size clusters and counts are. It counts no cluster more often than it names it.
+/// A new image of three clusters is consistent, for every cluster size and refcount width. No cluster of it has a higher refcount than references.
 pub fn new_image_is_consistent()
     ensures each { (h : HeaderFields) (b : Bytes) → IsNewImage h b → IsConsistent b }
     ensures exact { (h : HeaderFields) (b : Bytes) → IsNewImage h b → HasNoLeaks b }

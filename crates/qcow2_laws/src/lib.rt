@@ -1,4 +1,4 @@
-//! Why a stop leaves a consistent image: what is kept at every write, and the laws that each step keeps it. No function here does anything.
+//! Why a stop leaves a consistent image: the invariant of every write, and the laws that each kind of step keeps it. The functions do nothing.
 #![tactic(auto)]
 
 mod laws;
