@@ -1,4 +1,4 @@
--- When an image is consistent.
+-- When an image is consistent. This is the assumption of the headline, and what it promises of every stop.
 use Rattle.std.specs.Prelude.{ℕ, ◌/◌, ◌≡◌, ◌≢◌, ◌<◌, ◌≤◌, Bool, IsTrue, Option, Some, None, ⊤}
 use Rattle.qcow2_metadata.specs.Bytes.{Bytes}
 use Rattle.qcow2_metadata.specs.Header.{HeaderFields, header, HeaderReads, ReftableFits, cluster_size, entries_per_cluster, reftable_entries}
@@ -9,7 +9,7 @@ use Rattle.qcow2_metadata.specs.Named.{named, named_for_tables}
 use Rattle.qcow2_metadata.specs.declared.l2_mapping.L2Mapping.{L2Mapping}
 use Rattle.qcow2_metadata.specs.declared.l2_mapping.L2Mapping.TheVariants.{Data, Zero, Compressed, Uncovered}
 
--- named once and counted once
+-- The cluster of this offset has exactly one reference, and refcount 1.
 abbrev pub IsOwn : HeaderFields → Bytes → ℕ → Type 0
 IsOwn h b place = (named h b (place / cluster_size h) ≡ 1) × (count h b (place / cluster_size h) ≡ 1)
 
@@ -27,19 +27,20 @@ abbrev pub KeptIsOwn : HeaderFields → Bytes → Option (ℕ × Bool) → Type 
 KeptIsOwn h b None = ⊤
 KeptIsOwn h b (Some k) = IsTrue k.1 → IsOwn h b k.0
 
--- what is marked copied is its own
+-- A host cluster that the mapping marks copied has exactly one reference, and refcount 1.
 abbrev pub CopiedIsOwn : HeaderFields → Bytes → L2Mapping → Type 0
 CopiedIsOwn h b (Data host copied) = IsTrue copied → IsOwn h b host
 CopiedIsOwn h b (Zero kept) = KeptIsOwn h b kept
 CopiedIsOwn h b (Compressed place sectors) = ⊤
 CopiedIsOwn h b Uncovered = ⊤
 
--- P holds of each L2 entry of each L2 table that the L1 table names
+-- P holds of each L2 entry of each L2 table that the L1 table names.
 abbrev pub EachCover : HeaderFields → Bytes → (L2Mapping → Type 0) → Type 0
 EachCover h b P =
     (i j : ℕ) → i < h.l1_entries → host_offset (l1_entry h b i) ≢ 0 → j < entries_per_cluster h
     → P (entry_cover h (l2_entry b (host_offset (l1_entry h b i)) j))
 
+-- A consistent image with this header. `named` is the number of references to a cluster, `count` its refcount.
 pub record Consistent (h : HeaderFields) (b : Bytes) : Type 0 where
   pub header_reads : HeaderReads h b
   pub reftable_fits : ReftableFits h
@@ -53,10 +54,11 @@ pub record Consistent (h : HeaderFields) (b : Bytes) : Type 0 where
   pub refblocks_aligned : (k : ℕ) → k < reftable_entries h → IsAligned h (block_offset (reftable_entry h b k))
   pub data_aligned : EachCover h b (CoverIsAligned h)
   pub counted : (cluster : ℕ) → named h b cluster ≤ count h b cluster
-  -- what the header, a table or a refblock stands in is named for that alone
+  -- A cluster of the header, of a table or of a refblock has exactly one reference.
   pub tables_once : (cluster : ℕ) → named_for_tables h b cluster ≢ 0 → named h b cluster ≡ 1
   pub copied_tables : (i : ℕ) → i < h.l1_entries → host_offset (l1_entry h b i) ≢ 0 → IsTrue (is_copied (l1_entry h b i)) → IsOwn h b (host_offset (l1_entry h b i))
   pub copied_data : EachCover h b (CopiedIsOwn h b)
 
+-- A consistent image.
 abbrev pub IsConsistent : Bytes → Type 0
 IsConsistent b = Consistent (header b) b

@@ -1,10 +1,10 @@
--- The header's numbers at their places, its extensions and names, and when a header reads.
+-- The header: its fields, its extensions and names, and when it is readable. Offsets are those of QEMU's docs/interop/qcow2.txt.
 use Rattle.std.specs.Prelude.{ℕ, ◌+◌, ◌-◌, ◌*◌, ◌/◌, ◌%◌, ◌^◌, ◌≡◌, ◌≢◌, ◌<◌, ◌≤◌, ◌⊎◌, Bool, ◌==◌, List, [], ◌∷◌, length, Option, Some, None, ⊤, if◌then◌else◌}
 use Rattle.std.specs.Str.{IsUtf8}
 pub use Rattle.qcow2_metadata.specs.declared.header.HeaderFields.{HeaderFields}
 use Rattle.qcow2_metadata.specs.Bytes.{Bytes, bytes_from, number_at, has_bit}
 
--- version 2 has no bits, counts of 16 bits, and 72 bytes
+-- The fields of the header in these bytes. In version 2 the header has 72 bytes, no feature bits, and refcounts of 16 bits.
 unfoldable pub header : Bytes → HeaderFields
 header b =
     let is_old = number_at b 4 4 == 2 in
@@ -29,19 +29,19 @@ header b =
       header_length = if is_old then 72 else number_at b 100 4;
     }
 
--- ---- sizes that follow from it
+-- ---- sizes that follow from the fields
 
 abbrev pub cluster_size : HeaderFields → ℕ
 cluster_size h = 2 ^ h.cluster_bits
 
--- entries in a cluster of an L1 table, an L2 table or the reftable
+-- The number of 8-byte entries that a cluster holds.
 abbrev pub entries_per_cluster : HeaderFields → ℕ
 entries_per_cluster h = cluster_size h / 8
 
 abbrev pub reftable_entries : HeaderFields → ℕ
 reftable_entries h = h.reftable_clusters * entries_per_cluster h
 
--- bits of a count
+-- The bits of a refcount.
 abbrev pub count_width : HeaderFields → ℕ
 count_width h = 2 ^ h.refcount_order
 
@@ -51,11 +51,11 @@ counts_per_block h = cluster_size h * 8 / count_width h
 abbrev pub has_data_file : HeaderFields → Bool
 has_data_file h = has_bit h.incompatible 2
 
--- log2 of it
+-- The binary logarithm of the refcounts in a refblock.
 abbrev pub counts_bits : HeaderFields → ℕ
 counts_bits h = h.cluster_bits + 3 - h.refcount_order
 
--- the place is a cluster's first byte
+-- The offset is the first byte of a cluster.
 abbrev pub IsAligned : HeaderFields → ℕ → Type 0
 IsAligned h place = place % cluster_size h ≡ 0
 
@@ -65,7 +65,7 @@ rounded_down step n = n / step * step
 abbrev pub rounded_up : ℕ → ℕ → ℕ
 rounded_up step n = (n + step - 1) / step * step
 
--- ---- extensions and names
+-- ---- header extensions and names
 
 abbrev pub backing_format_kind : ℕ
 backing_format_kind = 0xe2792aca
@@ -73,11 +73,11 @@ backing_format_kind = 0xe2792aca
 abbrev pub data_file_kind : ℕ
 data_file_kind = 0x44415441
 
--- the data are a name
+-- The data of this kind of extension are a name.
 abbrev pub IsNameKind : ℕ → Type 0
 IsNameKind kind = (kind ≡ backing_format_kind) ⊎ (kind ≡ data_file_kind)
 
--- at a place stands an extension, a kind and its data, that doesn't pass the limit
+-- A header extension at `place`: its kind, length and data. It ends at or before `limit`.
 pub record IsExtension (b : Bytes) (limit place : ℕ) (e : ℕ × List ℕ) : Type 0 where
   pub not_the_end : e.0 ≢ 0
   pub kind : number_at b place 4 ≡ e.0
@@ -85,50 +85,50 @@ pub record IsExtension (b : Bytes) (limit place : ℕ) (e : ℕ × List ℕ) : T
   pub bytes : bytes_from b (place + 8) (length e.1) ≡ e.1
   pub inside : place + 8 + length e.1 ≤ limit
 
--- the place behind an extension with so many bytes of data, which are padded to a multiple of 8
+-- The offset behind an extension with this many bytes of data, which are padded to a multiple of 8.
 abbrev pub behind_extension : ℕ → ℕ → ℕ
 behind_extension place size = place + 8 + rounded_up 8 size
 
--- from a place on stand these extensions, whose names are text, and then the end
+-- The extensions from `place` on, up to the end marker. Names are UTF-8.
 abbrev pub AreExtensions : Bytes → ℕ → ℕ → List (ℕ × List ℕ) → Type 0
 AreExtensions b limit place [] = (place + 8 ≤ limit) × (number_at b place 4 ≡ 0)
 AreExtensions b limit place (e ∷ rest) =
     IsExtension b limit place e × (IsNameKind e.0 → IsUtf8 e.1) × AreExtensions b limit (behind_extension place (length e.1)) rest
 
--- the data of the first extension of a kind
+-- The data of the first extension of a kind.
 abbrev pub first_of_kind : ℕ → List (ℕ × List ℕ) → Option (List ℕ)
 first_of_kind kind [] = None
 first_of_kind kind (e ∷ rest) = if e.0 == kind then Some e.1 else first_of_kind kind rest
 
--- the name of the backing file, if there is one
+-- The name of the backing file, if there is one.
 unfoldable pub backing_name : HeaderFields → Bytes → Option (List ℕ)
 backing_name h b = if h.backing_offset == 0 then None else Some (bytes_from b h.backing_offset h.backing_length)
 
--- ---- when a header reads
+-- ---- when a header is readable
 
--- the numbers are such as the format and this driver know
+-- The fields have values that the format and this library know.
 pub record IsInRange (h : HeaderFields) : Type 0 where
   pub magic : h.magic ≡ 0x514649fb
   pub version : (h.version ≡ 2) ⊎ (h.version ≡ 3)
   pub cluster_bits : (9 ≤ h.cluster_bits) × (h.cluster_bits ≤ 21)
   pub refcount_order : h.refcount_order ≤ 6
   pub not_encrypted : h.crypt_method ≡ 0
-  -- no bit but that of the external data file
+  -- No incompatible feature bit is set, except that of an external data file.
   pub incompatible : (h.incompatible ≡ 0) ⊎ (h.incompatible ≡ 4)
   pub header_length : (h.version ≡ 3 → 104 ≤ h.header_length) × (h.header_length ≤ cluster_size h)
 
--- from a place on stand extensions and their end
+-- The header extensions from `place` on are readable, up to the end marker.
 pub record ExtensionsRead (b : Bytes) (limit place : ℕ) : Type 0 where
   pub list : List (ℕ × List ℕ)
   pub stand : AreExtensions b limit place list
 
--- The name of the backing file lies in cluster 0, not over the header itself, and is text, if there is one.
+-- If there is a backing file name, it lies in cluster 0, does not overlap the header, and is UTF-8.
 pub record BackingNameReads (h : HeaderFields) (b : Bytes) : Type 0 where
   pub inside : h.backing_offset ≢ 0 → h.backing_offset + h.backing_length ≤ cluster_size h
   pub behind_header : h.backing_offset ≢ 0 → h.backing_length ≢ 0 → h.header_length ≤ h.backing_offset
   pub text : h.backing_offset ≢ 0 → IsUtf8 (bytes_from b h.backing_offset h.backing_length)
 
--- it reads, but for the limits
+-- The header is readable, apart from the limits of its tables.
 pub record IsWellFormed (h : HeaderFields) (b : Bytes) : Type 0 where
   pub in_range : IsInRange h
   pub extensions : ExtensionsRead b (cluster_size h) h.header_length
@@ -142,23 +142,23 @@ pub record HeaderReads (h : HeaderFields) (b : Bytes) : Type 0 where
   pub well_formed : IsWellFormed h b
   pub within_limits : IsWithinLimits h
 
--- 64 bits hold the end of the reftable
+-- The end of the reftable fits into 64 bits.
 abbrev pub ReftableFits : HeaderFields → Type 0
 ReftableFits h = h.reftable_offset + 8 * reftable_entries h < 2 ^ 64
 
--- ---- what a contract sees of a header in memory: its numbers and its names
+-- ---- the view that contracts have of a header in memory: its fields and names
 pub record HeaderView : Type 0 where
   pub fields : HeaderFields
   pub backing_name : Option (List ℕ)
   pub backing_format : Option (List ℕ)
   pub data_file_name : Option (List ℕ)
 
--- a name is no longer than the largest cluster
+-- The name is no longer than the largest cluster.
 abbrev pub IsShort : Option (List ℕ) → Type 0
 IsShort None = ⊤
 IsShort (Some name) = length name ≤ 2097152
 
--- what the numbers and names of every header in memory keep
+-- The invariant of every header in memory.
 pub record IsKept (h : HeaderFields) (backing format data_file : Option (List ℕ)) : Type 0 where
   pub in_range : IsInRange h
   pub within_limits : IsWithinLimits h
@@ -166,7 +166,7 @@ pub record IsKept (h : HeaderFields) (backing format data_file : Option (List �
   pub backing_format : IsShort format
   pub data_file_name : IsShort data_file
 
--- the names stay, the numbers are these
+-- The header with other fields and the same names.
 abbrev pub with_fields : HeaderView → HeaderFields → HeaderView
 with_fields h fields = record h { fields = fields }
 
@@ -182,6 +182,6 @@ with_reftable h offset clusters = record h { reftable_offset = offset; reftable_
 abbrev pub without_autoclear : HeaderFields → HeaderFields
 without_autoclear h = record h { autoclear = 0 }
 
--- with the places and lengths of the other's L1 table and reftable
+-- The fields with the L1 table and the reftable of another header.
 abbrev pub with_tables_of : HeaderFields → HeaderFields → HeaderFields
 with_tables_of h other = with_l1_table (with_reftable h other.reftable_offset other.reftable_clusters) other.l1_offset other.l1_entries

@@ -1,4 +1,4 @@
--- The bytes of a header, and the contents with parts of it written.
+-- The bytes of a header, and the contents after parts of it are written.
 use Rattle.std.specs.Prelude.{◌≡◌, ℕ, ◌+◌, ◌-◌, ◌^◌, ◌<◌, ◌≤◌, List, [], ◌∷◌, ◌++◌, length, replicate, Option, Some, None, is_some, unwrap_or, ⊤, IsUtf8, if◌then◌else◌}
 use Rattle.std.specs.List.{flat_map}
 use Rattle.std.specs.Int.{w32, w64, to_be_bytes}
@@ -7,14 +7,14 @@ use Rattle.qcow2_metadata.specs.declared.header.write.Number.{Number}
 use Rattle.qcow2_metadata.specs.declared.header.write.Number.TheVariants.{Four, Eight}
 use Rattle.qcow2_metadata.specs.Header.{HeaderFields, HeaderView, cluster_size, rounded_up, backing_format_kind, data_file_kind}
 
--- the numbers in their order
+-- The fields in the order of the file.
 unfoldable pub numbers_of : HeaderFields → List Number
 numbers_of h =
     Four h.magic ∷ Four h.version ∷ Eight h.backing_offset ∷ Four h.backing_length ∷ Four h.cluster_bits ∷ Eight h.size ∷ Four h.crypt_method
     ∷ Four h.l1_entries ∷ Eight h.l1_offset ∷ Eight h.reftable_offset ∷ Four h.reftable_clusters ∷ Four h.snapshots ∷ Eight h.snapshots_offset
     ∷ Eight h.incompatible ∷ Eight h.compatible ∷ Eight h.autoclear ∷ Four h.refcount_order ∷ Four h.header_length ∷ []
 
--- numbers of four or eight bytes, each with its highest byte first
+-- The big-endian bytes of a number of four or eight bytes.
 abbrev pub bytes_of_number : Number → List ℕ
 bytes_of_number (Four n) = to_be_bytes w32 n
 bytes_of_number (Eight n) = to_be_bytes w64 n
@@ -27,23 +27,23 @@ AllFit (Eight n ∷ rest) = (n < 2 ^ 64) × AllFit rest
 unfoldable pub bytes_of_numbers : List Number → List ℕ
 bytes_of_numbers numbers = flat_map bytes_of_number numbers
 
--- an extension: its kind, the length of its data, the data, and zeros to a multiple of 8
+-- A header extension: its kind, the length of its data, the data, and zeros to a multiple of 8.
 unfoldable pub extension_bytes : ℕ → List ℕ → List ℕ
 extension_bytes kind name =
     bytes_of_numbers (Four kind ∷ Four (length name) ∷ []) ++ name ++ replicate (rounded_up 8 (length name) - length name) 0
 
--- that of a name, if there is one
+-- The extension of a name, if there is one.
 abbrev pub name_extension : ℕ → Option (List ℕ) → List ℕ
 name_extension kind None = []
 name_extension kind (Some name) = extension_bytes kind name
 
--- The numbers, the names in extensions and their end, and the name of the backing file.
+-- The bytes of a header: its fields, its names in extensions, the end marker, and the name of the backing file.
 unfoldable pub header_bytes : HeaderView → List ℕ
 header_bytes v =
     bytes_of_numbers (numbers_of v.fields) ++ name_extension backing_format_kind v.backing_format ++ name_extension data_file_kind v.data_file_name
     ++ replicate 8 0 ++ unwrap_or v.backing_name []
 
--- the name is text, if there is one
+-- If there is a name, it is UTF-8.
 abbrev pub IsText : Option (List ℕ) → Type 0
 IsText None = ⊤
 IsText (Some name) = IsUtf8 name
@@ -67,23 +67,23 @@ autoclear_cleared contents = overwritten contents 88 (replicate 8 0)
 
 -- ---- a new header
 
--- the bytes of a name's extension
+-- The size of a name's extension in bytes, 0 without a name.
 abbrev pub extension_size : Option (List ℕ) → ℕ
 extension_size None = 0
 extension_size (Some name) = 8 + rounded_up 8 (length name)
 
--- where the name of the backing file stands
+-- The offset of the backing file name in a new header.
 abbrev pub name_place : Option (List ℕ) → Option (List ℕ) → ℕ
 name_place format data_file = 104 + extension_size format + extension_size data_file + 8
 
--- A new header has room for its names in cluster 0, and its numbers are in range.
+-- A new header can have these fields and names: the fields are in range, and the names fit into cluster 0.
 pub record CanBeNew (cluster_bits refcount_order : ℕ) (backing format data_file : Option (List ℕ)) : Type 0 where
   pub low : 9 ≤ cluster_bits
   pub high : cluster_bits ≤ 21
   pub order : refcount_order ≤ 6
   pub room : name_place format data_file + length (unwrap_or backing []) ≤ 2 ^ cluster_bits
 
--- version 3, size 0, no L1 table, and a reftable of one cluster at cluster 1
+-- The fields of a new header: version 3, size 0, no L1 table, and a reftable of one cluster at cluster 1.
 abbrev pub new_fields : ℕ → ℕ → Option (List ℕ) → Option (List ℕ) → Option (List ℕ) → HeaderFields
 new_fields cluster_bits refcount_order backing format data_file = record {
   magic = 0x514649fb;
@@ -114,7 +114,7 @@ new_header cluster_bits refcount_order backing format data_file = record {
   data_file_name = data_file;
 }
 
--- The names stand where a new header has them, whatever its tables and its size.
+-- The names lie where a new header has them.
 pub record HasNewNames (v : HeaderView) : Type 0 where
   pub version : v.fields.version ≡ 3
   pub header_length : v.fields.header_length ≡ 104

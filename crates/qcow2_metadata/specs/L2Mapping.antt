@@ -1,14 +1,14 @@
--- What an L2 entry says: the bounds of its numbers, and the host clusters that it names.
+-- L2 entries: the range of their fields, and the host clusters that they refer to.
 use Rattle.std.specs.Prelude.{ℕ, ◌+◌, ◌-◌, ◌*◌, ◌/◌, ◌%◌, ◌^◌, ◌≡◌, ◌<◌, ◌≤◌, ⊤, Bool, true, false, ◌==◌, ◌&&◌, nat_le, nat_lt, Option, Some, None, if◌then◌else◌}
 use Rattle.qcow2_metadata.specs.Bytes.{one_if}
 use Rattle.qcow2_metadata.specs.declared.l2_mapping.L2Mapping.{L2Mapping}
 use Rattle.qcow2_metadata.specs.declared.l2_mapping.L2Mapping.TheVariants.{Data, Zero, Compressed, Uncovered}
 
--- the greatest offset of a host cluster
+-- The greatest offset of a host cluster that an entry can hold.
 abbrev pub greatest_offset : ℕ
 greatest_offset = 0x00fffffffffffe00
 
--- an L2 entry or an L1 entry can hold the place where the cluster begins
+-- An L1 or L2 entry can hold the offset of this cluster.
 abbrev pub IsHostCluster : ℕ → ℕ → Type 0
 IsHostCluster cluster_bits cluster = cluster * 2 ^ cluster_bits ≤ greatest_offset
 
@@ -16,14 +16,14 @@ abbrev pub KeptIsInReach : Option (ℕ × Bool) → Type 0
 KeptIsInReach None = ⊤
 KeptIsInReach (Some k) = k.0 ≤ greatest_offset
 
--- its numbers are such as an entry holds
+-- An entry can hold the fields of this mapping.
 abbrev pub IsInReach : L2Mapping → Type 0
 IsInReach (Data host copied) = host ≤ greatest_offset
 IsInReach (Zero kept) = KeptIsInReach kept
 IsInReach (Compressed place sectors) = (place < 2 ^ 61) × (0 < sectors) × (sectors ≤ 2 ^ 14)
 IsInReach Uncovered = ⊤
 
--- the host offset of its data, or one that it keeps
+-- The host offset of data, or the one that a zero entry keeps.
 abbrev pub host_of : L2Mapping → Option ℕ
 host_of (Data host copied) = Some host
 host_of (Zero None) = None
@@ -31,7 +31,7 @@ host_of (Zero (Some k)) = Some k.0
 host_of (Compressed place sectors) = None
 host_of Uncovered = None
 
--- it is marked copied, with that host offset
+-- The mapping has a host offset that is marked copied.
 abbrev pub is_marked : L2Mapping → Bool
 is_marked (Data host copied) = copied
 is_marked (Zero None) = false
@@ -43,14 +43,14 @@ abbrev pub KeptIsAlignedTo : ℕ → Option (ℕ × Bool) → Type 0
 KeptIsAlignedTo cluster_bits None = ⊤
 KeptIsAlignedTo cluster_bits (Some k) = k.0 % 2 ^ cluster_bits ≡ 0
 
--- the host offset of data, or one that is kept, is on a cluster
+-- The host offset of data, or the one that a zero entry keeps, is aligned.
 abbrev pub HasAlignedHost : ℕ → L2Mapping → Type 0
 HasAlignedHost cluster_bits (Data host copied) = host % 2 ^ cluster_bits ≡ 0
 HasAlignedHost cluster_bits (Zero kept) = KeptIsAlignedTo cluster_bits kept
 HasAlignedHost cluster_bits (Compressed place sectors) = ⊤
 HasAlignedHost cluster_bits Uncovered = ⊤
 
--- the clusters from the first byte's to the last one's: the first, and how many
+-- The clusters from that of one byte to that of another: the first, and how many.
 abbrev pub run_of_bytes : ℕ → ℕ → ℕ → Option (ℕ × ℕ)
 run_of_bytes cluster_bits first last = Some (first / 2 ^ cluster_bits, last / 2 ^ cluster_bits - first / 2 ^ cluster_bits + 1)
 
@@ -58,14 +58,14 @@ abbrev pub kept_run : ℕ → Option (ℕ × Bool) → Option (ℕ × ℕ)
 kept_run cluster_bits None = None
 kept_run cluster_bits (Some k) = Some (k.0 / 2 ^ cluster_bits, 1)
 
--- the host clusters that it names: the first, and how many. What is compressed names each cluster that its sectors touch.
+-- The host clusters that a mapping refers to: the first, and how many. Compressed data refer to each cluster that their sectors touch.
 abbrev pub named_run : ℕ → L2Mapping → Option (ℕ × ℕ)
 named_run cluster_bits (Data host copied) = Some (host / 2 ^ cluster_bits, 1)
 named_run cluster_bits (Zero kept) = kept_run cluster_bits kept
 named_run cluster_bits (Compressed place sectors) = run_of_bytes cluster_bits place ((place / 512 + sectors) * 512 - 1)
 named_run cluster_bits Uncovered = None
 
--- 1 where the cluster is one of the run
+-- 1 if the cluster is in the run, otherwise 0.
 abbrev pub run_has : Option (ℕ × ℕ) → ℕ → ℕ
 run_has None cluster = 0
 run_has (Some run) cluster = one_if (nat_le run.0 cluster && nat_lt cluster (run.0 + run.1))
@@ -76,7 +76,7 @@ is_same_run None (Some new) = false
 is_same_run (Some old) None = false
 is_same_run (Some old) (Some new) = old.0 == new.0 && old.1 == new.1
 
--- the host clusters that are named no longer where new stands for old
+-- The host clusters that lose a reference when one mapping replaces another. None if both refer to the same clusters.
 abbrev pub old_data_run : ℕ → L2Mapping → L2Mapping → Option (ℕ × ℕ)
 old_data_run cluster_bits old new =
     if is_same_run (named_run cluster_bits old) (named_run cluster_bits new) then None else named_run cluster_bits old

@@ -1,4 +1,4 @@
--- An L2 table in memory: its entries as its bytes hold them, its cluster, and its mark.
+-- An L2 table in memory: the bytes of its entries, its cluster, and whether it was modified.
 use Rattle.std.specs.Prelude.{◌≡◌, ℕ, ◌+◌, ◌/◌, ◌%◌, ◌^◌, ◌<◌, ◌≤◌, ◌==◌, IsTrue, Bool, true, List, length, Option, Some, None, if◌then◌else◌}
 use Rattle.qcow2_metadata.specs.Header.{HeaderFields, has_data_file}
 use Rattle.qcow2_metadata.specs.Bytes.{Bytes}
@@ -10,26 +10,26 @@ use Rattle.qcow2_metadata.specs.declared.l2_mapping.L2Mapping.{L2Mapping}
 use Rattle.qcow2_metadata.specs.declared.l2_mapping.L2Mapping.TheVariants.{Data, Zero, Compressed, Uncovered}
 
 pub record L2TableView : Type 0 where
-  -- where it lies, if it has a place
+  -- Where the table lies, if it has a place.
   pub cluster : Option ℕ
   pub bytes : List ℕ
-  -- new, or changed since it was written
+  -- The table is new, or was changed since it was last read or written.
   pub is_modified : Bool
   pub cluster_bits : ℕ
-  -- bit 0 of its entries says that they are zero
+  -- Bit 0 of an entry marks zeros (version 3).
   pub has_zero_bit : Bool
-  -- the data stand in an external file
+  -- The data are in an external file.
   pub data_is_external : Bool
 
--- how many entries it has
+-- The number of entries.
 abbrev pub entries_of : L2TableView → ℕ
 entries_of table = 2 ^ table.cluster_bits / 8
 
--- what entry i says
+-- The mapping of entry i.
 abbrev pub cover_at : L2TableView → ℕ → L2Mapping
 cover_at table i = cover_of table.cluster_bits table.has_zero_bit table.data_is_external (entry_at table.bytes i)
 
--- an L2 table of an image
+-- An L2 table of an image.
 abbrev pub l2_table : HeaderFields → Option ℕ → List ℕ → Bool → L2TableView
 l2_table h cluster bytes is_modified = record {
   cluster = cluster;
@@ -40,32 +40,32 @@ l2_table h cluster bytes is_modified = record {
   data_is_external = has_data_file h;
 }
 
--- it has one cluster's bytes
+-- The table has the size of one cluster.
 pub record IsL2Table (table : L2TableView) : Type 0 where
   pub whole : length table.bytes ≡ 2 ^ table.cluster_bits
   pub bits : IsClusterBits table.cluster_bits
   pub placed : IsPlaced table.cluster_bits table.cluster
 
--- its entries are those that stand at a place of a file
+-- The entries are those at an offset of a file.
 abbrev pub IsL2TableAt : Bytes → ℕ → L2TableView → Type 0
 IsL2TableAt b place table = (i : ℕ) → i < entries_of table → entry_at table.bytes i ≡ l2_entry b place i
 
--- a host offset that an entry can hold, and say that it is there
+-- An entry can hold this host offset as one that exists. Offset 0 exists only in an external data file.
 pub record IsEntryHost (external : Bool) (host : ℕ) : Type 0 where
   pub near : host ≤ greatest_offset
   pub whole : host % 512 ≡ 0
   pub there : host ≡ 0 → IsTrue external
 
--- the entry of data at a host offset that is marked copied
+-- The entry of data at a host offset, marked copied.
 abbrev pub copied_entry : ℕ → ℕ
 copied_entry host = 2 ^ 63 + host
 
--- the entry of a cluster that reads as zeros, and keeps a host cluster that is marked copied
+-- The entry of a zero cluster. It may keep a host cluster, marked copied.
 abbrev pub zero_entry : Option ℕ → ℕ
 zero_entry None = 1
 zero_entry (Some host) = copied_entry host + 1
 
--- what it says
+-- The mapping of a zero cluster.
 abbrev pub zero_cover : Option ℕ → L2Mapping
 zero_cover None = Zero None
 zero_cover (Some host) = Zero (Some (host, true))
@@ -74,7 +74,7 @@ abbrev pub copied_kept : Option (ℕ × Bool) → Option ℕ
 copied_kept None = None
 copied_kept (Some k) = if k.1 then Some k.0 else None
 
--- the host offset that is marked copied, where data or zeros have one
+-- The host offset of data or of a zero entry, if it is marked copied.
 abbrev pub copied_host : L2Mapping → Option ℕ
 copied_host (Data host copied) = if copied then Some host else None
 copied_host (Zero kept) = copied_kept kept

@@ -1,9 +1,9 @@
-//! Numbers in bytes, the highest byte first.
+//! Big-endian numbers in bytes.
 
 ghost use Rattle.std.specs.Prelude.{◌≡◌, ◌+◌, ◌≤◌, length};
 ghost use Rattle.qcow2_metadata.specs.Bytes.{byte_at, number_at};
 
-/// The number that the four bytes from a place on spell.
+/// The big-endian number in the four bytes from `place` on.
 #[tactic(auto, using(crate::proofs::BigEndian::numbers_read))]
 pub(crate) fn read_u32(bytes: &[u8], place: usize) -> u32
     requires { place + 4 ≤ length bytes.now }
@@ -14,7 +14,7 @@ pub(crate) fn read_u32(bytes: &[u8], place: usize) -> u32
     u32::from_be_bytes(four)
 }
 
-/// The number that the eight bytes from a place on spell.
+/// The big-endian number in the eight bytes from `place` on.
 #[tactic(auto, using(crate::proofs::BigEndian::numbers_read))]
 pub(crate) fn read_u64(bytes: &[u8], place: usize) -> u64
     requires { place + 8 ≤ length bytes.now }

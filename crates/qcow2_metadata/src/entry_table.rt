@@ -1,4 +1,4 @@
-//! What the L1 table and the reftable have in common: entries of 64 bits in their bytes, from the begin of a cluster on.
+//! What the L1 table and the reftable have in common: 8-byte entries, from the begin of a cluster on.
 
 ghost use Rattle.std.specs.Prelude.{◌≡◌, ℕ, ◌+◌, ◌-◌, ◌*◌, ◌/◌, ◌%◌, ◌^◌, ◌<◌, ◌≤◌, ◌↔◌, ◌++◌, Some, None, length, replicate, IsTrue, IsSome, IfOk, IfErr, IfSome, IfNone};
 ghost use Rattle.std.specs.Bool.{OnTrue, OnFalse};
@@ -17,7 +17,7 @@ use std::alloc::Global;
 use std::marker::Model;
 
 impl HostCluster {
-    /// Whether an entry can name it.
+    /// Whether an entry can hold the offset of this cluster.
     pub fn is_nameable(self, cluster_bits: u32) -> bool
         requires { cluster_bits < 64 }
         ensures { IsTrue result ↔ IsHostCluster cluster_bits self }
@@ -29,7 +29,7 @@ impl HostCluster {
     }
 }
 
-/// Entries of 64 bits, in the bytes that stand for them in the file.
+/// 8-byte entries, stored as in the file.
 #[derive(Drop)]
 pub(crate) struct EntryTable {
     cluster: Option<HostCluster>,
@@ -55,7 +55,7 @@ impl Model for EntryTable {
     }) };
 }
 
-/// Whether 64 bits hold the place so many bytes behind a cluster's begin.
+/// Whether the offset `length` bytes behind the cluster's begin fits into 64 bits.
 pub(crate) fn has_room(cluster: HostCluster, cluster_bits: u32, length: u64) -> bool
     requires { cluster_bits < 64 }
     ensures { IsTrue result ↔ HasRoom cluster_bits length cluster }
@@ -66,7 +66,7 @@ pub(crate) fn has_room(cluster: HostCluster, cluster_bits: u32, length: u64) -> 
     }
 }
 
-/// So many bytes of a storage, which isn't asked for none.
+/// Reads bytes of a storage. A read of no bytes doesn't call it.
 pub(crate) fn load_bytes<S: Storage>(
     alloc: Global,
     storage: &mut S,
@@ -86,7 +86,7 @@ pub(crate) fn load_bytes<S: Storage>(
     load(alloc, storage, at, count)
 }
 
-/// Whether none of these bits is set in any entry.
+/// Whether no entry has a reserved bit.
 pub(crate) fn is_clear(bytes: &[u8], reserved: u64) -> bool
     requires { length bytes.now % 8 ≡ 0 }
     ensures clear { OnTrue result (EachReads (IsClear reserved) bytes.now) }
@@ -101,7 +101,7 @@ pub(crate) fn is_clear(bytes: &[u8], reserved: u64) -> bool
 }
 
 impl EntryTable {
-    /// So many entries of 0.
+    /// A table of entries that are all 0.
     pub(crate) fn new_cleared(
         alloc: Global,
         cluster_bits: u32,
@@ -125,7 +125,7 @@ impl EntryTable {
         })
     }
 
-    /// Loads so many entries from a cluster on, of which each is to have none of the reserved bits.
+    /// Loads entries from the begin of a cluster on. Refused if an entry has a reserved bit.
     pub(crate) fn load<S: Storage>(
         alloc: Global,
         storage: &mut S,
@@ -205,7 +205,7 @@ impl EntryTable {
         set_entry(&mut self.bytes, index, entry);
     }
 
-    /// Writes all entries to where they lie.
+    /// Writes all entries to the table's cluster.
     pub(crate) fn write<S: Storage>(&self, storage: &mut S) -> Result<(), StorageError>
         requires { IsSome self.now.cluster }
         ensures written { IfSome self.now.cluster (λ cluster. Changes (S.view storage.old) (S.view storage.new) result
@@ -217,7 +217,7 @@ impl EntryTable {
         storage.write(at, &self.bytes)
     }
 
-    /// Whether 64 bits hold where an entry lies, if the table has a place.
+    /// Whether the offset of an entry fits into 64 bits, if the table has a place.
     pub(crate) fn has_entry_room(&self, index: usize) -> bool
         requires { index < entry_count self.now }
         ensures { IsTrue result ↔ HasRoomIfPlaced self.now.cluster_bits (8 * index) self.now.cluster }
@@ -228,7 +228,7 @@ impl EntryTable {
         }
     }
 
-    /// Writes one entry to where it lies.
+    /// Writes one entry to its offset in the file.
     pub(crate) fn write_entry<S: Storage>(
         &self,
         storage: &mut S,
@@ -247,7 +247,7 @@ impl EntryTable {
         storage.write(at, &self.get(index).to_be_bytes())
     }
 
-    /// The same entries, entries of 0 behind them, and no place.
+    /// A table with the same entries, entries of 0 behind them, and no place.
     pub(crate) fn clone_and_grow(
         &self,
         alloc: Global,
@@ -278,7 +278,7 @@ impl EntryTable {
         self.bytes.len() as u64
     }
 
-    /// The clusters that its bytes need.
+    /// The number of clusters that the table needs.
     pub(crate) fn cluster_count(&self) -> ClusterCount
         ensures { result ≡ (length self.now.bytes + 2 ^ self.now.cluster_bits - 1) / 2 ^ self.now.cluster_bits }
     {

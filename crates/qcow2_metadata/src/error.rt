@@ -4,25 +4,25 @@ use image_access::StorageError;
 use std::alloc::{AllocError, AllocFailed};
 use thiserror::Error;
 
-/// Why a header or a table isn't loaded or written, or an entry isn't used. The driver gives each case a number.
+/// Why a header or a table was not loaded or written, or an entry was not used. Numbers are those of the driver's refusals.
 #[derive(Clone, Copy, Debug, PartialEq, Eq, Error)]
 pub enum MetadataError {
-    /// The storage failed, 15 (storage), or had no memory, 14 (memory).
+    /// The storage refused: 15 (storage) for an I/O error, 14 (memory) for a failed allocation.
     #[error("{0}")]
     Storage(StorageError),
-    /// A growth was refused: 14 (memory).
+    /// An allocation failed: 14 (memory).
     #[error("out of memory")]
     Memory,
-    /// Version 3 is needed: 3 (version).
+    /// The call needs version 3: 3 (version).
     #[error("version")]
     Version,
-    /// An offset isn't on a cluster: 4 (unaligned table).
+    /// An offset isn't a multiple of the cluster size: 4 (unaligned table).
     #[error("unaligned table")]
     Unaligned,
-    /// A limit of the format or of this driver is passed: 13 (limit).
+    /// A limit of the format or of this library is passed: 13 (limit).
     #[error("limit")]
     Limit,
-    /// It doesn't read: 19 (metadata).
+    /// The header or a table isn't readable: 19 (metadata).
     #[error("metadata")]
     Format,
 }

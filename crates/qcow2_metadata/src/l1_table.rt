@@ -1,4 +1,4 @@
-//! The table that names the L2 tables.
+//! The L1 table, which holds the offsets of the L2 tables.
 
 ghost use Rattle.std.specs.Prelude.{◌≡◌, ℕ, ◌+◌, ◌-◌, ◌*◌, ◌/◌, ◌%◌, ◌^◌, ◌<◌, ◌≤◌, ◌↔◌, ◌++◌, Some, None, true, length, replicate, IsTrue, IsSome, IfOk, IfErr, IfSome, IfNone, OnOk};
 ghost use Rattle.std.specs.Int.{w64, to_be_bytes};
@@ -20,19 +20,19 @@ use image_access::{Storage, StorageError};
 use std::alloc::Global;
 use std::marker::Model;
 
-/// Bits 0 to 8 and 56 to 62, which have no meaning.
+/// The reserved bits of an entry: 0 to 8 and 56 to 62.
 pub(crate) const RESERVED: u64 = 0x7f00_0000_0000_01ff;
 
-/// What an entry of the L1 table names.
+/// An entry of the L1 table.
 #[derive(Clone, Copy, Debug, PartialEq, Eq)]
 pub struct L1Entry {
-    /// Where the L2 table lies in the file, in bytes.
+    /// The offset of the L2 table in the file, in bytes.
     pub offset: HostOffset,
-    /// Whether its cluster is counted for this entry alone.
+    /// The L2 table has refcount 1, so it may be written in place (bit 63).
     pub copied: bool,
 }
 
-/// The table that names the L2 tables.
+/// The L1 table, which holds the offsets of the L2 tables.
 #[derive(Drop)]
 pub struct L1Table {
     table: EntryTable,
@@ -49,7 +49,7 @@ impl Model for L1Table {
     ghost invariant = { λ t. EachReads L1EntryReads t.table.bytes };
 }
 
-/// The entry of an L2 table that is counted for this entry alone.
+/// An L1 entry that is marked copied.
 fn copied_entry(offset: HostOffset) -> u64
     requires reach { offset ≤ greatest_offset }
     requires aligned { offset % 512 ≡ 0 }
@@ -62,7 +62,7 @@ fn copied_entry(offset: HostOffset) -> u64
 }
 
 impl L1Table {
-    /// A table of so many entries that name nothing. It has no place yet. Refused `Limit` for more than 4,194,304 entries, and `Memory`.
+    /// A table of empty entries, without a place in the file. Refused `Limit` for more than 4,194,304 entries, and `Memory`.
     pub fn new_cleared(
         alloc: Global,
         header: &Header,
@@ -77,9 +77,9 @@ impl L1Table {
         Ok(L1Table { table })
     }
 
-    /// Loads a table of so many entries that lies from a cluster on. It may end past 64 bits. With no entries the storage isn't read.
-    /// Refused `Limit` for more than 4,194,304 entries or a begin past 64 bits, and `Format` where an entry has a bit without meaning.
-    /// Where the work meets them: `Memory`, `Storage`.
+    /// Loads a table from the begin of a cluster on. It may end past 64 bits. A table without entries reads nothing.
+    /// Refused `Limit` for more than 4,194,304 entries or an offset past 64 bits, `Format` for a reserved bit in an entry,
+    /// and `Memory` and `Storage` if the work meets them.
     pub fn load<S: Storage>(
         alloc: Global,
         storage: &mut S,
@@ -141,7 +141,7 @@ impl L1Table {
         index < self.len()
     }
 
-    /// What entry `index` names, if there is one and it names something.
+    /// Entry `index`, or `None` if there is no such entry, or it is empty.
     pub fn get(&self, index: usize) -> Option<L1Entry>
         ensures none { IfNone result (host_offset_of (entry_at self.now.bytes index) ≡ 0) }
         ensures offset { IfSome result (λ e. e.offset ≡ host_offset_of (entry_at self.now.bytes index)) }
@@ -161,7 +161,7 @@ impl L1Table {
         })
     }
 
-    /// Enters an L2 table that is counted for this entry alone.
+    /// Sets entry `index` to an L2 table with refcount 1, and marks it copied.
     #[tactic(auto, using(crate::proofs::EntryTables::on_sector))]
     pub fn enter_l2_table(&mut self, index: usize, cluster: HostCluster)
         requires within { index < entry_count self.old }
@@ -175,7 +175,7 @@ impl L1Table {
         self.table.set(index, copied_entry(offset));
     }
 
-    /// Writes all entries to where the table lies. It is to have a place. Refused as the storage is.
+    /// Writes all entries. The table must have a place. Refused as the storage refuses.
     pub fn write<S: Storage>(&self, storage: &mut S) -> Result<(), StorageError>
         requires { IsSome self.now.cluster }
         ensures written { IfSome self.now.cluster (λ cluster. Changes (S.view storage.old) (S.view storage.new) result
@@ -188,7 +188,7 @@ impl L1Table {
         self.table.write(storage)
     }
 
-    /// Whether 64 bits hold where an entry lies, if the table has a place.
+    /// Whether the offset of an entry fits into 64 bits, if the table has a place.
     pub fn has_entry_room(&self, index: usize) -> bool
         requires { index < entry_count self.now }
         ensures { IsTrue result ↔ HasRoomIfPlaced self.now.cluster_bits (8 * index) self.now.cluster }
@@ -196,7 +196,7 @@ impl L1Table {
         self.table.has_entry_room(index)
     }
 
-    /// Writes the entry of an index, below its length, to where it lies, which 64 bits are to hold. Refused as the storage is.
+    /// Writes one entry. The index must lie in the table, and the entry's offset must fit into 64 bits. Refused as the storage refuses.
     pub fn write_entry<S: Storage>(&self, storage: &mut S, index: usize) -> Result<(), StorageError>
         requires placed { IsSome self.now.cluster }
         requires within { index < entry_count self.now }
@@ -213,8 +213,8 @@ impl L1Table {
         self.table.write_entry(storage, index)
     }
 
-    /// A table of so many entries, not fewer than its own, that begins with the same ones. The others name nothing, and it has no place
-    /// yet. Refused `Limit` for more than 4,194,304 entries, and `Memory`.
+    /// A table that begins with the same entries and has `entries` of them, not fewer than before. The others are empty, and it has no
+    /// place. Refused `Limit` for more than 4,194,304 entries, and `Memory`.
     pub fn clone_and_grow(&self, alloc: Global, entries: usize) -> Result<L1Table, MetadataError>
         requires { entry_count self.now ≤ entries }
         ensures table { IfOk result (λ t. t ≡ record self.now {
@@ -231,7 +231,7 @@ impl L1Table {
         Ok(L1Table { table })
     }
 
-    /// The clusters that its entries need.
+    /// The number of clusters that the table needs.
     pub fn cluster_count(&self) -> ClusterCount
         ensures { result ≡ (length self.now.bytes + 2 ^ self.now.cluster_bits - 1) / 2 ^ self.now.cluster_bits }
     {
@@ -247,7 +247,7 @@ impl L1Table {
         self.table.byte_size()
     }
 
-    /// The cluster that it begins with, if it has a place.
+    /// The first cluster of the table, if it has a place.
     pub fn get_cluster(&self) -> Option<HostCluster>
         ensures value { result ≡ self.now.cluster }
         ensures is_table { IsL1Table self.now }
@@ -255,7 +255,7 @@ impl L1Table {
         self.table.get_cluster()
     }
 
-    /// Notes the cluster that it stands in from now on.
+    /// Sets the first cluster of the table.
     pub fn set_cluster(&mut self, cluster: HostCluster)
         requires { IsHostCluster self.old.cluster_bits cluster }
         ensures { self.new ≡ record self.old { cluster = Some cluster } }
@@ -263,7 +263,7 @@ impl L1Table {
         self.table.set_cluster(cluster);
     }
 
-    /// Notes that it stands in no cluster.
+    /// Leaves the table without a place.
     pub fn unset_cluster(&mut self)
         ensures { self.new ≡ record self.old { cluster = None } }
     {

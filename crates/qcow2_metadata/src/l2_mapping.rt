@@ -8,16 +8,16 @@ ghost use Rattle.qcow2_metadata.specs.L2Mapping.{greatest_offset, IsInReach, Has
 
 use crate::{ClusterCount, HostCluster, HostOffset, MAX_HOST_OFFSET};
 
-/// What an L2 table says of a guest cluster. Host offsets are those of bytes in the file.
+/// The mapping of a guest cluster, as its L2 entry says. Host offsets are byte offsets in the file.
 #[derive(Clone, Copy, Debug, PartialEq, Eq)]
 pub enum L2Mapping {
-    /// Its data stand at a host offset. Copied means that the host cluster is counted exactly once, so it may be written in place.
+    /// Data at a host offset. Copied means that the host cluster has refcount 1, so it may be written in place.
     Data { host: HostOffset, copied: bool },
-    /// It reads as zeros; it may keep a host cluster.
+    /// The cluster reads as zeros. It may keep a host cluster, copied or not.
     Zero { kept: Option<(HostOffset, bool)> },
-    /// Its data are compressed: where they begin, and in how many sectors of 512 bytes they lie.
+    /// Compressed data: the offset where they begin, and the number of 512-byte sectors that they touch.
     Compressed { host: HostOffset, sectors: u64 },
-    /// The image says nothing of it: the backing disk shows, or zeros.
+    /// Unmapped: the backing disk shows, or zeros.
     Uncovered,
 }
 
@@ -27,7 +27,7 @@ pub(crate) const COPIED: u64 = 1 << 63;
 
 pub(crate) const ZERO: u64 = 1;
 
-/// The bits of an L1 or L2 entry that are a host offset.
+/// The host offset of an L1 or L2 entry.
 pub fn host_offset(entry: u64) -> u64
     ensures value { result ≡ host_offset_of entry }
     ensures reach { result ≤ greatest_offset }
@@ -54,7 +54,7 @@ fn is_zero(entry: u64) -> bool
     entry & ZERO != 0
 }
 
-/// Where compressed data begin, and the number of their sectors.
+/// The offset of compressed data, and the number of their sectors.
 fn compressed_range(entry: u64, cluster_bits: u32) -> (u64, u64)
     requires low { 9 ≤ cluster_bits }
     requires high { cluster_bits ≤ 21 }
@@ -68,7 +68,7 @@ fn compressed_range(entry: u64, cluster_bits: u32) -> (u64, u64)
     (place, further + 1)
 }
 
-/// The clusters from one byte's to another's.
+/// The clusters from that of one byte to that of another.
 fn run_of_bytes(first: u64, last: u64, cluster_bits: u32) -> (HostCluster, ClusterCount)
     requires bits { cluster_bits < 64 }
     requires order { first ≤ last }
@@ -82,8 +82,8 @@ fn run_of_bytes(first: u64, last: u64, cluster_bits: u32) -> (HostCluster, Clust
 }
 
 impl L2Mapping {
-    /// What an L2 entry says. `cluster_bits` is 9 to 21. Bit 0 means zeros only with `has_zero_bit`, and a copied offset of 0 is a place
-    /// only with `data_is_external`.
+    /// Decodes an L2 entry. `cluster_bits` is 9 to 21. Bit 0 means zeros only with `has_zero_bit`. A copied entry of offset 0 has a host
+    /// cluster only with `data_is_external`.
     #[tactic(auto, unfolding(crate::specs::Cover::cover_of))]
     pub fn of_entry(
         entry: u64,
@@ -114,7 +114,7 @@ impl L2Mapping {
         }
     }
 
-    /// The host offset of its data, or one that it keeps.
+    /// The host offset of data, or the one that a zero entry keeps.
     pub fn host(&self) -> Option<HostOffset>
         ensures { result ≡ host_of self.now }
     {
@@ -128,7 +128,7 @@ impl L2Mapping {
         }
     }
 
-    /// Whether it is marked copied, with that host offset.
+    /// Whether the mapping has a host offset that is marked copied.
     pub fn is_marked_copied(&self) -> bool
         ensures { result ≡ is_marked self.now }
     {
@@ -142,7 +142,7 @@ impl L2Mapping {
         }
     }
 
-    /// The host clusters that it names: the first, and how many.
+    /// The host clusters that the mapping refers to: the first, and how many.
     pub fn host_clusters(self, cluster_bits: u32) -> Option<(HostCluster, ClusterCount)>
         requires bits { cluster_bits < 64 }
         requires reach { IsInReach self }
@@ -168,7 +168,7 @@ impl L2Mapping {
         }
     }
 
-    /// The host clusters that are named no longer where another stands for it.
+    /// The host clusters that lose a reference when another mapping replaces this one.
     pub(crate) fn dropped_for(
         self,
         new: L2Mapping,
@@ -186,7 +186,7 @@ impl L2Mapping {
         }
     }
 
-    /// Whether the host offset of its data, or one that it keeps, is on a cluster.
+    /// Whether the host offset of data, or the one that a zero entry keeps, is aligned.
     pub(crate) fn has_aligned_host(&self, cluster_bits: u32) -> bool
         requires { cluster_bits < 64 }
         ensures { IsTrue result ↔ HasAlignedHost cluster_bits self.now }

@@ -17,7 +17,7 @@ use image_access::{Storage, StorageError};
 use std::alloc::Global;
 use std::marker::Model;
 
-/// What the image says of a range of guest clusters, in one cluster.
+/// An L2 table: the mappings of a range of guest clusters, in one cluster.
 #[derive(Drop)]
 pub struct L2Table {
     cluster: Option<HostCluster>,
@@ -60,7 +60,7 @@ fn copied_entry(host: HostOffset) -> u64
     COPIED | host.value()
 }
 
-/// The entry of a cluster that reads as zeros, and keeps a host cluster marked copied.
+/// The entry of a zero cluster, which may keep a host cluster that is marked copied.
 fn zero_entry(kept: Option<HostOffset>) -> u64
     requires { IfSome kept (λ host. (host ≤ greatest_offset) × (host % 512 ≡ 0)) }
     ensures { result ≡ zero_entry_of kept }
@@ -71,7 +71,7 @@ fn zero_entry(kept: Option<HostOffset>) -> u64
     }
 }
 
-/// The host offset that is marked copied, where data or zeros have one.
+/// The host offset of data or of a zero entry, if it is marked copied.
 fn copied_host(mapping: L2Mapping) -> Option<HostOffset>
     ensures { result ≡ copied_host_of mapping }
 {
@@ -86,7 +86,7 @@ fn copied_host(mapping: L2Mapping) -> Option<HostOffset>
 }
 
 impl L2Table {
-    /// A table whose entries are 0. Refused `Memory`.
+    /// A table of empty entries. Refused `Memory`.
     pub fn new_cleared(alloc: Global, header: &Header) -> Result<L2Table, MetadataError>
         ensures table { IfOk result (λ table. table ≡ l2_table header.now.fields None (replicate (cluster_size header.now.fields) 0) true) }
         ensures zeros { IfOk result (λ table. (i : ℕ) → entry_of table.bytes i ≡ 0) }
@@ -103,7 +103,7 @@ impl L2Table {
         })
     }
 
-    /// Loads the table that lies in a cluster. Refused `Memory`, and `Storage` as the storage is.
+    /// Loads the table at a cluster. Refused `Memory` and `Storage`.
     pub fn load<S: Storage>(
         alloc: Global,
         storage: &mut S,
@@ -134,7 +134,7 @@ impl L2Table {
         })
     }
 
-    /// A new table with the same entries. Refused `Memory`.
+    /// A table with the same entries. Refused `Memory`.
     pub fn clone(&self) -> Result<L2Table, MetadataError>
         ensures ok { IfOk result (λ table. table ≡ record self.now { cluster = None; is_modified = true }) }
         ensures err { IfErr result (λ e. e ≡ MetadataError.Memory) }
@@ -149,7 +149,7 @@ impl L2Table {
         })
     }
 
-    /// Writes it to its cluster, which it is to have. Refused as the storage is.
+    /// Writes the table to its cluster, which it must have. Refused as the storage refuses.
     pub fn write<S: Storage>(&self, storage: &mut S) -> Result<(), StorageError>
         requires { IsSome self.now.cluster }
         ensures written { IfSome self.now.cluster (λ cluster. Changes (S.view storage.old) (S.view storage.new) result
@@ -165,7 +165,7 @@ impl L2Table {
         storage.write(at, &self.bytes)
     }
 
-    /// Writes it to a cluster if it is new or changed, and then it is neither. Refused as the storage is.
+    /// Writes the table to `cluster` if it is modified, and marks it as unmodified. Refused as the storage refuses.
     pub fn write_if_modified<S: Storage>(
         &mut self,
         storage: &mut S,
@@ -188,7 +188,7 @@ impl L2Table {
         Ok(())
     }
 
-    /// What entry `index` says.
+    /// The mapping of entry `index`.
     pub fn cover(&self, index: usize) -> L2Mapping
         requires { index < entries_of self.now }
         ensures value { result ≡ cover_at self.now index }
@@ -203,8 +203,8 @@ impl L2Table {
         )
     }
 
-    /// What it says of a guest cluster that it covers. Refused `Unaligned` where data, or a host cluster that it keeps, have an offset
-    /// that isn't on a cluster.
+    /// The mapping of a guest cluster that this table covers. Refused `Unaligned` if the host offset of data, or the one that a zero entry
+    /// keeps, is not a multiple of the cluster size.
     pub fn get_mapping(&self, guest: GuestCluster) -> Result<L2Mapping, MetadataError>
         ensures ok { IfOk result (λ mapping. mapping ≡ cover_at self.now (guest % entries_of self.now)) }
         ensures aligned { IfOk result (HasAlignedHost self.now.cluster_bits) }
@@ -220,7 +220,7 @@ impl L2Table {
         }
     }
 
-    /// The host offset that a zero entry keeps in the place of entry `index`.
+    /// The host offset that entry `index` keeps if it becomes a zero entry.
     fn kept_host(&self, index: usize, keep: bool) -> Option<HostOffset>
         requires { index < entries_of self.now }
         ensures value { result ≡ (if keep then copied_host_of (cover_at self.now index) else None) }
@@ -233,7 +233,7 @@ impl L2Table {
         }
     }
 
-    /// Sets entry `index`. Answers the host clusters that it names no longer: the first, and how many.
+    /// Sets entry `index`. Returns the host clusters that lost a reference: the first, and how many.
     fn replace(&mut self, index: usize, entry: u64) -> Option<(HostCluster, ClusterCount)>
         requires { index < entries_of self.old }
         ensures changed { ChangesEntry self.old.bytes self.new.bytes index entry }
@@ -246,7 +246,7 @@ impl L2Table {
         old.dropped_for(self.cover(index), self.cluster_bits)
     }
 
-    /// Makes entry `index` data at a host cluster, marked copied. Answers the host clusters that it names no longer: the first, and how many.
+    /// Maps entry `index` to data at a host cluster, marked copied. Returns the host clusters that lost a reference: the first, and how many.
     pub fn map_cluster(
         &mut self,
         index: usize,
@@ -264,7 +264,7 @@ impl L2Table {
         self.replace(index, entry)
     }
 
-    /// Makes entry `index` read as zeros; `keep` keeps a host cluster of data or zeros that is marked copied. Answers the host clusters that it names no longer: the first, and how many.
+    /// Makes entry `index` a zero entry. With `keep` it keeps the host cluster, if that is marked copied. Returns the host clusters that lost a reference: the first, and how many.
     pub fn zero_cluster(&mut self, index: usize, keep: bool) -> Option<(HostCluster, ClusterCount)>
         requires { index < entries_of self.old }
         ensures changed { ChangesEntry self.old.bytes self.new.bytes index
@@ -278,7 +278,7 @@ impl L2Table {
         self.replace(index, zero_entry(kept))
     }
 
-    /// Makes entry `index` say nothing. Answers the host clusters that it names no longer: the first, and how many.
+    /// Unmaps entry `index`. Returns the host clusters that lost a reference: the first, and how many.
     pub fn discard_cluster(&mut self, index: usize) -> Option<(HostCluster, ClusterCount)>
         requires { index < entries_of self.old }
         ensures changed { ChangesEntry self.old.bytes self.new.bytes index 0 }
@@ -289,7 +289,7 @@ impl L2Table {
         self.replace(index, 0)
     }
 
-    /// The binary logarithm of its size in bytes.
+    /// The binary logarithm of the table's size in bytes.
     pub fn cluster_bits(&self) -> u32
         ensures value { result ≡ self.now.cluster_bits }
         ensures whole { IsL2Table self.now }
@@ -297,7 +297,7 @@ impl L2Table {
         self.cluster_bits
     }
 
-    /// How many entries it has.
+    /// The number of entries.
     pub fn entries(&self) -> usize
         ensures value { result ≡ entries_of self.now }
         ensures whole { IsL2Table self.now }
@@ -305,7 +305,7 @@ impl L2Table {
         (1usize << self.cluster_bits) / 8
     }
 
-    /// Whether it was changed since it was read or written.
+    /// Whether the table was changed since it was last read or written.
     pub fn is_modified(&self) -> bool
         ensures value { result ≡ self.now.is_modified }
         ensures whole { IsL2Table self.now }
@@ -313,14 +313,14 @@ impl L2Table {
         self.is_modified
     }
 
-    /// Notes that it was written.
+    /// Marks the table as unmodified.
     pub fn clear_modified(&mut self)
         ensures { self.new ≡ record self.old { is_modified = false } }
     {
         self.is_modified = false;
     }
 
-    /// The cluster that it stands in, if it does.
+    /// The cluster of the table, if it has one.
     pub fn get_cluster(&self) -> Option<HostCluster>
         ensures value { result ≡ self.now.cluster }
         ensures whole { IsL2Table self.now }
@@ -328,7 +328,7 @@ impl L2Table {
         self.cluster
     }
 
-    /// Notes the cluster that it stands in from now on.
+    /// Sets the cluster of the table.
     pub fn set_cluster(&mut self, cluster: HostCluster)
         requires { HasPlace self.old.cluster_bits cluster }
         ensures { self.new ≡ record self.old { cluster = Some cluster } }
@@ -336,7 +336,7 @@ impl L2Table {
         self.cluster = Some(cluster);
     }
 
-    /// Notes that it stands in no cluster.
+    /// Leaves the table without a cluster.
     pub fn unset_cluster(&mut self)
         ensures { self.new ≡ record self.old { cluster = None } }
     {

@@ -1,4 +1,4 @@
-//! The qcow2 format: what stands in an image's bytes, and the tables that are loaded from them.
+//! The qcow2 format: the header, and the tables that are loaded from an image.
 #![tactic(auto)]
 
 mod big_endian;

@@ -13,7 +13,7 @@ fn entries_per_cluster(cluster_bits: u32) -> u64
     (1 << cluster_bits) / 8
 }
 
-/// How far behind the begin of its cluster a byte lies.
+/// The offset of a byte in its cluster.
 fn in_cluster(bytes: u64, cluster_bits: u32) -> u64
     requires { cluster_bits < 64 }
     ensures { result ≡ bytes % 2 ^ cluster_bits }
@@ -21,7 +21,7 @@ fn in_cluster(bytes: u64, cluster_bits: u32) -> u64
     bytes % (1 << cluster_bits)
 }
 
-/// The cluster that begins at a byte.
+/// The cluster that begins at a byte, if one does.
 fn checked_index(bytes: u64, cluster_bits: u32) -> Option<u64>
     requires { cluster_bits < 64 }
     ensures none { IfNone result (bytes % 2 ^ cluster_bits ≢ 0) }
@@ -51,7 +51,7 @@ impl Model for HostOffset {
 }
 
 impl HostOffset {
-    /// The offset of so many bytes in the file.
+    /// The offset of this many bytes.
     pub fn new(bytes: u64) -> HostOffset
         ensures { result ≡ bytes }
     {
@@ -65,7 +65,7 @@ impl HostOffset {
         self.bytes
     }
 
-    /// The cluster that it lies in.
+    /// The cluster that contains the offset.
     pub fn cluster(self, cluster_bits: u32) -> HostCluster
         requires { cluster_bits < 64 }
         ensures { result ≡ self / 2 ^ cluster_bits }
@@ -73,7 +73,7 @@ impl HostOffset {
         HostCluster::new(self.bytes >> cluster_bits)
     }
 
-    /// The cluster that begins there.
+    /// The cluster that begins at the offset, if one does.
     pub fn checked_cluster(self, cluster_bits: u32) -> Option<HostCluster>
         requires { cluster_bits < 64 }
         ensures none { IfNone result (self % 2 ^ cluster_bits ≢ 0) }
@@ -83,7 +83,7 @@ impl HostOffset {
         Some(HostCluster::new(index))
     }
 
-    /// How far behind the begin of its cluster it lies.
+    /// The offset in its cluster, in bytes.
     pub fn in_cluster_offset(self, cluster_bits: u32) -> u64
         requires { cluster_bits < 64 }
         ensures { result ≡ self % 2 ^ cluster_bits }
@@ -132,7 +132,7 @@ impl HostCluster {
         HostCluster::new(rt_index as u64 * (1 << rb_bits) + rb_index as u64)
     }
 
-    /// Which refblock counts it.
+    /// The index of the refblock that counts the cluster.
     pub fn rt_index(self, rb_bits: u32) -> usize
         requires { rb_bits < 64 }
         ensures { result ≡ self / 2 ^ rb_bits }
@@ -140,7 +140,7 @@ impl HostCluster {
         (self.index >> rb_bits) as usize
     }
 
-    /// Which count of its refblock is its own.
+    /// The index of the cluster's refcount in its refblock.
     pub fn rb_index(self, rb_bits: u32) -> usize
         requires { rb_bits < 64 }
         ensures value { result ≡ self % 2 ^ rb_bits }
@@ -149,7 +149,7 @@ impl HostCluster {
         (self.index % (1 << rb_bits)) as usize
     }
 
-    /// Where it begins.
+    /// The offset where the cluster begins.
     pub fn offset(self, cluster_bits: u32) -> HostOffset
         requires bits { cluster_bits < 64 }
         requires fits { self * 2 ^ cluster_bits < 2 ^ 64 }
@@ -158,7 +158,7 @@ impl HostCluster {
         HostOffset::new(self.index * (1 << cluster_bits))
     }
 
-    /// Where it begins, if 64 bits hold it.
+    /// The offset where the cluster begins, if it fits into 64 bits.
     pub fn checked_offset(self, cluster_bits: u32) -> Option<HostOffset>
         requires { cluster_bits < 64 }
         ensures none { IfNone result (2 ^ 64 ≤ self * 2 ^ cluster_bits) }
@@ -168,7 +168,7 @@ impl HostCluster {
         Some(HostOffset::new(bytes))
     }
 
-    /// As far behind its begin as a guest offset lies behind that of its own cluster.
+    /// The byte of this host cluster that belongs to a guest offset: both have the same offset in their clusters.
     pub fn relative_offset(self, guest: GuestOffset, cluster_bits: u32) -> HostOffset
         requires bits { cluster_bits < 64 }
         requires fits { self * 2 ^ cluster_bits + guest % 2 ^ cluster_bits < 2 ^ 64 }
@@ -177,7 +177,7 @@ impl HostCluster {
         HostOffset::new(self.index * (1 << cluster_bits) + guest.in_cluster_offset(cluster_bits))
     }
 
-    /// So many clusters on, if 64 bits hold its number.
+    /// The cluster `count` clusters behind this one, if its number fits into 64 bits.
     pub fn checked_add(self, count: ClusterCount) -> Option<HostCluster>
         ensures none { IfNone result (2 ^ 64 ≤ self + count) }
         ensures cluster { IfSome result (λ cluster. cluster ≡ self + count) }
@@ -199,7 +199,7 @@ impl Add<ClusterCount> for HostCluster {
     }
 }
 
-/// How many clusters the first is behind the second.
+/// The distance of two clusters. The first must not lie before the second.
 impl Sub<HostCluster> for HostCluster {
     type Output = ClusterCount;
 
@@ -229,7 +229,7 @@ impl Model for GuestOffset {
 }
 
 impl GuestOffset {
-    /// The offset of so many bytes on the guest's disk.
+    /// The offset of this many bytes.
     pub fn new(bytes: u64) -> GuestOffset
         ensures { result ≡ bytes }
     {
@@ -243,7 +243,7 @@ impl GuestOffset {
         self.bytes
     }
 
-    /// The cluster that it lies in.
+    /// The cluster that contains the offset.
     pub fn cluster(self, cluster_bits: u32) -> GuestCluster
         requires { cluster_bits < 64 }
         ensures { result ≡ self / 2 ^ cluster_bits }
@@ -251,7 +251,7 @@ impl GuestOffset {
         GuestCluster::new(self.bytes >> cluster_bits)
     }
 
-    /// The cluster that begins there.
+    /// The cluster that begins at the offset, if one does.
     pub fn checked_cluster(self, cluster_bits: u32) -> Option<GuestCluster>
         requires { cluster_bits < 64 }
         ensures none { IfNone result (self % 2 ^ cluster_bits ≢ 0) }
@@ -261,7 +261,7 @@ impl GuestOffset {
         Some(GuestCluster::new(index))
     }
 
-    /// How far behind the begin of its cluster it lies.
+    /// The offset in its cluster, in bytes.
     pub fn in_cluster_offset(self, cluster_bits: u32) -> u64
         requires { cluster_bits < 64 }
         ensures { result ≡ self % 2 ^ cluster_bits }
@@ -269,7 +269,7 @@ impl GuestOffset {
         in_cluster(self.bytes, cluster_bits)
     }
 
-    /// How many bytes there are from it on to the end of its cluster.
+    /// The number of bytes from the offset to the end of its cluster.
     pub fn remaining_in_cluster(self, cluster_bits: u32) -> u64
         requires { cluster_bits < 64 }
         ensures { result + self % 2 ^ cluster_bits ≡ 2 ^ cluster_bits }
@@ -277,7 +277,7 @@ impl GuestOffset {
         (1 << cluster_bits) - self.in_cluster_offset(cluster_bits)
     }
 
-    /// Which entry of the L1 table covers it.
+    /// The index of the L1 entry that covers the offset.
     pub fn l1_index(self, cluster_bits: u32) -> usize
         requires low { 3 ≤ cluster_bits }
         requires high { cluster_bits < 64 }
@@ -286,7 +286,7 @@ impl GuestOffset {
         self.cluster(cluster_bits).l1_index(cluster_bits)
     }
 
-    /// Which entry of that L2 table covers it.
+    /// The index of the L2 entry that covers the offset.
     pub fn l2_index(self, cluster_bits: u32) -> usize
         requires low { 3 ≤ cluster_bits }
         requires high { cluster_bits < 64 }
@@ -328,7 +328,7 @@ impl GuestCluster {
         self.index
     }
 
-    /// Where it begins.
+    /// The offset where the cluster begins.
     pub fn offset(self, cluster_bits: u32) -> GuestOffset
         requires bits { cluster_bits < 64 }
         requires fits { self * 2 ^ cluster_bits < 2 ^ 64 }
@@ -337,7 +337,7 @@ impl GuestCluster {
         GuestOffset::new(self.index * (1 << cluster_bits))
     }
 
-    /// Which entry of the L1 table covers it.
+    /// The index of the L1 entry that covers the cluster.
     pub fn l1_index(self, cluster_bits: u32) -> usize
         requires low { 3 ≤ cluster_bits }
         requires high { cluster_bits < 64 }
@@ -346,7 +346,7 @@ impl GuestCluster {
         (self.index / entries_per_cluster(cluster_bits)) as usize
     }
 
-    /// Which entry of that L2 table covers it.
+    /// The index of the L2 entry that covers the cluster.
     pub fn l2_index(self, cluster_bits: u32) -> usize
         requires low { 3 ≤ cluster_bits }
         requires high { cluster_bits < 64 }
@@ -414,21 +414,21 @@ impl Model for ClusterCount {
 }
 
 impl ClusterCount {
-    /// So many clusters.
+    /// This many clusters.
     pub fn new(clusters: u64) -> ClusterCount
         ensures { result ≡ clusters }
     {
         ClusterCount { clusters }
     }
 
-    /// How many clusters.
+    /// The number of clusters.
     pub fn value(self) -> u64
         ensures { result ≡ self }
     {
         self.clusters
     }
 
-    /// The clusters that so many bytes need.
+    /// The number of clusters that this many bytes need, rounded up.
     pub fn from_byte_size(bytes: u64, cluster_bits: u32) -> ClusterCount
         requires { cluster_bits < 64 }
         ensures { result ≡ (bytes + 2 ^ cluster_bits - 1) / 2 ^ cluster_bits }
@@ -436,7 +436,7 @@ impl ClusterCount {
         ClusterCount::new(bytes.div_ceil(1 << cluster_bits))
     }
 
-    /// The clusters that so many bytes fill.
+    /// The number of clusters that this many bytes fill, if they fill whole clusters.
     pub fn checked_from_byte_size(bytes: u64, cluster_bits: u32) -> Option<ClusterCount>
         requires { cluster_bits < 64 }
         ensures none { IfNone result (bytes % 2 ^ cluster_bits ≢ 0) }
@@ -446,7 +446,7 @@ impl ClusterCount {
         Some(ClusterCount::new(clusters))
     }
 
-    /// How many bytes they have.
+    /// The size of these clusters in bytes.
     pub fn byte_size(self, cluster_bits: u32) -> u64
         requires bits { cluster_bits < 64 }
         requires fits { self * 2 ^ cluster_bits < 2 ^ 64 }

@@ -15,7 +15,7 @@ use image_access::{Storage, StorageError};
 use std::alloc::Global;
 use std::marker::Model;
 
-/// The counts of a range of clusters, in one cluster.
+/// A refblock: the refcounts of a range of clusters, in one cluster.
 #[derive(Drop)]
 pub struct RefBlock {
     cluster: Option<HostCluster>,
@@ -23,7 +23,7 @@ pub struct RefBlock {
     is_modified: bool,
     cluster_bits: u32,
     refcount_order: u32,
-    // the counts that a search found above 0: from one index on, up to before another
+    // Refcounts that a search found above 0: from `used_from` up to, not including, `used_end`.
     used_from: usize,
     used_end: usize,
 }
@@ -51,7 +51,7 @@ impl Model for RefBlock {
     }) b.used_from b.used_end };
 }
 
-/// Where a count of at most 8 bits stands: its byte, and the lowest of its bits.
+/// The place of a refcount of at most 8 bits: its byte, and its lowest bit.
 fn field_place(order: u32, index: usize) -> (usize, u32)
     requires { order ≤ 3 }
     ensures byte { result.0 ≡ index * 2 ^ order / 8 }
@@ -66,7 +66,7 @@ fn field_place(order: u32, index: usize) -> (usize, u32)
     }
 }
 
-/// The bits of a byte from one on, so many.
+/// The field of `width` bits of a byte, from `bit` on.
 fn field(byte: u8, bit: u32, width: u32) -> u8
     requires { bit + width ≤ 8 }
     ensures { result ≡ byte / 2 ^ bit % 2 ^ width }
@@ -74,7 +74,7 @@ fn field(byte: u8, bit: u32, width: u32) -> u8
     ((u32::from(byte) >> bit) % (1 << width)) as u8
 }
 
-/// The byte with other bits in the place of these.
+/// The byte with another value in this field.
 fn with_field(byte: u8, bit: u32, width: u32, value: u8) -> u8
     requires inside { bit < 8 }
     requires within { bit + width ≤ 8 }
@@ -84,7 +84,7 @@ fn with_field(byte: u8, bit: u32, width: u32, value: u8) -> u8
     byte - (field(byte, bit, width) << bit) + (value << bit)
 }
 
-/// Count `index` of a refblock, whose counts are of two to `order` bits.
+/// Refcount `index` of a refblock. Refcounts have 2 to the power of `order` bits.
 pub fn read_count(block: &[u8], order: u32, index: usize) -> u64
     requires order { order ≤ 6 }
     requires whole { length block.now % 8 ≡ 0 }
@@ -103,7 +103,7 @@ pub fn read_count(block: &[u8], order: u32, index: usize) -> u64
     }
 }
 
-/// Whether the 64 one-bit counts from an index on, which fill eight bytes, are 1 each.
+/// Whether the 64 refcounts of one bit from `index` on, which fill eight bytes, are all 1.
 fn are_ones(block: &[u8], index: usize) -> bool
     requires row { index % 64 ≡ 0 }
     requires inside { index / 8 + 8 ≤ length block.now }
@@ -112,7 +112,7 @@ fn are_ones(block: &[u8], index: usize) -> bool
     read_u64(block, index / 8) == u64::MAX
 }
 
-/// Sets count `index` of a refblock.
+/// Sets refcount `index` of a refblock.
 fn write_count(block: &mut [u8], order: u32, index: usize, count: u64)
     requires order { order ≤ 6 }
     requires whole { length block.old % 8 ≡ 0 }
@@ -132,7 +132,7 @@ fn write_count(block: &mut [u8], order: u32, index: usize, count: u64)
 }
 
 impl RefBlock {
-    /// A refblock whose counts are 0. Refused `Memory`.
+    /// A refblock of refcounts 0. Refused `Memory`.
     pub fn new_cleared(alloc: Global, header: &Header) -> Result<RefBlock, MetadataError>
         ensures block { IfOk result (λ block. block ≡ ref_block header.now.fields None (replicate (cluster_size header.now.fields) 0) true) }
         ensures zeros { IfOk result (λ block. (i : ℕ) → count_at block i ≡ 0) }
@@ -150,7 +150,7 @@ impl RefBlock {
         })
     }
 
-    /// Loads the refblock that lies in a cluster. Refused `Memory`, and `Storage` as the storage is.
+    /// Loads the refblock at a cluster. Refused `Memory` and `Storage`.
     pub fn load<S: Storage>(
         alloc: Global,
         storage: &mut S,
@@ -182,7 +182,7 @@ impl RefBlock {
         })
     }
 
-    /// Writes it to its cluster, which it is to have. Refused as the storage is.
+    /// Writes the refblock to its cluster, which it must have. Refused as the storage refuses.
     pub fn write<S: Storage>(&self, storage: &mut S) -> Result<(), StorageError>
         requires { IsSome self.now.cluster }
         ensures written { IfSome self.now.cluster (λ cluster. Changes (S.view storage.old) (S.view storage.new) result
@@ -198,7 +198,7 @@ impl RefBlock {
         storage.write(at, &self.bytes)
     }
 
-    /// Writes it to a cluster if it is new or changed, and then it is neither. Refused as the storage is.
+    /// Writes the refblock to `cluster` if it is modified, and marks it as unmodified. Refused as the storage refuses.
     pub fn write_if_modified<S: Storage>(
         &mut self,
         storage: &mut S,
@@ -221,7 +221,7 @@ impl RefBlock {
         Ok(())
     }
 
-    /// The count of a cluster, by its place among those that this refblock counts.
+    /// The refcount of a cluster, by its index in this refblock.
     #[tactic(auto, using(crate::proofs::Quotients::multiple_of_8))]
     pub fn get(&self, index: usize) -> u64
         requires { index < counts_of self.now }
@@ -231,7 +231,7 @@ impl RefBlock {
         read_count(&self.bytes, self.refcount_order, index)
     }
 
-    /// Whether the count of this index is 0.
+    /// Whether the refcount of this index is 0.
     pub fn is_zero(&self, index: usize) -> bool
         requires { index < counts_of self.now }
         ensures { IsTrue result ↔ (count_at self.now index ≡ 0) }
@@ -239,7 +239,7 @@ impl RefBlock {
         self.get(index) == 0
     }
 
-    /// The first index from one on whose count is 0, or how many counts there are where none is. What it passes isn't passed again, as long as no count of it is lowered.
+    /// The first index from `from` on with refcount 0, or the number of refcounts if there is none. Later searches skip what this one passed, until a refcount there is decremented.
     pub fn next_zero(&mut self, from: usize) -> usize
         requires { from ≤ counts_of self.old }
         ensures first { IsFirstZero self.old from result }
@@ -252,7 +252,7 @@ impl RefBlock {
         first
     }
 
-    // Counts around an index that are known to be above 0, from one on up to before another.
+    // The range of refcounts around an index that are known to be above 0.
     fn used_around(&self, index: usize) -> (usize, usize)
         requires { index ≤ counts_of self.now }
         ensures start { result.0 ≤ index }
@@ -266,7 +266,7 @@ impl RefBlock {
         (index, index)
     }
 
-    // The first index from one on whose count is 0, or how many counts there are where none is.
+    // The first index from `from` on with refcount 0, or the number of refcounts if there is none.
     fn zero_from(&self, from: usize) -> usize
         requires { from ≤ counts_of self.now }
         ensures { IsFirstZero self.now from result }
@@ -283,7 +283,7 @@ impl RefBlock {
         counts
     }
 
-    // How many counts from an index on are seen at once to be above 0: none where its own is 0. So are 64 one-bit counts in their eight bytes.
+    // How many refcounts from an index on are seen at once to be above 0: 64 of one bit in their eight bytes, otherwise 1, or 0 if the first is 0.
     fn above_zero(&self, index: usize) -> usize
         requires { index < counts_of self.now }
         ensures within { index + result ≤ counts_of self.now }
@@ -296,7 +296,7 @@ impl RefBlock {
         usize::from(!self.is_zero(index))
     }
 
-    /// Counts a cluster once more. False, and no change, at the greatest count.
+    /// Increments a refcount. Returns false, and changes nothing, if it is the greatest one.
     #[tactic(auto, using(crate::proofs::Quotients::multiple_of_8))]
     pub fn increment(&mut self, index: usize) -> bool
         requires { index < counts_of self.old }
@@ -315,7 +315,7 @@ impl RefBlock {
         true
     }
 
-    /// Counts a cluster once less. False, and no change, at 0.
+    /// Decrements a refcount. Returns false, and changes nothing, if it is 0.
     #[tactic(auto, using(crate::proofs::Quotients::multiple_of_8))]
     pub fn decrement(&mut self, index: usize) -> bool
         requires { index < counts_of self.old }
@@ -344,7 +344,7 @@ impl RefBlock {
         u64::MAX >> (64 - width)
     }
 
-    /// The binary logarithm of its size in bytes.
+    /// The binary logarithm of the refblock's size in bytes.
     pub fn cluster_bits(&self) -> u32
         ensures value { result ≡ self.now.cluster_bits }
         ensures whole { IsRefBlock self.now }
@@ -352,7 +352,7 @@ impl RefBlock {
         self.cluster_bits
     }
 
-    /// How many counts it has.
+    /// The number of refcounts.
     pub fn counts(&self) -> usize
         ensures value { result ≡ counts_of self.now }
         ensures whole { IsRefBlock self.now }
@@ -360,7 +360,7 @@ impl RefBlock {
         ((1usize << self.cluster_bits) * 8) >> self.refcount_order
     }
 
-    /// Whether it was changed since it was read or written.
+    /// Whether the refblock was changed since it was last read or written.
     pub fn is_modified(&self) -> bool
         ensures value { result ≡ self.now.is_modified }
         ensures whole { IsRefBlock self.now }
@@ -368,14 +368,14 @@ impl RefBlock {
         self.is_modified
     }
 
-    /// Notes that it was written.
+    /// Marks the refblock as unmodified.
     pub fn clear_modified(&mut self)
         ensures { self.new ≡ record self.old { is_modified = false } }
     {
         self.is_modified = false;
     }
 
-    /// The cluster that it stands in, if it does.
+    /// The cluster of the refblock, if it has one.
     pub fn get_cluster(&self) -> Option<HostCluster>
         ensures value { result ≡ self.now.cluster }
         ensures whole { IsRefBlock self.now }
@@ -383,7 +383,7 @@ impl RefBlock {
         self.cluster
     }
 
-    /// Notes the cluster that it stands in from now on.
+    /// Sets the cluster of the refblock.
     pub fn set_cluster(&mut self, cluster: HostCluster)
         requires { HasPlace self.old.cluster_bits cluster }
         ensures { self.new ≡ record self.old { cluster = Some cluster } }
@@ -391,7 +391,7 @@ impl RefBlock {
         self.cluster = Some(cluster);
     }
 
-    /// Notes that it stands in no cluster.
+    /// Leaves the refblock without a cluster.
     pub fn unset_cluster(&mut self)
         ensures { self.new ≡ record self.old { cluster = None } }
     {

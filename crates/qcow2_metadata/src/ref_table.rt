@@ -1,4 +1,4 @@
-//! The table that names the refblocks.
+//! The reftable, which holds the offsets of the refblocks.
 
 ghost use Rattle.std.specs.Prelude.{◌≡◌, ℕ, ◌+◌, ◌-◌, ◌*◌, ◌/◌, ◌%◌, ◌^◌, ◌<◌, ◌≤◌, ◌↔◌, ◌++◌, Some, None, true, length, replicate, IsTrue, IsSome, IfOk, IfErr, IfSome, IfNone, OnOk};
 ghost use Rattle.std.specs.Int.{w64, to_be_bytes};
@@ -18,10 +18,10 @@ use image_access::{Storage, StorageError};
 use std::alloc::Global;
 use std::marker::Model;
 
-/// Bits 0 to 8, which have no meaning.
+/// The reserved bits of an entry: 0 to 8.
 pub(crate) const RESERVED: u64 = 0x1ff;
 
-/// The table that names the refblocks.
+/// The reftable, which holds the offsets of the refblocks.
 #[derive(Drop)]
 pub struct RefTable {
     table: EntryTable,
@@ -39,7 +39,7 @@ impl Model for RefTable {
     ghost invariant = { λ t. (entry_count t.table ≤ 1048576) × EachReads ReftableEntryReads t.table.bytes × HasRoomIfPlaced t.table.cluster_bits (length t.table.bytes) t.table.cluster };
 }
 
-/// The bits of an entry of the reftable that are the offset of a refblock, 0 for none.
+/// The offset of the refblock in a reftable entry, 0 for none.
 pub fn block_offset(entry: u64) -> u64
     ensures { result ≡ block_offset_of entry }
 {
@@ -47,7 +47,7 @@ pub fn block_offset(entry: u64) -> u64
 }
 
 impl RefTable {
-    /// A table of so many entries that name nothing. It has no place yet. Refused `Limit` for more than 1,048,576 entries, and `Memory`.
+    /// A table of empty entries, without a place in the file. Refused `Limit` for more than 1,048,576 entries, and `Memory`.
     pub fn new_cleared(
         alloc: Global,
         header: &Header,
@@ -67,9 +67,9 @@ impl RefTable {
         Ok(RefTable { table })
     }
 
-    /// Loads a table of so many entries that lies from a cluster on. With no entries the storage isn't read. Refused `Limit` for more
-    /// than 1,048,576 entries or an end past 64 bits, and `Format` where an entry has a bit without meaning. Where the work meets them:
-    /// `Memory`, `Storage`.
+    /// Loads a table from the begin of a cluster on. A table without entries reads nothing. Refused `Limit` for more than 1,048,576 entries
+    /// or an end past 64 bits, `Format` for a reserved bit in an entry, and `Memory` and `Storage` if the work
+    /// meets them.
     pub fn load<S: Storage>(
         alloc: Global,
         storage: &mut S,
@@ -134,7 +134,7 @@ impl RefTable {
         index < self.len()
     }
 
-    /// Where the refblock lies that entry `index` names, if there is one and it names something.
+    /// The offset of the refblock in entry `index`, or `None` if there is no such entry, or it is empty.
     pub fn get(&self, index: usize) -> Option<HostOffset>
         ensures none { IfNone result (block_offset_of (entry_at self.now.bytes index) ≡ 0) }
         ensures offset { IfSome result (λ offset. offset ≡ block_offset_of (entry_at self.now.bytes index)) }
@@ -149,7 +149,7 @@ impl RefTable {
         Some(HostOffset::new(offset))
     }
 
-    /// Enters a refblock.
+    /// Sets entry `index` to a refblock.
     #[tactic(auto, using(crate::proofs::EntryTables::on_sector))]
     pub fn enter_refblock(&mut self, index: usize, cluster: HostCluster)
         requires within { index < entry_count self.old }
@@ -162,7 +162,7 @@ impl RefTable {
         self.table.set(index, offset);
     }
 
-    /// Writes all entries to where the table lies. It is to have a place. Refused as the storage is.
+    /// Writes all entries. The table must have a place. Refused as the storage refuses.
     pub fn write<S: Storage>(&self, storage: &mut S) -> Result<(), StorageError>
         requires { IsSome self.now.cluster }
         ensures written { IfSome self.now.cluster (λ cluster. Changes (S.view storage.old) (S.view storage.new) result
@@ -175,7 +175,7 @@ impl RefTable {
         self.table.write(storage)
     }
 
-    /// Writes the entry of an index, below its length, to where it lies. Refused as the storage is.
+    /// Writes one entry, which must lie in the table. Refused as the storage refuses.
     pub fn write_entry<S: Storage>(&self, storage: &mut S, index: usize) -> Result<(), StorageError>
         requires placed { IsSome self.now.cluster }
         requires within { index < entry_count self.now }
@@ -191,8 +191,8 @@ impl RefTable {
         self.table.write_entry(storage, index)
     }
 
-    /// A table of so many entries, not fewer than its own, that begins with the same ones. The others name nothing, and it has no place
-    /// yet. Refused `Limit` for more than 1,048,576 entries, and `Memory`.
+    /// A table that begins with the same entries and has `entries` of them, not fewer than before. The others are empty, and it has no
+    /// place. Refused `Limit` for more than 1,048,576 entries, and `Memory`.
     pub fn clone_and_grow(&self, alloc: Global, entries: usize) -> Result<RefTable, MetadataError>
         requires { entry_count self.now ≤ entries }
         ensures table { IfOk result (λ t. t ≡ record self.now {
@@ -211,7 +211,7 @@ impl RefTable {
         Ok(RefTable { table })
     }
 
-    /// The clusters that its entries need.
+    /// The number of clusters that the table needs.
     pub fn cluster_count(&self) -> ClusterCount
         ensures { result ≡ (length self.now.bytes + 2 ^ self.now.cluster_bits - 1) / 2 ^ self.now.cluster_bits }
     {
@@ -227,7 +227,7 @@ impl RefTable {
         self.table.byte_size()
     }
 
-    /// The cluster that it begins with, if it has a place.
+    /// The first cluster of the table, if it has a place.
     pub fn get_cluster(&self) -> Option<HostCluster>
         ensures value { result ≡ self.now.cluster }
         ensures is_table { IsRefTable self.now }
@@ -235,7 +235,7 @@ impl RefTable {
         self.table.get_cluster()
     }
 
-    /// Notes the cluster that it stands in from now on.
+    /// Sets the first cluster of the table.
     pub fn set_cluster(&mut self, cluster: HostCluster)
         requires { IsHostCluster self.old.cluster_bits cluster }
         ensures { self.new ≡ record self.old { cluster = Some cluster } }
@@ -243,7 +243,7 @@ impl RefTable {
         self.table.set_cluster(cluster);
     }
 
-    /// Notes that it stands in no cluster.
+    /// Leaves the table without a place.
     pub fn unset_cluster(&mut self)
         ensures { self.new ≡ record self.old { cluster = None } }
     {

@@ -1,4 +1,4 @@
-//! The header and its tables as they stand in a file, wherever they lie: what doesn't begin on a cluster is read there too.
+//! The raw header, L1 table and reftable of a file, wherever they lie: tables that aren't aligned are read too.
 
 ghost use Rattle.std.specs.Prelude.{◌≡◌, ℕ, ◌+◌, ◌*◌, ◌^◌, ◌<◌, ◌≤◌, length, IfOk, IfErr, OnOk};
 ghost use Rattle.image_access.specs.Contents.{bytes_at};
@@ -16,7 +16,7 @@ use crate::{HeaderFields, MetadataError, l1_table, ref_table};
 use image_access::Storage;
 use std::alloc::Global;
 
-/// So many entries of 64 bits from an offset on, of which each is to have none of the reserved bits.
+/// Reads entries from an offset on. Refused if an entry has a reserved bit.
 fn load_entries<S: Storage>(
     alloc: Global,
     storage: &mut S,
@@ -46,8 +46,8 @@ fn load_entries<S: Storage>(
 }
 
 impl HeaderFields {
-    /// The numbers of the header in cluster 0, where it reads. Its tables may lie anywhere. Refused `Format`, then `Limit` where a table
-    /// is too long. Where the work meets them: `Memory`, `Storage`.
+    /// The header's fields, if the header is readable. Its tables may lie anywhere. Refused `Format`, then `Limit` if a table is too long,
+    /// and `Memory` and `Storage` if the work meets them.
     pub fn load<S: Storage>(alloc: Global, storage: &mut S) -> Result<HeaderFields, MetadataError>
         ensures fields { (S.view storage.old).is_honest → IfOk result (λ h. h ≡ header (byte_at (S.view storage.old).contents)) }
         ensures ok { (S.view storage.old).is_honest → IfOk result (λ h. HeaderReads h (byte_at (S.view storage.old).contents)) }
@@ -62,8 +62,8 @@ impl HeaderFields {
         Ok(fields)
     }
 
-    /// The bytes of the L1 table, from its offset on. Refused `Limit` where it would end past 64 bits, and `Format` where an entry has a
-    /// bit without meaning. Where the work meets them: `Memory`, `Storage`.
+    /// The bytes of the L1 table. Refused `Limit` if it would end past 64 bits, `Format` for a reserved bit in an entry,
+    /// and `Memory` and `Storage` if the work meets them.
     pub fn load_l1_entries<S: Storage>(
         &self,
         alloc: Global,
@@ -90,7 +90,7 @@ impl HeaderFields {
         Ok(bytes)
     }
 
-    /// How many entries the reftable has.
+    /// The number of entries of the reftable.
     fn reftable_entries(&self) -> usize
         requires in_range { IsInRange self.now }
         requires within_limits { IsWithinLimits self.now }
@@ -100,7 +100,7 @@ impl HeaderFields {
         (u64::from(self.reftable_clusters) * per_cluster) as usize
     }
 
-    /// The bytes of the reftable, from its offset on. Refused as `load_l1_entries` is.
+    /// The bytes of the reftable. Refused as `load_l1_entries` is.
     pub fn load_reftable_entries<S: Storage>(
         &self,
         alloc: Global,

@@ -1,4 +1,4 @@
-//! The bytes of tables: where they come from, and their entries of 64 bits.
+//! The bytes of tables, and their 8-byte entries.
 
 ghost use Rattle.std.specs.Prelude.{◌≡◌, ◌+◌, ◌*◌, ◌≤◌, length, replicate, IfOk, IfErr};
 ghost use Rattle.image_access.specs.Contents.{bytes_at, overwritten};
@@ -17,7 +17,7 @@ pub(crate) fn zeros(alloc: Global, count: usize) -> Result<Vec<u8>, AllocError>
     vec![in alloc; 0; count]
 }
 
-/// So many bytes of a storage from an offset on.
+/// Reads bytes of a storage from an offset on.
 pub(crate) fn load<S: Storage>(
     alloc: Global,
     storage: &mut S,
@@ -35,7 +35,7 @@ pub(crate) fn load<S: Storage>(
     Ok(bytes)
 }
 
-/// Writes bytes over those from a place on.
+/// Overwrites bytes from `place` on.
 pub(crate) fn put(within: &mut [u8], place: usize, bytes: &[u8])
     requires { place + length bytes.now ≤ length within.old }
     ensures { within.new ≡ overwritten within.old place bytes.now }
@@ -44,7 +44,7 @@ pub(crate) fn put(within: &mut [u8], place: usize, bytes: &[u8])
     within[place..end].copy_from_slice(bytes);
 }
 
-/// Entry `index` of a table of 64-bit entries.
+/// Entry `index` of a table of 8-byte entries.
 #[tactic(auto, unfolding(crate::specs::Entries::l2_entry))]
 pub fn entry_at(table: &[u8], index: usize) -> u64
     requires { 8 * index + 8 ≤ length table.now }
