@@ -1,4 +1,4 @@
--- The disk below an image, and what another one changes.
+-- The backing disk of an image, and what replacing it changes.
 use Rattle.std.specs.Prelude.{ℕ, ◌≡◌, IsSome, List, Option, Some, slice_get}
 use Rattle.image_access.specs.Backing.{BackingView}
 use Rattle.image_access.specs.Moments.{StorageView}
@@ -11,14 +11,14 @@ use Rattle.qcow2_image.specs.declared.prepared.Prepared.{Prepared}
 use Rattle.qcow2_image.specs.Prepared.{table_of}
 use Rattle.qcow2_image.specs.ImageInvariant.{abstract_of, backing_bytes}
 
--- one of these mappings isn't existing
+-- Some prepared mapping is pinned: it isn't existing, so its L2 table must stay as it is until the commit.
 pub record HasPrepared (out : List (Option Prepared)) : Type 0 where
   pub place : ℕ
   pub mapping : Prepared
   pub there : slice_get out place ≡ Some (Some mapping)
   pub pins : IsSome (table_of mapping)
 
--- The image shows what it has over this disk, and is sound. Its bytes, its mappings and what is counted stay.
+-- The image is over this backing disk, and is sound. Its bytes, its mappings and its refcounts stay the same.
 pub record IsOver {S F : Type 0} (view : S → StorageView) (backing : F → BackingView) (below : Option F) (old new : Qcow2 S F) (out : List (Option Prepared)) : Type 0 where
   pub sound : (abstract_of view backing new out).is_sound
   pub guest : guest_of (abstract_of view backing new out) ≡ with_disk (guest_of (abstract_of view backing old out)) (disk (known_in view old.file) (backing_bytes view backing below))

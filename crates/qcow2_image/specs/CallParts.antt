@@ -1,4 +1,4 @@
--- What parts of calls do that a guest sees.
+-- The parts of a call that a guest sees.
 use Rattle.qcow2_metadata.specs.Header.{cluster_size}
 use Rattle.qcow2_image.specs.UnseenSteps.{RefusedFillingStep, HoldsTable}
 use Rattle.qcow2_alloc.specs.ImageError.{IsFault as IsFaultOfTables}
@@ -21,22 +21,22 @@ use Rattle.qcow2_image.specs.Image.{is_failed, has_noted_change}
 use Rattle.qcow2_image.specs.ImageInvariant.{meaning, pending_in, abstract_of, ImageInvariant}
 use Rattle.qcow2_image.specs.MovedTables.{MovesTables, CoversStay}
 
--- what a guest sees once bytes were put into the mapping at a place
+-- What a guest sees after bytes were put into the mapping of a slot.
 abbrev pub put_guest : Guest → ℕ → PreparedMapping → ℕ → List ℕ → Guest
 put_guest g k m at bytes = with_slot (with_disk g (put_disk g.disk m at bytes)) k (Some (put_mapping m at bytes))
 
--- a write to the storage is there, or isn't; only where the storage failed it may be there though it was refused
+-- A write to the storage was made, if it succeeded. If it was refused, it may have been made only if the storage failed.
 abbrev pub IsWriteOutcome : Result (Unit {0}) ImageError → List ℕ → List ℕ → List ℕ → Type 0
 IsWriteOutcome (Ok _) old changed new = new ≡ changed
 IsWriteOutcome (Err I.Storage) old changed new = (new ≡ old) ⊎ (new ≡ changed)
 IsWriteOutcome (Err e) old changed new = new ≡ old
 
--- bytes are put into a mapping, or nothing changed; or the storage failed
+-- Bytes were put into a mapping; or the put was refused and nothing changed; or the storage failed.
 abbrev pub IsPut : Result (Unit {0}) ImageError → Guest → Guest → Guest → Type 0
 IsPut (Ok _) old put new = new ≡ put
 IsPut (Err e) old put new = (new ≡ old) ⊎ (e ≡ I.Storage)
 
--- Of what a mapping at a place had private, what isn't private any more is visible, and all else is as before.
+-- Offsets that were private in the mapping of a slot, and are not any more, are visible now. All else is the same.
 pub record ShowsPart (old new : Guest) (k : ℕ) (m m' : PreparedMapping) : Type 0 where
   pub slots : (j : ℕ) → new.slots j ≡ (if j == k then Some m' else old.slots j)
   pub size : new.disk.size ≡ old.disk.size
@@ -45,7 +45,7 @@ pub record ShowsPart (old new : Guest) (k : ℕ) (m m' : PreparedMapping) : Type
   pub private : (o : ℕ) → IsTrue (m'.is_private o) → IsTrue (m.is_private o) × (m'.shown o ≡ m.shown o) × (new.disk.value o ≡ old.disk.value o)
   pub visible : (o : ℕ) → m'.is_private o ≡ false → new.disk.value o ≡ (committed old.disk m).value o
 
--- a mapping of copied data that stands where it is, of which nothing is kept
+-- An existing mapping: a range of copied data that is written in place. It pins no L2 table.
 pub record IsExisting (p : Prepared) (number guest length : ℕ) : Type 0 where
   pub image : p.image ≡ number
   pub guest_is : p.guest ≡ guest
@@ -53,7 +53,7 @@ pub record IsExisting (p : Prepared) (number guest length : ℕ) : Type 0 where
   pub table : p.table ≡ None
   pub shares : p.shares.items ≡ []
 
--- a mapping whose shares were entered: all are in place
+-- A mapping with all its shares entered in the L2 table: every byte is in place.
 pub record IsEntered (p q : Prepared) : Type 0 where
   pub mapping : q ≡ record p { shares = q.shares }
   pub table : q.table ≡ p.table
@@ -61,17 +61,17 @@ pub record IsEntered (p q : Prepared) : Type 0 where
   pub in_place : (j : ℕ) → j < length p.shares.items → slice_get q.shares.items j ≡ Some InPlace
 
 module _ {S F : Type 0} (view : S → StorageView) where
-  -- what stands for the guest clusters beside those of a range stays
+  -- The mappings of guest clusters outside of a range stay the same.
   abbrev pub StaysBeside : (from to : ℕ) → Qcow2 S F → Qcow2 S F → Type 0
   StaysBeside from to old new = (g : ℕ) → (g < from / cluster_size old.file.header.fields) ⊎ (to ≤ g * cluster_size old.file.header.fields)
       → cover old.file.header.fields (known_in view old.file) g ≡ cover new.file.header.fields (known_in view new.file) g
 
-  -- each guest cluster that a range touches is copied data
+  -- Each guest cluster that the range touches is copied data.
   abbrev pub AreCopied : (from to : ℕ) → Qcow2 S F → Type 0
   AreCopied from to image = (g : ℕ) → from < g * cluster_size image.file.header.fields + cluster_size image.file.header.fields → g * cluster_size image.file.header.fields < to
       → is_copied_data (cover image.file.header.fields (known_in view image.file) g) ≡ true
 
-  -- bytes are written to the storage, and nothing else changes
+  -- Bytes are written to the storage, and nothing else changes.
   pub record WritesBytes (old new : Qcow2 S F) (host : ℕ) (bytes : List ℕ) (result : Result (Unit {0}) ImageError) : Type 0 where
     pub rest : new ≡ record old { file = record old.file { storage = new.file.storage } }
     pub honest : (view_in view old.file).is_honest → (view_in view new.file).is_honest
@@ -79,30 +79,30 @@ module _ {S F : Type 0} (view : S → StorageView) where
     pub written : (view_in view old.file).is_honest → IsWriteOutcome result (view_in view old.file).contents (overwritten (view_in view old.file).contents host bytes) (view_in view new.file).contents
 
   module _ (backing : F → BackingView) where
-    -- bytes are put into a mapping that is out
+    -- Bytes are put into a prepared mapping.
     pub record PutsPart (old new : Qcow2 S F) (out : List (Option Prepared)) (k : ℕ) (p : Prepared) (at : ℕ) (bytes : List ℕ) (result : Result (Unit {0}) ImageError) : Type 0 where
       pub works : EffectOnSound (abstract_of view backing old out) (abstract_of view backing new out) (all_given_by_put view backing old new (abstract_of view backing old out) p at bytes) []
       pub sound : ImageInvariant view backing (pending_in view backing new out) new out
       pub is : IsPut result (guest_of (abstract_of view backing old out)) (put_guest (guest_of (abstract_of view backing old out)) k (meaning view backing old p) at bytes) (guest_of (abstract_of view backing new out))
 
-    -- A mapping that is out is committed in part, and is out still as what is left of it.
+    -- A prepared mapping is committed in part. The rest stays prepared in its slot.
     pub record CommitsPart (old new : Qcow2 S F) (out : List (Option Prepared)) (k : ℕ) (p q : Prepared) : Type 0 where
       pub works : EffectOnSound (abstract_of view backing old out) (abstract_of view backing new (slice_set out k (Some q))) (given_by_commit (abstract_of view backing old out).setting.cluster_size (guest_of (abstract_of view backing old out)).disk (meaning view backing old p) ∷ []) []
       pub sound : ImageInvariant view backing (pending_in view backing new (slice_set out k (Some q))) new (slice_set out k (Some q))
       pub shows : ShowsPart (guest_of (abstract_of view backing old out)) (guest_of (abstract_of view backing new (slice_set out k (Some q)))) k (meaning view backing old p) (meaning view backing new q)
       pub beside : StaysBeside p.guest (p.guest + p.length) old new
 
-    -- All of it is: nothing of it is private then.
+    -- A prepared mapping is committed, and no byte of it is private any more.
     pub record CommitsAll (old new : Qcow2 S F) (out : List (Option Prepared)) (k : ℕ) (p q : Prepared) : Type 0 where
       pub part : CommitsPart old new out k p q
       pub visible : (o : ℕ) → (meaning view backing new q).is_private o ≡ false
 
-    -- the shares of a mapping that isn't existing are entered, with a change noted where one isn't in place
+    -- All shares of a pinned mapping are entered in its L2 table. If one of them was not in place, a change is recorded.
     abbrev pub EntersAll : Qcow2 S F → Qcow2 S F → Prepared → Prepared → Bool → Type 0
     EntersAll old new p q entered = (out : List (Option Prepared)) (k : ℕ) → slice_get out k ≡ Some (Some p) → IsSome p.table → ImageInvariant view backing (pending_in view backing old out) old out
         → CommitsAll old new out k p q × (IsTrue entered → IsTrue new.file.caches.is_changed)
 
-    -- The image is sound, and the guest sees what it saw: the same stands for each guest cluster. The L1 table and the reftable may have moved.
+    -- The image is sound, the guest sees what it saw, and every mapping is the same. The L1 table and the reftable may have moved.
     pub record UnseenCall (old new : Qcow2 S F) (out : List (Option Prepared)) : Type 0 where
       pub works : EffectOnSound (abstract_of view backing old out) (abstract_of view backing new out) [] []
       pub sound : ImageInvariant view backing (pending_in view backing new out) new out
@@ -110,29 +110,29 @@ module _ {S F : Type 0} (view : S → StorageView) where
       pub header : MovesTables old.file.header.fields new.file.header.fields
       pub covers : CoversStay old.file.header.fields (known_in view old.file) new.file.header.fields (known_in view new.file)
 
-    -- A fault, or want of memory after a change: once the image is marked as failed, a stop is as safe as before.
+    -- A part that a fault ended, after a change was recorded if memory ran out. Once the image is marked as failed, a stop is as safe as before.
     pub record InterruptedCall (old new : Qcow2 S F) (out : List (Option Prepared)) (e : ImageError) : Type 0 where
       pub fault : IsFaultOfTables e
       pub noted : e ≡ I.Memory → IsTrue (has_noted_change new)
       pub works : EffectOnSound (abstract_of view backing old out) (abstract_of view backing (record new { is_failed = true }) out) [] []
 
-    -- what a refused part leaves
+    -- What a refused part leaves: a sound image that looks the same, or one that is about to fail.
     abbrev pub RefusedCall : Qcow2 S F → Qcow2 S F → List (Option Prepared) → ImageError → Type 0
     RefusedCall old new out e = UnseenCall old new out ⊎ InterruptedCall old new out e
 
-    -- At the end of a call clusters are freed, which no guest sees. A fault refuses that, or want of memory; where a change was noted, the image failed then.
+    -- Clusters are freed at the end of a call, which guests don't see. Only a fault refuses this. If a change was recorded in the caches, the image failed then.
     abbrev pub EndsFreeing : Qcow2 S F → Qcow2 S F → List (Option Prepared) → Result (Unit {0}) ImageError → Type 0
     EndsFreeing old new out (Ok _) = UnseenCall old new out
     EndsFreeing old new out (Err e) =
         RefusedEffect (abstract_of view backing old out) (abstract_of view backing new out) [] [] (refusal_of e) (IsSame (abstract_of view backing old out) (abstract_of view backing new out))
         × IsRefusalByFault (refusal_of e) × (IsTrue old.file.caches.is_changed → IsTrue (is_failed new))
 
-    -- the L2 table of an offset is found or made
+    -- The L2 table of an offset is found or made.
     abbrev pub FindsTable : Qcow2 S F → Qcow2 S F → List (Option Prepared) → ℕ → Result ℕ ImageError → Type 0
     FindsTable old new out offset (Ok table) = UnseenCall old new out × HoldsTable view backing new offset table
     FindsTable old new out offset (Err e) = RefusedCall old new out e
 
-    -- a range is prepared, and put at a place that was free
+    -- A range is prepared, and its mapping is in a slot that was empty.
     pub record IsReadied (old new : Qcow2 S F) (out : List (Option Prepared)) (k offset n : ℕ) (overwrite : Bool) (p : Prepared) : Type 0 where
       pub works : EffectOnSound (abstract_of view backing old out) (abstract_of view backing new (slice_set out k (Some p))) [] []
       pub sound : ImageInvariant view backing (pending_in view backing new (slice_set out k (Some p))) new (slice_set out k (Some p))
@@ -145,7 +145,7 @@ module _ {S F : Type 0} (view : S → StorageView) where
     Readies old new out offset n overwrite (Ok p) = (k : ℕ) → slice_get out k ≡ Some None → IsReadied old new out k offset n overwrite p
     Readies old new out offset n overwrite (Err e) = RefusedFillingStep view backing (pending_in view backing old out) old new out e
 
-    -- so it is by a whole prepare, which frees clusters too
+    -- A whole prepare, which also frees clusters.
     abbrev pub PreparesRange : Qcow2 S F → Qcow2 S F → List (Option Prepared) → ℕ → ℕ → Bool → Result Prepared ImageError → Type 0
     PreparesRange old new out offset n overwrite (Ok p) = (k : ℕ) → slice_get out k ≡ Some None → IsReadied old new out k offset n overwrite p
     PreparesRange old new out offset n overwrite (Err e) = RefusedCall old new out e

@@ -1,4 +1,4 @@
--- What each call on an image does, for every list of prepared mappings that are out.
+-- What each call on an image does, whatever mappings are prepared.
 use Rattle.std.specs.Prelude.{ℕ, ◌≡◌, Bool, List, [], ◌∷◌, Option, Some, None, Result, Ok, Err, slice_get, slice_set}
 use Rattle.image_access.specs.Backing.{BackingView}
 use Rattle.image_access.specs.Moments.{StorageView}
@@ -14,7 +14,7 @@ use Rattle.qcow2_image.specs.declared.prepared.CommitRefused.{CommitRefused}
 use Rattle.qcow2_image.specs.declared.prepared.CommitRefused.TheVariants.{Kept, Spent}
 use Rattle.qcow2_image.specs.ImageInvariant.{abstract_of, meaning}
 
--- a refusal, as far as the state after it depends on that
+-- The refusal of an error, in the detail that the state after it depends on.
 abbrev pub refusal_of : ImageError → Refusal
 refusal_of I.ReadOnly = another 1
 refusal_of I.BeyondSize = another 2
@@ -38,29 +38,29 @@ refusal_of I.Metadata = another 19
 refusal_of I.Overflow = another 20
 refusal_of (I.StillInUse tables) = another 21
 
--- why a commit is refused
+-- The error of a refused commit.
 abbrev pub reason_of : CommitRefused → ImageError
 reason_of (Kept e p) = e
 reason_of (Spent e) = e
 
 module _ {S F : Type 0} (view : S → StorageView) (backing : F → BackingView) (old new : Qcow2 S F) where
-  -- a call that leaves the prepared mappings at their places, and gives these values: what it did, or the guest sees what it saw
+  -- A call that leaves the prepared mappings in their slots, and gives these values. If it succeeds, `Done` says what it did. If it is refused, the guest sees what it saw.
   abbrev pub AnswersCall : {A : Type 0} → List GivenBytes → (A → Guest → Guest → Type 0) → Result A ImageError → Type 0
   AnswersCall given Done (Ok a) = (out : List (Option Prepared)) → let v = abstract_of view backing old out in let w = abstract_of view backing new out in AnsweredEffect v w given [] (Done a (guest_of v) (guest_of w))
   AnswersCall given Done (Err e) = (out : List (Option Prepared)) → let v = abstract_of view backing old out in let w = abstract_of view backing new out in RefusedEffect v w given [] (refusal_of e) (IsSame v w)
 
-  -- a range is prepared, and put at a place that was free
+  -- A range is prepared, and its mapping is in a slot that was empty.
   abbrev pub Prepares : ℕ → ℕ → Bool → Result Prepared ImageError → Type 0
   Prepares offset n overwrite (Ok p) = (out : List (Option Prepared)) (k : ℕ) → slice_get out k ≡ Some None
       → let v = abstract_of view backing old out in let w = abstract_of view backing new (slice_set out k (Some p)) in AnsweredEffect v w [] []
       (IsPrepared v.setting.cluster_size (guest_of v).disk offset n overwrite (meaning view backing new p) × (guest_of w ≡ with_slot (guest_of v) k (Some (meaning view backing new p))))
   Prepares offset n overwrite (Err e) = (out : List (Option Prepared)) → let v = abstract_of view backing old out in let w = abstract_of view backing new out in RefusedEffect v w [] [] (refusal_of e) (IsSame v w)
 
-  -- what a put gives: nothing that is hidden until the commit
+  -- What a put gives: nothing at offsets that are hidden until the commit.
   abbrev pub all_given_by_put : AbstractImage → Prepared → ℕ → List ℕ → List GivenBytes
   all_given_by_put v p at bytes = given_by_put (guest_of v).disk (meaning view backing old p) at bytes ∷ []
 
-  -- bytes are put into a mapping that is out: private ones are kept for the commit, all others are written to the disk
+  -- Bytes are put into a prepared mapping. Bytes at private offsets are kept for the commit, all others are written to the disk.
   abbrev pub Puts : Prepared → ℕ → List ℕ → Result (Unit {0}) ImageError → Type 0
   Puts p at bytes (Ok _) = (out : List (Option Prepared)) (k : ℕ) → slice_get out k ≡ Some (Some p)
       → let v = abstract_of view backing old out in let w = abstract_of view backing new out in let m = meaning view backing old p in AnsweredEffect v w (all_given_by_put v p at bytes) []
@@ -68,16 +68,16 @@ module _ {S F : Type 0} (view : S → StorageView) (backing : F → BackingView)
   Puts p at bytes (Err e) = (out : List (Option Prepared)) (k : ℕ) → slice_get out k ≡ Some (Some p)
       → let v = abstract_of view backing old out in let w = abstract_of view backing new out in RefusedEffect v w (all_given_by_put v p at bytes) [] (refusal_of e) (IsSame v w)
 
-  -- what a commit gives: what the disk shows in the mapping's whole clusters
+  -- What a commit gives: the values of the disk in the whole clusters of the mapping.
   abbrev pub all_given_by_commit : AbstractImage → Prepared → List GivenBytes
   all_given_by_commit v p = given_by_commit v.setting.cluster_size (guest_of v).disk (meaning view backing old p) ∷ []
 
-  -- what a refused commit hands back
+  -- The mapping that a refused commit hands back, if it does.
   abbrev pub handed_back : CommitRefused → Option Prepared
   handed_back (Kept e p) = Some p
   handed_back (Spent e) = None
 
-  -- Its private bytes become visible, and its place is free. On a sound image a fault or want of memory alone refuses it, and then it is at its place again, or the image failed.
+  -- The private bytes of a mapping become visible, and its slot is empty. On a sound image only a fault refuses this. The mapping is in its slot again then, or the image failed.
   abbrev pub Commits : Prepared → Result (Unit {0}) CommitRefused → Type 0
   Commits p (Ok _) = (out : List (Option Prepared)) (k : ℕ) → slice_get out k ≡ Some (Some p)
       → let v = abstract_of view backing old out in let w = abstract_of view backing new (slice_set out k None) in AnsweredEffect v w (all_given_by_commit v p) []
@@ -86,12 +86,12 @@ module _ {S F : Type 0} (view : S → StorageView) (backing : F → BackingView)
       → let v = abstract_of view backing old out in let w = abstract_of view backing new (slice_set out k (handed_back r)) in
       (v.is_sound → IsRefusalByFault (refusal_of (reason_of r))) × RefusedEffect v w (all_given_by_commit v p) [] (refusal_of (reason_of r)) (IsSame v w)
 
-  -- it is dropped, and its place is free
+  -- A prepared mapping is dropped, and its slot is empty.
   abbrev pub Discards : Prepared → Type 0
   Discards p = (out : List (Option Prepared)) (k : ℕ) → slice_get out k ≡ Some (Some p)
       → let v = abstract_of view backing old out in let w = abstract_of view backing new (slice_set out k None) in AnsweredEffect v w [] [] (guest_of w ≡ with_slot (guest_of v) k None)
 
-  -- all that is known is on the storage
+  -- The known contents are on the storage.
   abbrev pub FlushesImage : Result (Unit {0}) ImageError → Type 0
   FlushesImage (Ok _) = (out : List (Option Prepared)) → let v = abstract_of view backing old out in let w = abstract_of view backing new out in AnsweredEffect v w [] [] ((w.known ≡ stored_bytes w) × IsSame v w)
   FlushesImage (Err e) = (out : List (Option Prepared)) → let v = abstract_of view backing old out in let w = abstract_of view backing new out in RefusedEffect v w [] [] (refusal_of e) (IsSame v w)

@@ -1,4 +1,4 @@
--- What clearing the whole clusters of a range does: they read as zeros then, or as the disk below.
+-- Clearing the whole clusters of a range, so that they read as zeros or as the backing disk.
 use Rattle.qcow2_metadata.specs.declared.l2_mapping.L2Mapping.TheVariants as M
 use Rattle.qcow2_alloc.specs.declared.error.ImageError.TheVariants as I
 use Rattle.std.specs.Prelude.{ℕ, zero, suc, ◌+◌, ◌*◌, ◌/◌, ◌%◌, ◌≡◌, ◌≢◌, ◌⊎◌, ◌<◌, ◌≤◌, ◌&&◌, ◌++◌, Bool, true, not, nat_lt, List, [], ◌∷◌, Option, Some, None, IsSome, IsTrue, Result, Ok, Err, slice_get}
@@ -49,13 +49,13 @@ use Rattle.qcow2_image.specs.NewTables.{IsFaultOrLacksTable}
 use Rattle.qcow2_image.specs.Prepared.{table_of}
 use Rattle.qcow2_image.specs.Refusals.{passes, refuse_if, unusable}
 
--- how that clears clusters, in words of the disk
+-- How a mode clears clusters, in terms of the disk.
 abbrev pub shown_by : Clearance → Clearing
 shown_by Uncovered = to_backing
 shown_by Zeros = to_zero
 shown_by KeptZeros = to_kept_zero
 
--- what stands for a cleared cluster then, of what stood for it
+-- The mapping of a cleared guest cluster, by its old one.
 abbrev pub cover_once_cleared : Clearance → L2Mapping → L2Mapping
 cover_once_cleared how old = cover_by (shown_by how) old
 
@@ -64,11 +64,11 @@ cleared_entry Uncovered old = 0
 cleared_entry Zeros old = zero_entry None
 cleared_entry KeptZeros old = zero_entry (copied_host old)
 
--- entries can say that clusters are zeros from version 3 on
+-- Only L2 entries of version 3 and later can mark clusters as zeros.
 abbrev pub needs_zero_entries : Clearance → Bool
 needs_zero_entries how = zeros_for (shown_by how)
 
--- the range that a call touches
+-- The range that a call touches.
 module _ {S F : Type 0} (image : Qcow2 S F) (offset n : ℕ) where
   abbrev pub from_in : ℕ
   from_in = touched_from (cluster_size image.file.header.fields) offset
@@ -76,7 +76,7 @@ module _ {S F : Type 0} (image : Qcow2 S F) (offset n : ℕ) where
   abbrev pub to_in : ℕ
   to_in = touched_to (cluster_size image.file.header.fields) (size_of image) offset n
 
-  -- Of clearing a range, in this order: what makes the image unusable, and that it isn't to be written. Then a range beyond the size, version 2 where zeros are needed, and offsets past 64 bits.
+  -- Why clearing a range is refused before anything is done, in this order: an unusable image, an image opened for reading, a range beyond the size, version 2 if zero clusters are needed, and offsets past 64 bits.
   abbrev pub refuses_clearing : Clearing → Option ImageError
   refuses_clearing how =
       option_or (unusable image) (option_or (refuse_if (not (is_writable image)) I.ReadOnly) (option_or (refuse_if (passes (size_of image) offset n) I.BeyondSize)
@@ -85,7 +85,7 @@ module _ {S F : Type 0} (image : Qcow2 S F) (offset n : ℕ) where
   abbrev pub refuses_to_clear : Clearance → Option ImageError
   refuses_to_clear how = refuses_clearing (shown_by how)
 
--- a mapping that is out, and isn't existing, lies in the L2 table of an offset
+-- A pinned mapping is in the L2 table of this offset. (Pinned: prepared, and not existing.)
 pub record IsUnderMapping (h : HeaderFields) (offset : ℕ) (out : List (Option Prepared)) : Type 0 where
   pub place : ℕ
   pub other : Prepared
@@ -93,38 +93,38 @@ pub record IsUnderMapping (h : HeaderFields) (offset : ℕ) (out : List (Option 
   pub keeps_table : IsSome (table_of other)
   pub same_table : l1_index_of h other.guest ≡ l1_index_of h offset
 
--- two offsets are those of clusters, within one L2 table, and where zeros are needed entries can say so
+-- The offsets are cluster boundaries within one L2 table, and the image has zero clusters if they are needed.
 pub record IsClearable (h : HeaderFields) (how : Clearance) (from to : ℕ) : Type 0 where
   pub begins : from % cluster_size h ≡ 0
   pub ends : to % cluster_size h ≡ 0
   pub within : to ≤ from + rest_of_table h from
   pub version : IsTrue (needs_zero_entries how) → 3 ≤ h.version
 
--- Each guest cluster between two offsets is cleared so, and for all others stands what stood for them.
+-- Each guest cluster between two offsets is cleared, and all other mappings are the same.
 abbrev pub ClearsImageCovers : Clearance → (from to : ℕ) → HeaderFields → Bytes → HeaderFields → Bytes → Type 0
 ClearsImageCovers how from to h known h' known' = ClearsBy (shown_by how) from to h known h' known'
 
 module _ {S F : Type 0} (view : S → StorageView) (backing : F → BackingView) where
-  -- what stays of an image, and its disk, whatever mappings are out
+  -- The setting and the disk of an image, whatever mappings are prepared.
   abbrev pub setting_of : Qcow2 S F → Setting
   setting_of image = (abstract_of view backing image []).setting
 
-  -- what clearing a range gives
+  -- What clearing a range gives.
   abbrev pub all_given_by_clear : Qcow2 S F → Clearance → ℕ → ℕ → List GivenBytes
   all_given_by_clear image how offset n = given_by_clear (setting_of image) (disk_of view backing image) (shown_by how) offset n ∷ []
 
-  -- Its whole clusters are cleared, and how much of it that was is answered; or it was refused.
+  -- The whole clusters of a range are cleared, and the cleared range is returned; or the call was refused.
   abbrev pub Clears : Clearance → Qcow2 S F → Qcow2 S F → ℕ → ℕ → Result (ℕ × ℕ) ImageError → Type 0
   Clears how old new offset n result =
       AnswersCall view backing old new (all_given_by_clear old how offset n)
       (λ range was is. (range ≡ answered (setting_of old).cluster_size was.disk.size offset n) × (is ≡ with_disk was (cleared_at (setting_of old) was.disk (shown_by how) offset n))) result
 
-  -- A refusal that is no fault gives nothing.
+  -- A refusal other than a fault gives nothing.
   abbrev pub RefusesUngiven : Qcow2 S F → Qcow2 S F → ImageError → Type 0
   RefusesUngiven old new e = (IsRefusalByFault (refusal_of e) → ⊥) → (out : List (Option Prepared)) → let v = abstract_of view backing old out in let w = abstract_of view backing new out in RefusedEffect v w [] [] (refusal_of e) (IsSame v w)
 
-  -- A refusal that is no fault gives nothing. Where nothing refused the range at once, it is a limit, or 20, for an L1 entry past 64 bits that would have to be written for its first offset.
-  -- Or it is 8, where a mapping is prepared that isn't existing, or 9, where one lies in the L2 table of that offset. Where none is prepared, the offset has no L2 table of its own then.
+  -- A refusal other than a fault gives nothing. If the range was not refused at once, the refusal is a limit; or 20, if an L1 entry past 64 bits would have to be written for the first offset;
+  -- or 8, if a mapping is pinned; or 9, if one is pinned in the L2 table of the first offset. If no mapping is pinned, the offset has no L2 table of its own then.
   pub record RefusesClearing (how : Clearance) (old new : Qcow2 S F) (offset n : ℕ) (e : ImageError) : Type 0 where
     pub ungiven : RefusesUngiven old new e
     pub lacks : refuses_to_clear old offset n how ≡ None → (out : List (Option Prepared)) → (abstract_of view backing old out).is_sound → (HasPrepared out → ⊥) → IsFaultOrLacksTable view new (from_in old offset n) e
@@ -132,11 +132,11 @@ module _ {S F : Type 0} (view : S → StorageView) (backing : F → BackingView)
 
   -- ---- parts of the work
 
-  -- what clearing gives between two offsets
+  -- What clearing gives between two offsets.
   abbrev pub given_bytes_between : Qcow2 S F → Clearance → (from to : ℕ) → List GivenBytes
   given_bytes_between image how from to = given_shown (cleared (setting_of image) (disk_of view backing image) (shown_by how) from to) from to ∷ []
 
-  -- the clusters between two offsets are cleared, and what they named is to be freed
+  -- The clusters between two offsets are cleared, and the host clusters that lost a reference wait to be freed.
   pub record ClearsPart (how : Clearance) (from to : ℕ) (old new : Qcow2 S F) (out : List (Option Prepared)) : Type 0 where
     pub works : EffectOnSound (abstract_of view backing old out) (abstract_of view backing new out) (given_bytes_between old how from to) []
     pub sound : ImageInvariant view backing (pending_in view backing new out) new out
@@ -149,12 +149,12 @@ module _ {S F : Type 0} (view : S → StorageView) (backing : F → BackingView)
   ClearsOrRefuses how from to old new out (Ok _) = ClearsPart how from to old new out
   ClearsOrRefuses how from to old new out (Err e) = RefusedCall view backing old new out e
 
--- what n guest clusters from one on name no longer once they are cleared
+-- The host clusters that lose a reference when n guest clusters, from `first` on, are cleared.
 abbrev pub listed_by : Clearance → HeaderFields → Bytes → (first n : ℕ) → List ClustersToFreeEntry
 listed_by how h known first zero = []
 listed_by how h known first (suc n) = listed_by how h known first n ++ listed_run (old_data_run h.cluster_bits (cover h known (first + n)) (cover_once_cleared how (cover h known (first + n))))
 
--- an entry of a held table is cleared, and nothing else changes
+-- An entry of a cached L2 table is cleared, and nothing else changes.
 pub record ClearsEntry {S F : Type 0} (how : Clearance) (table index : ℕ) (old new : Qcow2 S F) : Type 0 where
   pub rest : new ≡ record old { file = record old.file { caches = new.file.caches } }
   pub order : order_of new.file.caches ≡ order_of old.file.caches
@@ -166,7 +166,7 @@ pub record ClearsEntry {S F : Type 0} (how : Clearance) (table index : ℕ) (old
   pub noted : NotesHeld old.file.caches new.file.caches table index
   pub behind : KeepBehindHeader old.file.caches new.file.caches
 
--- what a cleared cluster is mapped to, as the laws ask for it
+-- A cleared mapping, as the laws describe it.
 abbrev pub is_cleared : Clearance → L2Mapping → Type 0
 is_cleared Uncovered v = v ≡ M.Uncovered
 is_cleared Zeros v = IsZeros v
@@ -176,7 +176,7 @@ abbrev pub with_caches : {S F : Type 0} → Qcow2 S F → MetadataCaches S → Q
 with_caches a caches = record a { file = record a.file { caches = caches } }
 
 module _ {S F : Type 0} (view : S → StorageView) (backing : F → BackingView) where
-  -- where n entries of a held table may be cleared, from one on
+  -- When n entries of a cached L2 table, from `column` on, may be cleared.
   pub record MayClear (how : Clearance) (t row column n : ℕ) (a : Qcow2 S F) (out : List (Option Prepared)) (p : Pending) : Type 0 where
     pub sound : ImageInvariant view backing p a out
     pub real : table_at a.file.header.fields (known_in view a.file) row ≢ 0
@@ -188,7 +188,7 @@ module _ {S F : Type 0} (view : S → StorageView) (backing : F → BackingView)
     pub version : IsTrue (needs_zero_entries how) → 3 ≤ a.file.header.fields.version
     pub reach : (i : ℕ) → i < n → IsInReach (cover a.file.header.fields (known_in view a.file) (guest_at a.file.header.fields row column + i))
 
-  -- they are
+  -- The n entries are cleared.
   pub record AreCleared (how : Clearance) (row column n : ℕ) (a : Qcow2 S F) (caches : MetadataCaches S) (out : List (Option Prepared)) (p : Pending) : Type 0 where
     pub now : Pending
     pub sound_now : ImageInvariant view backing now (with_caches a caches) out
@@ -203,7 +203,7 @@ module _ {S F : Type 0} (view : S → StorageView) (backing : F → BackingView)
     pub surplus : now.surplus ≡ p.surplus
     pub old_data : (k : ℕ) → now.old_data k ≡ p.old_data k + to_free of_data (listed_by how a.file.header.fields (known_in view a.file) (guest_at a.file.header.fields row column) n) k
 
-  -- n entries of a table are cleared, from one on
+  -- In the cached L2 table, n entries from `column` on are cleared.
   pub record ClearsTable (how : Clearance) (t column n : ℕ) (a b : Qcow2 S F) : Type 0 where
     pub rest : b ≡ with_caches a b.file.caches
     pub marks : KeepsPinsAndNotes a.file.caches b.file.caches
@@ -213,7 +213,7 @@ module _ {S F : Type 0} (view : S → StorageView) (backing : F → BackingView)
     pub behind : KeepBehindHeader a.file.caches b.file.caches
 
   -- ---- what is read before the first entry changes
-  -- what the entry of a guest cluster will name no longer is put at the end of a list; it is within the reach of an entry
+  -- The host clusters that the entry of a guest cluster will lose are appended to a list. An entry can hold their offsets.
   abbrev pub ReadsDropped : Clearance → (table cluster : ℕ) → Qcow2 S F → List ClustersToFreeEntry → List ClustersToFreeEntry → Type 0
   ReadsDropped how table cluster image old new =
       let h = image.file.header.fields in
@@ -221,7 +221,7 @@ module _ {S F : Type 0} (view : S → StorageView) (backing : F → BackingView)
       (p : Pending) (i : ℕ) → FileInvariant view p image.file → IsEntryAt h known i table (cluster % entries_per_cluster h) → cluster / entries_per_cluster h ≡ i
       → (new ≡ old ++ listed_run (old_data_run h.cluster_bits (cover h known cluster) (cover_once_cleared how (cover h known cluster)))) × IsInReach (cover h known cluster)
 
-  -- so for n of them, from one on
+  -- The host clusters that n entries, from `first` on, will lose are appended to a list.
   abbrev pub ReadsAll : Clearance → (table first n : ℕ) → Qcow2 S F → List ClustersToFreeEntry → Type 0
   ReadsAll how table first n image list =
       let h = image.file.header.fields in

@@ -1,4 +1,4 @@
--- What each of the calls does that clear the whole clusters of a range: one contract, whatever stands for a cluster once it is cleared.
+-- The contract of the calls that clear the whole clusters of a range, for each way to clear.
 use Rattle.std.specs.Prelude.{◌+◌, ℕ, ◌≡◌, ◌<◌, ◌≤◌, List, [], Option, None, Result, Ok, Err, IfErr, IfOk, IfSome, OnOk}
 use Rattle.image_access.specs.Backing.{BackingView}
 use Rattle.image_access.specs.Moments.{StorageView}
@@ -26,14 +26,14 @@ use Rattle.qcow2_image.specs.declared.image.Qcow2.{Qcow2}
 use Rattle.qcow2_image.specs.declared.prepared.Prepared.{Prepared}
 
 module _ {S F : Type 0} (view : S → StorageView) (backing : F → BackingView) where
-  -- Whatever the contents, a part of a call keeps the image and its notes, leaves the header's cluster alone, and tells each fault.
+  -- A part of a clearing call, whatever the image contains: the image and its marks stay the same, the header's cluster stays the same, and each fault is reported.
   pub record PartStep (old new : Qcow2 S F) (result : Result (Unit {0}) ImageError) : Type 0 where
     pub stays : ImageStays old new
     pub notes : KeepsFileNotes view old.file new.file
     pub header_cluster : StaysBehindHeader view old new
     pub faults : CountsImageFaults view backing old new result
 
-  -- Whatever the contents, it stays the same image, marked as failed by rule. Its changes are noted and counted, the header's cluster is left alone, and each fault is told.
+  -- A clearing call, whatever the image contains: it is the same image, marked as failed by the rule. Its changes are recorded and counted, the header's cluster stays the same, and each fault is reported.
   pub record ClearsStep (old new : Qcow2 S F) (result : Result (ℕ × ℕ) ImageError) : Type 0 where
     pub image : IsSameImage old new
     pub marks : MarksFailed old new result
@@ -46,13 +46,13 @@ module _ {S F : Type 0} (view : S → StorageView) (backing : F → BackingView)
     abbrev pub may_clear : Type 0
     may_clear = refuses_to_clear old offset n how ≡ None
 
-    -- the range has a whole cluster
+    -- The range has a whole cluster.
     abbrev pub touches_some : Type 0
     touches_some = from_in old offset n < to_in old offset n
 
-    -- It is refused at once, with nothing changed, where something forbids it, and else where the work meets it.
-    -- The L2 table of the first offset is changed only where no mapping keeps it as it is, and the call is refused 9 only where one does.
-    -- A refusal leaves no cluster to be freed, but for a fault and for 9. On a sound image 13 comes only for want of a place for the L2 table of the first offset.
+    -- Why the call is refused: at once, with nothing changed, if a check forbids it; otherwise when the work meets the cause.
+    -- The L2 table of the first offset changes only if it is not pinned, and the call is refused 9 only if it is.
+    -- A refusal leaves no cluster waiting to be freed, except after a fault and after 9. On a sound image 13 means that there was no room for the L2 table of the first offset.
     pub record FailsToClear : Type 0 where
       pub early : IfSome (refuses_to_clear old offset n how) (λ e. (result ≡ Err e) × (new ≡ old))
       pub late : may_clear → IfErr result IsMetPreparing
@@ -63,7 +63,7 @@ module _ {S F : Type 0} (view : S → StorageView) (backing : F → BackingView)
       pub freed : may_clear → touches_some → (out : List (Option Prepared)) → (abstract_of view backing old out).is_sound → IfErr result (FreesRefused new)
       pub limit : may_clear → touches_some → (out : List (Option Prepared)) → (abstract_of view backing old out).is_sound → IfLimit result (IsLimited view backing [] (from_in old offset n + 1) old out)
 
-    -- It answers how much of the range was cleared, and changes nothing where no cluster is whole. On a sound image the guest sees the whole clusters cleared, which is noted, and nothing is left to be freed.
+    -- The call returns how much of the range was cleared. If no cluster is whole, it changes nothing. On a sound image the guest sees the whole clusters cleared, a change is counted, and no cluster waits to be freed.
     pub record ClearsSoundly : Type 0 where
       pub range : IfOk result (λ range. range ≡ answered (cluster_size old.file.header.fields) (size_of old) offset n)
       pub nothing : may_clear → to_in old offset n ≤ from_in old offset n → (result ≡ Ok (from_in old offset n, 0)) × (new ≡ old)
@@ -75,31 +75,31 @@ module _ {S F : Type 0} (view : S → StorageView) (backing : F → BackingView)
 
   -- ---- the clusters between two offsets within one L2 table
   module _ (how : Clearance) (from to : ℕ) (old new : Qcow2 S F) (result : Result (Unit {0}) ImageError) where
-    -- of a sound image, where the offsets are those of clusters
+    -- P holds for a sound image, if the offsets are cluster boundaries within one L2 table.
     abbrev pub OfWhole : (List (Option Prepared) → Type 0) → Type 0
     OfWhole P = (out : List (Option Prepared)) → ImageInvariant view backing (pending_in view backing old out) old out → IsClearable old.file.header.fields how from to → P out
 
-    -- they are cleared, or that was refused
+    -- The clusters are cleared, or the call is refused.
     abbrev pub ClearsBetween : Type 0
     ClearsBetween = OfWhole (λ out. ClearsOrRefuses view backing how from to old new out result)
 
-    -- it is refused only for these causes
+    -- The causes of a refusal.
     abbrev pub MeetsBetween : Type 0
     MeetsBetween = OfWhole (λ out. IfErr result (IsMetTaking (HasPrepared out) (IsUnderMapping old.file.header.fields from out) ⊥ (NeedsFarEntry old from)))
 
-    -- where no mapping is prepared, only for a fault, or where the first offset has no L2 table of its own
+    -- If no mapping is pinned, a refusal is a fault, or the first offset has no L2 table of its own.
     abbrev pub LacksBetween : Type 0
     LacksBetween = OfWhole (λ out. (HasPrepared out → ⊥) → IfErr result (IsFaultOrLacksTable view new from))
 
-    -- a refusal leaves no cluster to be freed, but for a fault and for 9
+    -- A refusal leaves no cluster waiting to be freed, except after a fault and after 9.
     abbrev pub FreesBetween : Type 0
     FreesBetween = OfWhole (λ out. IfErr result (FreesRefused new))
 
   module _ (from : ℕ) (old : Qcow2 S F) (result : Result (Unit {0}) ImageError) where
-    -- on a sound image it is refused 9 only where a mapping that isn't existing lies in that L2 table
+    -- A sound image refuses 9 only if a mapping is pinned in the L2 table of the offset.
     abbrev pub RefusedUnder : Type 0
     RefusedUnder = (out : List (Option Prepared)) → ImageInvariant view backing (pending_in view backing old out) old out → IfErr result (λ e. e ≡ TablePrepared → IsUnderMapping old.file.header.fields from out)
 
-    -- and is answered only where none does
+    -- A sound image succeeds only if no mapping is pinned in the L2 table of the offset.
     abbrev pub AnsweredBeside : Type 0
     AnsweredBeside = (out : List (Option Prepared)) → ImageInvariant view backing (pending_in view backing old out) old out → IfOk result (λ done. IsUnderMapping old.file.header.fields from out → ⊥)

@@ -1,4 +1,4 @@
--- What creating an image makes of a storage, and what a stop may leave of it.
+-- Creating an image: what is on the storage then, and what a stop may leave.
 use Rattle.std.specs.Prelude.{ℕ, ◌≡◌, ◌==◌, ◌&&◌, ◌||◌, ◌⊎◌, ◌+◌, ◌*◌, ◌/◌, ◌^◌, ◌<◌, ◌≤◌, Bool, IsTrue, true, false, List, None, Option, Some, Result, Ok, Err, [], is_some, length, nat_lt, option_map, unwrap_or, if◌then◌else◌}
 use Rattle.std.specs.String.{string_bytes}
 use Rattle.image_access.specs.Backing.{BackingView}
@@ -42,61 +42,61 @@ use Rattle.qcow2_image.specs.ImageInvariant.{IsHonestBacking, abstract_of}
 use Rattle.qcow2_image.specs.Limits.{IsLimited}
 use Rattle.qcow2_image.specs.Resizing.{GrowsTables, GrowsTo, IsResized, all_given_by_grow, refuses_to_resize, size_after}
 
--- the first eight bytes are the magic, and version 2 or 3
+-- The first eight bytes are the magic number, and version 2 or 3.
 abbrev pub begins_image : Bytes → Bool
 begins_image b = (number_at b 0 4 == 0x514649fb) && (number_at b 4 4 == 2 || number_at b 4 4 == 3)
 
--- A consistent image of this size to which no guest wrote: at each place the disk below shows, whatever it holds, and zeros where there is none.
+-- A consistent image of this size that no guest has written. It shows the backing disk, or zeros if there is none.
 pub record IsUnwritten (n : ℕ) (b : Bytes) : Type 0 where
   pub consistent : IsConsistent b
   pub size : (header b).size ≡ n
   pub shows_below : (backing : Bytes) (o : ℕ) → (disk b backing).value o ≡ known_byte (backing o)
 
--- A consistent image of this size that shows zeros at each place, also past its end, while no disk is below it.
+-- A consistent image of this size that shows zeros at every offset, also past its end, if it has no backing disk.
 pub record ShowsZeros (n : ℕ) (b : Bytes) : Type 0 where
   pub consistent : IsConsistent b
   pub size : (header b).size ≡ n
   pub zeros : (o : ℕ) → (disk b (λ i. 0)).value o ≡ known_byte 0
 
--- A new disk of this size, by the mode that it is made in: unwritten where no place is taken, and else zeros.
+-- A new disk of this size, by preallocation mode: unwritten with mode `none`, otherwise zeros.
 abbrev pub IsNewDisk : PreallocateMode → ℕ → Bytes → Type 0
 IsNewDisk Mode.None n b = IsUnwritten n b
 IsNewDisk mode n b = ShowsZeros n b
 
--- what a mode leaves for a guest cluster: nothing; zeros that have no host cluster; or data in a cluster of its own
+-- The mapping that a mode leaves for a guest cluster: unmapped; zeros without a host cluster; or data in a cluster of its own.
 abbrev pub IsCoverOf : PreallocateMode → L2Mapping → Type 0
 IsCoverOf Mode.None v = v ≡ Uncovered
 IsCoverOf Mode.Zero v = v ≡ Zero None
 IsCoverOf mode v = is_copied_data v ≡ true
 
--- So it is for each guest cluster that begins below the size, and nothing stands for all others.
+-- Every guest cluster that begins below the size has the mapping of its mode. All others are unmapped.
 pub record IsPreallocated (mode : PreallocateMode) (n : ℕ) (b : Bytes) : Type 0 where
   pub inside : (g : ℕ) → g * cluster_size (header b) < n → IsCoverOf mode (cover (header b) b g)
   pub behind : (g : ℕ) → n ≤ g * cluster_size (header b) → cover (header b) b g ≡ Uncovered
 
--- No cluster of an image is lost: each is counted as often as it is named, and none was leaked.
+-- No cluster of the image is lost: each refcount is the number of references, and none was leaked.
 pub record HasLostNone (v : AbstractImage) : Type 0 where
   pub counted : (cluster : ℕ) → v.surplus cluster ≡ 0
   pub leaks : v.leaked ≡ 0
 
--- What a stop may leave while an image of this size is created in a mode. It is nothing that is taken for an image, or a new disk of no bytes or of that size.
+-- What a stop may leave while an image of this size is created: no image at all, or a new disk of size 0 or of this size.
 abbrev pub IsStopOfCreating : PreallocateMode → ℕ → Bytes → Type 0
 IsStopOfCreating mode n b = (begins_image b ≡ false) ⊎ (IsNewDisk mode 0 b ⊎ IsNewDisk mode n b)
 
--- so does one at each moment since
+-- A stop at any moment since leaves one of these.
 abbrev pub StopsCreating : PreallocateMode → ℕ → StorageView → StorageView → Type 0
 StopsCreating mode n old new = EachMomentSince old new (λ c. IsStopOfCreating mode n (byte_at c))
 
--- and the storage is still honest
+-- The storage is still honest, and a stop at any moment since leaves one of these.
 pub record StaysCreating (mode : PreallocateMode) (n : ℕ) (old new : StorageView) : Type 0 where
   pub honest : new.is_honest
   pub moments : StopsCreating mode n old new
 
--- the bytes of the largest disk for which an L1 table of 4,194,304 entries is long enough, with clusters of a size
+-- The size in bytes of the largest disk that an L1 table of 4,194,304 entries covers, for a cluster size.
 abbrev pub longest_disk : ℕ → ℕ
 longest_disk size = 4194304 * (size / 8) * size
 
--- An image with these contents was opened, and nothing was to be freed then. Making its disk larger in a mode met a limit. An image is left on the storage that is handed back, which is sound still. Each surplus is as before, and no cluster was leaked.
+-- An image with these contents was opened, with no cluster waiting to be freed. Growing its disk in this mode passed a limit. The storage that is handed back holds an image that is still sound. Every surplus is the same, and no cluster was leaked.
 pub record CantEnlarge {S F : Type 0} (view : S → StorageView) (backing : F → BackingView) (mode : PreallocateMode) (size : ℕ) (contents : List ℕ) (storage : S) : Type 0 where
   pub opened : Qcow2 S F
   pub is_opened : IsOpened (abstract_of view backing opened [])
@@ -107,11 +107,11 @@ pub record CantEnlarge {S F : Type 0} (view : S → StorageView) (backing : F �
   pub is_left : storage_of_image left ≡ storage
   pub leaves : LeavesSound view backing opened left
 
--- the disk below where there is none
+-- The backing disk of an image that has none.
 abbrev pub none_below : NoBacking → BackingView
 none_below below = record { bytes = []; faults = 0; is_honest = Unit {0} }
 
--- a new image was written, with the clusters and counts that were asked for, and its disk can't be made larger
+-- A new image was written, with the requested clusters and refcounts, but there is no room to grow its disk.
 pub record LacksPlaceCreating {S : Type 0} (view : S → StorageView) (builder : Qcow2CreateBuilder S) (storage : S) : Type 0 where
   pub contents : List ℕ
   pub new_image : IsNewImage (header (byte_at contents)) (byte_at contents)
@@ -119,7 +119,7 @@ pub record LacksPlaceCreating {S : Type 0} (view : S → StorageView) (builder :
   pub counts : count_width (header (byte_at contents)) ≡ builder.refcount_width
   pub lacks : CantEnlarge view none_below builder.preallocate builder.size contents storage
 
--- the header that stands in these contents gives these names, or none
+-- The header in these contents has these names, or none.
 pub record GivesNames (backing format data_file : Option (List ℕ)) (contents : List ℕ) : Type 0 where
   pub header : HeaderView
   pub stands : IsHeaderIn header contents
@@ -127,25 +127,25 @@ pub record GivesNames (backing format data_file : Option (List ℕ)) (contents :
   pub format_is : header.backing_format ≡ format
   pub data_file_is : header.data_file_name ≡ data_file
 
--- the mode takes clusters for the disk
+-- The mode allocates clusters for the disk.
 abbrev pub takes_clusters : PreallocateMode → Bool
 takes_clusters Mode.None = false
 takes_clusters Mode.Zero = false
 takes_clusters mode = true
 
 module _ {S : Type 0} where
-  -- the names that the header is to give
+  -- The names to write into the header.
   abbrev pub backing_name_in : Qcow2CreateBuilder S → Option (List ℕ)
   backing_name_in builder = option_map string_bytes builder.backing_name
 
   abbrev pub backing_format_in : Qcow2CreateBuilder S → Option (List ℕ)
   backing_format_in builder = option_map string_bytes builder.backing_format
 
-  -- clusters are to be taken for a disk over a backing file
+  -- Clusters are to be allocated for a disk over a backing file.
   abbrev pub allocates_over : Qcow2CreateBuilder S → Bool
   allocates_over builder = takes_clusters builder.preallocate && is_some builder.backing_name
 
-  -- clusters and counts that images may have, and names for which a cluster has room behind the header
+  -- The cluster size and the refcount width are ones that images may have, and the names fit into the header's cluster.
   pub record IsAllowed (builder : Qcow2CreateBuilder S) : Type 0 where
     pub cluster_bits : ℕ
     pub refcount_order : ℕ
@@ -156,20 +156,20 @@ module _ {S : Type 0} where
     pub no_wider : refcount_order ≤ 6
     pub room : name_place (backing_format_in builder) None + length (unwrap_or (backing_name_in builder) []) ≤ builder.cluster_size
 
-  -- the binary logarithms of its cluster size and its counts, with which a header can be new
+  -- The binary logarithms of the cluster size and of the refcount width, if a new header may have them.
   pub record HasLogarithms (builder : Qcow2CreateBuilder S) (logarithms : ℕ × ℕ) : Type 0 where
     pub clusters : builder.cluster_size ≡ 2 ^ logarithms.0
     pub counts : builder.refcount_width ≡ 2 ^ logarithms.1
     pub can_be_new : CanBeNew logarithms.0 logarithms.1 (backing_name_in builder) (backing_format_in builder) None
 
-  -- Why no such image is made, whatever the storage: 5 for an option that images don't have, 6 for a mode that takes clusters over a backing file, 13 for a disk that is too long.
+  -- Why an image cannot be created on any storage: 5, an invalid option; 6, allocating clusters over a backing file; 13, a disk that is too large.
   abbrev pub IsReasonAgainst : Qcow2CreateBuilder S → ImageError → Type 0
   IsReasonAgainst builder I.InvalidOption = ¬ IsAllowed builder
   IsReasonAgainst builder I.Preallocation = IsTrue (allocates_over builder)
   IsReasonAgainst builder I.Limit = longest_disk builder.cluster_size < builder.size
   IsReasonAgainst builder e = ⊥
 
-  -- Why an image isn't created: 5 only for an option that images don't have. 6 only for a mode that takes clusters over a backing file. 13 only for a disk that is too long, or where a place lacks for it. And else for want of memory or a fault of the storage.
+  -- Why an image is not created: 5 only for an invalid option; 6 only for allocating clusters over a backing file; 13 only for a disk that is too large or finds no room; otherwise a fault.
   abbrev pub IsReasonNotToCreate : (S → StorageView) → Qcow2CreateBuilder S → S → ImageError → Type 0
   IsReasonNotToCreate view builder storage I.InvalidOption = ¬ IsAllowed builder
   IsReasonNotToCreate view builder storage I.Preallocation = IsTrue (allocates_over builder)
@@ -178,7 +178,7 @@ module _ {S : Type 0} where
   IsReasonNotToCreate view builder storage I.Storage = Unit {0}
   IsReasonNotToCreate view builder storage e = ⊥
 
-  -- the image that was asked for stands on an honest storage
+  -- The requested image is on an honest storage.
   pub record IsCreated (builder : Qcow2CreateBuilder S) (storage : StorageView) : Type 0 where
     pub honest : storage.is_honest
     pub new_disk : IsNewDisk builder.preallocate builder.size (byte_at storage.contents)
@@ -186,7 +186,7 @@ module _ {S : Type 0} where
     pub version : (header (byte_at storage.contents)).version ≡ 3
     pub clusters : cluster_size (header (byte_at storage.contents)) ≡ builder.cluster_size
     pub counts : count_width (header (byte_at storage.contents)) ≡ builder.refcount_width
-    -- as QEMU asks for
+    -- The L1 table has the length that QEMU expects.
     pub reaches : ReachesSize (header (byte_at storage.contents))
     pub l1_length : FitsSize (header (byte_at storage.contents))
     pub no_leaks : HasNoLeaks (byte_at storage.contents)
@@ -196,15 +196,15 @@ module _ {S : Type 0} where
     pub no_compatible : (header (byte_at storage.contents)).compatible ≡ 0
     pub alone : builder.backing_name ≡ None → ¬ NeedsAnother storage.contents
 
-  -- Why it isn't created and opened: it isn't created, or a created one is refused as it is opened, for want of memory or a fault of the storage.
+  -- Why an image is not created and opened: it is not created, or opening it meets a fault.
   abbrev pub IsReasonNotToCreateOpen : (S → StorageView) → Qcow2CreateBuilder S → S × ImageError → Type 0
   IsReasonNotToCreateOpen view builder refused = IsReasonNotToCreate view builder refused.0 refused.1
 
--- ---- an image that is made and opened
+-- ---- an image that is created and opened
 
 module _ {S F : Type 0} (view : S → StorageView) (backing : F → BackingView) (builder : Qcow2CreateBuilder S) (answers : S → Result (Qcow2OpenBuilder S F) ImageError → Type 0) where
-  -- The image was made on a storage, for which the closure answered a builder. That opened it for writing, under its number and over its disk.
-  -- Where the builder has that same storage, no cluster is lost, no table lies at the header, and the known bytes are those of the new disk.
+  -- The image was created on a storage, and the closure returned a builder for it. The builder opened the image for writing, with its number and its backing disk.
+  -- If the builder still has that storage, no cluster is lost, no table lies in the header's cluster, and the known contents are those of the new disk.
   pub record IsMadeOpen (image : Qcow2 S F) : Type 0 where
     pub storage : S
     pub opener : Qcow2OpenBuilder S F
@@ -221,13 +221,13 @@ module _ {S F : Type 0} (view : S → StorageView) (backing : F → BackingView)
     pub new_disk : opener.image ≡ storage → IsHonestBacking view backing (option_flatten opener.backing) → IsNewDisk builder.preallocate builder.size (abstract_of view backing image []).known
 
 module _ {S : Type 0} (view : S → StorageView) (builder : Qcow2CreateBuilder S) where
-  -- no image was made, for one of its reasons, and a stop on the way leaves what a stop of creating may
+  -- No image was created, for one of the reasons, and a stop leaves what a stop of creating may.
   pub record IsMadeNoImage (storage : S) (e : ImageError) : Type 0 where
     pub reason : IsReasonNotToCreate view builder storage e
     pub stops : StopsCreating builder.preallocate builder.size (view builder.image) (view storage)
     pub faults : FaultsTold {T = Unit {0}} (view builder.image).faults (view storage).faults (Err e)
 
-  -- the image was made on a storage, and the builder that the closure answered for it was refused
+  -- The image was created on a storage, and the builder that the closure returned was refused.
   pub record IsMadeUnopened {F : Type 0} (answers : S → Result (Qcow2OpenBuilder S F) ImageError → Type 0) (storage : S) (e : ImageError) : Type 0 where
     pub made : S
     pub opener : Qcow2OpenBuilder S F
@@ -237,7 +237,7 @@ module _ {S : Type 0} (view : S → StorageView) (builder : Qcow2CreateBuilder S
     pub faults : (view made).faults ≡ (view builder.image).faults
     pub step : OpeningStep {F = F} view (view opener.image) true (files_missing opener.backing) (Err (storage, e))
 
-  -- it was made, and the closure refused its storage
+  -- The image was created, and the closure refused its storage.
   pub record IsMadeClosed {F : Type 0} (answers : S → Result (Qcow2OpenBuilder S F) ImageError → Type 0) (e : ImageError) : Type 0 where
     pub made : S
     pub answered : answers made (Err e)
@@ -245,34 +245,34 @@ module _ {S : Type 0} (view : S → StorageView) (builder : Qcow2CreateBuilder S
     pub created : (view builder.image).is_honest → IsCreated builder (view made)
     pub stops : (view builder.image).is_honest → StopsCreating builder.preallocate builder.size (view builder.image) (view made)
 
--- ---- its parts
+-- ---- parts of the work
 
--- the header of a new image, whose data stand in its own file
+-- The header of a new image that holds its own data.
 pub record IsNewHeader (v : HeaderView) : Type 0 where
   pub is : v ≡ new_header v.fields.cluster_bits v.fields.refcount_order v.backing_name v.backing_format v.data_file_name
   pub own_data : v.data_file_name ≡ None
   pub names : HasNewNames v
 
--- a refblock in cluster 2 that counts clusters 0, 1 and 2
+-- A refblock in cluster 2 that counts clusters 0, 1 and 2.
 pub record CountsThree (h : HeaderFields) (block : RefBlockView) : Type 0 where
   pub bits : block.cluster_bits ≡ h.cluster_bits
   pub order : block.refcount_order ≡ h.refcount_order
   pub cluster_is : block.cluster ≡ Some 2
   pub counts : (i : ℕ) → count_at block i ≡ (if nat_lt i 3 then 1 else 0)
 
--- a reftable in cluster 1, as long as that, which names cluster 2 first and nothing else
+-- A reftable in cluster 1, one cluster long, with cluster 2 in its first entry and all others empty.
 pub record NamesOne (h : HeaderFields) (t : EntryTableView) : Type 0 where
   pub bits : t.cluster_bits ≡ h.cluster_bits
   pub cluster_is : t.cluster ≡ Some 1
   pub whole : length t.bytes ≡ 8 * entries_per_cluster h
   pub entries : (i : ℕ) → entry_at t.bytes i ≡ (if i == 0 then 2 * cluster_size h else 0)
 
--- the three clusters are written, or a stop is as said above
+-- The three clusters are written; or a stop leaves what a stop of creating may.
 abbrev pub WritesThree : HeaderFields → StorageView → StorageView → Result (Unit {0}) ImageError → Type 0
 WritesThree h old new (Ok _) = StaysCreating Mode.None 0 old new × IsNewImage h (byte_at new.contents)
 WritesThree h old new (Err _) = StaysCreating Mode.None 0 old new
 
--- a new disk of this size stands there, and the header has the format that it had
+-- The storage holds a new disk of this size, and the header has the same format.
 pub record IsEnlarged (mode : PreallocateMode) (n : ℕ) (old new : StorageView) : Type 0 where
   pub stays : StaysCreating mode n old new
   pub new_disk : IsNewDisk mode n (byte_at new.contents)
@@ -283,25 +283,25 @@ pub record IsEnlarged (mode : PreallocateMode) (n : ℕ) (old new : StorageView)
   pub l1_length : (header (byte_at old.contents)).autoclear ≡ 0 → FitsSize (header (byte_at old.contents)) → FitsSize (header (byte_at new.contents))
   pub rest : KeepsHeaderRest (byte_at old.contents) (byte_at new.contents)
 
--- it is opened, made larger and flushed, or a stop is as said above
+-- The image is opened, grown and flushed; or a stop leaves what a stop of creating may.
 abbrev pub Enlarges : PreallocateMode → ℕ → StorageView → StorageView → Result (Unit {0}) ImageError → Type 0
 Enlarges mode n old new (Ok _) = IsEnlarged mode n old new
 Enlarges mode n old new (Err _) = StopsCreating mode n old new
 
--- Nothing stands for any guest cluster of an open image, and its entries could say that one is zeros.
+-- Every guest cluster of an open image is unmapped, and its version has zero clusters.
 pub record IsUnmapped {S F : Type 0} (view : S → StorageView) (image : Qcow2 S F) : Type 0 where
   pub version : 3 ≤ image.file.header.fields.version
   pub covers : (g : ℕ) → cover image.file.header.fields (known_in view image.file) g ≡ Uncovered
 
 module _ {S F : Type 0} (view : S → StorageView) (backing : F → BackingView) where
-  -- an open image of which no mapping is prepared is made larger, and place is taken for that
+  -- An open image without prepared mappings is grown, and clusters are allocated for the new part.
   pub record TakesPlace (mode : PreallocateMode) (old new : Qcow2 S F) (size : ℕ) (r : Result (Unit {0}) ImageError) : Type 0 where
     pub no_larger : refuses_to_resize old ≡ None → size ≤ size_of old → new ≡ old
     pub image : size_of old < size → IsResized (size_after r (size_of old) size) old new
     pub sees : GrowsTo view backing old new size mode r
     pub tables : refuses_to_resize old ≡ None → size_of old < size → (abstract_of view backing old []).is_sound → GrowsTables view backing old new size mode [] r
 
-  -- it is made larger in a mode
+  -- The disk grows in this mode.
   abbrev pub GrowsBy : PreallocateMode → Qcow2 S F → Qcow2 S F → ℕ → Result (Unit {0}) ImageError → Type 0
   GrowsBy Mode.None old new size r = (abstract_of view backing old []).is_sound → GrowsDisk view backing old new size r
   GrowsBy mode old new size r = TakesPlace mode old new size r

@@ -1,4 +1,4 @@
--- The failures of an image's storage and of the disk below it, as each call counts them that reads or writes one of the two.
+-- Counting I/O errors of an image's storage and of its backing disk, in each call that reads or writes one of them.
 use Rattle.std.specs.Prelude.{◌≡◌, ◌≢◌, ◌⊎◌, ◌≤◌, Option, Some, None, Result, Ok, Err, IfErr}
 use Rattle.image_access.specs.Backing.{BackingView}
 use Rattle.image_access.specs.Moments.{StorageView, Rose, UnlessErr}
@@ -8,34 +8,34 @@ use Rattle.qcow2_alloc.specs.Faults.{faults_of}
 use Rattle.qcow2_image.specs.declared.image.Qcow2.{Qcow2}
 use Rattle.qcow2_image.specs.ImageInvariant.{faults_below}
 
--- a refusal that isn't the storage's failure
+-- A refusal that is not an I/O error.
 abbrev pub IsNotOfStorage : ImageError → Type 0
 IsNotOfStorage e = e ≢ Storage
 
 module _ {S F : Type 0} (view : S → StorageView) (backing : F → BackingView) where
-  -- neither number of faults falls
+  -- Neither number of faults falls.
   pub record NoFewerFaults (old new : Qcow2 S F) : Type 0 where
     pub storage : faults_of view old.file.storage ≤ faults_of view new.file.storage
     pub below : faults_below view backing old.backing ≤ faults_below view backing new.backing
 
-  -- both numbers of faults stay
+  -- Both numbers of faults stay the same.
   pub record SameFaults (old new : Qcow2 S F) : Type 0 where
     pub storage : faults_of view new.file.storage ≡ faults_of view old.file.storage
     pub below : faults_below view backing new.backing ≡ faults_below view backing old.backing
 
-  -- one of the two rose, or stood at the greatest u64
+  -- One of the two numbers rose, or is the greatest u64.
   abbrev pub OneRose : Qcow2 S F → Qcow2 S F → Type 0
   OneRose old new = Rose (faults_of view old.file.storage) (faults_of view new.file.storage) ⊎ Rose (faults_below view backing old.backing) (faults_below view backing new.backing)
 
-  -- a refusal says that a storage failed only where one did
+  -- A refusal with an I/O error comes only after a fault was counted.
   abbrev pub TellsFault : Qcow2 S F → Qcow2 S F → ImageError → Type 0
   TellsFault old new e = e ≡ Storage → OneRose old new
 
-  -- each failure is told: where a call isn't refused so, both numbers stay
+  -- Every fault is reported: unless a call is refused with an I/O error, both numbers stay the same.
   abbrev pub TellsEach : {T : Type 0} → Qcow2 S F → Qcow2 S F → Result T ImageError → Type 0
   TellsEach old new result = UnlessErr result Storage (SameFaults old new)
 
-  -- the same of a refusal that an error has, and of one that there may be
+  -- Every fault is reported, if the error is a part of another one.
   abbrev pub TellsEachBy : {T E : Type 0} → (E → ImageError) → Qcow2 S F → Qcow2 S F → Result T E → Type 0
   TellsEachBy reason old new (Ok _) = SameFaults old new
   TellsEachBy reason old new (Err e) = reason e ≢ Storage → SameFaults old new
@@ -44,7 +44,7 @@ module _ {S F : Type 0} (view : S → StorageView) (backing : F → BackingView)
   TellsEachIn old new None = SameFaults old new
   TellsEachIn old new (Some e) = e ≢ Storage → SameFaults old new
 
-  -- No call lowers the numbers of faults. Where it is refused as the storage's failure, one of the two rose, or stood at the greatest u64. Where it isn't, both stay.
+  -- No call lowers a number of faults. If it is refused with an I/O error, one of the two rose, or is the greatest u64. Otherwise both stay the same.
   pub record CountsImageFaults {T : Type 0} (old new : Qcow2 S F) (result : Result T ImageError) : Type 0 where
     pub no_fewer : NoFewerFaults old new
     pub rose : IfErr result (TellsFault old new)

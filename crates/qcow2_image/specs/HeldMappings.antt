@@ -1,4 +1,4 @@
--- How the tables in memory map a guest range, of an image in any state.
+-- How the tables in memory map a guest range, whatever the image contains.
 use Rattle.std.specs.Prelude.{ℕ, ◌+◌, ◌-◌, ◌*◌, ◌/◌, ◌%◌, ◌^◌, ◌≡◌, ◌<◌, ◌≤◌, ◌⊎◌, Bool, Option, Some, is_some, Result, Ok, Err}
 use Rattle.qcow2_metadata.specs.Entries.{host_offset}
 use Rattle.qcow2_metadata.specs.EntryTable.{EntryTableView}
@@ -16,56 +16,56 @@ use Rattle.qcow2_image.specs.declared.image.Qcow2.{Qcow2}
 use Rattle.qcow2_image.specs.declared.mapping.MappingKind.{MappingKind}
 use Rattle.qcow2_image.specs.Found.{found_kind, mapping_of, IsAlikeTo, l1_index_of}
 
--- what the L1 table names for an offset: an L2 table from this place on, or none
+-- The offset of the L2 table that the L1 table in memory has for a guest offset, 0 for none.
 abbrev pub named_place : HeaderFields → EntryTableView → ℕ → ℕ
 named_place h l1_table offset = host_offset (entry_at l1_table.bytes (l1_index_of h offset))
 
 module _ {S : Type 0} (h : HeaderFields) (is_backed : Bool) (l1_table : EntryTableView) (caches : MetadataCaches S) (offset : ℕ) where
-  -- A table maps n bytes so: the first guest cluster, and like it each other one that they reach.
+  -- An L2 table maps n bytes in this way: the first guest cluster, and all others that the range touches like it.
   pub record IsMappedBy (table : L2TableView) (kind : MappingKind) (n : ℕ) : Type 0 where
     pub first : found_kind kind ≡ kind_at h is_backed offset (mapping_of table (offset / cluster_size h))
     pub alike : (k : ℕ) → cluster_size h - offset % cluster_size h + k * 2 ^ table.cluster_bits < n → IsAlikeTo table (offset / cluster_size h) (k + 1)
 
-  -- the L1 table names no L2 table for the offset, so nothing stands there
+  -- The L1 table has no L2 table for the offset, so it is unmapped.
   pub record IsUncovered (kind : MappingKind) : Type 0 where
     pub none : named_place h l1_table offset ≡ 0
     pub kind_is : found_kind kind ≡ kind_at h is_backed offset Uncovered
 
-  -- The L2 table that it names is held, and maps them so.
+  -- The L2 table of the offset is cached, and maps the n bytes in this way.
   pub record IsMappedByNamed (kind : MappingKind) (n : ℕ) : Type 0 where
     pub named : ¬ (named_place h l1_table offset ≡ 0)
     pub table : L2TableView
     pub held : l2_at caches (named_place h l1_table offset / cluster_size h) ≡ Some table
     pub mapped : IsMappedBy table kind n
 
-  -- so it is of a range below the size, of which one L2 table covers all
+  -- The range lies below the size, one L2 table covers it, and the tables in memory map it in this way.
   pub record IsMappedSo (kind : MappingKind) (n : ℕ) : Type 0 where
     pub below : offset + n ≤ h.size
     pub within : n ≤ rest_of_table h offset
     pub mapped : IsUncovered kind ⊎ IsMappedByNamed kind n
 
-  -- such a range of at most so many bytes, and no longer one is mapped so
+  -- The longest range that is mapped in this way, up to a limit.
   pub record IsLongestSo (max : ℕ) (kind : MappingKind) (n : ℕ) : Type 0 where
     pub mapped : IsMappedSo kind n
     pub at_most : n ≤ max
     pub longest : n < max → ¬ IsMappedSo kind (n + 1)
 
 module _ {S F : Type 0} (image : Qcow2 S F) (offset : ℕ) where
-  -- the tables in memory map a range so
+  -- The tables in memory map the range in this way.
   abbrev pub IsHeldAs : MappingKind → ℕ → Type 0
   IsHeldAs kind n = IsMappedSo image.file.header.fields (is_some image.backing) image.l1_table image.file.caches offset kind n
 
-  -- so they do, and no longer range, up to so many bytes
+  -- The tables in memory map the range in this way, and no longer one, up to a limit.
   abbrev pub IsHeldRun : ℕ → MappingKind → ℕ → Type 0
   IsHeldRun max kind n = IsLongestSo image.file.header.fields (is_some image.backing) image.l1_table image.file.caches offset max kind n
 
-  -- A range is answered of only where the tables in memory map it so, and refused 10 only where they don't.
+  -- A call succeeds only if the tables in memory map the range in this way, and is refused 10 only if they don't.
   abbrev pub HeedsHeld : {A : Type 0} → MappingKind → ℕ → Result A ImageError → Type 0
   HeedsHeld kind n (Ok _) = IsHeldAs kind n
   HeedsHeld kind n (Err e) = e ≡ OutdatedMapping → ¬ IsHeldAs kind n
 
 module _ {S F : Type 0} where
-  -- what the tables in memory map stays
+  -- What the tables in memory map stays the same.
   pub record KeepsHeld (old new : Qcow2 S F) : Type 0 where
     pub header : new.file.header ≡ old.file.header
     pub backed : is_some new.backing ≡ is_some old.backing

@@ -1,4 +1,4 @@
--- What a contract sees of an open image.
+-- The view of an open image in contracts.
 use Rattle.std.specs.Prelude.{◌≡◌, ℕ, Bool, false, [], Option, is_some}
 use Rattle.std.specs.Option.{option_map_or}
 use Rattle.qcow2_metadata.specs.Header.{has_data_file}
@@ -7,64 +7,64 @@ use Rattle.qcow2_alloc.specs.ImageFile.{KeepsHeader, has_noted}
 use Rattle.qcow2_alloc.specs.ImageStorage.{changes_of, is_changed_of, storage_of}
 use Rattle.qcow2_image.specs.declared.image.Qcow2.{Qcow2}
 
--- how many clusters an allocator couldn't free, where there is one
+-- How many clusters an allocator could not free, 0 without an allocator.
 abbrev pub leaked_by : Option Allocator → ℕ
 leaked_by allocator = option_map_or (λ (a : Allocator). a.leaked_clusters) allocator 0
 
 module _ {S F : Type 0} where
-  -- the number that it was opened with
+  -- The number that the image was opened with.
   abbrev pub number_of : Qcow2 S F → ℕ
   number_of image = image.number
 
-  -- the storage that it stands in
+  -- The storage of the image.
   abbrev pub storage_of_image : Qcow2 S F → S
   storage_of_image image = storage_of image.file.storage
 
-  -- an earlier call marked it as failed
+  -- An earlier call marked the image as failed.
   abbrev pub is_failed : Qcow2 S F → Bool
   is_failed image = image.is_failed
 
-  -- since the call began, a change of a table, of a count or of the storage was noted
+  -- A change of a table, of a refcount or of the storage was recorded since the call began.
   abbrev pub has_noted_change : Qcow2 S F → Bool
   has_noted_change image = has_noted image.file
 
-  -- the same image, with other marks: whether the storage noted a change, and whether it is failed
+  -- The same image with other marks: whether the storage recorded a change, and whether the image failed.
   abbrev pub with_marks : Qcow2 S F → (noted failed : Bool) → Qcow2 S F
   with_marks image noted failed = record image { is_failed = failed; file = record image.file { storage = record image.file.storage { is_changed = noted } } }
 
-  -- the size of the guest's disk
+  -- The size of the guest's disk.
   abbrev pub size_of : Qcow2 S F → ℕ
   size_of image = image.file.header.fields.size
 
-  -- it was opened for writing
+  -- The image was opened for writing.
   abbrev pub is_writable : Qcow2 S F → Bool
   is_writable image = is_some image.allocator
 
-  -- its data stand in another file
+  -- The data are in an external file.
   abbrev pub is_external : Qcow2 S F → Bool
   is_external image = has_data_file image.file.header.fields
 
-  -- no cluster is left to be freed
+  -- No cluster waits to be freed.
   abbrev pub HasNothingToFree : Qcow2 S F → Type 0
   HasNothingToFree image = image.file.free_list ≡ []
 
-  -- how many of its clusters couldn't be freed
+  -- How many clusters of the image could not be freed.
   abbrev pub leaked_in : Qcow2 S F → ℕ
   leaked_in image = leaked_by image.allocator
 
-  -- it is the same image, with a disk of the same size
+  -- It is the same image, and its disk has the same size.
   pub record IsSameImage (old new : Qcow2 S F) : Type 0 where
     pub number : number_of new ≡ number_of old
     pub size : size_of new ≡ size_of old
     pub writable : is_writable new ≡ is_writable old
     pub external : is_external new ≡ is_external old
 
-  -- and is marked as failed where it was before
+  -- It is the same image, and it is marked as failed if it was before.
   pub record ImageStays (old new : Qcow2 S F) : Type 0 where
     pub image : IsSameImage old new
     pub failed : is_failed new ≡ is_failed old
 
-  -- A call has begun on it: no change is noted yet, and all else is as before.
+  -- A call has begun: no change is recorded yet, and all else is the same.
   pub record IsBegun (old new : Qcow2 S F) : Type 0 where
     pub storage : storage_of_image new ≡ storage_of_image old
     pub unnoted : is_changed_of new.file.storage ≡ false
@@ -72,16 +72,16 @@ module _ {S F : Type 0} where
     pub caches : new.file.caches ≡ record old.file.caches { is_changed = false }
     pub rest : new ≡ record old { file = record old.file { storage = new.file.storage; caches = new.file.caches } }
 
-  -- The header in memory stays as it is, and with it the places and lengths of the L1 table and the reftable, and the autoclear bits.
+  -- The header in memory stays the same, with the pointers to the L1 table and the reftable, and the autoclear bits.
   abbrev pub KeepsWholeHeader : Qcow2 S F → Qcow2 S F → Type 0
   KeepsWholeHeader old new = new.file.header ≡ old.file.header
 
-  -- its header and its backing disk stay as they are
+  -- The header and the backing disk stay the same.
   pub record KeepsRest (old new : Qcow2 S F) : Type 0 where
     pub header : new.file.header ≡ old.file.header
     pub backing : new.backing ≡ old.backing
 
-  -- so they do, but that the reftable may have moved
+  -- The header and the backing disk stay the same, except the pointer to the reftable.
   pub record KeepsRestOn (old new : Qcow2 S F) : Type 0 where
     pub header : KeepsHeader old.file.header new.file.header
     pub backing : new.backing ≡ old.backing

@@ -1,4 +1,4 @@
--- What contracts see of an open image: its disk, its prepared mappings, what is pending, and when it is sound.
+-- The view of an open image in contracts: its disk, its prepared mappings, what is pending, and when it is sound.
 use Rattle.std.specs.Prelude.{ℕ, ◌+◌, ◌-◌, ◌*◌, ◌/◌, ◌%◌, ◌≡◌, ◌<◌, ◌≤◌, ◌==◌, Bool, true, false, is_some, is_none, IfSome, List, [], ◌∷◌, length, nat_le, Option, None, Some, slice_get, if◌then◌else◌}
 use Rattle.std.specs.Option.{option_map_or}
 use Rattle.image_access.specs.Backing.{BackingView}
@@ -33,70 +33,70 @@ use Rattle.qcow2_image.specs.Prepared.{image_of, offset_of, length_of, table_of}
 
 -- ---- what is pending
 
--- 1 for the cluster that is named
+-- 1 for the cluster of the pinned table, otherwise 0.
 abbrev pub pins_of : Option ℕ → ℕ → ℕ
 pins_of pinned table = option_map_or (λ t. one_if (t == table)) pinned 0
 
--- how often shares hold a cluster
+-- How often shares hold the cluster.
 abbrev pub new_data_in : List Share → ℕ → ℕ
 new_data_in [] k = 0
 new_data_in (InPlace ∷ shares) k = new_data_in shares k
 new_data_in (Kept ∷ shares) k = new_data_in shares k
 new_data_in (New taken old_data ∷ shares) k = to_free of_data taken k + new_data_in shares k
 
--- how often a prepared mapping holds the cluster, and how often it pins the L2 table of a cluster
+-- How often a prepared mapping holds the cluster; and how often it pins the L2 table in the cluster.
 abbrev pub new_data_by : Prepared → ℕ → ℕ
 new_data_by p k = new_data_in p.shares.items k
 
 abbrev pub pins_by : Prepared → ℕ → ℕ
 pins_by p table = pins_of p.table table
 
--- a run of clusters that is to be freed
+-- A run of data clusters that wait to be freed.
 abbrev pub listed_run : Option (ℕ × ℕ) → List ClustersToFreeEntry
 listed_run None = []
 listed_run (Some run) = data_entry run.0 run.1 ∷ []
 
--- how often all do
+-- The sum over all prepared mappings.
 abbrev pub over_all : (Prepared → ℕ → ℕ) → List (Option Prepared) → ℕ → ℕ
 over_all f [] k = 0
 over_all f (p ∷ out) k = option_map_or (λ q. f q k) p 0 + over_all f out k
 
--- ---- prepared mappings over the bytes of an image: those on the storage, and those known
+-- ---- prepared mappings over the bytes of an image: on the storage, and known
 
--- what isn't in place becomes visible as it is entered
+-- Whether the bytes of a share become visible only when it is entered in the L2 table.
 abbrev pub is_entered : Share → Bool
 is_entered InPlace = false
 is_entered Kept = true
 is_entered (New taken old_data) = true
 
--- nothing on the storage names a new cluster
+-- Whether the share is a new cluster, which nothing on the storage names.
 abbrev pub is_new : Share → Bool
 is_new InPlace = false
 is_new Kept = false
 is_new (New taken old_data) = true
 
 module _ (h : HeaderFields) where
-  -- the first guest cluster of a mapping, and where its cluster begins in the file
+  -- The first guest cluster of a mapping, and the host offset of its cluster.
   abbrev pub cluster_of : Prepared → ℕ
   cluster_of p = p.guest / cluster_size h
 
   abbrev pub begin_of : Prepared → ℕ
   begin_of p = p.offset - p.guest % cluster_size h
 
-  -- where the i-th cluster of a mapping begins in the file: they follow one another
+  -- The host offset of the i-th cluster of a mapping. The clusters are contiguous in the file.
   abbrev pub host_begin_of : Prepared → ℕ → ℕ
   host_begin_of p i = begin_of p + i * cluster_size h
 
-  -- where a guest byte of it stands
+  -- The host offset of a guest byte of the mapping.
   abbrev pub place_of : Prepared → ℕ → ℕ
   place_of p o = begin_of p + (o - cluster_of p * cluster_size h)
 
-  -- the share of a guest cluster, where it has one
+  -- The share of a guest cluster in a mapping, if it has one.
   abbrev pub share_of : Prepared → ℕ → Option Share
   share_of p g = if nat_le (cluster_of p) g then slice_get p.shares.items (g - cluster_of p) else None
 
   module _ (known on_storage : Bytes) (p : Prepared) where
-    -- what the L2 entry of its i-th guest cluster says: for a new cluster, what isn't copied data; what it names is old data then
+    -- The share is a new cluster: the L2 entry of the i-th guest cluster is not copied data, and what it refers to will be old data.
     pub record IsNewAt (i : ℕ) (taken old_data : List ClustersToFreeEntry) : Type 0 where
       pub first : ℕ
       pub is : taken ≡ data_entry first 1 ∷ []
@@ -106,20 +106,20 @@ module _ (h : HeaderFields) where
       pub reach : IsInReach (cover h known (cluster_of p + i))
       pub drops : old_data ≡ listed_run (named_run h.cluster_bits (cover h known (cluster_of p + i)))
 
-    -- zeros, whose entry keeps the host cluster
+    -- The share is kept: the L2 entry is a zero entry that keeps the host cluster.
     pub record IsKeptAt (i : ℕ) : Type 0 where
       pub first : ℕ
       pub place : first * cluster_size h ≡ host_begin_of p i
       pub nameable : IsHostCluster h.cluster_bits first
       pub entry : cover h known (cluster_of p + i) ≡ Zero (Some (host_begin_of p i, true))
 
-    -- or copied data, where it stands
+    -- The i-th share of a mapping is in place (copied data), kept or new.
     abbrev pub IsShareAt : ℕ → Share → Type 0
     IsShareAt i InPlace = cover h known (cluster_of p + i) ≡ Data (host_begin_of p i) true
     IsShareAt i Kept = IsKeptAt i
     IsShareAt i (New taken old_data) = IsNewAt i taken old_data
 
-    -- a mapping that isn't existing has a share for each cluster that it touches, all under one L2 table, which is the pinned one and marked copied
+    -- A pinned mapping has a share for each cluster that it touches. All are in one L2 table, which it pins, and whose L1 entry is marked copied.
     pub record IsPending (table : ℕ) : Type 0 where
       pub some : 0 < p.length
       pub begins : begin_of p + p.guest % cluster_size h ≡ p.offset
@@ -135,18 +135,18 @@ module _ (h : HeaderFields) where
     IsReadyWith (Some table) = IsPending table
 
 module _ {S F : Type 0} (view : S → StorageView) (backing : F → BackingView) where
-  -- ---- the disk below
+  -- ---- the backing disk
 
   abbrev pub backing_bytes : Option F → Bytes
   backing_bytes None = λ o. 0
   backing_bytes (Some f) = byte_at (backing f).bytes
 
-  -- how often it has failed
+  -- How often the backing disk has failed.
   abbrev pub faults_below : Option F → ℕ
   faults_below None = 0
   faults_below (Some f) = (backing f).faults
 
-  -- whether there is one, and its bytes
+  -- Whether there is a backing disk, and its bytes.
   abbrev pub below_of : Option F → Bool × Bytes
   below_of disk = (is_some disk, backing_bytes disk)
 
@@ -156,7 +156,7 @@ module _ {S F : Type 0} (view : S → StorageView) (backing : F → BackingView)
 
   -- ---- prepared mappings
 
-  -- what it means: what isn't in place is private until it is committed, and shows its bytes then; what is new is hidden from stops too
+  -- The meaning of a prepared mapping: bytes that are not in place are private until the commit, which shows them. Those in new clusters are also hidden from stops.
   abbrev pub is_private : Qcow2 S F → Prepared → ℕ → Bool
   is_private image p o = option_map_or is_entered (share_of image.file.header.fields p (o / cluster_size image.file.header.fields)) false
 
@@ -172,21 +172,21 @@ module _ {S F : Type 0} (view : S → StorageView) (backing : F → BackingView)
     shown = λ o. known_byte (if is_private image p o then contents_in view image.file (place_of image.file.header.fields p o) else 0);
   }
 
-  -- it is this image's own, and its clusters stand ready
+  -- The mapping belongs to this image, and is existing or ready for its commit.
   pub record IsReady (image : Qcow2 S F) (p : Prepared) : Type 0 where
     pub own : image_of p ≡ number_of image
     pub mapped : IsReadyWith image.file.header.fields (known_in view image.file) (contents_in view image.file) p p.table
 
   -- ---- the image
 
-  -- the L1 table is the one on the storage; without entries it lies nowhere
+  -- The L1 table in memory is the one on the storage. Without entries it has no place.
   pub record HasL1Table (file : ImageFile S) (table : EntryTableView) : Type 0 where
     pub cluster : 0 < file.header.fields.l1_entries → table.cluster ≡ Some (file.header.fields.l1_offset / cluster_size file.header.fields)
     pub bits : table.cluster_bits ≡ file.header.fields.cluster_bits
     pub count : entry_count table ≡ file.header.fields.l1_entries
     pub entries : IsL1TableOf file.header.fields (contents_in view file) table
 
-  -- it is as the driver keeps it while this is pending, and these mappings are out, each at its place
+  -- The invariant of an open image, with these pending clusters and these prepared mappings.
   pub record ImageInvariant (p : Pending) (image : Qcow2 S F) (out : List (Option Prepared)) : Type 0 where
     pub works : is_failed image ≡ false
     pub file : FileInvariant view p image.file
@@ -199,13 +199,13 @@ module _ {S F : Type 0} (view : S → StorageView) (backing : F → BackingView)
     pub pinned : (table : ℕ) → l2_pins image.file.caches table ≡ over_all pins_by out table
     pub once : (table : ℕ) → over_all pins_by out table ≤ 1
 
-  -- how much more often a cluster is counted than it is named, new data or to be freed
+  -- The surplus of a cluster: its refcount minus its references, new data and clusters that wait to be freed.
   abbrev pub surplus_in : Qcow2 S F → List (Option Prepared) → ℕ → ℕ
   surplus_in image out k =
       count image.file.header.fields (known_in view image.file) k
       - (named image.file.header.fields (known_in view image.file) k + over_all new_data_by out k + to_free of_tables image.file.free_list k + to_free of_data image.file.free_list k)
 
-  -- what is pending: clusters of prepared mappings, and those to be freed
+  -- What is pending: the clusters of prepared mappings, and those that wait to be freed.
   abbrev pub pending_in : Qcow2 S F → List (Option Prepared) → Pending
   pending_in image out = record {
     new_data = over_all new_data_by out;
@@ -215,7 +215,7 @@ module _ {S F : Type 0} (view : S → StorageView) (backing : F → BackingView)
     surplus = surplus_in image out;
   }
 
-  -- what an image says of itself
+  -- The view of open images, as the abstract disk needs it.
   abbrev pub image_abstraction : Abstraction (Qcow2 S F) Prepared
   image_abstraction = record {
     number = number_of;
@@ -234,10 +234,10 @@ module _ {S F : Type 0} (view : S → StorageView) (backing : F → BackingView)
     host = λ p. record { offset = offset_of p; length = length_of p; is_existing = is_none (table_of p) };
   }
 
-  -- the disk that a guest knows
+  -- The disk of the known contents.
   abbrev pub disk_of : Qcow2 S F → Disk
   disk_of image = disk (known_in view image.file) (backing_bytes image.backing)
 
-  -- the image while these mappings are out
+  -- The view of the image with these prepared mappings.
   abbrev pub abstract_of : Qcow2 S F → List (Option Prepared) → AbstractImage
   abstract_of image out = view_of image_abstraction image out

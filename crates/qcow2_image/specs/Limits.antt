@@ -1,4 +1,4 @@
--- Why a call on a sound image is refused for a limit, 13: at a state within the call clusters that it needs have no place, or an L1 table would be too long.
+-- Why a sound image refuses a call for a limit (13): at some state within the call there was no room for clusters, or an L1 table would have been too long.
 use Rattle.std.specs.Prelude.{ℕ, ◌+◌, ◌-◌, ◌*◌, ◌/◌, ◌^◌, ◌<◌, ◌≤◌, ◌≡◌, ◌⊎◌, max, List, [], length, Option, Some, Result, IfErr}
 use Rattle.image_access.specs.Backing.{BackingView}
 use Rattle.image_access.specs.Moments.{StorageView}
@@ -21,33 +21,33 @@ use Rattle.qcow2_image.specs.UnseenSteps.{UnseenFillingStep, UnseenStep, pending
 use Rattle.qcow2_image.specs.declared.image.Qcow2.{Qcow2}
 use Rattle.qcow2_image.specs.declared.prepared.Prepared.{Prepared}
 
--- a refusal for a limit has a cause
+-- If the call is refused for a limit, there is this cause.
 abbrev pub IfLimit : {T : Type 0} → Result T ImageError → Type 0 → Type 0
 IfLimit result Cause = IfErr result (λ e. e ≡ Limit → Cause)
 
--- the clusters that an L1 table of so many entries needs
+-- The number of clusters that an L1 table of this many entries needs.
 abbrev pub l1_clusters : HeaderFields → ℕ → ℕ
 l1_clusters h entries = (8 * entries + cluster_size h - 1) / cluster_size h
 
 module _ {S F : Type 0} where
-  -- how many entries an L1 table has that is no shorter, and has one for an offset
+  -- The number of entries of an L1 table that is no shorter and covers an offset.
   abbrev pub entries_reaching : ℕ → Qcow2 S F → ℕ
   entries_reaching offset image = max (entry_count image.l1_table) (l1_index_of image.file.header.fields offset + 1)
 
   module _ (view : S → StorageView) where
-    -- By what is in use, n clusters in a row have no place: one for data or for an L2 table, or as many as an L1 table needs that has an entry for an offset. Or a cluster for which a reftable may have an entry can't be counted.
+    -- By the refcounts, there is no room for n contiguous clusters: one for data or for an L2 table, or those of an L1 table that covers the offset. Or a cluster that a reftable may cover cannot be counted.
     pub record LacksPlace (offset : ℕ) (image : Qcow2 S F) : Type 0 where
       pub allocator : Allocator
       pub is : image.allocator ≡ Some allocator
       pub lacks : ((n : ℕ) × ((n ≡ 1) ⊎ (n ≡ l1_clusters image.file.header.fields (entries_reaching offset image))) × HasNoPlace (IsUsed view image.file) image.file.header.fields allocator n)
           ⊎ ((cluster : ℕ) × (cluster / counts_per_block image.file.header.fields < 2 ^ 20) × CantCount (IsUsed view image.file) image.file.header.fields (λ k. 0) allocator cluster)
 
-    -- a call went on to a state: it is the same image, and the header's cluster was left alone
+    -- The call reached this state: it is the same image, and the header's cluster stayed the same.
     pub record GoesTo (old mid : Qcow2 S F) : Type 0 where
       pub image : IsSameImage old mid
       pub header_cluster : StaysBehindHeader view old mid
 
-    -- A part of a call met a limit at a state that keeps what a part has to keep: clusters have no place, or an L1 table with an entry for an offset below an end is too long.
+    -- A part of a call passed a limit at a state that satisfies `Keeps`: there was no room for clusters, or an L1 table with an entry for an offset below `end` would be too long.
     pub record IsLimitedIn (Keeps : Qcow2 S F → Type 0) (end : ℕ) (old : Qcow2 S F) : Type 0 where
       pub mid : Qcow2 S F
       pub before : GoesTo old mid
@@ -57,14 +57,14 @@ module _ {S F : Type 0} where
       pub limit : (4194304 ≤ l1_index_of mid.file.header.fields offset) ⊎ LacksPlace offset mid
 
     module _ (backing : F → BackingView) where
-      -- So did one that a guest doesn't see. Of what was pending only the clusters to be freed are more, also where it takes a cluster for data.
+      -- A part of a call passed a limit at a state that guests cannot tell from the old one. What is pending differs only by more clusters that wait to be freed.
       abbrev pub IsLimitedUnseen : Pending → ℕ → Qcow2 S F → List (Option Prepared) → Type 0
       IsLimitedUnseen p end old out = IsLimitedIn (λ mid. UnseenStep view backing p (pending_with_listed p old mid) old mid out) end old
 
       abbrev pub IsLimitedTaking : Pending → ℕ → Qcow2 S F → List (Option Prepared) → Type 0
       IsLimitedTaking p end old out = IsLimitedIn (λ mid. UnseenFillingStep view backing p (pending_with_listed p old mid) old mid out) end old
 
-      -- A call met one at a sound state that it led to, with so many places for mappings at most. It is the same image, with clusters of the same size and each surplus as at the call, and no cluster was leaked. What stands for each guest cluster of which no such byte was given is as at the call.
+      -- A call passed a limit at a sound state that it led to, with at most this many mapping slots. It is the same image, with the same cluster size and the same surplus of each cluster, and no cluster was leaked. The mapping of every guest cluster that is given no byte is the same.
       pub record IsLimitedWith (most : ℕ) (given : List GivenBytes) (end : ℕ) (old : Qcow2 S F) (out : List (Option Prepared)) : Type 0 where
         pub mid : Qcow2 S F
         pub now : List (Option Prepared)
@@ -76,10 +76,10 @@ module _ {S F : Type 0} where
         pub below : offset < end
         pub limit : (4194304 ≤ l1_index_of mid.file.header.fields offset) ⊎ LacksPlace offset mid
 
-      -- so it did with the mappings that are out
+      -- The state has the mappings that are prepared.
       abbrev pub IsLimitedAmong : List GivenBytes → ℕ → Qcow2 S F → List (Option Prepared) → Type 0
       IsLimitedAmong given end old out = IsLimitedWith (length out) given end old out
 
-      -- or with at most one more, which it was making
+      -- The state has at most one mapping more, which the call was making.
       abbrev pub IsLimited : List GivenBytes → ℕ → Qcow2 S F → List (Option Prepared) → Type 0
       IsLimited given end old out = IsLimitedWith (length out + 1) given end old out

@@ -1,4 +1,4 @@
--- A longer L1 table takes the place of the former one, which no guest sees: it gets its clusters, is written there, and then the header names it. The clusters of the former one are to be freed.
+-- Replacing the L1 table by a longer one, which guests don't see: clusters are allocated, the table is written to them, and the header points to it. The clusters of the old table wait to be freed.
 use Rattle.std.specs.Prelude.{ℕ, ◌+◌, ◌-◌, ◌*◌, ◌/◌, ◌^◌, ◌<◌, ◌≡◌, ◌≤◌, ◌⊎◌, List, [], ◌∷◌, length, Option, Some, None, Result, Ok, Err}
 use Rattle.image_access.specs.Backing.{BackingView}
 use Rattle.image_access.specs.Moments.{StorageView}
@@ -31,30 +31,30 @@ use Rattle.qcow2_image.specs.ImageInvariant.{below_of, ImageInvariant}
 use Rattle.qcow2_image.specs.MovedTables.{MovesTables, CoversStay}
 use Rattle.qcow2_image.specs.UnseenSteps.{UnseenStep, ListGrows, pending_with_listed}
 
--- how many clusters a table needs
+-- The number of clusters that a table needs.
 abbrev pub clusters_of : EntryTableView → ℕ
 clusters_of t = (length t.bytes + 2 ^ t.cluster_bits - 1) / 2 ^ t.cluster_bits
 
--- the clusters of a table, where it has a place
+-- The clusters of a table, if it has a place.
 abbrev pub run_of_table : EntryTableView → Option ℕ → Option ClustersToFreeEntry
 run_of_table t None = None
 run_of_table t (Some cluster) = Some (metadata_entry cluster (clusters_of t))
 
--- as a list
+-- The run as a list of clusters to free.
 abbrev pub listed : Option ClustersToFreeEntry → List ClustersToFreeEntry
 listed None = []
 listed (Some e) = e ∷ []
 
--- the clusters of the L1 table are to be freed
+-- The clusters of the L1 table wait to be freed.
 abbrev pub without_l1 : Pending → HeaderFields → Pending
 without_l1 p h = record p { old_tables = λ k. p.old_tables k + in_run h k h.l1_offset (8 * h.l1_entries) }
 
--- clusters are taken for a table
+-- Clusters are allocated for a table.
 abbrev pub with_table : Pending → EntryTableView → ℕ → Pending
 with_table p t cluster = with_new_tables p (run_at cluster (clusters_of t))
 
 module _ {S F : Type 0} where
-  -- a table has the entries of the image's L1 table, and maybe more, which name nothing
+  -- A table with the entries of the image's L1 table, and possibly more that are empty.
   pub record IsLongerL1 (image : Qcow2 S F) (t : EntryTableView) : Type 0 where
     pub bits : t.cluster_bits ≡ image.file.header.fields.cluster_bits
     pub whole : length t.bytes ≡ 8 * entry_count t
@@ -62,7 +62,7 @@ module _ {S F : Type 0} where
     pub entries : (i : ℕ) → entry_at t.bytes i ≡ entry_at image.l1_table.bytes i
 
   module _ (view : S → StorageView) where
-    -- it stands in its clusters, and all counts are written
+    -- The longer table is written to its clusters, and all refblocks are written.
     pub record StandsWhole (image : Qcow2 S F) (t : EntryTableView) (cluster : ℕ) : Type 0 where
       pub table : IsLongerL1 image t
       pub cluster_is : t.cluster ≡ Some cluster
@@ -71,7 +71,7 @@ module _ {S F : Type 0} where
       pub covers : order_of image.file.caches ≡ RbDependsOnL2 → SameCovers image.file.header.fields (contents_in view image.file) (known_in view image.file)
 
     module _ (backing : F → BackingView) where
-      -- No guest sees it, though the L1 table may move: all is sound again, from what was pending to what is. At each moment what was kept is kept.
+      -- Guests don't see the step, though the L1 table may move. The image is sound again, and a stop at any moment is as safe as before.
       pub record UnseenMove (p p' : Pending) (old new : Qcow2 S F) (out : List (Option Prepared)) : Type 0 where
         pub sound : ImageInvariant view backing p' new out
         pub safe_step : SafeStep (state_in view old.file p) (state_in view new.file p') nothing_given []
@@ -85,43 +85,43 @@ module _ {S F : Type 0} where
         pub list : ListGrows old new
         pub leaks : leaked_in new ≡ leaked_in old
 
-      -- it broke off while the header was written
+      -- A fault ended the part while the header was written.
       pub record InterruptedMove (old new : Qcow2 S F) (e : ImageError) : Type 0 where
         pub interrupted : InterruptedFileStep view old.file new.file e
         pub header : MovesTables old.file.header.fields new.file.header.fields
         pub below : below_of view backing new.backing ≡ below_of view backing old.backing
         pub leaks : leaked_in new ≡ leaked_in old
 
-      -- a part that was refused: all is sound as before but for what is to be freed; or it broke off
+      -- What a refused part leaves: a sound image with more clusters to free at most, or one that is about to fail.
       abbrev pub RefusedMove : Pending → Qcow2 S F → Qcow2 S F → List (Option Prepared) → ImageError → Type 0
       RefusedMove p old new out e = UnseenStep view backing p (pending_with_listed p old new) old new out ⊎ InterruptedMove old new e
 
-      -- a longer table is written to its clusters
+      -- A longer table is written to its clusters.
       abbrev pub PlacesTable : Pending → Qcow2 S F → Qcow2 S F → List (Option Prepared) → EntryTableView → ℕ → Result (Unit {0}) ImageError → Type 0
       PlacesTable p old new out t cluster (Ok _) = UnseenStep view backing p p old new out × StandsWhole new t cluster
       PlacesTable p old new out t cluster (Err e) = UnseenStep view backing p p old new out
 
-      -- the header names it in the place of the L1 table; where that is refused, its clusters are still those of a new table, or it broke off
+      -- The header points to the longer table instead of the old one. If this is refused, its clusters are still those of a new table, or a fault ended the part.
       abbrev pub NamesTable : Pending → Qcow2 S F → Qcow2 S F → List (Option Prepared) → EntryTableView → ℕ → Result (Unit {0}) ImageError → Type 0
       NamesTable p old new out t cluster (Ok _) = UnseenMove (with_table p t cluster) (without_l1 p old.file.header.fields) old new out
       NamesTable p old new out t cluster (Err e) = UnseenStep view backing (with_table p t cluster) (with_table p t cluster) old new out ⊎ InterruptedMove old new e
 
-      -- so it is with clusters that were taken for it, and with what is listed to be freed then
+      -- The header points to a longer table in clusters that were allocated for it. The list of clusters to free may change too.
       abbrev pub NamesTaken : Pending → Qcow2 S F → Qcow2 S F → List (Option Prepared) → EntryTableView → ClustersToFreeEntry → Result (Unit {0}) ImageError → Type 0
       NamesTaken p old new out t taken result =
           (named : Qcow2 S F) × (new ≡ record named { file = record named.file { free_list = new.file.free_list } }) × (named.file.free_list ≡ old.file.free_list) × NamesTable p old named out t taken.first_cluster result
 
-      -- it gets its clusters, and takes the place of the L1 table
+      -- A longer table gets its clusters, and replaces the L1 table.
       abbrev pub TakesTable : Pending → Qcow2 S F → Qcow2 S F → List (Option Prepared) → Result (Unit {0}) ImageError → Type 0
       TakesTable p old new out (Ok _) = UnseenMove p (without_l1 (pending_with_listed p old new) old.file.header.fields) old new out
       TakesTable p old new out (Err e) = RefusedMove p old new out e
 
-      -- and the clusters of that one are to be freed
+      -- A longer table replaces the L1 table, and the clusters of the old one wait to be freed.
       abbrev pub Lengthens : Pending → Qcow2 S F → Qcow2 S F → List (Option Prepared) → Result (Unit {0}) ImageError → Type 0
       Lengthens p old new out (Ok _) = UnseenMove p (pending_with_listed p old new) old new out
       Lengthens p old new out (Err e) = RefusedMove p old new out e
 
-      -- a part of a call that no guest sees sees to it that there is an L1 entry
+      -- A part of a call makes sure that there is an L1 entry. Guests don't see it.
       abbrev pub MakesEntry : Qcow2 S F → Qcow2 S F → List (Option Prepared) → Result (Unit {0}) ImageError → Type 0
       MakesEntry old new out (Ok _) = UnseenCall view backing old new out
       MakesEntry old new out (Err e) = RefusedCall view backing old new out e

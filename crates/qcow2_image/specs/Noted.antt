@@ -1,4 +1,4 @@
--- What want of memory leaves of an image, and what a call counts of changes.
+-- What a call that ran out of memory leaves, and the changes that calls count.
 use Rattle.std.specs.Prelude.{◌≡◌, ◌⊎◌, ℕ, ◌+◌, ◌<◌, ◌≤◌, List, Option, Result, IfErr, IsErrOf, IsSome, IsTrue}
 use Rattle.image_access.specs.Backing.{BackingView}
 use Rattle.image_access.specs.Contents.{overwritten}
@@ -18,60 +18,60 @@ use Rattle.qcow2_alloc.specs.KeptMarks.{HaveRisen, changes_in}
 use Rattle.qcow2_image.specs.Image.{has_noted_change, is_failed, storage_of_image}
 
 module _ {S F : Type 0} where
-  -- a change of the storage, of a table or of a count was counted: one of their numbers rose, or stood at the greatest u64
+  -- A change of the storage, of a table or of a refcount was counted: one of the counters rose, or is the greatest u64.
   abbrev pub ChangesRose : Qcow2 S F → Qcow2 S F → Type 0
   ChangesRose old new = HaveRisen (changes_in old.file) new.file
 
-  -- one of the numbers is higher
+  -- One of the counters is higher.
   abbrev pub HasMoreChanges : Qcow2 S F → Qcow2 S F → Type 0
   HasMoreChanges old new = (changes_of old.file.storage < changes_of new.file.storage) ⊎ (old.file.caches.changes < new.file.caches.changes)
 
-  -- none of them is lower
+  -- No counter is lower.
   pub record NoFewerChanges (old new : Qcow2 S F) : Type 0 where
     pub storage : changes_of old.file.storage ≤ changes_of new.file.storage
     pub tables : old.file.caches.changes ≤ new.file.caches.changes
 
--- What a call leaves that want of memory refused. While the image hasn't failed, the contents stayed. It failed by this call only where a change was counted in it, and wherever one was.
+-- What a call that ran out of memory leaves. If the image has not failed, the contents are the same. This call made it fail only if a change may have been counted in it, and always if one of the counters is higher.
 pub record MarksOnceChanged {S F : Type 0} (view : S → StorageView) (old new : Qcow2 S F) : Type 0 where
   pub contents : ¬ IsTrue (is_failed new) → ContentsStay (view_in view old.file) (view_in view new.file)
   pub changed : IsTrue (is_failed new) → IsTrue (is_failed old) ⊎ ChangesRose old new
   pub marked : HasMoreChanges old new → IsTrue (is_failed new)
 
 module _ {S F : Type 0} (view : S → StorageView) (old new : Qcow2 S F) where
-  -- A call whose storage has other contents behind it counted a change, whatever it answers. It lowers no number of changes, and an honest storage stays honest.
+  -- A call that leaves other contents on the storage counted a change, whatever it answers. It lowers no counter, and an honest storage stays honest.
   pub record CountsImageChanges : Type 0 where
     pub no_fewer : NoFewerChanges old new
     pub honest : (view_in view old.file).is_honest → (view_in view new.file).is_honest
     pub contents : ¬ ChangesRose old new → ContentsStay (view_in view old.file) (view_in view new.file)
 
-  -- so does one that want of memory may refuse, which fails the image just where a change was counted
+  -- A call that counts its changes. If it runs out of memory, the image fails exactly after a change.
   pub record FailsOnceWritten {A : Type 0} (result : Result A ImageError) : Type 0 where
     pub counts : CountsImageChanges
     pub memory : IsErrOf result Memory → MarksOnceChanged view old new
 
-  -- so it is of a commit, whatever becomes of its mapping
+  -- A commit that counts its changes. If it runs out of memory, the image fails exactly after a change, whatever happens to the mapping.
   pub record CommitFailsOnceWritten {A : Type 0} (result : Result A CommitRefused) : Type 0 where
     pub counts : CountsImageChanges
     pub memory : IfErr result (λ refused. reason_of refused ≡ Memory → MarksOnceChanged view old new)
 
 module _ {S F : Type 0} (view : S → StorageView) (old new : Qcow2 S F) where
-  -- A call notes and counts what it changes: an honest storage stays honest, what is noted in it was counted, and where nothing was counted the contents stayed.
+  -- A call records and counts its changes: an honest storage stays honest, every recorded change was counted, and if none was counted the contents are the same.
   pub record NotesChanges : Type 0 where
     pub honest : (view_in view old.file).is_honest → (view_in view new.file).is_honest
     pub no_fewer : NoFewerChanges old new
     pub why : IsTrue (has_noted_change new) → ChangesRose old new
     pub contents : ¬ ChangesRose old new → ContentsStay (view_in view old.file) (view_in view new.file)
 
-  -- so does a part of a call, before which no change may have been noted
+  -- A part of a call records and counts its changes, if none was recorded before.
   pub record NotesPart : Type 0 where
     pub honest : (view_in view old.file).is_honest → (view_in view new.file).is_honest
     pub no_fewer : NoFewerChanges old new
     pub why : IsTrue (has_noted_change new) → IsTrue (has_noted_change old) ⊎ ChangesRose old new
     pub contents : ¬ IsTrue (has_noted_change old) → ¬ ChangesRose old new → ContentsStay (view_in view old.file) (view_in view new.file)
 
--- There is an image `before`. On a sound image it is sound, and the guest sees what it saw.
--- From there on the put's bytes are written by a single write, at their place in the mapping.
--- Into a mapping that isn't existing nothing else is written.
+-- How a put writes. At some state `before`, a sound image is sound and looks the same to the guest.
+-- From there on, the bytes are written by a single write, at the mapping's place in the file.
+-- A put into a pinned mapping writes nothing else.
 pub record PutsOnce {S F : Type 0} (view : S → StorageView) (backing : F → BackingView) (p : Prepared) (at : ℕ) (bytes : List ℕ) (old new : Qcow2 S F) (result : Result (Unit {0}) ImageError) : Type 0 where
   pub before : Qcow2 S F
   pub honest : (view_in view old.file).is_honest → (view_in view before.file).is_honest

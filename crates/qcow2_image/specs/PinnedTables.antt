@@ -1,4 +1,4 @@
--- L2 tables that are kept as they are for mappings that aren't existing: of an image in any state, told by the pins of its cache.
+-- L2 tables that are pinned by prepared mappings, whatever the image contains: a pinned table stays in the cache, and its entries stay the same.
 use Rattle.std.specs.Prelude.{ℕ, ◌≡◌, ◌/◌, ◌<◌, IfOk, IsSome, Result, Ok, Err}
 use Rattle.qcow2_metadata.specs.Entries.{host_offset}
 use Rattle.qcow2_metadata.specs.Header.{cluster_size}
@@ -12,30 +12,30 @@ use Rattle.qcow2_image.specs.Found.{l1_index_of}
 use Rattle.qcow2_image.specs.Prepared.{table_of}
 
 module _ {S F : Type 0} where
-  -- an L2 table is kept as it is
+  -- Some L2 table is pinned.
   pub record HasPinnedTable (image : Qcow2 S F) : Type 0 where
     pub cluster : ℕ
     pub pins : 0 < l2_pins image.file.caches cluster
 
-  -- the cluster of the L2 table that the L1 table in memory names for an offset
+  -- The cluster of the L2 table that the L1 table in memory has for an offset.
   abbrev pub own_table : Qcow2 S F → ℕ → ℕ
   own_table image offset = host_offset (entry_at image.l1_table.bytes (l1_index_of image.file.header.fields offset)) / cluster_size image.file.header.fields
 
-  -- for how many mappings it is kept as it is
+  -- The number of mappings that pin this table.
   abbrev pub own_pins : Qcow2 S F → ℕ → ℕ
   own_pins image offset = l2_pins image.file.caches (own_table image offset)
 
-  -- that table was found, and each table is kept as it is for as many mappings as before
+  -- The table was found, and each table has as many pins as before.
   pub record FindsOwn (old new : Qcow2 S F) (offset : ℕ) (result : Result ℕ ImageError) : Type 0 where
     pub table : IfOk result (λ table. table ≡ own_table old offset)
     pub pins : (cluster : ℕ) → l2_pins new.file.caches cluster ≡ l2_pins old.file.caches cluster
 
-  -- Entries of that table are changed only where it isn't kept as it is, and refused 9 only where it is.
+  -- The call succeeds only if the offset's table is not pinned, and is refused 9 only if it is.
   abbrev pub HeedsPins : {A : Type 0} → Qcow2 S F → ℕ → Result A ImageError → Type 0
   HeedsPins image offset (Ok _) = own_pins image offset ≡ 0
   HeedsPins image offset (Err e) = e ≡ TablePrepared → 0 < own_pins image offset
 
-  -- so a range is prepared there that isn't in place
+  -- A range that is not in place is prepared only if the offset's table is not pinned.
   abbrev pub PreparesUnpinned : Qcow2 S F → ℕ → Result Prepared ImageError → Type 0
   PreparesUnpinned image offset (Ok p) = IsSome (table_of p) → own_pins image offset ≡ 0
   PreparesUnpinned image offset (Err e) = e ≡ TablePrepared → 0 < own_pins image offset

@@ -1,4 +1,4 @@
--- What preallocation does: zeros stand behind the end of a disk before its size grows.
+-- Preallocation: zeros are put behind the end of a disk before its size grows.
 use Rattle.std.specs.Prelude.{ℕ, ◌+◌, ◌-◌, ◌*◌, ◌%◌, ◌^◌, ◌≡◌, ◌⊎◌, ◌<◌, ◌≤◌, List, [], ◌∷◌, length, replicate, Option, Result, Ok, Err, None, true, false, IsSome, IsTrue, if◌then◌else◌}
 use Rattle.image_access.specs.Backing.{BackingView}
 use Rattle.image_access.specs.Moments.{StorageView}
@@ -31,53 +31,53 @@ use Rattle.qcow2_image.specs.Limits.{IsLimited}
 use Rattle.qcow2_image.specs.MovedTables.{CoversStay, MovesTables}
 use Rattle.qcow2_alloc.specs.ImageFile.{known_in}
 
--- zeros from one offset up to another
+-- Zeros from one offset up to another.
 abbrev pub given_by_zeros : (from to : ℕ) → GivenBytes
 given_by_zeros from to = record { from = from; count = to - from; value = λ i. known_byte 0 }
 
--- of the bytes from one offset up to another any may be zeros now; all others are as before
+-- Bytes between the two offsets may be zeros now. All others are the same.
 pub record MayBeZero (from to : ℕ) (old new : Disk) : Type 0 where
   pub size : new.size ≡ old.size
   pub values : (o : ℕ) → (new.value o ≡ old.value o) ⊎ ((from ≤ o) × (o < to) × (new.value o ≡ known_byte 0))
 
--- the disk with zeros behind its end, up to the end of the last cluster of a larger size, unless the old bytes are to show
+-- The disk with zeros from its end to the end of the last cluster of a larger size, unless the old bytes are to show.
 abbrev pub filled_to : ℕ → Disk → ℕ → PreallocateMode → Disk
 filled_to size_of_cluster d size mode = if shows_old mode then d else zeroed_between d d.size (rounded_up size_of_cluster size)
 
--- a mapping that is out, and isn't existing, lies in the L2 table of some offset of a range
+-- A mapping is pinned in the L2 table of some offset of the range.
 pub record IsUnderMappingIn (h : HeaderFields) (from to : ℕ) (out : List (Option Prepared)) : Type 0 where
   pub offset : ℕ
   pub low : from ≤ offset
   pub high : offset < to
   pub under : IsUnderMapping h offset out
 
--- In a range that is filled no mapping that is out, and isn't existing, lies in the L2 table of a guest cluster whose entry has to change. Such a cluster is to be explicit zeros, from a first offset on, or isn't copied data.
+-- In a range that is filled, no mapping is pinned in the L2 table of a guest cluster whose entry must change. An entry must change if it is to be a zero entry (from `first` on), or is not copied data.
 abbrev pub ChangesFree : (size_of_cluster first from to : ℕ) → HeaderFields → Bytes → List (Option Prepared) → Type 0
 ChangesFree size_of_cluster first from to h known out =
     (g : ℕ) → Touches size_of_cluster from to g → (first ≤ g * size_of_cluster) ⊎ (is_copied_data (cover h known g) ≡ false) → ¬ IsUnderMapping h (g * size_of_cluster) out
 
--- so it is behind the end of a disk that grows, where the mode fills the range there
+-- The range behind the end of a growing disk, if the mode fills it.
 abbrev pub GrownFree : PreallocateMode → (old size : ℕ) → HeaderFields → Bytes → List (Option Prepared) → Type 0
 GrownFree mode old size h known out = shows_old mode ≡ false → ChangesFree (cluster_size h) (first_zeros (cluster_size h) old size mode) old (rounded_up (cluster_size h) size) h known out
 
--- two offsets are those of clusters
+-- The two offsets are cluster boundaries.
 abbrev pub IsWholeRange : HeaderFields → (from to : ℕ) → Type 0
 IsWholeRange h from to = (from % cluster_size h ≡ 0) × (to % cluster_size h ≡ 0)
 
--- how many zeros are written at once at most
+-- The greatest number of zeros that is written at once.
 abbrev pub most_of : ZeroWrites → ℕ
 most_of Short = 2 ^ 64 - 1
 most_of Taken = 2 ^ 64 - 1
 most_of (Plain zeros) = length zeros.items
 
--- the bytes that are written are zeros
+-- The bytes that are written are zeros.
 abbrev pub AreZeros : ZeroWrites → Type 0
 AreZeros Short = Unit {0}
 AreZeros Taken = Unit {0}
 AreZeros (Plain zeros) = zeros.items ≡ replicate (length zeros.items) 0
 
 module _ {S F : Type 0} (view : S → StorageView) (backing : F → BackingView) where
-  -- a part of a call: zeros stand from one offset up to another
+  -- A part of a call puts zeros from one offset up to another.
   pub record FillsPart (first from to : ℕ) (old new : Qcow2 S F) (out : List (Option Prepared)) : Type 0 where
     pub works : EffectOnSound (abstract_of view backing old out) (abstract_of view backing new out) (given_by_zeros from to ∷ []) []
     pub sound : ImageInvariant view backing (pending_in view backing new out) new out
@@ -87,7 +87,7 @@ module _ {S F : Type 0} (view : S → StorageView) (backing : F → BackingView)
     pub covers : FilledCovers (cluster_size old.file.header.fields) first from to old.file.header.fields (known_in view old.file) new.file.header.fields (known_in view new.file)
     pub free : ChangesFree (cluster_size old.file.header.fields) first from to old.file.header.fields (known_in view old.file) out
 
-  -- it was refused on its way: all is sound, and any of these bytes may be zeros
+  -- The part was refused half-way: the image is sound, and any of these bytes may be zeros.
   pub record FillsSome (from to : ℕ) (old new : Qcow2 S F) (out : List (Option Prepared)) : Type 0 where
     pub works : EffectOnSound (abstract_of view backing old out) (abstract_of view backing new out) (given_by_zeros from to ∷ []) []
     pub sound : ImageInvariant view backing (pending_in view backing new out) new out
@@ -95,13 +95,13 @@ module _ {S F : Type 0} (view : S → StorageView) (backing : F → BackingView)
     pub may : MayBeZero from to (disk_of view backing old) now
     pub shows : guest_of (abstract_of view backing new out) ≡ with_disk (guest_of (abstract_of view backing old out)) now
 
-  -- or it broke off: once the image is marked as failed, a stop is as safe as before, but that these values were given
+  -- A fault ended the part: once the image is marked as failed, a stop is as safe as before, with these values given.
   pub record InterruptedGiving (given : List GivenBytes) (old new : Qcow2 S F) (out : List (Option Prepared)) (e : ImageError) : Type 0 where
     pub fault : IsFaultOfTables e
     pub noted : e ≡ I.Memory → IsTrue (has_noted_change new)
     pub works : EffectOnSound (abstract_of view backing old out) (abstract_of view backing (record new { is_failed = true }) out) given []
 
-  -- A refused part: one or the other. That a table is prepared refuses it only where one of the range is, and a limit only where a place lacks for it.
+  -- What a refused part leaves. It is refused 9 only if a mapping is pinned in an L2 table of the range, and with a limit only if there was no room.
   pub record RefusedFill (from to : ℕ) (old new : Qcow2 S F) (out : List (Option Prepared)) (e : ImageError) : Type 0 where
     pub left : FillsSome from to old new out ⊎ InterruptedGiving (given_by_zeros from to ∷ []) old new out e
     pub taken : e ≡ I.TablePrepared → IsUnderMappingIn old.file.header.fields from to out
@@ -111,12 +111,12 @@ module _ {S F : Type 0} (view : S → StorageView) (backing : F → BackingView)
   FillsOrRefuses first from to old new out (Ok _) = FillsPart first from to old new out
   FillsOrRefuses first from to old new out (Err e) = RefusedFill from to old new out e
 
-  -- so far the range is filled, or it was refused
+  -- The range is filled up to an offset, or the part was refused.
   abbrev pub FillsFirst : (first from to : ℕ) → Qcow2 S F → Qcow2 S F → List (Option Prepared) → Result ℕ ImageError → Type 0
   FillsFirst first from to old new out (Ok next) = FillsPart first from next old new out
   FillsFirst first from to old new out (Err e) = RefusedFill from to old new out e
 
-  -- a mapping that is out is committed, and its place is free
+  -- A prepared mapping is committed, and its slot is empty.
   pub record CommitsWhole (old new : Qcow2 S F) (out : List (Option Prepared)) (k : ℕ) (p : Prepared) (free : List (Option Prepared)) : Type 0 where
     pub works : EffectOnSound (abstract_of view backing old out) (abstract_of view backing new free) (given_by_commit (abstract_of view backing old out).setting.cluster_size (guest_of (abstract_of view backing old out)).disk (meaning view backing old p) ∷ []) []
     pub sound : ImageInvariant view backing (pending_in view backing new free) new free
@@ -132,7 +132,7 @@ module _ {S F : Type 0} (view : S → StorageView) (backing : F → BackingView)
   abbrev pub all_given_by_growing : Qcow2 S F → ℕ → PreallocateMode → List GivenBytes
   all_given_by_growing image size mode = given_by_grow (setting_of view backing image) (disk_of view backing image) size mode
 
-  -- zeros stand behind the end of the disk, as a mode asks; its size is as it was
+  -- There are zeros behind the end of the disk, as the mode asks for. The size is the old one.
   pub record FillsGrown (size : ℕ) (mode : PreallocateMode) (old new : Qcow2 S F) (out : List (Option Prepared)) : Type 0 where
     pub works : EffectOnSound (abstract_of view backing old out) (abstract_of view backing new out) (all_given_by_growing old size mode) []
     pub sound : ImageInvariant view backing (pending_in view backing new out) new out
@@ -142,7 +142,7 @@ module _ {S F : Type 0} (view : S → StorageView) (backing : F → BackingView)
     pub covers : GrownCovers mode (size_of old) size old.file.header.fields (known_in view old.file) new.file.header.fields (known_in view new.file)
     pub free : GrownFree mode (size_of old) size old.file.header.fields (known_in view old.file) out
 
-  -- it was refused: each byte behind the end is as before or zero, and all others are as before
+  -- The part was refused: each byte behind the end is the same or zero, and all others are the same.
   pub record FillsGrownInPart (size : ℕ) (mode : PreallocateMode) (old new : Qcow2 S F) (out : List (Option Prepared)) : Type 0 where
     pub works : EffectOnSound (abstract_of view backing old out) (abstract_of view backing new out) (all_given_by_growing old size mode) []
     pub sound : ImageInvariant view backing (pending_in view backing new out) new out
@@ -150,7 +150,7 @@ module _ {S F : Type 0} (view : S → StorageView) (backing : F → BackingView)
     pub may : MayGrow (setting_of view backing old) (disk_of view backing old) size mode now
     pub shows : guest_of (abstract_of view backing new out) ≡ with_disk (guest_of (abstract_of view backing old out)) now
 
-  -- Or it broke off. That a table is prepared refuses it only where zeros are asked for, and one of the range behind the end is; a limit only where a place lacks for that.
+  -- What a refused part leaves. It is refused 9 only if the mode asks for zeros and a mapping is pinned in an L2 table behind the end, and with a limit only if there was no room.
   pub record RefusedGrown (size : ℕ) (mode : PreallocateMode) (old new : Qcow2 S F) (out : List (Option Prepared)) (e : ImageError) : Type 0 where
     pub left : FillsGrownInPart size mode old new out ⊎ InterruptedGiving (all_given_by_growing old size mode) old new out e
     pub taken : e ≡ I.TablePrepared → (shows_old mode ≡ false) × IsUnderMappingIn old.file.header.fields (disk_of view backing old).size (rounded_up (cluster_size old.file.header.fields) size) out

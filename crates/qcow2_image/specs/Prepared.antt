@@ -1,29 +1,29 @@
--- What a contract sees of a prepared mapping.
+-- The view of a prepared mapping in contracts.
 use Rattle.std.specs.Prelude.{◌≡◌, ℕ, Option}
 use Rattle.qcow2_image.specs.declared.prepared.Prepared.{Prepared}
 use Rattle.qcow2_image.specs.declared.prepared.CommitRefused.{CommitRefused}
 use Rattle.qcow2_image.specs.declared.prepared.CommitRefused.TheVariants.{Kept, Spent}
 
--- the number of its image
+-- The number of its image.
 abbrev pub image_of : Prepared → ℕ
 image_of p = p.image
 
--- where its guest bytes begin
+-- The guest offset where it begins.
 abbrev pub guest_offset_of : Prepared → ℕ
 guest_offset_of p = p.guest
 
--- where in the file it is to be written, and for how many bytes
+-- Where in the file it is to be written: host offset, and length in bytes.
 abbrev pub offset_of : Prepared → ℕ
 offset_of p = p.offset
 
 abbrev pub length_of : Prepared → ℕ
 length_of p = p.length
 
--- the cluster of the L2 table that is kept as it is for it; an existing mapping has none
+-- The cluster of the L2 table that the mapping pins. An existing mapping pins none.
 abbrev pub table_of : Prepared → Option ℕ
 table_of p = p.table
 
--- a refused commit that hands a mapping back hands back this one
+-- If a refused commit hands back a mapping, it is this one.
 abbrev pub IsHandedBackBy : Prepared → CommitRefused → Type 0
 IsHandedBackBy p (Kept e q) = q ≡ p
 IsHandedBackBy p (Spent e) = Unit {0}

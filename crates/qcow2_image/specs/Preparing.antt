@@ -1,4 +1,4 @@
--- What is answered of a range that is to be written, by what was known before.
+-- What a prepare returns, in terms of the known contents before it.
 use Rattle.std.specs.Prelude.{ℕ, ◌+◌, ◌-◌, ◌*◌, ◌/◌, ◌%◌, ◌<◌, ◌≤◌, ◌≡◌, ◌↔◌, ◌⊎◌, true, false, List, slice_get, Option, Some, None, IsNone, IsSome, IsTrue}
 use Rattle.qcow2_metadata.specs.Bytes.{Bytes}
 use Rattle.qcow2_metadata.specs.Header.{cluster_size}
@@ -15,27 +15,27 @@ use Rattle.qcow2_image.specs.Found.{l1_index_of}
 use Rattle.qcow2_image.specs.Ranges.{BeginsInKept, EndsAt}
 use Rattle.qcow2_image.specs.Prepared.{length_of, offset_of, table_of}
 
--- an existing mapping of no byte, at offset 0
+-- An existing mapping of no bytes, at offset 0.
 abbrev pub IsOfNothing : Prepared → Type 0
 IsOfNothing p = IsNone (table_of p) × (offset_of p ≡ 0) × (length_of p ≡ 0)
 
--- a host cluster that is counted once, though nothing that is known names it
+-- A host cluster with refcount 1 that nothing in the known contents refers to.
 abbrev pub IsHeldAlone : HeaderFields → Bytes → ℕ → Type 0
 IsHeldAlone h known host = (count h known host ≡ 1) × (named h known host ≡ 0)
 
--- a host cluster that the zero entry of a guest cluster keeps
+-- A host cluster that the zero entry of a guest cluster keeps.
 abbrev pub IsKeptBy : HeaderFields → Bytes → ℕ → ℕ → Type 0
 IsKeptBy h known guest host = cover h known guest ≡ Zero (Some (host * cluster_size h, true))
 
 module _ (h : HeaderFields) (known : Bytes) (offset : ℕ) where
-  -- n bytes may be written where they are: within one L2 table, and copied data in a row from a place on
+  -- The n bytes may be written in place: they are copied data, contiguous in the file, within one L2 table.
   abbrev pub IsWritableAt : ℕ → ℕ → Type 0
   IsWritableAt n place = (n ≤ rest_of_table h offset) × AreDataAt h known true offset place n
 
-  -- The mapping p of n bytes, which means m. It is existing exactly where all of them may be written where they are, and is just that range then.
-  -- Else it is the rest of the first cluster at least, and behind that as much of the range as can stand in a row, within one L2 table. Where it is shorter than the range, there is a cause.
-  -- It begins in the host cluster that the zero entry of its first guest cluster keeps, where there is one.
-  -- What is copied data is in place, where it is, and still is there at the return. All else is private, at the same byte of a cluster: one that is its own by the header and what is known now, or that its zero entry keeps.
+  -- The mapping p that was prepared for n bytes, with the meaning m. It is existing exactly if all n bytes may be written in place, and then covers just these.
+  -- Otherwise it covers at least the rest of the first cluster, and as much of the range behind it as can be contiguous in the file within one L2 table. If it is shorter than the range, there is a cause.
+  -- If the zero entry of the first guest cluster keeps a host cluster, the mapping begins there.
+  -- Copied data are in place, and still are at the return. All other bytes are private, at the same offset in their cluster: a host cluster that only the mapping holds, or that the zero entry keeps.
   pub record IsAnswered (n : ℕ) (h' : HeaderFields) (now : Bytes) (p : Prepared) (m : PreparedMapping) : Type 0 where
     pub existing : IsNone (table_of p) ↔ ((place : ℕ) × IsWritableAt n place)
     pub whole : IsNone (table_of p) → length_of p ≡ n
@@ -50,7 +50,7 @@ module _ (h : HeaderFields) (known : Bytes) (offset : ℕ) where
     pub own : (i : ℕ) → i < length_of p → IsTrue (m.is_private (offset + i))
         → ((offset_of p + i) % cluster_size h ≡ (offset + i) % cluster_size h) × (IsHeldAlone h' now ((offset_of p + i) / cluster_size h) ⊎ IsKeptBy h known ((offset + i) / cluster_size h) ((offset_of p + i) / cluster_size h))
 
-  -- Why the mapping may be refused as of a prepared table. One that is out, and isn't existing, lies in the same L2 table, and not all of the range may be written where it is.
+  -- Why a prepare may be refused 9: another mapping is pinned in the same L2 table, and not all of the range may be written in place.
   pub record IsTaken (n : ℕ) (out : List (Option Prepared)) : Type 0 where
     pub place : ℕ
     pub other : Prepared
@@ -61,7 +61,7 @@ module _ (h : HeaderFields) (known : Bytes) (offset : ℕ) where
 
   -- ---- parts of the work
 
-  -- where so many bytes may be written, or nowhere
+  -- The host offset where n bytes may be written in place, or none.
   abbrev pub IsPlaceOf : ℕ → Option ℕ → Type 0
   IsPlaceOf n None = (place : ℕ) → ¬ IsWritableAt n place
   IsPlaceOf n (Some place) = IsWritableAt n place

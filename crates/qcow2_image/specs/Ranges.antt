@@ -1,4 +1,4 @@
--- How a prepared range goes on behind its first cluster.
+-- How a prepared range is extended behind its first cluster.
 use Rattle.std.specs.Prelude.{Bool, true, false, ℕ, ◌+◌, ◌-◌, ◌*◌, ◌/◌, ◌%◌, ◌<◌, ◌≤◌, ◌≡◌, ◌≢◌, ◌⊎◌, ◌&&◌, List, [], ◌∷◌, ◌++◌, length, min, Option, Some, None, Result, Ok, Err, IsTrue, slice_get, slice_set, vec_capacity}
 use Rattle.image_access.specs.Backing.{BackingView}
 use Rattle.image_access.specs.Moments.{StorageView}
@@ -34,39 +34,39 @@ use Rattle.qcow2_image.specs.ImageInvariant.{run_of, of_data, of_tables, to_free
 use Rattle.qcow2_image.specs.UnseenSteps.{IsGained, RefusedFillingStep, UnseenFillingStep, pending_with_listed}
 
 module _ (h : HeaderFields) where
-  -- the rest of the first cluster of a range, under a table
+  -- A mapping of the rest of the first cluster of a range, in this L2 table.
   pub record IsFirst (offset table : ℕ) (p : Prepared) : Type 0 where
     pub guest : p.guest ≡ offset
     pub under : p.table ≡ Some table
     pub rest : p.length ≡ cluster_size h - offset % cluster_size h
     pub one : length p.shares.items ≡ 1
 
-  -- where the entry of the first guest cluster of a range is a zero entry that keeps a host cluster, marked copied, a mapping begins there, at the range's byte
+  -- If the first guest cluster has a zero entry that keeps a host cluster, marked copied, the mapping begins in that host cluster, at the same offset in it.
   abbrev pub BeginsInKept : (offset : ℕ) → L2Mapping → Prepared → Type 0
   BeginsInKept offset first p = (host : ℕ) → first ≡ Zero (Some (host, true)) → p.offset ≡ host + offset % cluster_size h
 
-  -- a mapping ends where its last cluster does
+  -- The mapping ends at the end of a cluster.
   abbrev pub EndsWithCluster : Prepared → Type 0
   EndsWithCluster p = p.guest % cluster_size h + p.length ≡ length p.shares.items * cluster_size h
 
-  -- a mapping under a table that has an entry for the cluster behind it, of a range of n bytes that goes on there
+  -- The mapping may be extended: the range goes on behind it, and its L2 table has an entry for the next cluster.
   pub record MayGoOn (n table : ℕ) (p : Prepared) : Type 0 where
     pub under : p.table ≡ Some table
     pub whole : EndsWithCluster p
     pub more : p.length < n
     pub within : cluster_of h p % entries_per_cluster h + length p.shares.items < entries_per_cluster h
 
-  -- it has room for the shares of a range of n bytes, as far as its L2 table goes
+  -- The mapping has memory for the shares of a range of n bytes, within its L2 table.
   abbrev pub HasRoomForRange : ℕ → Prepared → Type 0
   HasRoomForRange n p = p.guest % cluster_size h + min n (rest_of_table h p.guest) < vec_capacity p.shares * cluster_size h
 
-  -- it is longer by the cluster behind it, as far as the range goes
+  -- The mapping is extended by the next cluster, up to the end of the range.
   pub record IsNext (n : ℕ) (p q : Prepared) : Type 0 where
     pub share : Share
     pub shares : q.shares.items ≡ p.shares.items ++ share ∷ []
     pub rest : q ≡ record p { length = min n (p.length + cluster_size h); shares = q.shares }
 
-  -- it begins at the same place with the same share, is as long or longer, at most as long as the range, or as it was, and ends where a cluster does if the range goes on
+  -- The extended mapping begins at the same place with the same share. It is not shorter than before, no longer than the range unless it was, and if the range goes on behind it, it ends at a cluster boundary.
   pub record IsLongerMapping (n : ℕ) (p q : Prepared) : Type 0 where
     pub image : q.image ≡ p.image
     pub guest : q.guest ≡ p.guest
@@ -77,7 +77,7 @@ module _ (h : HeaderFields) where
     pub most : n < q.length → q.length ≡ p.length
     pub whole : q.length < n → EndsWithCluster q
 
-  -- Why a mapping ends at guest byte e and at byte f of the file before its range does. A cluster ends there. Its L2 table does too, or what follows is copied data elsewhere. Or the host cluster that would follow is past a limit, or is in use and isn't kept by the zero entry of what follows.
+  -- Why a mapping ends at guest byte e and host byte f before its range does. A cluster ends there, and one of these holds: the L2 table ends; the next guest cluster is copied data elsewhere; the next host cluster is past a limit; or it is in use, and the next zero entry does not keep it.
   pub record EndsAt (known : Bytes) (e f : ℕ) : Type 0 where
     pub cluster : e % cluster_size h ≡ 0
     pub because : (e % (cluster_size h * entries_per_cluster h) ≡ 0)
@@ -85,11 +85,11 @@ module _ (h : HeaderFields) where
         ⊎ (IsPastLimits h (f / cluster_size h) ⊎ ((count h known (f / cluster_size h) ≢ 0) × (cover h known (e / cluster_size h) ≢ Zero (Some (f, true))))))
 
 module _ {S F : Type 0} (view : S → StorageView) where
-  -- why a mapping ends before its range does, by what is known
+  -- Why a mapping ends before its range does, by the known contents.
   abbrev pub Ends : Qcow2 S F → Prepared → Type 0
   Ends image p = EndsAt image.file.header.fields (known_in view image.file) (p.guest + p.length) (p.offset + p.length)
 
-  -- A mapping was let go: of caches no table changed, and none is modified that wasn't.
+  -- A mapping was dropped: no cached table changed, and none is modified that was not.
   pub record ReleasesOneMapping (old new : Qcow2 S F) : Type 0 where
     pub rest : new ≡ record old { file = record old.file { caches = new.file.caches; free_list = new.file.free_list } }
     pub known : known_in view new.file ≡ known_in view old.file
@@ -97,7 +97,7 @@ module _ {S F : Type 0} (view : S → StorageView) where
     pub counted : new.file.caches.changes ≡ old.file.caches.changes
     pub written : AreAllWritten old.file.caches → AreAllWritten new.file.caches
 
-  -- A mapping of a range of n bytes: the rest of the first cluster at least, and at most that or the range. Where it is shorter than the range, it ends for a cause. It begins in the host cluster that the first guest cluster keeps.
+  -- The mapping of a range of n bytes covers at least the rest of the first cluster, and no more than that or the range. If it is shorter than the range, there is a cause. If the first guest cluster keeps a host cluster, the mapping begins there.
   pub record Reaches (image : Qcow2 S F) (offset n : ℕ) (p : Prepared) : Type 0 where
     pub guest : p.guest ≡ offset
     pub under : (table : ℕ) × (p.table ≡ Some table)
@@ -107,21 +107,21 @@ module _ {S F : Type 0} (view : S → StorageView) where
     pub kept : BeginsInKept image.file.header.fields offset (cover image.file.header.fields (known_in view image.file) (offset / cluster_size image.file.header.fields)) p
 
   module _ (backing : F → BackingView) where
-    -- just this cluster is taken for data, or it can't be named, or is in use
+    -- Exactly this cluster is allocated for data; or it is past a limit, or in use.
     abbrev pub TakesDataAt : Pending → Qcow2 S F → Qcow2 S F → List (Option Prepared) → ℕ → Result (Option ClustersToFreeEntry) ImageError → Type 0
     TakesDataAt p old new out cluster (Ok (Some n)) = (n.first_cluster ≡ cluster) × (n.count ≡ 1) × (n.kind ≡ Kind.Data) × UnseenFillingStep view backing p (with_new_data (pending_with_listed p old new) (run_of n)) old new out
     TakesDataAt p old new out cluster (Ok None) =
         UnseenFillingStep view backing p (pending_with_listed p old new) old new out × (IsPastLimits old.file.header.fields cluster ⊎ (count new.file.header.fields (known_in view new.file) cluster ≢ 0))
     TakesDataAt p old new out cluster (Err e) = RefusedFillingStep view backing p old new out e
 
-    -- so it is, and filled with what the guest sees, but where that is announced as overwritten
+    -- Exactly this cluster is allocated, and filled with what the guest sees, except where the caller promised to overwrite; or it is past a limit, or in use.
     abbrev pub GainsAt : Pending → Qcow2 S F → Qcow2 S F → List (Option Prepared) → ℕ → ℕ → Bool → L2Mapping → ℕ → Result (Option ClustersToFreeEntry) ImageError → Type 0
     GainsAt p old new out offset n overwrite mapping cluster (Ok (Some run)) = (run.first_cluster ≡ cluster) × IsGained view backing p old new out offset n overwrite mapping run
     GainsAt p old new out offset n overwrite mapping cluster (Ok None) =
         UnseenFillingStep view backing p (pending_with_listed p old new) old new out × (IsPastLimits old.file.header.fields cluster ⊎ (count new.file.header.fields (known_in view new.file) cluster ≢ 0))
     GainsAt p old new out offset n overwrite mapping cluster (Err e) = RefusedFillingStep view backing p old new out e
 
-    -- the share of a guest cluster at a place in the file: a new cluster, that no mapping has yet
+    -- The share of a guest cluster at a host offset: a new cluster that no mapping has yet.
     pub record IsSharedAt (p : Pending) (old new : Qcow2 S F) (out : List (Option Prepared)) (offset n : ℕ) (overwrite : Bool) (mapping : L2Mapping) (host : ℕ) (share : Share) : Type 0 where
       pub run : ClustersToFreeEntry
       pub is : share ≡ New (run ∷ []) (listed_run (named_run old.file.header.fields.cluster_bits mapping))
@@ -136,7 +136,7 @@ module _ {S F : Type 0} (view : S → StorageView) where
         × (IsPastLimits old.file.header.fields (host / cluster_size old.file.header.fields) ⊎ (count new.file.header.fields (known_in view new.file) (host / cluster_size old.file.header.fields) ≢ 0))
     SharesAt p old new out offset n overwrite mapping host (Err e) = RefusedFillingStep view backing p old new out e
 
-    -- A share for the guest cluster behind a mapping that is out stands ready. Where it isn't in place, its cluster has what the guest sees, but where that is announced as overwritten.
+    -- There is a share for the guest cluster behind a mapping. If it is not in place, its cluster has what the guest sees, except where the caller promised to overwrite.
     pub record StandsBehind (old new : Qcow2 S F) (out : List (Option Prepared)) (n : ℕ) (overwrite : Bool) (p : Prepared) (share : Share) : Type 0 where
       pub pending : Pending
       pub image_step : UnseenFillingStep view backing (pending_in view backing old out) pending old new out
@@ -149,13 +149,13 @@ module _ {S F : Type 0} (view : S → StorageView) where
       pub filled : (o : ℕ) → o / cluster_size new.file.header.fields ≡ cluster_of new.file.header.fields p + length p.shares.items → IsTrue (is_entered share)
           → (overwrite && is_within p.guest (min n (p.length + cluster_size new.file.header.fields)) o ≡ false) → known_byte (contents_in view new.file (place_of new.file.header.fields p o)) ≡ (disk_of view backing old).value o
 
-    -- such a share is found; or none can stand there, and all is as it was; or it was refused
+    -- Such a share is found; or there can be none, and nothing changed; or the part was refused.
     abbrev pub FindsBehind : Qcow2 S F → Qcow2 S F → List (Option Prepared) → (n : ℕ) → Bool → Prepared → Result (Option Share) ImageError → Type 0
     FindsBehind old new out n overwrite p (Ok (Some share)) = StandsBehind old new out n overwrite p share
     FindsBehind old new out n overwrite p (Ok None) = UnseenCall view backing old new out × Ends new p
     FindsBehind old new out n overwrite p (Err e) = RefusedCall view backing old new out e
 
-    -- a mapping that is out at a place is there as a longer one, of which is private what isn't copied data
+    -- A prepared mapping was extended in its slot. Everything in it that is not copied data is private.
     pub record IsExtended (old new : Qcow2 S F) (out : List (Option Prepared)) (k n : ℕ) (overwrite : Bool) (p q : Prepared) : Type 0 where
       pub works : EffectOnSound (abstract_of view backing old out) (abstract_of view backing new (slice_set out k (Some q))) [] []
       pub sound : ImageInvariant view backing (pending_in view backing new (slice_set out k (Some q))) new (slice_set out k (Some q))
@@ -165,19 +165,19 @@ module _ {S F : Type 0} (view : S → StorageView) where
           → IsPrepared (cluster_size old.file.header.fields) (guest_of (abstract_of view backing old out)).disk p.guest n overwrite (meaning view backing new q)
       pub is : guest_of (abstract_of view backing new (slice_set out k (Some q))) ≡ with_slot (guest_of (abstract_of view backing old out)) k (Some (meaning view backing new q))
 
-    -- so it is by the cluster behind it; or that can't stand there, and all is as it was; or it was refused
+    -- A mapping was extended by the next cluster; or there can be none, and nothing changed; or the part was refused.
     abbrev pub GoesNext : Qcow2 S F → Qcow2 S F → List (Option Prepared) → (k n : ℕ) → Bool → Prepared → Prepared → Result Bool ImageError → Type 0
     GoesNext old new out k n overwrite p q (Ok true) = IsExtended old new out k n overwrite p q
     GoesNext old new out k n overwrite p q (Ok false) = UnseenCall view backing old new out × Ends new p
     GoesNext old new out k n overwrite p q (Err e) = RefusedCall view backing old new out e
 
-    -- a range was prepared so far, and then a part was refused
+    -- A range was prepared up to some point, and then a part was refused.
     pub record BreaksOff (start new : Qcow2 S F) (out : List (Option Prepared)) (k n : ℕ) (overwrite : Bool) (q : Prepared) (e : ImageError) : Type 0 where
       pub mid : Qcow2 S F
       pub readied : IsReadied view backing start mid out k q.guest n overwrite q
       pub refused : RefusedCall view backing mid new (slice_set out k (Some q)) e
 
-    -- a range that was prepared in part is prepared as far as it goes
+    -- A range that was prepared in part is prepared as far as possible.
     abbrev pub GoesOn : Qcow2 S F → Qcow2 S F → List (Option Prepared) → (k n : ℕ) → Bool → Prepared → Result (Unit {0}) ImageError → Type 0
     GoesOn start new out k n overwrite q (Ok _) = IsReadied view backing start new out k q.guest n overwrite q × (q.length < n → Ends new q)
     GoesOn start new out k n overwrite q (Err e) = BreaksOff start new out k n overwrite q e

@@ -1,4 +1,4 @@
--- When an image opens, and why one is refused: by its contents alone, by whether it is to be written, and by the files that are missing.
+-- When an image opens and why it is refused: by its contents, by whether it is opened for writing, and by the files that are missing.
 use Rattle.std.specs.Prelude.{ℕ, ◌≡◌, ◌≢◌, ◌⊎◌, Bool, IsTrue, List, Option, Some, None, Result, Ok, Err, false}
 use Rattle.image_access.specs.Moments.{StorageView}
 use Rattle.qcow2_metadata.specs.Bytes.{Bytes, byte_at}
@@ -20,31 +20,31 @@ use Rattle.qcow2_image.specs.Opened.{HasNamesIn, IsKeptSince, IsRefusedAlone, Le
 use Rattle.qcow2_image.specs.PinnedTables.{HasPinnedTable}
 use Rattle.qcow2_image.specs.Unwritten.{ContentsStayThroughout, HoldsNothingModified}
 
--- The header is as opening asks for: it reads, its tables begin on clusters, and no file is needed that is missing.
+-- The header is readable, its tables are aligned, and the image needs no file that is missing.
 pub record HeaderSuits (contents : List ℕ) (writable : Bool) (missing : Missing) : Type 0 where
   pub reads : HeaderReads (header (byte_at contents)) (byte_at contents)
   pub on_clusters : HasAlignedTables (header (byte_at contents)) writable
   pub needs_none : ¬ NeedsMissing missing contents
 
--- the L1 table reads and, where the image is to be written, the reftable
+-- The L1 table is readable, and so is the reftable if the image is opened for writing.
 pub record NeededTablesRead (h : HeaderFields) (b : Bytes) (writable : Bool) : Type 0 where
   pub l1_table : L1TableReads h b
   pub reftable : IsTrue writable → ReftableReads h b
 
--- the contents are as opening asks for
+-- The contents can be opened.
 pub record IsReadable (contents : List ℕ) (writable : Bool) (missing : Missing) : Type 0 where
   pub by_header : HeaderSuits contents writable missing
   pub tables : NeededTablesRead (header (byte_at contents)) (byte_at contents) writable
 
--- Why the tables aren't loaded: for the L1 table; or, where that reads and the image is to be written, for the reftable.
+-- Why the tables are not loaded: because of the L1 table; or, if that is readable and the image is opened for writing, because of the reftable.
 abbrev pub IsReasonAgainstTables : HeaderFields → Bytes → Bool → ImageError → Type 0
 IsReasonAgainstTables h b writable e = IsReasonAgainstL1Table h b e ⊎ (IsTrue writable × L1TableReads h b × IsReasonAgainstReftable h b e)
 
--- the header suits, and a table is refused
+-- The header can be opened, and a table is refused.
 abbrev pub IsTableRefused : List ℕ → Bool → Missing → ImageError → Type 0
 IsTableRefused contents writable missing e = HeaderSuits contents writable missing × IsReasonAgainstTables (header (byte_at contents)) (byte_at contents) writable e
 
--- Why opening is refused, in this order: a header that doesn't read, a limit, an offset of a table, a file that is missing, and then the tables. A fault and want of memory come as they are met.
+-- Why opening is refused. The order is: an unreadable header, a limit, an unaligned table, a missing file, and then the tables. A fault comes when it occurs.
 abbrev pub IsRefusedRightly : List ℕ → Bool → Missing → ImageError → Type 0
 IsRefusedRightly contents writable missing I.Metadata = ¬ IsWellFormed (header (byte_at contents)) (byte_at contents) ⊎ IsTableRefused contents writable missing I.Metadata
 IsRefusedRightly contents writable missing I.Limit =
@@ -55,13 +55,13 @@ IsRefusedRightly contents writable missing I.Memory = Unit {0}
 IsRefusedRightly contents writable missing I.Storage = Unit {0}
 IsRefusedRightly contents writable missing e = ⊥
 
--- Opened only where the contents read, and refused only for one of these reasons. Where no file is missing none is asked for, on any storage.
+-- Opening succeeds only if the contents can be opened, and is refused only for one of these reasons. If no file is missing, opening does not ask for one, on any storage.
 abbrev pub OpensRightly : {S F : Type 0} → StorageView → Bool → Missing → Result (Qcow2 S F) (S × ImageError) → Type 0
 OpensRightly storage writable missing (Ok image) = storage.is_honest → IsReadable storage.contents writable missing
 OpensRightly storage writable missing (Err refused) = (refused.1 ≡ I.Dependency → missing ≢ M.Nothing) × (storage.is_honest → IsRefusedRightly storage.contents writable missing refused.1)
 
--- What opening does, opened or refused. Each fault is counted and told. No byte changes but those of the autoclear field, and what was kept of a consistent image is kept at each moment.
--- An image that needs a file which is missing is refused before any byte changes. It is opened, and refused, for the reasons above alone.
+-- What opening does, whether it succeeds or not. Each fault is counted and reported. Only the autoclear field may change, and a stop at any moment is as safe as before.
+-- An image that needs a missing file is refused before any byte changes. Opening succeeds and is refused only for the reasons above.
 pub record OpeningStep {S F : Type 0} (view : S → StorageView) (before : StorageView) (writable : Bool) (missing : Missing) (result : Result (Qcow2 S F) (S × ImageError)) : Type 0 where
   pub faults : OpeningCounts view before.faults result
   pub storage : LeavesStorage view writable before result
@@ -69,7 +69,7 @@ pub record OpeningStep {S F : Type 0} (view : S → StorageView) (before : Stora
   pub another : before.is_honest → NeedsMissing missing before.contents → IsRefusedAlone result × ContentsStayThroughout before (view (storage_after result))
   pub cause : OpensRightly before writable missing result
 
--- An image as it is opened: under its number, for writing or not, and works. No table is pinned or modified. Its header has the format and the names that stand on the storage, and its tables lie behind the header.
+-- An image that was just opened: with its number, for reading or for writing, and not failed. No table is pinned or modified. Its header has the format and the names on the storage, and no table lies in the header's cluster.
 pub record IsNewlyOpened {S F : Type 0} (before : StorageView) (writable : Bool) (number : ℕ) (image : Qcow2 S F) : Type 0 where
   pub number_is : number_of image ≡ number
   pub works : is_failed image ≡ false
@@ -80,7 +80,7 @@ pub record IsNewlyOpened {S F : Type 0} (before : StorageView) (writable : Bool)
   pub format : before.is_honest → SameFormat (header (byte_at before.contents)) image.file.header.fields
   pub names : before.is_honest → HasNamesIn image.file.header before.contents
 
--- the files that are missing as a builder opens: that of the data, and the backing file where it was neither given nor waived
+-- The files that are missing when a builder opens: the data file, and the backing file unless a disk or `None` was given for it.
 abbrev pub files_missing : {F : Type 0} → Option (Option F) → Missing
 files_missing None = M.OtherFiles
 files_missing (Some disk) = M.DataFile

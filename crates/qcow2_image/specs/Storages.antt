@@ -1,4 +1,4 @@
--- The storages that an image is over, and its name.
+-- The storages of an image, and its name.
 use Rattle.std.specs.Prelude.{ℕ, ◌++◌, ◌∷◌, List, [], codes}
 use Rattle.std.specs.Option.{option_map_or}
 use Rattle.image_access.specs.Moments.{StorageView}
@@ -6,10 +6,10 @@ use Rattle.qcow2_image.specs.Image.{storage_of_image}
 use Rattle.qcow2_image.specs.declared.image.Qcow2.{Qcow2}
 
 module _ {S F : Type 0} where
-  -- those of the disk below, in its order, and then the image's own
+  -- The storages of the backing disk, in its order, and then the image's own.
   abbrev pub storages_of : (F → List S) → Qcow2 S F → List S
   storages_of dependencies image = option_map_or dependencies image.backing [] ++ storage_of_image image ∷ []
 
-  -- what an image is printed as: `qcow2[`, the name of its storage, `]`
+  -- The name of an image: `qcow2[`, the name of its storage, `]`.
   abbrev pub name_of : (S → StorageView) → Qcow2 S F → List ℕ
   name_of view image = codes "qcow2[" ++ (view (storage_of_image image)).name ++ codes "]"

@@ -32,45 +32,45 @@ use Rattle.qcow2_alloc.specs.declared.clusters_to_free.ClusterKind.TheVariants a
 use Rattle.qcow2_image.specs.Image.{leaked_in}
 use Rattle.qcow2_image.specs.ImageInvariant.{run_of, new_data_by, is_entered, over_all, pins_of, share_of, below_of, disk_of, abstract_of, ImageInvariant}
 
--- an L1 entry names a table and is marked copied
+-- The L1 entry names a table, and is marked copied.
 abbrev pub NamesOwn : ℕ → Type 0
 NamesOwn entry = (host_offset entry ≢ 0) × (is_copied entry ≡ true)
 
--- an L2 table that is marked copied stays where it is
+-- L2 tables that are marked copied keep their places.
 abbrev pub KeepsCopied : DriverState → DriverState → Type 0
 KeepsCopied old new = (i : ℕ) → NamesOwn (l1_entry old.header old.on_storage i) → l1_entry old.header new.on_storage i ≡ l1_entry old.header old.on_storage i
 
--- a byte of the cluster of an offset is announced as overwritten
+-- The caller promised to overwrite this byte of the offset's cluster.
 abbrev pub is_announced : ℕ → ℕ → ℕ → Bool → ℕ → Bool
 is_announced size offset length overwrite i = overwrite && is_within (offset % size) (min length (size - offset % size)) i
 
--- so many bytes stand in a file from a place on
+-- These n values are in the file from an offset on.
 abbrev pub AreThere : {S : Type 0} → (S → StorageView) → ImageFile S → ℕ → ℕ → (ℕ → ℕ) → Type 0
 AreThere view file at n values = (i : ℕ) → i < n → contents_in view file (at + i) ≡ values i
 
--- what becomes of the new clusters of shares that are dropped
+-- The clusters that are freed when shares are dropped: the new ones.
 abbrev pub freed_by : List Share → List ClustersToFreeEntry
 freed_by [] = []
 freed_by (InPlace ∷ shares) = freed_by shares
 freed_by (Kept ∷ shares) = freed_by shares
 freed_by (New taken old_data ∷ shares) = taken ++ freed_by shares
 
--- what stood there before a share is entered
+-- The clusters that a share replaces when it is entered.
 abbrev pub old_data_by : Share → List ClustersToFreeEntry
 old_data_by InPlace = []
 old_data_by Kept = []
 old_data_by (New taken old_data) = old_data
 
--- nothing stands where its shares are entered, or what stands there is kept
+-- Entering the shares replaces no cluster: the guest clusters are unmapped, or what they have is kept.
 abbrev pub DropsNothing : Prepared → Type 0
 DropsNothing p = (i : ℕ) (share : Share) → slice_get p.shares.items i ≡ Some share → old_data_by share ≡ []
 
 module _ {S F : Type 0} where
-  -- clusters are put on the list of those to be freed, and nothing else changes
+  -- Clusters are appended to the list of clusters to free, and nothing else changes.
   abbrev pub FreesLater : List ClustersToFreeEntry → Qcow2 S F → Qcow2 S F → Type 0
   FreesLater more old new = new ≡ record old { file = record old.file { free_list = old.file.free_list ++ more } }
 
-  -- an entry of a cached table, where one is named, is made copied data at a host cluster, and nothing else changes
+  -- An entry of a cached L2 table, if one is given, becomes copied data at a host cluster, and nothing else changes.
   pub record EntersCluster (table : Option ℕ) (index host : ℕ) (old new : Qcow2 S F) : Type 0 where
     pub rest : new ≡ record old { file = record old.file { caches = new.file.caches } }
     pub order : order_of new.file.caches ≡ order_of old.file.caches
@@ -79,7 +79,7 @@ module _ {S F : Type 0} where
     pub noted : (t : ℕ) → table ≡ Some t → NotesEntry old.file.caches new.file.caches t index host
     pub behind : KeepBehindHeader old.file.caches new.file.caches
 
-  -- A share that isn't in place is entered in the table of its mapping, where its cluster stands in the file, and is in place then. What stood there before is to be freed. Nothing else changes.
+  -- A share that is not in place is entered in its L2 table, at its cluster in the file, and is in place then. What the entry had before waits to be freed. Nothing else changes.
   pub record EntersShare (i : ℕ) (p p' : Prepared) (old new : Qcow2 S F) : Type 0 where
     pub share : Share
     pub was : slice_get p.shares.items i ≡ Some share
@@ -90,7 +90,7 @@ module _ {S F : Type 0} where
     pub enters : EntersCluster p.table (min (l2_index_of old.file.header.fields p.guest + i) (2 ^ 64 - 1)) (min (p.offset / cluster_size old.file.header.fields + i) (2 ^ 64 - 1)) old mid
     pub lists : FreesLater (old_data_by share) mid new
 
-  -- an L2 table has one pin less, where one is named, and nothing else changes
+  -- An L2 table, if one is given, has one pin less, and nothing else changes.
   pub record Unpins (table : Option ℕ) (old new : Qcow2 S F) : Type 0 where
     pub rest : new ≡ record old { file = record old.file { caches = new.file.caches } }
     pub tables : SameTables old.file.caches new.file.caches
@@ -98,7 +98,7 @@ module _ {S F : Type 0} where
     pub changed : new.file.caches.is_changed ≡ old.file.caches.is_changed
     pub counted : new.file.caches.changes ≡ old.file.caches.changes
 
-  -- an L2 table that is held has one pin more, and nothing else changes
+  -- A cached L2 table has one pin more, and nothing else changes.
   pub record Pins (table : ℕ) (old new : Qcow2 S F) : Type 0 where
     pub rest : new ≡ record old { file = record old.file { caches = new.file.caches } }
     pub tables : SameTables old.file.caches new.file.caches
@@ -106,17 +106,17 @@ module _ {S F : Type 0} where
     pub changed : new.file.caches.is_changed ≡ old.file.caches.is_changed
     pub counted : new.file.caches.changes ≡ old.file.caches.changes
 
-  -- more clusters are to be freed than before
+  -- The list of clusters to free grew, or stayed the same.
   pub record ListGrows (old new : Qcow2 S F) : Type 0 where
     pub more : List ClustersToFreeEntry
     pub is : new.file.free_list ≡ old.file.free_list ++ more
 
-  -- what is pending, with those
+  -- What is pending, with the clusters that were added to the list.
   abbrev pub pending_with_listed : Pending → Qcow2 S F → Qcow2 S F → Pending
   pending_with_listed p old new = since_listed p old.file.free_list new.file.free_list
 
   module _ (view : S → StorageView) (backing : F → BackingView) where
-    -- Nothing changes that a guest sees, and all is sound again, from what was pending to what is. At each moment what was kept is kept.
+    -- Guests don't see the step. The image is sound again, and a stop at any moment is as safe as before.
     pub record UnseenStep (p p' : Pending) (old new : Qcow2 S F) (out : List (Option Prepared)) : Type 0 where
       pub sound : ImageInvariant view backing p' new out
       pub safe_step : SafeStep (state_in view old.file p) (state_in view new.file p') nothing_given []
@@ -127,7 +127,7 @@ module _ {S F : Type 0} where
       pub list : ListGrows old new
       pub leaks : leaked_in new ≡ leaked_in old
 
-    -- The same, whatever becomes of the list of clusters that are to be freed.
+    -- Guests don't see the step, and the list of clusters to free may change in any way.
     pub record UnseenFreeingStep (p p' : Pending) (old new : Qcow2 S F) (out : List (Option Prepared)) : Type 0 where
       pub sound : ImageInvariant view backing p' new out
       pub safe_step : SafeStep (state_in view old.file p) (state_in view new.file p') nothing_given []
@@ -137,27 +137,27 @@ module _ {S F : Type 0} where
       pub below : below_of view backing new.backing ≡ below_of view backing old.backing
       pub leaks : leaked_in new ≡ leaked_in old
 
-    -- a part of a call broke off: at each moment what was kept is kept, and no cluster is leaked
+    -- A fault ended the part: a stop at any moment is as safe as before, and no cluster is leaked.
     pub record InterruptedPart (old new : Qcow2 S F) (e : ImageError) : Type 0 where
       pub interrupted : InterruptedFileStep view old.file new.file e
       pub leaks : leaked_in new ≡ leaked_in old
 
-    -- a part of a call that was refused: all is sound as before but for what is to be freed; or it broke off
+    -- What a refused part leaves: a sound image with more clusters to free at most, or one that is about to fail.
     abbrev pub RefusedStep : Pending → Qcow2 S F → Qcow2 S F → List (Option Prepared) → ImageError → Type 0
     RefusedStep p old new out e = UnseenStep p (pending_with_listed p old new) old new out ⊎ InterruptedPart old new e
 
-    -- the L2 table of an offset is held in this cluster, and named by an L1 entry that is marked copied
+    -- The L2 table of the offset is cached, from this cluster, and its L1 entry is marked copied.
     pub record HoldsTable (image : Qcow2 S F) (offset table : ℕ) : Type 0 where
       pub entry : IsEntryAt image.file.header.fields (known_in view image.file) (l1_index_of image.file.header.fields offset) table (l2_index_of image.file.header.fields offset)
       pub copied : is_copied (l1_entry image.file.header.fields (contents_in view image.file) (l1_index_of image.file.header.fields offset)) ≡ true
       pub new_data : IsSome (l2_at image.file.caches table)
 
-    -- a part of a call that sees to it: no guest sees it
+    -- A part makes sure that the L2 table of an offset is cached and marked copied. Guests don't see it.
     abbrev pub Ensures : Pending → Qcow2 S F → Qcow2 S F → List (Option Prepared) → ℕ → Result ℕ ImageError → Type 0
     Ensures p old new out offset (Ok table) = UnseenStep p (pending_with_listed p old new) old new out × HoldsTable new offset table
     Ensures p old new out offset (Err e) = RefusedStep p old new out e
 
-    -- A part that the guest doesn't see, who may see clusters written that none of these mappings has. All is sound again, from what was pending to what is.
+    -- Guests don't see the step, but it may write to clusters that none of these mappings has. The image is sound again.
     pub record UnseenFillingStep (p p' : Pending) (old new : Qcow2 S F) (out : List (Option Prepared)) : Type 0 where
       pub sound : ImageInvariant view backing p' new out
       pub safe_step : SafeStep (state_in view old.file p) (state_in view new.file p') nothing_given []
@@ -170,57 +170,57 @@ module _ {S F : Type 0} where
       pub seen : guest_of (abstract_of view backing new out) ≡ guest_of (abstract_of view backing old out)
       pub leaks : leaked_in new ≡ leaked_in old
 
-    -- It broke off: the image keeps its header, but perhaps for where the reftable stands, and its backing disk, and at each moment what was kept is kept. No cluster is leaked.
+    -- A fault ended the step: the header, except the pointer to the reftable, and the backing disk are the same, and a stop at any moment is as safe as before. No cluster is leaked.
     pub record InterruptedStep (old new : Qcow2 S F) (e : ImageError) : Type 0 where
       pub interrupted : InterruptedFileStep view old.file new.file e
       pub header : KeepsFormat old.file.header.fields new.file.header.fields
       pub below : below_of view backing new.backing ≡ below_of view backing old.backing
       pub leaks : leaked_in new ≡ leaked_in old
 
-    -- Clusters that are listed are freed. What is listed afterwards is pending still; or it broke off.
+    -- Clusters of the list are freed. Those on the list afterwards are still pending. Or a fault ended the step.
     abbrev pub FreesListed : Pending → Qcow2 S F → Qcow2 S F → List (Option Prepared) → Result (Unit {0}) ImageError → Type 0
     FreesListed p old new out (Ok _) = UnseenFreeingStep (with_listed p old.file.free_list) (with_listed p new.file.free_list) old new out
     FreesListed p old new out (Err e) = UnseenFreeingStep (with_listed p old.file.free_list) (with_listed p new.file.free_list) old new out ⊎ InterruptedStep old new e
 
-    -- so does a part that was refused, but for what is to be freed; or it broke off
+    -- What a refused part leaves: a sound image with more clusters to free at most, or one that is about to fail.
     abbrev pub RefusedFillingStep : Pending → Qcow2 S F → Qcow2 S F → List (Option Prepared) → ImageError → Type 0
     RefusedFillingStep p old new out e = UnseenFillingStep p (pending_with_listed p old new) old new out ⊎ InterruptedStep old new e
 
-    -- clusters of new data have the bytes that they had
+    -- Clusters of new data have the same bytes.
     abbrev pub SameHeld : Pending → Qcow2 S F → Qcow2 S F → Type 0
     SameHeld p old new = (o : ℕ) → 0 < p.new_data (o / cluster_size old.file.header.fields) → contents_in view new.file o ≡ contents_in view old.file o
 
-    -- what mappings hold is pending
+    -- The clusters that mappings hold are pending.
     abbrev pub HoldsAll : Pending → List (Option Prepared) → Type 0
     HoldsAll p out = (k : ℕ) → over_all new_data_by out k ≤ p.new_data k
 
-    -- a range of the file lies in a cluster of new data that no mapping has yet
+    -- The range of the file lies in a cluster of new data that no mapping has yet.
     pub record IsInHeldCluster (p : Pending) (image : Qcow2 S F) (out : List (Option Prepared)) (cluster at n : ℕ) : Type 0 where
       pub new_data : 0 < p.new_data cluster
       pub unused : over_all new_data_by out cluster ≡ 0
       pub inside : (i : ℕ) → i < n → (at + i) / cluster_size image.file.header.fields ≡ cluster
 
-    -- the zero entry of the guest cluster of an offset keeps the host cluster at a place, and no mapping has that guest cluster
+    -- The zero entry of the offset's guest cluster keeps the host cluster at this place, and no mapping has that guest cluster.
     pub record IsKeptAlone (image : Qcow2 S F) (out : List (Option Prepared)) (offset host : ℕ) : Type 0 where
       pub kept : cover image.file.header.fields (known_in view image.file) (offset / cluster_size image.file.header.fields) ≡ Zero (Some (host, true))
       pub alone : (k : ℕ) (q : Prepared) → slice_get out k ≡ Some (Some q) → share_of image.file.header.fields q (offset / cluster_size image.file.header.fields) ≡ None
 
-    -- so many bytes are copied from a guest offset to a place of the file
+    -- The n bytes are copied from a guest offset to an offset of the file.
     abbrev pub IsCopied : Qcow2 S F → Qcow2 S F → ℕ → ℕ → ℕ → Type 0
     IsCopied old new at guest n = (i : ℕ) → i < n → known_byte (contents_in view new.file (at + i)) ≡ (disk_of view backing old).value (guest + i)
 
-    -- A new cluster has what the guest sees of the guest cluster of an offset, but where it is announced as overwritten.
+    -- The new cluster has what the guest sees of the offset's guest cluster, except where the caller promised to overwrite.
     abbrev pub IsFilled : Qcow2 S F → Qcow2 S F → ℕ → ℕ → ℕ → Bool → Type 0
     IsFilled old new cluster offset length overwrite =
         let size = cluster_size old.file.header.fields in
         (i : ℕ) → i < size → is_announced size offset length overwrite i ≡ false → known_byte (contents_in view new.file (cluster * size + i)) ≡ (disk_of view backing old).value (offset - offset % size + i)
 
-    -- a cluster is taken for data
+    -- A cluster is allocated for data.
     abbrev pub TakesData : Pending → Qcow2 S F → Qcow2 S F → List (Option Prepared) → Result ClustersToFreeEntry ImageError → Type 0
     TakesData p old new out (Ok n) = (n.count ≡ 1) × (n.kind ≡ Kind.Data) × UnseenFillingStep p (with_new_data (pending_with_listed p old new) (run_of n)) old new out
     TakesData p old new out (Err e) = RefusedFillingStep p old new out e
 
-    -- a new cluster that no mapping has yet
+    -- A new cluster that no mapping has yet.
     pub record IsGained (p : Pending) (old new : Qcow2 S F) (out : List (Option Prepared)) (offset length : ℕ) (overwrite : Bool) (mapping : L2Mapping) (n : ClustersToFreeEntry) : Type 0 where
       pub one : n.count ≡ 1
       pub kind : n.kind ≡ Kind.Data
