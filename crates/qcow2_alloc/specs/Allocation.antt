@@ -1,4 +1,4 @@
--- What the allocator's calls take, and what they leave of an image's file.
+-- What the allocator's calls allocate and free, and what they leave of an image's file.
 use Rattle.std.specs.Prelude.{ℕ, ◌+◌, ◌*◌, ◌/◌, ◌%◌, ◌^◌, ◌<◌, ◌≤◌, ◌≡◌, ◌≢◌, ◌⊎◌, ◌&&◌, nat_le, nat_lt, Bool, true, false, List, length, Option, Some, None, Result, Ok, Err, IsSome, IsTrue, if◌then◌else◌}
 use Rattle.image_access.specs.Moments.{StorageView}
 use Rattle.qcow2_metadata.specs.declared.header.HeaderFields.{HeaderFields}
@@ -24,7 +24,7 @@ use Rattle.qcow2_alloc.specs.declared.error.ImageError.{ImageError}
 use Rattle.qcow2_alloc.specs.declared.error.ImageError.TheVariants.{UnalignedTable, Limit}
 use Rattle.qcow2_alloc.specs.declared.image_file.ImageFile.{ImageFile}
 
--- how often a cluster is one of n from first on
+-- 1 if cluster k is one of the n clusters from `first` on, otherwise 0.
 abbrev pub run_at : ℕ → ℕ → ℕ → ℕ
 run_at first n k = if nat_le first k && nat_lt k (first + n) then 1 else 0
 
@@ -32,21 +32,21 @@ abbrev pub is_data : ClusterKind → Bool
 is_data Data = true
 is_data Metadata = false
 
--- clusters that are taken for data are new data, those for tables new tables
+-- What is pending after these clusters are allocated: as new data or as new tables.
 abbrev pub taken_as : Bool → Pending → (ℕ → ℕ) → Pending
 taken_as true p n = with_new_data p n
 taken_as false p n = with_new_tables p n
 
--- no cluster more couldn't be freed
+-- No further cluster was leaked.
 abbrev pub SameLeaks : Allocator → Allocator → Type 0
 SameLeaks old new = new.leaked_clusters ≡ old.leaked_clusters
 
--- clusters on the list of those to be freed were data, or tables
+-- What is pending with these clusters on the list to be freed: as old data or as old tables.
 abbrev pub listed_as : ClusterKind → Pending → (ℕ → ℕ) → Pending
 listed_as Data p n = record p { old_data = λ k. p.old_data k + n k }
 listed_as Metadata p n = record p { old_tables = λ k. p.old_tables k + n k }
 
--- why a cluster is counted once less: it was taken in the same call, or it is on that list
+-- Why the refcount of a cluster may be decremented: the cluster was allocated in the same call, or it is on the list to be freed.
 pub data Owed : Type 0 where
   Taken : Bool → Owed
   Listed : ClusterKind → Owed
@@ -55,55 +55,55 @@ abbrev pub owed_as : Owed → Pending → (ℕ → ℕ) → Pending
 owed_as (Taken is_data) p n = taken_as is_data p n
 owed_as (Listed kind) p n = listed_as kind p n
 
--- what is pending where a refblock is placed: its cluster was taken for it, or it counts itself
+-- What is pending while a refblock is made: a cluster that was allocated for it, or nothing if it counts itself.
 abbrev pub placing : Bool → Pending → ℕ → Pending
 placing true p at = p
 placing false p at = taken_as false p (one_at at)
 
--- the counts of a new refblock
+-- The refcounts of a new refblock: 1 for its own cluster if it counts itself, otherwise 0.
 abbrev pub first_counts : Bool → ℕ → ℕ
 first_counts true i = one_at 0 i
 first_counts false i = 0
 
--- one that counts itself stands in the first cluster of its range
+-- A refblock that counts itself lies in the first cluster of its range.
 abbrev pub StandsFirst : Bool → HeaderFields → ℕ → ℕ → Type 0
 StandsFirst true h range at = at ≡ range * counts_per_block h
 StandsFirst false h range at = Unit {0}
 
--- these bytes stand there
+-- These bytes are at this offset.
 abbrev pub StandAt : Bytes → ℕ → List ℕ → Type 0
 StandAt b place bytes = (i : ℕ) → i < length bytes → byte_at bytes i ≡ b (place + i)
 
--- the reftable names no refblock for the range
+-- The reftable has no refblock for the range.
 abbrev pub HasNone : EntryTableView → ℕ → Type 0
 HasNone reftable range = block_offset (entry_at reftable.bytes range) ≡ 0
 
--- what an entry of the reftable says: it names nothing, or the refblock that begins at its offset
+-- A reftable entry is empty, or holds the offset of this refblock.
 abbrev pub NamesBlock : HeaderFields → EntryTableView → ℕ → Option ℕ → Type 0
 NamesBlock h reftable range None = HasNone reftable range
 NamesBlock h reftable range (Some block) = block * cluster_size h ≡ block_offset (entry_at reftable.bytes range)
 
--- the entry of a range names a refblock that isn't on a cluster
+-- The reftable entry of a range has an offset that is not aligned.
 pub record IsUnaligned (h : HeaderFields) (reftable : EntryTableView) (range : ℕ) : Type 0 where
   pub within : range < entry_count reftable
   pub off : block_offset (entry_at reftable.bytes range) % cluster_size h ≢ 0
 
--- a cluster is of the first range, which has no refblock, though the reftable has an entry for it
+-- The cluster belongs to the first range, which has no refblock although the reftable has an entry for it.
 pub record LacksFirst (h : HeaderFields) (reftable : EntryTableView) (cluster : ℕ) : Type 0 where
   pub none : HasNone reftable 0
   pub some : 0 < entry_count reftable
   pub first : cluster < counts_per_block h
 
--- the refblock of a cluster's range can't be had: it isn't on a cluster, or it is the first range's, which would lie in the header's cluster
+-- The cluster's range cannot have a refblock: its entry is not aligned; or it is the first range, whose refblock would lie in the header's cluster.
 abbrev pub LacksBlock : HeaderFields → EntryTableView → ℕ → ImageError → Type 0
 LacksBlock h reftable cluster e = (IsUnaligned h reftable (cluster / counts_per_block h) × (e ≡ UnalignedTable)) ⊎ (LacksFirst h reftable cluster × (e ≡ Limit))
 
--- a range that has no refblock, which may be placed in the cluster
+-- The range has no refblock, and this cluster may hold it.
 pub record HasPlaceFor (counts_itself : Bool) (h : HeaderFields) (reftable : EntryTableView) (range at : ℕ) : Type 0 where
   pub none : HasNone reftable range
   pub first : StandsFirst counts_itself h range at
 
--- the reftable has an entry for a range, and a refblock that it names may lie in a cluster, behind the header's
+-- The reftable has an entry for the range, and the entry may hold this cluster, which is not the header's.
 pub record CanName (cluster_bits : ℕ) (reftable : EntryTableView) (range at : ℕ) : Type 0 where
   pub within : range < entry_count reftable
   pub placed : IsSome reftable.cluster
@@ -111,21 +111,21 @@ pub record CanName (cluster_bits : ℕ) (reftable : EntryTableView) (range at : 
   pub nameable : IsHostCluster reftable.cluster_bits at
   pub nameable_here : IsHostCluster cluster_bits at
 
--- No refblock comes to lie in cluster 0: each entry of the reftable stays, or names a refblock behind that cluster.
+-- No refblock moves to cluster 0: each reftable entry stays the same, or gets a refblock behind cluster 0.
 pub record NamesBehindHeader (old new : EntryTableView) : Type 0 where
   pub bits : new.cluster_bits ≡ old.cluster_bits
   pub each : (k : ℕ) → (entry_at new.bytes k ≡ entry_at old.bytes k) ⊎ (2 ^ old.cluster_bits ≤ block_offset (entry_at new.bytes k))
 
--- each range of counts that has a refblock keeps it
+-- Each range that has a refblock keeps it.
 abbrev pub KeepsRefblocks : EntryTableView → EntryTableView → Type 0
 KeepsRefblocks old new = (range : ℕ) → (HasNone old range → ⊥) → entry_at new.bytes range ≡ entry_at old.bytes range
 
--- A copy of a reftable names only refblocks that this one lacks: none in cluster 0, and each range that has a refblock keeps its entry.
+-- A longer copy of the reftable gets only refblocks that the reftable lacks. None lies in cluster 0, and each range that has a refblock keeps its entry.
 pub record NamesLacking (reftable old new : EntryTableView) : Type 0 where
   pub behind : NamesBehindHeader old new
   pub ranges : (range : ℕ) → (HasNone reftable range → ⊥) → entry_at new.bytes range ≡ entry_at old.bytes range
 
--- a reftable of the same place and length, with the same entries for these ranges
+-- The reftable keeps its place, its length, and these entries.
 pub record KeepsEntries (Stays : ℕ → Type 0) (old new : EntryTableView) : Type 0 where
   pub cluster : new.cluster ≡ old.cluster
   pub bits : new.cluster_bits ≡ old.cluster_bits
@@ -133,17 +133,17 @@ pub record KeepsEntries (Stays : ℕ → Type 0) (old new : EntryTableView) : Ty
   pub others : (k : ℕ) → Stays k → entry_at new.bytes k ≡ entry_at old.bytes k
   pub behind : NamesBehindHeader old new
 
--- each range that has a refblock keeps its entry
+-- Each range that has a refblock keeps its entry.
 abbrev pub KeepsNamed : EntryTableView → EntryTableView → Type 0
 KeepsNamed old new = KeepsEntries (λ k. HasNone old k → ⊥) old new
 
 module _ {S : Type 0} where
-  -- data clusters are taken where refblocks are written before L2 tables
+  -- Data clusters are allocated only while refblocks are written before L2 tables.
   abbrev pub MayTake : Bool → ImageFile S → Type 0
   MayTake true file = order_of file.caches ≡ L2DependsOnRb
   MayTake false file = Unit {0}
 
-  -- former data are freed where L2 tables are written before refblocks
+  -- Old data are freed only while L2 tables are written before refblocks.
   abbrev pub MayFree : ClusterKind → ImageFile S → Type 0
   MayFree Data file = order_of file.caches ≡ RbDependsOnL2
   MayFree Metadata file = Unit {0}
@@ -153,7 +153,7 @@ module _ {S : Type 0} where
   MayLower (Listed kind) file = MayFree kind file
 
   module _ (view : S → StorageView) where
-    -- where the refblock of a range stands, which is held; or it has none
+    -- The refblock of a range is cached, from this cluster; or the range has none.
     abbrev pub RefblockAt : ImageFile S → ℕ → Option ℕ → Type 0
     RefblockAt file range None = block_offset (reftable_entry file.header.fields (known_in view file) range) ≡ 0
     RefblockAt file range (Some block) =
@@ -161,115 +161,115 @@ module _ {S : Type 0} where
         × (block_offset (reftable_entry file.header.fields (known_in view file) range) ≡ block * cluster_size file.header.fields) × IsSome (rb_at file.caches block)
 
     module _ (p : Pending) (old : ImageFile S) (allocator' : Allocator) (new : ImageFile S) where
-      -- all is sound again, while this is pending
+      -- The file and the allocator are sound again, with these pending clusters.
       pub record UnseenAllocatorStep (p' : Pending) : Type 0 where
         pub file_step : UnseenFileStep view p p' old new
         pub reftable : HasReftable view new allocator'.reftable
 
-      -- so it is where the reftable may have moved
+      -- The file and the allocator are sound again, and the reftable may have moved.
       pub record UnseenAllocatorGrowth (p' : Pending) : Type 0 where
         pub file_step : UnseenFileGrowth view p p' old new
         pub reftable : HasReftable view new allocator'.reftable
 
-      -- the refblock of a range is loaded
+      -- The refblock of a range is loaded.
       abbrev pub LoadsBlock : ℕ → Result (Option ℕ) ImageError → Type 0
       LoadsBlock range (Ok block) = UnseenAllocatorStep p × RefblockAt new range block
       LoadsBlock range (Err e) = IsFault e × RefusedFileStep view p old allocator' new e
 
-      -- a refblock stands in its cluster and in its cache
+      -- A refblock is in its cluster and in its cache.
       pub record HoldsBlock (block : RefBlockView) (at : ℕ) : Type 0 where
         pub new_data : rb_at new.caches at ≡ Some (cleared_rb block)
         pub stands : StandAt (contents_in view new) (at * cluster_size new.header.fields) block.bytes
 
-      -- so it does after it was written
+      -- A refblock is written, and is in its cache.
       abbrev pub WritesBlock : RefBlockView → ℕ → Result (Unit {0}) ImageError → Type 0
       WritesBlock block at (Ok _) = UnseenAllocatorStep p × HoldsBlock block at
       WritesBlock block at (Err e) = IsFault e × RefusedFileStep view p old allocator' new e
 
-      -- the refblock of a range is placed in a cluster
+      -- The refblock of a range is placed in a cluster.
       abbrev pub PlacesBlock : Pending → ℕ → ℕ → Result (Unit {0}) ImageError → Type 0
       PlacesBlock p' range at (Ok _) = UnseenAllocatorStep p' × RefblockAt new range (Some at)
       PlacesBlock p' range at (Err e) = IsFault e × RefusedFileStep view p old allocator' new e
 
-      -- a range gets its refblock
+      -- A range gets its refblock.
       abbrev pub GetsBlock : Result (Unit {0}) ImageError → Type 0
       GetsBlock (Ok _) = UnseenAllocatorStep p
       GetsBlock (Err e) = RefusedFileStep view p old allocator' new e
 
-      -- a cluster is taken for a table, or there is no free one
+      -- A cluster is allocated for a table, or there is no free one.
       abbrev pub TakesLowest : Result (Option ℕ) ImageError → Type 0
       TakesLowest (Ok (Some at)) = UnseenAllocatorStep (taken_as false p (one_at at))
       TakesLowest (Ok None) = UnseenAllocatorStep p
       TakesLowest (Err e) = RefusedFileStep view p old allocator' new e
 
-      -- a cluster is taken, or it is in use
+      -- A cluster is allocated, or it is in use.
       abbrev pub TakesOne : Bool → ℕ → Result Bool ImageError → Type 0
       TakesOne is_data cluster (Ok true) = UnseenAllocatorStep (taken_as is_data p (one_at cluster))
       TakesOne is_data cluster (Ok false) = UnseenAllocatorStep p
       TakesOne is_data cluster (Err e) = RefusedFileStep view p old allocator' new e
 
-      -- ---- where the reftable may grow on the way, and p' is what is pending then beside what is taken
+      -- ---- steps in which the reftable may grow; p' is what is pending then, without what is allocated
 
-      -- what a refused part leaves: all is sound; or it broke off
+      -- What a refused part leaves: a sound file, or one that a fault interrupted.
       abbrev pub RefusedGrowth : Pending → ImageError → Type 0
       RefusedGrowth p' e = UnseenAllocatorGrowth p' ⊎ InterruptedFileStep view old new e
 
-      -- the reftable is longer then, or as it was
+      -- The reftable is longer then, or the same.
       abbrev pub GrowsTable : Pending → Result (Unit {0}) ImageError → Type 0
       GrowsTable p' (Ok _) = UnseenAllocatorGrowth p'
       GrowsTable p' (Err e) = RefusedGrowth p' e
 
-      -- a cluster is taken, or it is in use
+      -- A cluster is allocated, or it is in use.
       abbrev pub TakesCluster : Pending → Bool → ℕ → Result Bool ImageError → Type 0
       TakesCluster p' is_data cluster (Ok true) = UnseenAllocatorGrowth (taken_as is_data p' (one_at cluster))
       TakesCluster p' is_data cluster (Ok false) = UnseenAllocatorGrowth p'
       TakesCluster p' is_data cluster (Err e) = RefusedGrowth p' e
 
-      -- so many clusters of the run are taken, or none where one is in use
+      -- The n clusters of a run are allocated, or none if one of them is in use.
       abbrev pub TakesRun : Pending → Bool → ℕ → ℕ → Result ℕ ImageError → Type 0
       TakesRun p' is_data first n (Ok taken) = (taken ≡ n → UnseenAllocatorGrowth (taken_as is_data p' (run_at first n))) × (taken ≢ n → UnseenAllocatorGrowth p')
       TakesRun p' is_data first n (Err e) = RefusedGrowth p' e
 
-      -- n clusters from some one on are taken
+      -- Some run of n clusters is allocated.
       abbrev pub TakesSomeRun : Pending → Bool → ℕ → Result ℕ ImageError → Type 0
       TakesSomeRun p' is_data n (Ok first) = UnseenAllocatorGrowth (taken_as is_data p' (run_at first n))
       TakesSomeRun p' is_data n (Err e) = RefusedGrowth p' e
 
-      -- what an allocation answers: so many clusters of this kind from the first one on, which are taken now. Refused, it leaves at most what is listed, or broke off.
+      -- An allocation returns a run of n clusters of this kind, which are allocated now. If it is refused, at most the list to be freed has changed, or a fault interrupted it.
       abbrev pub Allocates : Pending → ClusterKind → ℕ → Result ClustersToFreeEntry ImageError → Type 0
       Allocates p' kind n (Ok run) = (run.count ≡ n) × (run.kind ≡ kind) × UnseenAllocatorGrowth (taken_as (is_data kind) p' (run_at run.first_cluster n))
       Allocates p' kind n (Err e) = RefusedGrowth p' e
 
-      -- just the cluster asked for is taken for data, or it can't be taken
+      -- Exactly the requested cluster is allocated for data, or it cannot be.
       abbrev pub AllocatesAt : Pending → ℕ → Result (Option ClustersToFreeEntry) ImageError → Type 0
       AllocatesAt p' cluster (Ok (Some run)) = (run.first_cluster ≡ cluster) × (run.count ≡ 1) × (run.kind ≡ Data) × UnseenAllocatorGrowth (taken_as true p' (run_at cluster 1))
       AllocatesAt p' cluster (Ok None) = UnseenAllocatorGrowth p'
       AllocatesAt p' cluster (Err e) = RefusedGrowth p' e
 
-      -- what was taken is given back
+      -- What was allocated is freed again.
       abbrev pub GivesBackAs : Pending → Result (Unit {0}) ImageError → Type 0
       GivesBackAs p' (Ok _) = UnseenAllocatorGrowth p'
       GivesBackAs p' (Err e) = IsFault e × RefusedGrowth p' e
 
       -- ----
 
-      -- one that is owed is counted once less
+      -- A pending cluster gets its refcount decremented.
       abbrev pub LowersOne : Pending → Result Bool ImageError → Type 0
       LowersOne p' (Ok true) = UnseenAllocatorStep p'
       LowersOne p' (Ok false) = ⊥
       LowersOne p' (Err e) = IsFault e × RefusedFileStep view p old allocator' new e
 
-      -- what is owed is given back
+      -- Pending clusters are freed.
       abbrev pub GivesBack : Pending → Result (Unit {0}) ImageError → Type 0
       GivesBack p' (Ok _) = UnseenAllocatorStep p'
       GivesBack p' (Err e) = IsFault e × RefusedFileStep view p old allocator' new e
 
-      -- Clusters are freed, and so much is pending then. A fault ends it where it is, or breaks off.
+      -- Clusters are freed, and this is pending then. A fault may stop it at some point.
       abbrev pub Frees : Pending → Result (Unit {0}) ImageError → Type 0
       Frees p' (Ok _) = UnseenAllocatorStep p'
       Frees p' (Err e) = IsFault e × (UnseenAllocatorStep p' ⊎ InterruptedFileStep view old new e)
 
-    -- the run that was taken since a start is given back, after a change was noted; p' is what is pending beside it
+    -- The run that was allocated since a start is freed again, if a change was recorded. p' is what is pending without it.
     abbrev pub GivesBackRun : Allocator → ImageFile S → Allocator → ImageFile S → ℕ → ℕ → Result (Unit {0}) ImageError → Type 0
     GivesBackRun allocator old allocator' new first n result =
         (p p' : Pending) (is_data : Bool) (start : ImageFile S) → ((k : ℕ) → 0 < p.new_data k → 0 < p'.new_data k)

@@ -1,11 +1,11 @@
--- What a contract sees of an `AsyncLruCache`, and the words for its list.
+-- The view of an `AsyncLruCache` in contracts, and functions on its list of entries.
 use Rattle.std.specs.Prelude.{◌≡◌, ℕ, ◌+◌, ◌-◌, ◌^◌, Bool, true, false, cond, not, List, [], ◌∷◌, Option, Some, None, option_map, IsSome, IsNone, nat_lt, slice_get, IsSomeAnd}
 use Rattle.std.specs.Option.{option_map_or, option_or}
 use Rattle.std.specs.List.{IsDistinct}
 use Rattle.std.specs.Map.{keys_of, lookup, set_value}
 use Rattle.qcow2_alloc.specs.declared.async_lru_cache.slot.Slot.{Slot}
 
--- the backend, how many entries there may be, and the entries, the most recently used first
+-- The backend, the greatest number of entries, and the entries, the most recently used first.
 pub record Cache (B K V : Type 0) : Type 0 where
   pub backend : B
   pub size : ℕ
@@ -18,44 +18,44 @@ module _ {B K V : Type 0} where
   abbrev pub cache_of : B → ℕ → List (K × Slot V) → Cache B K V
   cache_of b n es = record { backend = b; size = n; entries = es }
 
-  -- the cache with other entries
+  -- The cache with other entries.
   abbrev pub with_entries : Cache B K V → List (K × Slot V) → Cache B K V
   with_entries c es = cache_of c.backend c.size es
 
 module _ {K V : Type 0} (test : K → Bool) (es : List (K × Slot V)) where
-  -- the value under the key that passes
+  -- The value under the key that passes the test.
   abbrev pub value_at : Option V
   value_at = option_map (λ s. s.value) (lookup test es)
 
-  -- with v as its value
+  -- The entries with v as the value under this key.
   abbrev pub set_at : V → List (K × Slot V)
   set_at v = option_map_or (λ s. set_value test es (slot_of v s.pins)) (lookup test es) es
 
-  -- the key is there, and its pins aren't at the greatest count
+  -- The key has an entry, and its pins can be incremented.
   abbrev pub can_pin : Bool
   can_pin = option_map_or (λ s. nat_lt s.pins (2 ^ 64 - 1)) (lookup test es) false
 
-  -- with one pin more, where that can be
+  -- The entries with one pin more under this key, if it can be incremented.
   abbrev pub pin_at : List (K × Slot V)
   pin_at = option_map_or (λ s. cond (nat_lt s.pins (2 ^ 64 - 1)) (set_value test es (slot_of s.value (s.pins + 1))) es) (lookup test es) es
 
-  -- the key is there and has a pin
+  -- The key has an entry with a pin.
   abbrev pub can_unpin : Bool
   can_unpin = option_map_or (λ s. nat_lt 0 s.pins) (lookup test es) false
 
-  -- with one pin less, where there is one
+  -- The entries with one pin less under this key, if it has one.
   abbrev pub unpin_at : List (K × Slot V)
   unpin_at = option_map_or (λ s. cond (nat_lt 0 s.pins) (set_value test es (slot_of s.value (s.pins - 1))) es) (lookup test es) es
 
-  -- the key is there and has no pin
+  -- The key has an entry without a pin.
   abbrev pub can_remove : Bool
   can_remove = option_map_or (λ s. not (nat_lt 0 s.pins)) (lookup test es) false
 
-  -- how often the entry under the key that passes is pinned
+  -- The number of pins of the key's entry.
   abbrev pub pins_at : ℕ
   pins_at = option_map_or (λ s. s.pins) (lookup test es) 0
 
-  -- the key that passes is that of the most recently used entry
+  -- The key is that of the most recently used entry.
   abbrev pub IsInFront : Type 0
   IsInFront = IsSomeAnd (slice_get es 0) (λ e. test e.0 ≡ true)
 
@@ -63,32 +63,32 @@ abbrev pub is_pinned : {V : Type 0} → Slot V → Bool
 is_pinned s = nat_lt 0 s.pins
 
 module _ {K V : Type 0} where
-  -- the entries with a pin
+  -- The entries that are pinned.
   abbrev pub pinned : List (K × Slot V) → List (K × Slot V)
   pinned [] = []
   pinned (e ∷ es) = cond (is_pinned e.1) (e ∷ pinned es) (pinned es)
 
-  -- the least recently used entry with no pin
+  -- The least recently used entry without a pin.
   abbrev pub oldest_free : List (K × Slot V) → Option (K × Slot V)
   oldest_free [] = None
   oldest_free (e ∷ es) = option_or (oldest_free es) (cond (is_pinned e.1) None (Some e))
 
-  -- whoever is gone was the least recently used entry with no pin, and has P
+  -- Only the least recently used entry without a pin may be missing, and it satisfies P.
   abbrev pub OnlyOldestGoes : (K → K → Bool) → (K × Slot V → Type 0) → List (K × Slot V) → List (K × Slot V) → Type 0
   OnlyOldestGoes eq P es fs = (k : K) → IsSome (lookup (eq k) es) → IsNone (lookup (eq k) fs)
       → IsSomeAnd (oldest_free es) (λ e. (eq k e.0 ≡ true) × P e)
 
-  -- the value of any other key, where it still has one, is the one it had
+  -- Every other key that still has an entry has its old value.
   abbrev pub OthersStay : (K → K → Bool) → K → List (K × Slot V) → List (K × Slot V) → Type 0
   OthersStay eq k es fs = (j : K) → eq k j ≡ false → IsSome (lookup (eq j) fs) → lookup (eq j) fs ≡ lookup (eq j) es
 
-  -- each key keeps its pins, and where none was pinned none is
+  -- Each key keeps its pins.
   pub record KeepsPins (eq : K → K → Bool) (es fs : List (K × Slot V)) : Type 0 where
     pub pins : (k : K) → pins_at (eq k) fs ≡ pins_at (eq k) es
     pub free : pinned es ≡ [] → pinned fs ≡ []
 
 module _ {B K V : Type 0} (eq : K → K → Bool) where
-  -- what a call with a key keeps: the backend and the size, the other keys' values, and the pins
+  -- What a call for a key keeps: the backend, the size, the values of other keys, and the pins.
   pub record KeepsOthers (key : K) (old new : Cache B K V) : Type 0 where
     pub distinct : IsDistinct eq (keys_of old.entries)
     pub others : new ≡ with_entries old new.entries

@@ -1,4 +1,4 @@
--- Where an allocator begins that loaded its reftable anew.
+-- An allocator whose reftable was just loaded again.
 use Rattle.std.specs.Prelude.{◌≡◌, ℕ}
 use Rattle.image_access.specs.Moments.{StorageView}
 use Rattle.qcow2_alloc.specs.BehindHeader.{AreBehindHeader}
@@ -8,7 +8,7 @@ use Rattle.qcow2_alloc.specs.LowestRuns.{IsPassed}
 use Rattle.qcow2_alloc.specs.declared.allocation.Allocator.{Allocator}
 use Rattle.qcow2_alloc.specs.declared.image_file.ImageFile.{ImageFile}
 
--- It looks for free clusters from the first one on, and passes over none yet. Its reftable is the one on an honest storage, and stands behind cluster 0 where the header names it there.
+-- The search for free clusters starts at cluster 0, and spares no clusters yet. The reftable is the one on an honest storage, and lies behind cluster 0 if the header says so.
 pub record BeginsAnew {S : Type 0} (view : S → StorageView) (old new : ImageFile S) (allocator : Allocator) : Type 0 where
   pub first : allocator.first_free_cluster ≡ 0
   pub passed : (k : ℕ) → ¬ IsPassed allocator k

@@ -1,4 +1,4 @@
--- The marks of the caches: pins, and what is noted of changes.
+-- The marks of the caches: pins, and recorded changes.
 use Rattle.std.specs.Prelude.{ℕ, ◌≡◌, ◌⊎◌, ◌<◌, ◌≤◌, ◌==◌, false, List, [], length, Vec, Result, Ok, Err}
 use Rattle.std.specs.Global.{Global}
 use Rattle.std.specs.Option.{option_map_or}
@@ -17,27 +17,27 @@ use Rattle.qcow2_alloc.specs.declared.error.ImageError.{ImageError}
 use Rattle.qcow2_alloc.specs.declared.error.ImageError.TheVariants as I
 
 module _ {S : Type 0} where
-  -- how often the L2 table of a cluster is pinned
+  -- The number of pins of the L2 table in a cluster.
   abbrev pub l2_pins : MetadataCaches S → ℕ → ℕ
   l2_pins caches cluster = option_map_or (λ s. s.pins) (lookup (λ k. cluster == k) caches.l2.entries) 0
 
-  -- there is always an entry for a refblock: none is pinned; and there is one for an L2 table where none of those is
+  -- The caches always have room: no refblock is pinned, and there is room for an L2 table unless all are pinned.
   pub record CachesHaveRoom (caches : MetadataCaches S) : Type 0 where
     pub tables : 0 < caches.l2.size
     pub some : 0 < caches.rb.size
     pub free : pinned caches.rb.entries ≡ []
 
-  -- what is noted of changes of the tables goes on
+  -- Changes of the tables are recorded and counted.
   abbrev pub CountsTableChanges : MetadataCaches S → MetadataCaches S → Type 0
   CountsTableChanges old new = CountsChanges old.is_changed old.changes new.is_changed new.changes
 
-  -- pins stay, and so does a change that was noted; one that is noted anew was counted
+  -- Pins stay the same. A recorded change stays recorded, and a newly recorded one was counted.
   pub record KeepsPinsAndNotes (old new : MetadataCaches S) : Type 0 where
     pub pins : (cluster : ℕ) → l2_pins new cluster ≡ l2_pins old cluster
     pub room : CachesHaveRoom old → CachesHaveRoom new
     pub changes : CountsTableChanges old new
 
-  -- the same tables in the same order
+  -- The caches hold the same tables in the same order.
   pub record SameTables (old new : MetadataCaches S) : Type 0 where
     pub sound : (h : HeaderFields) (p : Pending) (on_storage : Bytes) → CacheInvariant h p old on_storage → CacheInvariant h p new on_storage
     pub known : (h : HeaderFields) (on_storage : Bytes) → known_of h new on_storage ≡ known_of h old on_storage
@@ -48,21 +48,21 @@ module _ {S : Type 0} where
     pub room : CachesHaveRoom old → CachesHaveRoom new
     pub behind : KeepBehindHeader old new
 
-  -- the L2 table of a cluster has so many pins, and the others have as many as before
+  -- The L2 table of a cluster has this many pins, and the others have as many as before.
   pub record SetsPins (old new : MetadataCaches S) (cluster pins : ℕ) : Type 0 where
     pub here : l2_pins new cluster ≡ pins
     pub others : (c : ℕ) → cluster == c ≡ false → l2_pins new c ≡ l2_pins old c
 
-  -- there is an entry for each L2 table, and none may go
+  -- The cache of L2 tables is full, and all of them are pinned.
   abbrev pub AreAllPinned : MetadataCaches S → Type 0
   AreAllPinned caches = (caches.l2.size ≤ length caches.l2.entries) × (pinned caches.l2.entries ≡ caches.l2.entries)
 
-  -- no L2 table may go, or it is a fault
+  -- The refusal is a fault, or all L2 tables are pinned (8).
   abbrev pub IsInUseOrFault : MetadataCaches S → ImageError → Type 0
   IsInUseOrFault caches e = ((e ≡ I.InUse) × AreAllPinned caches) ⊎ IsFault e
 
--- What invalidating a cache answers, and leaves of its entries. Where none has a pin, none stays. Where there was no memory for the answer, all stay. Else those with a pin stay, and
--- their clusters are answered.
+-- What invalidating a cache returns, and leaves of its entries. If none is pinned, none is left. If there was no memory for the answer, all are left. Otherwise the pinned ones are left,
+-- and their clusters are returned.
 abbrev pub LeavesPinned : {V : Type 0} → List (ℕ × Slot V) → Result (Unit {0}) ImageError → List (ℕ × Slot V) → Type 0
 LeavesPinned es (Ok _) fs = (pinned es ≡ []) × (fs ≡ [])
 LeavesPinned es (Err e) fs =

@@ -23,19 +23,19 @@ use Rattle.qcow2_alloc.specs.declared.error.ImageError.{ImageError}
 use Rattle.qcow2_alloc.specs.declared.image_storage.ImageStorage.{ImageStorage}
 
 module _ {S : Type 0} where
-  -- No refblock has to be written before L2 tables.
+  -- No refblock needs to be written before L2 tables.
   abbrev pub TablesGo : MetadataCaches S → Type 0
   TablesGo caches = TablesMayGo (order_of caches) (refblocks caches)
 
-  -- No L2 table has to be written before refblocks.
+  -- No L2 table needs to be written before refblocks.
   abbrev pub BlocksGo : MetadataCaches S → Type 0
   BlocksGo caches = BlocksMayGo (order_of caches) (l2_tables caches)
 
-  -- The same refblocks are held, with the bytes that they had.
+  -- The same refblocks are cached, with the same bytes.
   abbrev pub KeepsHeldBlocks : MetadataCaches S → MetadataCaches S → Type 0
   KeepsHeldBlocks caches caches' = (c : ℕ) → option_map (λ b. b.bytes) (rb_at caches' c) ≡ option_map (λ b. b.bytes) (rb_at caches c)
 
-  -- A call on held tables alone keeps pins and the order of writes, and notes changes. No table comes to lie at cluster 0.
+  -- A call that only works on cached tables keeps the pins and the order of writes, and records changes. No table moves to cluster 0.
   pub record HeldStep (caches caches' : MetadataCaches S) : Type 0 where
     pub marks : KeepsPinsAndNotes caches caches'
     pub order : order_of caches' ≡ order_of caches
@@ -44,12 +44,12 @@ module _ {S : Type 0} where
 module _ {S : Type 0} (view : S → StorageView) where
   -- ---- what each call keeps, whatever the caches hold
 
-  -- Pins stay, and changes are noted. The order of writes may change.
+  -- Pins stay the same, and changes are recorded. The order of writes may change.
   pub record KeepMarksInTurn (old : ImageStorage S) (caches : MetadataCaches S) (new : ImageStorage S) (caches' : MetadataCaches S) : Type 0 where
     pub pins : KeepsPinsAndNotes caches caches'
     pub notes : KeepsNotes view old new
 
-  -- A call keeps marks and cluster 0, in the sense of its two parameters. Caches without a modified table have none afterwards, and then nothing is written.
+  -- A call keeps marks and cluster 0, as its two parameters say. If no cached table is modified before, none is after, and nothing is written.
   pub record CacheStepBy (Keeps Spares : Type 0) (old : ImageStorage S) (caches : MetadataCaches S) (new : ImageStorage S) (caches' : MetadataCaches S) : Type 0 where
     pub marks : Keeps
     pub header_cluster : Spares
@@ -75,7 +75,7 @@ module _ {S : Type 0} (view : S → StorageView) where
 
     -- ---- what loads, flushes and switches do over an honest storage
 
-    -- Sound caches stay sound, caches that are apart stay apart, and the known contents stay. Tables are written in the order of writes.
+    -- Sound caches stay sound, caches without a common modified cluster stay so, and the known contents stay the same. Tables are written in the order of writes.
     pub record KeepsSoundly : Type 0 where
       pub keeps : KeepSound view old caches new caches'
       pub apart : KeepsKnownApart view old caches new caches'
@@ -83,21 +83,21 @@ module _ {S : Type 0} (view : S → StorageView) where
 
   -- ---- flushing
 
-  -- The tables of one kind are written. Those of the other kind, and the order of writes, stay.
+  -- The tables of one kind are written. Those of the other kind, and the order of writes, stay the same.
   pub record FlushesTables {B : Type 0} (tables : MetadataCaches S → List CachedTable) (others : MetadataCaches S → B) (old : ImageStorage S) (caches : MetadataCaches S) (new : ImageStorage S) (caches' : MetadataCaches S) (result : Result (Unit {0}) ImageError) : Type 0 where
     pub direction : caches'.direction ≡ caches.direction
     pub others_stay : others caches' ≡ others caches
     pub written : OnOk result (AreClean (tables caches'))
     pub quiet : AreClean (tables caches) → WritesNothing view old new
 
-  -- The tables that must be written before those of one kind are written, and that kind stays. The other kind changes only where it must be written first.
+  -- The tables that must be written before those of one kind are written, and that kind stays the same. The other kind changes only if it must be written first.
   pub record MakesWay {A B : Type 0} (own : MetadataCaches S → A) (others : MetadataCaches S → B) (asks : Direction) (MayGo : MetadataCaches S → Type 0) (old : ImageStorage S) (caches : MetadataCaches S) (new : ImageStorage S) (caches' : MetadataCaches S) (result : Result (Unit {0}) ImageError) : Type 0 where
     pub stays : own caches' ≡ own caches
     pub others_stay : order_of caches ≢ asks → others caches' ≡ others caches
     pub first : OnOk result (MayGo caches')
     pub quiet : MayGo caches → WritesNothing view old new
 
-  -- The order of writes becomes `to`. If it was `from`, the tables of one kind are written now; only that can be refused, and then the order stays.
+  -- The order of writes becomes `to`. If it was `from`, the tables of one kind are written first. Only that can be refused, and then the order stays the same.
   pub record TurnsOrder {A : Type 0} (to from : Direction) (tables : MetadataCaches S → List CachedTable) (others : MetadataCaches S → A) (MayGo : MetadataCaches S → Type 0) (old : ImageStorage S) (caches : MetadataCaches S) (new : ImageStorage S) (caches' : MetadataCaches S) (result : Result (Unit {0}) ImageError) : Type 0 where
     pub order : OnOk result (order_of caches' ≡ to)
     pub refused : OnErr result (order_of caches' ≡ order_of caches)
@@ -107,7 +107,7 @@ module _ {S : Type 0} (view : S → StorageView) where
     pub storage_stays : order_of caches ≢ from → new ≡ old
     pub quiet : MayGo caches → WritesNothing view old new
 
-  -- The refblocks are written, and those that are held stay so. L2 tables are written only where they must be before refblocks.
+  -- The refblocks are written, and stay cached. L2 tables are written only if they must be written before refblocks.
   pub record FlushesBlocks (old : ImageStorage S) (caches : MetadataCaches S) (new : ImageStorage S) (caches' : MetadataCaches S) (result : Result (Unit {0}) ImageError) : Type 0 where
     pub written : OnOk result (AreClean (refblocks caches'))
     pub first : OnOk result (BlocksGo caches')
@@ -115,9 +115,9 @@ module _ {S : Type 0} (view : S → StorageView) where
     pub tables : order_of caches ≢ RbDependsOnL2 → caches'.l2 ≡ caches.l2
     pub quiet : AreClean (refblocks caches) → BlocksGo caches → WritesNothing view old new
 
-  -- ---- loading and putting in
+  -- ---- loading and inserting
 
-  -- Over an honest storage, on sound caches, a load for a cluster that has a place fails only for this cause; the insertion of an L2 table; the insertion of a refblock.
+  -- The causes of refusals over an honest storage, on sound caches: of a load for a cluster that has a place, of inserting an L2 table, and of inserting a refblock.
   module _ (IsCause : ImageError → Type 0) (old : ImageStorage S) (caches : MetadataCaches S) where
     abbrev pub LoadRefusesBy : ℕ → Result (Unit {0}) ImageError → Type 0
     LoadRefusesBy cluster result = (h : HeaderFields) → HasPlace h.cluster_bits cluster → RefusesBy IsCause view old caches h result
@@ -128,21 +128,21 @@ module _ {S : Type 0} (view : S → StorageView) where
     abbrev pub PutRbRefusesBy : RefBlockView → Result (Unit {0}) ImageError → Type 0
     PutRbRefusesBy b result = PutRefusesBy IsCause view old caches (λ h. IsBlockOf h b) b.cluster b.bytes b.is_modified result
 
-  -- The table of a cluster is held afterwards. The others of its kind that are still held are unchanged; the other kind changes only where it must be written first.
+  -- The table of a cluster is cached. The others of its kind that are still cached are unchanged; the other kind changes only if it must be written first.
   pub record GetsTable {V B : Type 0} (at : MetadataCaches S → ℕ → Option V) (others : MetadataCaches S → B) (asks : Direction) (Quietly : MetadataCaches S → ℕ → Type 0) (cluster : ℕ) (old : ImageStorage S) (caches : MetadataCaches S) (new : ImageStorage S) (caches' : MetadataCaches S) (result : Result (Unit {0}) ImageError) : Type 0 where
     pub cached : OnOk result (IsSome (at caches' cluster))
     pub stay : OthersStayHeld at caches caches' cluster
     pub others_stay : order_of caches ≢ asks → others caches' ≡ others caches
     pub quiet : Quietly caches cluster → WritesNothing view old new
 
-  -- A table is held under its cluster afterwards. The others of its kind that are still held are unchanged; the other kind changes only where it must be written first.
+  -- This table is cached for its cluster. The others of its kind that are still cached are unchanged; the other kind changes only if it must be written first.
   pub record PutsTable {V B : Type 0} (at : MetadataCaches S → ℕ → Option V) (others : MetadataCaches S → B) (asks : Direction) (Quietly : MetadataCaches S → ℕ → Type 0) (place : Option ℕ) (table : V) (old : ImageStorage S) (caches : MetadataCaches S) (new : ImageStorage S) (caches' : MetadataCaches S) (result : Result (Unit {0}) ImageError) : Type 0 where
     pub cached : OnOk result (IfSome place (λ cluster. at caches' cluster ≡ Some table))
     pub stay : IfSome place (OthersStayHeld at caches caches')
     pub others_stay : order_of caches ≢ asks → others caches' ≡ others caches
     pub quiet : IfSome place (λ cluster. Quietly caches cluster → WritesNothing view old new)
 
-  -- The insertion of a table into sound caches, or into caches that are apart, over an honest storage. An unmodified table keeps the known contents, and a modified one is laid over them. A refused insertion keeps them.
+  -- Inserting a table into sound caches, or into caches without a common modified cluster, over an honest storage. An unmodified table keeps the known contents, and a modified one is laid over them. A refused insertion keeps them.
   pub record PutsSoundly (IsFit : HeaderFields → Type 0) (place : Option ℕ) (bytes : List ℕ) (is_modified : Bool) (Lays LaysApart : Type 0) (old : ImageStorage S) (caches : MetadataCaches S) (new : ImageStorage S) (caches' : MetadataCaches S) (result : Result (Unit {0}) ImageError) : Type 0 where
     pub keeps : PutSound view old caches new caches' IsFit place bytes is_modified
     pub laid : OnOk result Lays
@@ -153,7 +153,7 @@ module _ {S : Type 0} (view : S → StorageView) where
 
   module _ (old : ImageStorage S) (caches : MetadataCaches S) (new : ImageStorage S) (caches' : MetadataCaches S) where
     module _ (result : Result (Unit {0}) ImageError) where
-      -- ---- the same of L2 tables
+      -- ---- for L2 tables
       abbrev pub FlushesL2 : Type 0
       FlushesL2 = FlushesTables l2_tables (λ c. c.rb) old caches new caches' result
 
@@ -173,7 +173,7 @@ module _ {S : Type 0} (view : S → StorageView) where
       PutsL2Soundly t =
           PutsSoundly (λ h. IsTableOf h t) t.cluster t.bytes t.is_modified (LaysTable view old caches new caches' t) (LaysTableApart view old caches new caches' t) old caches new caches' result
 
-      -- ---- the same of refblocks
+      -- ---- for refblocks
       abbrev pub FlushesRb : Type 0
       FlushesRb = FlushesTables refblocks (λ c. c.l2) old caches new caches' result
 
@@ -194,30 +194,30 @@ module _ {S : Type 0} (view : S → StorageView) where
           PutsSoundly (λ h. IsBlockOf h b) b.cluster b.bytes b.is_modified (LaysBlock view old caches new caches' b) (LaysBlockApart view old caches new caches' b) old caches new caches' result
 
 module _ {S : Type 0} where
-  -- After the insertion of an L2 table: refblocks that were all written still are, and L2 tables too if it is unmodified. So the kinds that could be written first still can.
+  -- After an L2 table is inserted: if all refblocks were written they still are, and so are L2 tables if this one is unmodified. So a kind that could be written first still can.
   pub record KeepsL2Written (is_modified : Bool) (caches caches' : MetadataCaches S) : Type 0 where
     pub clean : AreClean (l2_tables caches) → IsFalse is_modified → AreClean (l2_tables caches')
     pub blocks : AreClean (refblocks caches) → AreClean (refblocks caches')
     pub first : BlocksGo caches → IsFalse is_modified → BlocksGo caches'
     pub may_go : TablesGo caches → TablesGo caches'
 
-  -- After the insertion of a refblock: refblocks that were all written still are if it is unmodified. Refblocks that could be written first still can.
+  -- After a refblock is inserted: if all refblocks were written they still are, if this one is unmodified. Refblocks that could be written first still can.
   pub record KeepsRbWritten (is_modified : Bool) (caches caches' : MetadataCaches S) (result : Result (Unit {0}) ImageError) : Type 0 where
     pub clean : AreClean (refblocks caches) → IsFalse is_modified → OnOk result (AreClean (refblocks caches'))
     pub first : BlocksGo caches → OnOk result (BlocksGo caches')
 
-  -- Neither the storage nor a held refblock changes.
+  -- The storage and the cached refblocks stay the same.
   abbrev pub KeepsBlocks : ImageStorage S → MetadataCaches S → ImageStorage S → MetadataCaches S → Type 0
   KeepsBlocks old caches new caches' = (new ≡ old) × ((c : ℕ) → rb_at caches' c ≡ rb_at caches c)
 
-  -- If the answer is true, the refblock of a cluster was dropped. On sound caches without a pinned refblock it isn't held afterwards either way.
+  -- If the answer is true, the refblock of a cluster was dropped. On sound caches without a pinned refblock it is not cached afterwards in any case.
   pub record RemovesBlock (caches caches' : MetadataCaches S) (cluster : ℕ) (result : Bool) : Type 0 where
     pub taken : IsTrue result → TakesBlock caches caches' cluster
     pub taken_apart : IsTrue result → TakesBlockApart caches caches' cluster
     pub gone : (h : HeaderFields) (p : Pending) (on_storage : Bytes) → CacheInvariant h p caches on_storage → CachesHaveRoom caches → rb_at caches' cluster ≡ None
     pub clean : AreClean (refblocks caches) → AreClean (refblocks caches')
 
-  -- If the answer is true, a count of a held refblock was changed. On sound caches that can fail only at the end of its range.
+  -- If the answer is true, a refcount of a cached refblock was changed. On sound caches that fails only at the end of its range.
   pub record ChangesCountSoundly (Counts Makes : Type 0) (caches caches' : MetadataCaches S) (cluster : ℕ) (result : Bool) : Type 0 where
     pub counted : IsTrue result → Counts
     pub made : Makes
@@ -230,7 +230,7 @@ module _ {S : Type 0} where
     abbrev pub LowersSoundly : Type 0
     LowersSoundly = ChangesCountSoundly (LowersCount caches caches' cluster index) (LowersSome caches cluster index result) caches caches' cluster result
 
-  -- Empty caches of an image with this header, for so many L2 tables and refblocks.
+  -- Empty caches of an image with this header, with room for this many L2 tables and refblocks.
   pub record AreNewCaches (h : HeaderFields) (l2_entries rb_entries : ℕ) (caches : MetadataCaches S) : Type 0 where
     pub sound : (p : Pending) (on_storage : Bytes) → CrashInvariant h Neither p on_storage on_storage → CacheInvariant h p caches on_storage
     pub known : (on_storage : Bytes) → known_of h caches on_storage ≡ on_storage

@@ -2,7 +2,7 @@ use Rattle.std.specs.Prelude.{List, [], ◌∷◌}
 use Rattle.qcow2_alloc.specs.declared.clusters_to_free.ClustersToFreeEntry.{ClustersToFreeEntry}
 use Rattle.qcow2_alloc.specs.declared.clusters_to_free.Node.{Node, Node', Held-Node-next, None', Some'}
 
--- the entries of a chain of nodes, newest first
+-- The entries of a chain of nodes, the newest first.
 abbrev mutual
   pub chain_entries_of : Node → List ClustersToFreeEntry
   chain_entries_of (Node' entry next) = entry ∷ entries_behind next

@@ -1,21 +1,21 @@
--- What is noted of changes: whether there was one since a call began, and how many there were in all, up to the greatest u64.
+-- Recorded changes: whether there was one since a call began, and how many there were in all. The counter stops at the greatest u64.
 use Rattle.std.specs.Prelude.{◌≡◌, ◌⊎◌, ℕ, ◌+◌, ◌-◌, ◌^◌, ◌≤◌, Bool, IsTrue}
 use Rattle.std.proofs.Common.{inl, inr, refl, ◌∙◌}
 use Rattle.std.proofs.Math.Nat.{le_refl, le_trans, le-min, min-le_left, min-le_right, add-le-add}
 use Rattle.image_access.specs.Moments.{Rose}
 
--- one change and no more: it is noted and counted
+-- Exactly one change is recorded and counted.
 abbrev pub IsOneChange : Bool → ℕ → ℕ → Type 0
 IsOneChange is before now = IsTrue is × (before ≤ now) × Rose before now × (now ≤ before + 1)
 
--- A change that was noted stays noted, and their number doesn't fall. What is noted was counted, and what is counted is noted.
+-- A recorded change stays recorded, and the counter does not fall. What was recorded was counted, and what was counted is recorded.
 pub record CountsChanges (was : Bool) (before : ℕ) (is : Bool) (now : ℕ) : Type 0 where
   pub noted : IsTrue was → IsTrue is
   pub no_fewer : before ≤ now
   pub why : IsTrue is → IsTrue was ⊎ Rose before now
   pub on : (now ≡ before) ⊎ IsTrue is
 
--- no change at all, one change, and changes after changes
+-- No change at all, one change, and changes after changes.
 pub counts_none : (is : Bool) (n : ℕ) → CountsChanges is n is n
 counts_none is n = record { noted = λ noted. noted; no_fewer = le_refl n; why = λ noted. inl noted; on = inl refl }
 

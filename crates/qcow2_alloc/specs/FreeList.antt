@@ -1,4 +1,4 @@
--- The clusters that are listed to be freed.
+-- The list of clusters to free.
 use Rattle.std.specs.Prelude.{◌≡◌, ◌⊎◌, ℕ, ◌+◌, ◌-◌, ◌*◌, ◌/◌, ◌%◌, ◌^◌, ◌<◌, ◌++◌, Some, IfSome, Result, Ok, Err, Bool, true, false, List, [], ◌∷◌, if◌then◌else◌}
 use Rattle.qcow2_metadata.specs.EntryTable.{EntryTableView, entry_count}
 use Rattle.qcow2_laws.specs.CrashInvariant.{Pending}
@@ -9,11 +9,11 @@ use Rattle.qcow2_alloc.specs.Allocation.{run_at, NamesBehindHeader, KeepsRefbloc
 use Rattle.qcow2_alloc.specs.ClustersToFree.{metadata_entry}
 use Rattle.qcow2_alloc.specs.declared.error.ImageError.{ImageError}
 
--- 1 for each cluster of a run
+-- 1 for each cluster of a run.
 abbrev pub run_of : ClustersToFreeEntry → ℕ → ℕ
 run_of e k = run_at e.first_cluster e.count k
 
--- how often clusters are to be freed, as data or as tables
+-- How often clusters of a kind are to be freed, as data or as tables.
 abbrev pub of_data : ClusterKind → ℕ → ℕ
 of_data Kind.Data n = n
 of_data Kind.Metadata n = 0
@@ -26,11 +26,11 @@ abbrev pub to_free : (ClusterKind → ℕ → ℕ) → List ClustersToFreeEntry 
 to_free kind [] k = 0
 to_free kind (e ∷ es) k = kind e.kind (run_of e k) + to_free kind es k
 
--- what is pending, with what is listed
+-- What is pending, with the clusters on the list.
 abbrev pub with_listed : Pending → List ClustersToFreeEntry → Pending
 with_listed p list = record p { old_tables = λ k. p.old_tables k + to_free of_tables list k; old_data = λ k. p.old_data k + to_free of_data list k }
 
--- what is pending, with what was listed since
+-- What is pending, with the clusters that were added to the list.
 abbrev pub pending_then : Pending → List ClustersToFreeEntry → List ClustersToFreeEntry → Pending
 pending_then p old new = record p {
   old_tables = λ k. p.old_tables k + (to_free of_tables new k - to_free of_tables old k);
@@ -43,42 +43,42 @@ is_same Kind.Metadata Kind.Metadata = true
 is_same Kind.Data Kind.Metadata = false
 is_same Kind.Metadata Kind.Data = false
 
--- the entries of the other kind
+-- The entries of the other kind.
 abbrev pub but : ClusterKind → List ClustersToFreeEntry → List ClustersToFreeEntry
 but kind [] = []
 but kind (e ∷ es) = if is_same e.kind kind then but kind es else e ∷ but kind es
 
--- data go off the list once no table is listed any more
+-- Data are taken off the list only after all tables are.
 abbrev pub GoOffInOrder : List ClustersToFreeEntry → List ClustersToFreeEntry → Type 0
 GoOffInOrder old new = (but Kind.Data new ≡ []) ⊎ (but Kind.Metadata new ≡ but Kind.Metadata old)
 
--- what tables no longer need is listed behind what was listed, and nothing else
+-- Only clusters of tables are added, at the end of the list.
 pub record ListsTables (old new : List ClustersToFreeEntry) : Type 0 where
   pub more : List ClustersToFreeEntry
   pub is : new ≡ old ++ more
   pub tables : but Kind.Metadata more ≡ []
 
--- a reftable of the same place and length
+-- The reftable has the same place and length.
 abbrev pub SamePlace : EntryTableView → EntryTableView → Type 0
 SamePlace old new = KeepsEntries (λ k. ⊥) old new
 
--- an entry for just the clusters of a reftable
+-- The entry is the run of clusters of a reftable.
 pub record IsRunOfTable (t : EntryTableView) (e : ClustersToFreeEntry) : Type 0 where
   pub cluster : ℕ
   pub placed : t.cluster ≡ Some cluster
   pub run : e ≡ metadata_entry cluster ((8 * entry_count t + 2 ^ t.cluster_bits - 1) / 2 ^ t.cluster_bits)
 
--- the entries of a reftable fill whole clusters, which lie behind the header's
+-- The entries of a reftable fill whole clusters, which lie behind the header's.
 pub record FillsClusters (t : EntryTableView) : Type 0 where
   pub whole : entry_count t % (2 ^ t.cluster_bits / 8) ≡ 0
   pub elsewhere : IfSome t.cluster (λ c. 0 < c)
 
--- One reftable after the other gave way to a longer one, which fills whole clusters of the same size. These entries are for the clusters of those that went.
+-- The reftable was replaced by a longer one, possibly several times. Each one fills whole clusters of the same size. These entries are the clusters of the old ones.
 abbrev pub GaveWay : EntryTableView → List ClustersToFreeEntry → EntryTableView → Type 0
 GaveWay old [] new = SamePlace old new
 GaveWay old (e ∷ es) new = IsRunOfTable old e × (next : EntryTableView) × (entry_count old < entry_count next) × (next.cluster_bits ≡ old.cluster_bits) × FillsClusters next × GaveWay next es new
 
--- What is listed behind what was listed are the clusters of former reftables, and nothing else. No refblock comes to lie in cluster 0, and each range that has one keeps it.
+-- Only the clusters of old reftables are added to the list, at its end. No refblock moves to cluster 0, and each range that has one keeps it.
 pub record ListsReftables (old new : EntryTableView) (list list' : List ClustersToFreeEntry) : Type 0 where
   pub more : List ClustersToFreeEntry
   pub is : list' ≡ list ++ more
@@ -86,7 +86,7 @@ pub record ListsReftables (old new : EntryTableView) (list list' : List Clusters
   pub behind : NamesBehindHeader old new
   pub ranges : KeepsRefblocks old new
 
--- a reftable gave way to another one, which fills whole clusters and has its refblocks, and just its clusters were listed; refused, it stays, and so does the list
+-- The reftable is replaced by one that fills whole clusters and keeps its refblocks, and exactly the clusters of the old one are listed. If this is refused, the reftable and the list stay the same.
 abbrev pub GivesWay : EntryTableView → EntryTableView → List ClustersToFreeEntry → List ClustersToFreeEntry → Result (Unit {0}) ImageError → Type 0
 GivesWay old new list list' (Ok _) = (e : ClustersToFreeEntry) × IsRunOfTable old e × (list' ≡ list ++ e ∷ []) × FillsClusters new × NamesBehindHeader old new × KeepsRefblocks old new
 GivesWay old new list list' (Err _) = (new ≡ old) × (list' ≡ list)

@@ -1,9 +1,9 @@
--- How long a reftable becomes, and what it has in memory then.
+-- How long a new reftable is, and its entries in memory.
 use Rattle.std.specs.Prelude.{ℕ, ◌-◌, ◌*◌, ◌/◌, ◌%◌, ◌<◌, ◌≤◌, ◌≡◌, length}
 use Rattle.qcow2_metadata.specs.EntryTable.{EntryTableView, entry_count}
 use Rattle.qcow2_metadata.specs.TableBytes.{entry_at}
 
--- It covers an index, in whole clusters, and has room above it for refblocks that count its own clusters, beside themselves.
+-- The length covers an index, fills whole clusters, and leaves room for refblocks that count the table's own clusters and themselves.
 pub record IsLongEnough (old index per_cluster per_block length : ℕ) : Type 0 where
   pub longer : old ≤ length
   pub whole : length % per_cluster ≡ 0
@@ -14,7 +14,7 @@ pub record IsLeastLength (old index per_cluster per_block length : ℕ) : Type 0
   pub enough : IsLongEnough old index per_cluster per_block length
   pub least : (other : ℕ) → IsLongEnough old index per_cluster per_block other → length ≤ other
 
--- a table in memory with the same entries, and more that name nothing
+-- A table in memory with the same entries, and more that are empty.
 pub record IsCloneOf (old t : EntryTableView) : Type 0 where
   pub bits : t.cluster_bits ≡ old.cluster_bits
   pub long : length t.bytes ≡ 8 * entry_count t

@@ -1,4 +1,4 @@
--- A longer reftable that stands ready with its refblocks, and the header's pointer that names it.
+-- A longer reftable that is on the storage with its refblocks, and the header's pointer to it.
 use Rattle.std.specs.Prelude.{ℕ, ◌+◌, ◌*◌, ◌/◌, ◌%◌, ◌<◌, ◌≡◌, ◌≢◌, ◌==◌, Some, None, IfSome, Result, Ok, Err, if◌then◌else◌}
 use Rattle.image_access.specs.Moments.{StorageView}
 use Rattle.qcow2_metadata.specs.Bytes.{sum_below}
@@ -18,32 +18,32 @@ use Rattle.qcow2_alloc.specs.declared.allocation.Allocator.{Allocator}
 use Rattle.qcow2_alloc.specs.declared.error.ImageError.{ImageError}
 use Rattle.qcow2_alloc.specs.declared.image_file.ImageFile.{ImageFile}
 
--- how often a cluster is one of those that the header names as the reftable's
+-- 1 if the cluster is one of the header's reftable, otherwise 0.
 abbrev pub reftable_at : HeaderFields → ℕ → ℕ
 reftable_at h c = in_run h c h.reftable_offset (h.reftable_clusters * cluster_size h)
 
--- how often a cluster is one of n from first on whose counts lie in refblocks that the reftable names
+-- 1 if the cluster is one of n from `first` on, and the reftable has a refblock for its range; otherwise 0.
 abbrev pub counted_run : HeaderFields → EntryTableView → ℕ → ℕ → ℕ → ℕ
 counted_run h t first n c = if block_offset (entry_at t.bytes (c / counts_per_block h)) == 0 then 0 else run_at first n c
 
--- these clusters are taken
+-- These clusters are allocated.
 abbrev pub with_run : Pending → HeaderFields → EntryTableView → ℕ → ℕ → Pending
 with_run p h t first n = with_new_tables p (counted_run h t first n)
 
--- the clusters of the reftable are to be freed
+-- The clusters of the reftable wait to be freed.
 abbrev pub without_reftable : Pending → HeaderFields → Pending
 without_reftable p h = record p { old_tables = λ c. p.old_tables c + reftable_at h c }
 
--- a table has the header's clusters, and stands behind cluster 0 if anywhere
+-- The table has the header's cluster size, and lies behind cluster 0 if it has a place.
 pub record StandsBehind (h : HeaderFields) (table : EntryTableView) : Type 0 where
   pub bits : table.cluster_bits ≡ h.cluster_bits
   pub elsewhere : IfSome table.cluster (λ cluster. 0 < cluster)
 
--- how often entries of the reftable name a cluster
+-- How often entries of the reftable refer to a cluster.
 abbrev pub named_by_reftable_entries : HeaderFields → EntryTableView → ℕ → ℕ
 named_by_reftable_entries h t c = sum_below (entry_count t) (λ k. table_in h c (block_offset (entry_at t.bytes k)))
 
--- A longer reftable has the old entries, and names refblocks in so many clusters from first on. It is to lie in the clusters behind them, and has entries for all of these.
+-- A longer reftable has the old entries and refblocks in `blocks` clusters from `first` on. It lies in the clusters behind them, and has entries for all of these.
 pub record IsGrown (h : HeaderFields) (old t : EntryTableView) (first blocks clusters : ℕ) : Type 0 where
   pub cluster : t.cluster ≡ Some (first + blocks)
   pub bits : t.cluster_bits ≡ h.cluster_bits
@@ -55,7 +55,7 @@ pub record IsGrown (h : HeaderFields) (old t : EntryTableView) (first blocks clu
   pub covered : (c : ℕ) → 0 < run_at first (blocks + clusters) c → block_offset (entry_at t.bytes (c / counts_per_block h)) ≢ 0
 
 module _ {S : Type 0} (view : S → StorageView) where
-  -- It stands there, on the storage, and so do the new refblocks, which count just these clusters. All other counts are on the storage, no new refblock is cached.
+  -- The longer reftable is on the storage, and so are the new refblocks, which count exactly these clusters. All other refcounts are on the storage too, and no new refblock is cached.
   pub record StandsGrown (file : ImageFile S) (old t : EntryTableView) (first blocks clusters : ℕ) : Type 0 where
     pub grown : IsGrown file.header.fields old t first blocks clusters
     pub stands : StandAt (contents_in view file) ((first + blocks) * cluster_size file.header.fields) t.bytes
@@ -66,12 +66,12 @@ module _ {S : Type 0} (view : S → StorageView) where
     pub may : BlocksMayGo (order_of file.caches) (l2_tables file.caches)
     pub uncached : (c : ℕ) → 0 < run_at first blocks c → rb_at file.caches c ≡ None
 
-  -- the header names it in the place of the reftable, whose clusters are to be freed then; or a fault left all as sound as before, or it broke off
+  -- The header points to the longer reftable, and the clusters of the old one wait to be freed; or a fault left everything sound, or interrupted the step.
   abbrev pub NamesReftable : Pending → Pending → ImageFile S → Allocator → ImageFile S → Result (Unit {0}) ImageError → Type 0
   NamesReftable q p old allocator' new (Ok _) = UnseenAllocatorGrowth view q old allocator' new (without_reftable p old.header.fields)
   NamesReftable q p old allocator' new (Err e) = IsFault e × RefusedFileStep view q old allocator' new e
 
-  -- so it does, once there was room for it and its refblocks; or all is as sound as before, or it broke off
+  -- The reftable is replaced by a longer one, for which clusters are allocated; or everything is as sound as before, or a fault interrupted the step.
   abbrev pub EntersReftable : Pending → ImageFile S → Allocator → ImageFile S → Result (Unit {0}) ImageError → Type 0
   EntersReftable p old allocator' new (Ok _) = UnseenAllocatorGrowth view p old allocator' new (without_reftable p old.header.fields)
   EntersReftable p old allocator' new (Err e) = RefusedGrowth view p old allocator' new p e

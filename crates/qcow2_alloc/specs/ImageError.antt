@@ -1,4 +1,4 @@
--- The refusals: their numbers, their kinds, and which refusal a lower layer's error becomes.
+-- The refusals: their numbers, their kinds, and the refusal for each error of a lower layer.
 use Rattle.std.specs.Prelude.{ℕ, ◌≡◌, ◌⊎◌}
 use Rattle.std.specs.declared.io.ErrorKind.{ErrorKind}
 use Rattle.std.specs.declared.io.ErrorKind.TheVariants as Kind
@@ -69,18 +69,18 @@ of_metadata M.Unaligned = I.UnalignedTable
 of_metadata M.Limit = I.Limit
 of_metadata M.Format = I.Metadata
 
--- the tables of a cache are named by their clusters
+-- The refusal for an error of a cache, whose keys are clusters.
 abbrev pub of_cache : CacheError ℕ MetadataError → ImageError
 of_cache C.InUse = I.InUse
 of_cache (C.StillInUse tables) = I.StillInUse tables
 of_cache C.Memory = I.Memory
 of_cache (C.Backend e) = of_metadata e
 
--- the storage failed, or memory was refused
+-- A fault: an I/O error or a failed allocation of memory.
 abbrev pub IsFault : ImageError → Type 0
 IsFault e = (e ≡ I.Storage) ⊎ (e ≡ I.Memory)
 
--- what stands in the way of loading, changing and writing tables, and of taking clusters
+-- The refusals of loading, changing and writing tables, and of allocating clusters.
 abbrev pub IsOfTables : ImageError → Type 0
 IsOfTables I.ReadOnly = ⊥
 IsOfTables I.BeyondSize = ⊥

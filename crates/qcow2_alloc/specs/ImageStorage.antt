@@ -1,4 +1,4 @@
--- What the image's storage is made of.
+-- The storage of an image, with its marks: the kind of the next writes, recorded changes, and failures.
 use Rattle.std.specs.Prelude.{◌≡◌, ℕ, Bool, List, Result, Ok, Err, IsTrue}
 use Rattle.image_access.specs.Contents.{overwritten}
 use Rattle.image_access.specs.Moments.{StorageView, Changes}
@@ -8,53 +8,53 @@ use Rattle.qcow2_alloc.specs.CountedChanges.{IsOneChange}
 use Rattle.qcow2_alloc.specs.declared.image_storage.ImageStorage.{ImageStorage}
 use Rattle.qcow2_alloc.specs.declared.image_storage.WriteKind.{WriteKind}
 
--- the storage that is written
+-- The storage itself.
 abbrev pub storage_of : {S : Type 0} → ImageStorage S → S
 storage_of s = s.storage
 
--- what the next writes are for
+-- The kind of the next writes.
 abbrev pub kind_of : {S : Type 0} → ImageStorage S → WriteKind
 kind_of s = s.kind
 
--- whether anything was changed since the last `begin`
+-- Whether anything was changed since the last `begin`.
 abbrev pub is_changed_of : {S : Type 0} → ImageStorage S → Bool
 is_changed_of s = s.is_changed
 
--- how many changes were made in all, or may have been, up to the greatest u64
+-- How many changes were made in all, or may have been. The counter stops at the greatest u64.
 abbrev pub changes_of : {S : Type 0} → ImageStorage S → ℕ
 changes_of s = s.changes
 
--- nothing is noted anew, and nothing is counted
+-- No further change is recorded or counted.
 pub record SameNotes {S : Type 0} (old new : ImageStorage S) : Type 0 where
   pub note : is_changed_of new ≡ is_changed_of old
   pub count : changes_of new ≡ changes_of old
 
--- whether a call failed since faults are watched
+-- Whether a call failed since faults are watched.
 abbrev pub met_fault_of : {S : Type 0} → ImageStorage S → Bool
 met_fault_of s = s.met_fault
 
--- a change is noted and counted
+-- A change is recorded and counted.
 abbrev pub CountsWrite : {S : Type 0} → ImageStorage S → ImageStorage S → Type 0
 CountsWrite old new = IsOneChange (is_changed_of new) (changes_of old) (changes_of new)
 
--- a write is noted and counted that was made, or may have been; where memory was refused nothing is
+-- A write that was made, or may have been, is recorded and counted. If memory ran out, nothing is.
 abbrev pub NotesWrite : {S T : Type 0} → ImageStorage S → ImageStorage S → Result T StorageError → Type 0
 NotesWrite old new (Ok _) = CountsWrite old new
 NotesWrite old new (Err Fault) = CountsWrite old new
 NotesWrite old new (Err Memory) = SameNotes old new
 
--- a failure is noted
+-- A failure is recorded.
 abbrev pub NotesFault : {S T : Type 0} → ImageStorage S → ImageStorage S → Result T StorageError → Type 0
 NotesFault old new (Ok _) = met_fault_of new ≡ met_fault_of old
 NotesFault old new (Err Fault) = IsTrue (met_fault_of new)
 NotesFault old new (Err Memory) = met_fault_of new ≡ met_fault_of old
 
--- Bytes are written from an offset on, which is noted and counted, as is a failure.
+-- Bytes are written from an offset on. The write is recorded and counted, and so is a failure.
 pub record WritesBytes {S T : Type 0} (view : S → StorageView) (old new : ImageStorage S) (at : ℕ) (bytes : List ℕ) (result : Result T StorageError) : Type 0 where
   pub written : Changes (view (storage_of old)) (view (storage_of new)) result (λ b. overwritten b at bytes)
   pub noted : NotesWrite old new result
   pub faults : NotesFault old new result
 
--- a write that isn't told its kind: it is refused 14, and nothing changes
+-- A write without a kind is refused 14, and nothing changes.
 abbrev pub IsRefusedUntold : {S T : Type 0} → ImageStorage S → ImageStorage S → Result T StorageError → Type 0
 IsRefusedUntold old new result = (result ≡ Err Memory) × (new ≡ old)

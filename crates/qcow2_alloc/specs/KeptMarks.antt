@@ -1,4 +1,4 @@
--- What a call on the file of an image keeps of the marks of its caches, and of what is noted of changes.
+-- What a call on an image's file keeps of the marks of its caches, and which changes it records.
 use Rattle.std.specs.Prelude.{◌≡◌, ◌⊎◌, ℕ, IsTrue}
 use Rattle.image_access.specs.Moments.{StorageView, Rose}
 use Rattle.qcow2_alloc.specs.CachePins.{KeepsPinsAndNotes, CountsTableChanges}
@@ -10,17 +10,17 @@ use Rattle.qcow2_alloc.specs.declared.image_file.ImageFile.{ImageFile}
 use Rattle.qcow2_alloc.specs.declared.image_storage.ImageStorage.{ImageStorage}
 
 module _ {S : Type 0} (view : S → StorageView) where
-  -- Pins stay, and so does the order of writes. What is noted of changes goes on. Where no change of the storage is noted, its contents stayed.
+  -- Pins and the order of writes stay the same. Changes are recorded. If no change of the storage is recorded, its contents are the same.
   pub record KeepMarks (old : ImageStorage S) (caches : MetadataCaches S) (new : ImageStorage S) (caches' : MetadataCaches S) : Type 0 where
     pub pins : KeepsPinsAndNotes caches caches'
     pub order : order_of caches' ≡ order_of caches
     pub notes : KeepsNotes view old new
 
-  -- so it is of an image's file
+  -- What a call keeps of the marks of an image's file.
   abbrev pub KeepsMarks : ImageFile S → ImageFile S → Type 0
   KeepsMarks file file' = KeepMarks file.storage file.caches file'.storage file'.caches
 
-  -- What is noted of changes goes on: of the storage, and of the tables.
+  -- Changes of the storage and of the tables are recorded.
   pub record KeepNotes (old : ImageStorage S) (caches : MetadataCaches S) (new : ImageStorage S) (caches' : MetadataCaches S) : Type 0 where
     pub storage : KeepsNotes view old new
     pub tables : CountsTableChanges caches caches'
@@ -29,15 +29,15 @@ module _ {S : Type 0} (view : S → StorageView) where
   KeepsFileNotes file file' = KeepNotes file.storage file.caches file'.storage file'.caches
 
 module _ {S : Type 0} where
-  -- how many changes were counted: of the storage, and of the tables
+  -- How many changes of the storage and of the tables were counted.
   abbrev pub changes_in : ImageFile S → ℕ × ℕ
   changes_in file = (changes_of file.storage, file.caches.changes)
 
-  -- one of the two numbers rose since, or stands at the greatest u64
+  -- One of the two counters rose since, or is the greatest u64.
   abbrev pub HaveRisen : ℕ × ℕ → ImageFile S → Type 0
   HaveRisen changes file = Rose changes.0 (changes_of file.storage) ⊎ Rose changes.1 file.caches.changes
 
-  -- where they have risen since so many changes, one is noted; else nothing is noted anew, and all else stays
+  -- If a counter rose, a change is recorded. Otherwise no further change is recorded, and all else is the same.
   pub record NotesSince (changes : ℕ × ℕ) (old new : ImageFile S) : Type 0 where
     pub rest : new ≡ record old { storage = record old.storage { is_changed = is_changed_of new.storage } }
     pub kept : IsTrue (is_changed_of old.storage) → IsTrue (is_changed_of new.storage)

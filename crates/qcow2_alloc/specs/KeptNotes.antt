@@ -1,4 +1,4 @@
--- What a call keeps of the notes of the image's storage.
+-- What a call keeps of the recorded changes of an image's storage.
 use Rattle.std.specs.Prelude.{IsTrue}
 use Rattle.std.proofs.Common.{refl, ◌∙◌}
 use Rattle.image_access.specs.Moments.{StorageView, ContentsStay}
@@ -6,14 +6,14 @@ use Rattle.qcow2_alloc.specs.CountedChanges.{CountsChanges, counts_none, counts_
 use Rattle.qcow2_alloc.specs.ImageStorage.{storage_of, is_changed_of, changes_of}
 use Rattle.qcow2_alloc.specs.declared.image_storage.ImageStorage.{ImageStorage}
 
--- A change that was noted stays noted, and an honest storage stays honest. Where no change is noted, the contents stayed. What is noted anew was counted.
+-- A recorded change stays recorded, and an honest storage stays honest. If no change is recorded, the contents are the same. A newly recorded change was counted.
 pub record KeepsNotes {S : Type 0} (view : S → StorageView) (old new : ImageStorage S) : Type 0 where
   pub honest : (view (storage_of old)).is_honest → (view (storage_of new)).is_honest
   pub changes : CountsChanges (is_changed_of old) (changes_of old) (is_changed_of new) (changes_of new)
   pub contents : ¬ IsTrue (is_changed_of new) → ContentsStay (view (storage_of old)) (view (storage_of new))
 
 module _ {S : Type 0} {view : S → StorageView} where
-  -- no call at all, and one call after another
+  -- No call at all, and one call after another.
   pub kept_same : (s : ImageStorage S) → KeepsNotes view s s
   kept_same s = record { honest = λ h. h; changes = counts_none (is_changed_of s) (changes_of s); contents = λ none honest. refl }
 

@@ -1,4 +1,4 @@
--- A cluster that is to be freed is counted once less, or is counted as leaked.
+-- Freeing a cluster: its refcount is decremented, or the cluster is counted as leaked.
 use Rattle.std.specs.Prelude.{ℕ, zero, suc, ◌+◌, ◌-◌, ◌/◌, ◌%◌, ◌^◌, ◌≡◌, ◌⊎◌, ◌<◌, ◌≤◌, ◌&&◌, ◌==◌, nat_lt, not, min, if◌then◌else◌, Bool, true, false, List, Some, Result, Ok, Err}
 use Rattle.qcow2_metadata.specs.declared.header.HeaderFields.{HeaderFields}
 use Rattle.qcow2_metadata.specs.Entries.{block_offset}
@@ -17,26 +17,26 @@ use Rattle.qcow2_alloc.specs.declared.cache.MetadataCaches.{MetadataCaches}
 use Rattle.qcow2_alloc.specs.declared.error.ImageError.{ImageError}
 use Rattle.qcow2_alloc.specs.declared.image_file.ImageFile.{ImageFile}
 
--- one cluster more is leaked, up to the greatest u64
+-- One cluster more is leaked. The counter stops at the greatest u64.
 abbrev pub LeaksOne : Allocator → Allocator → Type 0
 LeaksOne old new = new.leaked_clusters ≡ min (old.leaked_clusters + 1) (2 ^ 64 - 1)
 
--- whether the entry of a range names a refblock that isn't on a cluster
+-- Whether the reftable entry of a range has an offset that is not aligned.
 abbrev pub is_unaligned : HeaderFields → EntryTableView → ℕ → Bool
 is_unaligned h reftable range = nat_lt range (entry_count reftable) && not (block_offset (entry_at reftable.bytes range) % cluster_size h == 0)
 
--- how often clusters below n are listed, of which the refblock isn't on a cluster
+-- How often clusters below n are on the list whose reftable entry is not aligned.
 abbrev pub unaligned_below : HeaderFields → EntryTableView → List ClustersToFreeEntry → ℕ → ℕ
 unaligned_below h reftable list zero = 0
 unaligned_below h reftable list (suc n) = unaligned_below h reftable list n + (if is_unaligned h reftable (n / counts_per_block h) then listed_at list n else 0)
 
--- A cluster that goes off the list is leaked where its refblock isn't on a cluster. At least as many more are leaked as go off so, up to the greatest u64.
+-- A cluster that is taken off the list is leaked if its reftable entry is not aligned. At least as many clusters are leaked as are taken off for this reason, up to the greatest u64.
 abbrev pub LeaksUnaligned : HeaderFields → EntryTableView → Allocator → Allocator → List ClustersToFreeEntry → List ClustersToFreeEntry → Type 0
 LeaksUnaligned h reftable old new list list' =
     (n : ℕ) → n ≤ 2 ^ 64 → min (old.leaked_clusters + unaligned_below h reftable list n) (2 ^ 64 - 1) ≤ new.leaked_clusters + unaligned_below h reftable list' n
 
 module _ {S : Type 0} where
-  -- the count at the cluster's place of a refblock that is held was above 0, and is one less
+  -- The refcount of the cluster in its cached refblock was above 0, and is one less.
   pub record IsLowered (file : ImageFile S) (cluster : ℕ) : Type 0 where
     pub before : MetadataCaches S
     pub at : ℕ
@@ -45,13 +45,13 @@ module _ {S : Type 0} where
     pub some : 0 < count_at block (cluster % counts_per_block file.header.fields)
     pub falls : SetsCount before file.caches at (cluster % counts_per_block file.header.fields) block (count_at block (cluster % counts_per_block file.header.fields) - 1)
 
-  -- whether a count was lowered: no cluster is leaked by that
+  -- Whether a refcount was decremented. No cluster is leaked by this.
   abbrev pub TriesToLower : ImageFile S → ℕ → Result Bool ImageError → Type 0
   TriesToLower file cluster (Ok true) = IsLowered file cluster
   TriesToLower file cluster (Ok false) = Unit {0}
   TriesToLower file cluster (Err e) = Unit {0}
 
-  -- a count is lowered, or one cluster more is leaked; only a fault ends it before
+  -- A refcount is decremented, or one cluster more is leaked. Only a fault ends the call before.
   abbrev pub LowersOrLeaks : Allocator → Allocator → ImageFile S → ℕ → Result (Unit {0}) ImageError → Type 0
   LowersOrLeaks old new file cluster (Ok _) = (SameLeaks old new × IsLowered file cluster) ⊎ LeaksOne old new
   LowersOrLeaks old new file cluster (Err e) = SameLeaks old new × IsFault e

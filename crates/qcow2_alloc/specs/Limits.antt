@@ -1,4 +1,4 @@
--- What stands in the way of taking clusters where it is no fault: each run has a cluster in use, or the reftable can't grow.
+-- Why clusters are not allocated, other than a fault: every run has a cluster in use, or the reftable cannot grow.
 use Rattle.std.specs.Prelude.{ℕ, ◌+◌, ◌*◌, ◌/◌, ◌^◌, ◌<◌, ◌≤◌, ◌≡◌, ◌⊎◌, Some}
 use Rattle.qcow2_metadata.specs.declared.header.HeaderFields.{HeaderFields}
 use Rattle.qcow2_metadata.specs.EntryTable.{EntryTableView, entry_count}
@@ -13,40 +13,40 @@ use Rattle.qcow2_alloc.specs.declared.allocation.Allocator.{Allocator}
 use Rattle.qcow2_alloc.specs.declared.error.ImageError.{ImageError}
 use Rattle.qcow2_alloc.specs.declared.error.ImageError.TheVariants as I
 
--- a refusal is a fault, or 13 for this cause
+-- The refusal is a fault, or a limit (13) with this cause.
 abbrev pub IsFaultOr : Type 0 → ImageError → Type 0
 IsFaultOr Cause e = IsFault e ⊎ ((e ≡ I.Limit) × Cause)
 
--- how many clusters begin at an offset that tables can name
+-- The number of clusters whose offsets an entry can hold.
 abbrev pub nameable_clusters : HeaderFields → ℕ
 nameable_clusters h = greatest_offset / 2 ^ h.cluster_bits + 1
 
--- a cluster can't be named by a table, or not the refblock that would count it by a reftable
+-- An L1 or L2 entry cannot hold the cluster, or the reftable cannot hold an entry for the refblock that would count it.
 abbrev pub IsPastLimits : HeaderFields → ℕ → Type 0
 IsPastLimits h cluster = (IsHostCluster h.cluster_bits cluster → ⊥) ⊎ (2 ^ 20 ≤ cluster / counts_per_block h)
 
--- By what counts as in use, and by the header's numbers.
+-- By the clusters that count as in use, and by the header's fields.
 module _ (used : ℕ → Type 0) (h : HeaderFields) where
-  -- of n clusters that can be named, from each one on, one is in use
+  -- In every run of n clusters that entries can hold, one is in use.
   abbrev pub IsFull : ℕ → Type 0
   IsFull n = (start : ℕ) → start + n ≤ nameable_clusters h → (k : ℕ) × (start ≤ k) × (k < start + n) × used k
 
-  -- Below an end there is no room for so many clusters of a reftable and the refblocks that they lack. One of them is in use, or one of those that were taken before.
+  -- Below an end there is no room for the clusters of a reftable and for the refblocks that they lack: one of these clusters is in use, or was allocated before.
   abbrev pub HasNoRoomBelow : (ℕ → ℕ) → EntryTableView → ℕ → ℕ → Type 0
   HasNoRoomBelow taken t clusters end =
       (first n : ℕ) → 0 < first → n ≡ opened t (counts_per_block h) first n + clusters → first + n ≤ end
       → (k : ℕ) × (first ≤ k) × (k < first + n) × (used k ⊎ (0 < taken k))
 
-  -- so it is for a reftable of so many entries, below the clusters that it has entries for, and those that can be named
+  -- There is no room for a reftable of this length, below the clusters that it has entries for and those that entries can hold.
   abbrev pub HasNoRoomFor : (ℕ → ℕ) → EntryTableView → ℕ → Type 0
   HasNoRoomFor taken t length = (end : ℕ) → end ≤ length * counts_per_block h → end ≤ nameable_clusters h → HasNoRoomBelow taken t (length / entries_per_cluster h) end
 
-  -- of each lower room for so many clusters of a reftable, below an end, a cluster is in use that isn't of this one
+  -- Every lower room for so many clusters of a reftable, below an end, has a cluster in use that does not belong to this one.
   abbrev pub IsLowestRoom : EntryTableView → ℕ → ℕ → ℕ → Type 0
   IsLowestRoom t clusters end room =
       (first n : ℕ) → 0 < first → first < room → n ≡ opened t (counts_per_block h) first n + clusters → first + n ≤ end → (k : ℕ) × (first ≤ k) × (k < first + n) × (k < room) × used k
 
-  -- A longer reftable lies behind as many clusters as its room lacked refblocks. Its room is the lowest below the clusters that it has entries for, and those that can be named.
+  -- A longer reftable lies behind the refblocks that its room lacked. The room is the lowest one, below the clusters that the table has entries for and those that entries can hold.
   pub record LiesLowest (old new : EntryTableView) : Type 0 where
     pub first : ℕ
     pub blocks : ℕ
@@ -56,20 +56,20 @@ module _ (used : ℕ → Type 0) (h : HeaderFields) where
     pub lowest : (end : ℕ) → end ≤ entry_count new * counts_per_block h → end ≤ nameable_clusters h
         → IsLowestRoom old (entry_count new / entries_per_cluster h) end first
 
-  -- a reftable that has an entry of an index is too long, or there is no room for it
+  -- A reftable with an entry of this index is too long, or there is no room for it.
   abbrev pub CantGrow : (ℕ → ℕ) → EntryTableView → ℕ → Type 0
   CantGrow taken t index =
       (length : ℕ) → length ≤ 2 ^ 20 → IsLeastLength (entry_count t) index (entries_per_cluster h) (counts_per_block h) length → HasNoRoomFor taken t length
 
-  -- the reftable has no entry for the refblock that counts a cluster, and can't grow
+  -- The reftable has no entry for the refblock of the cluster, and cannot grow.
   abbrev pub CantCount : (ℕ → ℕ) → Allocator → ℕ → Type 0
   CantCount taken allocator cluster =
       (entry_count allocator.reftable ≤ cluster / counts_per_block h) × CantGrow taken allocator.reftable (cluster / counts_per_block h)
 
-  -- in a run one of n clusters can't be counted, after those before it were taken
+  -- One of the n clusters of a run cannot be counted, after those before it are allocated.
   abbrev pub CantCountRun : Allocator → ℕ → ℕ → Type 0
   CantCountRun allocator first n = (taken : ℕ) × (taken < n) × CantCount (run_at first taken) allocator (first + taken)
 
-  -- n clusters have no place: of n one is always in use, or one of the lowest n that could be taken can't be counted
+  -- There is no room for n clusters: every run has a cluster in use, or a cluster of the lowest free run cannot be counted.
   abbrev pub HasNoPlace : Allocator → ℕ → Type 0
   HasNoPlace allocator n = IsFull n ⊎ ((first : ℕ) × (first + n ≤ nameable_clusters h) × IsLowestRun used first n × CantCountRun allocator first n)

@@ -1,4 +1,4 @@
--- When the L1 table and the reftable of an image are loaded, and why one isn't: by its bytes alone.
+-- When the L1 table and the reftable of an image are loaded, and why one is not: by its bytes alone.
 use Rattle.std.specs.Prelude.{ℕ, ◌+◌, ◌*◌, ◌^◌, ◌<◌, ◌≤◌}
 use Rattle.qcow2_metadata.specs.Bytes.{Bytes}
 use Rattle.qcow2_metadata.specs.declared.header.HeaderFields.{HeaderFields}
@@ -8,17 +8,17 @@ use Rattle.qcow2_metadata.specs.Entries.{l1_entry, reftable_entry, L1EntryReads,
 use Rattle.qcow2_alloc.specs.declared.error.ImageError.{ImageError}
 use Rattle.qcow2_alloc.specs.declared.error.ImageError.TheVariants as I
 
--- each of so many entries reads: it has no bit without a meaning
+-- None of the entries has a reserved bit.
 abbrev pub EntriesRead : ℕ → (ℕ → Type 0) → Type 0
 EntriesRead entries EntryReads = (i : ℕ) → i < entries → EntryReads i
 
--- one of them has such a bit
+-- One of the entries has a reserved bit.
 pub record HasUnreadEntry (entries : ℕ) (EntryReads : ℕ → Type 0) : Type 0 where
   pub index : ℕ
   pub within : index < entries
   pub unread : ¬ EntryReads index
 
--- Why a table isn't loaded: it begins off a cluster, it passes a limit, or an entry doesn't read; or the storage failed, or memory was refused.
+-- Why a table is not loaded: its offset is not aligned, it passes a limit, or an entry has a reserved bit; or a fault.
 abbrev pub IsReasonAgainst : HeaderFields → (place : ℕ) → (passes unread : Type 0) → ImageError → Type 0
 IsReasonAgainst h place passes unread I.UnalignedTable = ¬ IsAligned h place
 IsReasonAgainst h place passes unread I.Limit = passes
@@ -27,15 +27,15 @@ IsReasonAgainst h place passes unread I.Memory = Unit {0}
 IsReasonAgainst h place passes unread I.Storage = Unit {0}
 IsReasonAgainst h place passes unread e = ⊥
 
--- the L1 table of an image, wherever it ends
+-- The entries of the L1 table are readable, wherever it ends.
 abbrev pub L1TableReads : HeaderFields → Bytes → Type 0
 L1TableReads h b = EntriesRead h.l1_entries (λ i. L1EntryReads (l1_entry h b i))
 
--- it passes no limit
+-- Why the L1 table is not loaded. It passes no limit.
 abbrev pub IsReasonAgainstL1Table : HeaderFields → Bytes → ImageError → Type 0
 IsReasonAgainstL1Table h b e = IsReasonAgainst h h.l1_offset ⊥ (HasUnreadEntry h.l1_entries (λ i. L1EntryReads (l1_entry h b i))) e
 
--- 64 bits hold the end of its reftable, and its entries read
+-- The end of the reftable fits into 64 bits, and its entries are readable.
 pub record ReftableReads (h : HeaderFields) (b : Bytes) : Type 0 where
   pub fits : ReftableFits h
   pub each : EntriesRead (reftable_entries h) (λ k. ReftableEntryReads (reftable_entry h b k))

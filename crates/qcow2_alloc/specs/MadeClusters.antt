@@ -1,4 +1,4 @@
--- Clusters that a call takes into use: those that it was asked for, and those of refblocks and reftables that it makes on the way.
+-- Clusters that a call allocates: those that it was asked for, and those of new refblocks and reftables.
 use Rattle.std.specs.Prelude.{ℕ, ◌+◌, ◌-◌, ◌*◌, ◌/◌, ◌^◌, ◌<◌, ◌≤◌, ◌≡◌, ◌⊎◌, List, [], ◌∷◌, Option, Some, None, Result, Ok, Err}
 use Rattle.image_access.specs.Moments.{StorageView}
 use Rattle.qcow2_metadata.specs.declared.header.HeaderFields.{HeaderFields}
@@ -13,7 +13,7 @@ use Rattle.qcow2_alloc.specs.declared.clusters_to_free.ClustersToFreeEntry.{Clus
 use Rattle.qcow2_alloc.specs.declared.error.ImageError.{ImageError}
 use Rattle.qcow2_alloc.specs.declared.image_file.ImageFile.{ImageFile}
 
--- an entry of the new reftable names a refblock in the cluster, and that of the old one didn't
+-- The new reftable has a refblock in the cluster that the old one does not have.
 pub record IsOfNewRefblock (h : HeaderFields) (old new : EntryTableView) (cluster : ℕ) : Type 0 where
   pub range : ℕ
   pub within : range < entry_count new
@@ -21,44 +21,44 @@ pub record IsOfNewRefblock (h : HeaderFields) (old new : EntryTableView) (cluste
   pub names : NamesBlock h new range (Some cluster)
   pub anew : NamesBlock h old range (Some cluster) → ⊥
 
--- the cluster is one of those where the reftable stands
+-- The cluster is one of the reftable.
 pub record IsOfReftable (t : EntryTableView) (cluster : ℕ) : Type 0 where
   pub first : ℕ
   pub placed : t.cluster ≡ Some first
   pub within : 0 < run_at first ((8 * entry_count t + 2 ^ t.cluster_bits - 1) / 2 ^ t.cluster_bits) cluster
 
--- the cluster is that of a new refblock, or one of the reftable's, which didn't stand in it before
+-- The cluster is that of a new refblock, or of the reftable, which did not lie there before.
 abbrev pub IsMadeOnTheWay : HeaderFields → EntryTableView → EntryTableView → ℕ → Type 0
 IsMadeOnTheWay h old new cluster = IsOfNewRefblock h old new cluster ⊎ (IsOfReftable new cluster × ¬ IsOfReftable old cluster)
 
--- how often the cluster is listed to be freed
+-- How often the cluster is on the list to be freed.
 abbrev pub listed_at : List ClustersToFreeEntry → ℕ → ℕ
 listed_at [] cluster = 0
 listed_at (e ∷ es) cluster = run_of e cluster + listed_at es cluster
 
--- it is so more often than before
+-- The cluster is on the list more often than before.
 abbrev pub IsListedSince : List ClustersToFreeEntry → List ClustersToFreeEntry → ℕ → Type 0
 IsListedSince old new cluster = listed_at old cluster < listed_at new cluster
 
--- it was made on the way, perhaps for a reftable that gave way to another one, and is listed then
+-- The cluster was allocated for a refblock or a reftable, possibly for a reftable that was replaced again, and is on the list then.
 abbrev pub IsMadeInTurn : HeaderFields → EntryTableView → EntryTableView → List ClustersToFreeEntry → List ClustersToFreeEntry → ℕ → Type 0
 IsMadeInTurn h old new list list' cluster = IsMadeOnTheWay h old new cluster ⊎ IsListedSince list list' cluster
 
--- how often the cluster is one of a run, if there is one
+-- 1 if the cluster is in the run, if there is one; otherwise 0.
 abbrev pub run_in : Option ClustersToFreeEntry → ℕ → ℕ
 run_in None cluster = 0
 run_in (Some run) cluster = run_of run cluster
 
 module _ {S : Type 0} (view : S → StorageView) where
-  -- the clusters that were listed to be freed in a call were in use before it
+  -- Clusters that the call put on the list were in use before it.
   abbrev pub ListsUsed : ImageFile S → ImageFile S → Type 0
   ListsUsed old new = (k : ℕ) → IsListedSince old.free_list new.free_list k → IsUsed view old k
 
-  -- Each cluster is counted as many times more, at least, as it is listed more; one of the reftable of before once less. So what is listed was taken in the call, or that reftable stood there.
+  -- The refcount of a cluster is higher by at least as often as it was put on the list, not counting once for clusters of the old reftable. So a listed cluster was allocated in the call, or the old reftable lay there.
   abbrev pub CountsListed : ImageFile S → ImageFile S → Type 0
   CountsListed old new = (k : ℕ) → count old.header.fields (known_in view old) k + listed_at new.free_list k ≤ count new.header.fields (known_in view new) k + listed_at old.free_list k + reftable_at old.header.fields k
 
-  -- What is in use was in use before, or was taken by the call's answer, or was made on the way, and what is listed is counted. It may be otherwise where the call broke off.
+  -- Every cluster in use was in use before, or is in the call's answer, or was allocated for metadata; and listed clusters are counted. This may fail if a fault interrupted the call.
   abbrev pub TakesAlone : {A : Type 0} → (A → ℕ → ℕ) → (ℕ → Type 0) → ImageFile S → ImageFile S → Result A ImageError → Type 0
   TakesAlone taken Made old new (Ok answer) = ((k : ℕ) → IsUsed view new k → IsUsed view old k ⊎ (0 < taken answer k) ⊎ Made k) × CountsListed old new
   TakesAlone taken Made old new (Err e) = (((k : ℕ) → IsUsed view new k → IsUsed view old k ⊎ Made k) × CountsListed old new) ⊎ BrokeOff new e

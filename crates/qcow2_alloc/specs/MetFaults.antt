@@ -1,4 +1,4 @@
--- What the image's storage notes of its failures, while the tables of a cache are read and written.
+-- The failures that an image's storage records while the tables of a cache are read and written.
 use Rattle.std.specs.Prelude.{◌≡◌, ◌⊎◌, ◌≤◌, true, false}
 use Rattle.std.proofs.Common.{refl, ◌∙◌, inl, inr, ⊎_elim}
 use Rattle.std.proofs.Math.Nat.{le_refl, le_trans}
@@ -8,14 +8,14 @@ use Rattle.qcow2_alloc.specs.Faults.{faults_of}
 use Rattle.qcow2_alloc.specs.ImageStorage.{met_fault_of}
 use Rattle.qcow2_alloc.specs.declared.image_storage.ImageStorage.{ImageStorage}
 
--- The number of faults doesn't fall. Where none is noted, none was noted before and the number stays. Where one is noted, it was noted before, or the number rose.
+-- The number of faults does not fall. If no failure is recorded, none was before, and the number is the same. If one is recorded, it was before, or the number rose.
 pub record NotesFaults {S : Type 0} (view : S → StorageView) (old new : ImageStorage S) : Type 0 where
   pub no_fewer : faults_of view old ≤ faults_of view new
   pub unmet : met_fault_of new ≡ false → (met_fault_of old ≡ false) × (faults_of view new ≡ faults_of view old)
   pub met : met_fault_of new ≡ true → (met_fault_of old ≡ true) ⊎ Rose (faults_of view old) (faults_of view new)
 
 module _ {S : Type 0} {view : S → StorageView} where
-  -- no call at all, and one call after another
+  -- No call at all, and one call after another.
   pub met_same : (s : ImageStorage S) → NotesFaults view s s
   met_same s = record { no_fewer = le_refl (faults_of view s); unmet = λ none. (none, refl); met = λ is. inl is }
 

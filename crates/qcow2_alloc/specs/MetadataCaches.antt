@@ -1,4 +1,4 @@
--- What contracts see of the caches of L2 tables and refblocks over the bytes of the storage.
+-- The view of the caches of L2 tables and refblocks in contracts, over the bytes of the storage.
 use Rattle.std.specs.Prelude.{ℕ, ◌+◌, ◌*◌, ◌/◌, ◌%◌, ◌≡◌, ◌≢◌, ◌<◌, ◌==◌, ◌⊎◌, Bool, true, false, List, [], ◌∷◌, Option, None, Result, IfSome, IfErr, IsSome, IsTrue, if◌then◌else◌}
 use Rattle.image_access.specs.Moments.{StorageView}
 use Rattle.qcow2_metadata.specs.Bytes.{Bytes, byte_at}
@@ -28,41 +28,41 @@ use Rattle.qcow2_alloc.specs.ImageStorage.{storage_of}
 use Rattle.qcow2_alloc.specs.TableCaches.{IsTableOf, IsBlockOf}
 use Rattle.qcow2_alloc.specs.KeptTables.{cached_tables, AllValuesFit, AreKept, IsSafeSince, IsInOrderSince}
 
--- the header says the same of tables
+-- Both headers have the same format of tables.
 pub record HasFormat (g h : HeaderFields) : Type 0 where
   pub bits : g.cluster_bits ≡ h.cluster_bits
   pub order : g.refcount_order ≡ h.refcount_order
   pub zero_bit : (g.version == 3) ≡ (h.version == 3)
   pub external : has_data_file g ≡ has_data_file h
 
--- a cluster's count stands at this place of the refblock in that cluster
+-- The refcount of the cluster is at this index of the refblock in this cluster.
 pub record IsCountedAt (h : HeaderFields) (known : Bytes) (c block index : ℕ) : Type 0 where
   pub real : block_of h known c ≢ 0
   pub place : block_of h known c ≡ block * cluster_size h
   pub at : c % counts_per_block h ≡ index
 
--- an entry of the table of L1 entry i, which stands in the cluster
+-- The L2 table of L1 entry i lies in this cluster, and has this index.
 pub record IsEntryAt (h : HeaderFields) (known : Bytes) (i table index : ℕ) : Type 0 where
   pub real : table_at h known i ≢ 0
   pub place : table_at h known i ≡ table * cluster_size h
   pub within : index < entries_per_cluster h
 
--- entry j of that table becomes this one, and nothing else changes
+-- Entry j of the L2 table of L1 entry i changes to this one, and nothing else changes.
 pub record ChangesKnownEntry (h : HeaderFields) (known known' : Bytes) (i j entry : ℕ) : Type 0 where
   pub outside : IsSameOutside (cluster_size h) (table_at h known i / cluster_size h) known known'
   pub others : (k : ℕ) → k < entries_per_cluster h → k ≢ j → l2_entry known' (table_at h known i) k ≡ l2_entry known (table_at h known i) k
   pub is : l2_entry known' (table_at h known i) j ≡ entry
 
--- a table is read as one of this image, and this entry of it is the known one
+-- The table is read as one of this image, and this entry of it is the known one.
 pub record ShowsEntry (h : HeaderFields) (known : Bytes) (i index : ℕ) (t : L2TableView) : Type 0 where
   pub format : IsTableOf h t
   pub entry : entry_at t.bytes index ≡ l2_entry known (table_at h known i) index
 
--- a modified table of a cluster
+-- A modified table in a cluster.
 abbrev pub laid_at : HeaderFields → ℕ → List ℕ → CachedTable
 laid_at h cluster bytes = record { place = cluster * cluster_size h; bytes = byte_at bytes; is_modified = true }
 
--- which tables are written first
+-- Which tables are written first.
 abbrev pub order : Direction → Order.Direction
 order D.None = Order.Neither
 order D.L2DependsOnRb = Order.L2DependsOnRb
@@ -78,22 +78,22 @@ module _ {S : Type 0} where
   abbrev pub refblocks : MetadataCaches S → List CachedTable
   refblocks caches = cached_tables caches.rb.backend.header.fields.cluster_bits (λ (b : RefBlockView). b.bytes) (λ b. b.is_modified) caches.rb.entries
 
-  -- the L2 table, the refblock of a cluster, where it is held
+  -- The L2 table of a cluster, and the refblock of a cluster, if they are cached.
   abbrev pub l2_at : MetadataCaches S → ℕ → Option L2TableView
   l2_at caches cluster = value_at (λ k. cluster == k) caches.l2.entries
 
   abbrev pub rb_at : MetadataCaches S → ℕ → Option RefBlockView
   rb_at caches cluster = value_at (λ k. cluster == k) caches.rb.entries
 
-  -- the contents with the modified tables laid over
+  -- The known contents: the bytes of the storage with the modified tables laid over.
   abbrev pub known_of : HeaderFields → MetadataCaches S → Bytes → Bytes
   known_of h caches on_storage = known_bytes (cluster_size h) (l2_tables caches) (refblocks caches) on_storage
 
-  -- no table is modified
+  -- No cached table is modified.
   abbrev pub AreAllWritten : MetadataCaches S → Type 0
   AreAllWritten caches = AreClean (l2_tables caches) × AreClean (refblocks caches)
 
-  -- they are the caches of an image with this header, and what is kept of them is kept over these bytes, while this is pending
+  -- The invariant of the caches of an image with this header, over these bytes, with these pending clusters.
   pub record CacheInvariant (h : HeaderFields) (p : Pending) (caches : MetadataCaches S) (on_storage : Bytes) : Type 0 where
     pub l2_format : HasFormat caches.l2.backend.header.fields h
     pub rb_format : HasFormat caches.rb.backend.header.fields h
@@ -101,7 +101,7 @@ module _ {S : Type 0} where
     pub rb_fit : AllValuesFit (IsBlockOf caches.rb.backend.header.fields) caches.rb.entries
     pub kept : AreKept h (order_of caches) p (l2_tables caches) (refblocks caches) on_storage
 
-  -- they are sound again, nothing known changes, no refblock is new, and a stop is as safe as before
+  -- The caches are sound again, the known contents are the same, no refblock is new, and a stop is as safe as before.
   pub record UnseenCacheStep (h : HeaderFields) (p : Pending) (old : StorageView) (caches : MetadataCaches S) (new : StorageView) (caches' : MetadataCaches S) : Type 0 where
     pub honest : new.is_honest
     pub sound : CacheInvariant h p caches' (byte_at new.contents)
@@ -109,139 +109,139 @@ module _ {S : Type 0} where
     pub named_blocks : AreNamedBlocks h (refblocks caches) (byte_at old.contents) → AreNamedBlocks h (refblocks caches') (byte_at new.contents)
     pub since : IsSafeSince old new (known_of h caches (byte_at old.contents))
 
-  -- a table holds what is known in the cluster
+  -- A table holds the known contents of the cluster.
   abbrev pub HoldsKnown : HeaderFields → MetadataCaches S → Bytes → List ℕ → ℕ → Type 0
   HoldsKnown h caches on_storage bytes cluster = (i : ℕ) → i < cluster_size h → byte_at bytes i ≡ known_of h caches on_storage (cluster * cluster_size h + i)
 
-  -- what putting in an unmodified table of the image's format that holds what is known in its cluster does to sound caches over an honest storage
+  -- What inserting an unmodified table with the known contents of its cluster does to sound caches over an honest storage.
   abbrev pub PutSound : (S → StorageView) → ImageStorage S → MetadataCaches S → ImageStorage S → MetadataCaches S → (HeaderFields → Type 0) → Option ℕ → List ℕ → Bool → Type 0
   PutSound view old caches new caches' IsFitFor cluster bytes is_modified =
       (h : HeaderFields) (p : Pending) → (view (storage_of old)).is_honest → CacheInvariant h p caches (byte_at (view (storage_of old)).contents)
       → IsFitFor h → is_modified ≡ false → IfSome cluster (HoldsKnown h caches (byte_at (view (storage_of old)).contents) bytes)
       → UnseenCacheStep h p (view (storage_of old)) caches (view (storage_of new)) caches'
 
-  -- what loading, flushing and turning do to sound caches over an honest storage
+  -- What loading, flushing and switching do to sound caches over an honest storage.
   abbrev pub KeepSound : (S → StorageView) → ImageStorage S → MetadataCaches S → ImageStorage S → MetadataCaches S → Type 0
   KeepSound view old caches new caches' =
       (h : HeaderFields) (p : Pending) → (view (storage_of old)).is_honest → CacheInvariant h p caches (byte_at (view (storage_of old)).contents)
       → UnseenCacheStep h p (view (storage_of old)) caches (view (storage_of new)) caches'
 
-  -- such a call writes tables in the order that the direction, as it was before, asks for
+  -- Loading, flushing and switching write tables in the order of the direction that held before.
   abbrev pub WritesInOrder : (S → StorageView) → ImageStorage S → MetadataCaches S → ImageStorage S → Type 0
   WritesInOrder view old caches new =
       (h : HeaderFields) (p : Pending) → (view (storage_of old)).is_honest → CacheInvariant h p caches (byte_at (view (storage_of old)).contents)
       → IsInOrderSince h (order_of caches) (view (storage_of old)) (view (storage_of new)) (known_of h caches (byte_at (view (storage_of old)).contents))
 
-  -- ---- why calls are refused, over an honest storage, on sound caches of which no refblock is new
+  -- ---- why calls are refused, over an honest storage, on sound caches without a new refblock
 
-  -- a call refuses for such a cause
+  -- A call is refused only for such a cause.
   abbrev pub RefusesBy : (ImageError → Type 0) → (S → StorageView) → ImageStorage S → MetadataCaches S → HeaderFields → Result (Unit {0}) ImageError → Type 0
   RefusesBy IsCause view old caches h result =
       (p : Pending) → (view (storage_of old)).is_honest → CacheInvariant h p caches (byte_at (view (storage_of old)).contents) → AreNamedBlocks h (refblocks caches) (byte_at (view (storage_of old)).contents) → IfErr result IsCause
 
-  -- so does one that puts in such a table as is said above
+  -- Inserting a table as in `PutSound` is refused only for such a cause.
   abbrev pub PutRefusesBy : (ImageError → Type 0) → (S → StorageView) → ImageStorage S → MetadataCaches S → (HeaderFields → Type 0) → Option ℕ → List ℕ → Bool → Result (Unit {0}) ImageError → Type 0
   PutRefusesBy IsCause view old caches IsFitFor cluster bytes is_modified result =
       (h : HeaderFields) (p : Pending) → (view (storage_of old)).is_honest → CacheInvariant h p caches (byte_at (view (storage_of old)).contents) → AreNamedBlocks h (refblocks caches) (byte_at (view (storage_of old)).contents)
       → IsFitFor h → is_modified ≡ false → IfSome cluster (HoldsKnown h caches (byte_at (view (storage_of old)).contents) bytes) → IfErr result IsCause
 
-  -- ---- counts of held refblocks
+  -- ---- refcounts in cached refblocks
 
-  -- the change was made, and the caches are sound again, whatever is pending, where the order of writes is kept
+  -- The change was made. The caches are sound again, with any pending clusters that keep the order of writes.
   pub record Made (Change : Type 0) (h : HeaderFields) (caches caches' : MetadataCaches S) (on_storage : Bytes) : Type 0 where
     pub change : Change
     pub named_blocks : AreNamedBlocks h (refblocks caches) on_storage → AreNamedBlocks h (refblocks caches') on_storage
     pub sound : (p : Pending) → CrashInvariant h (order_of caches') p on_storage (known_of h caches' on_storage) → CacheInvariant h p caches' on_storage
 
-  -- the count at this place of the refblock of a cluster rises from 0
+  -- A refcount of the cached refblock rises from 0 to 1.
   abbrev pub RaisesCount : MetadataCaches S → MetadataCaches S → ℕ → ℕ → Type 0
   RaisesCount caches caches' block index =
       (h : HeaderFields) (p : Pending) (on_storage : Bytes) (c : ℕ) → CacheInvariant h p caches on_storage → IsCountedAt h (known_of h caches on_storage) c block index → count h (known_of h caches on_storage) c ≡ 0
       → Made (CountRises h (known_of h caches on_storage) (known_of h caches' on_storage) c) h caches caches' on_storage
 
-  -- it falls
+  -- A refcount of the cached refblock falls by one.
   abbrev pub LowersCount : MetadataCaches S → MetadataCaches S → ℕ → ℕ → Type 0
   LowersCount caches caches' block index =
       (h : HeaderFields) (p : Pending) (on_storage : Bytes) (c : ℕ) → CacheInvariant h p caches on_storage → IsCountedAt h (known_of h caches on_storage) c block index
       → Made (CountFalls h (known_of h caches on_storage) (known_of h caches' on_storage) c) h caches caches' on_storage
 
-  -- the count is 0 where this is true, as far as the refblock is held
+  -- The refcount is 0 exactly if this is true, provided that the refblock is cached.
   abbrev pub TellsZero : MetadataCaches S → ℕ → ℕ → Bool → Type 0
   TellsZero caches block index is_zero =
       (h : HeaderFields) (p : Pending) (on_storage : Bytes) (c : ℕ) → CacheInvariant h p caches on_storage → IsCountedAt h (known_of h caches on_storage) c block index → IsSome (rb_at caches block)
       → is_zero ≡ (count h (known_of h caches on_storage) c == 0)
 
-  -- on sound caches a count of a held refblock that is 0 rises
+  -- On sound caches a refcount of 0 in a cached refblock is incremented.
   abbrev pub RaisesZero : MetadataCaches S → ℕ → ℕ → Bool → Type 0
   RaisesZero caches block index made =
       (h : HeaderFields) (p : Pending) (on_storage : Bytes) (c : ℕ) → CacheInvariant h p caches on_storage → IsCountedAt h (known_of h caches on_storage) c block index → IsSome (rb_at caches block)
       → count h (known_of h caches on_storage) c ≡ 0 → IsTrue made
 
-  -- one that isn't 0 falls
+  -- On sound caches a refcount above 0 in a cached refblock is decremented.
   abbrev pub LowersSome : MetadataCaches S → ℕ → ℕ → Bool → Type 0
   LowersSome caches block index made =
       (h : HeaderFields) (p : Pending) (on_storage : Bytes) (c : ℕ) → CacheInvariant h p caches on_storage → IsCountedAt h (known_of h caches on_storage) c block index → IsSome (rb_at caches block)
       → count h (known_of h caches on_storage) c ≢ 0 → IsTrue made
 
-  -- ---- entries of held L2 tables
+  -- ---- entries of cached L2 tables
 
-  -- Entry j of the table of L1 entry i becomes another one, and what the old one names that the new one doesn't is answered. The caches are sound again, whatever is
-  -- pending, where the order of writes is kept and each modified refblock is named.
+  -- Entry j of the L2 table of L1 entry i changes, and the host clusters that lost a reference are returned. The caches are sound again,
+  -- with any pending clusters that keep the order of writes, if the reftable names each modified refblock.
   pub record MadeEntry (h : HeaderFields) (caches caches' : MetadataCaches S) (on_storage : Bytes) (i j entry : ℕ) (answer : Option (ℕ × ℕ)) : Type 0 where
     pub change : ChangesKnownEntry h (known_of h caches on_storage) (known_of h caches' on_storage) i j entry
     pub named_blocks : AreNamedBlocks h (refblocks caches) on_storage → AreNamedBlocks h (refblocks caches') on_storage
     pub answered : answer ≡ old_data_run h.cluster_bits (entry_cover h (l2_entry (known_of h caches on_storage) (table_at h (known_of h caches on_storage) i) j)) (entry_cover h entry)
     pub sound : (p : Pending) → AreNamedBlocks h (refblocks caches) on_storage → CrashInvariant h (order_of caches') p on_storage (known_of h caches' on_storage) → CacheInvariant h p caches' on_storage
 
-  -- an entry of the held table of a cluster, whose L1 entry is marked copied, becomes copied data at a host cluster
+  -- An entry of a cached L2 table, whose L1 entry is marked copied, becomes copied data at a host cluster.
   abbrev pub MapsCachedEntry : MetadataCaches S → MetadataCaches S → ℕ → ℕ → ℕ → Option (ℕ × ℕ) → Type 0
   MapsCachedEntry caches caches' table index host answer =
       (h : HeaderFields) (p : Pending) (on_storage : Bytes) (i : ℕ) → CacheInvariant h p caches on_storage → IsEntryAt h (known_of h caches on_storage) i table index → is_copied (l1_entry h on_storage i) ≡ true → IsSome (l2_at caches table) → IsHostCluster h.cluster_bits host
       → MadeEntry h caches caches' on_storage i index (copied_entry (host * cluster_size h)) answer
 
-  -- it becomes zero; where it is to keep its host cluster, and that is marked copied, it keeps it
+  -- An entry of a cached L2 table becomes a zero entry. It keeps its host cluster, if it is asked to and the entry is marked copied.
   abbrev pub ZeroesEntry : MetadataCaches S → MetadataCaches S → ℕ → ℕ → Bool → Option (ℕ × ℕ) → Type 0
   ZeroesEntry caches caches' table index keep answer =
       (h : HeaderFields) (p : Pending) (on_storage : Bytes) (i : ℕ) → CacheInvariant h p caches on_storage → IsEntryAt h (known_of h caches on_storage) i table index → is_copied (l1_entry h on_storage i) ≡ true → IsSome (l2_at caches table)
       → MadeEntry h caches caches' on_storage i index (zero_entry (if keep then copied_host (entry_cover h (l2_entry (known_of h caches on_storage) (table_at h (known_of h caches on_storage) i) index)) else None)) answer
 
-  -- it becomes uncovered
+  -- An entry of a cached L2 table becomes unmapped.
   abbrev pub DiscardsEntry : MetadataCaches S → MetadataCaches S → ℕ → ℕ → Option (ℕ × ℕ) → Type 0
   DiscardsEntry caches caches' table index answer =
       (h : HeaderFields) (p : Pending) (on_storage : Bytes) (i : ℕ) → CacheInvariant h p caches on_storage → IsEntryAt h (known_of h caches on_storage) i table index → is_copied (l1_entry h on_storage i) ≡ true → IsSome (l2_at caches table)
       → MadeEntry h caches caches' on_storage i index 0 answer
 
-  -- a change of it is noted
+  -- A change of the entry is recorded.
   abbrev pub NotesHeld : MetadataCaches S → MetadataCaches S → ℕ → ℕ → Type 0
   NotesHeld caches caches' table index =
       (h : HeaderFields) (p : Pending) (on_storage : Bytes) (i : ℕ) → CacheInvariant h p caches on_storage → IsEntryAt h (known_of h caches on_storage) i table index → IsSome (l2_at caches table) → IsTrue caches'.is_changed
 
-  -- so where it is mapped
+  -- A change of the entry is recorded, when it is mapped.
   abbrev pub NotesEntry : MetadataCaches S → MetadataCaches S → ℕ → ℕ → ℕ → Type 0
   NotesEntry caches caches' table index host =
       (h : HeaderFields) (p : Pending) (on_storage : Bytes) (i : ℕ) → CacheInvariant h p caches on_storage → IsEntryAt h (known_of h caches on_storage) i table index → IsSome (l2_at caches table) → IsHostCluster h.cluster_bits host
       → IsTrue caches'.is_changed
 
-  -- so for each entry of the held table of a cluster
+  -- The cached table of a cluster has the known entries.
   abbrev pub ShowsKnown : MetadataCaches S → ℕ → L2TableView → Type 0
   ShowsKnown caches table t =
       (h : HeaderFields) (p : Pending) (on_storage : Bytes) (i index : ℕ) → CacheInvariant h p caches on_storage → IsEntryAt h (known_of h caches on_storage) i table index → ShowsEntry h (known_of h caches on_storage) i index t
 
-  -- ---- tables that are taken off, unwritten
+  -- ---- tables that are dropped without being written
 
-  -- Each cluster is known as before, or as it stands on the storage, and as before where none of them was modified. No refblock is new that wasn't. The caches are sound again,
-  -- whatever is pending, where the order of writes is kept.
+  -- Each cluster has its known bytes or those on the storage, and the known ones if no dropped table was modified. No refblock is new that was not. The caches are sound again,
+  -- with any pending clusters that keep the order of writes.
   pub record TakenOff (Unmodified : Type 0) (h : HeaderFields) (caches caches' : MetadataCaches S) (on_storage : Bytes) : Type 0 where
     pub known : IsPartly (cluster_size h) on_storage (known_of h caches on_storage) (known_of h caches' on_storage)
     pub same : Unmodified → known_of h caches' on_storage ≡ known_of h caches on_storage
     pub named_blocks : AreNamedBlocks h (refblocks caches) on_storage → AreNamedBlocks h (refblocks caches') on_storage
     pub sound : (p : Pending) → CrashInvariant h (order_of caches') p on_storage (known_of h caches' on_storage) → CacheInvariant h p caches' on_storage
 
-  -- so on sound caches
+  -- What dropping tables does to sound caches.
   abbrev pub TakesOff : Type 0 → MetadataCaches S → MetadataCaches S → Type 0
   TakesOff Unmodified caches caches' = (h : HeaderFields) (p : Pending) (on_storage : Bytes) → CacheInvariant h p caches on_storage → TakenOff Unmodified h caches caches' on_storage
 
-  -- the refblock of a cluster is taken off: it is no longer held, and outside of its cluster nothing known changes
+  -- The refblock of a cluster is dropped: it is not cached any more, and the known contents outside of its cluster are the same.
   pub record TakenFrom (h : HeaderFields) (caches caches' : MetadataCaches S) (on_storage : Bytes) (cluster : ℕ) : Type 0 where
     pub off : TakenOff (IfSome (rb_at caches cluster) (λ b. b.is_modified ≡ false)) h caches caches' on_storage
     pub outside : IsSameOutside (cluster_size h) cluster (known_of h caches on_storage) (known_of h caches' on_storage)
@@ -250,10 +250,10 @@ module _ {S : Type 0} where
   abbrev pub TakesBlock : MetadataCaches S → MetadataCaches S → ℕ → Type 0
   TakesBlock caches caches' cluster = (h : HeaderFields) (p : Pending) (on_storage : Bytes) → CacheInvariant h p caches on_storage → TakenFrom h caches caches' on_storage cluster
 
-  -- ---- a modified table is put in
+  -- ---- a modified table is inserted
 
-  -- It is laid over what was known, and nothing else changes; at each moment on the way a stop is as safe as before. Where it stands so, and the order of writes is kept, the caches are
-  -- sound again, whatever is pending. Where it is named so, no refblock is new that wasn't.
+  -- The table is laid over the known contents, and nothing else changes. At every moment a stop is as safe as before. If `Stands` holds and the order of writes is kept, the caches are
+  -- sound again, with any pending clusters. If `IsNamed` holds, no refblock is new that was not.
   pub record LaidOver (Stands : Bytes → Bytes → Type 0) (IsNamed : Bytes → Type 0) (h : HeaderFields) (old : StorageView) (caches : MetadataCaches S) (new : StorageView) (caches' : MetadataCaches S) (t : CachedTable) : Type 0 where
     pub honest : new.is_honest
     pub known : known_of h caches' (byte_at new.contents) ≡ known (cluster_size h) (t ∷ []) (known_of h caches (byte_at old.contents))
@@ -262,13 +262,13 @@ module _ {S : Type 0} where
     pub sound : (p : Pending) → Stands (byte_at new.contents) (known_of h caches' (byte_at new.contents)) → CrashInvariant h (order_of caches') p (byte_at new.contents) (known_of h caches' (byte_at new.contents))
         → CacheInvariant h p caches' (byte_at new.contents)
 
-  -- an L2 table, whose cluster an L1 entry names that is marked copied, while no refblock is new
+  -- An L2 table is inserted. Its L1 entry is marked copied, and no refblock is new.
   abbrev pub LaysTable : (S → StorageView) → ImageStorage S → MetadataCaches S → ImageStorage S → MetadataCaches S → L2TableView → Type 0
   LaysTable view old caches new caches' t =
       (h : HeaderFields) (p : Pending) → (view (storage_of old)).is_honest → CacheInvariant h p caches (byte_at (view (storage_of old)).contents) → IsTableOf h t → t.is_modified ≡ true
       → IfSome t.cluster (λ cluster. LaidOver (λ on_storage known. AreNamedBlocks h (refblocks caches') on_storage × HasOwnL2 h on_storage cluster) (λ on_storage. Unit {0}) h (view (storage_of old)) caches (view (storage_of new)) caches' (laid_at h cluster t.bytes))
 
-  -- a refblock, whose cluster the reftable names, or nothing does, where no modified L2 table lies
+  -- A refblock is inserted. The reftable names it, or nothing names its cluster, and no modified L2 table lies there.
   abbrev pub LaysBlock : (S → StorageView) → ImageStorage S → MetadataCaches S → ImageStorage S → MetadataCaches S → RefBlockView → Type 0
   LaysBlock view old caches new caches' b =
       (h : HeaderFields) (p : Pending) → (view (storage_of old)).is_honest → CacheInvariant h p caches (byte_at (view (storage_of old)).contents) → IsBlockOf h b → b.is_modified ≡ true

@@ -1,4 +1,4 @@
--- The names of the refusals, which are what they show.
+-- The names of the refusals, as `Display` prints them.
 use Rattle.std.specs.Prelude.{ℕ, List, codes}
 use Rattle.qcow2_alloc.specs.declared.error.ImageError.{ImageError}
 use Rattle.qcow2_alloc.specs.declared.error.ImageError.TheVariants as I

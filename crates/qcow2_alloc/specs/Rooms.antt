@@ -1,4 +1,4 @@
--- A run of free clusters for a longer reftable and the refblocks that it lacks.
+-- Room for a longer reftable: a run of free clusters for the table and for the refblocks that it needs.
 use Rattle.std.specs.Prelude.{ℕ, ◌+◌, ◌*◌, ◌/◌, ◌%◌, ◌^◌, ◌<◌, ◌≤◌, ◌≡◌, ◌≢◌, ◌⊎◌, ◌==◌, ◌&&◌, ◌||◌, Bool, IsTrue, true, false, List, length, Some, None, Result, Ok, Err, if◌then◌else◌}
 use Rattle.image_access.specs.Moments.{StorageView}
 use Rattle.qcow2_metadata.specs.declared.header.HeaderFields.{HeaderFields}
@@ -22,44 +22,44 @@ use Rattle.qcow2_alloc.specs.declared.free_room.Reach.{Reach}
 use Rattle.qcow2_alloc.specs.declared.free_room.Room.{Room}
 use Rattle.qcow2_alloc.specs.declared.image_file.ImageFile.{ImageFile}
 
--- the reftable names no refblock for the range
+-- The reftable has no refblock for the range.
 abbrev pub lacks : EntryTableView → ℕ → Bool
 lacks t range = block_offset (entry_at t.bytes range) == 0
 
--- once the cluster where its count lies in a refblock that the reftable names
+-- 1 for this cluster if the reftable has a refblock for its range, otherwise 0.
 abbrev pub counted_one : HeaderFields → EntryTableView → ℕ → ℕ → ℕ
 counted_one h t c k = if lacks t (c / counts_per_block h) then 0 else one_at c k
 
--- the cluster is the first of a run in a range that has no refblock
+-- The cluster is the first one of a run in a range without a refblock.
 abbrev pub opens : EntryTableView → ℕ → ℕ → ℕ → Bool
 opens t per first c = (c == first || c % per == 0) && lacks t (c / per)
 
--- how many of the ranges that n clusters from first on enter have no refblock
+-- How many ranges without a refblock the n clusters from `first` on enter.
 abbrev pub opened : EntryTableView → ℕ → ℕ → ℕ → ℕ
 opened t per first n = sum_below n (λ i. one_if (opens t per first (first + i)))
 
--- how many clusters a room has
+-- The number of clusters of a room.
 abbrev pub room_length : Room → ℕ
 room_length room = room.blocks + room.clusters
 
 module _ {S : Type 0} (view : S → StorageView) (p : Pending) (old : ImageFile S) (allocator' : Allocator) (new : ImageFile S) where
-  -- a cluster is taken where it is counted anywhere, or it is in use
+  -- A cluster is allocated, if its range has a refblock; or it is in use.
   abbrev pub TakesFree : EntryTableView → ℕ → Result Bool ImageError → Type 0
   TakesFree t cluster (Ok true) = UnseenAllocatorStep view p old allocator' new (with_new_tables p (counted_one old.header.fields t cluster))
   TakesFree t cluster (Ok false) = UnseenAllocatorStep view p old allocator' new p
   TakesFree t cluster (Err e) = IsFault e × RefusedFileStep view p old allocator' new e
 
-  -- so many clusters from first on are taken
+  -- This many clusters from `first` on are allocated.
   abbrev pub ReachesRoom : EntryTableView → ℕ → Result Reach ImageError → Type 0
   ReachesRoom t first (Ok reach) = UnseenAllocatorStep view p old allocator' new (with_run p old.header.fields t first reach.taken)
   ReachesRoom t first (Err e) = IsFault e × RefusedFileStep view p old allocator' new e
 
-  -- the clusters of a room are
+  -- The clusters of a room are allocated.
   abbrev pub TakesRoom : EntryTableView → Result Room ImageError → Type 0
   TakesRoom t (Ok room) = UnseenAllocatorStep view p old allocator' new (with_run p old.header.fields t room.first (room_length room))
   TakesRoom t (Err e) = RefusedFileStep view p old allocator' new e
 
--- a longer reftable in memory has the same entries, and needs so many clusters
+-- A longer reftable in memory has the same entries, and needs this many clusters.
 pub record IsLonger (h : HeaderFields) (old t : EntryTableView) (clusters : ℕ) : Type 0 where
   pub bits : t.cluster_bits ≡ h.cluster_bits
   pub long : length t.bytes ≡ clusters * cluster_size h
@@ -67,11 +67,11 @@ pub record IsLonger (h : HeaderFields) (old t : EntryTableView) (clusters : ℕ)
   pub entries : (k : ℕ) → entry_at t.bytes k ≡ entry_at old.bytes k
   pub named : (c : ℕ) → named_by_reftable_entries h t c ≡ named_by_reftable_entries h old c
 
--- count i of the refblock is that of cluster begin + i: 1 for each one of n from first on
+-- Refcount i of the refblock, that of cluster `begin` + i, is 1 for the n clusters from `first` on, and 0 for all others.
 abbrev pub CountsRun : HeaderFields → RefBlockView → ℕ → ℕ → ℕ → Type 0
 CountsRun h block begin first n = (i : ℕ) → i < counts_per_block h → count_at block i ≡ run_at first n (begin + i)
 
--- A table has entries for all clusters of a room, which tables can name. They are those of a longer reftable and, before them, those of the refblocks that the reftable lacks there.
+-- The table has entries for all clusters of the room, and entries can hold them. The room has the clusters of a longer reftable and, before them, those of the refblocks that the reftable lacks there.
 pub record IsRoomFor (h : HeaderFields) (reftable table : EntryTableView) (room : Room) : Type 0 where
   pub above : 0 < room.first
   pub within : room.first + room_length room ≤ entry_count table * counts_per_block h
@@ -79,14 +79,14 @@ pub record IsRoomFor (h : HeaderFields) (reftable table : EntryTableView) (room 
   pub bits : table.cluster_bits ≡ h.cluster_bits
   pub blocks : room.blocks ≡ opened reftable (counts_per_block h) room.first (room_length room)
 
--- entries of a table are filled in, which name refblocks that the reftable lacks
+-- Entries of the table are filled in, with refblocks that the reftable lacks.
 pub record FillsTable (reftable old new : EntryTableView) : Type 0 where
   pub rest : new ≡ record old { bytes = new.bytes }
   pub as_long : length new.bytes ≡ length old.bytes
   pub lacking : NamesLacking reftable old new
 
 module _ {S : Type 0} (h : HeaderFields) (reftable : EntryTableView) where
-  -- a room for n clusters of a reftable was found below an end, and a change is noted where some of it are counted
+  -- A room for n clusters of a reftable was found below an end. A change is recorded if some of its clusters are counted.
   pub record IsRoomBelow (n end : ℕ) (new : ImageFile S) (room : Room) : Type 0 where
     pub above : 0 < room.first
     pub below : room.first + room_length room ≤ end
@@ -94,7 +94,7 @@ module _ {S : Type 0} (h : HeaderFields) (reftable : EntryTableView) where
     pub blocks : room.blocks ≡ opened reftable (counts_per_block h) room.first (room_length room)
     pub noted : ((k : ℕ) → counted_run h reftable room.first (room_length room) k ≡ 0) ⊎ IsTrue new.caches.is_changed
 
-  -- clusters from first on were taken until there was room for so many of a reftable, or one was in use, or the end came
+  -- Clusters from `first` on were allocated until there was room for so many clusters of a reftable, or one was in use, or the end came.
   pub record IsReach (first clusters end : ℕ) (new : ImageFile S) (reach : Reach) : Type 0 where
     pub within : first + reach.taken ≤ end
     pub few : reach.blocks ≤ reach.taken
@@ -102,19 +102,19 @@ module _ {S : Type 0} (h : HeaderFields) (reftable : EntryTableView) where
     pub short : reach.taken ≢ reach.blocks + clusters → (n : ℕ) → n ≤ reach.taken → n < opened reftable (counts_per_block h) first n + clusters
     pub noted : ((k : ℕ) → counted_run h reftable first reach.taken k ≡ 0) ⊎ IsTrue new.caches.is_changed
 
--- where the reftable has it lie
+-- The reftable, placed at this cluster.
 abbrev pub placed_at : EntryTableView → ℕ → EntryTableView
 placed_at t cluster = record t { cluster = Some cluster }
 
 module _ {S : Type 0} (view : S → StorageView) where
-  -- the refblocks that the old one doesn't name stand where it names them, and count just these clusters
+  -- The new refblocks are on the storage, and count exactly these clusters.
   abbrev pub StandCounting : ImageFile S → EntryTableView → EntryTableView → ℕ → ℕ → Type 0
   StandCounting file old t first n =
       (c : ℕ) → HasNone old (c / counts_per_block file.header.fields) → block_offset (entry_at t.bytes (c / counts_per_block file.header.fields)) ≢ 0
       → block_count (contents_in view file) (count_width file.header.fields) (block_offset (entry_at t.bytes (c / counts_per_block file.header.fields))) (c % counts_per_block file.header.fields) ≡ run_at first n c
 
   module _ (q : Pending) (old : ImageFile S) (allocator : Allocator) (new : ImageFile S) where
-    -- bytes stand in a cluster, which no cached refblock has; nothing else changes on the storage
+    -- These bytes are in a cluster that no cached refblock has. Nothing else changes on the storage.
     pub record StandsIn (cluster : ℕ) (bytes : List ℕ) : Type 0 where
       pub allocator_step : UnseenAllocatorStep view q old allocator new q
       pub stands : StandAt (contents_in view new) (cluster * cluster_size old.header.fields) bytes
@@ -125,7 +125,7 @@ module _ {S : Type 0} (view : S → StorageView) where
     WritesTo cluster bytes (Ok _) = StandsIn cluster bytes
     WritesTo cluster bytes (Err e) = IsFault e × RefusedFileStep view q old allocator new e
 
-    -- the refblocks that a reftable lacks stand in the first clusters of a room, and a longer one names them
+    -- The refblocks that a reftable lacks are in the first clusters of the room, and a longer one has entries for them.
     pub record HasPlaced (before after : EntryTableView) (room : Room) : Type 0 where
       pub allocator_step : UnseenAllocatorStep view q old allocator new q
       pub grown : IsGrown old.header.fields before (placed_at after (room.first + room.blocks)) room.first room.blocks room.clusters
@@ -136,7 +136,7 @@ module _ {S : Type 0} (view : S → StorageView) where
     PlacesBlocks before after room (Ok _) = HasPlaced before after room
     PlacesBlocks before after room (Err e) = IsFault e × RefusedFileStep view q old allocator new e
 
-    -- a table stands in so many clusters, and on the storage nothing else changes
+    -- The table is in these clusters, and nothing else changes on the storage.
     pub record StandsFrom (cluster clusters : ℕ) (bytes : List ℕ) : Type 0 where
       pub allocator_step : UnseenAllocatorStep view q old allocator new q
       pub stands : StandAt (contents_in view new) (cluster * cluster_size old.header.fields) bytes

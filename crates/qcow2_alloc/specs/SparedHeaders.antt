@@ -1,4 +1,4 @@
--- What the calls of the caches and of the allocator leave of cluster 0, where the header lies, whatever an image's contents are.
+-- What calls of the caches and of the allocator leave of the header's cluster, cluster 0, whatever the image contains.
 use Rattle.std.specs.Prelude.{ℕ, ◌<◌, ◌≡◌, ◌⊎◌, Some}
 use Rattle.image_access.specs.Moments.{StorageView}
 use Rattle.qcow2_metadata.specs.EntryTable.{EntryTableView, entry_count}
@@ -11,12 +11,12 @@ use Rattle.qcow2_alloc.specs.declared.cache.MetadataCaches.{MetadataCaches}
 use Rattle.qcow2_alloc.specs.declared.image_file.ImageFile.{ImageFile}
 use Rattle.qcow2_alloc.specs.declared.image_storage.ImageStorage.{ImageStorage}
 
--- a header names its reftable, where that has clusters, behind cluster 0
+-- The header's pointer to the reftable leads behind cluster 0, if the reftable has clusters.
 abbrev pub NamesReftableBehind : HeaderFields → Type 0
 NamesReftableBehind h = (h.reftable_clusters ≡ 0) ⊎ (0 < h.reftable_offset)
 
 module _ {S : Type 0} where
-  -- neither a cached table of an image stands at cluster 0, nor its reftable, where that has entries
+  -- No cached table lies in cluster 0, and neither does a reftable with entries.
   pub record StandsBehindHeader (bits : ℕ) (reftable : EntryTableView) (file : ImageFile S) : Type 0 where
     pub header : file.header.fields.cluster_bits ≡ bits
     pub caches : AreBehindHeader bits file.caches
@@ -24,20 +24,20 @@ module _ {S : Type 0} where
     pub elsewhere : 0 < entry_count reftable → ¬ (reftable.cluster ≡ Some 0)
 
   module _ (view : S → StorageView) where
-    -- Where no cached table stood at cluster 0, none does, and the bytes of cluster 0 stay.
+    -- If no cached table lies in cluster 0 before, none does after, and the bytes of cluster 0 are the same.
     pub record CachesSpareHeader (old : ImageStorage S) (caches : MetadataCaches S) (new : ImageStorage S) (caches' : MetadataCaches S) : Type 0 where
       pub bytes : (bits : ℕ) → AreBehindHeader bits caches → KeepsHeaderCluster bits (view (storage_of old)) (view (storage_of new))
       pub behind : KeepBehindHeader caches caches'
 
-    -- Where neither a cached table nor the reftable stood at cluster 0, none does. On an honest storage such bytes stay then, at each moment.
+    -- If neither a cached table nor the reftable lies in cluster 0 before, none does after. On an honest storage these bytes then stay the same at every moment.
     pub record SparesBytes (IsKept : ℕ → ℕ → Type 0) (reftable : EntryTableView) (old : ImageFile S) (reftable' : EntryTableView) (new : ImageFile S) : Type 0 where
       pub bytes : (bits : ℕ) → StandsBehindHeader bits reftable old → (view_in view old).is_honest → BytesStay (IsKept bits) (view_in view old) (view_in view new)
       pub behind : (bits : ℕ) → StandsBehindHeader bits reftable old → StandsBehindHeader bits reftable' new
 
-    -- so do all bytes of cluster 0
+    -- All bytes of cluster 0 stay the same.
     abbrev pub SparesHeader : EntryTableView → ImageFile S → EntryTableView → ImageFile S → Type 0
     SparesHeader = SparesBytes IsInHeaderCluster
 
-    -- so do all but those of the header's pointer to the reftable
+    -- All bytes of cluster 0 stay the same, except the header's pointer to the reftable.
     abbrev pub SparesHeaderButPointer : EntryTableView → ImageFile S → EntryTableView → ImageFile S → Type 0
     SparesHeaderButPointer = SparesBytes IsBesidePointer

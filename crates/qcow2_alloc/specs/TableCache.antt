@@ -1,4 +1,4 @@
--- What a `TableCache` answers and keeps.
+-- What calls of a `TableCache` return and keep.
 use Rattle.std.specs.Prelude.{◌≡◌, Bool, false, cond, List, [], ◌∷◌, Option, Some, None, Result, Ok, Err}
 use Rattle.std.specs.Map.{lookup, remove_entry, set_value}
 use Rattle.std.specs.Option.{option_map_or}
@@ -10,17 +10,17 @@ use Rattle.qcow2_alloc.specs.CacheAnswers.{FlushesEntry}
 use Rattle.qcow2_alloc.specs.AsyncLruCache.{Cache, with_entries, set_at}
 
 module _ {K V : Type 0} (is_modified : V → Bool) where
-  -- each key, and whether its value is modified
+  -- The keys, each with whether its value is modified.
   abbrev pub marks_in : List (K × Slot V) → List (K × Bool)
   marks_in [] = []
   marks_in (e ∷ es) = (e.0, is_modified e.1.value) ∷ marks_in es
 
 module _ {K V : Type 0} (eq : K → K → Bool) (is_modified : V → Bool) (es : List (K × Slot V)) where
-  -- the marks us where that of k is taken if its value isn't modified, and k goes if it isn't there
+  -- The marks after k is looked at: the mark of k is cleared if its value is unmodified, and k is removed if it has no entry.
   abbrev pub settled : K → List (K × Bool) → List (K × Bool)
   settled k us = option_map_or (λ s. cond (is_modified s.value) us (set_value (eq k) us false)) (lookup (eq k) es) (remove_entry (eq k) us)
 
--- the backend's failure
+-- The error of the backend.
 abbrev pub failure_of : {K E : Type 0} → Result Bool (CacheError K E) → Option E
 failure_of (Ok _) = None
 failure_of (Err (Backend x)) = Some x
@@ -29,12 +29,12 @@ failure_of (Err (StillInUse _)) = None
 failure_of (Err Memory) = None
 
 module _ {B K V : Type 0} (eq : K → K → Bool) where
-  -- what a change of the value under a key answers and leaves
+  -- What a change of the value under a key returns and leaves.
   abbrev pub ChangesValue : {A : Type 0} → (V → A → V → Type 0) → K → Slot V → Cache B K V → Option A → Cache B K V → Type 0
   ChangesValue applied key s old (Some a) new = (w : V) × applied s.value a w × (new ≡ with_entries old (set_at (eq key) old.entries w))
   ChangesValue applied key s old None new = ⊥
 
-  -- what a flush of the entry under a key, with the value and pins s, leaves there, and its failure
+  -- What a flush of the entry under a key leaves there, and its error. The entry has the value and pins s.
   pub record FlushesAt {S E : Type 0} (steps : Steps S K V E) (key : K) (s : Slot V) (store : S) (old : Cache B K V) (failure : Option E) (after : S) (new : Cache B K V) : Type 0 where
     pub slot : Slot V
     pub step : FlushesEntry steps store (key, s) failure after slot

@@ -1,4 +1,4 @@
--- The two kinds of cached tables, by what their backends need of them.
+-- The two kinds of cached tables, as their backends need them.
 use Rattle.std.specs.Prelude.{ℕ, ◌≡◌, ◌==◌, false}
 use Rattle.qcow2_metadata.specs.declared.header.HeaderFields.{HeaderFields}
 use Rattle.qcow2_metadata.specs.Header.{has_data_file}
@@ -15,7 +15,7 @@ cleared_l2 table = record table { is_modified = false }
 abbrev pub cleared_rb : RefBlockView → RefBlockView
 cleared_rb block = record block { is_modified = false }
 
--- it is read as one of an image with this header
+-- The table is read as one of an image with this header.
 pub record IsTableOf (h : HeaderFields) (t : L2TableView) : Type 0 where
   pub bits : t.cluster_bits ≡ h.cluster_bits
   pub zero_bit : t.has_zero_bit ≡ (h.version == 3)

@@ -1,4 +1,4 @@
--- What the steps of a table mean for the bytes under each key.
+-- What loading and flushing a table mean for the bytes under each key.
 use Rattle.std.proofs.Common.{◌≡◌, ◌≢◌, ◌⊎◌, inl, inr, ℕ, ◌+◌, ◌*◌, ◌^◌, ◌<◌, ◌≤◌, Bool, true, false, cond, eqb, List, length, refl, sym, ap, ◌∙◌, subst, arith}
 use Rattle.std.proofs.lemmas.Bool.{cases_lt}
 use Rattle.std.proofs.lemmas.Bool.Decides.{nat_tests}
@@ -17,7 +17,7 @@ same_number k j h = grind (arith, nat_tests)
 other_number : (k j : ℕ) → eqb k j ≡ false → k ≢ j
 other_number k j h = grind (arith, nat_tests)
 
--- two clusters lie apart
+-- Two clusters do not overlap.
 ends_before : (j k size : ℕ) → j < k → j * size + size ≤ k * size
 ends_before j k size lt = let le : j + 1 ≤ k = omega arith in let m = mul-le-mul_left size le in omega (arith, m)
 
@@ -82,7 +82,7 @@ module _ {S V : Type 0} (view : S → StorageView) (cluster_bits : ℕ) (bytes :
     ],
   )
 
-  -- a backend of tables keeps the laws
+  -- A backend of tables satisfies the laws.
   pub table_laws : ((v : V) → is_modified (cleared v) ≡ false) → ((v : V) → bytes (cleared v) ≡ bytes v)
       → IsLawful (table_steps view cluster_bits bytes is_modified cleared IsFit) eqb is_modified bytes at (λ s. (view s).is_honest)
   table_laws unmodified same = record {
@@ -94,7 +94,7 @@ module _ {S V : Type 0} (view : S → StorageView) (cluster_bits : ℕ) (bytes :
     failed_flush_keeps = failed_flush_keeps;
   }
 
-  -- a table that isn't modified may be left as it is
+  -- Flushing an unmodified table may do nothing.
   pub table_rests : (s : S) (k : ℕ) (v : V) → is_modified v ≡ false → v ≡ cleared v → FlushesTable view cluster_bits bytes is_modified cleared IsFit s k v v s
   table_rests s k v unmodified clean = record {
     clean = clean;

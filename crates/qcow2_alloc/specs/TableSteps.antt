@@ -9,23 +9,23 @@ use Rattle.qcow2_metadata.specs.MetadataError.{storage_result}
 use Rattle.qcow2_metadata.specs.TableBytes.{HasPlace, IsOfStorageOrMemory}
 use Rattle.qcow2_alloc.specs.AsyncLruCacheBackend.{Steps}
 
--- the storage's answer in a step that is done, or refused
+-- The storage's result in a step that is done, or refused.
 abbrev pub answer_done : Result (Unit {0}) StorageError
 answer_done = Ok tt
 
 abbrev pub answer_refused : MetadataError → Result (Unit {0}) StorageError
 answer_refused e = storage_result {T = Unit {0}} (Err e)
 
--- the storage failed
+-- The storage failed.
 abbrev pub IsTableFault : MetadataError → Type 0
 IsTableFault e = IsErrOf (answer_refused e) Fault
 
 module _ {S V : Type 0} (view : S → StorageView) (cluster_bits : ℕ) (bytes : V → List ℕ) (is_modified : V → Bool) (cleared : V → V) (IsFit : V → Type 0) where
-  -- where a cluster begins
+  -- The offset of a cluster.
   abbrev pub place_of_cluster : ℕ → ℕ
   place_of_cluster k = k * 2 ^ cluster_bits
 
-  -- an unmodified table with the bytes of its cluster
+  -- Loading gives an unmodified table with the bytes of its cluster.
   pub record LoadsTable (s : S) (k : ℕ) (v : V) (t : S) : Type 0 where
     pub unmodified : is_modified v ≡ false
     pub fits : IsFit v
@@ -33,25 +33,25 @@ module _ {S V : Type 0} (view : S → StorageView) (cluster_bits : ℕ) (bytes :
     pub calls : QuietCalls (view s) (view t) answer_done
     pub keeps : ContentsStay (view s) (view t)
 
-  -- a cluster that has a place is refused by the storage, or for memory
+  -- Loading from a cluster that has a place is refused by the storage, or because memory ran out.
   pub record FailsToLoad (s : S) (k : ℕ) (e : MetadataError) (t : S) : Type 0 where
     pub cause : HasPlace cluster_bits k → IsOfStorageOrMemory e
     pub calls : QuietCalls (view s) (view t) (answer_refused e)
     pub keeps : ContentsStay (view s) (view t)
 
-  -- the table's bytes stand in its cluster
+  -- The table's bytes are in its cluster.
   pub record IsTableWritten (s : S) (k : ℕ) (v : V) (t : S) : Type 0 where
     pub fits : length (bytes v) ≡ 2 ^ cluster_bits
     pub written : (view s).is_honest → (view t).contents ≡ overwritten (view s).contents (place_of_cluster k) (bytes v)
 
-  -- one that is modified is written, another one isn't; then it isn't modified
+  -- A modified table is written, an unmodified one is not. It is unmodified then.
   pub record FlushesTable (s : S) (k : ℕ) (v w : V) (t : S) : Type 0 where
     pub clean : w ≡ cleared v
     pub skips : is_modified v ≡ false → ContentsStay (view s) (view t)
     pub writes : is_modified v ≡ true → IsTableWritten s k v t
     pub calls : Calls (view s) (view t) answer_done
 
-  -- only a modified one fails; it was written whole or not at all
+  -- Flushing fails only for a modified table. It was written whole or not at all.
   pub record FailsToFlush (s : S) (k : ℕ) (v : V) (e : MetadataError) (t : S) : Type 0 where
     pub modified : is_modified v ≡ true
     pub cause : IsFit v → HasPlace cluster_bits k → IsOfStorageOrMemory e

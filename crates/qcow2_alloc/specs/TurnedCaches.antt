@@ -1,4 +1,4 @@
--- What turning the direction of its caches leaves of an image's file.
+-- What a change of the order of writes leaves of an image's file.
 use Rattle.std.specs.Prelude.{◌≡◌}
 use Rattle.image_access.specs.Moments.{StorageView}
 use Rattle.qcow2_laws.specs.CrashInvariant.{Pending}
@@ -10,11 +10,11 @@ use Rattle.qcow2_alloc.specs.declared.cache.MetadataCaches.{MetadataCaches}
 use Rattle.qcow2_alloc.specs.declared.error.ImageError.{ImageError}
 use Rattle.qcow2_alloc.specs.declared.image_file.ImageFile.{ImageFile}
 
--- L2 tables were written before refblocks up to then, and turning that is refused, by a number that tables may meet.
+-- The order of writes had L2 tables before refblocks, and changing it is refused with an error of tables.
 abbrev pub IsOfTurning : {S : Type 0} → MetadataCaches S → ImageError → Type 0
 IsOfTurning caches e = (order_of caches ≡ RbDependsOnL2) × IsOfTables e
 
--- All but storage and caches stays, and so does each cached refblock. Of a sound file nothing that is known changes.
+-- Only the storage and the caches may change, and each cached refblock is the same. In a sound file the known contents are the same.
 pub record TurnsAlone {S : Type 0} (view : S → StorageView) (old new : ImageFile S) : Type 0 where
   pub rest : new ≡ record old { storage = new.storage; caches = new.caches }
   pub blocks : refblocks new.caches ≡ refblocks old.caches

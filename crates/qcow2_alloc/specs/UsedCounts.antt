@@ -20,37 +20,37 @@ use Rattle.qcow2_alloc.specs.declared.cache.MetadataCaches.{MetadataCaches}
 use Rattle.qcow2_alloc.specs.declared.error.ImageError.{ImageError}
 use Rattle.qcow2_alloc.specs.declared.image_file.ImageFile.{ImageFile}
 
--- where the first free cluster is looked for, once a search that stood at a cluster goes on: it moves with a search that stood there
+-- The first free cluster after a search has passed over clusters in use. It moves only with a search that started there.
 abbrev pub passed_hint : ℕ → ℕ → Result ℕ ImageError → ℕ
 passed_hint hint from (Ok next) = if from == hint then next else hint
 passed_hint hint from (Err e) = hint
 
 module _ {S : Type 0} where
-  -- none of so many counts of a held refblock from an index on is 0, where the caches are sound
+  -- On sound caches, the n refcounts from this index on of a cached refblock are above 0.
   abbrev pub TellsUsed : MetadataCaches S → ℕ → ℕ → ℕ → Type 0
   TellsUsed caches block index n =
       (h : HeaderFields) (p : Pending) (on_storage : Bytes) (c i : ℕ) → CacheInvariant h p caches on_storage → IsCountedAt h (known_of h caches on_storage) c block i → index ≤ i → i < index + n
       → count h (known_of h caches on_storage) c ≢ 0
 
-  -- so many counts of a held refblock from an index on are above 0, and then comes one that is 0, or its end
+  -- The n refcounts from this index on of a cached refblock are above 0. The next one is 0, or the refblock ends there.
   abbrev pub TellsFirstFree : MetadataCaches S → ℕ → ℕ → ℕ → Type 0
   TellsFirstFree caches block index n = IfSome (rb_at caches block) (λ b. index ≤ counts_of b → IsFirstZero b index (index + n))
 
-  -- the refblock of a cluster's range is held, and counts a cluster as 0, or isn't of such an image
+  -- The refblock of the cluster's range is cached, and the cluster's refcount is 0, or the refblock is not one of such an image.
   abbrev pub IsHeldFree : HeaderFields → EntryTableView → MetadataCaches S → ℕ → ℕ → Type 0
   IsHeldFree h reftable caches cluster next =
       (block : ℕ) × (b : RefBlockView) × NamesBlock h reftable (cluster / counts_per_block h) (Some block) × (rb_at caches block ≡ Some b) × (IsBlockOf h b → count_at b (next % counts_per_block h) ≡ 0)
 
-  -- a search that stood at a cluster goes on at another: at the same one where its range has no refblock, where a range begins, or at a count of 0
+  -- A search that started at a cluster continues at another: at the same one if its range has no refblock, where a range begins, or at a refcount of 0.
   abbrev pub GoesFar : HeaderFields → EntryTableView → MetadataCaches S → ℕ → ℕ → Type 0
   GoesFar h reftable caches cluster next = ((next ≡ cluster) × HasNone reftable (cluster / counts_per_block h)) ⊎ (next % counts_per_block h ≡ 0) ⊎ IsHeldFree h reftable caches cluster next
 
   module _ (view : S → StorageView) where
-    -- the clusters from one on, up to before another, are in use
+    -- The clusters between two are in use.
     abbrev pub AreUsed : ImageFile S → ℕ → ℕ → Type 0
     AreUsed file from end = (k : ℕ) → from ≤ k → k < end → IsUsed view file k
 
-    -- a search that stood at a cluster goes on at another, and what lies between is in use; or a fault ended it
+    -- A search that started at one cluster continues at another, and all clusters between them are in use; or a fault ended it.
     abbrev pub PassesUsed : Pending → ImageFile S → Allocator → ImageFile S → ℕ → Result ℕ ImageError → Type 0
     PassesUsed p old allocator' new from (Ok next) = UnseenAllocatorStep view p old allocator' new p × AreUsed new from next
     PassesUsed p old allocator' new from (Err e) = IsFault e × RefusedFileStep view p old allocator' new e
