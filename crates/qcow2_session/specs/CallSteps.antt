@@ -1,4 +1,4 @@
--- What a command, a read or a conversion leaves of an image as it was, whatever the contents are, and what it counts.
+-- What a command, a read or a conversion leaves unchanged whatever the image contains, and what it counts.
 use Rattle.std.specs.Prelude.{◌≡◌, ◌+◌, ℕ, true, List, [], Option, Result, IfErr}
 use Rattle.image_access.specs.Backing.{BackingView}
 use Rattle.image_access.specs.Moments.{StorageView}
@@ -23,14 +23,14 @@ use Rattle.qcow2_session.specs.Told.{StaysQuiet}
 use Rattle.qcow2_session.specs.declared.session.Reply.{Reply}
 
 module _ {S F : Type 0} (view : S → StorageView) (backing : F → BackingView) (old new : Qcow2 S F) where
-  -- A command of one call leaves it the same image. Its reply tells each fault that it counted, and marks the image as failed by rule. The header's cluster is left alone.
+  -- A command of one call: it is the same image, the reply reports every fault that was counted, and the image is marked as failed by the rule. The header's cluster stays the same.
   pub record CommandStep (reply : Reply) : Type 0 where
     pub image : IsSameImage old new
     pub faults : CommandCounts view backing old new reply
     pub header_cluster : StaysBehindHeader view old new
     pub marks : MarksAtOnce view (refusal_in reply) old new
 
-  -- The end of a prepared mapping that is given up counts no fault and marks nothing.
+  -- Dropping a prepared mapping counts no fault and marks nothing.
   pub record ReleasingStep : Type 0 where
     pub image : IsSameImage old new
     pub faults : SameFaults view backing old new
@@ -38,14 +38,14 @@ module _ {S F : Type 0} (view : S → StorageView) (backing : F → BackingView)
     pub marks : is_failed new ≡ is_failed old
     pub quiet : ReadsQuietly view old new
 
-  -- The first bytes of a range are written to a sound image. A refusal has its cause; 9 (table prepared) and an answer heed the mappings that are out; 13 (limit) comes where a limit was met.
+  -- The first bytes of a range are written to a sound image. A refusal has its cause. It is refused 9, and succeeds, only as the prepared mappings allow, and refused 13 only if a limit was passed.
   pub record WritesSoundly (offset n : ℕ) (out : List (Option Prepared)) (result : Result ℕ ImageError) : Type 0 where
     pub met : IfErr result (IsMetTaking (HasPrepared out) (IsUnderMapping old.file.header.fields offset out) (CopiesCompressed offset n true new.file.header.fields (known_in view new.file)) (NeedsFarEntry old offset))
     pub taken : HeedsFirst view backing old out offset n result
     pub limit : IfLimit result (IsLimited view backing [] (offset + n) old out)
 
   module _ {T : Type 0} (result : Result T ImageError) where
-    -- A read of several parts leaves the header in memory too, and writes nothing where no cached table is modified.
+    -- A read of several parts also leaves the header in memory the same, and writes nothing if no cached table is modified.
     pub record ReadingParts : Type 0 where
       pub image : IsSameImage old new
       pub faults : CountsImageFaults view backing old new result
@@ -62,7 +62,7 @@ module _ {S F : Type 0} (view : S → StorageView) (backing : F → BackingView)
       pub marks : MarksInParts view (reason_in result) old new
       pub quiet : StaysQuiet view old new
 
-    -- A special read is one call: so it is of it, marked at once.
+    -- A special read is one call, which marks the image at once.
     pub record SpecialStep : Type 0 where
       pub image : IsSameImage old new
       pub faults : CountsImageFaults view backing old new result
@@ -70,10 +70,10 @@ module _ {S F : Type 0} (view : S → StorageView) (backing : F → BackingView)
       pub marks : MarksAtOnce view (reason_in result) old new
       pub quiet : ReadsQuietly view old new
 
-  -- ---- conversions, with a raw disk's storage
+  -- ---- conversions, with the storage of a raw disk
 
   module _ (raw raw' : StorageView) {T : Type 0} (result : Result T ImageError) where
-    -- An import leaves the raw disk's bytes. An image opened for reading is never written.
+    -- An import leaves the bytes of the raw disk the same. An image that was opened for reading is never written.
     pub record ImportStep : Type 0 where
       pub image : IsSameImage old new
       pub raw_left : IsLeft raw raw'
@@ -81,7 +81,7 @@ module _ {S F : Type 0} (view : S → StorageView) (backing : F → BackingView)
       pub quiet : StaysQuiet view old new
       pub header_cluster : StaysBehindHeader view old new
 
-    -- An export leaves the disk's bytes, and writes nothing to the image where no cached table is modified. An honest raw disk stays honest.
+    -- An export leaves the bytes of the disk the same, and writes nothing to the image if no cached table is modified. An honest raw disk stays honest.
     pub record ExportStep : Type 0 where
       pub image : IsSameImage old new
       pub same : IsUnchanged view backing old new result

@@ -1,4 +1,4 @@
--- Why the commands of a run are refused: what is asked before any work, in order, and what the work meets.
+-- Why the commands of a run are refused: checks before any work, in their order, and causes that the work meets.
 use Rattle.qcow2_alloc.specs.declared.error.ImageError.TheVariants as I
 use Rattle.qcow2_session.specs.declared.session.Command.TheVariants as C
 use Rattle.qcow2_session.specs.declared.session.Reply.TheVariants as R
@@ -39,15 +39,15 @@ use Rattle.qcow2_session.specs.declared.session.Reply.{Reply}
 -- ---- before any work
 
 module _ {S F : Type 0} (image : Qcow2 S F) where
-  -- of putting n bytes into a mapping of the image, in this order: what makes it unusable, and of bytes that it isn't to be written
+  -- Why putting n bytes into a mapping is refused at once, in this order: an unusable image; and, if n is not 0, an image opened for reading.
   abbrev pub refuses_to_put : ℕ → Option ImageError
   refuses_to_put n = option_or (unusable image) (refuse_if (nat_lt 0 n && not (is_writable image)) I.ReadOnly)
 
-  -- of a larger disk: what refuses each other size, and that the mode takes clusters where there is a disk below
+  -- Why a growth is refused at once: as every resize; or because the mode allocates clusters over a backing disk.
   abbrev pub refuses_to_grow : ℕ → PreallocateMode → Option ImageError
   refuses_to_grow size mode = option_or (refuses_to_resize image) (refuse_if (nat_lt (size_of image) size && takes_over image mode) I.Preallocation)
 
-  -- of a command: the first cause that holds, in the order in which its call asks for them
+  -- Why a command is refused at once: the first cause that holds, in the order in which its call checks them.
   abbrev pub first_cause : Command → Option ImageError
   first_cause (C.Read offset n) = refuses_to_read image offset n
   first_cause (C.Write offset bytes) = refuses_to_prepare image offset (length bytes.items)
@@ -70,7 +70,7 @@ module _ {S F : Type 0} (image : Qcow2 S F) where
   first_cause C.Size = None
   first_cause C.Leaked = None
 
--- its slot is taken or empty, or the range passes the end of the mapping there, or of what was looked up there
+-- The command is a misuse: its slot is in use or empty, or the range passes the end of the mapping or of the lookup there.
 abbrev pub IsMisused : List (Option Prepared) → (found : ℕ → Option Mapping) → Command → Type 0
 IsMisused before found (C.ReadMapped slot at n) = MatchOption (found slot) (Unit {0}) (λ f. f.length < at + n)
 IsMisused before found (C.PrepareDataMapping slot offset n overwrite) = (p : Prepared) × (slice_get before slot ≡ Some (Some p))
@@ -79,13 +79,13 @@ IsMisused before found (C.CommitDataMapping slot) = slice_get before slot ≡ So
 IsMisused before found (C.DiscardDataMapping slot) = slice_get before slot ≡ Some None
 IsMisused before found command = ⊥
 
--- it is replied so exactly then
+-- The reply is `Misuse` exactly for a misuse.
 abbrev pub TellsMisuse : List (Option Prepared) → (found : ℕ → Option Mapping) → Command → Reply → Type 0
 TellsMisuse before found command reply = (reply ≡ R.Misuse) ↔ IsMisused before found command
 
--- ---- where the work meets it
+-- ---- during the work
 
--- what a command may be refused for where nothing refused it at once
+-- The refusals of a command that no check refused.
 abbrev pub MayMeet : Command → ImageError → Type 0
 MayMeet (C.Write offset bytes) e = IsMetPreparing e
 MayMeet (C.GetMapping slot offset max) e = IsOfTables e
@@ -106,11 +106,11 @@ MayMeet C.Leaked e = ⊥
 MayMeet command e = IsMet e
 
 module _ {S F : Type 0} (view : S → StorageView) (old new : Qcow2 S F) (before : List (Option Prepared)) where
-  -- Clearing a range of a sound image meets a fault or a limit, or 20. It meets 8 where a mapping is prepared that isn't existing, and 9 where one lies in the L2 table of its first offset.
+  -- Why clearing a range of a sound image is refused: a fault; a limit; 20; 8, if a mapping is pinned; or 9, if one is pinned in the L2 table of the first offset.
   abbrev pub MeetsClearing : (offset n : ℕ) → ImageError → Type 0
   MeetsClearing offset n e = IsMetTaking (HasPrepared before) (IsUnderMapping old.file.header.fields (from_in old offset n) before) ⊥ (NeedsFarEntry old (from_in old offset n)) e
 
-  -- What a command that takes clusters may be refused for then, on a sound image. Of a write the compressed cluster stands there at its refusal.
+  -- Why a command that allocates clusters of a sound image is refused during the work. For a write, a compressed cluster is one at the moment of the refusal.
   abbrev pub MeetsTaking : Command → ImageError → Type 0
   MeetsTaking (C.Write offset bytes) e =
       IsMetTaking (HasPrepared before) (IsUnderMappingIn old.file.header.fields offset (offset + length bytes.items) before) (CopiesCompressed offset (length bytes.items) true new.file.header.fields (known_in view new.file)) (Unit {0}) e
@@ -124,7 +124,7 @@ module _ {S F : Type 0} (view : S → StorageView) (old new : Qcow2 S F) (before
   MeetsTaking command e = Unit {0}
 
 module _ {S F : Type 0} (view : S → StorageView) (backing : F → BackingView) (old new : Qcow2 S F) (before : List (Option Prepared)) where
-  -- there is nothing to do
+  -- The command has nothing to do.
   abbrev pub HasNothingToDo : Command → Type 0
   HasNothingToDo (C.Read offset n) = n ≡ 0
   HasNothingToDo (C.Write offset bytes) = length bytes.items ≡ 0
@@ -143,45 +143,45 @@ module _ {S F : Type 0} (view : S → StorageView) (backing : F → BackingView)
   HasNothingToDo (C.ResizeShrink size) = size_of old ≤ size
   HasNothingToDo command = ⊥
 
-  -- ---- mappings that are prepared, on a sound image
+  -- ---- prepared mappings, on a sound image
 
-  -- a range in whose L2 table a mapping is prepared isn't prepared, but where it may be written in place
+  -- A range is prepared only if no mapping is pinned in its L2 table, or the range may be written in place. It is refused 9 only otherwise.
   abbrev pub IsUntakenIn : (offset n : ℕ) → Reply → Type 0
   IsUntakenIn offset n (R.Prepared host count existing) = ¬ IsTaken old.file.header.fields (known_in view old.file) offset n before
   IsUntakenIn offset n reply = refusal_in reply ≡ Some I.TablePrepared → IsTaken old.file.header.fields (known_in view old.file) offset n before
 
-  -- nor is such a range cleared
+  -- A range with whole clusters is cleared only if no mapping is pinned in its L2 table, and refused 9 only if one is.
   abbrev pub IsUntouchedUnder : (offset n : ℕ) → Reply → Type 0
   IsUntouchedUnder offset n (R.Range from count) = from_in old offset n < to_in old offset n → ¬ IsUnderMapping old.file.header.fields (from_in old offset n) before
   IsUntouchedUnder offset n reply = from_in old offset n < to_in old offset n → refusal_in reply ≡ Some I.TablePrepared → IsUnderMapping old.file.header.fields (from_in old offset n) before
 
-  -- the mapping in a slot is existing, and the bytes no longer stand where it says
+  -- The mapping in a slot is existing, and the bytes are not at its host offset any more.
   pub record IsOutdatedAt (slot at n : ℕ) : Type 0 where
     pub mapping : Prepared
     pub there : slice_get before slot ≡ Some (Some mapping)
     pub existing : table_of mapping ≡ None
     pub moved : ¬ IsFoundWhole view old (mapping.guest + at) (Raw Image (mapping.offset + at) true) n
 
-  -- What was looked up is read only where it is mapped so as a whole, and refused as outdated only where it no longer is.
+  -- A range that was looked up is read only if the whole of it is still mapped in the same way, and is refused 10 only if it is not.
   abbrev pub ReadsLookedUp : (found : ℕ → Option Mapping) → (slot at n : ℕ) → Reply → Type 0
   ReadsLookedUp found slot at n (R.Bytes bytes) = 0 < n → (m : Mapping) × (found slot ≡ Some m) × IsFoundWhole view old (m.offset + at) (further_by at m.kind) n
   ReadsLookedUp found slot at n reply = refusal_in reply ≡ Some I.OutdatedMapping → (m : Mapping) × (found slot ≡ Some m) × (¬ IsFoundWhole view old (m.offset + at) (further_by at m.kind) n)
 
-  -- What was looked up is read but for what its kind meets, and bytes are put but for what their mapping does.
+  -- Why reading a range that was looked up is refused, and why putting bytes into a mapping is.
   abbrev pub IsMetLookedUp : (found : ℕ → Option Mapping) → (slot at n : ℕ) → ImageError → Type 0
   IsMetLookedUp found slot at n e = (m : Mapping) × (found slot ≡ Some m) × IsMetMapped (IsCacheHeld old before) (further_by at m.kind) (IsFoundWhole view old (m.offset + at) (further_by at m.kind) n) e
 
   abbrev pub IsMetPuttingAt : (slot at : ℕ) → ImageError → Type 0
   IsMetPuttingAt slot at e = (p : Prepared) × (slice_get before slot ≡ Some (Some p)) × IsMetPutting (IsCacheHeld old before) p at e
 
-  -- A write is refused for a limit only where it met one. It is refused 20 only where the rest of its range has that cause, behind the bytes that are told as written. What is prepared is heeded by each of its parts.
+  -- A write is refused 13 only if it passed a limit, and 20 only if the rest of its range, behind the bytes that were written, has that cause. Each of its parts respects the prepared mappings.
   abbrev pub StopsRightly : (offset : ℕ) → List ℕ → Reply → Type 0
   StopsRightly offset bytes (R.WriteRefused e n) = (e ≡ I.Limit → IsLimited view backing (given_of offset bytes ∷ []) (offset + length bytes) old before) × HeedsMappings view backing old before offset bytes (Err (e, n)) × (e ≡ I.Overflow → NeedsFarToWrite view backing old offset bytes n)
   StopsRightly offset bytes R.Done = HeedsMappings view backing old before offset bytes (Ok tt)
   StopsRightly offset bytes reply = Unit {0}
 
-  -- What a prepared mapping refuses, and nothing else: a range of its L2 table (9), a smaller disk (17). What is put, or read as it was looked up, is refused as outdated (10) only where it is. A commit and a flush are refused for a fault alone.
-  -- What is read, looked up or put is refused for a fault, and for what has a cause in the image or in what is prepared.
+  -- What prepared mappings refuse: ranges of a pinned L2 table (9) and a shrink (17), and nothing else. Putting, and reading what was looked up, is refused 10 only if the mapping is outdated. Commits and flushes are refused only by a fault.
+  -- Reads, lookups and puts are refused by a fault, or for a cause in the image or in its prepared mappings.
   abbrev pub MeetsOnSound : (found : ℕ → Option Mapping) → Command → Reply → Type 0
   MeetsOnSound found (C.Read offset n) reply = IfSome (refusal_in reply) (IsMetReadingRange before offset (offset + n) old.file.header.fields (known_in view old.file))
   MeetsOnSound found (C.Write offset bytes) reply = (refusal_in reply ≡ Some I.TablePrepared → IsUnderMappingIn old.file.header.fields offset (offset + length bytes.items) before) × StopsRightly offset bytes.items reply
@@ -201,10 +201,10 @@ module _ {S F : Type 0} (view : S → StorageView) (backing : F → BackingView)
   MeetsOnSound found (C.ResizeShrink size) reply = size < size_of old → (refusal_in reply ≡ Some I.MappingPrepared) ↔ HasPrepared before
   MeetsOnSound found command reply = Unit {0}
 
-  -- ---- a command
+  -- ---- one command
 
-  -- Where its slot or its range is misused, it is replied so, and nothing changes. Else the first cause that holds before any work is the reply, and nothing changes.
-  -- Where none holds, it is refused for what the work meets alone, and on a sound image for less. It isn't refused where there is nothing to do, and heeds what is prepared on a sound image.
+  -- The refusal of a command. A misuse is replied to as such, and nothing changes. Otherwise the first check that fails gives the reply, and nothing changes.
+  -- If no check fails, the command is refused only for causes that its work may meet, and on a sound image for fewer. A command with nothing to do is not refused. On a sound image a command respects the prepared mappings.
   pub record IsRightlyRefused (found : ℕ → Option Mapping) (command : Command) (reply : Reply) : Type 0 where
     pub misuse : TellsMisuse before found command reply
     pub still : reply ≡ R.Misuse → new ≡ old

@@ -1,4 +1,4 @@
--- What commands and replies mean in words of a guest's disk.
+-- The meaning of commands and replies in terms of the guest's disk.
 use Rattle.std.specs.Prelude.{ℕ, ◌≡◌, Option, Result, Ok, Err}
 use Rattle.qcow2_disk.specs.Calls.{to_zero, to_kept_zero, to_backing}
 use Rattle.qcow2_metadata.specs.Bytes.{Bytes}
@@ -48,17 +48,17 @@ reply_of (R.Refused e) = refused (refusal_of e)
 reply_of (R.WriteRefused e n) = write_refused (refusal_of e) n
 reply_of R.Misuse = misuse
 
--- what clearing a range is replied
+-- The reply to clearing a range.
 abbrev pub reply_of_clearing : Result (ℕ × ℕ) ImageError → SessionReply
 reply_of_clearing (Ok range) = R.Range range.0 range.1
 reply_of_clearing (Err e) = R.Refused e
 
--- a refusal as not compressed names this offset
+-- A refusal as not compressed has this offset.
 abbrev pub IsOwnOffset : ℕ → ImageError → Type 0
 IsOwnOffset offset (NotCompressed at) = at ≡ offset
 IsOwnOffset offset e = Unit {0}
 
--- what a special read of n bytes at an offset tells of the known bytes, where it is done or refused, and where an offset is answered
+-- What a special read of n bytes says of the known contents, whether it succeeds or not; and what it says if it may return an offset.
 abbrev pub TellsSpecial : Bytes → (offset n : ℕ) → Result (Unit {0}) ImageError → Type 0
 TellsSpecial known offset n (Ok _) = n ≡ 0
 TellsSpecial known offset n (Err e) = IsRightlySpecial known offset n (refusal_of e)

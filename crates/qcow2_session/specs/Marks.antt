@@ -1,4 +1,4 @@
--- When a command fails its image, and what it counts as changed.
+-- When a command makes its image fail, and which changes it counts.
 use Rattle.std.specs.Prelude.{◌≡◌, ◌≢◌, ◌⊎◌, Bool, IsTrue, Option, Some, None, Result, Ok, Err, IfErr, OnOk}
 use Rattle.image_access.specs.Moments.{StorageView}
 use Rattle.qcow2_alloc.specs.declared.error.ImageError.{ImageError}
@@ -9,38 +9,38 @@ use Rattle.qcow2_image.specs.declared.image.Qcow2.{Qcow2}
 use Rattle.qcow2_session.specs.declared.session.Command.{Command}
 use Rattle.qcow2_session.specs.declared.session.Command.TheVariants as C
 
--- A failure of the storage fails an image. Want of memory may, and nothing else does; a mark stays.
+-- An I/O error makes the image fail, and a failed allocation may. Nothing else does, and a failed image stays failed.
 abbrev pub FailsBy : Option ImageError → (before now : Bool) → Type 0
 FailsBy (Some Storage) before now = IsTrue now
 FailsBy (Some Memory) before now = IsTrue before → IsTrue now
 FailsBy reason before now = now ≡ before
 
--- why a call was refused, where it was
+-- The refusal of a call, if it was refused.
 abbrev pub reason_in : {A : Type 0} → Result A ImageError → Option ImageError
 reason_in (Ok answer) = None
 reason_in (Err e) = Some e
 
 module _ {S F : Type 0} (view : S → StorageView) (reason : Option ImageError) (old new : Qcow2 S F) where
-  -- One call of the image, answered or refused so. It counts what it changes. A failure of the storage fails the image. Want of memory fails it just where a change was counted, and else leaves the contents.
+  -- One call of the image, with this refusal. It counts its changes. An I/O error makes the image fail. If memory runs out, the image fails exactly after a change, and otherwise the contents are the same.
   pub record MarksAtOnce : Type 0 where
     pub fails : FailsBy reason (is_failed old) (is_failed new)
     pub counts : CountsImageChanges view old new
     pub memory : reason ≡ Some Memory → MarksOnceChanged view old new
 
-  -- Several calls, of which want of memory may refuse one behind others that were answered. It fails the image only where one of them counted a change.
+  -- Several calls of the image, of which a later one may run out of memory. Then the image fails only if one of them counted a change.
   pub record MarksInParts : Type 0 where
     pub fails : FailsBy reason (is_failed old) (is_failed new)
     pub counts : CountsImageChanges view old new
     pub memory : reason ≡ Some Memory → IsTrue (is_failed new) → IsTrue (is_failed old) ⊎ ChangesRose old new
 
 module _ {S F : Type 0} (view : S → StorageView) (old new : Qcow2 S F) where
-  -- a command marks the image so: a read and a write are several calls, and each other one is a single call
+  -- What a command does to the mark: a read and a write are several calls, every other command is one.
   abbrev pub MarksBy : Command → Option ImageError → Type 0
   MarksBy (C.Read offset n) reason = MarksInParts view reason old new
   MarksBy (C.Write offset bytes) reason = MarksInParts view reason old new
   MarksBy command reason = MarksAtOnce view reason old new
 
-  -- A conversion is several calls of the image, and others of a raw disk. A failed image stays so, and else only a refusal as a storage's failure, or for want of memory, fails it. Want of memory does so only where a change was counted.
+  -- A conversion is several calls of the image, and of a raw disk. A failed image stays failed. Otherwise only an I/O error, or a failed allocation after a change, makes it fail.
   pub record MarksConversion {A : Type 0} (result : Result A ImageError) : Type 0 where
     pub answered : OnOk result (is_failed new ≡ is_failed old)
     pub works : IfErr result (λ e. e ≢ Memory → e ≢ Storage → is_failed new ≡ is_failed old)

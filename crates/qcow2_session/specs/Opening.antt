@@ -1,4 +1,4 @@
--- The headline, of an image that is opened from the bytes of a storage, over a disk below where one is given.
+-- The headline for an image that is opened from the bytes of a storage, over a backing disk if one is given.
 use Rattle.std.specs.Prelude.{ℕ, ◌≡◌, ◌⊎◌, IsTrue, true, false, List, [], map, Vec, Option, Some, None, Result, Ok, Err}
 use Rattle.std.specs.Global.{Global}
 use Rattle.image_access.specs.Backing.{BackingView}
@@ -26,56 +26,56 @@ use Rattle.qcow2_session.specs.Told.{TellsThrough}
 use Rattle.qcow2_session.specs.declared.session.Command.{Command}
 use Rattle.qcow2_session.specs.declared.session.Reply.{Reply}
 
--- it was refused, and the storage that is handed back has its contents, as at each moment since
+-- The call was refused, and the storage that is handed back has the same contents, now and at every moment since.
 abbrev pub IsLeftAlone : {S R : Type 0} → StorageView → (S → StorageView) → Result R (S × ImageError) → Type 0
 IsLeftAlone before view (Ok run) = ⊥
 IsLeftAlone before view (Err refused) = ContentsStayThroughout before (view refused.0)
 
--- the files that are missing as an image is opened: where a disk below is given, that of its data alone
+-- The files that are missing when an image is opened: the data file, and the backing file unless a disk is given for it.
 abbrev pub missing_beside : {F : Type 0} → Option F → Missing
 missing_beside None = M.OtherFiles
 missing_beside (Some disk) = M.DataFile
 
--- the bytes of the disk below, where one is given
+-- The bytes of the backing disk, if one is given.
 abbrev pub bytes_below : {F : Type 0} → (F → BackingView) → Option F → Option Bytes
 bytes_below backing None = None
 bytes_below backing (Some disk) = Some (byte_at (backing disk).bytes)
 
--- Why a consistent image isn't opened for writing: memory was refused, or the storage failed; or a file is missing that it needs.
+-- Why a consistent image is not opened for writing: a failed allocation, an I/O error, or a missing file.
 abbrev pub MayRefuseToOpen : List ℕ → Missing → ImageError → Type 0
 MayRefuseToOpen contents missing I.Memory = Unit {0}
 MayRefuseToOpen contents missing I.Storage = Unit {0}
 MayRefuseToOpen contents missing I.Dependency = NeedsMissing missing contents
 MayRefuseToOpen contents missing e = ⊥
 
--- An image with these contents opens again for writing: it is consistent, and whichever files are missing then, what opening refuses it for by its contents is one of these few reasons.
+-- An image with these contents opens again for writing: it is consistent, and its contents give no reason to refuse it but the three of `MayRefuseToOpen`, whichever files are missing.
 pub record OpensAgain (contents : List ℕ) : Type 0 where
   pub consistent : IsConsistent (byte_at contents)
   pub refused : (missing : Missing) (e : ImageError) → IsRefusedRightly contents true missing e → MayRefuseToOpen contents missing e
 
 module _ {S F : Type 0} (view : S → StorageView) (backing : F → BackingView) (before : StorageView) (below : Option F) where
-  -- there was no room for the replies, and nothing was called
+  -- There was no memory for the replies, and no command ran.
   abbrev pub HadNoRoom : Qcow2 S F → List Reply → Type 0
   HadNoRoom image replies = (replies ≡ []) × IsKeptSince before (view (storage_of_image image))
 
-  -- Where a consistent image stands on an honest storage, and the disk below is honest, it opens and runs as the headline says. Opening it may be refused for few reasons alone, and then each moment has a consistent image with the same disk.
+  -- If the storage is honest and holds a consistent image, and the backing disk is honest, the image opens and runs as the headline says. If opening is refused, it is for one of three reasons, and every moment has a consistent image with the same disk.
   abbrev pub Headline : List Command → Result (Qcow2 S F × Vec Reply Global) (S × ImageError) → Type 0
   Headline commands (Ok run) = before.is_honest → IsConsistent (byte_at before.contents) → IsHonestBacking view backing below
       → HadNoRoom run.0 run.1.items ⊎ IsHeadline (image_abstraction view backing) before (bytes_below backing below) run.0 (map command_of commands) (map reply_of run.1.items)
   Headline commands (Err refused) = before.is_honest → IsConsistent (byte_at before.contents) → MayRefuseToOpen before.contents (missing_beside below) refused.1 × IsKeptSince before (view refused.0)
 
-  -- Where a consistent image stood on an honest storage, and the disk below is honest, whatever this storage held since then opens again.
+  -- If the storage was honest and held a consistent image, and the backing disk is honest, every content that the storage had since then opens again.
   abbrev pub OpensAgainSince : StorageView → Type 0
   OpensAgainSince new = before.is_honest → IsConsistent (byte_at before.contents) → IsHonestBacking view backing below → (c : List ℕ) → new.had_since before.moment c → OpensAgain c
 
-  -- so it is where it was opened, and where it was refused
+  -- Every content since then opens again, whether the image was opened or refused.
   abbrev pub EachMomentOpensAgain : Result (Qcow2 S F × Vec Reply Global) (S × ImageError) → Type 0
   EachMomentOpensAgain (Ok run) = OpensAgainSince (view (storage_of_image run.0))
   EachMomentOpensAgain (Err refused) = OpensAgainSince (view refused.0)
 
-  -- The image that was opened, whatever the contents were, is over the disk below, has its number, is to be written and works. Opening changed the autoclear field alone, and the replies tell of it.
-  -- Where the header names its tables behind cluster 0, none stands there as it is opened. Then the run leaves the bytes there alone, but for the header's numbers.
-  -- From consistent contents, over an honest disk, it is sound, has each surplus as they had it, and stands at the begin of a run from the disk that it showed.
+  -- The image that was opened, whatever it contains: it is over the given backing disk, has its number, is opened for writing and has not failed. Opening changed only the autoclear field. The replies match the image.
+  -- If the header's pointers lead behind cluster 0, no table lies in cluster 0 when the image is opened, and the run changes only header fields there.
+  -- If the contents are consistent and the backing disk is honest, the image is sound, has the surplus of each cluster in them, and begins a run from the disk that it shows.
   pub record IsToldOfOpened (number : ℕ) (commands : List Command) (image : Qcow2 S F) (replies : List Reply) : Type 0 where
     pub opened : Qcow2 S F
     pub over : opened.backing ≡ below
@@ -90,12 +90,12 @@ module _ {S F : Type 0} (view : S → StorageView) (backing : F → BackingView)
     pub is : before.is_honest → IsConsistent (byte_at before.contents) → IsHonestBacking view backing below → IsOpenedFrom view backing (byte_at before.contents) opened
     pub begins : before.is_honest → IsConsistent (byte_at before.contents) → IsHonestBacking view backing below → let v = abstract_of view backing opened [] in RefinesState v.setting v (started v)
 
-  -- So it is where it opens. Where it doesn't, it is refused as opening for writing is where these files are missing: for one of the reasons of these contents, which stay unless the storage failed.
+  -- If the image is opened, it is as above. If not, it is refused as every opening for writing with these missing files, for a reason in the contents. These stay the same unless the storage failed.
   abbrev pub TellsOfOpened : ℕ → List Command → Result (Qcow2 S F × Vec Reply Global) (S × ImageError) → Type 0
   TellsOfOpened number commands (Ok run) = IsToldOfOpened number commands run.0 run.1.items
   TellsOfOpened number commands (Err refused) = OpensRightly {S = S} {F = F} before true (missing_beside below) (Err refused) × LeavesStorage {F = F} view true before (Err refused)
 
-  -- Opening counts the faults of the storage, refused or not, and each command those since. The disk below is the one that was given, so what it counts is told by commands too.
+  -- Opening counts the faults of the storage, and each command those of the storage and of the given backing disk since.
   abbrev pub CountsSinceBefore : Result (Qcow2 S F × Vec Reply Global) (S × ImageError) → Type 0
   CountsSinceBefore (Ok run) = (opened : Qcow2 S F) × (opened.backing ≡ below) × OpeningCounts view before.faults (Ok opened) × RunCounts view backing opened run.0 run.1.items
   CountsSinceBefore (Err refused) = OpeningCounts {F = F} view before.faults (Err refused)
