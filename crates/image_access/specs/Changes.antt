@@ -7,18 +7,18 @@ use Rattle.image_access.specs.Contents.{overwritten, resized, zeroed}
 use Rattle.image_access.specs.declared.change.Change.{Change}
 use Rattle.image_access.specs.declared.change.Change.TheVariants.{Write, Zeroes, Resize}
 
--- the contents after one change
+-- The contents after one change.
 abbrev pub applied : List ℕ → Change → List ℕ
 applied contents (Write at bytes) = overwritten contents at bytes
 applied contents (Zeroes at count) = zeroed contents at count
 applied contents (Resize size) = resized contents size
 
--- the contents after all of them
+-- The contents after all changes.
 abbrev pub replayed : List ℕ → List Change → List ℕ
 replayed contents [] = contents
 replayed contents (change ∷ changes) = replayed (applied contents change) changes
 
--- the contents after some number of the changes, from t on
+-- The contents after some number of changes, at least t.
 pub record HadSince (start : List ℕ) (changes : List Change) (t : ℕ) (contents : List ℕ) : Type 0 where
   pub count : ℕ
   pub from : t ≤ count
@@ -36,17 +36,17 @@ counts_all start changes t le = record {
 pub only_all : (start : List ℕ) (changes : List Change) (contents : List ℕ) → HadSince start changes (length changes) contents → contents ≡ replayed start changes
 only_all start changes contents had = had.is ∙ ap (replayed start) (take_all had.count changes had.from)
 
--- where a change writes; none for a resize
+-- The offset of a write or zeroing, none for a resize.
 abbrev pub write_offset : Change → Option ℕ
 write_offset (Write at bytes) = Some at
 write_offset (Zeroes at count) = Some at
 write_offset (Resize size) = None
 
--- the offsets of the writes and zeroings, in their order
+-- The offsets of the writes and zeroings, in their order.
 abbrev pub write_offsets : List Change → List ℕ
 write_offsets changes = filter_map write_offset changes
 
--- the changes up to and with the n-th write or zeroing; all of them where there are fewer
+-- The changes up to and including the n-th write or zeroing; all changes if there are fewer.
 abbrev pub up_to_write : ℕ → List Change → List Change
 up_to_write n [] = []
 up_to_write n (change ∷ changes) = if nat_eq n 0 then [] else change ∷ up_to_write (if is_some (write_offset change) then n - 1 else n) changes

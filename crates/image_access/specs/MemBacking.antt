@@ -1,4 +1,4 @@
--- A backing disk in memory, as contracts see it: honest, and it counts its reads.
+-- The view of a backing disk in memory: it is honest, and counts its reads.
 use Rattle.std.specs.Prelude.{ℕ, List}
 use Rattle.image_access.specs.Backing.{BackingView}
 use Rattle.image_access.specs.CallCount.{Counted}

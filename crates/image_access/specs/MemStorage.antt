@@ -1,4 +1,4 @@
--- A storage in memory: honest, without a fault, and its present contents are its only moment.
+-- The view of a storage in memory: it is honest and never fails, and its only moment is the present one.
 use Rattle.std.specs.Prelude.{◌≡◌, ◌<◌, ℕ, List, length, Result, Ok, Err, codes}
 use Rattle.image_access.specs.Moments.{StorageView}
 use Rattle.image_access.specs.declared.error.StorageError.{StorageError}
@@ -16,7 +16,7 @@ view_of_memory bytes = record {
   mem_align = 1;
 }
 
--- The contents become these. Only where they grow memory may be missing, and then they stay.
+-- The contents change. Memory may run out only if they grow, and then they stay the same.
 abbrev pub Grows : List ℕ → List ℕ → Result (Unit {0}) StorageError → List ℕ → Type 0
 Grows old new (Ok _) changed = new ≡ changed
 Grows old new (Err e) changed = (e ≡ Memory) × (length old < length changed) × (new ≡ old)

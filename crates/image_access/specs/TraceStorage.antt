@@ -1,4 +1,4 @@
--- A storage that keeps its changes, as contracts see it.
+-- The view of a storage that records its changes.
 use Rattle.std.specs.Prelude.{◌≡◌, ◌≢◌, ℕ, List, [], ◌∷◌, ◌++◌, length, Result, Ok, Err, codes}
 use Rattle.image_access.specs.CallCount.{Counted, one_more, counted, faulted}
 use Rattle.image_access.specs.Changes.{replayed, HadSince}
@@ -8,20 +8,20 @@ use Rattle.image_access.specs.declared.error.StorageError.{StorageError}
 use Rattle.image_access.specs.declared.error.StorageError.TheVariants.{Fault, Memory}
 
 pub record Trace : Type 0 where
-  -- the contents that it began with
+  -- The contents at the start.
   pub start : List ℕ
-  -- its changes since, the oldest first
+  -- The changes since the start, the oldest first.
   pub changes : List Change
-  -- how many reads it answered, up to the greatest u64
+  -- The number of reads that succeeded. The counter stops at the greatest u64.
   pub reads : ℕ
-  -- its calls, and those to be refused
+  -- The counters of calls, and those that will be refused.
   pub calls : Counted
 
--- the start with the changes replayed
+-- The contents: those at the start, with the changes replayed.
 abbrev pub contents_of : Trace → List ℕ
 contents_of t = replayed t.start t.changes
 
--- As a storage it is honest, and its moments are the contents after each change.
+-- The view as a storage: it is honest, and its moments are the contents after each change.
 abbrev pub view_of_trace : Trace → StorageView
 view_of_trace t = record {
   contents = contents_of t;
@@ -34,21 +34,21 @@ view_of_trace t = record {
   mem_align = 1;
 }
 
--- with one change more
+-- The trace with one change more.
 abbrev pub with_change : Trace → Change → Trace
 with_change t change = record t { changes = t.changes ++ change ∷ [] }
 
--- with one read more
+-- The trace with one read more.
 abbrev pub with_read : Trace → Trace
 with_read t = record t { reads = one_more t.reads }
 
--- What a call that changes no contents does: it is counted, and refused where that was asked. At Ok it leaves the trace as `done`.
+-- What a call does that changes no contents: it is counted, and refused if it was chosen. If it succeeds, it leaves the trace as `done`.
 abbrev pub Answers : {T : Type 0} → Trace → Trace → Result T StorageError → Trace → Type 0
 Answers old new (Ok _) done = (old.calls.fails_in ≢ 1) × (old.calls.refuses_in ≢ 1) × (new ≡ record done { calls = counted old.calls })
 Answers old new (Err Fault) done = (old.calls.fails_in ≡ 1) × (new ≡ record old { calls = faulted old.calls })
 Answers old new (Err Memory) done = (old.calls.fails_in ≢ 1) × (old.calls.refuses_in ≡ 1) × (new ≡ record old { calls = counted old.calls })
 
--- What a call that makes a change does: the same, but memory to keep it may be missing at any time.
+-- What a call does that makes a change: the same, but memory to record the change may run out at any time.
 abbrev pub Adds : Trace → Trace → Result (Unit {0}) StorageError → Change → Type 0
 Adds old new (Ok _) change = (old.calls.fails_in ≢ 1) × (old.calls.refuses_in ≢ 1) × (new ≡ record (with_change old change) { calls = counted old.calls })
 Adds old new (Err Fault) change = (old.calls.fails_in ≡ 1) × (new ≡ record old { calls = faulted old.calls })

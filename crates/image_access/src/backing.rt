@@ -5,28 +5,28 @@ ghost use Rattle.image_access.specs.Contents.{bytes_at};
 use crate::StorageError;
 use std::alloc::{AllocError, Global};
 
-/// A disk below an image, which is only read. Past its size it is zero.
+/// A backing disk, which is only read. Past its size all bytes are zero.
 pub trait BackingDisk: Drop {
-    /// What a contract sees of it.
+    /// The view of the disk in contracts.
     ghost backing: { Self → BackingView };
 
-    /// The number of bytes.
+    /// The size in bytes.
     fn size(&self) -> u64
         ensures { (backing self.now).is_honest → result ≡ length (backing self.now).bytes };
 
-    /// Fills the buffer with the bytes from an offset in bytes on, zeros past the size. After a refusal it may hold any bytes. Refused
-    /// `Fault` where the disk failed, and `Memory` where memory is missing.
+    /// Fills the buffer with the bytes from offset `at` on, with zeros past the size. After a refusal the buffer may hold any bytes. Refused
+    /// `Fault` if the disk failed, and `Memory` if memory ran out.
     fn read(&mut self, at: u64, buf: &mut [u8]) -> Result<(), StorageError>
         ensures read { (backing self.old).is_honest → OnOk result (buf.new ≡ bytes_at (backing self.old).bytes at (length buf.old)) }
         ensures stays { Stays (backing self.old) (backing self.new) result };
 }
 
-/// A backing disk that may stand on storages of a type; a boxed one answers none.
+/// A backing disk that may lie on storages of type `S`. A boxed one lists none.
 pub trait WrappedFormat<S>: BackingDisk {
-    /// The storages that it stands on.
+    /// The storages that the disk lies on.
     ghost dependencies: { Self → List S };
 
-    /// Those storages, in an order of its own. Refused where memory is missing.
+    /// The storages that the disk lies on, in an order of its own. Refused if memory runs out.
     fn storage_dependencies(&self, alloc: Global) -> Result<Vec<&S>, AllocError>
         ensures listed { IfOk result (λ storages. map (λ s. s.now) storages.items ≡ dependencies self.now) };
 }

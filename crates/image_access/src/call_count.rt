@@ -3,7 +3,7 @@ ghost use Rattle.std.specs.Prelude.{◌≡◌};
 use crate::StorageError;
 use std::marker::Model;
 
-// Counts the calls of a storage or a disk that is made for tests, and refuses those that it was told to.
+// Counts the calls of a storage or a disk for tests, and refuses those that were chosen.
 #[derive(Drop)]
 pub(crate) struct CallCount {
     made: u64,
@@ -47,21 +47,21 @@ impl CallCount {
         self.faults
     }
 
-    // Lets the n-th call from now on fail; 0 lets none.
+    // Makes the n-th call from now on fail; 0 makes none fail.
     pub(crate) fn fail_at(&mut self, n: u64)
         ensures { self.new ≡ failing self.old n }
     {
         self.fails_in = n;
     }
 
-    // Lets the n-th call from now on be refused memory; 0 lets none.
+    // Makes the n-th call from now on run out of memory; 0 makes none.
     pub(crate) fn refuse_memory_at(&mut self, n: u64)
         ensures { self.new ≡ refusing self.old n }
     {
         self.refuses_in = n;
     }
 
-    // Begins a call.
+    // Begins a call: counts it, and refuses it if it was chosen.
     pub(crate) fn begin(&mut self) -> Result<(), StorageError>
         ensures { Begins self.old self.new result }
     {

@@ -23,7 +23,7 @@ impl WrittenBytes {
         WrittenBytes { items }
     }
 
-    /// The bytes, in their order.
+    /// The bytes.
     pub fn as_slice(&self) -> &[u8]
         ensures { result.now ≡ self.now }
     {
@@ -36,9 +36,9 @@ impl WrittenBytes {
 pub enum Change {
     /// Bytes written at an offset.
     Write { at: u64, bytes: WrittenBytes },
-    /// So many zeros written at an offset.
+    /// Zeros written at an offset.
     Zeroes { at: u64, length: u64 },
-    /// Cut to a size in bytes, or grown to it by zeros.
+    /// A resize: cut to a size in bytes, or extended to it with zeros.
     Resize { size: u64 },
 }
 
@@ -46,7 +46,7 @@ impl Change {
     ghost use Rattle.std.specs.Prelude.{◌≡◌};
     ghost use Rattle.image_access.specs.Changes.{write_offset};
 
-    /// Where it writes, in bytes; none for a resize.
+    /// The offset of the write or zeroing in bytes; none for a resize.
     pub fn write_offset(&self) -> Option<u64>
         ensures { result ≡ write_offset self.now }
     {

@@ -2,7 +2,7 @@ ghost use Rattle.std.specs.Prelude.{◌≡◌};
 
 use crate::{Storage, StorageError, StoragePreallocate};
 
-/// A storage of some type, for a box: `Box<dyn DynStorage>` is a storage, which is to contracts what the storage in it is.
+/// A storage of any type, for a box: `Box<dyn DynStorage>` is a storage, with the same view in contracts as the storage in it.
 pub trait DynStorage: Storage {}
 
 impl<S: Storage> DynStorage for S {}

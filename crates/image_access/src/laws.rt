@@ -1,11 +1,11 @@
-//! What follows from the definitions of contents and changes. A call of one of these puts its clauses among the facts of the
+//! Laws of contents and changes. The functions do nothing. A call of one puts its clauses among the facts of the
 //! caller's proof.
 ghost use Rattle.std.specs.Prelude.{◌≡◌, ◌⊎◌, ◌+◌, ◌-◌, ◌<◌, ◌≤◌, List, ℕ, length, take, max};
 ghost use Rattle.image_access.specs.Changes.{replayed, up_to_write, write_offsets, HadSince};
 ghost use Rattle.image_access.specs.Contents.{stored_byte, bytes_at, resized, overwritten, zeroed};
 ghost use Rattle.image_access.specs.declared.change.Change.{Change};
 
-/// What a read gives: so many bytes, each that at its offset, zeros past the end.
+/// What a read returns: the bytes of its range, with zeros past the end.
 #[tactic(auto, using(crate::proofs::Bytes::reads))]
 pub fn reads_give_bytes()
     ensures count { (contents : List ℕ) (at n : ℕ) → length (bytes_at contents at n) ≡ n }
@@ -13,7 +13,7 @@ pub fn reads_give_bytes()
     ensures past { (contents : List ℕ) (offset : ℕ) → length contents ≤ offset → stored_byte contents offset ≡ 0 }
 {}
 
-/// What a write leaves: in its range the bytes that were written, elsewhere what was there, which is zero past the end.
+/// What a write leaves: the written bytes in its range, and the old ones elsewhere.
 #[tactic(auto, using(crate::proofs::Bytes::reads))]
 pub fn writes_are_read()
     ensures written { (contents bytes : List ℕ) (at : ℕ) → bytes_at (overwritten contents at bytes) at (length bytes) ≡ bytes }
@@ -30,7 +30,7 @@ pub fn zeroes_are_read()
     ensures { (contents : List ℕ) (at n offset : ℕ) → at ≤ offset → offset < at + n → stored_byte (zeroed contents at n) offset ≡ 0 }
 {}
 
-/// What a resize leaves: the size that was asked, the bytes below it, and zeros where it grew and past it.
+/// What a resize leaves: the new size, the old bytes below it, and zeros behind the old end.
 #[tactic(auto, using(crate::proofs::Bytes::reads))]
 pub fn resizes_are_read()
     ensures size { (contents : List ℕ) (size : ℕ) → length (resized contents size) ≡ size }
@@ -39,7 +39,7 @@ pub fn resizes_are_read()
     ensures past { (contents : List ℕ) (size offset : ℕ) → size ≤ offset → stored_byte (resized contents size) offset ≡ 0 }
 {}
 
-/// The changes up to the n-th write: they have the first n offsets, and leave the contents of a moment since the start.
+/// The changes up to the n-th write: they have the first n offsets, and leave contents that the storage had since the start.
 pub fn first_writes_are_moments()
     ensures offsets { (n : ℕ) (changes : List Change) → write_offsets (up_to_write n changes) ≡ take n (write_offsets changes) }
     ensures moment { (start : List ℕ) (n : ℕ) (changes : List Change)

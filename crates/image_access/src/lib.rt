@@ -1,4 +1,4 @@
-//! Storages of bytes, and what a contract sees of one: its contents, its moments and its faults.
+//! Storages of bytes and backing disks, and their views in contracts: contents, moments and faults.
 #![tactic(auto)]
 
 mod backing;

@@ -6,7 +6,7 @@ use crate::{BackingDisk, StorageError, WrappedFormat};
 use std::alloc::{AllocError, Global};
 use std::marker::Model;
 
-/// A backing disk in memory, which stands on no storage. It can be told to refuse a read.
+/// A backing disk in memory. For tests, a chosen read can be refused.
 #[derive(Drop)]
 pub struct MemBacking {
     bytes: Vec<u8>,
@@ -25,7 +25,7 @@ impl MemBacking {
     ghost use Rattle.std.specs.Prelude.{◌≡◌};
     ghost use Rattle.image_access.specs.CallCount.{uncounted, failing, refusing};
 
-    /// A disk of these bytes.
+    /// A disk with these bytes.
     pub fn new(bytes: Vec<u8>) -> Self
         ensures { result ≡ record { bytes = bytes.items; calls = uncounted } }
     {
@@ -35,22 +35,22 @@ impl MemBacking {
         }
     }
 
-    /// How many reads were made, up to the greatest `u64`.
+    /// The number of reads. The counter stops at the greatest `u64`.
     pub fn reads(&self) -> u64
         ensures { result ≡ self.now.calls.made }
     {
         self.calls.made()
     }
 
-    /// Lets the n-th read from now on fail; 0 lets none. It takes the place of what was asked before.
+    /// Makes the n-th read from now on fail; 0 makes none fail. Replaces an earlier choice.
     pub fn fail_at(&mut self, n: u64)
         ensures { self.new ≡ record self.old { calls = failing self.old.calls n } }
     {
         self.calls.fail_at(n);
     }
 
-    /// Lets the n-th read from now on answer that memory is missing; 0 lets none. It takes the place of what was asked before.
-    /// Where that read is to fail too, it fails.
+    /// Makes the n-th read from now on run out of memory; 0 makes none. Replaces an earlier choice.
+    /// A read that is also chosen to fail, fails.
     pub fn refuse_memory_at(&mut self, n: u64)
         ensures { self.new ≡ record self.old { calls = refusing self.old.calls n } }
     {

@@ -5,7 +5,7 @@ use crate::{Storage, StorageError, StoragePreallocate};
 use std::alloc::{AllocError, Global};
 use std::marker::Model;
 
-/// A storage in memory. It never fails; it is refused memory only by a write, zeroing or resize that makes it larger.
+/// A storage in memory. It never fails. A write, zeroing or resize that makes it larger may run out of memory.
 #[derive(Drop)]
 pub struct MemStorage {
     bytes: Vec<u8>,
@@ -18,14 +18,14 @@ impl Model for MemStorage {
 }
 
 impl MemStorage {
-    /// A storage that holds these bytes.
+    /// A storage with these bytes.
     pub fn new(bytes: Vec<u8>) -> Self
         ensures { result ≡ bytes.items }
     {
         MemStorage { bytes }
     }
 
-    /// All its bytes.
+    /// All bytes of the storage.
     pub fn as_slice(&self) -> &[u8]
         ensures { result.now ≡ self.now }
     {
@@ -47,7 +47,7 @@ pub(crate) fn copy_from(bytes: &[u8], at: u64, buf: &mut [u8])
     put_zeroes(buf, n, rest);
 }
 
-// Writes within a slice.
+// Overwrites bytes of a slice.
 fn put(within: &mut [u8], at: usize, bytes: &[u8])
     requires { at + length bytes.now ≤ length within.old }
     ensures { within.new ≡ overwritten within.old at bytes.now }
@@ -64,7 +64,7 @@ fn put_zeroes(within: &mut [u8], at: usize, count: usize)
     within[at..end].fill(0);
 }
 
-// Grows to hold so many bytes from an offset on.
+// Grows the contents to hold `count` bytes from `at` on.
 fn grow(bytes: &mut Vec<u8>, at: usize, count: usize) -> Result<(), AllocError>
     ensures ok { OnOk result (bytes.new.items ≡ resized bytes.old.items (max (length bytes.old.items) (at + count))) }
     ensures err { OnErr result (bytes.new.items ≡ bytes.old.items) }

@@ -4,115 +4,115 @@ ghost use Rattle.image_access.specs.Moments.{StorageView, ContentsStay, Changes,
 
 use crate::StorageError;
 
-/// Bytes that can be read, written and resized; offsets, lengths and sizes are numbers of bytes. Each write, zeroing and resize
-/// is one moment: it is there whole or not at all. A call is refused by `StorageError::Fault` only where the storage failed,
-/// which it counts, and by `StorageError::Memory` where memory is missing, and then has changed nothing. One of no bytes changes
-/// nothing at any offset.
+/// Bytes that can be read, written and resized. Offsets, lengths and sizes are in bytes. Each write, zeroing and resize takes effect whole
+/// or not at all. A call is refused with `StorageError::Fault` only if the storage failed, which it counts, and with
+/// `StorageError::Memory` if memory ran out, and then nothing changed. A call of no bytes changes
+/// nothing, at any offset.
 pub trait Storage: Drop {
-    /// What a contract sees of it.
+    /// The view of the storage in contracts.
     ghost view: { Self → StorageView };
 
-    /// This moment is one of those since an earlier one.
+    /// The present moment is one of those since any earlier one.
     ghost counts_now: { (s : Self) (t : ℕ) → (view s).is_honest → t ≤ (view s).moment → (view s).had_since t (view s).contents };
 
-    /// Since this moment there is no other.
+    /// Since the present moment, there is no other.
     ghost only_now: { (s : Self) (c : List ℕ) → (view s).had_since (view s).moment c → c ≡ (view s).contents };
 
-    /// A short name of the kind of storage.
+    /// A short name of the kind of storage, such as `mem`.
     fn name(&self) -> &str
         ensures { result.now ≡ (view self.now).name };
 
-    /// The number of bytes.
+    /// The size in bytes.
     fn size(&mut self) -> Result<u64, StorageError>
         ensures size { (view self.old).is_honest → IfOk result (λ size. size ≡ length (view self.old).contents) }
         ensures same { ContentsStay (view self.old) (view self.new) }
         ensures calls { QuietCalls (view self.old) (view self.new) result };
 
-    /// Fills the buffer with the bytes from an offset on, zeros past the end. After a refusal it may hold any bytes.
+    /// Fills the buffer with the bytes from offset `at` on, with zeros past the end. After a refusal the buffer may hold any bytes.
     fn read(&mut self, at: u64, buf: &mut [u8]) -> Result<(), StorageError>
         ensures read { (view self.old).is_honest → OnOk result (buf.new ≡ bytes_at (view self.old).contents at (length buf.old)) }
         ensures same { ContentsStay (view self.old) (view self.new) }
         ensures calls { QuietCalls (view self.old) (view self.new) result };
 
-    /// Writes bytes at an offset. Past the end it extends the contents, with zeros between.
+    /// Writes bytes at an offset. A write behind the end extends the contents, with zeros in between.
     fn write(&mut self, at: u64, bytes: &[u8]) -> Result<(), StorageError>
         ensures written { Changes (view self.old) (view self.new) result (λ b. overwritten b at bytes.now) }
         ensures calls { Calls (view self.old) (view self.new) result };
 
-    /// Writes so many zeros at an offset, as `write` does. The place that they take may be given back.
+    /// Writes zeros at an offset, like `write`. The space that they take may be released.
     fn write_zeroes(&mut self, at: u64, length: u64) -> Result<(), StorageError>
         ensures zeroed { Changes (view self.old) (view self.new) result (λ b. zeroed b at length) }
         ensures calls { Calls (view self.old) (view self.new) result };
 
-    /// The same, and the place that they take stays taken where it can.
+    /// Writes zeros at an offset, and keeps their space allocated if possible.
     fn write_allocated_zeroes(&mut self, at: u64, length: u64) -> Result<(), StorageError>
         ensures zeroed { Changes (view self.old) (view self.new) result (λ b. zeroed b at length) }
         ensures calls { Calls (view self.old) (view self.new) result };
 
-    /// Cuts the contents to a size, or grows them to it by zeros.
+    /// Cuts the contents to a size, or extends them to it with zeros.
     fn resize(&mut self, size: u64, preallocate: StoragePreallocate) -> Result<(), StorageError>
         ensures resized { Changes (view self.old) (view self.new) result (λ b. resized b size) }
         ensures calls { Calls (view self.old) (view self.new) result };
 
-    /// Hands all that was written on: of a file, to the operating system. That outlives an end of the program, and a loss of power only after `sync`.
+    /// Hands everything that was written to the operating system, if the storage is a file. It survives the end of the program; it survives a power loss only after `sync`.
     fn flush(&mut self) -> Result<(), StorageError>
         ensures same { ContentsStay (view self.old) (view self.new) }
         ensures calls { QuietCalls (view self.old) (view self.new) result };
 
-    /// Returns once what was written would outlive a loss of power.
+    /// Returns when everything that was written would survive a power loss.
     fn sync(&mut self) -> Result<(), StorageError>
         ensures same { ContentsStay (view self.old) (view self.new) }
         ensures calls { QuietCalls (view self.old) (view self.new) result };
 
-    /// Forgets what it keeps of earlier reads, so that the next reads ask anew.
+    /// Drops cached reads, so that later reads ask the file again.
     fn invalidate_cache(&mut self) -> Result<(), StorageError>
         ensures same { ContentsStay (view self.old) (view self.new) }
         ensures calls { QuietCalls (view self.old) (view self.new) result };
 
-    /// The alignment of offsets and lengths with which it works best, in bytes. Others are taken too.
+    /// The alignment of offsets and lengths with which the storage works best, in bytes. Others are accepted too.
     fn req_align(&self) -> usize
         ensures equals { result ≡ (view self.now).req_align }
         ensures positive { 0 < result };
 
-    /// The alignment of buffers with which it works best, in bytes. Others are taken too.
+    /// The alignment of buffers with which the storage works best, in bytes. Others are accepted too.
     fn mem_align(&self) -> usize
         ensures equals { result ≡ (view self.now).mem_align }
         ensures positive { 0 < result };
 }
 
-/// How a storage takes the place that a resize adds. The bytes are zero in each mode.
+/// How a storage allocates the bytes that a resize adds. They are zero in every mode.
 #[derive(Clone, Copy, Debug, PartialEq, Eq)]
 pub enum StoragePreallocate {
-    /// No place is taken.
+    /// Allocates nothing.
     None,
-    /// The added bytes are zero, by the quickest way.
+    /// The added bytes are zero, in the quickest way.
     Zero,
-    /// The place is taken, without writing to it.
+    /// Allocates space, without writing to it.
     Allocate,
-    /// Zeros are written to all of it.
+    /// Writes zeros to all of them.
     WriteData,
 }
 
-/// How an image takes the place that creating or growing it adds.
+/// How an image allocates the bytes that creating or growing it adds.
 #[derive(Clone, Copy, Debug, PartialEq, Eq)]
 pub enum PreallocateMode {
-    /// No place is taken, and nothing is said of the added bytes.
+    /// Allocates nothing, and leaves the added bytes as they are.
     None,
     /// The added bytes are zero.
     Zero,
-    /// They are zero, and the image has clusters for them.
+    /// The added bytes are zero, and the image has clusters for them.
     FormatAllocate,
-    /// The same, and the storage has taken the place of these clusters.
+    /// The same, and the storage has allocated space for these clusters.
     FullAllocate,
-    /// The same, and zeros are written to all of them.
+    /// The same, and zeros are written to all of these clusters.
     WriteData,
 }
 
 /// The format of an image.
 #[derive(Clone, Copy, Debug, PartialEq, Eq)]
 pub enum Format {
-    /// The format of this library.
+    /// The qcow2 format.
     Qcow2,
-    /// The bytes of the disk themselves.
+    /// A raw disk: the bytes of the disk themselves.
     Raw,
 }

@@ -8,7 +8,7 @@ use crate::{Storage, StorageError, StoragePreallocate};
 use std::alloc::{AllocError, Global};
 use std::marker::Model;
 
-/// A storage in memory that keeps its changes. It can be told to refuse a call.
+/// A storage in memory that records its changes. For tests, a chosen call can be refused.
 #[derive(Drop)]
 pub struct TraceStorage {
     alloc: Global,
@@ -49,7 +49,7 @@ impl TraceStorage {
     ghost use Rattle.image_access.specs.Changes.{replayed, up_to_write, write_offsets};
     ghost use Rattle.image_access.specs.TraceStorage.{contents_of, with_change};
 
-    /// A storage with these bytes and no change yet. Refused where memory is missing.
+    /// A storage with these bytes and no changes yet. Refused if memory runs out.
     pub fn new(alloc: Global, bytes: Vec<u8>) -> Result<Self, AllocError>
         ensures { IfOk result (λ t. t ≡ record { start = bytes.items; changes = []; reads = 0; calls = uncounted }) }
     {
@@ -71,14 +71,14 @@ impl TraceStorage {
         &self.bytes
     }
 
-    /// The changes, the oldest first. A call that was refused isn't among them; one of no bytes is.
+    /// The changes, the oldest first. A refused call is not among them; one of no bytes is.
     pub fn changes(&self) -> &[Change]
         ensures { result.now ≡ self.now.changes }
     {
         &self.changes
     }
 
-    /// The offsets of the writes and zeroings in their order, in bytes. Resizes aren't among them. Refused where memory is missing.
+    /// The offsets of the writes and zeroings in their order, in bytes. Resizes are not among them. Refused if memory runs out.
     pub fn writes(&self, alloc: Global) -> Result<Vec<u64>, AllocError>
         ensures { IfOk result (λ offsets. offsets.items ≡ write_offsets self.now.changes) }
     {
@@ -88,8 +88,8 @@ impl TraceStorage {
             .collect(alloc)
     }
 
-    /// The contents right after the first so many writes and zeroings, with the resizes before the last of them; after all changes where
-    /// there were fewer. Refused where memory is missing.
+    /// The contents right after the first `writes` writes and zeroings, with the resizes before the last of them; or after all changes, if there
+    /// were fewer. Refused if memory runs out.
     pub fn after(&self, alloc: Global, writes: usize) -> Result<Vec<u8>, AllocError>
         ensures { IfOk result (λ bytes. bytes.items ≡ replayed self.now.start (up_to_write writes self.now.changes)) }
     {
@@ -107,43 +107,43 @@ impl TraceStorage {
         Ok(bytes)
     }
 
-    /// How many reads were answered, up to the greatest `u64`.
+    /// The number of reads that succeeded. The counter stops at the greatest `u64`.
     pub fn reads(&self) -> u64
         ensures { result ≡ self.now.reads }
     {
         self.reads
     }
 
-    /// How many calls of the storage were made, up to the greatest `u64`: all but those for its name and alignments.
+    /// The number of calls of the storage, apart from those for its name and alignments. The counter stops at the greatest `u64`.
     pub fn calls(&self) -> u64
         ensures { result ≡ self.now.calls.made }
     {
         self.calls.made()
     }
 
-    /// How many calls failed, up to the greatest `u64`.
+    /// The number of calls that failed. The counter stops at the greatest `u64`.
     pub fn faults(&self) -> u64
         ensures { result ≡ self.now.calls.faults }
     {
         self.calls.faults()
     }
 
-    /// Lets the n-th call from now on fail, and leave nothing of itself; 0 lets none. It takes the place of what was asked before.
+    /// Makes the n-th call from now on fail without changing anything; 0 makes none fail. Replaces an earlier choice.
     pub fn fail_at(&mut self, n: u64)
         ensures { self.new ≡ record self.old { calls = failing self.old.calls n } }
     {
         self.calls.fail_at(n);
     }
 
-    /// Lets the n-th call from now on answer that memory is missing, and leave nothing of itself; 0 lets none.
-    /// It takes the place of what was asked before. Where that call is to fail too, it fails.
+    /// Makes the n-th call from now on run out of memory without changing anything; 0 makes none.
+    /// Replaces an earlier choice. A call that is also chosen to fail, fails.
     pub fn refuse_memory_at(&mut self, n: u64)
         ensures { self.new ≡ record self.old { calls = refusing self.old.calls n } }
     {
         self.calls.refuse_memory_at(n);
     }
 
-    // Makes a change and keeps it.
+    // Makes a change and records it.
     #[tactic(auto, using(crate::proofs::Replays::replayed_push))]
     fn keep(&mut self, change: Change) -> Result<(), AllocError>
         ensures ok { OnOk result (self.new ≡ with_change self.old change) }
