@@ -1,4 +1,4 @@
--- The lines of a report, by the tallies of clusters.
+-- The lines of a report, from the tallies of clusters.
 use Rattle.std.specs.Prelude.{ℕ, zero, suc, Bool, ◌==◌, ◌&&◌, ◌||◌, not, nat_lt, List, [], ◌∷◌, ◌++◌, map, if◌then◌else◌, ◌%◌, ◌^◌}
 use Rattle.std.specs.List.{filter, range_with_len}
 use Rattle.qcow2_metadata.specs.declared.header.HeaderFields.{HeaderFields}
@@ -13,25 +13,25 @@ use Rattle.qcow2_check.specs.declared.report.Kind.TheVariants.{L1, Reftable, L2,
 use Rattle.qcow2_check.specs.declared.report.Breach.{Breach}
 use Rattle.qcow2_check.specs.declared.report.Breach.TheVariants.{Snapshots, External, Unaligned, Under, Shared, Copied}
 
--- the numbers below a limit that pass a test, rising
+-- The numbers below a limit that pass a test, in rising order.
 unfoldable pub rising : ℕ → (ℕ → Bool) → List ℕ
 rising zero p = []
 rising (suc n) p = rising n p ++ (if p n then n ∷ [] else [])
 
--- a line for each cluster that passes a test of its tally, rising
+-- A line for each cluster whose tally passes a test, in rising order.
 abbrev pub lines : {L : Type 0} → ℕ → (Tally → Bool) → (ℕ → Tally → L) → (ℕ → Tally) → List L
 lines limit test line tally = map (λ c. line c (tally c)) (rising limit (λ c. test (tally c)))
 
--- the same for the n numbers from one on
+-- A line for each of the n clusters from `first` on whose tally passes a test.
 abbrev pub lines_from : {L : Type 0} → (Tally → Bool) → (ℕ → Tally → L) → (ℕ → Tally) → ℕ → ℕ → List L
 lines_from test line tally first n = map (λ c. line c (tally c)) (filter (λ c. test (tally c)) (range_with_len first n))
 
--- the same of the entries of a map
+-- A line for each entry of a map whose tally passes a test.
 abbrev pub lines_of : {L : Type 0} → (Tally → Bool) → (ℕ → Tally → L) → List (ℕ × Tally) → List L
 lines_of test line [] = []
 lines_of test line (e ∷ es) = if test e.1 then line e.0 e.1 ∷ lines_of test line es else lines_of test line es
 
--- a line for internal snapshots, and one for a data file
+-- A line for internal snapshots, and one for a data file.
 abbrev pub snapshot_lines : HeaderFields → List Breach
 snapshot_lines h = if h.snapshots == 0 then [] else Snapshots h.snapshots ∷ []
 
@@ -41,7 +41,7 @@ external_lines h = if h.incompatible == 0 then [] else External ∷ []
 abbrev pub header_lines : HeaderFields → List Breach
 header_lines h = snapshot_lines h ++ external_lines h
 
--- a line for a table that isn't on a cluster
+-- A line for a table whose offset is not aligned.
 abbrev pub table_offset_lines : HeaderFields → Kind → ℕ → List Breach
 table_offset_lines h kind place = if place % cluster_size h == 0 then [] else Unaligned kind place ∷ []
 
@@ -51,11 +51,11 @@ is_named t = not (t.named == 0)
 abbrev pub unaligned_line : Kind → ℕ → Tally → Breach
 unaligned_line kind offset t = Unaligned kind offset
 
--- a line for each offset that is named
+-- A line for each offset that is referred to.
 abbrev pub offset_lines : Kind → (ℕ → Tally) → List Breach
 offset_lines kind t = lines (2 ^ 64) is_named (unaligned_line kind) t
 
--- for these offsets of L2 tables, refblocks and data
+-- The lines for unaligned offsets of L2 tables, refblocks and data.
 abbrev pub unaligned_lines : HeaderFields → (ℕ → Tally) → (ℕ → Tally) → (ℕ → Tally) → List Breach
 unaligned_lines h l2_tables refblocks data' =
     table_offset_lines h L1 h.l1_offset ++ (table_offset_lines h Reftable h.reftable_offset
@@ -73,29 +73,29 @@ is_miscopied t = not (t.marked == 0) && not (t.named == 1 && t.count == 1)
 abbrev pub is_leaked : Tally → Bool
 is_leaked t = nat_lt t.named t.count
 
--- a cluster with such a tally has a breach
+-- A cluster with such a tally has a breach.
 abbrev pub is_breached : Tally → Bool
 is_breached t = is_under t || is_shared t || is_miscopied t
 
--- whether a list has such tallies
+-- Whether a list contains such tallies.
 abbrev pub takes : Choice → Tally → Bool
 takes (Breached counts) t = is_breached t
 takes Named t = is_named t
 
--- a cluster's tally, as a list has it
+-- The tally of a cluster, as a list shows it.
 abbrev pub shown : Choice → ℕ → Tally → Tally
 shown (Breached counts) cluster t = with_count (count_in counts.now cluster) t
 shown Named cluster t = t
 
--- the same of each entry of a map
+-- The tallies of a map's entries, as a list shows them.
 abbrev pub shown_entries : Choice → List (ℕ × Tally) → List (ℕ × Tally)
 shown_entries choice es = map (λ e. (e.0, shown choice e.0 e.1)) es
 
--- a tally in a list
+-- A tally with its cluster.
 abbrev pub numbered : ℕ → Tally → ℕ × Tally
 numbered cluster t = (cluster, t)
 
--- the entries from a number on that pass a test
+-- The entries from a cluster number on that pass a test.
 abbrev pub entries_past : ℕ → (Tally → Bool) → List (ℕ × Tally) → List (ℕ × Tally)
 entries_past first test [] = []
 entries_past first test (e ∷ es) = if nat_lt e.0 first then entries_past first test es else (if test e.1 then e ∷ entries_past first test es else entries_past first test es)

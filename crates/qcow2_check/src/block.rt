@@ -1,4 +1,4 @@
-//! The counts of one refblock.
+//! The refcounts of one refblock.
 
 ghost use Rattle.std.specs.Prelude.{ℕ, ◌≡◌, ◌*◌, ◌/◌, ◌%◌, ◌<◌, ◌≤◌, ◌^◌, ◌⊎◌, IfOk, List, [], length};
 ghost use Rattle.qcow2_metadata.specs.Bytes.{byte_at};
@@ -9,7 +9,7 @@ use crate::kept::Block;
 use qcow2_metadata::read_count;
 use std::alloc::{AllocError, Global};
 
-/// These bytes, and none where each of them is 0.
+/// The bytes, or none if all of them are 0.
 fn kept_bytes(alloc: Global, bytes: &[u8]) -> Result<Vec<u8>, AllocError>
     ensures { IfOk result (λ kept. (kept.items ≡ bytes.now)
         ⊎ ((kept.items ≡ []) × ((k : ℕ) → byte_at bytes.now k ≡ 0))) }
@@ -23,7 +23,7 @@ fn kept_bytes(alloc: Global, bytes: &[u8]) -> Result<Vec<u8>, AllocError>
 }
 
 impl Block {
-    /// The counts in the bytes of a refblock.
+    /// The refcounts in the bytes of a refblock.
     pub(crate) fn of(alloc: Global, bytes: &[u8], order: u32) -> Result<Block, AllocError>
         requires order { order ≤ 6 }
         requires whole { length bytes.now % 8 ≡ 0 }
@@ -35,14 +35,14 @@ impl Block {
         Ok(Block { bytes, order })
     }
 
-    /// How many counts are kept.
+    /// The number of refcounts that are kept.
     pub(crate) fn len(&self) -> usize
         ensures { result ≡ counts_kept self.now }
     {
         self.bytes.len() * 8 / (1 << self.order)
     }
 
-    /// Count j, which is 0 past those that are kept.
+    /// Refcount j, which is 0 past those that are kept.
     pub(crate) fn count(&self, j: usize) -> u64
         ensures { result ≡ count_of self.now j }
     {
@@ -53,7 +53,7 @@ impl Block {
         }
     }
 
-    /// The number of the first count from j on that isn't 0. Where there is none, it is past all that are kept.
+    /// The index of the first refcount from j on that isn't 0. If there is none, it lies past all that are kept.
     pub(crate) fn next_counted(&self, j: usize) -> usize
         ensures later { j ≤ result }
         ensures zeros { (i : ℕ) → j ≤ i → i < result → count_of self.now i ≡ 0 }

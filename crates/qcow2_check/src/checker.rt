@@ -24,12 +24,12 @@ use image_access::Storage;
 use qcow2_metadata::{HeaderFields, MetadataError};
 use std::alloc::{AllocError, Global};
 
-/// What is wrong with an image, and what it keeps for nothing.
+/// What a check found.
 #[derive(Drop)]
 pub struct Report {
-    /// Each breach, in the order of `Breach` and then by rising number; none where the image is consistent.
+    /// Each breach, in the order of `Breach` and then by rising number. There is none exactly if the image is consistent.
     pub breaches: Vec<Breach>,
-    /// Each cluster that is counted more often than named, by rising number.
+    /// Each cluster with a higher refcount than references, by rising number.
     pub leaks: Leaks,
 }
 
@@ -41,7 +41,7 @@ struct Findings {
     offsets: Offsets,
 }
 
-/// How often each cluster of an image is named, marked copied and counted. The more of refblocks is kept, the longer an array of names
+/// The references, copied marks and refcounts of all clusters. The more of the refblocks is kept, the longer the array of references
 /// may be from the start.
 fn tallies<S: Storage>(
     alloc: Global,
@@ -95,10 +95,10 @@ fn breached(alloc: Global, names: &Names, counts: &Counts) -> Result<Vec<(u64, T
     Ok(breached)
 }
 
-/// What is wrong with the image on a storage, by its bytes alone. That is each breach, in the order of `Breach` and then by rising
-/// number, and each cluster that is counted more often than named. There is no breach exactly where the image is consistent.
-/// Refused `Format`, 19 (metadata), for a header, L1 table or reftable that doesn't read, and `Limit`, 13 (limit), for one that is too
-/// long or ends past 64 bits. Where the work meets them: `Memory`, 14 (memory), and `Storage`, as the storage is.
+/// Checks the image on a storage, by its bytes alone. The report has each breach, in the order of `Breach` and then by rising number,
+/// and each leaked cluster: one with a higher refcount than references. There is no breach exactly if the image is consistent.
+/// Refused `Format`, 19 (metadata), for an unreadable header, L1 table or reftable, `Limit`, 13 (limit), for one that is too long
+/// or ends past 64 bits, `Memory`, 14 (memory), and `Storage`, as the storage refuses.
 pub fn check<S: Storage>(alloc: Global, storage: &mut S) -> Result<Report, MetadataError>
     ensures breaches { (S.view storage.old).is_honest → IfOk result (λ r. r.breaches.items
         ≡ breach_lines (header (byte_at (S.view storage.old).contents)) (byte_at (S.view storage.old).contents)) }

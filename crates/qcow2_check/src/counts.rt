@@ -1,4 +1,4 @@
-//! The counts of clusters, each refblock read and kept once.
+//! The refcounts of clusters. Each refblock is read and kept once.
 
 ghost use Rattle.std.specs.Prelude.{ℕ, ◌≡◌, ◌+◌, ◌*◌, ◌/◌, ◌<◌, ◌≤◌, ◌^◌, IfOk, IfErr, length, slice_index_or};
 ghost use Rattle.std.specs.Option.{option_copied};
@@ -16,7 +16,7 @@ use qcow2_metadata::{HeaderFields, MetadataError, block_offset, entry_at};
 use std::alloc::Global;
 use std::collections::BTreeMap;
 
-/// How many counts a refblock has.
+/// The number of refcounts in a refblock.
 fn counts_per_block_of(header: &HeaderFields) -> u64
     requires low { 9 ≤ header.now.cluster_bits }
     requires bits { header.now.cluster_bits ≤ 21 }
@@ -29,8 +29,8 @@ fn counts_per_block_of(header: &HeaderFields) -> u64
     size * 8 / (1 << header.refcount_order)
 }
 
-/// The number of the refblock at a place, from 1, and 0 for no place. It is read and kept unless its place has a number. The buffer is of
-/// one cluster.
+/// The number of the refblock at an offset, from 1 on, and 0 for no offset. It is read and kept unless its offset has a number already.
+/// The buffer has one cluster.
 fn number_of_block<S: Storage>(
     alloc: Global,
     blocks: &mut Vec<Block>,
@@ -64,7 +64,7 @@ fn number_of_block<S: Storage>(
 }
 
 impl Counts {
-    /// The counts under the entries of a reftable. The buffer is of one cluster.
+    /// Reads the refcounts of a reftable's entries. The buffer has one cluster.
     pub(crate) fn load<S: Storage>(
         alloc: Global,
         header: &HeaderFields,
@@ -108,7 +108,7 @@ impl Counts {
         })
     }
 
-    /// So many clusters may have their names in an array: four for each byte that is kept of the refblocks.
+    /// How many clusters may have their references in an array: four for each byte that is kept of the refblocks.
     pub(crate) fn room(&self) -> u64 {
         let mut bytes: u64 = 0;
         for block in &self.blocks {
@@ -117,7 +117,7 @@ impl Counts {
         bytes.saturating_mul(4)
     }
 
-    /// No cluster from this one on is counted.
+    /// All clusters from this one on have refcount 0.
     pub(crate) fn end(&self) -> u64
         ensures low { result ≤ 2 ^ 44 }
         ensures zeros { (q : ℕ) → result ≤ q → count_in self.now q ≡ 0 }
@@ -125,14 +125,14 @@ impl Counts {
         self.numbers.len() as u64 * self.per_block
     }
 
-    /// The number of the refblock under an entry of the reftable, 0 without one.
+    /// The number of a reftable entry's refblock, 0 without one.
     fn number(&self, entry: u64) -> usize
         ensures { result ≡ slice_index_or self.now.numbers.items entry 0 }
     {
         self.numbers.get(entry as usize).copied().unwrap_or(0)
     }
 
-    /// The refblock under an entry of the reftable, if there is one.
+    /// The refblock of a reftable entry, if there is one.
     fn block(&self, entry: u64) -> Option<&Block>
         ensures { option_copied result ≡ block_in self.now entry }
     {
@@ -142,7 +142,7 @@ impl Counts {
         }
     }
 
-    /// The count of a cluster.
+    /// The refcount of a cluster.
     pub(crate) fn count(&self, cluster: u64) -> u64
         ensures { result ≡ count_in self.now cluster }
     {
@@ -152,7 +152,7 @@ impl Counts {
         }
     }
 
-    /// The first counted cluster from this one on, and its count. Where the same refblock has none, it is the last cluster there.
+    /// The first cluster from this one on with a refcount above 0, and its refcount. If the refblock has none, it is the last cluster there.
     pub(crate) fn next_counted(&self, cluster: u64) -> (u64, u64)
         requires low { cluster < 2 ^ 44 }
         ensures later { cluster ≤ result.0 }

@@ -1,4 +1,4 @@
-//! What entries name.
+//! References by entries of tables.
 
 ghost use Rattle.std.specs.Prelude.{ℕ, ◌≡◌, ◌+◌, ◌-◌, ◌*◌, ◌/◌, ◌<◌, ◌≤◌, ◌^◌, OnOk, OnErr, length};
 ghost use Rattle.qcow2_metadata.specs.Bytes.{byte_at};
@@ -12,7 +12,7 @@ use crate::names::Names;
 use qcow2_metadata::{HeaderFields, L2Mapping, entry_at};
 use std::alloc::AllocError;
 
-/// The clusters that compressed data touch, so many times.
+/// Counts a reference, this many times, for each cluster that compressed data touch.
 fn names_of_compressed(
     names: &mut Names,
     header: &HeaderFields,
@@ -39,7 +39,7 @@ fn names_of_compressed(
     }
 }
 
-/// The clusters that an L2 entry names, so many times.
+/// Counts the references of an L2 entry, this many times.
 fn names_of_cover(
     names: &mut Names,
     header: &HeaderFields,
@@ -72,7 +72,7 @@ pub(crate) fn has_external_data(header: &HeaderFields) -> bool
     header.incompatible / 4 % 2 == 1
 }
 
-/// The clusters that the entries of an L2 table name, so many times.
+/// Counts the references of the entries of an L2 table, this many times.
 pub(crate) fn names_of_l2_table(
     names: &mut Names,
     header: &HeaderFields,

@@ -1,4 +1,4 @@
-//! What the header and the reftable name.
+//! References by the header and the reftable.
 
 ghost use Rattle.std.specs.Prelude.{ℕ, ◌≡◌, ◌+◌, ◌*◌, ◌/◌, ◌<◌, ◌≤◌, ◌^◌, OnOk, length, nat_le, nat_lt};
 ghost use Rattle.qcow2_metadata.specs.Header.{cluster_size};
@@ -10,7 +10,7 @@ use crate::names::Names;
 use qcow2_metadata::{HeaderFields, block_offset, entry_at};
 use std::alloc::AllocError;
 
-/// The clusters that the header names.
+/// Counts the references of the header.
 pub(crate) fn names_of_header(names: &mut Names, header: &HeaderFields) -> Result<(), AllocError>
     requires low { 9 ≤ header.now.cluster_bits }
     requires bits { header.now.cluster_bits ≤ 21 }
@@ -34,7 +34,7 @@ pub(crate) fn names_of_header(names: &mut Names, header: &HeaderFields) -> Resul
     Ok(())
 }
 
-/// The cluster of a table at a place, if there is one.
+/// Counts the reference to a table at an offset, if there is one.
 fn names_of_table(names: &mut Names, header: &HeaderFields, place: u64) -> Result<(), AllocError>
     requires bits { header.now.cluster_bits ≤ 21 }
     requires room { names.old.total < 2 ^ 58 }
@@ -48,7 +48,7 @@ fn names_of_table(names: &mut Names, header: &HeaderFields, place: u64) -> Resul
     names.add(place / (1 << header.cluster_bits), true, false)
 }
 
-/// The clusters that the reftable names.
+/// Counts the references of the reftable.
 pub(crate) fn names_of_reftable(
     names: &mut Names,
     header: &HeaderFields,

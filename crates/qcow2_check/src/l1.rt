@@ -1,4 +1,4 @@
-//! What the L1 table and its L2 tables name.
+//! References by the L1 table and its L2 tables.
 
 ghost use Rattle.std.specs.Prelude.{ℕ, ◌≡◌, ◌+◌, ◌*◌, ◌/◌, ◌<◌, ◌≤◌, ◌^◌, OnOk, IfOk, IfErr, length, sum_by, IsSorted};
 ghost use Rattle.std.specs.Ordering.{nat_cmp};
@@ -18,7 +18,7 @@ use image_access::Storage;
 use qcow2_metadata::{HeaderFields, MetadataError, entry_at, host_offset, is_copied};
 use std::alloc::{AllocError, Global};
 
-/// The cluster of the L2 table that an L1 entry names, and the entry's mark.
+/// Counts the reference to an L1 entry's L2 table, and its copied mark.
 fn names_of_l1_entry(names: &mut Names, header: &HeaderFields, entry: u64) -> Result<(), AllocError>
     requires bits { header.now.cluster_bits ≤ 21 }
     requires room { names.old.total < 2 ^ 61 }
@@ -33,7 +33,7 @@ fn names_of_l1_entry(names: &mut Names, header: &HeaderFields, entry: u64) -> Re
     names.add(place / (1 << header.cluster_bits), true, is_copied(entry))
 }
 
-/// The clusters of the L2 tables that the L1 table names, and its marks.
+/// Counts the references of the L1 table, and its copied marks.
 fn names_of_l1_entries(
     names: &mut Names,
     header: &HeaderFields,
@@ -53,7 +53,7 @@ fn names_of_l1_entries(
     Ok(())
 }
 
-/// The places of the L2 tables, rising, each as often as an L1 entry names it, and 0 for each entry without one.
+/// The offsets of the L2 tables in rising order, each as often as L1 entries refer to it, and 0 for each empty entry.
 fn table_places(alloc: Global, l1: &[u8]) -> Result<Vec<u64>, AllocError>
     ensures long { IfOk result (λ places. length places.items ≡ length l1.now / 8) }
     ensures rising { IfOk result (λ places. IsSorted nat_cmp places.items) }
@@ -69,7 +69,7 @@ fn table_places(alloc: Global, l1: &[u8]) -> Result<Vec<u64>, AllocError>
     Ok(places)
 }
 
-/// The clusters that the L1 table and the L2 tables name. The buffer is of one cluster.
+/// Counts the references of the L1 table and the L2 tables. The buffer has one cluster.
 pub(crate) fn names_of_l1_table<S: Storage>(
     alloc: Global,
     names: &mut Names,

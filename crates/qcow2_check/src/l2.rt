@@ -1,4 +1,4 @@
-//! What the L2 tables name, each of them read once.
+//! References by the L2 tables, each of which is read once.
 
 ghost use Rattle.std.specs.Prelude.{ℕ, ◌≡◌, ◌+◌, ◌*◌, ◌/◌, ◌<◌, ◌≤◌, ◌^◌, OnOk, IfErr, length};
 ghost use Rattle.qcow2_metadata.specs.Bytes.{byte_at};
@@ -17,7 +17,7 @@ use crate::source::read_at;
 use image_access::Storage;
 use qcow2_metadata::{HeaderFields, MetadataError};
 
-/// What the L2 table at a place names, so many times; nothing for 0. The buffer is of one cluster.
+/// Counts the references of the L2 table at an offset, this many times; none for 0. The buffer has one cluster.
 fn names_of_table_at<S: Storage>(
     names: &mut Names,
     offsets: &mut Names,
@@ -50,8 +50,8 @@ fn names_of_table_at<S: Storage>(
     Ok(())
 }
 
-/// What the L2 tables at these places name, each as often as its place is there. A table is read once for all its places that stand
-/// one after the other. The buffer is of one cluster.
+/// Counts the references of the L2 tables at these offsets, each as often as its offset is listed. A table is read once for equal
+/// offsets that follow each other. The buffer has one cluster.
 pub(crate) fn names_of_l2_tables<S: Storage>(
     names: &mut Names,
     offsets: &mut Names,

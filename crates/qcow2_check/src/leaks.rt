@@ -11,8 +11,8 @@ use crate::report::Leak;
 use crate::tally_map::TallyMap;
 use std::marker::Model;
 
-/// The clusters that are counted more often than named, by rising number. Each is found as it is asked for, from the names and the
-/// counts of all clusters, so a refblock that the reftable names many times takes no memory for its leaks.
+/// The clusters with a higher refcount than references, by rising number. Each is found when it is asked for, from the references and the
+/// refcounts of all clusters. So a refblock that the reftable refers to many times takes no memory for its leaks.
 #[derive(Drop)]
 pub struct Leaks {
     names: TallyMap,
@@ -48,7 +48,7 @@ impl<'a> Model for LeakIter<'a> {
     ghost view = { λ iter. leaks_from iter.names.now iter.counts.now iter.from };
 }
 
-/// The leak of a cluster with this count, where it is leaked.
+/// The leak of a cluster with this refcount, if it is leaked.
 fn leak_of(names: &TallyMap, cluster: u64, count: u64) -> Option<Leak>
     ensures { result ≡ leak_of_count names.now cluster count }
 {
@@ -90,7 +90,7 @@ impl Leaks {
         }
     }
 
-    /// Each leak, by rising number of its cluster.
+    /// The leaks, by rising number of their clusters.
     pub fn iter(&self) -> LeakIter<'_>
         ensures all { result ≡ self.now }
         ensures few { length self.now ≤ 2 ^ 44 }
@@ -102,7 +102,7 @@ impl Leaks {
         }
     }
 
-    /// How many clusters are leaked. They are counted anew with each call.
+    /// The number of leaked clusters. They are counted with each call.
     pub fn len(&self) -> usize
         ensures { result ≡ length self.now }
     {

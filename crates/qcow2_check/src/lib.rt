@@ -1,4 +1,4 @@
-//! The report of an image: whether it is consistent, each breach, and each cluster that is counted more often than it is named.
+//! Checks an image: whether it is consistent, each breach, and each leaked cluster.
 #![tactic(auto)]
 
 mod block;

@@ -15,7 +15,7 @@ use crate::told::Choice;
 use qcow2_metadata::HeaderFields;
 use std::alloc::{AllocError, Global};
 
-/// A line for each cluster that is named more often than counted.
+/// Adds a line for each cluster with more references than its refcount.
 fn push_under(breaches: &mut Vec<Breach>, told: &[(u64, Tally)]) -> Result<(), AllocError>
     ensures lines { OnOk result (breaches.new.items ≡ breaches.old.items ++ lines_of is_under under_line told.now) }
 {
@@ -31,7 +31,7 @@ fn push_under(breaches: &mut Vec<Breach>, told: &[(u64, Tally)]) -> Result<(), A
     Ok(())
 }
 
-/// A line for each cluster of a table that is named more than once.
+/// Adds a line for each cluster of a table with more than one reference.
 fn push_shared(breaches: &mut Vec<Breach>, told: &[(u64, Tally)]) -> Result<(), AllocError>
     ensures lines { OnOk result (breaches.new.items ≡ breaches.old.items ++ lines_of is_shared shared_line told.now) }
 {
@@ -46,7 +46,7 @@ fn push_shared(breaches: &mut Vec<Breach>, told: &[(u64, Tally)]) -> Result<(), 
     Ok(())
 }
 
-/// A line for each cluster marked copied that is not named once and counted once.
+/// Adds a line for each cluster that is marked copied without having one reference and refcount 1.
 fn push_copied(breaches: &mut Vec<Breach>, told: &[(u64, Tally)]) -> Result<(), AllocError>
     ensures lines { OnOk result (breaches.new.items
         ≡ breaches.old.items ++ lines_of is_miscopied copied_line told.now) }
@@ -63,7 +63,7 @@ fn push_copied(breaches: &mut Vec<Breach>, told: &[(u64, Tally)]) -> Result<(), 
     Ok(())
 }
 
-/// A line for the header's snapshots, and one for its data file.
+/// Adds a line for the header's snapshots, and one for its data file.
 pub(crate) fn add_header_lines(
     breaches: &mut Vec<Breach>,
     header: &HeaderFields,
@@ -80,7 +80,7 @@ pub(crate) fn add_header_lines(
     Ok(())
 }
 
-/// A line for a table that isn't on a cluster.
+/// Adds a line for a table whose offset is not aligned.
 fn add_table_offset(
     breaches: &mut Vec<Breach>,
     header: &HeaderFields,
@@ -96,7 +96,7 @@ fn add_table_offset(
     Ok(())
 }
 
-/// A line for each of these offsets.
+/// Adds a line for each of these offsets.
 fn push_offsets(
     breaches: &mut Vec<Breach>,
     kind: Kind,
@@ -130,7 +130,7 @@ fn add_offset_lines(
     Ok(())
 }
 
-/// The lines on offsets that aren't on a cluster.
+/// Adds the lines about unaligned offsets.
 pub(crate) fn add_unaligned(
     alloc: Global,
     breaches: &mut Vec<Breach>,
@@ -150,7 +150,7 @@ pub(crate) fn add_unaligned(
     Ok(())
 }
 
-/// The lines on the counts of clusters.
+/// Adds the lines about refcounts.
 pub(crate) fn add_breaches(
     breaches: &mut Vec<Breach>,
     told: &[(u64, Tally)],

@@ -1,4 +1,4 @@
-//! The clusters that an image names.
+//! References to the clusters of an image.
 
 ghost use Rattle.std.specs.Prelude.{ℕ, ◌≡◌, ◌+◌, ◌-◌, ◌*◌, ◌<◌, ◌≤◌, ◌^◌, ◌&&◌, nat_le, nat_lt, OnOk, OnErr};
 ghost use Rattle.qcow2_metadata.specs.Bytes.{one_if};
@@ -8,7 +8,7 @@ use crate::tally::Tally;
 use crate::tally_map::TallyMap;
 use std::alloc::{AllocError, Global};
 
-/// How often each cluster is named.
+/// How many references each cluster has.
 #[derive(Drop)]
 pub(crate) struct Names {
     pub(crate) clusters: TallyMap,
@@ -17,7 +17,7 @@ pub(crate) struct Names {
     ghost near: { TalliesWithin64Bits clusters },
 }
 
-/// So many, or none.
+/// This number if the test passes, otherwise 0.
 fn times_if(times: u64, is: bool) -> u64
     ensures { result ≡ times * one_if is }
 {
@@ -25,7 +25,7 @@ fn times_if(times: u64, is: bool) -> u64
 }
 
 impl Names {
-    /// No names. An array may have the tallies of so many more clusters from the start.
+    /// No references. An array may have the tallies of `more` clusters from the start.
     pub(crate) fn new(alloc: Global, more: u64) -> Self
         ensures none { (q : ℕ) → tally_in result.clusters q ≡ no_tally }
         ensures total { result.total ≡ 0 }
@@ -36,7 +36,7 @@ impl Names {
         }
     }
 
-    /// One more name of a cluster.
+    /// Adds a reference to a cluster.
     pub(crate) fn add(
         &mut self,
         cluster: u64,
@@ -50,7 +50,7 @@ impl Names {
         self.add_times(cluster, 1, for_table, marked)
     }
 
-    /// So many more names of a cluster.
+    /// Adds this many references to a cluster.
     pub(crate) fn add_times(
         &mut self,
         cluster: u64,
@@ -75,7 +75,7 @@ impl Names {
         Ok(())
     }
 
-    /// So many more names of each cluster from the first to the last.
+    /// Adds this many references to each cluster from the first to the last.
     pub(crate) fn add_range(&mut self, first: u64, last: u64, times: u64) -> Result<(), AllocError>
         requires some { first ≤ last }
         requires narrow { last < first + 2 ^ 15 }
@@ -92,7 +92,7 @@ impl Names {
         Ok(())
     }
 
-    /// One more name, for a table, of each of n clusters from a first one on.
+    /// Adds a reference, as a table's, to each of n clusters from a first one on.
     pub(crate) fn add_tables(&mut self, first: u64, n: u64) -> Result<(), AllocError>
         requires few { n ≤ 2 ^ 32 }
         requires end { first < 2 ^ 62 }

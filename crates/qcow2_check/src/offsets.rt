@@ -1,4 +1,4 @@
-//! Offsets that aren't on a cluster.
+//! Unaligned offsets.
 
 ghost use Rattle.std.specs.Prelude.{ℕ, ◌≡◌, ◌+◌, ◌*◌, ◌/◌, ◌<◌, ◌≤◌, ◌^◌, OnOk, length};
 ghost use Rattle.qcow2_metadata.specs.Bytes.{byte_at};
@@ -12,7 +12,7 @@ use crate::names::Names;
 use qcow2_metadata::{HeaderFields, L2Mapping, block_offset, entry_at, host_offset};
 use std::alloc::{AllocError, Global};
 
-/// The offsets that aren't on a cluster, by what stands there.
+/// Unaligned offsets, by what lies there.
 #[derive(Drop)]
 pub(crate) struct Offsets {
     pub(crate) l2_tables: Names,
@@ -20,7 +20,7 @@ pub(crate) struct Offsets {
     pub(crate) data: Names,
 }
 
-/// An offset so many times, where it isn't on a cluster.
+/// Counts an offset this many times, if it is not aligned.
 fn add_offset(
     offsets: &mut Names,
     header: &HeaderFields,
@@ -40,7 +40,7 @@ fn add_offset(
     offsets.add_times(place, times, false, false)
 }
 
-/// The offsets of refblocks.
+/// Counts the unaligned offsets of refblocks.
 pub(crate) fn offsets_of_reftable(
     offsets: &mut Names,
     header: &HeaderFields,
@@ -59,7 +59,7 @@ pub(crate) fn offsets_of_reftable(
     Ok(())
 }
 
-/// The offsets of L2 tables.
+/// Counts the unaligned offsets of L2 tables.
 pub(crate) fn offsets_of_l1_table(
     offsets: &mut Names,
     header: &HeaderFields,
@@ -78,7 +78,7 @@ pub(crate) fn offsets_of_l1_table(
     Ok(())
 }
 
-/// The offset of data, or one that a zero entry keeps, so many times.
+/// Counts an unaligned offset of data, or of a host cluster that a zero entry keeps, this many times.
 fn offset_of_cover(
     offsets: &mut Names,
     header: &HeaderFields,
@@ -98,7 +98,7 @@ fn offset_of_cover(
     }
 }
 
-/// The offsets that the entries of an L2 table name, so many times.
+/// Counts the unaligned offsets in the entries of an L2 table, this many times.
 pub(crate) fn offsets_of_l2_table(
     offsets: &mut Names,
     header: &HeaderFields,

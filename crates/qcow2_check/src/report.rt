@@ -1,6 +1,6 @@
-//! What a report says.
+//! The breaches and leaks of a report.
 
-/// What stands at an offset.
+/// What lies at an offset.
 #[derive(Clone, Copy, Debug, PartialEq, Eq)]
 pub enum Kind {
     /// The L1 table.
@@ -11,36 +11,36 @@ pub enum Kind {
     L2,
     /// A refblock.
     Refblock,
-    /// The guest's data.
+    /// Guest data.
     Data,
 }
 
-/// A breach of consistency. Clusters are told by their numbers in the file, from 0.
+/// A breach of consistency. Clusters are given by their numbers in the file, from 0.
 #[derive(Clone, Copy, Debug, PartialEq, Eq)]
 pub enum Breach {
-    /// The image has so many internal snapshots.
+    /// The image has this many internal snapshots.
     Snapshots {
         count: u32,
     },
-    /// The data stand in another file.
+    /// The data are in an external file.
     External,
-    /// An offset, in bytes, isn't a multiple of the cluster size.
+    /// An offset, in bytes, is not a multiple of the cluster size.
     Unaligned {
         kind: Kind,
         offset: u64,
     },
-    /// A cluster is named more often than it is counted.
+    /// A cluster has more references than its refcount.
     Under {
         cluster: u64,
         count: u64,
         named: u64,
     },
-    /// A cluster of a table is named more than once.
+    /// A cluster of a table has more than one reference.
     Shared {
         cluster: u64,
         named: u64,
     },
-    /// A cluster is marked copied, and isn't named once and counted once.
+    /// A cluster is marked copied, and does not have one reference and refcount 1.
     Copied {
         cluster: u64,
         count: u64,
@@ -48,13 +48,13 @@ pub enum Breach {
     },
 }
 
-/// A cluster that is counted more often than it is named.
+/// A leaked cluster: one with a higher refcount than references.
 #[derive(Clone, Copy, Debug, PartialEq, Eq)]
 pub struct Leak {
-    /// Its number in the file, from 0.
+    /// The number of the cluster in the file, from 0.
     pub cluster: u64,
-    /// Its count: how often it is counted.
+    /// Its refcount.
     pub count: u64,
-    /// How often it is named.
+    /// The number of its references.
     pub named: u64,
 }

@@ -1,4 +1,4 @@
-//! The tallies of clusters, in little memory.
+//! The tallies of all clusters, in little memory.
 
 ghost use Rattle.std.specs.Prelude.{ℕ, ◌≡◌, ◌≢◌, OnOk, OnErr, IfSome, false};
 ghost use Rattle.qcow2_check.specs.Tallies.{tally_in, no_tally, small_in, large_in, widened, is_blank};
@@ -7,13 +7,13 @@ use crate::tally::Tally;
 use std::alloc::{AllocError, Global};
 use std::collections::BTreeMap;
 
-/// So many tallies the array may have from the start.
+/// The number of tallies that the array may have from the start.
 const FIRST_ROOM: u64 = 4096;
 
-/// So many more it may have after each change.
+/// How many more tallies the array may have after each change.
 const MORE_ROOM: u64 = 3;
 
-/// A tally of numbers below 256 without a count, in three bytes.
+/// A tally of numbers below 256 without a refcount, in three bytes.
 #[derive(Clone, Copy)]
 pub(crate) struct SmallTally {
     pub(crate) named: u8,
@@ -29,7 +29,7 @@ impl SmallTally {
         marked: 0,
     };
 
-    /// The tally in three bytes, unless it is of a cluster that isn't named, has a count, or is of greater numbers.
+    /// The tally in three bytes; none if the cluster has no references, a refcount, or greater numbers.
     fn of(tally: &Tally) -> Option<SmallTally>
         ensures value { IfSome result (λ s. widened s ≡ tally.now) }
         ensures some { IfSome result (λ s. is_blank s ≡ false) }
@@ -63,17 +63,17 @@ impl SmallTally {
     }
 }
 
-/// The tally of each cluster. Small ones of low clusters stand in an array, of three bytes for each cluster, and all others in a map.
+/// The tally of each cluster. Small tallies of low clusters are in an array of three bytes for each cluster, all others in a map.
 #[derive(Drop)]
 pub(crate) struct TallyMap {
     pub(crate) small: Vec<SmallTally>,
     pub(crate) large: BTreeMap<u64, Tally>,
-    /// So many tallies the array may have. It grows with the changes, so that one high cluster takes no long array.
+    /// The number of tallies that the array may have. It grows with the changes, so that one high cluster takes no long array.
     pub(crate) room: u64,
 }
 
 impl TallyMap {
-    /// No tallies. The array may have so many more from the start.
+    /// No tallies. The array may have `more` of them from the start.
     pub(crate) fn new(alloc: Global, more: u64) -> Self
         ensures { (q : ℕ) → tally_in result q ≡ no_tally }
     {
@@ -111,7 +111,7 @@ impl TallyMap {
         }
     }
 
-    /// Room for a cluster in the array, where it may have so much.
+    /// Makes room for a cluster in the array, if the array may be that long.
     fn make_room(&mut self, cluster: u64) -> Result<(), AllocError>
         ensures { (q : ℕ) → tally_in self.new q ≡ tally_in self.old q }
     {

@@ -12,12 +12,12 @@ use crate::tally::Tally;
 use crate::tally_map::TallyMap;
 use std::alloc::{AllocError, Global};
 
-/// Which tallies a list has.
+/// Which tallies a list contains.
 #[derive(Clone, Copy)]
 pub(crate) enum Choice<'a> {
-    /// Those of clusters with a breach, by their counts.
+    /// Those of clusters with a breach, by their refcounts.
     Breached(&'a Counts),
-    /// Those that are named.
+    /// Those with references.
     Named,
 }
 
@@ -31,7 +31,7 @@ fn is_breached(tally: &Tally) -> bool
     is_under || is_shared || is_miscopied
 }
 
-/// The tally of a cluster, with its count where it has a name or a mark.
+/// The tally of a cluster, with its refcount if it has a reference or a copied mark.
 fn with_count(counts: &Counts, cluster: u64, tally: &Tally) -> Tally
     ensures { result ≡ with_count (count_in counts.now cluster) tally.now }
 {
@@ -47,7 +47,7 @@ fn with_count(counts: &Counts, cluster: u64, tally: &Tally) -> Tally
 }
 
 impl Choice<'_> {
-    /// The tally of a cluster, as the list has it.
+    /// The tally of a cluster, as the list shows it.
     fn shown(self, cluster: u64, tally: &Tally) -> Tally
         ensures { result ≡ shown self.entry cluster tally.now }
     {
