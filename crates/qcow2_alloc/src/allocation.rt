@@ -1,4 +1,4 @@
-//! Taking clusters of the image's file.
+//! Allocating clusters of the image's file.
 ghost use Rattle.std.specs.Prelude.{◌≡◌, false, ◌+◌, ◌-◌, ◌^◌, ◌<◌, ◌≤◌, Bool, IfOk, OnOk, OnErr, IsSome, IsTrue, MatchResult};
 ghost use Rattle.qcow2_laws.specs.Clusters.{L2DependsOnRb};
 ghost use Rattle.qcow2_laws.specs.CrashInvariant.{Pending};
@@ -22,7 +22,7 @@ use image_access::Storage;
 use number_runs::NumberRuns;
 use qcow2_metadata::{ClusterCount, HostCluster, MAX_HOST_OFFSET, MAX_REFTABLE_ENTRIES, RefTable};
 
-/// Takes clusters, and frees those that are to be freed. No cluster below the first free one has count 0.
+/// Allocates clusters, and frees those on the list of clusters to free. No cluster below the first free one is free.
 #[derive(Drop)]
 pub struct Allocator {
     pub(crate) reftable: RefTable,
@@ -33,8 +33,8 @@ pub struct Allocator {
 
 #[tactic(auto, using(crate::proofs::TableErrors::storage_of_tables, crate::proofs::TableErrors::metadata_of_tables, crate::proofs::TableErrors::cache_of_tables))]
 impl Allocator {
-    /// Loads the reftable. Refused 4 (unaligned table) where it isn't on a cluster, 13 (limit) where it would end past 64 bits,
-    /// 19 (metadata) where an entry doesn't read. Where the work meets them: 14 (memory), 15 (storage).
+    /// Loads the reftable. Refused 4 (unaligned table) if its offset is not aligned, 13 (limit) if it would end past 64 bits,
+    /// 19 (metadata) if an entry has a reserved bit, and 14 (memory) and 15 (storage) if the work meets them.
     pub fn new<S: Storage>(file: &mut ImageFile<S>) -> Result<Allocator, ImageError>
         ensures step { ReadsFile S.view file.old file.new }
         ensures fails { Fails S.view file.old.storage file.new.storage result IsOfTables }
@@ -60,8 +60,8 @@ impl Allocator {
         })
     }
 
-    /// Loads the reftable anew, and begins the search for free clusters anew. What couldn't be freed stays counted. Refused as `new` is,
-    /// and then all of it stays.
+    /// Loads the reftable again, and starts the search for free clusters at cluster 0 again. The count of leaked clusters stays the same. Refused
+    /// as `new` is, and then the allocator stays the same.
     pub fn load_anew<S: Storage>(&mut self, file: &mut ImageFile<S>) -> Result<(), ImageError>
         ensures step { ReadsFile S.view file.old file.new }
         ensures unnoted { SameNotes file.old.storage file.new.storage }
@@ -79,24 +79,24 @@ impl Allocator {
         Ok(())
     }
 
-    /// How many clusters couldn't be freed, up to the greatest `u64`.
+    /// How many clusters could not be freed. The counter stops at the greatest `u64`.
     pub fn leaked_clusters(&self) -> u64
         ensures { result ≡ self.now.leaked_clusters }
     {
         self.leaked_clusters
     }
 
-    /// No cluster below this one has count 0.
+    /// No cluster below this one is free.
     pub fn first_free_cluster(&self) -> HostCluster
         ensures { result ≡ self.now.first_free_cluster }
     {
         HostCluster::new(self.first_free_cluster)
     }
 
-    /// Takes the lowest run of so many free clusters for metadata; the count is to be 1 at least.
-    /// Refused 13 (limit) where there is no such run up to the greatest host offset, for no clusters, or where a refblock or a longer
-    /// reftable has no place. Refused 4 (unaligned table) where a refblock that is needed isn't on a cluster. Refused
-    /// 8 (everything is in use) by a cache without room for a refblock. Where the work meets them: 14 (memory), 15 (storage).
+    /// Allocates the lowest free run of `count` clusters for metadata. The count must be at least 1.
+    /// Refused 13 (limit) if there is no such run up to the greatest host offset, for no clusters, or if there is no room for a refblock or a
+    /// longer reftable that is needed. Refused 4 (unaligned table) if the entry of a needed refblock is not aligned. Refused
+    /// 8 (everything is in use) by a cache without room for a refblock, and 14 (memory) and 15 (storage) if the work meets them.
     pub fn allocate_meta<S: Storage>(
         &mut self,
         file: &mut ImageFile<S>,
@@ -113,7 +113,7 @@ impl Allocator {
         self.allocate(file, count, ClusterKind::Metadata)
     }
 
-    /// Takes the lowest run of so many free clusters for data; the count is to be 1 at least. From here on refblocks are written before
+    /// Allocates the lowest free run of `count` clusters for data. The count must be at least 1. From then on refblocks are written before
     /// L2 tables. Refused as `allocate_meta` is.
     pub fn allocate_data<S: Storage>(
         &mut self,
@@ -133,9 +133,9 @@ impl Allocator {
         self.allocate(file, count, ClusterKind::Data)
     }
 
-    /// Takes just the cluster that is asked for, for data: None where it is cluster 0, is in use, or passes a limit: the greatest offset
-    /// of a host cluster, or the last entry that a reftable may have. From here on refblocks are written before L2 tables. Refused as
-    /// `allocate_meta` is, 13 (limit) where a refblock or a longer reftable has no place.
+    /// Allocates exactly this cluster for data. None if it is cluster 0, is in use, or passes a limit: the greatest offset of a host
+    /// cluster, or the last entry that a reftable may have. From then on refblocks are written before L2 tables. Refused as
+    /// `allocate_meta` is, with 13 (limit) if there is no room for a refblock or a longer reftable.
     pub fn allocate_data_at<S: Storage>(
         &mut self,
         file: &mut ImageFile<S>,
@@ -179,7 +179,7 @@ impl Allocator {
         }
     }
 
-    // The place in a list is made before anything changes.
+    // Allocates a run of clusters. Memory for its entry in a list is allocated before anything changes.
     fn allocate<S: Storage>(
         &mut self,
         file: &mut ImageFile<S>,
@@ -215,7 +215,7 @@ impl Allocator {
         }
     }
 
-    // Takes the lowest run of n clusters that fits below the greatest offset. Cluster 0 is the header's, whatever its count is.
+    // Allocates the lowest free run of n clusters below the greatest offset. Cluster 0 is the header's, whatever its refcount is.
     fn lowest_run<S: Storage>(&mut self, file: &mut ImageFile<S>, n: u64) -> Result<u64, ImageError>
         ensures step { FileStep S.view self.old.reftable file.old self.new.reftable file.new }
         ensures noted { OnOk result (IsTrue file.new.caches.is_changed) }
@@ -242,7 +242,7 @@ impl Allocator {
         Err(ImageError::Limit)
     }
 
-    // Takes n clusters from first on: n, or how many lay before one that is in use; those are given back.
+    // Allocates the n clusters from `first` on. Returns n, or how many lie before one that is in use; those are freed again.
     fn take_run<S: Storage>(
         &mut self,
         file: &mut ImageFile<S>,
@@ -277,7 +277,7 @@ impl Allocator {
         Ok(n)
     }
 
-    // Takes a cluster where its count is 0, making the refblock that it needs, and a longer reftable where that needs one.
+    // Allocates a cluster if its refcount is 0. Makes the refblock that this needs, and a longer reftable if that needs one.
     fn take<S: Storage>(
         &mut self,
         file: &mut ImageFile<S>,

@@ -27,7 +27,7 @@ pub use slot::Slot;
 use std::alloc::{AllocError, Global};
 use std::marker::Model;
 
-/// A cache of at most `size` values, in the order of their use. A pinned value stays, and is found in its place.
+/// A cache of at most `size` values, in the order of their use. A pinned value stays in the cache, and can be found.
 #[derive(Drop)]
 pub struct AsyncLruCache<B: AsyncLruCacheBackend> {
     backend: B,
@@ -47,7 +47,7 @@ impl<B: AsyncLruCacheBackend> Model for AsyncLruCache<B> {
 }
 
 impl<B: AsyncLruCacheBackend> AsyncLruCache<B> {
-    /// An empty cache of at most `size` entries. Refused where memory is missing.
+    /// An empty cache of at most `size` entries. Refused if memory runs out.
     pub fn new(alloc: Global, backend: B, size: usize) -> Result<Self, AllocError>
     where
         B: Drop,
@@ -61,7 +61,7 @@ impl<B: AsyncLruCacheBackend> AsyncLruCache<B> {
         })
     }
 
-    /// How many entries it holds.
+    /// The number of entries.
     pub fn len(&self) -> usize
         ensures len { result ≡ length self.now.entries }
         ensures fits { length self.now.entries ≤ self.now.size }
@@ -70,10 +70,10 @@ impl<B: AsyncLruCacheBackend> AsyncLruCache<B> {
         self.entries.len()
     }
 
-    /// Brings the value under a key to the front; where it isn't there, it is loaded first: true. False where the cache is full and
-    /// nothing may be flushed. Where it may, the least recently used entry with no pin is flushed and then removed.
-    /// Refused `InUse` where that is needed and no entry is without a pin, `Backend` where a flush or the load fails, and `Memory`. A
-    /// flush that fails leaves the entries as they were; what fails behind it leaves them without the removed one.
+    /// Brings the value under a key to the front, and loads it before if it isn't in the cache: true. False if the cache is full and
+    /// nothing may be flushed. If flushing is allowed, the least recently used entry without a pin is flushed and then removed.
+    /// Refused `InUse` if that is needed and every entry is pinned, `Backend` if a flush or the load fails, and `Memory`. After a
+    /// failed flush the entries are the same; after a later failure the removed one is missing.
     pub fn get_or_insert(
         &mut self,
         store: &mut B::Store,
@@ -89,13 +89,13 @@ impl<B: AsyncLruCacheBackend> AsyncLruCache<B> {
         ensures kept { KeepsOthers B.Key.eq key self.old self.new }
         ensures keeps { B.keeps store.old store.new }
 
-        // What is got is in front. Only the least recently used entry with no pin goes, after its flush succeeded.
+        // The value is at the front. Only the least recently used entry without a pin is removed, after its flush succeeded.
         ensures front { result ≡ Ok true → IsInFront (B.Key.eq key) self.new.entries }
         ensures eviction { OnlyOldestGoes B.Key.eq
             (λ e. (w : B.Value) × (t : B.Store)
             × (B.steps self.old.backend).flushed store.old e.0 e.1.value w t) self.old.entries self.new.entries }
 
-        // The bytes of the store, with the modified values laid over, stay.
+        // The bytes of the store, with the modified values laid over, stay the same.
         ensures known { KeepsKnown B.Key.eq B.is_modified B.bytes
             (B.stored self.old.backend) B.is_honest store.old self.old.entries store.new self.new.entries }
     {
@@ -113,9 +113,9 @@ impl<B: AsyncLruCacheBackend> AsyncLruCache<B> {
         )
     }
 
-    /// Puts a value in front: true. Under a key that isn't there it is put as if it were loaded. Else it takes the place of the value
-    /// that is there, which is flushed first. It is taken only then. False where nothing may be flushed and it had to be, and where there
-    /// is no value. Refused `InUse`, `Memory` as `get_or_insert` is, and `Backend` where a flush fails; the value stays with the caller
+    /// Puts a value at the front: true. For a new key the value is inserted as if it were loaded. Otherwise it replaces the value
+    /// under the key, which is flushed first. It is taken out of `value` only then. False if a flush is needed and not allowed, and if there
+    /// is no value. Refused `InUse` and `Memory` as `get_or_insert` is, and `Backend` if a flush fails. The caller keeps the value
     /// then.
     pub fn insert(
         &mut self,
@@ -137,7 +137,7 @@ impl<B: AsyncLruCacheBackend> AsyncLruCache<B> {
         ensures kept { KeepsOthers B.Key.eq key self.old self.new }
         ensures keeps { B.keeps store.old store.new }
 
-        // The value is laid over the known bytes where it is taken, and else they stay.
+        // The value is laid over the known bytes if it was taken. Otherwise they stay the same.
         ensures laid { IfSome value.old
             (λ v. result ≡ Ok true → LaysOver B.Key.eq B.is_modified B.bytes
             (B.stored self.old.backend) B.is_honest key v store.old self.old.entries store.new self.new.entries) }
@@ -170,7 +170,7 @@ impl<B: AsyncLruCacheBackend> AsyncLruCache<B> {
         )
     }
 
-    /// The value under a key. The order stays.
+    /// The value under a key. The order stays the same.
     pub fn peek(&self, key: B::Key) -> Option<&B::Value>
         ensures { option_copied result ≡ value_at (B.Key.eq key) self.now.entries }
     {
@@ -178,7 +178,7 @@ impl<B: AsyncLruCacheBackend> AsyncLruCache<B> {
         Some(&slot.value)
     }
 
-    /// Pins the entry under a key once more. False where there is none, or no count for it.
+    /// Adds a pin to the entry under a key. False if there is no entry, or its number of pins is the greatest one.
     pub fn pin(&mut self, key: B::Key) -> bool
         ensures value { result ≡ can_pin (B.Key.eq key) self.old.entries }
         ensures entries { self.new ≡ with_entries self.old (pin_at (B.Key.eq key) self.old.entries) }
@@ -193,7 +193,7 @@ impl<B: AsyncLruCacheBackend> AsyncLruCache<B> {
         true
     }
 
-    /// Takes a pin from the entry under a key. False where there is none.
+    /// Removes a pin from the entry under a key. False if it has none.
     pub fn unpin(&mut self, key: B::Key) -> bool
         ensures value { result ≡ can_unpin (B.Key.eq key) self.old.entries }
         ensures entries { self.new ≡ with_entries self.old (unpin_at (B.Key.eq key) self.old.entries) }
@@ -208,7 +208,7 @@ impl<B: AsyncLruCacheBackend> AsyncLruCache<B> {
         true
     }
 
-    /// Whether the entry under a key has a pin. False where there is none.
+    /// Whether the entry under a key is pinned. False if there is no entry.
     pub fn is_pinned(&self, key: B::Key) -> bool
         ensures { IsTrue result ↔ (0 < pins_at (B.Key.eq key) self.now.entries) }
     {
@@ -218,7 +218,7 @@ impl<B: AsyncLruCacheBackend> AsyncLruCache<B> {
         }
     }
 
-    /// The key of some entry with a pin. None where there is no such entry.
+    /// The key of some pinned entry, if there is one.
     pub fn first_pinned(&self) -> Option<B::Key>
         ensures none { IsNone result → pinned self.now.entries ≡ [] }
         ensures some { IfSome result (λ key. 0 < pins_at (B.Key.eq key) self.now.entries) }
@@ -226,7 +226,7 @@ impl<B: AsyncLruCacheBackend> AsyncLruCache<B> {
         first_pinned(&self.entries)
     }
 
-    /// Flushes each entry, the most recently used first, also past a failure. Refused `Backend` with the first failure.
+    /// Flushes each entry, the most recently used first, and continues after a failure. Refused `Backend` with the first failure.
     pub fn flush(&mut self, store: &mut B::Store) -> Result<(), CacheError<B::Key, B::Error>>
         ensures distinct { IsDistinct B.Key.eq (keys_of self.old.entries) }
         ensures flushed { Flushes (B.steps self.old.backend)
@@ -243,7 +243,7 @@ impl<B: AsyncLruCacheBackend> AsyncLruCache<B> {
         }
     }
 
-    /// Flushes the entry under a key. False where there is none. The order stays. Refused `Backend` where the flush fails.
+    /// Flushes the entry under a key. False if there is none. The order stays the same. Refused `Backend` if the flush fails.
     pub fn flush_key(
         &mut self,
         store: &mut B::Store,
@@ -268,14 +268,14 @@ impl<B: AsyncLruCacheBackend> AsyncLruCache<B> {
         Ok(true)
     }
 
-    /// The key of the least recently used entry with no pin, which is the next to go.
+    /// The key of the least recently used entry without a pin, which would be removed next.
     pub fn next_out(&self) -> Option<B::Key>
         ensures { result ≡ option_map (λ e. e.0) (oldest_free self.now.entries) }
     {
         oldest_free(&self.entries)
     }
 
-    // The keys of the entries with a pin, the most recently used first.
+    // The keys of the pinned entries, the most recently used first.
     pub(crate) fn pinned_keys(&self) -> Result<Vec<B::Key>, AllocError>
         ensures ok { IfOk result (λ keys. keys.items ≡ keys_of (pinned self.now.entries)) }
         ensures err { OnErr result (0 < length (pinned self.now.entries)) }
@@ -284,8 +284,8 @@ impl<B: AsyncLruCacheBackend> AsyncLruCache<B> {
         pinned_keys(alloc, &self.entries)
     }
 
-    /// Gives each entry with no pin to the backend, unflushed. Refused `StillInUse` with the keys of those that are pinned, which stay.
-    /// Refused `Memory` where the keys have no room, and then nothing changed.
+    /// Removes each entry without a pin, unflushed, and gives it to the backend. Refused `StillInUse` with the keys of the pinned entries, which
+    /// stay. Refused `Memory` if there is no memory for the keys, and then nothing changed.
     pub fn invalidate(&mut self) -> Result<(), CacheError<B::Key, B::Error>>
         ensures distinct { IsDistinct B.Key.eq (keys_of self.old.entries) }
         ensures answer { Invalidates self.old.entries result self.new.entries }
@@ -307,7 +307,7 @@ impl<B: AsyncLruCacheBackend> AsyncLruCache<B> {
         }
     }
 
-    /// Gives the entry under a key to the backend, unflushed. False where there is none, or it is pinned.
+    /// Removes the entry under a key, unflushed, and gives it to the backend. False if there is none, or it is pinned.
     pub fn remove(&mut self, key: B::Key) -> bool
         ensures distinct { IsDistinct B.Key.eq (keys_of self.old.entries) }
         ensures value { result ≡ can_remove (B.Key.eq key) self.old.entries }
@@ -334,7 +334,7 @@ impl<B: AsyncLruCacheBackend> AsyncLruCache<B> {
     ghost use Rattle.qcow2_alloc.specs.AsyncLruCache.{set_at};
     ghost use Rattle.qcow2_alloc.specs.contracts.async_lru_cache.AsyncLruCache.{the_row};
 
-    /// The value under a key, to be changed in its place. The order stays.
+    /// The value under a key, to be changed in place. The order stays the same.
     pub fn peek_mut(&mut self, key: B::Key) -> Option<&mut B::Value>
         // The cache ends with the last value behind the result set under the key.
         ensures* writes_back { sem 𝓛 (LendsIf

@@ -1,4 +1,4 @@
-//! The caches of L2 tables and of refblocks, and which of them has to be written first.
+//! The caches of L2 tables and of refblocks, and which of them must be written first.
 ghost use Rattle.std.specs.Prelude.{◌≡◌, ◌⊎◌, ◌↔◌, ℕ, ◌+◌, ◌-◌, ◌^◌, ◌<◌, ◌≤◌, ◌==◌, IsSome, IsNone, IfSome};
 ghost use Rattle.std.specs.Prelude.{IfOk, IfErr, OnOk, IsTrue, IsFalse, false};
 ghost use Rattle.std.specs.Prelude.{option_copied};
@@ -37,10 +37,10 @@ use image_access::Storage;
 use qcow2_metadata::{ClusterCount, Header, HostCluster, L2Table, RefBlock};
 use std::alloc::{AllocError, Global};
 
-/// Which cache has to be written before the other one may be.
+/// Which cache must be written before the other one may be.
 #[derive(Clone, Copy, Debug, PartialEq, Eq)]
 pub enum Direction {
-    /// Neither has to: each may be written first.
+    /// Neither: each may be written first.
     None,
     /// Refblocks are written before L2 tables.
     L2DependsOnRb,
@@ -48,9 +48,9 @@ pub enum Direction {
     RbDependsOnL2,
 }
 
-/// The L2 tables and refblocks that are loaded. Those that are modified are written at a flush, or as others need their place.
-/// A call that writes is refused 14 (memory), 15 (storage), as the storage is. A modified table of another cluster size than the image's,
-/// which only a caller can put in, is refused 19 (metadata) there.
+/// The cached L2 tables and refblocks. Modified ones are written at a flush, or when others need their place.
+/// A call that writes is refused 14 (memory) and 15 (storage), as the storage refuses. A modified table with another cluster size than the
+/// image's, which only a caller can insert, is refused 19 (metadata) then.
 #[derive(Drop)]
 pub struct MetadataCaches<S: Storage> {
     l2: TableCache<L2CacheBackend<S>>,
@@ -62,7 +62,7 @@ pub struct MetadataCaches<S: Storage> {
 
 #[tactic(auto, using(crate::proofs::TableErrors::storage_of_tables, crate::proofs::TableErrors::metadata_of_tables, crate::proofs::TableErrors::cache_of_tables))]
 impl<S: Storage> MetadataCaches<S> {
-    /// Empty caches for so many L2 tables and refblocks at most. Refused where memory is missing: 14 (memory).
+    /// Empty caches for at most this many L2 tables and refblocks. Refused 14 (memory).
     pub fn new(
         alloc: Global,
         header: &Header,
@@ -115,8 +115,8 @@ impl<S: Storage> MetadataCaches<S> {
         Ok(())
     }
 
-    /// From here on refblocks are written before L2 tables. Where it was the other way round, the L2 tables are written now. Refused as
-    /// that is: 14 (memory), 15 (storage), and then it isn't turned round.
+    /// Refblocks are written before L2 tables from now on. If the order was the other one, the L2 tables are written now. Refused
+    /// 14 (memory) and 15 (storage) if that fails, and then the order stays the same.
     pub fn l2_depends_on_rb(&mut self, storage: &mut ImageStorage<S>) -> Result<(), ImageError>
         ensures step { TurnStep S.view storage.old self.old storage.new self.new }
         ensures fails { Fails S.view storage.old storage.new result IsOfTables }
@@ -135,8 +135,8 @@ impl<S: Storage> MetadataCaches<S> {
         Ok(())
     }
 
-    /// From here on L2 tables are written before refblocks. Where it was the other way round, the refblocks are written now. Refused as
-    /// that is: 14 (memory), 15 (storage), and then it isn't turned round.
+    /// L2 tables are written before refblocks from now on. If the order was the other one, the refblocks are written now. Refused
+    /// 14 (memory) and 15 (storage) if that fails, and then the order stays the same.
     pub fn rb_depends_on_l2(&mut self, storage: &mut ImageStorage<S>) -> Result<(), ImageError>
         ensures step { TurnStep S.view storage.old self.old storage.new self.new }
         ensures fails { Fails S.view storage.old storage.new result IsOfTables }
@@ -155,7 +155,7 @@ impl<S: Storage> MetadataCaches<S> {
         Ok(())
     }
 
-    /// Writes both caches, in the order that the direction asks for. Refused 14 (memory), 15 (storage), as the storage is.
+    /// Writes both caches, in the order of writes. Refused 14 (memory) and 15 (storage), as the storage refuses.
     pub fn flush_all(&mut self, storage: &mut ImageStorage<S>) -> Result<(), ImageError>
         ensures step { CacheStep S.view storage.old self.old storage.new self.new }
         ensures fails { Fails S.view storage.old storage.new result IsOfTables }
@@ -175,8 +175,8 @@ impl<S: Storage> MetadataCaches<S> {
         }
     }
 
-    /// Writes the refblocks, and the L2 tables before them where the direction asks for it. Refused 14 (memory), 15 (storage), as the
-    /// storage is.
+    /// Writes the refblocks, and before them the L2 tables if the order of writes requires it. Refused 14 (memory) and 15 (storage), as the
+    /// storage refuses.
     pub fn flush_rb(&mut self, storage: &mut ImageStorage<S>) -> Result<(), ImageError>
         ensures step { CacheStep S.view storage.old self.old storage.new self.new }
         ensures fails { Fails S.view storage.old storage.new result IsOfTables }
@@ -193,7 +193,7 @@ impl<S: Storage> MetadataCaches<S> {
         }
     }
 
-    // What has to be written before an L2 table goes.
+    // Writes what must be written before an L2 table.
     fn before_l2(&mut self, storage: &mut ImageStorage<S>) -> Result<(), ImageError>
         ensures step { CacheStep S.view storage.old self.old storage.new self.new }
         ensures fails { Fails S.view storage.old storage.new result IsOfTables }
@@ -208,7 +208,7 @@ impl<S: Storage> MetadataCaches<S> {
         }
     }
 
-    // What has to be written before a refblock goes.
+    // Writes what must be written before a refblock.
     pub(crate) fn before_rb(&mut self, storage: &mut ImageStorage<S>) -> Result<(), ImageError>
         ensures step { CacheStep S.view storage.old self.old storage.new self.new }
         ensures fails { Fails S.view storage.old storage.new result IsOfTables }
@@ -223,9 +223,9 @@ impl<S: Storage> MetadataCaches<S> {
         }
     }
 
-    /// Brings the L2 table of a cluster to the front, loading it where it isn't there. Refused 8 (everything is in use) where the cache
-    /// is full and no entry is without a pin, and 13 (limit) for a cluster whose offset passes 64 bits. Where the work meets them:
-    /// 14 (memory), 15 (storage).
+    /// Brings the L2 table of a cluster to the front, and loads it if it isn't cached. Refused 8 (everything is in use) if the cache
+    /// is full of pinned tables, 13 (limit) for a cluster whose offset passes 64 bits, and 14 (memory) and 15 (storage)
+    /// if the work meets them.
     pub fn l2_get_or_insert(
         &mut self,
         storage: &mut ImageStorage<S>,
@@ -245,9 +245,9 @@ impl<S: Storage> MetadataCaches<S> {
         Ok(())
     }
 
-    /// Brings the refblock of a cluster to the front, loading it where it isn't there. Refused 8 (everything is in use) where the cache
-    /// is full and no entry is without a pin, and 13 (limit) for a cluster whose offset passes 64 bits. Where the work meets them:
-    /// 14 (memory), 15 (storage).
+    /// Brings the refblock of a cluster to the front, and loads it if it isn't cached. Refused 8 (everything is in use) if the cache
+    /// is full of pinned refblocks, 13 (limit) for a cluster whose offset passes 64 bits, and 14 (memory) and 15 (storage)
+    /// if the work meets them.
     pub fn rb_get_or_insert(
         &mut self,
         storage: &mut ImageStorage<S>,
@@ -268,9 +268,9 @@ impl<S: Storage> MetadataCaches<S> {
         Ok(())
     }
 
-    /// Puts an L2 table to the front, in the place of one that is there for its cluster, which it is to have. Refused
-    /// 8 (everything is in use) where the cache is full and no entry is without a pin. Where the work meets them: 14 (memory),
-    /// 15 (storage).
+    /// Puts an L2 table at the front, and replaces the one that is cached for its cluster. It must have a cluster. Refused
+    /// 8 (everything is in use) if the cache is full of pinned tables, and 14 (memory) and 15 (storage)
+    /// if the work meets them.
     pub fn l2_insert(
         &mut self,
         storage: &mut ImageStorage<S>,
@@ -296,9 +296,9 @@ impl<S: Storage> MetadataCaches<S> {
         Ok(())
     }
 
-    /// Puts a refblock to the front, in the place of one that is there for its cluster, which it is to have. Refused
-    /// 8 (everything is in use) where the cache is full and no entry is without a pin. Where the work meets them: 14 (memory),
-    /// 15 (storage).
+    /// Puts a refblock at the front, and replaces the one that is cached for its cluster. It must have a cluster. Refused
+    /// 8 (everything is in use) if the cache is full of pinned refblocks, and 14 (memory) and 15 (storage)
+    /// if the work meets them.
     pub fn rb_insert(
         &mut self,
         storage: &mut ImageStorage<S>,
@@ -324,7 +324,7 @@ impl<S: Storage> MetadataCaches<S> {
         Ok(())
     }
 
-    /// The L2 table of a cluster, where it is held.
+    /// The L2 table of a cluster, if it is cached.
     pub fn l2_peek(&self, cluster: HostCluster) -> Option<&L2Table>
         ensures value { option_copied result ≡ l2_at self.now cluster }
         ensures shows { IfSome (option_copied result) (ShowsKnown self.now cluster) }
@@ -332,14 +332,14 @@ impl<S: Storage> MetadataCaches<S> {
         self.l2.peek(cluster)
     }
 
-    /// The refblock of a cluster, where it is held.
+    /// The refblock of a cluster, if it is cached.
     pub fn rb_peek(&self, cluster: HostCluster) -> Option<&RefBlock>
         ensures { option_copied result ≡ rb_at self.now cluster }
     {
         self.rb.peek(cluster)
     }
 
-    /// Keeps an L2 table in the cache: false where it isn't there, or at the greatest count of pins.
+    /// Pins an L2 table, so that it stays in the cache. False if it isn't cached, or its number of pins is the greatest one.
     pub fn l2_pin(&mut self, cluster: HostCluster) -> bool
         ensures tables { SameTables self.old self.new }
         ensures changed { self.new.is_changed ≡ self.old.is_changed }
@@ -352,7 +352,7 @@ impl<S: Storage> MetadataCaches<S> {
         self.l2.pin(cluster)
     }
 
-    /// Takes a pin off: false where there is none.
+    /// Removes a pin from an L2 table. False if it has none.
     pub fn l2_unpin(&mut self, cluster: HostCluster) -> bool
         ensures tables { SameTables self.old self.new }
         ensures changed { self.new.is_changed ≡ self.old.is_changed }
@@ -364,7 +364,7 @@ impl<S: Storage> MetadataCaches<S> {
         self.l2.unpin(cluster)
     }
 
-    /// Drops a refblock unwritten: false where it isn't there or is pinned.
+    /// Drops a refblock without writing it. False if it isn't cached, or is pinned.
     pub fn rb_remove(&mut self, cluster: HostCluster) -> bool
         ensures step { HeldStep self.old self.new }
         ensures tables { l2_tables self.new ≡ l2_tables self.old }
@@ -376,7 +376,7 @@ impl<S: Storage> MetadataCaches<S> {
         self.rb.remove(cluster)
     }
 
-    /// Drops the L2 tables without a pin, unwritten. Refused 21 (still in use) with the clusters of those that are pinned, and
+    /// Drops the L2 tables without a pin, unwritten. Refused 21 (still in use) with the clusters of the pinned ones, and
     /// 14 (memory), which drops nothing.
     pub fn invalidate_l2(&mut self) -> Result<(), ImageError>
         ensures step { HeldStep self.old self.new }
@@ -390,7 +390,7 @@ impl<S: Storage> MetadataCaches<S> {
         Ok(())
     }
 
-    /// Drops the refblocks without a pin, unwritten. Refused 21 (still in use) with the clusters of those that are pinned, and
+    /// Drops the refblocks without a pin, unwritten. Refused 21 (still in use) with the clusters of the pinned ones, and
     /// 14 (memory), which drops nothing.
     pub fn invalidate_rb(&mut self) -> Result<(), ImageError>
         ensures step { HeldStep self.old self.new }
@@ -404,14 +404,14 @@ impl<S: Storage> MetadataCaches<S> {
         Ok(())
     }
 
-    /// Whether an L2 table is held and has a pin.
+    /// Whether an L2 table is cached and pinned.
     pub fn l2_is_pinned(&self, cluster: HostCluster) -> bool
         ensures { IsTrue result ↔ (0 < l2_pins self.now cluster) }
     {
         self.l2.is_pinned(cluster)
     }
 
-    /// The cluster of some L2 table with a pin. None where no L2 table has one.
+    /// The cluster of some pinned L2 table, if there is one.
     pub fn first_pinned_l2(&self) -> Option<HostCluster>
         ensures none { IsNone result → (cluster : ℕ) → l2_pins self.now cluster ≡ 0 }
         ensures some { IfSome result (λ cluster. 0 < l2_pins self.now cluster) }
@@ -419,7 +419,7 @@ impl<S: Storage> MetadataCaches<S> {
         self.l2.first_pinned()
     }
 
-    /// From here on it is noted anew whether a table is changed.
+    /// Starts to record anew whether a table is changed.
     pub fn begin(&mut self)
         ensures changed { IsFalse self.new.is_changed }
         ensures same { self.new ≡ record self.old { is_changed = false } }
@@ -435,14 +435,14 @@ impl<S: Storage> MetadataCaches<S> {
         self.is_changed
     }
 
-    /// How many changes of tables were made in all, up to the greatest u64.
+    /// The number of changes of tables in all. The counter stops at the greatest u64.
     pub fn changes(&self) -> u64
         ensures { result ≡ self.now.changes }
     {
         self.changes
     }
 
-    /// Makes an entry of a held L2 table copied data at a host cluster. Answers the host clusters that it names no longer.
+    /// Maps an entry of a cached L2 table to data at a host cluster, marked copied. Returns the host clusters that lost a reference.
     pub fn l2_map_cluster(
         &mut self,
         cluster: HostCluster,
@@ -467,8 +467,8 @@ impl<S: Storage> MetadataCaches<S> {
         old_data
     }
 
-    /// Makes an entry of a held L2 table zero; where it is to keep its host cluster, and that is marked copied, it keeps it.
-    /// Answers the host clusters that it names no longer.
+    /// Makes an entry of a cached L2 table a zero entry. With `keep` it keeps the host cluster, if that is marked copied.
+    /// Returns the host clusters that lost a reference.
     pub fn l2_zero_cluster(
         &mut self,
         cluster: HostCluster,
@@ -492,7 +492,7 @@ impl<S: Storage> MetadataCaches<S> {
         old_data
     }
 
-    /// Makes an entry of a held L2 table cover nothing. Answers the host clusters that it names no longer.
+    /// Unmaps an entry of a cached L2 table. Returns the host clusters that lost a reference.
     pub fn l2_discard_cluster(
         &mut self,
         cluster: HostCluster,
@@ -515,7 +515,7 @@ impl<S: Storage> MetadataCaches<S> {
         old_data
     }
 
-    /// Whether a count of a held refblock is 0.
+    /// Whether a refcount of a cached refblock is 0.
     pub fn rb_is_zero(&self, cluster: HostCluster, index: usize) -> bool
         ensures { TellsZero self.now cluster index result }
     {
@@ -525,7 +525,7 @@ impl<S: Storage> MetadataCaches<S> {
         }
     }
 
-    /// So many counts of a held refblock from an index on are above 0: all up to the first that isn't.
+    /// The number of refcounts above 0 in a cached refblock, from an index on up to the first one that is 0.
     pub fn rb_used_from(&mut self, cluster: HostCluster, index: usize) -> usize
         ensures used { TellsUsed self.old cluster index result }
         ensures first { TellsFirstFree self.old cluster index result }
@@ -541,7 +541,7 @@ impl<S: Storage> MetadataCaches<S> {
         first.saturating_sub(index)
     }
 
-    /// Counts a cluster of a held refblock once more. False at the greatest count.
+    /// Increments a refcount of a cached refblock. False if it is the greatest one.
     pub fn rb_increment(&mut self, cluster: HostCluster, index: usize) -> bool
         ensures step { HeldStep self.old self.new }
         ensures sound { RaisesSoundly self.old self.new cluster index result }
@@ -565,7 +565,7 @@ impl<S: Storage> MetadataCaches<S> {
         true
     }
 
-    /// Counts a cluster of a held refblock once less. False at 0.
+    /// Decrements a refcount of a cached refblock. False if it is 0.
     pub fn rb_decrement(&mut self, cluster: HostCluster, index: usize) -> bool
         ensures step { HeldStep self.old self.new }
         ensures sound { LowersSoundly self.old self.new cluster index result }

@@ -6,10 +6,10 @@ use qcow2_metadata::{ClusterCount, HostCluster};
 use std::alloc::{AllocError, Global};
 use std::marker::Model;
 
-/// What clusters were taken for.
+/// What clusters were allocated for.
 #[derive(Clone, Copy, Debug, PartialEq, Eq)]
 pub enum ClusterKind {
-    /// For a guest's data.
+    /// For guest data.
     Data,
     /// For tables: the L1 table, L2 tables, the reftable, refblocks.
     Metadata,
@@ -20,9 +20,9 @@ pub enum ClusterKind {
 pub struct ClustersToFreeEntry {
     /// The first cluster of the run.
     pub first_cluster: HostCluster,
-    /// How many clusters it has.
+    /// The number of clusters.
     pub count: ClusterCount,
-    /// What they were taken for.
+    /// What the clusters were allocated for.
     pub kind: ClusterKind,
 }
 
@@ -52,13 +52,13 @@ impl ClustersToFreeEntry {
     }
 }
 
-// It has no length, so that putting one more in front never fails, and is not `Drop`, so that a long chain is let go by a loop.
+// A node without a length, so that adding one in front never fails. It is not `Drop`, so that a long chain is dropped by a loop.
 struct Node {
     entry: ClustersToFreeEntry,
     next: Option<Box<Node>>,
 }
 
-/// The clusters that are to be freed.
+/// The list of clusters to free.
 pub struct ClustersToFreeList {
     newest: Option<Box<Node>>,
 }
@@ -90,7 +90,7 @@ impl Model for ClustersToFreeList {
     ghost view = { λ l. reverse (entries_at l.newest) };
 }
 
-/// Clusters that are taken and not named yet. It must be spent.
+/// Clusters that are allocated and not referred to yet. They must be used up.
 pub struct PendingClusters {
     node: Box<Node>,
 }
@@ -106,14 +106,14 @@ impl Model for PendingClusters {
 }
 
 impl ClustersToFreeList {
-    /// A list of no clusters.
+    /// An empty list.
     pub fn new() -> ClustersToFreeList
         ensures { result ≡ [] }
     {
         ClustersToFreeList { newest: None }
     }
 
-    /// Whether no cluster is to be freed.
+    /// Whether the list is empty.
     pub fn is_empty(&self) -> bool
         ensures { result ≡ (length self.now == 0) }
     {
@@ -123,7 +123,7 @@ impl ClustersToFreeList {
         }
     }
 
-    /// Takes all entries, in the order in which they came, and no memory.
+    /// Takes all entries off the list, in the order in which they came. Needs no memory.
     pub fn take(&mut self) -> TakenClusters
         ensures taken { result ≡ self.old }
         ensures emptied { self.new ≡ [] }
@@ -133,7 +133,7 @@ impl ClustersToFreeList {
         }
     }
 
-    /// Room for a run of clusters that may come back to any list. Refused where memory is missing: 14 (memory).
+    /// Memory for a run of clusters that may go back to any list. Refused 14 (memory).
     pub fn pending_guard(
         alloc: Global,
         entry: ClustersToFreeEntry,
@@ -150,7 +150,7 @@ impl ClustersToFreeList {
         }
     }
 
-    /// Puts a run of clusters at the end. Refused where memory is missing, 14 (memory), the list is as it was.
+    /// Adds a run of clusters at the end. Refused if memory runs out, and then the list stays the same.
     pub fn push(&mut self, alloc: Global, entry: ClustersToFreeEntry) -> Result<(), AllocError>
         ensures ok { OnOk result (self.new ≡ self.old ++ entry ∷ []) }
         ensures err { OnErr result (self.new ≡ self.old) }
@@ -163,7 +163,7 @@ impl ClustersToFreeList {
 
 ghost use Rattle.qcow2_alloc.specs.ClustersToFree.{entries_at};
 
-// The chain the other way round.
+// The chain in the opposite order.
 fn reversed(newest: Option<Box<Node>>) -> Option<Box<Node>>
     ensures { entries_at result ≡ reverse (entries_at newest) }
 {
@@ -233,7 +233,7 @@ impl TakenClusters {
         }
     }
 
-    /// Puts all entries that are left behind those of a list. It takes no memory.
+    /// Adds all entries that are left at the end of a list. Needs no memory.
     pub fn hand_back(self, list: &mut ClustersToFreeList)
         ensures { list.new ≡ list.old ++ self }
     {
@@ -252,21 +252,21 @@ impl PendingClusters {
         self.node.entry.first_cluster
     }
 
-    /// How many clusters the run has.
+    /// The number of clusters.
     pub fn count(&self) -> ClusterCount
         ensures { result ≡ self.now.count }
     {
         self.node.entry.count
     }
 
-    /// Whether its clusters held data or tables.
+    /// What the clusters were allocated for.
     pub fn kind(&self) -> ClusterKind
         ensures { result ≡ self.now.kind }
     {
         self.node.entry.kind
     }
 
-    // Takes the first cluster off the run.
+    // Removes the first cluster from the run.
     pub(crate) fn drop_first(&mut self)
         ensures first { self.old.first_cluster + 1 < 2 ^ 64 → self.new.first_cluster ≡ self.old.first_cluster + 1 }
         ensures count { self.new.count ≡ self.old.count - 1 }
@@ -277,7 +277,7 @@ impl PendingClusters {
         entry.count = ClusterCount::new(entry.count.value().saturating_sub(1));
     }
 
-    /// The same run from another cluster on.
+    /// A run of the same length and kind that begins at another cluster.
     pub fn placed_at(self, first_cluster: HostCluster) -> PendingClusters
         ensures { result ≡ record self { first_cluster = first_cluster } }
     {
@@ -286,13 +286,13 @@ impl PendingClusters {
         PendingClusters { node }
     }
 
-    /// The clusters are named now, and stay.
+    /// The clusters are referred to now, and stay allocated.
     pub fn make_persistent(self) {
         let PendingClusters { node } = self;
         drop_nodes(Some(node));
     }
 
-    /// Puts the run at the end of the list. It takes no memory.
+    /// Adds the run at the end of the list. Needs no memory.
     pub fn hand_back(self, list: &mut ClustersToFreeList)
         ensures { list.new ≡ list.old ++ self ∷ [] }
     {

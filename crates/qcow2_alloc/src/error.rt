@@ -8,48 +8,48 @@ use std::error::Error;
 use std::fmt;
 use std::io::ErrorKind;
 
-/// Why a call of the driver is refused. Each case has a number and a name of its own.
+/// Why a call of the driver is refused. Each case has a number and a name.
 #[derive(Debug, PartialEq, Eq, Drop)]
 pub enum ImageError {
-    /// 1 (read-only): the image was opened without writing.
+    /// 1 (read-only): the image was opened for reading.
     ReadOnly,
-    /// 2 (beyond size): the range isn't empty and passes the disk's size.
+    /// 2 (beyond size): the range is not empty and ends behind the disk's size.
     BeyondSize,
-    /// 3 (version): the image's version is below 3 where 3 is needed.
+    /// 3 (version): the call needs version 3, and the image has version 2.
     Version,
-    /// 4 (unaligned table): the offset of a table or of a data cluster isn't on a cluster.
+    /// 4 (unaligned table): the offset of a table or of a data cluster is not a multiple of the cluster size.
     UnalignedTable,
-    /// 5 (invalid option): a builder's value isn't allowed, or the two disks of a conversion differ in size.
+    /// 5 (invalid option): a builder has a value that is not allowed, or the two disks of a conversion differ in size.
     InvalidOption,
-    /// 6 (preallocation): an allocating mode with a disk below.
+    /// 6 (preallocation): the mode allocates clusters, and there is a backing disk.
     Preallocation,
-    /// 7 (compressed): data of a compressed cluster is needed.
+    /// 7 (compressed): the call needs the data of a compressed cluster.
     Compressed,
-    /// 8 (everything is in use): no cache entry is without a pin.
+    /// 8 (everything is in use): every cache entry is pinned.
     InUse,
-    /// 9 (table prepared): the L2 table is under a prepared mapping.
+    /// 9 (table prepared): the L2 table is pinned by a prepared mapping.
     TablePrepared,
-    /// 10 (outdated mapping): the range is no longer mapped so.
+    /// 10 (outdated mapping): the range is not mapped in this way any more.
     OutdatedMapping,
-    /// 11 (foreign state): it belongs to another image.
+    /// 11 (foreign state): the mapping belongs to another image.
     ForeignState,
-    /// 12 (dependency): a named or required file is missing.
+    /// 12 (dependency): a file that the image names or needs is missing.
     Dependency,
-    /// 13 (limit): a limit of the format or of this driver is passed, or clusters that are needed have no place.
+    /// 13 (limit): a limit of the format or of this library is passed, or there is no room for clusters that are needed.
     Limit,
-    /// 14 (memory): a growth of memory was refused.
+    /// 14 (memory): an allocation of memory failed.
     Memory,
-    /// 15 (storage): a storage or the disk below failed in this call.
+    /// 15 (storage): a storage or the backing disk failed in this call.
     Storage,
-    /// 16 (failed): an earlier call marked the image as failed.
+    /// 16 (failed): an earlier call made the image fail.
     Failed,
-    /// 17 (mapping prepared): not while a mapping is prepared.
+    /// 17 (mapping prepared): the call is not possible while a mapping is prepared.
     MappingPrepared,
-    /// 18 (not compressed): the range isn't compressed, from this guest offset in bytes on.
+    /// 18 (not compressed): the data at this guest offset in bytes are not compressed.
     NotCompressed { offset: u64 },
-    /// 19 (metadata): a header or an entry doesn't read.
+    /// 19 (metadata): a header or an entry is not readable.
     Metadata,
-    /// 20 (overflow): a sum passes 64 bits.
+    /// 20 (overflow): an offset passes 64 bits.
     Overflow,
     /// 21 (still in use): invalidating kept the tables of these clusters, which are pinned.
     StillInUse { tables: Vec<HostCluster> },
@@ -59,7 +59,7 @@ impl ImageError {
     ghost use Rattle.qcow2_alloc.specs.ImageError.{IsFault, error_number_of, error_kind_of};
     ghost use Rattle.qcow2_alloc.specs.RefusalNames.{error_name_of};
 
-    /// The refusal's number, from 1 to 21.
+    /// The number of the refusal, from 1 to 21.
     pub fn number(&self) -> u8
         ensures { result ≡ error_number_of self.now }
     {
@@ -88,7 +88,7 @@ impl ImageError {
         }
     }
 
-    /// The refusal's name, which is all that it shows.
+    /// The name of the refusal, which is what `Display` prints.
     pub fn name(&self) -> &'static str
         ensures { result.now ≡ error_name_of self.now }
     {
@@ -117,14 +117,14 @@ impl ImageError {
         }
     }
 
-    /// Whether it is 15 (storage) or 14 (memory): a storage failed, or memory was refused.
+    /// Whether it is a fault: 15 (storage) or 14 (memory).
     pub fn is_fault(&self) -> bool
         ensures { IsTrue result ↔ IsFault self.now }
     {
         matches!(self, ImageError::Storage | ImageError::Memory)
     }
 
-    /// The kind of the operating system's errors that it is like.
+    /// The closest kind of the operating system's errors.
     pub fn kind(&self) -> ErrorKind
         ensures { result ≡ error_kind_of self.now }
     {

@@ -1,4 +1,4 @@
-//! A run of free clusters for a longer reftable and the refblocks that it lacks.
+//! Finding room for a longer reftable: a run of free clusters for the table and for the refblocks that it needs.
 ghost use Rattle.std.specs.Prelude.{◌≡◌, ◌+◌, ◌/◌, ◌^◌, ◌<◌, ◌≤◌, false, IfOk, IsTrue};
 ghost use Rattle.qcow2_metadata.specs.Header.{counts_per_block};
 ghost use Rattle.qcow2_laws.specs.CrashInvariant.{Pending};
@@ -14,18 +14,18 @@ ghost use Rattle.qcow2_alloc.specs.Steps.{LeavesSoundly};
 use crate::{Allocator, ImageError, ImageFile};
 use image_access::Storage;
 
-/// Clusters for new refblocks, and behind them those for a reftable.
+/// A run of clusters for new refblocks, and behind them for a reftable.
 #[derive(Clone, Copy)]
 pub(crate) struct Room {
-    /// The number of its first cluster.
+    /// The first cluster.
     pub first: u64,
-    /// How many clusters there are for refblocks.
+    /// The number of clusters for refblocks.
     pub blocks: u64,
-    /// How many there are for the reftable.
+    /// The number of clusters for the reftable.
     pub clusters: u64,
 }
 
-/// How many clusters of a run are taken, and how many of the ranges that it enters have no refblock.
+/// How many clusters of a run are allocated, and how many of the ranges that it enters have no refblock.
 #[derive(Clone, Copy)]
 struct Reach {
     taken: u64,
@@ -33,7 +33,7 @@ struct Reach {
 }
 
 impl Allocator {
-    // Takes the first room for so many clusters of a reftable that lies below an end.
+    // Allocates the first room for so many clusters of a reftable that lies below an end.
     pub(crate) fn take_room<S: Storage>(
         &mut self,
         file: &mut ImageFile<S>,
@@ -67,7 +67,7 @@ impl Allocator {
         Err(ImageError::Limit)
     }
 
-    // Takes clusters from first on until there is room, or one is in use, or the end comes.
+    // Allocates clusters from `first` on until there is room, or one is in use, or the end comes.
     fn reach_room<S: Storage>(
         &mut self,
         file: &mut ImageFile<S>,
@@ -100,8 +100,8 @@ impl Allocator {
         Ok(Reach { taken, blocks })
     }
 
-    // Takes a cluster where it is free: false where it is in use or spared. Where its range has no refblock there is
-    // nothing to count.
+    // Allocates a cluster if it is free. False if it is in use or spared. A cluster whose range has no refblock has no
+    // refcount to increment.
     fn take_if_free<S: Storage>(
         &mut self,
         file: &mut ImageFile<S>,
@@ -139,7 +139,7 @@ impl Allocator {
         }
     }
 
-    // Gives back the clusters of a run that are counted.
+    // Frees the clusters of a run that are counted.
     fn leave_run<S: Storage>(
         &mut self,
         file: &mut ImageFile<S>,
@@ -166,7 +166,7 @@ impl Allocator {
         Ok(())
     }
 
-    // Whether a cluster is the first of a run in a range that has no refblock.
+    // Whether the cluster is the first one of a run in a range without a refblock.
     pub(crate) fn opens_range(&self, first: u64, cluster: u64, bits: u32) -> bool
         requires { bits < 64 }
         ensures { result ≡ opens self.now.reftable (2 ^ bits) first cluster }
@@ -174,7 +174,7 @@ impl Allocator {
         (cluster == first || cluster % (1 << bits) == 0) && self.lacks_block(cluster >> bits)
     }
 
-    // Whether a range has no refblock.
+    // Whether the range has no refblock.
     pub(crate) fn lacks_block(&self, range: u64) -> bool
         ensures { result ≡ lacks self.now.reftable range }
     {

@@ -1,4 +1,4 @@
-//! Freeing clusters: those that are listed to be freed, and those that are given back.
+//! Freeing clusters: those on the list of clusters to free, and those that an allocation gives back.
 ghost use Rattle.std.specs.Prelude.{◌≡◌, ℕ, ◌++◌, ◌∷◌, [], ◌+◌, ◌/◌, ◌^◌, ◌<◌, ◌≤◌, Bool, OnOk, IsErrOf, IsOk, IsTrue};
 ghost use Rattle.qcow2_metadata.specs.Header.{counts_per_block};
 ghost use Rattle.qcow2_laws.specs.Changes.{one_at};
@@ -19,7 +19,7 @@ use qcow2_metadata::HostCluster;
 
 #[tactic(auto, using(crate::proofs::TableErrors::storage_of_tables, crate::proofs::TableErrors::metadata_of_tables, crate::proofs::TableErrors::cache_of_tables))]
 impl Allocator {
-    // Lowers the counts of a run. What can't be lowered is counted as leaked.
+    // Decrements the refcounts of a run. A cluster whose refcount cannot be decremented is counted as leaked.
     pub(crate) fn give_back<S: Storage>(
         &mut self,
         file: &mut ImageFile<S>,
@@ -51,7 +51,7 @@ impl Allocator {
         Ok(())
     }
 
-    // Lowers the count of a cluster. One that can't be lowered is counted as leaked.
+    // Decrements the refcount of a cluster. If it cannot be decremented, the cluster is counted as leaked.
     pub(crate) fn lower<S: Storage>(
         &mut self,
         file: &mut ImageFile<S>,
@@ -85,9 +85,9 @@ impl Allocator {
         Ok(())
     }
 
-    /// Works off the list of clusters that are to be freed: metadata first, then data. Where data were listed, L2 tables are written
-    /// before refblocks from then on. Refused 14 (memory), 15 (storage), the clusters that aren't freed yet stay listed. One whose count
-    /// can't be lowered for another reason, as where its refblock isn't on a cluster, is counted by `leaked_clusters`.
+    /// Frees the clusters on the list: metadata first, then data. If there were data, L2 tables are written before refblocks from then
+    /// on. Refused 14 (memory) and 15 (storage), and then clusters that were not freed stay on the list. A cluster whose refcount cannot be
+    /// decremented for another reason, such as an unaligned refblock, is counted by `leaked_clusters`.
     pub fn free<S: Storage>(&mut self, file: &mut ImageFile<S>) -> Result<(), ImageError>
         ensures step { FreeStepInTurn S.view self.old.reftable file.old self.new.reftable file.new }
         ensures emptied { OnOk result (file.new.free_list ≡ []) }
@@ -110,7 +110,7 @@ impl Allocator {
         self.free_kind(file, ClusterKind::Data)
     }
 
-    // Frees the clusters of one kind that are listed. Those of the other kind stay listed, and so do those not freed yet where it is refused.
+    // Frees the clusters of one kind. Those of the other kind stay on the list, and after a refusal those that were not freed.
     fn free_kind<S: Storage>(
         &mut self,
         file: &mut ImageFile<S>,
@@ -136,7 +136,7 @@ impl Allocator {
         done
     }
 
-    // Frees the entries of one kind, as far as it isn't refused, and lists those of the other kind.
+    // Frees the entries of one kind until one is refused, and puts those of the other kind on the list.
     fn free_taken<S: Storage>(
         &mut self,
         file: &mut ImageFile<S>,
@@ -164,7 +164,7 @@ impl Allocator {
         Ok(())
     }
 
-    // Frees an entry of one kind, and lists one of the other kind.
+    // Frees an entry of one kind, and puts one of the other kind on the list.
     fn free_or_list<S: Storage>(
         &mut self,
         file: &mut ImageFile<S>,
@@ -192,7 +192,7 @@ impl Allocator {
         Ok(())
     }
 
-    // Frees an entry. Refused, what isn't freed yet of it is listed.
+    // Frees an entry. After a refusal, the clusters that were not freed are on the list.
     fn free_entry<S: Storage>(
         &mut self,
         file: &mut ImageFile<S>,
@@ -225,7 +225,7 @@ impl Allocator {
         }
     }
 
-    // Lowers the counts of a run's clusters, and leaves those of the run that aren't lowered yet.
+    // Decrements the refcounts of a run's clusters. After a refusal, the run has the clusters that are left.
     fn free_run<S: Storage>(
         &mut self,
         file: &mut ImageFile<S>,
@@ -253,7 +253,7 @@ impl Allocator {
         Ok(())
     }
 
-    // Counts a cluster once less: false where its count is 0 or it has no refblock.
+    // Decrements the refcount of a cluster. False if it is 0 or there is no refblock.
     fn try_lower<S: Storage>(
         &mut self,
         file: &mut ImageFile<S>,
@@ -285,7 +285,7 @@ impl Allocator {
         Ok(lowered)
     }
 
-    // A cluster whose count is 0 now may be taken again, and isn't spared any longer.
+    // A cluster whose refcount is 0 now may be allocated again, and is not spared any longer.
     fn note_lowered(&mut self, cluster: u64, is_free: bool)
         ensures reftable { self.new.reftable ≡ self.old.reftable }
         ensures leaked { self.new.leaked_clusters ≡ self.old.leaked_clusters }

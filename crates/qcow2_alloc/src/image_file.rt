@@ -3,18 +3,18 @@ use image_access::Storage;
 use qcow2_metadata::Header;
 use std::alloc::Global;
 
-/// What the driver holds of an image's file: the storage, the header, the cached tables, and the clusters to be freed.
+/// The driver's state of an image's file: the storage, the header, the cached tables, and the clusters to free.
 #[derive(Drop)]
 pub struct ImageFile<S: Storage> {
-    /// Where its memory comes from.
+    /// The allocator of memory.
     pub alloc: Global,
-    /// The storage that the image stands in.
+    /// The storage of the image.
     pub storage: ImageStorage<S>,
-    /// The header, as it stands in memory.
+    /// The header in memory.
     pub header: Header,
-    /// The L2 tables and refblocks that are cached.
+    /// The cached L2 tables and refblocks.
     pub caches: MetadataCaches<S>,
-    /// The clusters that are to be freed.
+    /// The clusters to free.
     pub free_list: ClustersToFreeList,
 }
 
@@ -25,7 +25,7 @@ impl<S: Storage> ImageFile<S> {
     ghost use Rattle.qcow2_alloc.specs.ImageFile.{has_noted};
     ghost use Rattle.qcow2_alloc.specs.KeptMarks.{changes_in, NotesSince};
 
-    /// From here on it is noted anew whether anything changes.
+    /// Starts to record anew whether anything changes.
     pub fn begin(&mut self)
         ensures header { self.new.header ≡ self.old.header }
         ensures storage { storage_of self.new.storage ≡ storage_of self.old.storage }
@@ -46,14 +46,14 @@ impl<S: Storage> ImageFile<S> {
         self.storage.is_changed() || self.caches.is_changed()
     }
 
-    /// How many changes were counted up to now: of the storage, and of the tables.
+    /// The numbers of changes so far: of the storage, and of the tables.
     pub fn changes(&self) -> (u64, u64)
         ensures { result ≡ changes_in self.now }
     {
         (self.storage.changes(), self.caches.changes())
     }
 
-    /// Notes whether there was a change since so many were counted. Where there was none, nothing is noted anew.
+    /// Records whether there was a change since these numbers of changes. If there was none, nothing is recorded.
     pub fn note_since(&mut self, changes: (u64, u64))
         ensures { NotesSince changes self.old self.new }
     {
@@ -65,7 +65,7 @@ impl<S: Storage> ImageFile<S> {
         }
     }
 
-    /// The storage itself. What isn't written yet is forgotten.
+    /// The storage itself. Modified tables that were not written are lost.
     pub fn into_storage(self) -> S
         ensures { result ≡ storage_of self.storage }
     {

@@ -7,29 +7,29 @@ mod told_writes;
 use crate::ImageError;
 use image_access::{Storage, StorageError, StoragePreallocate};
 
-/// What a write to the image's storage is for.
+/// The kind of a write to the image's storage.
 #[derive(Clone, Copy, Debug, PartialEq, Eq)]
 pub enum WriteKind {
-    /// A guest's bytes, copied or zeroed ones too.
+    /// Bytes of a guest, also copied and zeroed ones.
     Data,
     /// A refblock of the cache.
     RefBlock,
     /// An L2 table of the cache.
     L2Table,
-    /// A new header or a header's number, an entry of the L1 table or the reftable, a new table's bytes, emptying the storage.
+    /// The header or a field of it, an entry of the L1 table or the reftable, the bytes of a new table, and emptying the storage.
     Other,
 }
 
-// A number of changes with one more, up to the greatest u64.
+// The number of changes plus 1, up to the greatest u64.
 pub(crate) fn one_more(changes: u64) -> u64
     ensures { IsOneChange true changes result }
 {
     changes.saturating_add(1)
 }
 
-/// The image's storage. Each write to it is a call that demands to have been told its kind. Reading, its size and flushes pass through
-/// to the storage below. What writes without being told is refused 14 (memory), and changes nothing. All else is refused where that
-/// storage refuses it: 15 (storage) for a fault, 14 (memory) for want of memory, and then nothing changed.
+/// The image's storage. Its kind must be set before each write. Reads, the size and flushes go
+/// to the storage below. A write without a kind is refused 14 (memory), and changes nothing. Everything else is refused as the storage
+/// below refuses it: 15 (storage) for a fault, and 14 (memory) if memory runs out, and then nothing changed.
 #[derive(Drop)]
 pub struct ImageStorage<S: Storage> {
     storage: S,
@@ -44,7 +44,7 @@ impl<S: Storage> ImageStorage<S> {
     ghost use Rattle.std.specs.Prelude.{true, false};
     ghost use Rattle.qcow2_alloc.specs.declared.error.ImageError.TheVariants.{Storage};
 
-    /// The storage of an image. Nothing is written yet.
+    /// The storage of an image. No write was made yet.
     pub fn new(storage: S) -> Self
         ensures storage { storage_of result ≡ storage }
         ensures unchanged { is_changed_of result ≡ false }
@@ -73,14 +73,14 @@ impl<S: Storage> ImageStorage<S> {
         storage
     }
 
-    /// The storage itself, to look at.
+    /// A reference to the storage itself.
     pub fn inner(&self) -> &S
         ensures { result.now ≡ storage_of self.now }
     {
         &self.storage
     }
 
-    /// The writes from here on are of this kind.
+    /// Sets the kind of the writes from now on.
     pub fn will_write(&mut self, kind: WriteKind)
         ensures kind { kind_of self.new ≡ kind }
         ensures storage { storage_of self.new ≡ storage_of self.old }
@@ -90,7 +90,7 @@ impl<S: Storage> ImageStorage<S> {
         self.kind = kind;
     }
 
-    /// From here on it is noted anew whether anything changes.
+    /// Starts to record anew whether anything changes.
     pub fn begin(&mut self)
         ensures unchanged { is_changed_of self.new ≡ false }
         ensures changes { changes_of self.new ≡ changes_of self.old }
@@ -99,21 +99,21 @@ impl<S: Storage> ImageStorage<S> {
         self.is_changed = false;
     }
 
-    /// Whether its bytes were changed since the last `begin`, or may have been.
+    /// Whether bytes were changed since the last `begin`, or may have been.
     pub fn is_changed(&self) -> bool
         ensures { result ≡ is_changed_of self.now }
     {
         self.is_changed
     }
 
-    /// How many changes were made in all, or may have been, up to the greatest u64.
+    /// The number of changes that were made in all, or may have been. The counter stops at the greatest u64.
     pub fn changes(&self) -> u64
         ensures { result ≡ changes_of self.now }
     {
         self.changes
     }
 
-    // Notes and counts a change that was made, or may have been. Where memory was refused there was none.
+    // Records and counts a change that was made, or may have been. If memory ran out, there was none.
     pub(crate) fn noted(&mut self, done: Result<(), StorageError>) -> Result<(), StorageError>
         ensures answer { result ≡ done }
         ensures storage { storage_of self.new ≡ storage_of self.old }
@@ -133,21 +133,21 @@ impl<S: Storage> ImageStorage<S> {
         done
     }
 
-    // From here on it is noted anew whether a table's load or write fails.
+    // Starts to record anew whether loading or writing a table fails.
     pub(crate) fn watch_faults(&mut self)
         ensures { self.new ≡ record self.old { met_fault = false } }
     {
         self.met_fault = false;
     }
 
-    // Notes that a table's load failed.
+    // Records that loading a table failed.
     pub(crate) fn note_fault(&mut self)
         ensures { self.new ≡ record self.old { met_fault = true } }
     {
         self.met_fault = true;
     }
 
-    // What a refusal is told as: a failure that was met since they are watched goes before.
+    // The refusal to report: a failure that was recorded goes before.
     pub(crate) fn told(&self, refusal: ImageError) -> ImageError
         ensures met { met_fault_of self.now ≡ true → result ≡ Storage }
         ensures unmet { met_fault_of self.now ≡ false → result ≡ refusal }
@@ -194,7 +194,7 @@ impl<S: Storage> Storage for ImageStorage<S> {
         self.storage.read(at, buf)
     }
 
-    // It isn't told its kind, so it is refused.
+    // Refused, because the kind of the write is not set.
     fn write(&mut self, at: u64, bytes: &[u8]) -> Result<(), StorageError>
         ensures written { Changes (S.view (storage_of self.old)) (S.view (storage_of self.new)) result (λ b. overwritten b at bytes.now) }
         ensures calls { Calls (S.view (storage_of self.old)) (S.view (storage_of self.new)) result }
@@ -205,7 +205,7 @@ impl<S: Storage> Storage for ImageStorage<S> {
         Err(untold_write)
     }
 
-    // It isn't told its kind, so it is refused.
+    // Refused, because the kind of the write is not set.
     fn write_zeroes(&mut self, at: u64, length: u64) -> Result<(), StorageError>
         ensures zeroed { Changes (S.view (storage_of self.old)) (S.view (storage_of self.new)) result (λ b. zeroed b at length) }
         ensures calls { Calls (S.view (storage_of self.old)) (S.view (storage_of self.new)) result }
@@ -216,7 +216,7 @@ impl<S: Storage> Storage for ImageStorage<S> {
         Err(untold_zeros)
     }
 
-    // It isn't told its kind, so it is refused.
+    // Refused, because the kind of the write is not set.
     fn write_allocated_zeroes(&mut self, at: u64, length: u64) -> Result<(), StorageError>
         ensures zeroed { Changes (S.view (storage_of self.old)) (S.view (storage_of self.new)) result (λ b. zeroed b at length) }
         ensures calls { Calls (S.view (storage_of self.old)) (S.view (storage_of self.new)) result }
@@ -227,7 +227,7 @@ impl<S: Storage> Storage for ImageStorage<S> {
         Err(untold_allocated_zeros)
     }
 
-    // It isn't told its kind, so it is refused.
+    // Refused, because the kind of the write is not set.
     fn resize(&mut self, size: u64, preallocate: StoragePreallocate) -> Result<(), StorageError>
         ensures resized { Changes (S.view (storage_of self.old)) (S.view (storage_of self.new)) result (λ b. resized b size) }
         ensures calls { Calls (S.view (storage_of self.old)) (S.view (storage_of self.new)) result }

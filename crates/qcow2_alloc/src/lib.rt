@@ -1,4 +1,4 @@
-//! Cached metadata of a qcow2 image, and the allocation of its clusters.
+//! The cached metadata of a qcow2 image, and the allocation of its clusters.
 #![tactic(auto)]
 
 mod allocation;

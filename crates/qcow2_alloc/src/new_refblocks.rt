@@ -25,7 +25,7 @@ use image_access::Storage;
 use qcow2_metadata::{Header, HostCluster, RefBlock, RefTable};
 use std::alloc::Global;
 
-// A refblock for a cluster, which counts those of a run that lie in its range.
+// A refblock that counts those clusters of a run that lie in its range.
 #[tactic(auto, using(crate::proofs::TableErrors::metadata_of_tables))]
 fn run_block(
     alloc: Global,
@@ -54,7 +54,7 @@ fn run_block(
     Ok(block)
 }
 
-// Writes a new refblock to its cluster. Its cache forgets what it has of that cluster.
+// Writes a new refblock to its cluster. What the cache holds for that cluster is dropped.
 #[tactic(auto, using(crate::proofs::TableErrors::storage_of_tables))]
 fn write_new_block<S: Storage>(
     file: &mut ImageFile<S>,
@@ -82,7 +82,7 @@ fn write_new_block<S: Storage>(
     Ok(())
 }
 
-// Writes a longer reftable to the clusters that are taken for it.
+// Writes a longer reftable to the clusters that are allocated for it.
 #[tactic(auto, using(crate::proofs::TableErrors::storage_of_tables))]
 pub(crate) fn place_table<S: Storage>(
     file: &mut ImageFile<S>,
@@ -112,7 +112,7 @@ pub(crate) fn place_table<S: Storage>(
 
 #[tactic(auto, using(crate::proofs::TableErrors::storage_of_tables))]
 impl Allocator {
-    // Writes the refblocks that a room lacks to its first clusters, and enters them in a longer reftable.
+    // Writes the new refblocks to the first clusters of a room, and sets their entries in a longer reftable.
     pub(crate) fn place_blocks<S: Storage>(
         &self,
         file: &mut ImageFile<S>,
@@ -155,7 +155,7 @@ impl Allocator {
         Ok(())
     }
 
-    // Writes the refblocks that a room lacks, then all other counts, the reftable, and at last the pointer that names it.
+    // Writes the new refblocks, then all other refcounts, the reftable, and last the header's pointer to it.
     pub(crate) fn write_reftable<S: Storage>(
         &mut self,
         file: &mut ImageFile<S>,

@@ -1,4 +1,4 @@
-//! Refblocks: loading one, counting a cluster in it, and making one that is missing.
+//! Refblocks: loading one, incrementing a refcount in it, and making one that is missing.
 ghost use Rattle.std.specs.Prelude.{◌≡◌, ◌≢◌, ◌/◌, false, ℕ, ◌*◌, ◌^◌, ◌<◌, ◌≤◌, Bool, None, Some, Ok, IfSome, IfOk};
 ghost use Rattle.std.specs.Prelude.{IfErr, OnOk, IsErrOf, IsSome, IsTrue};
 ghost use Rattle.qcow2_laws.specs.CrashInvariant.{Pending};
@@ -29,7 +29,7 @@ use image_access::Storage;
 use qcow2_metadata::{Header, HostCluster, RefBlock};
 use std::alloc::Global;
 
-// A refblock whose counts are 0, but for its range's first cluster where it counts itself.
+// A refblock of refcounts 0. If it counts itself, the refcount of its range's first cluster is 1.
 #[tactic(auto, using(crate::proofs::TableErrors::metadata_of_tables))]
 fn new_block(
     alloc: Global,
@@ -53,7 +53,7 @@ fn new_block(
     Ok(block)
 }
 
-// Writes a new refblock to its cluster, after all counts, and puts it into its cache.
+// Writes a new refblock to its cluster, after all refcounts, and puts it into the cache.
 #[tactic(auto, using(crate::proofs::TableErrors::storage_of_tables))]
 fn write_block<S: Storage>(file: &mut ImageFile<S>, mut block: RefBlock) -> Result<(), ImageError>
     requires placed { IsSome block.cluster }
@@ -78,8 +78,8 @@ fn write_block<S: Storage>(file: &mut ImageFile<S>, mut block: RefBlock) -> Resu
 
 #[tactic(auto, using(crate::proofs::TableErrors::storage_of_tables, crate::proofs::TableErrors::metadata_of_tables, crate::proofs::TableErrors::cache_of_tables))]
 impl Allocator {
-    /// Drops the refblocks without a pin, unwritten. Counts that weren't written are forgotten so, and the search for free clusters
-    /// begins anew. Refused 21 (still in use) with the clusters of those that are pinned, and 14 (memory), which drops nothing.
+    /// Drops the refblocks without a pin, unwritten. Refcounts that were not written are lost, and the search for free clusters
+    /// starts anew. Refused 21 (still in use) with the clusters of the pinned ones, and 14 (memory), which drops nothing.
     pub fn invalidate_rb_cache<S: Storage>(
         &mut self,
         file: &mut ImageFile<S>,
@@ -97,7 +97,7 @@ impl Allocator {
         file.caches.invalidate_rb()
     }
 
-    // The refblock of a range, brought into its cache, or None where there is none.
+    // Loads the refblock of a range into the cache. None if the range has none.
     pub(crate) fn load_block<S: Storage>(
         &self,
         file: &mut ImageFile<S>,
@@ -122,7 +122,7 @@ impl Allocator {
         Ok(Some(cluster))
     }
 
-    // Counts a cluster whose count is 0: false where it isn't, and for one that is spared. Cluster 0 is the header's,
+    // Increments a refcount of 0. False if it isn't 0, and for a spared cluster. Cluster 0 is the header's,
     // and is never counted here.
     pub(crate) fn raise<S: Storage>(
         &mut self,
@@ -150,8 +150,8 @@ impl Allocator {
         Ok(file.caches.rb_is_zero(block, index) && file.caches.rb_increment(block, index))
     }
 
-    // Sees to it that the range of a cluster has a refblock, with a longer reftable where the range lies past its end.
-    // A reftable without entries doesn't get longer.
+    // Makes sure that the range of a cluster has a refblock, and makes the reftable longer if the range lies past its end.
+    // A reftable without entries is not made longer.
     pub(crate) fn reach_block<S: Storage>(
         &mut self,
         file: &mut ImageFile<S>,
@@ -174,7 +174,7 @@ impl Allocator {
         if self.reftable.in_bounds(index) {
             return self.ensure_block(file, cluster);
         }
-        // Without entries nothing tells which clusters are in use.
+        // Without entries, nothing says which clusters are in use.
         let entries = self.reftable.len();
         if entries == 0 {
             return Err(ImageError::Limit);
@@ -183,7 +183,7 @@ impl Allocator {
         self.ensure_block(file, cluster)
     }
 
-    // Sees to it that the range of a cluster has a refblock. No cluster is taken for one that couldn't be named.
+    // Makes sure that the range of a cluster has a refblock. A new refblock always lies where an entry can hold its offset.
     fn ensure_block<S: Storage>(
         &mut self,
         file: &mut ImageFile<S>,
@@ -218,7 +218,7 @@ impl Allocator {
         }
     }
 
-    // Takes the lowest free cluster below an end, on the way making refblocks that count themselves. Cluster 0 is the header's.
+    // Allocates the lowest free cluster below an end, and makes refblocks that count themselves if they are needed. Cluster 0 is the header's.
     fn take_lowest_below<S: Storage>(
         &mut self,
         file: &mut ImageFile<S>,
@@ -252,7 +252,7 @@ impl Allocator {
         Ok(None)
     }
 
-    // Sees to it that a range has a refblock. A new one lies in the range's first cluster and counts itself.
+    // Makes sure that a range has a refblock. A new one lies in the range's first cluster and counts itself.
     fn cover_range<S: Storage>(
         &mut self,
         file: &mut ImageFile<S>,
@@ -279,8 +279,8 @@ impl Allocator {
         self.place_block(file, range, at, true)
     }
 
-    // Makes the refblock of a range in a cluster that it may lie in: one that was taken for it, or the range's first one, where it counts itself.
-    // The entry that names it is written last.
+    // Makes the refblock of a range in a cluster that was allocated for it, or in the range's first cluster, where it counts itself.
+    // Its reftable entry is written last.
     fn place_block<S: Storage>(
         &mut self,
         file: &mut ImageFile<S>,
@@ -308,7 +308,7 @@ impl Allocator {
         Ok(())
     }
 
-    // Whether the reftable has a place for the refblock of a range, and that may lie in a cluster: never in cluster 0, which is the header's.
+    // Whether the reftable has an entry for a range, and the entry may hold this cluster. It may not hold cluster 0, which is the header's.
     fn can_name(&self, cluster_bits: u32, index: usize, cluster: HostCluster) -> bool
         requires { cluster_bits < 64 }
         ensures within { IsTrue result → index < entry_count self.now.reftable }

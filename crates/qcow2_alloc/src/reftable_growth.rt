@@ -1,4 +1,4 @@
-//! A longer reftable.
+//! Replacing the reftable by a longer one.
 ghost use Rattle.std.specs.Prelude.{◌≡◌, ℕ, ◌+◌, ◌-◌, ◌/◌, ◌%◌, ◌^◌, ◌<◌, ◌≤◌, length, IfOk, IfErr, IfSome, IsSome};
 ghost use Rattle.std.specs.Prelude.{OnOk, OnErr, IsErrOf};
 ghost use Rattle.qcow2_laws.specs.CrashInvariant.{Pending};
@@ -26,9 +26,9 @@ use std::alloc::Global;
 
 #[tactic(auto, using(crate::proofs::TableErrors::metadata_of_tables))]
 impl Allocator {
-    /// Makes the reftable long enough to have an entry of an index. The new one, with the refblocks that it needs, lies in a run of free
-    /// clusters: first the refblocks, then the table. The old one is listed to be freed. Refused 13 (limit) where it would have more than
-    /// 1,048,576 entries, or finds no such run. Where the work meets them: 14 (memory), 15 (storage).
+    /// Makes the reftable long enough for an index. The new table, with the refblocks that it needs, lies in a run of free
+    /// clusters: first the refblocks, then the table. The clusters of the old one wait to be freed. Refused 13 (limit) if the table would have
+    /// more than 1,048,576 entries, or there is no such run, and 14 (memory) and 15 (storage) if the work meets them.
     pub fn grow_reftable<S: Storage>(
         &mut self,
         file: &mut ImageFile<S>,
@@ -56,7 +56,7 @@ impl Allocator {
         }
     }
 
-    // The entries in a table that is long enough for an index. It has no place yet.
+    // A table with the same entries that is long enough for an index. It has no place yet.
     fn longer_reftable(
         &self,
         alloc: Global,
@@ -87,7 +87,7 @@ impl Allocator {
         Ok(table)
     }
 
-    // Room on the list of clusters to be freed for those of the reftable.
+    // Memory on the list of clusters to free for those of the reftable.
     fn former_reftable(&self, alloc: Global) -> Result<PendingClusters, ImageError>
         ensures run { IfOk result (λ former. IfSome self.now.reftable.cluster
             (λ c. former ≡ metadata_entry c
@@ -110,7 +110,7 @@ impl Allocator {
         Ok(former)
     }
 
-    // Finds room for a longer reftable with the refblocks that it lacks, and writes it there. It has to name all of that room.
+    // Finds room for a longer reftable with the refblocks that it needs, and writes it there. It must have entries for all of that room.
     fn enter_reftable<S: Storage>(
         &mut self,
         file: &mut ImageFile<S>,

@@ -1,4 +1,4 @@
-//! How long a reftable becomes.
+//! How long a new reftable must be.
 ghost use Rattle.std.specs.Prelude.{ℕ, ◌^◌, ◌<◌, ◌≤◌, IfSome, IfNone};
 ghost use Rattle.qcow2_alloc.specs.Growing.{IsLongEnough, IsLeastLength};
 
@@ -23,12 +23,12 @@ pub(crate) fn grown_length(old: u64, index: u64, per_cluster: u64, per_block: u6
     if counts == 0 {
         return None;
     }
-    // The clusters that one cluster of entries lets be counted, beside itself. Where there are none, only index 0 has room above it.
+    // How many further clusters one cluster of entries allows to count. If there are none, only index 0 has room above it.
     let more = per_cluster * counts - 1;
     if more < index.min(1) {
         return None;
     }
-    // So many clusters reach above the index, so many are as long as the old ones, and so many count themselves above the index.
+    // Clusters of entries needed to reach above the index, to be as long as before, and to count themselves above the index.
     let above = index / per_cluster + 1;
     let longer = old.div_ceil(per_cluster);
     let counted = (index * counts).div_ceil(more.max(1));

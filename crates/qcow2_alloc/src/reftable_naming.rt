@@ -12,7 +12,7 @@ use image_access::Storage;
 use qcow2_metadata::RefTable;
 
 impl Allocator {
-    // Writes the pointer that names a longer reftable, which stands ready with its refblocks, and is the allocator's then.
+    // Writes the pointer to a longer reftable that is ready with its refblocks. The allocator uses that table from then on.
     pub(crate) fn name_reftable<S: Storage>(
         &mut self,
         file: &mut ImageFile<S>,

@@ -1,5 +1,5 @@
-//! Clusters that the header, the reftable and the L1 table name as an image is opened. They aren't taken, even if they
-//! aren't counted.
+//! Clusters that the header, the reftable and the L1 table refer to when an image is opened. They are not allocated, even if their refcounts
+//! are 0.
 ghost use Rattle.std.specs.Prelude.{◌≡◌, ◌↔◌, ℕ, ◌+◌, ◌^◌, ◌<◌, IsTrue};
 ghost use Rattle.number_runs.specs.NumberRuns.{IsIn};
 ghost use Rattle.qcow2_laws.specs.CrashInvariant.{Pending};
@@ -13,13 +13,13 @@ use crate::{Allocator, ImageFile};
 use image_access::Storage;
 use qcow2_metadata::{ClusterCount, Header, L1Table};
 
-/// How many runs of spared clusters there are at most.
+/// The greatest number of runs of spared clusters.
 pub(crate) const MOST_SPARED: usize = 1 << 18;
 
 impl Allocator {
-    /// Spares the clusters that the header, the reftable and an L1 table name: until they are freed, a search passes over
-    /// them, even if they aren't counted. False where that takes more than 262,144 runs, or memory that isn't found:
-    /// some aren't spared then.
+    /// Spares the clusters that the header, the reftable and an L1 table refer to: until they are freed, a search passes over
+    /// them, even if their refcounts are 0. False if that takes more than 262,144 runs, or memory runs out:
+    /// some are not spared then.
     pub fn spare_named<S: Storage>(&mut self, file: &ImageFile<S>, l1_table: &L1Table) -> bool
         ensures rest { self.new ≡ record self.old { named = self.new.named } }
         ensures spares { Spares (IsNamedHere file.now.header.fields self.old.reftable l1_table.now)
@@ -55,7 +55,7 @@ impl Allocator {
         self.spare_run(reftable_offset >> bits, clusters)
     }
 
-    // Spares so many clusters from one on.
+    // Spares n clusters from one on.
     fn spare_run(&mut self, first: u64, n: u64) -> bool
         requires { first + n < 2 ^ 64 }
         ensures rest { self.new ≡ record self.old { named = self.new.named } }
@@ -69,7 +69,7 @@ impl Allocator {
         true
     }
 
-    // Spares the refblocks that the reftable names.
+    // Spares the refblocks that the reftable refers to.
     fn spare_refblocks(&mut self, bits: u32) -> bool
         requires { bits < 64 }
         ensures rest { self.new ≡ record self.old { named = self.new.named } }
@@ -86,7 +86,7 @@ impl Allocator {
         true
     }
 
-    // Spares the L2 tables that an L1 table names.
+    // Spares the L2 tables that an L1 table refers to.
     fn spare_l2_tables(&mut self, l1_table: &L1Table, bits: u32) -> bool
         requires { bits < 64 }
         ensures rest { self.new ≡ record self.old { named = self.new.named } }
@@ -103,7 +103,7 @@ impl Allocator {
         true
     }
 
-    // Spares a cluster. False where there is no room for one more run.
+    // Spares a cluster. False if there is no room for another run.
     fn spare(&mut self, cluster: u64) -> bool
         ensures rest { self.new ≡ record self.old { named = self.new.named } }
         ensures spares { Spares (λ k. k ≡ cluster) self.old.named self.new.named result }
@@ -111,7 +111,7 @@ impl Allocator {
         self.named.give(cluster, true, true)
     }
 
-    // A cluster is spared no longer. Where there is no room to split its run, none is.
+    // Spares a cluster no longer. If there is no room to split its run, none of the run is spared.
     pub(crate) fn spare_no_longer(&mut self, cluster: u64)
         ensures rest { self.new ≡ record self.old { named = self.new.named } }
         ensures fewer { (k : ℕ) → IsIn self.new.named k → IsIn self.old.named k }

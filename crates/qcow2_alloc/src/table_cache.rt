@@ -1,4 +1,4 @@
-//! A cache of tables that knows which of them are modified, in the order of their last use.
+//! A cache of tables in the order of their last use, which remembers which of them are modified.
 ghost use Rattle.std.specs.Prelude.{◌||◌, ◌≡◌, ◌≢◌, ◌<◌, ◌↔◌, IsTrue, cond, [], length, option_copied, option_map};
 ghost use Rattle.std.specs.Prelude.{IsSome, IsNone, IfOk, IfSome, OnErr, Ok, Err, None, true, false};
 ghost use Rattle.std.specs.List.{IsDistinct};
@@ -25,8 +25,8 @@ use std::hash::Hash;
 use std::marker::Model;
 pub use uses::Uses;
 
-/// A cache whose modified values are found without a walk over the others. Each key that it holds has the number of its last use, and the
-/// keys of modified values are kept by their numbers.
+/// A cache whose modified values are found without a walk over the others. Each key has the number of its last use, and the
+/// keys of modified values are stored by these numbers.
 #[derive(Drop)]
 pub struct TableCache<B: TableBackend> {
     cache: AsyncLruCache<B>,
@@ -46,7 +46,7 @@ impl<B: TableBackend> Model for TableCache<B> {
 }
 
 impl<B: TableBackend> TableCache<B> {
-    /// An empty cache of at most `size` entries. Refused where memory is missing.
+    /// An empty cache of at most `size` entries. Refused if memory runs out.
     pub fn new(alloc: Global, backend: B, size: usize) -> Result<Self, AllocError>
     where
         B: Drop,
@@ -66,7 +66,7 @@ impl<B: TableBackend> TableCache<B> {
         Ok(TableCache { cache, uses })
     }
 
-    /// The value under a key. The order stays.
+    /// The value under a key. The order stays the same.
     pub fn peek(&self, key: B::Key) -> Option<&B::Value>
         ensures value { option_copied result ≡ value_at (B.Key.eq key) self.now.entries }
         ensures distinct { IsDistinct B.Key.eq (keys_of self.now.entries) }
@@ -75,7 +75,7 @@ impl<B: TableBackend> TableCache<B> {
         self.cache.peek(key)
     }
 
-    /// Pins the entry under a key once more. False where there is none, or no count for it.
+    /// Adds a pin to the entry under a key. False if there is no entry, or its number of pins is the greatest one.
     pub fn pin(&mut self, key: B::Key) -> bool
         ensures value { result ≡ can_pin (B.Key.eq key) self.old.entries }
         ensures entries { self.new ≡ with_entries self.old (pin_at (B.Key.eq key) self.old.entries) }
@@ -83,7 +83,7 @@ impl<B: TableBackend> TableCache<B> {
         self.cache.pin(key)
     }
 
-    /// Takes a pin from the entry under a key. False where there is none.
+    /// Removes a pin from the entry under a key. False if it has none.
     pub fn unpin(&mut self, key: B::Key) -> bool
         ensures value { result ≡ can_unpin (B.Key.eq key) self.old.entries }
         ensures entries { self.new ≡ with_entries self.old (unpin_at (B.Key.eq key) self.old.entries) }
@@ -91,14 +91,14 @@ impl<B: TableBackend> TableCache<B> {
         self.cache.unpin(key)
     }
 
-    /// Whether the entry under a key has a pin. False where there is none.
+    /// Whether the entry under a key is pinned. False if there is no entry.
     pub fn is_pinned(&self, key: B::Key) -> bool
         ensures { IsTrue result ↔ (0 < pins_at (B.Key.eq key) self.now.entries) }
     {
         self.cache.is_pinned(key)
     }
 
-    /// The key of some entry with a pin. None where there is no such entry.
+    /// The key of some pinned entry, if there is one.
     pub fn first_pinned(&self) -> Option<B::Key>
         ensures none { IsNone result → pinned self.now.entries ≡ [] }
         ensures some { IfSome result (λ key. 0 < pins_at (B.Key.eq key) self.now.entries) }
@@ -106,7 +106,7 @@ impl<B: TableBackend> TableCache<B> {
         self.cache.first_pinned()
     }
 
-    /// Gives the entry under a key to the backend, unflushed. False where there is none, or it is pinned.
+    /// Removes the entry under a key, unflushed, and gives it to the backend. False if there is none, or it is pinned.
     pub fn remove(&mut self, key: B::Key) -> bool
         ensures distinct { IsDistinct B.Key.eq (keys_of self.old.entries) }
         ensures value { result ≡ can_remove (B.Key.eq key) self.old.entries }
@@ -122,9 +122,9 @@ impl<B: TableBackend> TableCache<B> {
         true
     }
 
-    /// Brings the value under a key to the front; where it isn't there, it is loaded first: true. False where the cache is full and
-    /// nothing may be flushed. Where it may, the least recently used entry with no pin is flushed and then removed. What it answers
-    /// is refused as that of an `AsyncLruCache` is. The call itself is refused where there is no memory for the key's place, and then
+    /// Brings the value under a key to the front, and loads it before if it isn't in the cache: true. False if the cache is full and
+    /// nothing may be flushed. If flushing is allowed, the least recently used entry without a pin is flushed and then removed. The inner
+    /// result is refused as that of an `AsyncLruCache` is. The call itself is refused if there is no memory for the key, and then
     /// nothing changed.
     pub fn get_or_insert(
         &mut self,
@@ -141,13 +141,13 @@ impl<B: TableBackend> TableCache<B> {
         ensures kept { KeepsOthers B.Key.eq key self.old self.new }
         ensures keeps { B.keeps store.old store.new }
 
-        // What is got is in front. Only the least recently used entry with no pin goes, after its flush succeeded.
+        // The value is at the front. Only the least recently used entry without a pin is removed, after its flush succeeded.
         ensures front { IfOk result (λ got. got ≡ Ok true → IsInFront (B.Key.eq key) self.new.entries) }
         ensures eviction { OnlyOldestGoes B.Key.eq
             (λ e. (w : B.Value) × (t : B.Store)
             × (B.steps self.old.backend).flushed store.old e.0 e.1.value w t) self.old.entries self.new.entries }
 
-        // The bytes of the store, with the modified values laid over, stay.
+        // The bytes of the store, with the modified values laid over, stay the same.
         ensures known { KeepsKnown B.Key.eq B.is_modified B.bytes
             (B.stored self.old.backend) B.is_honest store.old self.old.entries store.new self.new.entries }
     {
@@ -159,7 +159,7 @@ impl<B: TableBackend> TableCache<B> {
         }
     }
 
-    // Loads a value whose key isn't there, as `get_or_insert` does.
+    // Loads a value under a new key, as `get_or_insert` does.
     fn get_new(
         &mut self,
         store: &mut B::Store,
@@ -190,10 +190,10 @@ impl<B: TableBackend> TableCache<B> {
         Ok(got)
     }
 
-    /// Puts a value in front: true. Under a key that isn't there it is put as if it were loaded. Else it takes the place of the value
-    /// that is there, which is flushed first. It is taken only then. False where nothing may be flushed and it had to be, and where there
-    /// is no value. What it answers is refused as that of an `AsyncLruCache` is, with the value left to the caller. The call itself is
-    /// refused where there is no memory for the key's place, and then nothing changed.
+    /// Puts a value at the front: true. For a new key the value is inserted as if it were loaded. Otherwise it replaces the value
+    /// under the key, which is flushed first. It is taken out of `value` only then. False if a flush is needed and not allowed, and if there
+    /// is no value. The inner result is refused as that of an `AsyncLruCache` is, and the caller keeps the value. The call itself is
+    /// refused if there is no memory for the key, and then nothing changed.
     pub fn insert(
         &mut self,
         store: &mut B::Store,
@@ -214,7 +214,7 @@ impl<B: TableBackend> TableCache<B> {
         ensures kept { KeepsOthers B.Key.eq key self.old self.new }
         ensures keeps { B.keeps store.old store.new }
 
-        // The value is laid over the known bytes where it is taken, and else they stay.
+        // The value is laid over the known bytes if it was taken. Otherwise they stay the same.
         ensures laid { IfSome value.old
             (λ v. result ≡ Ok (Ok true) → LaysOver B.Key.eq B.is_modified B.bytes
             (B.stored self.old.backend) B.is_honest key v store.old self.old.entries store.new self.new.entries) }
@@ -237,7 +237,7 @@ impl<B: TableBackend> TableCache<B> {
         self.replace(store, key, value, is_marked)
     }
 
-    // Puts in a value whose key isn't there, as `insert` does.
+    // Inserts a value under a new key, as `insert` does.
     fn insert_new(
         &mut self,
         store: &mut B::Store,
@@ -273,7 +273,7 @@ impl<B: TableBackend> TableCache<B> {
         Ok(put)
     }
 
-    // Puts a value in the place of one that is there, as `insert` does.
+    // Replaces the value under a key, as `insert` does.
     fn replace(
         &mut self,
         store: &mut B::Store,
@@ -308,8 +308,8 @@ impl<B: TableBackend> TableCache<B> {
         Ok(put)
     }
 
-    /// Changes the value under a key, and answers what the change does; None where there is none. The order stays. Takes no memory: since
-    /// the key was put in there is room for it among the modified ones.
+    /// Changes the value under a key, and returns what the change returns; None if there is no value. The order stays the same. Needs no memory:
+    /// the key has had room among the modified ones since it was inserted.
     pub fn change<C: Change<B>>(&mut self, key: B::Key, how: &C) -> Option<C::Answer>
         requires { IfSome (lookup (B.Key.eq key) self.old.entries) (λ s. C.accepts how.now s.value) }
         ensures missing { IsNone (lookup (B.Key.eq key) self.old.entries) → (result ≡ None) × (self.new ≡ self.old) }
@@ -325,8 +325,8 @@ impl<B: TableBackend> TableCache<B> {
         Some(answer)
     }
 
-    /// Takes out each entry with no pin, unflushed. Refused `StillInUse` with the keys of those that are pinned, which stay. Refused
-    /// `Memory` where the keys have no room, and then nothing changed.
+    /// Removes each entry without a pin, unflushed. Refused `StillInUse` with the keys of the pinned entries, which stay. Refused
+    /// `Memory` if there is no memory for the keys, and then nothing changed.
     pub fn invalidate(&mut self) -> Result<(), CacheError<B::Key, B::Error>>
         ensures distinct { IsDistinct B.Key.eq (keys_of self.old.entries) }
         ensures answer { Invalidates self.old.entries result self.new.entries }
@@ -345,7 +345,7 @@ impl<B: TableBackend> TableCache<B> {
         }
     }
 
-    // The keys of the entries with a pin, the most recently used first.
+    // The keys of the pinned entries, the most recently used first.
     fn pinned_keys(&self) -> Result<Vec<B::Key>, AllocError>
         ensures ok { IfOk result (λ keys. keys.items ≡ keys_of (pinned self.now.entries)) }
         ensures err { OnErr result (0 < length (pinned self.now.entries)) }
@@ -353,7 +353,7 @@ impl<B: TableBackend> TableCache<B> {
         self.cache.pinned_keys()
     }
 
-    // The key of the least recently used entry with no pin.
+    // The key of the least recently used entry without a pin.
     fn next_out(&self) -> Option<B::Key>
         ensures distinct { IsDistinct B.Key.eq (keys_of self.now.entries) }
         ensures oldest { result ≡ option_map (λ e. e.0) (oldest_free self.now.entries) }
@@ -362,7 +362,7 @@ impl<B: TableBackend> TableCache<B> {
         self.cache.next_out()
     }
 
-    // Takes out each entry with no pin, unflushed.
+    // Removes each entry without a pin, unflushed.
     fn take_free(&mut self)
         ensures { self.new ≡ with_entries self.old (pinned self.old.entries) }
     {
@@ -371,8 +371,8 @@ impl<B: TableBackend> TableCache<B> {
         }
     }
 
-    /// Flushes each modified entry, the most recently used first, also past a failure. An entry that fails stays modified. Refused `Backend`
-    /// with the first failure. Takes no memory.
+    /// Flushes each modified entry, the most recently used first, and continues after a failure. An entry that fails stays modified. Refused
+    /// `Backend` with the first failure. Needs no memory.
     pub fn flush(&mut self, store: &mut B::Store) -> Result<(), CacheError<B::Key, B::Error>>
         ensures distinct { IsDistinct B.Key.eq (keys_of self.old.entries) }
         ensures flushed { Flushes (B.steps self.old.backend)
@@ -408,7 +408,7 @@ impl<B: TableBackend> TableCache<B> {
         first
     }
 
-    // Flushes the entry under a key that is there, and returns its failure. The key stays among the modified ones where it fails.
+    // Flushes the entry under a key, and returns its failure. After a failure the key stays among the modified ones.
     fn flush_one(&mut self, store: &mut B::Store, key: B::Key) -> Option<B::Error>
         requires { IsSome (lookup (B.Key.eq key) self.old.entries) }
         ensures flushed { IfSome (lookup (B.Key.eq key) self.old.entries) (λ s.
@@ -421,7 +421,7 @@ impl<B: TableBackend> TableCache<B> {
         failure_of(flushed)
     }
 
-    // The key of the modified entry that was used last.
+    // The key of the most recently used modified entry.
     fn first_modified(&self) -> Option<B::Key>
         ensures distinct { IsDistinct B.Key.eq (keys_of self.now.entries) }
         ensures found { IsFoundAs B.Key.eq result (first_marked (marks_in B.is_modified self.now.entries)) }
@@ -430,7 +430,7 @@ impl<B: TableBackend> TableCache<B> {
         self.uses.first_marked()
     }
 
-    // The key of the modified entry that was used last before the one under a key, which is there.
+    // The key of the modified entry that was used last before the one under this key.
     fn next_modified(&self, key: B::Key) -> Option<B::Key>
         ensures distinct { IsDistinct B.Key.eq (keys_of self.now.entries) }
         ensures found { IsFoundAs B.Key.eq result
@@ -441,7 +441,7 @@ impl<B: TableBackend> TableCache<B> {
     }
 }
 
-// Marks a key that is there, or takes its mark.
+// Marks a key that is in the cache, or removes its mark.
 fn set_mark<K: Copy + Eq + Hash>(uses: &mut Uses<K>, key: K, is_marked: bool)
     ensures { uses.new ≡ set_value (K.eq key) uses.old is_marked }
 {
@@ -452,7 +452,7 @@ fn set_mark<K: Copy + Eq + Hash>(uses: &mut Uses<K>, key: K, is_marked: bool)
     }
 }
 
-// The backend's failure in the answer of a flush.
+// The backend's failure in the result of a flush.
 fn failure_of<K: Drop, E: Drop>(answer: Result<bool, CacheError<K, E>>) -> Option<E>
     ensures { result ≡ failure_of answer }
 {
@@ -462,7 +462,7 @@ fn failure_of<K: Drop, E: Drop>(answer: Result<bool, CacheError<K, E>>) -> Optio
     }
 }
 
-// Takes a key out that a cache doesn't hold any more, or its mark where its value isn't modified.
+// Removes a key that the cache does not hold any more, or the mark of a key whose value is unmodified.
 fn settle<B: TableBackend>(cache: &AsyncLruCache<B>, uses: &mut Uses<B::Key>, key: Option<B::Key>)
     ensures { uses.new ≡ option_map_or (λ k. settled B.Key.eq B.is_modified cache.now.entries k uses.old) key uses.old }
 {

@@ -14,7 +14,7 @@ use image_access::Storage;
 use qcow2_metadata::HostCluster;
 
 impl Allocator {
-    // Goes on behind the clusters in use from one on, and notes where the first free one may be.
+    // Passes over the clusters in use from one on, and moves the first free cluster if the search started there.
     pub(crate) fn pass_used<S: Storage>(
         &mut self,
         file: &mut ImageFile<S>,
@@ -42,7 +42,7 @@ impl Allocator {
         Ok(next)
     }
 
-    // Where the clusters in use from one on end, as its refblock tells, at the end of its range at the latest. Without a refblock there are none.
+    // The end of the clusters in use from one on, by its refblock, at most the end of its range. Without a refblock none is in use.
     pub(crate) fn behind_used<S: Storage>(
         &self,
         file: &mut ImageFile<S>,
