@@ -1,4 +1,4 @@
-//! The disk below an image.
+//! Replacing the backing disk of an image.
 ghost use Rattle.std.specs.Prelude.{◌≡◌, ◌↔◌, IsTrue, IsErr, IfErr, OnOk, List, Option, Err, false};
 ghost use Rattle.qcow2_alloc.specs.declared.error.ImageError.TheVariants.{Failed, MappingPrepared};
 ghost use Rattle.qcow2_image.specs.declared.prepared.Prepared.{Prepared};
@@ -11,8 +11,8 @@ use crate::{ImageError, Qcow2};
 use image_access::{Storage, WrappedFormat};
 
 impl<S: Storage, F: WrappedFormat<S>> Qcow2<S, F> {
-    /// Takes a disk below the image, or none, in the place of the one that is there, which is dropped. Refused 16 (failed), and
-    /// 17 (mapping prepared) while a mapping is prepared that isn't existing. Then the disk is handed back.
+    /// Sets the backing disk of the image, or none. The old one is dropped. Refused 16 (failed), and
+    /// 17 (mapping prepared) while a mapping is prepared that isn't existing. A refusal hands the disk back.
     pub fn set_backing(&mut self, backing: Option<F>) -> Result<(), (Option<F>, ImageError)>
         ensures failed { IsTrue (is_failed self.old) → (result ≡ Err (backing, Failed)) × (self.new ≡ self.old) }
         ensures refused { is_failed self.old ≡ false

@@ -1,4 +1,4 @@
-//! Making a new image.
+//! Creating an image.
 ghost use Rattle.qcow2_image.specs.Limits.{IfLimit, IsLimited};
 ghost use Rattle.std.specs.Prelude.{ℕ, ◌≡◌, ◌≢◌, ◌⊎◌, ◌↔◌, ◌^◌, ◌<◌, ◌≤◌, [], None, IfSome, IfNone, IfOk, IfErr, IsNone, OnOk};
 ghost use Rattle.std.specs.Prelude.{IsSome, IsTrue, is_some, false};
@@ -31,7 +31,7 @@ use qcow2_alloc::{ImageError, ImageStorage, WriteKind};
 use qcow2_metadata::{GuestOffset, Header, HostCluster, MAX_L1_ENTRIES, RefBlock, RefTable};
 use std::alloc::{AllocError, Global};
 
-/// What a new image is to be like. What it is told is refused by `create` and `create_open` alone.
+/// The settings of a new image. They are checked only by `create` and `create_open`.
 #[derive(Drop)]
 pub struct Qcow2CreateBuilder<S: Storage> {
     image: S,
@@ -43,7 +43,7 @@ pub struct Qcow2CreateBuilder<S: Storage> {
     backing_format: Option<String>,
 }
 
-/// The type of the disk below where there is none, as below a new image: it has no bytes, and never fails.
+/// The backing disk of an image that has none: it has no bytes, and never fails.
 #[derive(Drop)]
 pub struct NoBacking;
 
@@ -72,7 +72,7 @@ impl<S> WrappedFormat<S> for NoBacking {
     }
 }
 
-// The binary logarithm of a power of two.
+// The binary logarithm of a number, if it is a power of two.
 fn power_of_two(number: u64) -> Option<u32>
     ensures some { IfSome result (λ bits. number ≡ 2 ^ bits) }
     ensures none { IfNone result ((bits : ℕ) → bits < 64 → number ≢ 2 ^ bits) }
@@ -85,7 +85,7 @@ fn power_of_two(number: u64) -> Option<u32>
     }
 }
 
-// Whether the longest L1 table has an entry for each cluster of a disk of this size.
+// Whether an L1 table of the greatest length covers a disk of this size.
 fn has_l1_entries(cluster_bits: u32, size: u64) -> bool
     requires low { 9 ≤ cluster_bits }
     requires high { cluster_bits ≤ 21 }
@@ -102,7 +102,7 @@ impl<S: Storage> Qcow2CreateBuilder<S> {
     ghost use Rattle.qcow2_image.specs.Created.{IsReasonAgainst, IsReasonNotToCreate, StopsCreating, allocates_over};
     ghost use Rattle.std.specs.Prelude.{None, Some, false, true};
 
-    /// A builder for a storage: a disk of no bytes for which no place is taken, clusters of 65,536 bytes and counts of 16 bits.
+    /// A builder for a storage: a disk of size 0, no preallocation, clusters of 65,536 bytes and refcounts of 16 bits.
     pub fn new(image: S) -> Qcow2CreateBuilder<S>
         ensures { result ≡ record {
           image = image;
@@ -125,7 +125,7 @@ impl<S: Storage> Qcow2CreateBuilder<S> {
         }
     }
 
-    /// The size of the disk, in bytes. One for which an L1 table of 4,194,304 entries is too short is refused 13 (limit).
+    /// The size of the disk, in bytes. A size that an L1 table of 4,194,304 entries does not cover is refused 13 (limit).
     pub fn size(mut self, size: u64) -> Qcow2CreateBuilder<S>
         ensures { result ≡ record self { size = size } }
     {
@@ -133,7 +133,7 @@ impl<S: Storage> Qcow2CreateBuilder<S> {
         self
     }
 
-    /// What place is taken for the disk, and what its bytes are.
+    /// The preallocation mode.
     pub fn preallocate(mut self, mode: PreallocateMode) -> Qcow2CreateBuilder<S>
         ensures { result ≡ record self { preallocate = mode } }
     {
@@ -141,21 +141,21 @@ impl<S: Storage> Qcow2CreateBuilder<S> {
         self
     }
 
-    /// The size of the disk that was asked for, in bytes.
+    /// The size of the disk, in bytes.
     pub fn get_size(&self) -> u64
         ensures { result ≡ self.now.size }
     {
         self.size
     }
 
-    /// What place was asked for.
+    /// The preallocation mode.
     pub fn get_preallocate(&self) -> PreallocateMode
         ensures { result ≡ self.now.preallocate }
     {
         self.preallocate
     }
 
-    /// The size of a cluster, in bytes: a power of two from 512 to 2,097,152. Any other is refused 5 (invalid option).
+    /// The cluster size in bytes: a power of two from 512 to 2,097,152. Any other is refused 5 (invalid option).
     pub fn cluster_size(mut self, cluster_size: u64) -> Qcow2CreateBuilder<S>
         ensures { result ≡ record self { cluster_size = cluster_size } }
     {
@@ -163,7 +163,7 @@ impl<S: Storage> Qcow2CreateBuilder<S> {
         self
     }
 
-    /// The bits of a count: a power of two from 1 to 64. Any other is refused 5 (invalid option).
+    /// The refcount width in bits: a power of two from 1 to 64. Any other is refused 5 (invalid option).
     pub fn refcount_width(mut self, refcount_width: u64) -> Qcow2CreateBuilder<S>
         ensures { result ≡ record self { refcount_width = refcount_width } }
     {
@@ -171,8 +171,8 @@ impl<S: Storage> Qcow2CreateBuilder<S> {
         self
     }
 
-    /// The names of the backing file and of its format, which the header gives. Names that don't fit into a cluster behind the header are
-    /// refused 5 (invalid option), and with them a mode that takes clusters 6 (preallocation).
+    /// The name of the backing file and the name of its format, for the header. Names that don't fit into the header's cluster are
+    /// refused 5 (invalid option). A mode that allocates clusters is then refused 6 (preallocation).
     pub fn backing(mut self, name: String, format: String) -> Qcow2CreateBuilder<S>
         ensures { result ≡ record self { backing_name = Some name; backing_format = Some format } }
     {
@@ -181,7 +181,7 @@ impl<S: Storage> Qcow2CreateBuilder<S> {
         self
     }
 
-    // Whether clusters are to be taken for a disk over a backing file.
+    // Whether clusters are to be allocated for a disk over a backing file.
     fn allocates_over(&self) -> bool
         ensures { result ≡ allocates_over self.now }
     {
@@ -193,7 +193,7 @@ impl<S: Storage> Qcow2CreateBuilder<S> {
         }
     }
 
-    // The binary logarithms of the cluster size and of the bits of a count. What no new image may have is refused.
+    // The binary logarithms of the cluster size and of the refcount width. Settings that no image may have are refused.
     fn check(&self) -> Result<(u32, u32), ImageError>
         ensures fits { IfOk result (HasLogarithms self.now) }
         ensures refused { ¬ IsAllowed self.now → result ≡ Err InvalidOption }
@@ -222,11 +222,11 @@ impl<S: Storage> Qcow2CreateBuilder<S> {
         Ok((cluster_bits, refcount_order))
     }
 
-    /// Writes the new image, and hands its storage back. Its disk shows zeros, and takes the place that was asked for. Refused 5
-    /// (invalid option) for clusters or counts that images don't have, and for names that don't fit; then 6 (preallocation) for a mode
-    /// that takes clusters where `backing` was called; then 13 (limit) for a size past the longest L1 table. Nothing was written then.
-    /// Where the work meets them: 13, 14 (memory), 15 (storage). Of a storage that returns other bytes than were written, refusals of
-    /// `open_image` and `resize_grow` come too.
+    /// Writes the new image, and returns its storage. The disk reads as zeros, and is allocated as the mode says. Refused 5
+    /// (invalid option) for cluster sizes or refcount widths that images don't have, and for names that don't fit; then 6 (preallocation) for a
+    /// mode that allocates clusters after `backing` was called; then 13 (limit) for a size that is too large. Nothing was written then.
+    /// Refused 13, 14 (memory) and 15 (storage) if the work meets them. If the storage returns other bytes than were written, the refusals of
+    /// `open_image` and `resize_grow` are possible too.
     pub fn create(self, alloc: Global) -> (S, Result<(), ImageError>)
         ensures stops { (S.view self.image).is_honest → StopsCreating self.preallocate self.size (S.view self.image) (S.view result.0) }
         ensures created { (S.view self.image).is_honest → IfOk result.1 (λ done. IsCreated self (S.view result.0)) }
@@ -260,7 +260,7 @@ impl<S: Storage> Qcow2CreateBuilder<S> {
     }
 
     /// Writes the new image, gives its storage to the closure, and opens for writing what the closure's builder says. Refused as `create`
-    /// is, and as that builder's `open` is: then the storage is handed back. It isn't where the closure refuses.
+    /// is, and as that builder's `open` is; the storage is returned then. It isn't if the closure refuses.
     pub fn create_open<
         F: WrappedFormat<S>,
         C: FnOnce(S) -> Result<Qcow2OpenBuilder<S, F>, ImageError>,
@@ -293,7 +293,7 @@ impl<S: Storage> Qcow2CreateBuilder<S> {
     }
 }
 
-// Nothing stands on the storage any more.
+// Makes the storage empty.
 fn clear<S: Storage>(storage: &mut ImageStorage<S>) -> Result<(), ImageError>
     ensures honest { (S.view (storage_of storage.old)).is_honest → (S.view (storage_of storage.new)).is_honest }
     ensures time { (S.view (storage_of storage.old)).is_honest
@@ -326,7 +326,7 @@ fn first_refblock(alloc: Global, header: &Header) -> Result<RefBlock, ImageError
     Ok(block)
 }
 
-// The reftable of a new image, which names that refblock.
+// The reftable of a new image, with an entry for that refblock.
 fn first_reftable(alloc: Global, header: &Header) -> Result<RefTable, ImageError>
     ensures names { IfOk result (NamesOne header.now.fields) }
     ensures fault { IfErr result IsFault }
@@ -338,7 +338,7 @@ fn first_reftable(alloc: Global, header: &Header) -> Result<RefTable, ImageError
     Ok(reftable)
 }
 
-// The header is cluster 0, the reftable 1, the refblock 2. The header is written last: before it, this is no image.
+// Writes the header to cluster 0, the reftable to cluster 1 and the refblock to cluster 2. The header is written last: before that, this is no image.
 fn write_three<S: Storage>(
     alloc: Global,
     storage: &mut ImageStorage<S>,
@@ -441,7 +441,7 @@ fn grow_and_flush<S: Storage, F: WrappedFormat<S>>(
     image.flush()
 }
 
-// Makes the disk larger in a mode. Where no place is taken the old bytes show, whatever disk is below.
+// Grows the disk in a mode. Without preallocation the old bytes show, whatever the backing disk is.
 fn grow_by<S: Storage, F: WrappedFormat<S>>(
     image: &mut Qcow2<S, F>,
     size: u64,

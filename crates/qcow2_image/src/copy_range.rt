@@ -1,17 +1,17 @@
-//! What is copied into a new cluster.
+//! Which bytes are copied into a new cluster.
 ghost use Rattle.std.specs.Prelude.{◌≡◌, ◌+◌, ◌-◌, ◌*◌, ◌/◌, ◌<◌, ◌≤◌, ◌^◌, IfSome};
 ghost use Rattle.qcow2_image.specs.CopyRange.{announced_range_of, copy_range_of, uncut_copy_range};
 
 /// A part of a cluster, in bytes from its start.
 #[derive(Clone, Copy, Debug, PartialEq, Eq)]
 pub struct CopyRange {
-    /// Where it begins.
+    /// The first byte.
     pub start: u64,
-    /// Where it ends: the first byte behind it.
+    /// The end: the byte behind the last one.
     pub end: u64,
 }
 
-/// The part of a cluster that is announced as overwritten, of a range that begins at `start` within it.
+/// The part of a cluster that the caller promised to overwrite. The range begins at `start` in the cluster.
 pub(crate) fn announced_range(
     cluster_size: u64,
     start: u64,
@@ -56,8 +56,8 @@ fn uncut(cluster_size: u64, announced: Option<CopyRange>) -> CopyRange
     }
 }
 
-/// What is copied into a new cluster of which a part may be announced as overwritten. A part in the middle doesn't help. The cluster's
-/// size and the alignment are in bytes; both ends of what is copied are rounded to the alignment.
+/// The bytes to copy into a new cluster, of which the caller may have promised to overwrite a part. A part in the middle doesn't help. The
+/// cluster size and the alignment are in bytes. Both ends of the copied range are rounded to the alignment.
 pub fn copy_range(
     cluster_size: u64,
     alignment: u64,

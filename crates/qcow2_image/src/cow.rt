@@ -1,4 +1,4 @@
-//! Filling a new cluster with the bytes that the guest saw there before.
+//! Copy on write: filling a new cluster with the bytes that the guest saw before.
 ghost use Rattle.qcow2_image.specs.ImageSteps.{FailsUnlimited, ImageStep};
 ghost use Rattle.std.specs.Prelude.{◌≡◌, ◌/◌, ◌^◌, ◌<◌, ◌≤◌, ℕ, List, Option, Some, true, false, replicate, IfOk};
 ghost use Rattle.std.specs.Prelude.{IfErr, IfSome, ◌⊎◌};
@@ -26,7 +26,7 @@ use qcow2_metadata::{GuestOffset, HostCluster, L2Mapping};
 
 #[tactic(auto, using(crate::proofs::Call::MetErrors::tables_met, crate::proofs::Call::MetErrors::storage_met, crate::proofs::Call::MetErrors::metadata_met))]
 impl<S: Storage, F: WrappedFormat<S>> Qcow2<S, F> {
-    // Fills the new cluster for an offset with what its old mapping shows, but where that is announced as overwritten.
+    // Fills the new cluster of an offset with what its old mapping shows, except where the caller promised to overwrite.
     pub(crate) fn fill_cluster(
         &mut self,
         cluster: HostCluster,
@@ -68,7 +68,7 @@ impl<S: Storage, F: WrappedFormat<S>> Qcow2<S, F> {
         self.copy_old(at, guest, &kind, range.end - range.start)
     }
 
-    // Fills the host cluster that the zero entry of an offset keeps: with zeros, but where they are announced as overwritten.
+    // Fills the host cluster that the zero entry of an offset keeps with zeros, except where the caller promised to overwrite.
     pub(crate) fn fill_kept(
         &mut self,
         host: u64,
@@ -97,7 +97,7 @@ impl<S: Storage, F: WrappedFormat<S>> Qcow2<S, F> {
         }
     }
 
-    // The part of the cluster at an offset that is filled: all of it but what is announced as overwritten at its start or its end.
+    // The part of the offset's cluster to fill: all of it, except a part at its begin or its end that the caller promised to overwrite.
     fn part_to_fill(&self, offset: u64, length: u64, overwrite: bool) -> Option<CopyRange>
         ensures within { IfSome result (λ r. (r.start < r.end) × (r.end ≤ cluster_size self.now.file.header.fields)) }
         ensures few { IfSome result (λ r. r.end ≤ 2 ^ 21) }
@@ -113,7 +113,7 @@ impl<S: Storage, F: WrappedFormat<S>> Qcow2<S, F> {
         copy_range(size, alignment, announced)
     }
 
-    // Writes what a guest sees from an offset on, in clusters that are mapped so. Zeros take no room.
+    // Writes what a guest sees from an offset on, in clusters that are mapped in this way. Zeros need no buffer.
     fn copy_old(
         &mut self,
         at: u64,
@@ -145,7 +145,7 @@ impl<S: Storage, F: WrappedFormat<S>> Qcow2<S, F> {
         self.write_data(at, bytes)
     }
 
-    // Writes zeros as data. A place in cluster 0, which no entry names, is refused 19 (metadata).
+    // Writes zeros as data. A place in cluster 0, which no entry has, is refused 19 (metadata).
     fn write_zeros(&mut self, at: u64, length: u64) -> Result<(), ImageError>
         ensures step { ImageStep S.view self.old self.new }
         ensures fails { FailsUnlimited S.view F.backing self.old self.new result IsMet }

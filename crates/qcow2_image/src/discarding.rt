@@ -1,4 +1,4 @@
-//! Clearing the whole clusters of a range: to zeros, or to what the disk below shows.
+//! Clearing the whole clusters of a range: to zeros, or to what the backing disk shows.
 ghost use Rattle.qcow2_image.specs.Limits.{IfLimit, IsLimited};
 ghost use Rattle.std.specs.Prelude.{ℕ, List, Option, ◌≡◌, ◌+◌, ◌-◌, ◌/◌, ◌%◌, ◌^◌, ◌<◌, ◌≤◌, ◌++◌, true, false, Some};
 ghost use Rattle.std.specs.Prelude.{None, Ok, Err, IfOk, IfErr, IfSome, OnOk, IsSome, IsTrue, MatchOption};
@@ -34,19 +34,19 @@ use qcow2_alloc::{ClustersToFreeEntry, ClustersToFreeList, ImageError};
 use qcow2_metadata::{ClusterCount, GuestCluster, GuestOffset, HostCluster, L2Mapping};
 use std::alloc::Global;
 
-// What stands for a cluster once it is cleared.
+// The new state of a cleared cluster.
 #[derive(Clone, Copy, Debug, PartialEq, Eq)]
 pub(crate) enum Clearance {
-    // Nothing: the disk below shows.
+    // Unmapped: the backing disk shows.
     Uncovered,
-    // Zeros, and no host cluster.
+    // A zero entry without a host cluster.
     Zeros,
-    // Zeros, with the host cluster that was marked copied.
+    // A zero entry that keeps the host cluster, if that was marked copied.
     KeptZeros,
 }
 
 impl Clearance {
-    // Whether entries have to say that clusters are zeros.
+    // Whether this needs zero entries.
     fn needs_zeros(self) -> bool
         ensures { result ≡ needs_zero_entries self }
     {
@@ -56,7 +56,7 @@ impl Clearance {
         }
     }
 
-    // The host clusters that an entry names no longer once it is cleared.
+    // The host clusters that lose a reference when the entry is cleared.
     fn old_data(self, old: L2Mapping, bits: u32) -> Option<(HostCluster, ClusterCount)>
         requires bits { bits < 64 }
         requires reach { IsInReach old }
@@ -75,7 +75,7 @@ impl Clearance {
     }
 }
 
-// An offset rounded up to a cluster, where that doesn't pass 64 bits.
+// An offset rounded up to a cluster, if it fits into 64 bits.
 pub(crate) fn rounded_up(offset: u64, size: u64) -> Option<u64>
     requires { 0 < size }
     ensures some { IfSome result (λ n. n ≡ rounded_up_to size offset) }
@@ -88,7 +88,7 @@ pub(crate) fn rounded_up(offset: u64, size: u64) -> Option<u64>
     offset.checked_add(size - behind)
 }
 
-// Puts a run of data clusters at the end of a list.
+// Adds a run of data clusters at the end of a list.
 #[tactic(auto, using(crate::proofs::Call::MetErrors::tables_met, crate::proofs::Clear::Touched::nothing_more))]
 fn list_run(
     alloc: Global,
@@ -108,12 +108,12 @@ fn list_run(
 
 #[tactic(auto, using(crate::proofs::Call::MetErrors::tables_met, crate::proofs::Call::MetErrors::storage_met, crate::proofs::Call::MetErrors::metadata_met, crate::proofs::Call::MetErrors::metadata_of_tables))]
 impl<S: Storage, F: WrappedFormat<S>> Qcow2<S, F> {
-    /// Drops the whole clusters of a range, in bytes, so that the disk below shows there. Answers where the first whole cluster begins,
-    /// and how many bytes of the range were cleared: within one L2 table, and 0 where no cluster is whole. The disk's last cluster is
-    /// whole where the range ends at the disk's size.
-    /// Refused in this order: 16 (failed), 12 (dependency), 1 (read-only), 2 (beyond size), 20 (overflow) where rounding up passes 64
-    /// bits. Then comes 9 (table prepared), where a mapping that isn't existing is prepared in its L2 table. Where the work meets them:
-    /// 4 (unaligned table), 8 (everything is in use), 13 (limit), 14 (memory), 15 (storage), and 20 where an L1 entry past 64 bits would
+    /// Discards the whole clusters of a range, in bytes, so that the backing disk shows there. Returns where the first whole cluster begins,
+    /// and how many bytes of the range were cleared: within one L2 table, and 0 if no cluster is whole. The disk's last cluster counts as
+    /// whole if the range ends at the disk's size.
+    /// Refused in this order: 16 (failed), 12 (dependency), 1 (read-only), 2 (beyond size), 20 (overflow) if rounding up passes 64
+    /// bits; then 9 (table prepared), if a mapping that isn't existing is prepared in the same L2 table. Refused 4 (unaligned table),
+    /// 8 (everything is in use), 13 (limit), 14 (memory) and 15 (storage) if the work meets them, and 20 if an L1 entry past 64 bits would
     /// have to be written.
     pub fn discard_to_backing_unsafe(
         &mut self,
@@ -127,12 +127,12 @@ impl<S: Storage, F: WrappedFormat<S>> Qcow2<S, F> {
         self.clear_range(offset, length, Clearance::Uncovered)
     }
 
-    /// Drops the whole clusters of a range, in bytes, which read as zeros then. Answers where the first whole cluster begins, and how
-    /// many bytes of the range were cleared: within one L2 table, and 0 where no cluster is whole. The disk's last cluster is whole where
+    /// Discards the whole clusters of a range, in bytes, so that they read as zeros. Returns where the first whole cluster begins, and how
+    /// many bytes of the range were cleared: within one L2 table, and 0 if no cluster is whole. The disk's last cluster counts as whole if
     /// the range ends at the disk's size.
     /// Refused in this order: 16 (failed), 12 (dependency), 1 (read-only), 2 (beyond size), 3 (version) below version 3, 20 (overflow)
-    /// where rounding up passes 64 bits. Then comes 9 (table prepared), where a mapping that isn't existing is prepared in its L2 table.
-    /// Where the work meets them: 4 (unaligned table), 8 (everything is in use), 13 (limit), 14 (memory), 15 (storage), and 20 where an L1
+    /// if rounding up passes 64 bits; then 9 (table prepared), if a mapping that isn't existing is prepared in the same L2 table. Refused
+    /// 4 (unaligned table), 8 (everything is in use), 13 (limit), 14 (memory) and 15 (storage) if the work meets them, and 20 if an L1
     /// entry past 64 bits would have to be written.
     pub fn discard_to_zero_unsafe(
         &mut self,
@@ -146,12 +146,12 @@ impl<S: Storage, F: WrappedFormat<S>> Qcow2<S, F> {
         self.clear_range(offset, length, Clearance::Zeros)
     }
 
-    /// Drops the whole clusters of a range, in bytes, whatever they read as then: zeros, today. Answers where the first whole cluster
-    /// begins, and how many bytes of the range were cleared: within one L2 table, and 0 where no cluster is whole. The disk's last
-    /// cluster is whole where the range ends at the disk's size.
+    /// Discards the whole clusters of a range, in bytes, whatever they read as then: zeros, today. Returns where the first whole cluster
+    /// begins, and how many bytes of the range were cleared: within one L2 table, and 0 if no cluster is whole. The disk's last
+    /// cluster counts as whole if the range ends at the disk's size.
     /// Refused in this order: 16 (failed), 12 (dependency), 1 (read-only), 2 (beyond size), 3 (version) below version 3, 20 (overflow)
-    /// where rounding up passes 64 bits. Then comes 9 (table prepared), where a mapping that isn't existing is prepared in its L2 table.
-    /// Where the work meets them: 4 (unaligned table), 8 (everything is in use), 13 (limit), 14 (memory), 15 (storage), and 20 where an L1
+    /// if rounding up passes 64 bits; then 9 (table prepared), if a mapping that isn't existing is prepared in the same L2 table. Refused
+    /// 4 (unaligned table), 8 (everything is in use), 13 (limit), 14 (memory) and 15 (storage) if the work meets them, and 20 if an L1
     /// entry past 64 bits would have to be written.
     pub fn discard_to_any_unsafe(
         &mut self,
@@ -165,12 +165,12 @@ impl<S: Storage, F: WrappedFormat<S>> Qcow2<S, F> {
         self.discard_to_zero_unsafe(offset, length)
     }
 
-    /// Makes the whole clusters of a range, in bytes, read as zeros. A host cluster that is marked copied is kept. Answers where the
-    /// first whole cluster begins, and how many bytes of the range were cleared: within one L2 table, and 0 where no cluster is whole.
-    /// The disk's last cluster is whole where the range ends at the disk's size.
+    /// Makes the whole clusters of a range, in bytes, read as zeros. Host clusters that are marked copied are kept. Returns where the
+    /// first whole cluster begins, and how many bytes of the range were cleared: within one L2 table, and 0 if no cluster is whole.
+    /// The disk's last cluster counts as whole if the range ends at the disk's size.
     /// Refused in this order: 16 (failed), 12 (dependency), 1 (read-only), 2 (beyond size), 3 (version) below version 3, 20 (overflow)
-    /// where rounding up passes 64 bits. Then comes 9 (table prepared), where a mapping that isn't existing is prepared in its L2 table.
-    /// Where the work meets them: 4 (unaligned table), 8 (everything is in use), 13 (limit), 14 (memory), 15 (storage), and 20 where an L1
+    /// if rounding up passes 64 bits; then 9 (table prepared), if a mapping that isn't existing is prepared in the same L2 table. Refused
+    /// 4 (unaligned table), 8 (everything is in use), 13 (limit), 14 (memory) and 15 (storage) if the work meets them, and 20 if an L1
     /// entry past 64 bits would have to be written.
     pub fn ensure_zero_mapping(
         &mut self,
@@ -206,7 +206,7 @@ impl<S: Storage, F: WrappedFormat<S>> Qcow2<S, F> {
         Ok((from, to.min(offset + length).saturating_sub(from)))
     }
 
-    // The whole clusters of a range within one L2 table: where they begin and end. Refuses a range that can't be cleared.
+    // The begin and the end of the whole clusters of a range within one L2 table. Refuses a range that can't be cleared.
     fn check_clear(
         &self,
         offset: u64,
@@ -236,7 +236,7 @@ impl<S: Storage, F: WrappedFormat<S>> Qcow2<S, F> {
         }
     }
 
-    // Where the whole clusters of a range within one L2 table begin and end, where that doesn't pass 64 bits.
+    // The begin and the end of the whole clusters of a range within one L2 table, if they fit into 64 bits.
     fn touched(&self, offset: u64, length: u64) -> Option<(u64, u64)>
         requires { passes_size (size_of self.now) offset length ≡ false }
         ensures { result ≡ (if rounds_past (cluster_size self.now.file.header.fields)
@@ -254,8 +254,8 @@ impl<S: Storage, F: WrappedFormat<S>> Qcow2<S, F> {
         Some((from, to.min(from.saturating_add(self.rest_of_table(from)))))
     }
 
-    // Clears the clusters between two offsets within one L2 table. Where that is refused, the clusters that are to be freed are
-    // freed, but after a fault and under another mapping.
+    // Clears the clusters between two offsets within one L2 table. After a refusal, the clusters on the list to be freed are
+    // freed, except after a fault and after 9.
     pub(crate) fn clear_between(
         &mut self,
         from: u64,
@@ -286,7 +286,7 @@ impl<S: Storage, F: WrappedFormat<S>> Qcow2<S, F> {
         }
     }
 
-    // Clears the clusters between two offsets within one L2 table. All that may be refused comes before the first entry changes.
+    // Clears the clusters between two offsets within one L2 table. Everything that may be refused comes before the first entry changes.
     fn clear_in_table(&mut self, from: u64, to: u64, how: Clearance) -> Result<(), ImageError>
         requires writable { IsTrue (is_writable self.old) }
         requires some { from < to }
@@ -318,7 +318,7 @@ impl<S: Storage, F: WrappedFormat<S>> Qcow2<S, F> {
         Ok(())
     }
 
-    // The host clusters that the entries of so many guest clusters name no longer once they are cleared.
+    // The host clusters that lose a reference when the entries of `count` guest clusters are cleared.
     fn old_data_in(
         &self,
         table: HostCluster,
@@ -346,7 +346,7 @@ impl<S: Storage, F: WrappedFormat<S>> Qcow2<S, F> {
         Ok(old_data)
     }
 
-    // Puts the host clusters that an entry names no longer once it is cleared at the end of a list.
+    // Adds the host clusters that lose a reference when an entry is cleared at the end of a list.
     fn list_old_data(
         &self,
         list: &mut ClustersToFreeList,
@@ -369,7 +369,7 @@ impl<S: Storage, F: WrappedFormat<S>> Qcow2<S, F> {
         list_run(self.file.alloc, list, run)
     }
 
-    // Clears so many entries of a held table.
+    // Clears `count` entries of a cached L2 table.
     fn clear_entries(&mut self, table: HostCluster, index: usize, count: usize, how: Clearance)
         ensures stays { ImageStays self.old self.new }
         ensures clears { ClearsTable S.view F.backing how table index count self.old self.new }
@@ -379,7 +379,7 @@ impl<S: Storage, F: WrappedFormat<S>> Qcow2<S, F> {
         }
     }
 
-    // Clears an entry of a held table.
+    // Clears an entry of a cached L2 table.
     fn clear_entry(&mut self, table: HostCluster, index: usize, how: Clearance)
         ensures { ClearsEntry how table index self.old self.new }
     {

@@ -37,7 +37,7 @@ use image_access::{Storage, WrappedFormat};
 use qcow2_alloc::{ClustersToFreeList, ImageError, PendingClusters};
 use qcow2_metadata::{ClusterCount, GuestOffset, HostCluster, L2Mapping};
 
-// A list of one share, in the room that was made for it.
+// A list of one share, in the given memory.
 fn of_one(share: Share, mut room: Vec<Share>) -> Vec<Share>
     requires empty { room.items ≡ [] }
     requires room { 0 < vec_capacity room }
@@ -50,7 +50,7 @@ fn of_one(share: Share, mut room: Vec<Share>) -> Vec<Share>
 
 #[tactic(auto, using(crate::proofs::Call::MetErrors::tables_met, crate::proofs::Call::MetErrors::storage_met, crate::proofs::Call::MetErrors::metadata_met, crate::proofs::Call::MetErrors::metadata_of_tables))]
 impl<S: Storage, F: WrappedFormat<S>> Qcow2<S, F> {
-    // Makes the first cluster of a range ready, with room for the shares of those behind it.
+    // Prepares the first cluster of a range, with memory for the shares of the clusters behind it.
     pub(crate) fn prepare_first(
         &mut self,
         table: HostCluster,
@@ -100,7 +100,7 @@ impl<S: Storage, F: WrappedFormat<S>> Qcow2<S, F> {
         }
     }
 
-    // Makes a range ready where its first cluster isn't copied data: in the host cluster that its zero entry keeps, or in a new one.
+    // Prepares a range whose first cluster isn't copied data: in the host cluster that its zero entry keeps, or in a new one.
     fn prepare_private(
         &mut self,
         table: HostCluster,
@@ -148,7 +148,7 @@ impl<S: Storage, F: WrappedFormat<S>> Qcow2<S, F> {
         }
     }
 
-    // Makes a range ready in the host cluster that a zero entry keeps.
+    // Prepares a range in the host cluster that a zero entry keeps.
     fn prepare_kept(
         &mut self,
         table: HostCluster,
@@ -187,7 +187,7 @@ impl<S: Storage, F: WrappedFormat<S>> Qcow2<S, F> {
         Ok(self.prepare_at(table, offset, host, Share::Kept, room))
     }
 
-    // Makes a range ready in a new cluster.
+    // Prepares a range in a new cluster.
     fn prepare_new(
         &mut self,
         table: HostCluster,
@@ -236,7 +236,7 @@ impl<S: Storage, F: WrappedFormat<S>> Qcow2<S, F> {
         }
     }
 
-    // Brings a table into its cache.
+    // Loads a table into the cache.
     fn load_l2(&mut self, table: HostCluster) -> Result<(), ImageError>
         ensures step { ImageStepWhere S.view (0 < table) self.old self.new }
         ensures fails { ImageFails S.view F.backing self.old self.new result IsMet }
@@ -257,7 +257,7 @@ impl<S: Storage, F: WrappedFormat<S>> Qcow2<S, F> {
             .l2_get_or_insert(&mut self.file.storage, table)
     }
 
-    // The mapping of the rest of a cluster, which stands at a place. Its table is kept as it is.
+    // The mapping of the rest of a cluster, at a place in the file. Its table is pinned.
     fn prepare_at(
         &mut self,
         table: HostCluster,
@@ -298,8 +298,8 @@ impl<S: Storage, F: WrappedFormat<S>> Qcow2<S, F> {
         }
     }
 
-    // Takes a cluster for the one at an offset, of which the old mapping is known, and fills it with the old bytes where they
-    // aren't announced as overwritten.
+    // Allocates a cluster for the one at an offset, whose old mapping is known, and fills it with the old bytes, except where the caller
+    // promised to overwrite.
     fn new_cluster(
         &mut self,
         offset: u64,
@@ -334,7 +334,7 @@ impl<S: Storage, F: WrappedFormat<S>> Qcow2<S, F> {
         }
     }
 
-    // Takes a cluster for data.
+    // Allocates a cluster for data.
     fn take_data(&mut self) -> Result<PendingClusters, ImageError>
         requires writable { IsTrue (is_writable self.old) }
         ensures step { ImageStep S.view self.old self.new }

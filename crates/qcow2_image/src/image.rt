@@ -13,48 +13,48 @@ use qcow2_alloc::{
 use qcow2_metadata::{Header, HostCluster, L1Table, MAGIC};
 use std::alloc::Global;
 
-/// How many L2 tables are cached.
+/// The number of L2 tables that are cached.
 const L2_TABLES: usize = 128;
 
-/// How many refblocks are cached.
+/// The number of refblocks that are cached.
 const REFBLOCKS: usize = 32;
 
-/// An open image. Its storage is `S`, the disk below it `F`. Offsets, lengths and sizes are in bytes. A call that is refused
-/// 15 (storage), or 14 (memory) after its first change, marks the image as failed. From then on only `discard_data_mapping` and the
-/// getters answer.
+/// An open image with storage `S` and backing disk `F`. Offsets, lengths and sizes are in bytes. A call that is refused
+/// 15 (storage), or 14 (memory) after its first change, makes the image fail. From then on only `discard_data_mapping` and the
+/// getters work.
 #[derive(Drop)]
 pub struct Qcow2<S: Storage, F: WrappedFormat<S> = Box<dyn BackingDisk>> {
     pub(crate) number: u64,
     pub(crate) is_failed: bool,
     pub(crate) file: ImageFile<S>,
     pub(crate) l1_table: L1Table,
-    // There where the image is writable.
+    // Present if the image is writable.
     pub(crate) allocator: Option<Allocator>,
     pub(crate) backing: Option<F>,
 }
 
-// What is loaded beside the header.
+// The tables that are loaded besides the header.
 #[derive(Drop)]
 struct Tables {
     l1_table: L1Table,
     allocator: Option<Allocator>,
 }
 
-// Whether the data stand in another file, or a backing file is named.
+// Whether the data are in an external file, or the header names a backing file.
 fn needs_another(header: &Header) -> bool
     ensures { result ≡ needs_another_of header.now }
 {
     header.has_data_file() || header.backing_name().is_some()
 }
 
-/// Which of the files that an image may need are missing as it is opened. One that needs such a file is refused then.
+/// Which of the files that an image may need are missing when it is opened. An image that needs one of them is refused.
 #[derive(Clone, Copy, Debug, PartialEq, Eq)]
 pub enum Missing {
-    /// None is.
+    /// None is missing.
     Nothing,
-    /// The file that the data stand in, where that is another one.
+    /// The external data file.
     DataFile,
-    /// That file, and the backing file that its header names.
+    /// The external data file, and the backing file that the header names.
     OtherFiles,
 }
 
@@ -103,8 +103,8 @@ impl<S: Storage, F: WrappedFormat<S>> Qcow2<S, F> {
     ghost use Rattle.qcow2_image.specs.Opened.{IsFresh, StaysFresh, IsLoaded, IsKeptSince, SameNames, LeavesFile, Opens};
     ghost use Rattle.std.specs.Option.{is_some};
 
-    /// Whether the first bytes of a storage are those of an image of version 2 or 3. Refused 14 (memory), 15 (storage), as the storage
-    /// is.
+    /// Whether a storage begins like an image of version 2 or 3. Refused 14 (memory) and 15 (storage), as the storage
+    /// refuses.
     pub fn probe(storage: &mut S) -> Result<bool, ImageError>
         ensures answer { (S.view storage.old).is_honest → IfOk result (λ found. found ≡ begins_image (byte_at (S.view storage.old).contents)) }
         ensures same { ContentsStay (S.view storage.old) (S.view storage.new) }
@@ -120,10 +120,10 @@ impl<S: Storage, F: WrappedFormat<S>> Qcow2<S, F> {
         Ok(magic == MAGIC && (version == 2 || version == 3))
     }
 
-    /// Opens an image. Other files that its header names or requires aren't asked for. A refusal hands the storage back. Images that are
-    /// open together have different numbers.
-    /// Refused for the header 19 (metadata), 13 (limit), 4 (unaligned table), in this order. Then for the L1 table 19 (metadata); to write,
-    /// for the reftable 13 (limit) where it would end past 64 bits, and 19. Where the work meets them: 14 (memory), 15 (storage).
+    /// Opens an image, whether or not it needs other files. A refusal returns the storage. Images that are
+    /// open together must have different numbers.
+    /// Refused for the header 19 (metadata), 13 (limit), 4 (unaligned table), in this order; then for the L1 table 19; and for writing, for the
+    /// reftable 13 if it would end past 64 bits, and 19. Refused 14 (memory) and 15 (storage) if the work meets them.
     pub fn open_image(
         alloc: Global,
         metadata: S,
@@ -144,10 +144,10 @@ impl<S: Storage, F: WrappedFormat<S>> Qcow2<S, F> {
         )
     }
 
-    /// Opens an image that needs no other file. One whose data stand in another, or that names a backing file, is refused
-    /// 12 (dependency) and its bytes stay.
-    /// Else it is refused as `open_image` is: for the header 19 (metadata), 13 (limit), 4 (unaligned table), before 12. Behind that come
-    /// 19 for its tables, and 13 for the reftable. Where the work meets them: 14 (memory), 15 (storage).
+    /// Opens an image that needs no other file. One that needs a data file, or names a backing file, is refused
+    /// 12 (dependency), and its bytes stay the same.
+    /// Otherwise it is refused as `open_image` is: for the header 19 (metadata), 13 (limit), 4 (unaligned table), before 12; then
+    /// 19 for its tables, and 13 for the reftable. Refused 14 (memory) and 15 (storage) if the work meets them.
     pub fn open_alone(
         alloc: Global,
         metadata: S,
@@ -168,7 +168,7 @@ impl<S: Storage, F: WrappedFormat<S>> Qcow2<S, F> {
         )
     }
 
-    // Opens the image of a wrapped storage, where these files are missing.
+    // Opens the image of a wrapped storage, with these files missing.
     pub(crate) fn open(
         alloc: Global,
         mut storage: ImageStorage<S>,
@@ -218,7 +218,7 @@ impl<S: Storage, F: WrappedFormat<S>> Qcow2<S, F> {
         }
     }
 
-    // A table without entries lies nowhere.
+    // Loads the L1 table. A table without entries has no place.
     pub(crate) fn load_l1_table(file: &mut ImageFile<S>) -> Result<L1Table, ImageError>
         ensures rest { file.new ≡ record file.old { storage = file.new.storage } }
         ensures honest { (view_in S.view file.old).is_honest → (view_in S.view file.new).is_honest }
@@ -247,7 +247,7 @@ impl<S: Storage, F: WrappedFormat<S>> Qcow2<S, F> {
         Ok(table)
     }
 
-    // For writing the reftable is loaded, and the autoclear bits are cleared last.
+    // Loads the reftable, and clears the autoclear bits last. Called for writing.
     fn load_allocator(file: &mut ImageFile<S>) -> Result<Allocator, ImageError>
         ensures format { OnOk result (SameFormat file.old.header.fields file.new.header.fields) }
         ensures names { OnOk result (SameNames file.old.header file.new.header) }
@@ -274,8 +274,8 @@ impl<S: Storage, F: WrappedFormat<S>> Qcow2<S, F> {
         Ok(allocator)
     }
 
-    // Loads the L1 table and, for writing, the reftable. No cluster that these name is taken then, even if it isn't
-    // counted.
+    // Loads the L1 table and, for writing, the reftable. The clusters that these refer to are never allocated then, even if their refcounts are
+    // 0.
     fn load_tables(file: &mut ImageFile<S>, writable: bool) -> Result<Tables, ImageError>
         ensures allocator { IfOk result (λ tables. is_some tables.allocator ≡ writable) }
         ensures storage { LeavesFile S.view writable file.old file.new result }
@@ -312,7 +312,7 @@ impl<S: Storage, F: WrappedFormat<S>> Qcow2<S, F> {
         })
     }
 
-    /// Closes the image and hands its storage back. What isn't flushed is forgotten.
+    /// Closes the image and returns its storage. Everything that was not flushed is lost.
     pub fn into_storage(self) -> S
         ensures { result ≡ storage_of_image self }
     {
@@ -327,7 +327,7 @@ impl<S: Storage, F: WrappedFormat<S>> Qcow2<S, F> {
         file.into_storage()
     }
 
-    /// The number that it was opened with.
+    /// The number that the image was opened with.
     pub fn number(&self) -> u64
         ensures { result ≡ number_of self.now }
     {
@@ -350,7 +350,7 @@ impl<S: Storage, F: WrappedFormat<S>> Qcow2<S, F> {
         self.file.header.size()
     }
 
-    /// Whether it was opened for writing.
+    /// Whether the image was opened for writing.
     pub fn writable(&self) -> bool
         ensures { result ≡ is_writable self.now }
     {
@@ -366,7 +366,7 @@ impl<S: Storage, F: WrappedFormat<S>> Qcow2<S, F> {
         self.file.header.cluster_size()
     }
 
-    /// How many bytes are zeroed at least: a cluster, from version 3 on.
+    /// The smallest number of bytes that can be zeroed: a cluster, from version 3 on.
     pub fn zero_granularity(&self) -> Option<u64>
         ensures { result ≡ (if nat_le 3 self.now.file.header.fields.version then Some (cluster_size self.now.file.header.fields) else None) }
     {
@@ -377,35 +377,35 @@ impl<S: Storage, F: WrappedFormat<S>> Qcow2<S, F> {
         }
     }
 
-    /// Whether its header says that the data stand in another file.
+    /// Whether the header requires an external data file.
     pub fn requires_external_data_file(&self) -> bool
         ensures { result ≡ is_external self.now }
     {
         self.file.header.has_data_file()
     }
 
-    /// The name of that file, where the header gives one.
+    /// The name of the external data file, if the header has one.
     pub fn implicit_external_data_file(&self) -> Option<&String>
         ensures { option_map (λ s. string_bytes s.now) result ≡ self.now.file.header.data_file_name }
     {
         self.file.header.data_file_name()
     }
 
-    /// The name of the backing file, where the header gives one.
+    /// The name of the backing file, if the header has one.
     pub fn implicit_backing_file(&self) -> Option<&String>
         ensures { option_map (λ s. string_bytes s.now) result ≡ self.now.file.header.backing_name }
     {
         self.file.header.backing_name()
     }
 
-    /// The format of the backing file, where the header gives one.
+    /// The format of the backing file, if the header has one.
     pub fn implicit_backing_format(&self) -> Option<&String>
         ensures { option_map (λ s. string_bytes s.now) result ≡ self.now.file.header.backing_format }
     {
         self.file.header.backing_format()
     }
 
-    /// How many clusters couldn't be freed, up to the greatest `u64`.
+    /// How many clusters could not be freed. The counter stops at the greatest `u64`.
     pub fn leaked_clusters(&self) -> u64
         ensures { result ≡ leaked_in self.now }
     {
@@ -415,8 +415,8 @@ impl<S: Storage, F: WrappedFormat<S>> Qcow2<S, F> {
         }
     }
 
-    /// Frees the clusters that are to be freed, writes what is cached, and flushes the storage. Refused 16 (failed), then 14 (memory),
-    /// 15 (storage) where the work meets them.
+    /// Frees the clusters that wait to be freed, writes the cached tables, and flushes the storage. Refused 16 (failed), and 14 (memory)
+    /// and 15 (storage) if the work meets them.
     pub fn flush(&mut self) -> Result<(), ImageError>
         ensures step { CallStep S.view F.backing self.old self.new result }
         ensures early { IsTrue (is_failed self.old) → (result ≡ Err Failed) × (self.new ≡ self.old) }
@@ -459,7 +459,7 @@ impl<S: Storage, F: WrappedFormat<S>> Qcow2<S, F> {
         Ok(())
     }
 
-    // Frees the clusters that are to be freed. Refused, those not freed yet are to be freed still. Where there are none, nothing is done.
+    // Frees the clusters on the list. After a refusal, those that were not freed stay on it. Does nothing if the list is empty.
     pub(crate) fn free_listed(&mut self) -> Result<(), ImageError>
         ensures step { ImageStep S.view self.old self.new }
         ensures keeps_rest { KeepsRest self.old self.new }
@@ -486,7 +486,7 @@ impl<S: Storage, F: WrappedFormat<S>> Qcow2<S, F> {
         allocator.free(&mut self.file)
     }
 
-    // Frees the clusters that are to be freed, at the end of a call that changed an entry. Where there are none, nothing is done.
+    // Frees the clusters on the list, at the end of a call that changed an entry. Does nothing if the list is empty.
     pub(crate) fn end_freeing(&mut self) -> Result<(), ImageError>
         ensures fails { ImageFails S.view F.backing self.old self.new result IsOfTables }
         ensures image { IsSameImage self.old self.new }
@@ -504,7 +504,7 @@ impl<S: Storage, F: WrappedFormat<S>> Qcow2<S, F> {
         self.mark_failure(freed)
     }
 
-    // From here on it is noted anew whether anything changes.
+    // Starts to record anew whether anything changes.
     pub(crate) fn begin(&mut self)
         ensures unnoted { has_noted_change self.new ≡ false }
         ensures stays { ImageStays self.old self.new }
@@ -527,7 +527,7 @@ impl<S: Storage, F: WrappedFormat<S>> Qcow2<S, F> {
         self.file.caches.begin();
     }
 
-    // What makes every call that looks at guest data refused: an earlier failure, or that the data's file is missing.
+    // Refuses calls on guest data: after an earlier failure, or if the data file is missing.
     pub(crate) fn check_usable(&self) -> Result<(), ImageError>
         ensures { MatchOption (unusable self.now) (result ≡ Ok tt) (λ e. result ≡ Err e) }
     {
@@ -540,7 +540,7 @@ impl<S: Storage, F: WrappedFormat<S>> Qcow2<S, F> {
         Ok(())
     }
 
-    // A failure marks the image, and so does want of memory after the call's first change.
+    // Marks the image as failed after an I/O error, or if memory ran out after the call's first change.
     pub(crate) fn note(&mut self, refusal: &ImageError)
         ensures image { IsSameImage self.old self.new }
         ensures marks { MarksRefused self.old self.new refusal.now }

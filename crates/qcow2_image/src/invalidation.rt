@@ -1,4 +1,4 @@
-//! Dropping what an image keeps of its file, and reading its tables anew.
+//! Dropping everything that an image caches, and reading its tables again.
 ghost use Rattle.std.specs.Prelude.{◌≡◌, List, [], Option, IfErr, IfSome, OnOk};
 ghost use Rattle.qcow2_alloc.specs.ImageError.{IsOfTables};
 ghost use Rattle.qcow2_alloc.specs.ImageFile.{view_in, contents_in, HasReftable};
@@ -22,12 +22,12 @@ use image_access::{Storage, WrappedFormat};
 
 #[tactic(auto, using(crate::proofs::Call::MetErrors::tables_met, crate::proofs::Call::MetErrors::storage_met, crate::proofs::Call::MetErrors::metadata_met))]
 impl<S: Storage, F: WrappedFormat<S>> Qcow2<S, F> {
-    /// Drops all that it keeps of its file, unwritten, and reads anew where its tables stand, the L1 table and the reftable:
-    /// for an image that another program wrote to. Call `flush` before, with no mapping prepared: what isn't flushed is
-    /// lost, and clusters that wait to be freed stay leaked. The disk below is left alone.
-    /// Refused 16 (failed). Then 21 (still in use) while a mapping is prepared that isn't existing; by then the clusters to
-    /// be freed are forgotten, and the L2 tables of no such mapping are dropped. Then what reading meets: 19 (metadata),
-    /// 13 (limit), 4 (unaligned table). Where the work meets them: 14 (memory), 15 (storage).
+    /// Drops everything that is cached, unwritten, and reads the pointers to the tables, the L1 table and the reftable again:
+    /// for an image that another program wrote to. Call `flush` before, with no mapping prepared: everything that is not flushed is
+    /// lost, and clusters that wait to be freed stay leaked. The backing disk stays the same.
+    /// Refused 16 (failed); then 21 (still in use) while a mapping is prepared that isn't existing. By then the list of clusters to
+    /// free is empty, and only the L2 tables of such mappings are left. Then 19 (metadata), 13 (limit) and
+    /// 4 (unaligned table) for what is read. Refused 14 (memory) and 15 (storage) if the work meets them.
     pub fn invalidate_cache(&mut self) -> Result<(), ImageError>
         ensures step { InvalidatingStep S.view F.backing self.old self.new result }
         ensures fails { InvalidatingFails S.view F.backing self.old self.new result }
@@ -58,7 +58,7 @@ impl<S: Storage, F: WrappedFormat<S>> Qcow2<S, F> {
         self.read_tables()
     }
 
-    // Forgets the clusters to be freed, and drops the L2 tables, then the refblocks.
+    // Empties the list of clusters to free, and drops the L2 tables, then the refblocks.
     fn drop_cached(&mut self) -> Result<(), ImageError>
         ensures step { ImageStep S.view self.old self.new }
         ensures rest { DropsCached self.old self.new }
@@ -77,7 +77,7 @@ impl<S: Storage, F: WrappedFormat<S>> Qcow2<S, F> {
         }
     }
 
-    // Reads where the L1 table and the reftable stand.
+    // Reads the pointers to the L1 table and the reftable.
     fn read_places(&mut self) -> Result<(), ImageError>
         ensures step { ReadsPlaces S.view self.old self.new }
         ensures fails { ImageFails S.view F.backing self.old self.new result IsOfTables }
@@ -96,7 +96,7 @@ impl<S: Storage, F: WrappedFormat<S>> Qcow2<S, F> {
         Ok(())
     }
 
-    // Reads the L1 table and, for writing, the reftable. No cluster that these name is taken then, even if it isn't counted.
+    // Reads the L1 table and, for writing, the reftable. The clusters that these refer to are never allocated then, even if their refcounts are 0.
     fn read_tables(&mut self) -> Result<(), ImageError>
         ensures step { ReadsTables S.view self.old self.new }
         ensures fails { ImageFails S.view F.backing self.old self.new result IsMet }

@@ -1,4 +1,4 @@
-//! Reading and writing what is mapped.
+//! Reading and writing mapped ranges.
 ghost use Rattle.qcow2_image.specs.ImageSteps.{CallStep, FailsUnlimited, ImageFails, ImageStep, ReadingCall};
 ghost use Rattle.qcow2_image.specs.ImageSteps.{ReadingStep};
 ghost use Rattle.std.specs.Prelude.{◌≡◌, ◌≢◌, ◌+◌, ◌^◌, ◌<◌, ◌≤◌, ℕ, List, [], Option, length, slice_get, ◌⊎◌, IfOk};
@@ -38,8 +38,8 @@ use qcow2_alloc::{ImageError, WriteKind};
 
 #[tactic(auto, using(crate::proofs::Call::MetErrors::tables_met, crate::proofs::Call::MetErrors::storage_met, crate::proofs::Call::MetErrors::metadata_met))]
 impl<S: Storage, F: WrappedFormat<S>> Qcow2<S, F> {
-    /// Refuses a range that can't be read, in this order: 16 (failed), 12 (dependency), 2 (beyond size). The last is for a range of one
-    /// byte or more that passes the disk's size. Nothing is read.
+    /// Refuses a range that can't be read, in this order: 16 (failed), 12 (dependency), 2 (beyond size). The last is for a range of at least
+    /// one byte that ends behind the disk's size. Nothing is read.
     pub fn check_read(&self, offset: u64, length: u64) -> Result<(), ImageError>
         ensures refusal { MatchOption (refuses_to_read self.now offset length) (result ≡ Ok tt) (λ e. result ≡ Err e) }
         ensures end { IfOk result (λ done. offset + length < 2 ^ 64) }
@@ -52,11 +52,11 @@ impl<S: Storage, F: WrappedFormat<S>> Qcow2<S, F> {
         Ok(())
     }
 
-    /// Reads the bytes of a mapping, from `at` bytes within it on. They have to lie within its length. After a refusal the buffer may
+    /// Reads bytes of a mapping, from `at` in it on. They must lie in its length. After a refusal the buffer may
     /// hold any bytes.
-    /// Refused in this order: 16 (failed), 12 (dependency), 11 (foreign state) for a mapping of another image. Of no bytes it is Ok then.
-    /// Else 10 (outdated mapping) where the range is no longer mapped so, 7 (compressed). Where the work meets them: 4 (unaligned table),
-    /// 8 (everything is in use), 14 (memory), 15 (storage).
+    /// Refused in this order: 16 (failed), 12 (dependency), 11 (foreign state) for a mapping of another image. A read of no bytes succeeds then.
+    /// Otherwise 10 (outdated mapping) if the range isn't mapped in this way any more, 7 (compressed). Refused 4 (unaligned table),
+    /// 8 (everything is in use), 14 (memory) and 15 (storage) if the work meets them.
     pub fn read_mapped(
         &mut self,
         mapping: &Mapping,
@@ -128,7 +128,7 @@ impl<S: Storage, F: WrappedFormat<S>> Qcow2<S, F> {
         self.read_as(offset, &kind, bytes)
     }
 
-    // Where a byte of a range lies. Past the disk's end nothing is mapped any more.
+    // The offset of a byte of a range. Behind the disk's end nothing is mapped any more.
     fn place_within(&self, offset: u64, at: u64) -> Result<u64, ImageError>
         ensures place { IfOk result (λ place. place ≡ offset + at) }
         ensures cause { IfErr result (λ e. e ≡ OutdatedMapping) }
@@ -142,7 +142,7 @@ impl<S: Storage, F: WrappedFormat<S>> Qcow2<S, F> {
         Ok(offset + at)
     }
 
-    // Refuses a range that isn't mapped so any more.
+    // Refuses a range that isn't mapped in this way any more.
     fn check_mapped(
         &mut self,
         offset: u64,
@@ -171,7 +171,7 @@ impl<S: Storage, F: WrappedFormat<S>> Qcow2<S, F> {
         Err(ImageError::OutdatedMapping)
     }
 
-    // Reads the bytes of a range that is mapped so.
+    // Reads bytes that are mapped in this way.
     #[tactic(auto, using(crate::proofs::Call::MetErrors::tables_met, crate::proofs::Call::MetErrors::storage_met, crate::proofs::Call::MetErrors::metadata_met, crate::proofs::Call::Unlimited::storage_unlimited))]
     pub(crate) fn read_as(
         &mut self,
@@ -235,10 +235,10 @@ impl<S: Storage, F: WrappedFormat<S>> Qcow2<S, F> {
         Ok(())
     }
 
-    /// Reads a range that isn't mapped plainly, from a guest offset on. Of no bytes it is Ok at any offset. The slice stays as it is.
-    /// Refused 16 (failed), 12 (dependency), in this order. Then 7 (compressed) where a compressed cluster stands at the range's begin,
-    /// and 18 (not compressed) with the offset where none does. Where the work meets them: 4 (unaligned table), 8 (everything is in use),
-    /// 14 (memory), 15 (storage).
+    /// Reads a compressed range, from a guest offset on. A read of no bytes succeeds at any offset. The buffer stays the same.
+    /// Refused 16 (failed), 12 (dependency), in this order; then 7 (compressed) if the range begins in a compressed cluster,
+    /// and otherwise 18 (not compressed) with the offset. Refused 4 (unaligned table), 8 (everything is in use),
+    /// 14 (memory) and 15 (storage) if the work meets them.
     pub fn readv_special(&mut self, bytes: &mut [u8], offset: u64) -> Result<(), ImageError>
         ensures step { ReadingCall S.view F.backing self.old self.new result }
         ensures early { IfSome (unusable self.old) (λ e. (result ≡ Err e) × (self.new ≡ self.old)) }
@@ -259,9 +259,9 @@ impl<S: Storage, F: WrappedFormat<S>> Qcow2<S, F> {
         }
     }
 
-    /// The same, but that the offset is answered of a range that is refused 18 there, and none of no bytes.
-    /// Refused 16 (failed), 12 (dependency), in this order, then 7 (compressed) where a compressed cluster stands at the range's begin.
-    /// Where the work meets them: 4 (unaligned table), 8 (everything is in use), 14 (memory), 15 (storage).
+    /// Like `readv_special`, but returns the offset of a range that is refused 18 there, and none for no bytes.
+    /// Refused 16 (failed), 12 (dependency), in this order; then 7 (compressed) if the range begins in a compressed cluster.
+    /// Refused 4 (unaligned table), 8 (everything is in use), 14 (memory) and 15 (storage) if the work meets them.
     pub fn try_readv_special(
         &mut self,
         bytes: &mut [u8],
@@ -289,7 +289,7 @@ impl<S: Storage, F: WrappedFormat<S>> Qcow2<S, F> {
         self.mark_failure(plain)
     }
 
-    // An offset at which no compressed cluster stands.
+    // The offset, if the range does not begin in a compressed cluster.
     fn plain_at(&mut self, offset: u64, length: u64) -> Result<Option<u64>, ImageError>
         ensures step { ReadingStep S.view self.old self.new }
         ensures fails { ImageFails S.view F.backing self.old self.new result IsMet }
@@ -308,12 +308,12 @@ impl<S: Storage, F: WrappedFormat<S>> Qcow2<S, F> {
         Ok(Some(offset))
     }
 
-    /// Writes bytes into a prepared mapping, from `at` bytes within it on. They have to lie within its length. They
-    /// are told to the storage as a guest's data.
-    /// Refused in this order: 16 (failed), 12 (dependency), 11 (foreign state) for a mapping of another image. Of no bytes it is Ok then.
-    /// Else 1 (read-only), and 10 (outdated mapping) for an existing mapping that is no longer copied data at its place. Where the work
-    /// meets them: 14 (memory), 15 (storage), and of an existing mapping 4 (unaligned table), 8 (everything is in use), and 20 (overflow)
-    /// where its place passes 64 bits.
+    /// Writes bytes into a prepared mapping, from `at` in it on. They must lie in its length. The
+    /// storage gets them as guest data.
+    /// Refused in this order: 16 (failed), 12 (dependency), 11 (foreign state) for a mapping of another image. A write of no bytes succeeds then.
+    /// Otherwise 1 (read-only), and 10 (outdated mapping) for an existing mapping that isn't copied data at its place any more. Refused
+    /// 14 (memory) and 15 (storage) if the work meets them, and for an existing mapping 4 (unaligned table), 8 (everything is in use), and
+    /// 20 (overflow) if its place passes 64 bits.
     pub fn write_mapped(
         &mut self,
         prepared: &Prepared,
@@ -403,7 +403,7 @@ impl<S: Storage, F: WrappedFormat<S>> Qcow2<S, F> {
         self.write_data(host, bytes)
     }
 
-    // Whether a part of an existing mapping is still copied data at its place. Of any other one nothing is asked.
+    // Refuses a part of an existing mapping that isn't copied data at its place any more. Other mappings are not checked.
     fn check_in_place(
         &mut self,
         prepared: &Prepared,
@@ -445,7 +445,7 @@ impl<S: Storage, F: WrappedFormat<S>> Qcow2<S, F> {
         self.check_mapped(guest, length, &wanted)
     }
 
-    // Writes bytes as data. Cluster 0 is the header's: a place in it, which no entry and no mapping names, is refused 19 (metadata).
+    // Writes bytes as data. A place in the header's cluster, which no entry and no mapping has, is refused 19 (metadata).
     pub(crate) fn write_data(&mut self, host: u64, bytes: &[u8]) -> Result<(), ImageError>
         ensures step { ImageStep S.view self.old self.new }
         ensures fails { FailsUnlimited S.view F.backing self.old self.new result IsMet }

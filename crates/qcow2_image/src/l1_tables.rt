@@ -1,4 +1,4 @@
-//! A longer L1 table, in the place of the former one.
+//! Replacing the L1 table by a longer one.
 ghost use Rattle.qcow2_image.specs.Limits.{IfLimit, IsLimitedUnseen, entries_reaching};
 ghost use Rattle.qcow2_image.specs.L1Entries.{EndsBefore, IsPlacedNear};
 ghost use Rattle.qcow2_image.specs.SoundParts.{EntrySoundly};
@@ -32,8 +32,8 @@ use qcow2_metadata::{GuestOffset, HostCluster, L1Table, MAX_L1_ENTRIES};
 
 #[tactic(auto, using(crate::proofs::Call::MetErrors::tables_met, crate::proofs::Call::MetErrors::storage_met, crate::proofs::Call::MetErrors::metadata_met))]
 impl<S: Storage, F: WrappedFormat<S>> Qcow2<S, F> {
-    // Sees to it that there is an L1 entry for an offset. Where the L1 table is too short for it, a longer one takes its place, and
-    // the clusters that are to be freed are freed then.
+    // Makes sure that there is an L1 entry for an offset. An L1 table that is too short is replaced by a longer one, and
+    // then the clusters on the list are freed.
     pub(crate) fn reach_entry(&mut self, offset: u64) -> Result<(), ImageError>
         requires writable { IsTrue (is_writable self.old) }
         ensures step { ImageStep S.view self.old self.new }
@@ -59,7 +59,7 @@ impl<S: Storage, F: WrappedFormat<S>> Qcow2<S, F> {
         self.free_listed()
     }
 
-    // Makes a new L1 table that has an entry of this index, with all old entries. The clusters of the old one are to be freed.
+    // Replaces the L1 table by one that has an entry of this index, and all old entries. The clusters of the old one wait to be freed.
     pub(crate) fn grow_l1_table(&mut self, index: usize) -> Result<(), ImageError>
         ensures step { ImageStep S.view self.old self.new }
         ensures noted { OnOk result (IsTrue self.new.file.caches.is_changed) }
@@ -96,7 +96,7 @@ impl<S: Storage, F: WrappedFormat<S>> Qcow2<S, F> {
         }
     }
 
-    // Room on the list of clusters to be freed for those of the L1 table.
+    // Memory on the list of clusters to free for those of the L1 table.
     fn former_l1_table(&self) -> Result<Option<PendingClusters>, ImageError>
         ensures cause { IfErr result IsMet }
         ensures fault { IfErr result IsFault }
@@ -111,7 +111,7 @@ impl<S: Storage, F: WrappedFormat<S>> Qcow2<S, F> {
         Ok(Some(former))
     }
 
-    // Gives an L1 table clusters, writes it there, and then the pointer that names it.
+    // Allocates clusters for an L1 table, writes it there, and then the pointer to it.
     fn enter_l1_table(&mut self, table: L1Table) -> Result<(), ImageError>
         ensures stays { ImageStays self.old self.new }
         ensures notes { KeepsFileNotes S.view self.old.file self.new.file }
@@ -139,7 +139,7 @@ impl<S: Storage, F: WrappedFormat<S>> Qcow2<S, F> {
         self.write_taken(table, pending)
     }
 
-    // Writes an L1 table to clusters that were taken for it, and then the pointer that names it. Where that is refused, they are listed to be freed.
+    // Writes an L1 table to clusters that were allocated for it, and then the pointer to it. After a refusal the clusters wait to be freed.
     fn write_taken(&mut self, table: L1Table, taken: PendingClusters) -> Result<(), ImageError>
         requires { IsHostCluster self.old.file.header.fields.cluster_bits taken.first_cluster }
         ensures fails { ImageFails S.view F.backing self.old self.new result IsMet }
@@ -164,7 +164,7 @@ impl<S: Storage, F: WrappedFormat<S>> Qcow2<S, F> {
         keep_or_list(taken, done, &mut self.file.free_list)
     }
 
-    // The table is written first, then the pointer that names it.
+    // Writes the table first, then the pointer to it.
     fn write_l1_table(&mut self, mut table: L1Table, cluster: HostCluster) -> Result<(), ImageError>
         requires { IsHostCluster self.old.file.header.fields.cluster_bits cluster }
         ensures fails { ImageFails S.view F.backing self.old self.new result IsMet }
@@ -188,7 +188,7 @@ impl<S: Storage, F: WrappedFormat<S>> Qcow2<S, F> {
         self.name_l1_table(table, cluster)
     }
 
-    // Writes an L1 table to its clusters, after all counts.
+    // Writes an L1 table to its clusters, after all refcounts.
     fn place_l1_table(
         &mut self,
         table: &mut L1Table,
@@ -225,7 +225,7 @@ impl<S: Storage, F: WrappedFormat<S>> Qcow2<S, F> {
         Ok(())
     }
 
-    // Writes the pointer that names an L1 table, which is the image's own then.
+    // Writes the pointer to an L1 table, which is the image's table from then on.
     fn name_l1_table(&mut self, table: L1Table, cluster: HostCluster) -> Result<(), ImageError>
         requires { IsHostCluster self.old.file.header.fields.cluster_bits cluster }
         ensures fails { ImageFails S.view F.backing self.old self.new result IsMet }
@@ -251,7 +251,7 @@ impl<S: Storage, F: WrappedFormat<S>> Qcow2<S, F> {
     }
 }
 
-// Clusters that were taken for a table stay its own where that was done. Where it was refused, they are to be freed.
+// Clusters that were allocated for a table stay allocated if it was written. After a refusal they wait to be freed.
 fn keep_or_list(
     taken: PendingClusters,
     done: Result<(), ImageError>,

@@ -1,4 +1,4 @@
-//! The L2 table of a range: found, made, or put in the place of one that others may name too.
+//! The L2 table of a range: found, made, or copied because its L1 entry is not marked copied.
 ghost use Rattle.qcow2_image.specs.SoundParts.{EnsuresSoundly, EntersSoundly, OwnsSoundly, TableSoundly};
 ghost use Rattle.qcow2_image.specs.ImageSteps.{ImageFails, ImageStep, ImageStepWhere};
 ghost use Rattle.std.specs.Prelude.{List, Option, ◌≡◌, ◌≢◌, ◌-◌, ◌*◌, Some, ◌^◌, ◌<◌, ◌↔◌, IfOk, IfErr, OnOk, IsSome};
@@ -35,8 +35,8 @@ use qcow2_metadata::{ClusterCount, GuestOffset, HostCluster, L2Table};
 
 #[tactic(auto, using(crate::proofs::Call::MetErrors::tables_met, crate::proofs::Call::MetErrors::storage_met, crate::proofs::Call::MetErrors::metadata_met))]
 impl<S: Storage, F: WrappedFormat<S>> Qcow2<S, F> {
-    // The L2 table that covers an offset, held in its cache and marked copied. Where one is made, the clusters that are to be freed are freed then.
-    // An L1 entry that would lie past 64 bits isn't written.
+    // The L2 table of an offset, cached and marked copied. If one is made, the clusters on the list are freed then.
+    // An L1 entry whose own offset would pass 64 bits is not written.
     pub(crate) fn table_for(&mut self, offset: u64) -> Result<HostCluster, ImageError>
         requires writable { IsTrue (is_writable self.old) }
         ensures step { ImageStep S.view self.old self.new }
@@ -73,7 +73,7 @@ impl<S: Storage, F: WrappedFormat<S>> Qcow2<S, F> {
         }
     }
 
-    // Whether there is an L1 entry for an offset, and 64 bits don't hold where it lies.
+    // Whether there is an L1 entry for an offset whose own offset does not fit into 64 bits.
     fn has_far_entry(&self, offset: u64) -> bool
         ensures { IsTrue result ↔ HasFarEntry self.now offset }
     {
@@ -81,7 +81,7 @@ impl<S: Storage, F: WrappedFormat<S>> Qcow2<S, F> {
         self.l1_table.in_bounds(index) && !self.l1_table.has_entry_room(index)
     }
 
-    // The L2 table that covers an offset, held in its cache and marked copied. Where there is none, or it isn't, one is made.
+    // The L2 table of an offset, cached and marked copied. It is made if there is none, and copied if it isn't marked copied.
     pub(crate) fn ensure_l2(&mut self, offset: u64) -> Result<HostCluster, ImageError>
         requires writable { IsTrue (is_writable self.old) }
         ensures step { ImageStep S.view self.old self.new }
@@ -110,7 +110,7 @@ impl<S: Storage, F: WrappedFormat<S>> Qcow2<S, F> {
         Ok(cluster)
     }
 
-    // Where the L2 table that covers an offset lies, which is marked copied then.
+    // The cluster of the L2 table of an offset, which is marked copied then.
     fn own_l2(&mut self, offset: u64) -> Result<HostCluster, ImageError>
         requires writable { IsTrue (is_writable self.old) }
         ensures step { ImageStep S.view self.old self.new }
@@ -141,7 +141,7 @@ impl<S: Storage, F: WrappedFormat<S>> Qcow2<S, F> {
         self.replace_l2(index, cluster)
     }
 
-    // Puts a copy in the place of a table that others may name too.
+    // Replaces a table that isn't marked copied by a copy.
     fn replace_l2(&mut self, index: usize, old: HostCluster) -> Result<HostCluster, ImageError>
         requires writable { IsTrue (is_writable self.old) }
         ensures step { ImageStepWhere S.view (0 < old) self.old self.new }
@@ -163,7 +163,7 @@ impl<S: Storage, F: WrappedFormat<S>> Qcow2<S, F> {
         self.swap_l2(index, old, table)
     }
 
-    // Puts a table in the place of another one, which is to be freed.
+    // Replaces a table by another one. The old one waits to be freed.
     fn swap_l2(
         &mut self,
         index: usize,
@@ -196,7 +196,7 @@ impl<S: Storage, F: WrappedFormat<S>> Qcow2<S, F> {
         }
     }
 
-    // Gives a table a cluster, writes it there, and then the L1 entry that names it.
+    // Allocates a cluster for a table, writes it there, and then its L1 entry.
     fn enter_l2(&mut self, index: usize, table: L2Table) -> Result<HostCluster, ImageError>
         requires writable { IsTrue (is_writable self.old) }
         ensures step { ImageStep S.view self.old self.new }
@@ -227,7 +227,7 @@ impl<S: Storage, F: WrappedFormat<S>> Qcow2<S, F> {
         }
     }
 
-    // What has to stand first is written, then the table's bytes, then the entry that names it.
+    // Writes what must be on the storage first, then the table's bytes, then its L1 entry.
     fn write_l2(
         &mut self,
         index: usize,
@@ -259,8 +259,8 @@ impl<S: Storage, F: WrappedFormat<S>> Qcow2<S, F> {
         self.name_l2(index, cluster)
     }
 
-    // Writes what has to stand on the storage before an L1 entry names a new table: counts, and the L2 tables before them where the
-    // direction asks for it.
+    // Writes what must be on the storage before an L1 entry names a new table: refblocks, and before them L2 tables if the order of
+    // writes requires it.
     fn store_first(&mut self) -> Result<(), ImageError>
         ensures step { ImageStep S.view self.old self.new }
         ensures fails { ImageFails S.view F.backing self.old self.new result IsMet }
@@ -280,7 +280,7 @@ impl<S: Storage, F: WrappedFormat<S>> Qcow2<S, F> {
         self.file.caches.flush_rb(&mut self.file.storage)
     }
 
-    // Writes a table's bytes to a cluster, and puts the table into its cache. One of another cluster size than the image's, which
+    // Writes a table's bytes to a cluster, and puts the table into the cache. A table with another cluster size than the image's, which
     // no cache holds, is refused 19 (metadata).
     fn place_l2(&mut self, cluster: HostCluster, mut table: L2Table) -> Result<(), ImageError>
         ensures step { ImageStepWhere S.view (0 < cluster) self.old self.new }
@@ -314,7 +314,7 @@ impl<S: Storage, F: WrappedFormat<S>> Qcow2<S, F> {
         self.file.caches.l2_insert(&mut self.file.storage, table)
     }
 
-    // Writes the L1 entry that names the table in a cluster.
+    // Writes the L1 entry of the table in a cluster.
     fn name_l2(&mut self, index: usize, cluster: HostCluster) -> Result<(), ImageError>
         requires within { index < entry_count self.old.l1_table }
         requires placed { IsSome self.old.l1_table.cluster }
@@ -339,7 +339,7 @@ impl<S: Storage, F: WrappedFormat<S>> Qcow2<S, F> {
         Ok(())
     }
 
-    // Whether the L1 table has a place for an L2 table in a cluster.
+    // Whether the L1 table has this entry, and the entry can hold the cluster.
     fn can_enter(&self, index: usize, cluster: HostCluster) -> bool
         ensures within { IsTrue result → index < entry_count self.now.l1_table }
         ensures placed { IsTrue result → IsSome self.now.l1_table.cluster }

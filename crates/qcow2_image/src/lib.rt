@@ -1,4 +1,4 @@
-//! A qcow2 image: what it maps, reading and writing through mappings, creating and opening.
+//! An open qcow2 image: lookups, reading and writing through mappings, creating and opening.
 #![tactic(auto)]
 
 mod backing;

@@ -1,4 +1,4 @@
-//! What stands at a guest offset, and for how many bytes all is mapped alike.
+//! Lookups: the mapping of a guest offset, and how many bytes are mapped alike.
 ghost use Rattle.qcow2_image.specs.ImageSteps.{ImageFails, ReadingCall, ReadingStep};
 ghost use Rattle.qcow2_disk.specs.Alike.{IsAlike};
 ghost use Rattle.std.specs.Prelude.{◌↔◌, List, Option, is_some, ◌≡◌, ◌+◌, ◌*◌, ◌-◌, ◌%◌, true, Some, ◌^◌, ◌<◌, ◌≤◌, []};
@@ -30,7 +30,7 @@ use image_access::{Storage, WrappedFormat};
 use qcow2_alloc::ImageError;
 use qcow2_metadata::{GuestCluster, GuestOffset, HostCluster, L2Mapping, L2Table};
 
-// Whether a guest cluster is mapped like an earlier one that lies so many bytes before it.
+// Whether a guest cluster is mapped like an earlier one, `distance` bytes before it.
 fn is_alike(first: &L2Mapping, mapping: &L2Mapping, distance: u64) -> bool
     requires reach { IsInReach first.now }
     requires near { distance ≤ 2 ^ 42 }
@@ -50,7 +50,7 @@ fn is_alike(first: &L2Mapping, mapping: &L2Mapping, distance: u64) -> bool
     }
 }
 
-// How many bytes a cluster has.
+// The cluster size.
 fn cluster_size(table: &L2Table) -> u64
     ensures value { result ≡ 2 ^ table.now.cluster_bits }
     ensures some { 0 < result }
@@ -61,10 +61,10 @@ fn cluster_size(table: &L2Table) -> u64
 
 #[tactic(auto, using(crate::proofs::Call::MetErrors::tables_met, crate::proofs::Call::MetErrors::storage_met, crate::proofs::Call::MetErrors::metadata_met, crate::proofs::Call::MetErrors::metadata_of_tables))]
 impl<S: Storage, F: WrappedFormat<S>> Qcow2<S, F> {
-    /// What stands at a guest offset, and for how many bytes, up to `max`, all is mapped alike: within one L2 table, and below the disk's
-    /// size. At the size or past it that is `Eof`, for 0 bytes.
-    /// Refused 16 (failed), 12 (dependency), in this order. Where the work meets them: 4 (unaligned table), 8 (everything is in use),
-    /// 14 (memory), 15 (storage).
+    /// Returns the mapping of a guest offset, and how many bytes, up to `max`, are mapped alike: within one L2 table, and below the disk's
+    /// size. At or past the size it is `Eof`, with 0 bytes.
+    /// Refused 16 (failed), 12 (dependency), in this order. Refused 4 (unaligned table), 8 (everything is in use),
+    /// 14 (memory) and 15 (storage) if the work meets them.
     pub fn get_mapping(&mut self, offset: u64, max: u64) -> Result<(Mapping, u64), ImageError>
         ensures step { ReadingCall S.view F.backing self.old self.new result }
         ensures early { IfSome (unusable self.old) (λ e. (result ≡ Err e) × (self.new ≡ self.old)) }
@@ -133,7 +133,7 @@ impl<S: Storage, F: WrappedFormat<S>> Qcow2<S, F> {
         }
     }
 
-    // How many bytes there are from an offset on to the end of what its L2 table covers.
+    // The number of bytes from an offset to the end of what its L2 table covers.
     pub(crate) fn rest_of_table(&self, offset: u64) -> u64
         ensures value { result ≡ rest_of_table self.now.file.header.fields offset }
         ensures some { 0 < result }
@@ -143,7 +143,7 @@ impl<S: Storage, F: WrappedFormat<S>> Qcow2<S, F> {
         covered - offset % covered
     }
 
-    // Where the L2 table of an offset lies, or None where there is none.
+    // The cluster of the L2 table of an offset, or None if there is none.
     fn l2_cluster(&self, offset: u64) -> Result<Option<HostCluster>, ImageError>
         ensures cause { IfErr result IsOfTables }
         ensures reads { (p : Pending) (out : List (Option Prepared)) → ImageInvariant S.view F.backing p self.now out → IsOk result }
@@ -174,7 +174,7 @@ impl<S: Storage, F: WrappedFormat<S>> Qcow2<S, F> {
         }
     }
 
-    // The run of alike clusters from an offset on, in the held table that covers it.
+    // The run of clusters that are mapped alike from an offset on, in the cached table that covers it.
     #[tactic(auto, using(crate::proofs::Call::MetErrors::tables_met, crate::proofs::Call::MetErrors::storage_met, crate::proofs::Call::MetErrors::metadata_met, crate::proofs::Call::MetErrors::metadata_of_tables, crate::proofs::Call::Unlimited::unaligned_unlimited))]
     pub(crate) fn run_in_table(
         &self,
@@ -215,7 +215,7 @@ impl<S: Storage, F: WrappedFormat<S>> Qcow2<S, F> {
         Ok((self.kind_of(first, offset), (rest + behind).min(max)))
     }
 
-    // Whether two guest clusters that a table covers, so many bytes apart, are mapped alike.
+    // Whether two guest clusters of a table, `distance` bytes apart, are mapped alike.
     #[tactic(auto, using(crate::proofs::Call::MetErrors::tables_met, crate::proofs::Call::MetErrors::storage_met, crate::proofs::Call::MetErrors::metadata_met, crate::proofs::Call::MetErrors::metadata_of_tables, crate::proofs::Call::Unlimited::unaligned_unlimited))]
     fn are_alike(
         &self,
@@ -236,7 +236,7 @@ impl<S: Storage, F: WrappedFormat<S>> Qcow2<S, F> {
         Ok(is_alike(&first, &next, distance))
     }
 
-    // How many bytes, at least up to `max`, lie in clusters behind one that are mapped like it.
+    // How many bytes, at least up to `max`, are in clusters behind one that are mapped like it.
     #[tactic(auto, using(crate::proofs::Call::MetErrors::tables_met, crate::proofs::Call::MetErrors::storage_met, crate::proofs::Call::MetErrors::metadata_met, crate::proofs::Call::MetErrors::metadata_of_tables, crate::proofs::Call::Unlimited::unaligned_unlimited))]
     fn alike_behind(
         &self,

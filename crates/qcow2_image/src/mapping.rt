@@ -2,16 +2,16 @@ ghost use Rattle.std.specs.Prelude.{◌≡◌, ◌↔◌, IsTrue};
 ghost use Rattle.qcow2_image.specs.Found.{found_kind, further_by, writable_place};
 ghost use Rattle.qcow2_image.specs.SpecialReads.{is_special};
 
-/// Where mapped bytes stand.
+/// The file that holds mapped bytes.
 #[derive(Clone, Copy, Debug, PartialEq, Eq)]
 pub enum Place {
-    /// In the image's own file.
+    /// The image's own file.
     Image,
-    /// In the external data file.
+    /// The external data file.
     DataFile,
 }
 
-/// What stands for a range of the guest's disk.
+/// The mapping of a range of the guest's disk.
 #[derive(Clone, Copy, Debug, PartialEq, Eq)]
 pub enum MappingKind {
     /// Bytes of a file, from an offset in bytes on. Writable means that they may be written in place.
@@ -20,44 +20,44 @@ pub enum MappingKind {
         offset: u64,
         writable: bool,
     },
-    /// Bytes of the disk below, from an offset in bytes on.
+    /// Bytes of the backing disk, from an offset in bytes on.
     Indirect {
         offset: u64,
     },
-    /// Zeros. Explicit where the image says so, and not where nothing is mapped.
+    /// Zeros: explicit for a zero entry, implicit for an unmapped range.
     Zero {
         explicit: bool,
     },
-    /// The range begins at or past the disk's end.
+    /// The range begins at or behind the end of the disk.
     Eof,
-    /// Data that can't be read plainly: compressed data, from this guest offset in bytes on.
+    /// Compressed data, from this guest offset in bytes on.
     Special {
         offset: u64,
     },
 }
 
-/// What an image said of a range of its disk.
+/// A mapping that a lookup returned.
 #[derive(Clone, Copy, Debug, PartialEq, Eq)]
 pub struct Mapping {
-    /// The number of the image that said it.
+    /// The number of the image.
     pub image: u64,
-    /// Where the range begins on the guest's disk, in bytes.
+    /// The guest offset where the range begins, in bytes.
     pub offset: u64,
-    /// How long it is, in bytes.
+    /// The length in bytes.
     pub length: u64,
-    /// What stands for it, from its first byte on.
+    /// The mapping of the range, from its first byte on.
     pub kind: MappingKind,
 }
 
 impl MappingKind {
-    // Whether it is the same kind, and at the same place.
+    // Whether it is the same kind, at the same place.
     pub(crate) fn is(&self, other: &MappingKind) -> bool
         ensures { IsTrue result ↔ (self.now ≡ other.now) }
     {
         self == other
     }
 
-    // Where it may be written in place, if it may.
+    // The host offset where the range may be written in place, if it may.
     pub(crate) fn writable_place(&self) -> Option<u64>
         ensures { result ≡ writable_place (found_kind self.now) }
     {
@@ -71,14 +71,14 @@ impl MappingKind {
         }
     }
 
-    // Whether it can't be read plainly.
+    // Whether the data are compressed.
     pub(crate) fn is_special(&self) -> bool
         ensures { result ≡ is_special (found_kind self.now) }
     {
         matches!(self, MappingKind::Special { offset: _ })
     }
 
-    /// The same, so many bytes further on.
+    /// The mapping this many bytes further on.
     pub(crate) fn further(self, bytes: u64) -> MappingKind
         ensures { result ≡ further_by bytes self }
     {

@@ -1,4 +1,4 @@
-//! Making a guest range writable, and entering what was prepared.
+//! Preparing a guest range for writing, and committing it.
 ghost use Rattle.qcow2_image.specs.Limits.{IfLimit, IsLimited};
 ghost use Rattle.qcow2_image.specs.SoundParts.{InTableSoundly, PreparesSoundly};
 ghost use Rattle.qcow2_image.specs.ImageSteps.{CallStep, ImageFails, ImageStep, ImageStepWhere};
@@ -53,7 +53,7 @@ use image_access::{Storage, WrappedFormat};
 use qcow2_alloc::{ClustersToFreeEntry, ClustersToFreeList, ImageError, PendingClusters};
 use qcow2_metadata::{GuestCluster, GuestOffset, HostCluster, HostOffset, L2Mapping};
 
-// Whether a range isn't empty and passes a size.
+// Whether a range is not empty and ends behind a size.
 pub(crate) fn passes(size: u64, offset: u64, length: u64) -> bool
     ensures answer { result ≡ passes_size size offset length }
     ensures end { result ≡ false → offset + length < 2 ^ 64 }
@@ -61,7 +61,7 @@ pub(crate) fn passes(size: u64, offset: u64, length: u64) -> bool
     length > 0 && (offset > size || length > size - offset)
 }
 
-// A commit that was refused. Where nothing was changed, the mapping is handed back.
+// A refused commit. If nothing was changed, the mapping is handed back.
 fn refused_commit(refusal: ImageError, prepared: Prepared, is_changed: bool) -> CommitRefused
     ensures failed { IsTrue is_changed → result ≡ Spent refusal }
     ensures kept { IsFalse is_changed → result ≡ Kept refusal prepared }
@@ -82,7 +82,7 @@ fn refused_commit(refusal: ImageError, prepared: Prepared, is_changed: bool) -> 
     CommitRefused::Kept(refusal, prepared)
 }
 
-// Whether nothing more is done after a refusal.
+// Whether the call ends at once after a refusal.
 fn is_last(refusal: &ImageError) -> bool
     ensures fault { IsFault refusal.now → IsTrue result }
     ensures last { IsTrue result → IsFault refusal.now ⊎ (refusal.now ≡ TablePrepared) }
@@ -90,7 +90,7 @@ fn is_last(refusal: &ImageError) -> bool
     refusal.is_fault() || matches!(refusal, ImageError::TablePrepared)
 }
 
-// Where copied data stand.
+// The host offset of copied data.
 pub(crate) fn copied_place(mapping: &L2Mapping) -> Option<u64>
     requires { IsInReach mapping.now }
     ensures place { IfSome result (λ host. (mapping.now ≡ L2Mapping.Data host true) × (host < 2 ^ 57)) }
@@ -102,7 +102,7 @@ pub(crate) fn copied_place(mapping: &L2Mapping) -> Option<u64>
     }
 }
 
-// Where the host cluster stands that a zero entry keeps, marked copied.
+// The host offset that a zero entry keeps, marked copied.
 pub(crate) fn kept_place(mapping: &L2Mapping) -> Option<u64>
     requires { IsInReach mapping.now }
     ensures place { IfSome result (λ host. (mapping.now ≡ L2Mapping.Zero (Some (host, true))) × (host ≤ greatest_offset)) }
@@ -119,7 +119,7 @@ pub(crate) fn kept_place(mapping: &L2Mapping) -> Option<u64>
     }
 }
 
-// Whether a host cluster that is marked copied lies behind cluster 0, which is the header's and has so many bytes.
+// Whether the host cluster of a mapping that is marked copied lies behind the header's cluster.
 fn is_behind_header(mapping: &L2Mapping, size: u64) -> bool
     ensures { IsTrue result ↔ MarkedIsBehind size mapping.now }
 {
@@ -129,7 +129,7 @@ fn is_behind_header(mapping: &L2Mapping, size: u64) -> bool
     }
 }
 
-// A place in the file, but none in cluster 0, which is the header's and has so many bytes.
+// A place in the file, unless it lies in the header's cluster.
 fn behind_header(place: Option<u64>, size: u64) -> Option<u64>
     ensures behind { IfSome result (λ host. size ≤ host) }
     ensures same { IfSome place (λ host. size ≤ host) → result ≡ place }
@@ -151,13 +151,13 @@ pub(crate) fn keeps(mapping: &L2Mapping, place: u64) -> bool
 
 #[tactic(auto, using(crate::proofs::Call::MetErrors::tables_met, crate::proofs::Call::MetErrors::storage_met, crate::proofs::Call::MetErrors::metadata_met, crate::proofs::Call::MetErrors::metadata_of_tables))]
 impl<S: Storage, F: WrappedFormat<S>> Qcow2<S, F> {
-    /// Makes a range ready to be written at one place. Of what is announced as overwritten nothing is copied. The mapping may be shorter
-    /// than the range, and has to be committed or discarded. One that isn't existing has the rest of its first cluster at least.
-    /// None of its bytes lies in cluster 0, which is the header's.
-    /// Refused in this order: 16 (failed), 12 (dependency), 2 (beyond size), 1 (read-only). A length of 0 is answered before 1. Then
-    /// comes 9 (table prepared), where another mapping that isn't existing is prepared in its L2 table. Where the work meets them:
-    /// 4 (unaligned table), 7 (compressed) where a compressed cluster isn't announced as a whole, 8 (everything is in use), 13 (limit),
-    /// 14 (memory), 15 (storage), and 20 (overflow) where an L1 entry past 64 bits would have to be written.
+    /// Prepares a range to be written at one place in the file. With `overwrite` the caller promises to write all of it, and old bytes are not
+    /// copied. The mapping may be shorter than the range, and must be committed or discarded. A mapping that isn't existing has at least the
+    /// rest of its first cluster. None of its bytes lies in the header's cluster.
+    /// Refused in this order: 16 (failed), 12 (dependency), 2 (beyond size), 1 (read-only). A length of 0 succeeds before 1. Then
+    /// 9 (table prepared), if another mapping that isn't existing is prepared in the same L2 table. Refused
+    /// 4 (unaligned table), 7 (compressed) if a compressed cluster would have to be copied, 8 (everything is in use), 13 (limit),
+    /// 14 (memory) and 15 (storage) if the work meets them, and 20 (overflow) if an L1 entry past 64 bits would have to be written.
     pub fn prepare_data_mapping(
         &mut self,
         offset: u64,
@@ -242,7 +242,7 @@ impl<S: Storage, F: WrappedFormat<S>> Qcow2<S, F> {
         }
     }
 
-    // Makes a range ready. Where that is refused, the clusters that are to be freed are freed, but after a fault and under another mapping.
+    // Prepares a range. After a refusal, the clusters on the list are freed, except after a fault and after 9.
     pub(crate) fn prepare(
         &mut self,
         offset: u64,
@@ -270,7 +270,7 @@ impl<S: Storage, F: WrappedFormat<S>> Qcow2<S, F> {
         }
     }
 
-    // Makes a range ready: as it stands, or in the L2 table that it needs.
+    // Prepares a range: in place, or in its L2 table.
     fn prepare_range(
         &mut self,
         offset: u64,
@@ -296,8 +296,8 @@ impl<S: Storage, F: WrappedFormat<S>> Qcow2<S, F> {
         }
     }
 
-    // Frees the clusters that are to be freed after a refusal; the refusal that is answered. Nothing is freed after a fault, nor
-    // where a table is under another mapping.
+    // Frees the clusters on the list after a refusal, and returns the refusal to report. Nothing is freed after a fault and
+    // after 9.
     pub(crate) fn free_after(&mut self, refusal: ImageError) -> ImageError
         ensures step { ImageStep S.view self.old self.new }
         ensures keeps_rest { KeepsRest self.old self.new }
@@ -328,7 +328,7 @@ impl<S: Storage, F: WrappedFormat<S>> Qcow2<S, F> {
         }
     }
 
-    // Where the whole range is copied data that stands in a row, in the held table that covers it: its place.
+    // The host offset of the range, if all of it is copied data, contiguous in the file, in the cached table that covers it.
     fn existing_host(
         &self,
         table: HostCluster,
@@ -359,7 +359,7 @@ impl<S: Storage, F: WrappedFormat<S>> Qcow2<S, F> {
         Ok(behind_header(kind.writable_place(), self.file.header.cluster_size()))
     }
 
-    // Makes a range ready in a held table that no other mapping needs as it is: its first cluster, and those behind it that can stand behind it.
+    // Prepares a range in a cached table that no other mapping pins: its first cluster, and those behind it that can be contiguous.
     fn prepare_in(
         &mut self,
         table: HostCluster,
@@ -393,7 +393,7 @@ impl<S: Storage, F: WrappedFormat<S>> Qcow2<S, F> {
         }
     }
 
-    // What a held table says of a guest cluster. An entry that is marked copied in cluster 0 is refused 19 (metadata).
+    // The mapping of a guest cluster in a cached table. An entry that is marked copied in the header's cluster is refused 19 (metadata).
     #[tactic(auto, using(crate::proofs::Call::MetErrors::tables_met, crate::proofs::Call::MetErrors::storage_met, crate::proofs::Call::MetErrors::metadata_met, crate::proofs::Call::MetErrors::metadata_of_tables, crate::proofs::Call::Unlimited::unaligned_unlimited))]
     pub(crate) fn cover_in(
         &self,
@@ -428,7 +428,7 @@ impl<S: Storage, F: WrappedFormat<S>> Qcow2<S, F> {
         Ok(mapping)
     }
 
-    // What isn't named any more where a mapping goes: its host clusters, as those to be freed.
+    // The host clusters of a mapping, as clusters to free.
     pub(crate) fn named_by(&self, mapping: &L2Mapping) -> Result<ClustersToFreeList, ImageError>
         requires { IsInReach mapping.now }
         ensures list { IfOk result (λ list. list ≡ listed_run (named_run self.now.file.header.fields.cluster_bits mapping.now)) }
@@ -444,17 +444,17 @@ impl<S: Storage, F: WrappedFormat<S>> Qcow2<S, F> {
         Ok(list)
     }
 
-    // Clusters that were taken are to be freed.
+    // Puts allocated clusters on the list of clusters to free.
     pub(crate) fn hand_back(&mut self, pending: PendingClusters)
         ensures { FreesLater (pending ∷ []) self.old self.new }
     {
         pending.hand_back(&mut self.file.free_list);
     }
 
-    /// Makes a prepared mapping visible. Where it isn't existing, the clusters that are to be freed are freed then. A refusal that leaves
-    /// the mapping as it is hands it back (`Kept`).
-    /// Refused 11 (foreign state) for a mapping of another image, then 16 (failed). Where clusters can't be freed: 14 (memory),
-    /// 15 (storage).
+    /// Makes a prepared mapping visible. If it isn't existing, the clusters on the list are freed then. A refusal that leaves
+    /// the mapping the same hands it back (`Kept`).
+    /// Refused 11 (foreign state) for a mapping of another image, then 16 (failed). Refused 14 (memory) and 15 (storage)
+    /// if clusters can't be freed.
     pub fn commit_data_mapping(&mut self, mut prepared: Prepared) -> Result<(), CommitRefused>
         ensures foreign { image_of prepared ≢ number_of self.old → (result ≡ Err (Kept ForeignState prepared)) × (self.new ≡ self.old) }
         ensures failed { image_of prepared ≡ number_of self.old → IsTrue (is_failed self.old)
@@ -505,7 +505,7 @@ impl<S: Storage, F: WrappedFormat<S>> Qcow2<S, F> {
         }
     }
 
-    // Enters the shares of a mapping in its table, which is held; whether one wasn't in place.
+    // Enters the shares of a mapping in its cached table. Returns whether one wasn't in place.
     pub(crate) fn enter_shares(&mut self, prepared: &mut Prepared) -> bool
         ensures step { ImageStep S.view self.old self.new }
         ensures none { IsFalse result → (self.new ≡ self.old) × (prepared.new ≡ prepared.old) }
@@ -531,7 +531,7 @@ impl<S: Storage, F: WrappedFormat<S>> Qcow2<S, F> {
         entered
     }
 
-    // Enters a share of a mapping in its table; false where it is in place.
+    // Enters a share of a mapping in its table. False if it is in place.
     fn enter_share(&mut self, prepared: &mut Prepared, i: usize) -> bool
         requires { i < length prepared.old.shares.items }
         ensures stays { ImageStays self.old self.new }
@@ -552,7 +552,7 @@ impl<S: Storage, F: WrappedFormat<S>> Qcow2<S, F> {
         true
     }
 
-    // What stood for a share before is to be freed.
+    // Puts the clusters that a share replaced on the list of clusters to free.
     fn drop_former(&mut self, share: Share)
         ensures { FreesLater (old_data_by share) self.old self.new }
     {
@@ -573,7 +573,7 @@ impl<S: Storage, F: WrappedFormat<S>> Qcow2<S, F> {
         }
     }
 
-    /// Drops a prepared mapping: its new clusters are to be freed. A failed image does so too. Refused 11 (foreign state) for a mapping
+    /// Drops a prepared mapping: its new clusters wait to be freed. This works on a failed image too. Refused 11 (foreign state) for a mapping
     /// of another image, which is handed back.
     pub fn discard_data_mapping(&mut self, prepared: Prepared) -> Result<(), (ImageError, Prepared)>
         ensures own { image_of prepared ≡ number_of self.old → IsOk result }
@@ -592,7 +592,7 @@ impl<S: Storage, F: WrappedFormat<S>> Qcow2<S, F> {
         Ok(())
     }
 
-    // A mapping is let go: its new clusters are to be freed.
+    // Drops a mapping: its new clusters wait to be freed.
     pub(crate) fn release_prepared(&mut self, prepared: Prepared)
         ensures step { ImageStep S.view self.old self.new }
         ensures header { self.new.file.header ≡ self.old.file.header }
@@ -614,7 +614,7 @@ impl<S: Storage, F: WrappedFormat<S>> Qcow2<S, F> {
         self.unpin(table);
     }
 
-    // The new clusters of shares are to be freed.
+    // Puts the new clusters of shares on the list of clusters to free.
     fn free_later(&mut self, shares: Vec<Share>)
         ensures { FreesLater (freed_by shares.items) self.old self.new }
     {
@@ -635,7 +635,7 @@ impl<S: Storage, F: WrappedFormat<S>> Qcow2<S, F> {
         }
     }
 
-    // The L2 table of a mapping may change its place again.
+    // Unpins the L2 table of a mapping.
     fn unpin(&mut self, table: Option<HostCluster>)
         ensures { Unpins table self.old self.new }
     {

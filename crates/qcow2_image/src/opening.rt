@@ -11,18 +11,18 @@ use image_access::{BackingDisk, Storage, WrappedFormat};
 use qcow2_alloc::{ImageError, ImageStorage};
 use std::alloc::Global;
 
-/// How an image is to be opened.
+/// A builder that opens an image.
 #[derive(Drop)]
 pub struct Qcow2OpenBuilder<S: Storage, F: WrappedFormat<S> = Box<dyn BackingDisk>> {
     image: S,
     number: u64,
     writable: bool,
-    // None where it wasn't called, and some none where the backing file is waived.
+    // None if it wasn't called, and some none if the backing file is waived.
     backing: Option<Option<F>>,
 }
 
 impl<S: Storage, F: WrappedFormat<S>> Qcow2OpenBuilder<S, F> {
-    /// A builder for the image in a storage: opened for reading, with no disk below. Images that are open together have different
+    /// A builder for the image in a storage: for reading, without a backing disk. Images that are open together must have different
     /// numbers.
     pub fn new(image: S, number: u64) -> Qcow2OpenBuilder<S, F>
         ensures { result ≡ record { image = image; number = number; writable = false; backing = None } }
@@ -35,7 +35,7 @@ impl<S: Storage, F: WrappedFormat<S>> Qcow2OpenBuilder<S, F> {
         }
     }
 
-    /// Whether the image is to be written.
+    /// Whether to open the image for writing.
     pub fn write(mut self, writable: bool) -> Qcow2OpenBuilder<S, F>
         ensures { result ≡ record self { writable = writable } }
     {
@@ -43,7 +43,7 @@ impl<S: Storage, F: WrappedFormat<S>> Qcow2OpenBuilder<S, F> {
         self
     }
 
-    /// The disk below the image. None waives the backing file that its header names: ranges that belong to it read as zeros then.
+    /// The backing disk. With None the backing file that the header names is waived: ranges that belong to it read as zeros.
     pub fn backing(mut self, backing: Option<F>) -> Qcow2OpenBuilder<S, F>
         ensures { result ≡ record self { backing = Some backing } }
     {
@@ -51,14 +51,14 @@ impl<S: Storage, F: WrappedFormat<S>> Qcow2OpenBuilder<S, F> {
         self
     }
 
-    /// Whether the image is to be written.
+    /// Whether the image will be opened for writing.
     pub fn get_writable(&self) -> bool
         ensures { result ≡ self.now.writable }
     {
         self.writable
     }
 
-    // Which files are missing.
+    // The files that are missing.
     fn missing(&self) -> Missing
         ensures { result ≡ files_missing self.now.backing }
     {
@@ -69,11 +69,11 @@ impl<S: Storage, F: WrappedFormat<S>> Qcow2OpenBuilder<S, F> {
         }
     }
 
-    /// Opens the image over the disk that was given. A refusal hands its storage back, and the disk is dropped.
-    /// Refused for the header 19 (metadata), 13 (limit), 4 (unaligned table), in this order. Then 12 (dependency), before anything is
-    /// written: where the data stand in another file, or a backing file is named and `backing` wasn't called. Then for the L1 table
-    /// 19 (metadata); to write, for the reftable 13 (limit) where it would end past 64 bits, and 19. Where the work meets them:
-    /// 14 (memory), 15 (storage).
+    /// Opens the image over the given backing disk. A refusal returns the storage, and drops the backing disk.
+    /// Refused for the header 19 (metadata), 13 (limit), 4 (unaligned table), in this order; then 12 (dependency), before anything is
+    /// written, if the image needs a data file, or names a backing file and `backing` wasn't called; then for the L1 table
+    /// 19; and for writing, for the reftable 13 if it would end past 64 bits, and 19. Refused
+    /// 14 (memory) and 15 (storage) if the work meets them.
     pub fn open(self, alloc: Global) -> Result<Qcow2<S, F>, (S, ImageError)>
         ensures step { OpeningStep S.view (S.view self.image) self.writable (files_missing self.backing) result }
         ensures image { IfOk result (IsNewlyOpened (S.view self.image) self.writable self.number) }
@@ -99,7 +99,7 @@ impl<S: Storage, F: WrappedFormat<S>> Qcow2OpenBuilder<S, F> {
 }
 
 impl<S: Storage, F: WrappedFormat<S>> Qcow2<S, F> {
-    /// A builder that opens the image in a storage. Images that are open together have different numbers.
+    /// A builder that opens the image in a storage. Images that are open together must have different numbers.
     pub fn builder(image: S, number: u64) -> Qcow2OpenBuilder<S, F>
         ensures { result ≡ record { image = image; number = number; writable = false; backing = None } }
     {

@@ -1,4 +1,4 @@
-//! Preallocation: zeros behind the end of a disk, before its size grows.
+//! Preallocation: zeros are put behind the end of a disk before its size grows.
 ghost use Rattle.qcow2_image.specs.SoundParts.{FillsPart};
 ghost use Rattle.qcow2_image.specs.ImageSteps.{FailsUnlimited, ImageFails, ImageStep};
 ghost use Rattle.std.specs.Prelude.{ℕ, List, Option, ◌≡◌, ◌%◌, ◌^◌, ◌<◌, ◌≤◌, Err, IfOk, IfErr, IsTrue, OnOk, max};
@@ -29,15 +29,15 @@ use image_access::{PreallocateMode, Storage, StorageError, WrappedFormat};
 use qcow2_alloc::{ImageError, ImageStorage, WriteKind};
 use std::alloc::Global;
 
-// How many zeros are written at once where they are written as bytes: those of the largest cluster.
+// How many zeros are written at once as bytes: as many as the largest cluster has.
 const PIECE: usize = 2097152;
 
 // How zeros are written into clusters.
 #[derive(Drop)]
 pub(crate) enum ZeroWrites {
-    // By the storage, which may give the place back.
+    // As zeros of the storage, which may release their space.
     Short,
-    // By the storage, and the place stays taken where it can.
+    // As zeros of the storage, which keeps their space allocated if possible.
     Taken,
     // As bytes, at most so many at once.
     Plain(Vec<u8>),
@@ -45,7 +45,7 @@ pub(crate) enum ZeroWrites {
 
 #[tactic(auto, using(crate::proofs::Call::MetErrors::tables_met, crate::proofs::Call::MetErrors::storage_met))]
 impl ZeroWrites {
-    // Bytes that are zeros, so many at once.
+    // A buffer of zeros.
     fn plain(alloc: Global, count: usize) -> Result<Self, ImageError>
         ensures most { IfOk result (λ writes. most_of writes ≡ count) }
         ensures zeros { IfOk result AreZeros }
@@ -57,7 +57,7 @@ impl ZeroWrites {
         Ok(ZeroWrites::Plain(zeros))
     }
 
-    // How many zeros are written at once at most.
+    // The greatest number of zeros that is written at once.
     fn most(&self) -> u64
         ensures { result ≡ most_of self.now }
     {
@@ -67,7 +67,7 @@ impl ZeroWrites {
         }
     }
 
-    // Writes so many zeros to a storage.
+    // Writes zeros to a storage.
     fn write<S: Storage>(
         &self,
         storage: &mut ImageStorage<S>,
@@ -91,8 +91,8 @@ impl ZeroWrites {
 
 #[tactic(auto, using(crate::proofs::Call::MetErrors::tables_met, crate::proofs::Call::MetErrors::storage_met, crate::proofs::Call::MetErrors::metadata_met, crate::proofs::Call::MetErrors::metadata_of_tables))]
 impl<S: Storage, F: WrappedFormat<S>> Qcow2<S, F> {
-    // Puts zeros behind the end of a disk that is to have a larger size, up to the end of its last cluster, as a mode asks. Where
-    // that is refused, the clusters that are to be freed are freed, but after a fault and under another mapping.
+    // Puts zeros behind the end of a disk that will grow, up to the end of its last cluster, as a mode says. After
+    // a refusal, the clusters on the list are freed, except after a fault and after 9.
     pub(crate) fn fill_grown(
         &mut self,
         old: u64,
@@ -126,7 +126,7 @@ impl<S: Storage, F: WrappedFormat<S>> Qcow2<S, F> {
         }
     }
 
-    // Puts zeros behind the end of a disk that is to have a larger size, up to the end of its last cluster, as a mode asks.
+    // Puts zeros behind the end of a disk that will grow, up to the end of its last cluster, as a mode says.
     fn fill_behind(&mut self, old: u64, size: u64, mode: PreallocateMode) -> Result<(), ImageError>
         requires writable { IsTrue (is_writable self.old) }
         requires end { old ≡ size_of self.old }
@@ -157,7 +157,7 @@ impl<S: Storage, F: WrappedFormat<S>> Qcow2<S, F> {
         }
     }
 
-    // Puts zeros there, with clusters of their own.
+    // Puts zeros behind the end, in clusters of their own.
     fn allocate_grown(&mut self, old: u64, size: u64, writes: &ZeroWrites) -> Result<(), ImageError>
         requires writable { IsTrue (is_writable self.old) }
         requires few { 2 ^ 21 ≤ most_of writes.now }
@@ -183,7 +183,7 @@ impl<S: Storage, F: WrappedFormat<S>> Qcow2<S, F> {
         self.fill_range(old, end, writes)
     }
 
-    // Makes whole clusters there zeros that have none, and puts zeros into the rest of the cluster before them.
+    // Makes the whole clusters behind the end zero clusters, and writes zeros to the rest of the cluster before them.
     fn zero_grown(&mut self, old: u64, size: u64) -> Result<(), ImageError>
         requires writable { IsTrue (is_writable self.old) }
         ensures step { ImageStep S.view self.old self.new }
@@ -216,7 +216,7 @@ impl<S: Storage, F: WrappedFormat<S>> Qcow2<S, F> {
         self.zero_between(old, from, end)
     }
 
-    // Makes the clusters of a range read as zeros, and puts zeros into the cluster before them from an offset on.
+    // Makes the clusters of a range zero clusters, and writes zeros to the cluster before them from an offset on.
     fn zero_between(&mut self, old: u64, from: u64, end: u64) -> Result<(), ImageError>
         requires writable { IsTrue (is_writable self.old) }
         ensures step { ImageStep S.view self.old self.new }
@@ -235,7 +235,7 @@ impl<S: Storage, F: WrappedFormat<S>> Qcow2<S, F> {
         self.zero_range(next, end)
     }
 
-    // Makes whole clusters read as zeros, table by table.
+    // Makes whole clusters zero clusters, table by table.
     fn zero_range(&mut self, from: u64, to: u64) -> Result<(), ImageError>
         requires writable { IsTrue (is_writable self.old) }
         ensures step { ImageStep S.view self.old self.new }
@@ -255,7 +255,7 @@ impl<S: Storage, F: WrappedFormat<S>> Qcow2<S, F> {
         Ok(())
     }
 
-    // Makes those read as zeros that the first L2 table of a range covers; where they end.
+    // Makes those clusters zero clusters that the first L2 table of a range covers. Returns where they end.
     fn zero_first(&mut self, from: u64, to: u64) -> Result<u64, ImageError>
         requires writable { IsTrue (is_writable self.old) }
         ensures step { ImageStep S.view self.old self.new }
@@ -282,7 +282,7 @@ impl<S: Storage, F: WrappedFormat<S>> Qcow2<S, F> {
         Ok(next)
     }
 
-    // Puts zeros into a range, which has clusters of its own then.
+    // Writes zeros to a range, which has clusters of its own then.
     fn fill_range(&mut self, from: u64, to: u64, writes: &ZeroWrites) -> Result<(), ImageError>
         requires writable { IsTrue (is_writable self.old) }
         requires few { 2 ^ 21 ≤ most_of writes.now }
@@ -305,7 +305,7 @@ impl<S: Storage, F: WrappedFormat<S>> Qcow2<S, F> {
         Ok(())
     }
 
-    // Puts zeros into the first bytes of a range, by a mapping that is prepared; where they end.
+    // Writes zeros to the first bytes of a range, in a prepared mapping. Returns where they end.
     fn fill_first(&mut self, from: u64, to: u64, writes: &ZeroWrites) -> Result<u64, ImageError>
         requires writable { IsTrue (is_writable self.old) }
         requires few { 2 ^ 21 ≤ most_of writes.now }
@@ -335,7 +335,7 @@ impl<S: Storage, F: WrappedFormat<S>> Qcow2<S, F> {
         Ok(next)
     }
 
-    // Writes zeros into a mapping. A place in cluster 0, which none has, is refused 19 (metadata).
+    // Writes zeros into a mapping. A place in the header's cluster, which no mapping has, is refused 19 (metadata).
     fn put_zeros(&mut self, host: u64, count: u64, writes: &ZeroWrites) -> Result<(), ImageError>
         requires few { count ≤ most_of writes.now }
         requires zeros { AreZeros writes.now }
@@ -352,7 +352,7 @@ impl<S: Storage, F: WrappedFormat<S>> Qcow2<S, F> {
         Ok(())
     }
 
-    // Commits a mapping into which zeros were written. What it drops is to be freed.
+    // Commits a mapping after zeros were written into it. The clusters that it replaces wait to be freed.
     fn commit_filled(&mut self, mut prepared: Prepared)
         ensures step { ImageStep S.view self.old self.new }
         ensures header { self.new.file.header ≡ self.old.file.header }

@@ -3,38 +3,38 @@ use image_access::{Storage, WrappedFormat};
 use qcow2_alloc::ClustersToFreeList;
 use qcow2_metadata::HostCluster;
 
-// How a cluster of a prepared range is entered by a commit.
+// How a cluster of a prepared range is entered in its L2 table by a commit.
 #[derive(Drop)]
 pub(crate) enum Share {
-    // Not at all: it is copied data where it stands.
+    // It isn't entered: it is copied data in place.
     InPlace,
     // As data at the host cluster that its zero entry keeps.
     Kept,
-    // As data at the new cluster of the first list. What stands there else is to be freed then, as in the second.
+    // As data at the new cluster in the first list. The clusters that it replaces, in the second list, wait to be freed then.
     New {
         taken: ClustersToFreeList,
         old_data: ClustersToFreeList,
     },
 }
 
-/// A range of the guest's disk that may be written at one place. It must be spent by a commit or a discard.
+/// A range of the guest's disk that may be written at one place in the file. It must be used up by a commit or a discard.
 pub struct Prepared {
     pub(crate) image: u64,
     pub(crate) guest: u64,
     pub(crate) place: Place,
     pub(crate) offset: u64,
     pub(crate) length: u64,
-    // The L2 table that is kept as it is until then. An existing mapping has none.
+    // The L2 table that the mapping pins. An existing mapping pins none.
     pub(crate) table: Option<HostCluster>,
-    // One for each cluster of the range. Their host clusters follow one another.
+    // One share for each cluster of the range. Their host clusters are contiguous.
     pub(crate) shares: Vec<Share>,
 }
 
-/// Why a commit is refused, with the mapping where it isn't spent.
+/// Why a commit is refused, with the mapping if it can be used again.
 pub enum CommitRefused {
-    /// Nothing was changed: the refusal, and the mapping as it was.
+    /// Nothing was changed: the refusal, and the mapping.
     Kept(ImageError, Prepared),
-    /// The refusal. The mapping is visible, and an image that was sound is failed.
+    /// The refusal. The mapping is visible, and an image that was sound has failed.
     Spent(ImageError),
 }
 
@@ -42,7 +42,7 @@ impl Share {
     ghost use Rattle.std.specs.Prelude.{◌≡◌};
     ghost use Rattle.qcow2_image.specs.ImageInvariant.{is_entered};
 
-    // Whether a commit has to enter it in its table.
+    // Whether a commit must enter the share in its table.
     pub(crate) fn is_entered(&self) -> bool
         ensures { result ≡ is_entered self.now }
     {
@@ -58,28 +58,28 @@ impl Prepared {
     ghost use Rattle.qcow2_image.specs.Prepared.{image_of, table_of, length_of, offset_of};
     ghost use Rattle.qcow2_image.specs.Image.{number_of};
 
-    /// The offset in the file that is to be written, in bytes.
+    /// The host offset where the range is to be written, in bytes.
     pub fn offset(&self) -> u64
         ensures { result ≡ offset_of self.now }
     {
         self.offset
     }
 
-    /// How many bytes may be written there.
+    /// The number of bytes that may be written there.
     pub fn length(&self) -> u64
         ensures { result ≡ length_of self.now }
     {
         self.length
     }
 
-    /// Whether it is of this image.
+    /// Whether the mapping belongs to this image.
     pub fn belongs_to<S: Storage, F: WrappedFormat<S>>(&self, image: &Qcow2<S, F>) -> bool
         ensures { IsTrue result ↔ (image_of self.now ≡ number_of image.now) }
     {
         self.image == image.number
     }
 
-    /// Whether it is existing: all of it is written in place, and nothing is to be committed.
+    /// Whether the mapping is existing: all of it is written in place, and there is nothing to commit.
     pub fn is_nonblocking(&self) -> bool
         ensures { result ≡ is_none (table_of self.now) }
     {

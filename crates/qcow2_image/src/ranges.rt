@@ -29,7 +29,7 @@ use qcow2_metadata::{GuestOffset, HostCluster, HostOffset, L2Mapping};
 
 #[tactic(auto, using(crate::proofs::Call::MetErrors::tables_met, crate::proofs::Call::MetErrors::storage_met, crate::proofs::Call::MetErrors::metadata_met, crate::proofs::Call::MetErrors::metadata_of_tables))]
 impl<S: Storage, F: WrappedFormat<S>> Qcow2<S, F> {
-    // For how many shares room is made: one for each cluster of a range within its first L2 table at least.
+    // For how many shares memory is allocated: at least one for each cluster of a range within its first L2 table.
     pub(crate) fn clusters_in(&self, offset: u64, length: u64) -> usize
         ensures some { 0 < result }
         ensures enough { offset % cluster_size self.now.file.header.fields + min length
@@ -42,7 +42,7 @@ impl<S: Storage, F: WrappedFormat<S>> Qcow2<S, F> {
         (within / size + 1) as usize
     }
 
-    // Makes the clusters behind a mapping part of it, of a range of so many bytes, as long as they can stand behind it.
+    // Extends a mapping by the clusters behind it, up to the end of the range, as long as they can be contiguous in the file.
     pub(crate) fn prepare_rest(
         &mut self,
         prepared: &mut Prepared,
@@ -73,7 +73,7 @@ impl<S: Storage, F: WrappedFormat<S>> Qcow2<S, F> {
         Ok(())
     }
 
-    // Makes the cluster behind a mapping part of it, where that can stand behind it; whether it does.
+    // Extends a mapping by the cluster behind it, if that can be contiguous in the file. Returns whether it did.
     fn prepare_next(
         &mut self,
         prepared: &mut Prepared,
@@ -104,7 +104,7 @@ impl<S: Storage, F: WrappedFormat<S>> Qcow2<S, F> {
         Ok(true)
     }
 
-    // The share of the cluster behind a mapping, where that can stand behind it.
+    // The share of the cluster behind a mapping, if that can be contiguous in the file.
     fn share_behind(
         &mut self,
         prepared: &Prepared,
@@ -142,7 +142,7 @@ impl<S: Storage, F: WrappedFormat<S>> Qcow2<S, F> {
         }
     }
 
-    // The share of a guest cluster that isn't copied data, at a place in the file; None where that can't be taken.
+    // The share of a guest cluster that isn't copied data, at a place in the file. None if that can't be allocated.
     fn share_at(
         &mut self,
         host: u64,
@@ -179,8 +179,8 @@ impl<S: Storage, F: WrappedFormat<S>> Qcow2<S, F> {
         Ok(Some(Share::New { taken, old_data }))
     }
 
-    // Takes a cluster for the one at an offset, of which the old mapping is known; None where it can't be taken. Fills it with the
-    // old bytes, where they aren't announced as overwritten.
+    // Allocates a cluster for the one at an offset, whose old mapping is known, at this place. None if it can't be allocated. Fills it with
+    // the old bytes, except where the caller promised to overwrite.
     fn new_cluster_at(
         &mut self,
         cluster: HostCluster,
@@ -212,7 +212,7 @@ impl<S: Storage, F: WrappedFormat<S>> Qcow2<S, F> {
         }
     }
 
-    // Takes a cluster for data, where it can be taken.
+    // Allocates this cluster for data, if it can be.
     fn take_data_at(&mut self, cluster: HostCluster) -> Result<Option<PendingClusters>, ImageError>
         requires writable { IsTrue (is_writable self.old) }
         ensures step { ImageStep S.view self.old self.new }

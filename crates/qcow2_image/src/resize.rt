@@ -1,4 +1,4 @@
-//! A larger disk.
+//! Growing the disk without preallocation.
 ghost use Rattle.qcow2_image.specs.Limits.{IfLimit, IsLimited, IsLimitedUnseen};
 ghost use Rattle.std.specs.Prelude.{◌≡◌, ◌-◌, ◌<◌, [], false, IfErr, IsTrue, OnOk};
 ghost use Rattle.qcow2_image.specs.Faults.{CountsImageFaults};
@@ -16,7 +16,7 @@ use qcow2_alloc::ImageError;
 use qcow2_metadata::GuestOffset;
 
 impl<S: Storage, F: WrappedFormat<S>> Qcow2<S, F> {
-    // Makes the disk larger: a new L1 table, then the size. A size that isn't larger changes nothing.
+    // Grows the disk: a new L1 table, then the size. A size that isn't larger changes nothing.
     pub(crate) fn grow(&mut self, size: u64) -> Result<(), ImageError>
         ensures grows { (abstract_of S.view F.backing self.old []).is_sound → GrowsDisk S.view F.backing self.old self.new size result }
         ensures surplus { (abstract_of S.view F.backing self.old []).is_sound → OnOk result (KeepsSurplus S.view F.backing self.old self.new) }

@@ -1,4 +1,4 @@
-//! A disk of another size: what lies behind a smaller one is dropped first, and the size is written last.
+//! Resizing the disk. Clusters behind a smaller end are discarded first, and the size is written last.
 ghost use Rattle.qcow2_image.specs.Limits.{IfLimit, IsLimited};
 ghost use Rattle.qcow2_image.specs.L1Entries.{IsPlacedNear};
 ghost use Rattle.qcow2_image.specs.SoundParts.{GrowsSoundly};
@@ -42,12 +42,12 @@ use qcow2_alloc::{ImageError, WriteKind};
 use qcow2_metadata::GuestOffset;
 
 impl<S: Storage, F: WrappedFormat<S>> Qcow2<S, F> {
-    /// Makes the disk smaller, and drops the whole clusters behind its new end, so that the disk below shows there should it grow again.
-    /// Answers the offset up to which that was done, which is less than the old size only where dropping the next cluster is refused. A
-    /// size that isn't smaller changes nothing, and answers the old one. Where a whole cluster lay behind the new end, none is left to be
-    /// freed. Nothing stands for the dropped clusters then, not even that they are zeros.
-    /// Refused in this order: 16 (failed), 12 (dependency), 1 (read-only). Of a smaller size also 17 (mapping prepared) while a mapping
-    /// is prepared that isn't existing. Where the work meets them: 14 (memory), 15 (storage).
+    /// Shrinks the disk, and discards the whole clusters behind its new end, so that the backing disk shows there if the disk grows again.
+    /// Returns the offset up to which that was done. It is less than the old size only if discarding the next cluster was refused. A
+    /// size that isn't smaller changes nothing, and returns the old one. If a whole cluster lay behind the new end, no cluster waits to be
+    /// freed then. The discarded clusters are unmapped, even if they were zero clusters.
+    /// Refused in this order: 16 (failed), 12 (dependency), 1 (read-only); for a smaller size also 17 (mapping prepared) while a mapping
+    /// is prepared that isn't existing. Refused 14 (memory) and 15 (storage) if the work meets them.
     pub fn resize_shrink(&mut self, size: u64) -> Result<u64, ImageError>
         ensures step { MarkedStep S.view F.backing self.old self.new result }
         ensures early { IfSome (refuses_to_resize self.old) (λ e. (result ≡ Err e) × (self.new ≡ self.old)) }
@@ -78,7 +78,7 @@ impl<S: Storage, F: WrappedFormat<S>> Qcow2<S, F> {
         self.shrink(size)
     }
 
-    // What refuses every call that changes the size.
+    // The checks of every resize.
     fn check_resize(&self) -> Result<(), ImageError>
         ensures { MatchOption (refuses_to_resize self.now) (result ≡ Ok tt) (λ e. result ≡ Err e) }
     {
@@ -89,7 +89,7 @@ impl<S: Storage, F: WrappedFormat<S>> Qcow2<S, F> {
         Ok(())
     }
 
-    // Makes the disk smaller: the tail is uncovered, and then the size is written.
+    // Shrinks the disk: unmaps the tail, and then writes the size.
     fn shrink(&mut self, size: u64) -> Result<u64, ImageError>
         requires usable { is_failed self.old ≡ false }
         requires smaller { size < size_of self.old }
@@ -118,7 +118,7 @@ impl<S: Storage, F: WrappedFormat<S>> Qcow2<S, F> {
         Ok(end)
     }
 
-    // Uncovers the whole clusters behind a size, in turns: up to where, and the refusal that ended the call. Any other one ends the turns.
+    // Unmaps the whole clusters behind a size, step by step. Returns where it ended, and the refusal if that ends the call. Any other refusal only ends the steps.
     fn uncover_tail(&mut self, size: u64) -> (u64, Option<ImageError>)
         requires usable { is_failed self.old ≡ false }
         requires smaller { size < size_of self.old }
@@ -160,8 +160,8 @@ impl<S: Storage, F: WrappedFormat<S>> Qcow2<S, F> {
         (at, None)
     }
 
-    // Uncovers the whole clusters from an offset on, as far as one L2 table goes. Answers where the next turn begins. Refused, the
-    // clusters that are to be freed are freed, but after a fault.
+    // Unmaps the whole clusters from an offset on, within one L2 table. Returns where the next step begins. After a refusal, the
+    // clusters on the list are freed, except after a fault.
     fn uncover_from(&mut self, at: u64) -> Result<u64, ImageError>
         requires usable { is_failed self.old ≡ false }
         requires inside { at < size_of self.old }
@@ -194,7 +194,7 @@ impl<S: Storage, F: WrappedFormat<S>> Qcow2<S, F> {
         }
     }
 
-    // Uncovers the whole clusters from an offset on, as far as one L2 table goes. Answers where the next turn begins.
+    // Unmaps the whole clusters from an offset on, within one L2 table. Returns where the next step begins.
     fn uncover_next(&mut self, at: u64) -> Result<u64, ImageError>
         requires inside { at < size_of self.old }
         ensures on { IfOk result (λ next. (at < next) × (next ≤ size_of self.old)) }
@@ -225,13 +225,13 @@ impl<S: Storage, F: WrappedFormat<S>> Qcow2<S, F> {
         }
     }
 
-    /// Makes the disk larger. The mode says what its new bytes are, and what place they take. A size that isn't larger changes nothing.
-    /// Else no cluster is left to be freed, also where it is refused, but after 6, 9, 14 and 15.
-    /// Refused in this order: 16 (failed), 12 (dependency), 1 (read-only). Of a larger size also 6 (preallocation), for a mode that takes
-    /// clusters where there is a disk below. Then 13 (limit) where the L1 table would be too long, and 3 (version) for `Zero` below
-    /// version 3. Where the work meets them: 4 (unaligned table), 13 (limit), 14 (memory), 15 (storage). All modes but `None` may meet
-    /// 7 (compressed), 8 (everything is in use), 9 (table prepared) too. On a sound image the work meets 13, 14 and 15 alone, 7 where a
-    /// cluster behind the old end is compressed, and 8 and 9 where a mapping is prepared that isn't existing.
+    /// Grows the disk. The mode says what the new bytes are, and how they are allocated. A size that isn't larger changes nothing.
+    /// Otherwise no cluster waits to be freed afterwards, also after a refusal, except 6, 9, 14 and 15.
+    /// Refused in this order: 16 (failed), 12 (dependency), 1 (read-only); for a larger size also 6 (preallocation), for a mode that allocates
+    /// clusters over a backing disk; then 13 (limit) if the L1 table would be too long, and 3 (version) for `Zero` below
+    /// version 3. Refused 4 (unaligned table), 13 (limit), 14 (memory) and 15 (storage) if the work meets them. All modes but `None` may also
+    /// be refused 7 (compressed), 8 (everything is in use) and 9 (table prepared). On a sound image the work meets only 13, 14 and 15, 7 if a
+    /// cluster behind the old end is compressed, and 8 and 9 if a mapping is prepared that isn't existing.
     pub fn resize_grow(&mut self, size: u64, mode: PreallocateMode) -> Result<(), ImageError>
         ensures step { MarkedStep S.view F.backing self.old self.new result }
         ensures early { IfSome (refuses_to_resize self.old) (λ e. (result ≡ Err e) × (self.new ≡ self.old)) }
@@ -270,7 +270,7 @@ impl<S: Storage, F: WrappedFormat<S>> Qcow2<S, F> {
         self.grow_disk(size, mode)
     }
 
-    // Whether a mode takes clusters, and there is a disk below.
+    // Whether a mode allocates clusters, and there is a backing disk.
     fn takes_over(&self, mode: PreallocateMode) -> bool
         ensures { result ≡ takes_over self.now mode }
     {
@@ -282,7 +282,7 @@ impl<S: Storage, F: WrappedFormat<S>> Qcow2<S, F> {
         }
     }
 
-    // Makes the disk larger: a longer L1 table, zeros behind its end as the mode asks, and then the size.
+    // Grows the disk: a longer L1 table, zeros behind the end as the mode says, and then the size.
     fn grow_disk(&mut self, size: u64, mode: PreallocateMode) -> Result<(), ImageError>
         requires usable { is_failed self.old ≡ false }
         requires writable { IsTrue (is_writable self.old) }
@@ -304,7 +304,7 @@ impl<S: Storage, F: WrappedFormat<S>> Qcow2<S, F> {
         self.mark_fault(written)
     }
 
-    // Behind the first change of a call, which is noted, a fault or want of memory marks the image as failed.
+    // Marks the image as failed by a fault, after the first change of a call was recorded.
     fn mark_fault(&mut self, done: Result<(), ImageError>) -> Result<(), ImageError>
         requires noted { IsTrue (has_noted_change self.old) }
         ensures answer { result ≡ done }
@@ -318,8 +318,8 @@ impl<S: Storage, F: WrappedFormat<S>> Qcow2<S, F> {
         self.mark_failure(done)
     }
 
-    // Makes a new L1 table that has an entry for an offset, with all old entries. The clusters of the old one are freed then. Where
-    // that is refused, those that are to be freed are freed, but after a fault.
+    // Replaces the L1 table by one that has an entry for an offset, and all old entries. The clusters of the old one are freed then. After
+    // a refusal, those on the list are freed, except after a fault.
     #[tactic(auto, using(crate::proofs::Call::MetErrors::tables_met))]
     fn renew_l1_table(&mut self, offset: u64) -> Result<(), ImageError>
         requires writable { IsTrue (is_writable self.old) }
@@ -350,7 +350,7 @@ impl<S: Storage, F: WrappedFormat<S>> Qcow2<S, F> {
         }
     }
 
-    // Makes a new L1 table that has an entry for an offset, with all old entries. The clusters of the old one are freed then.
+    // Replaces the L1 table by one that has an entry for an offset, and all old entries. The clusters of the old one are freed then.
     #[tactic(auto, using(crate::proofs::Call::MetErrors::tables_met))]
     fn lengthen_l1_table(&mut self, offset: u64) -> Result<(), ImageError>
         requires writable { IsTrue (is_writable self.old) }
@@ -377,8 +377,8 @@ impl<S: Storage, F: WrappedFormat<S>> Qcow2<S, F> {
         self.free_listed()
     }
 
-    // A fault or want of memory refused a call, since whose begin so many changes were counted. It marks the image as failed, where
-    // the storage failed or there are more since.
+    // A fault refused a call; `before` are the numbers of changes at its begin. Marks the image as failed if
+    // the storage failed or there were more changes since.
     fn mark_refused(&mut self, refusal: &ImageError, before: (u64, u64))
         requires { IsFault refusal.now }
         ensures image { IsSameImage self.old self.new }
@@ -392,7 +392,7 @@ impl<S: Storage, F: WrappedFormat<S>> Qcow2<S, F> {
         self.note(refusal);
     }
 
-    // Writes the size, as the last write of a call. Refused, the size in memory is the old one again.
+    // Writes the size, as the last write of a call. After a refusal, the size in memory is the old one again.
     pub(crate) fn write_size(&mut self, size: u64) -> Result<(), ImageError>
         ensures fails { ImageFails S.view F.backing self.old self.new result IsFault }
         ensures rest { self.new ≡ record self.old {

@@ -1,4 +1,4 @@
-//! The storages that an image is over.
+//! The storages of an image: its own, and those of its backing disk.
 ghost use Rattle.qcow2_image.specs.ImageSteps.{ImageFails, ReadingCall, ReadingStep};
 ghost use Rattle.std.specs.Prelude.{◌≡◌, List, [], Option, map, false, IfOk, IfErr, IsTrue, Err};
 ghost use Rattle.qcow2_alloc.specs.ImageError.{IsFault};
@@ -20,8 +20,8 @@ use std::alloc::Global;
 use std::fmt;
 
 impl<S: Storage, F: WrappedFormat<S>> Qcow2<S, F> {
-    /// Returns once what was written to the storage would outlive a loss of power. It writes nothing that is cached: that is what
-    /// `flush` does. Refused 16 (failed), then 14 (memory), 15 (storage) as the storage is.
+    /// Returns when everything that was written to the storage would survive a power loss. It writes no cached table: call
+    /// `flush` before. Refused 16 (failed), then 14 (memory) and 15 (storage), as the storage refuses.
     pub fn sync(&mut self) -> Result<(), ImageError>
         ensures step { ReadingCall S.view F.backing self.old self.new result }
         ensures early { IsTrue (is_failed self.old) → (result ≡ Err Failed) × (self.new ≡ self.old) }
@@ -50,7 +50,7 @@ impl<S: Storage, F: WrappedFormat<S>> Qcow2<S, F> {
         Ok(())
     }
 
-    /// The storages that the image is over: those of the disk below it, then its own. A failed image answers too. Refused 14 (memory).
+    /// The storages of the image: those of its backing disk, then its own. A failed image returns them too. Refused 14 (memory).
     pub fn collect_storage_dependencies(&self, alloc: Global) -> Result<Vec<&S>, ImageError>
         ensures listed { IfOk result (λ found. map (λ s. s.now) found.items ≡ storages_of F.dependencies self.now) }
         ensures cause { IfErr result (λ e. e ≡ Memory) }
@@ -64,7 +64,7 @@ impl<S: Storage, F: WrappedFormat<S>> Qcow2<S, F> {
     }
 }
 
-/// `qcow2[`, the name of the storage, `]`.
+/// Prints `qcow2[`, the name of the storage, `]`.
 impl<S: Storage, F: WrappedFormat<S>> fmt::Display for Qcow2<S, F> {
     ghost use Rattle.std.specs.Prelude.{Some};
     ghost use Rattle.qcow2_image.specs.Storages.{name_of};
