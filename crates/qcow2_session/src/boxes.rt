@@ -1,4 +1,4 @@
-//! Runs over storages and disks below of any types, each in a box.
+//! Runs over storages and backing disks of any types, each in a box.
 ghost use Rattle.qcow2_image.specs.Opened.{NeedsMissing};
 ghost use Rattle.qcow2_session.specs.Boxes.{IsOnceClosed, IsClosedAsRefused};
 ghost use Rattle.qcow2_session.specs.Opening.{CountsSinceBefore, EachMomentOpensAgain, Headline, TellsOfOpened, missing_beside};
@@ -9,9 +9,9 @@ use image_access::{BackingDisk, DynStorage, Storage, WrappedFormat};
 use qcow2_image::ImageError;
 use std::alloc::Global;
 
-/// Opens an image in a storage of any type for writing, under its number, over a disk of any type where one is given. It answers each
-/// command as `run` does, and hands the storage back; the disk below goes with the image. What isn't flushed is lost, so end the
-/// commands with a flush. It opens as `open_and_run` does, and is refused so.
+/// Opens an image in a storage of any type for writing, with its number, over a backing disk of any type if one is given. Answers each
+/// command as `run` does, and returns the storage. Everything that isn't flushed is lost, so end the
+/// commands with a flush. The image is opened, and refused, as by `open_and_run`.
 pub fn run_in_boxes(
     alloc: Global,
     storage: Box<dyn DynStorage>,
@@ -39,7 +39,7 @@ pub fn run_in_boxes(
     run_and_close(alloc, storage, below, number, commands)
 }
 
-// Opens an image over a disk, answers each command, and closes it.
+// Opens an image over a backing disk, answers each command, and closes it.
 fn run_and_close<S: Storage, F: WrappedFormat<S>>(
     alloc: Global,
     storage: S,

@@ -16,7 +16,7 @@ use crate::session::Reply;
 use image_access::{Storage, WrappedFormat};
 use qcow2_image::{ImageError, Qcow2};
 
-// Makes the whole clusters of a range read as zeros, and keeps their host clusters that are marked copied.
+// Makes the whole clusters of a range read as zeros, and keeps host clusters that are marked copied.
 pub(crate) fn ensure_zero<S: Storage, F: WrappedFormat<S>>(
     image: &mut Qcow2<S, F>,
     offset: u64,
@@ -35,7 +35,7 @@ pub(crate) fn ensure_zero<S: Storage, F: WrappedFormat<S>>(
     range_reply(image.ensure_zero_mapping(offset, length))
 }
 
-// Drops the whole clusters of a range, which read as zeros then.
+// Discards the whole clusters of a range, so that they read as zeros.
 pub(crate) fn discard_to_zero<S: Storage, F: WrappedFormat<S>>(
     image: &mut Qcow2<S, F>,
     offset: u64,
@@ -53,7 +53,7 @@ pub(crate) fn discard_to_zero<S: Storage, F: WrappedFormat<S>>(
     range_reply(image.discard_to_zero_unsafe(offset, length))
 }
 
-// Drops the whole clusters of a range, whatever they read as then.
+// Discards the whole clusters of a range, whatever they read as then.
 pub(crate) fn discard_to_any<S: Storage, F: WrappedFormat<S>>(
     image: &mut Qcow2<S, F>,
     offset: u64,
@@ -71,7 +71,7 @@ pub(crate) fn discard_to_any<S: Storage, F: WrappedFormat<S>>(
     range_reply(image.discard_to_any_unsafe(offset, length))
 }
 
-// Drops the whole clusters of a range, so that the disk below shows there.
+// Discards the whole clusters of a range, so that the backing disk shows there.
 pub(crate) fn discard_to_backing<S: Storage, F: WrappedFormat<S>>(
     image: &mut Qcow2<S, F>,
     offset: u64,
@@ -89,7 +89,7 @@ pub(crate) fn discard_to_backing<S: Storage, F: WrappedFormat<S>>(
     range_reply(image.discard_to_backing_unsafe(offset, length))
 }
 
-// What clearing a range is replied.
+// The reply to clearing a range.
 fn range_reply(cleared: Result<(u64, u64), ImageError>) -> Reply
     ensures { result ≡ reply_of_clearing cleared }
 {

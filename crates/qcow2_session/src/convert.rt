@@ -1,4 +1,4 @@
-//! Images of raw disks, and raw disks of images.
+//! Conversion of raw disks to images, and of images to raw disks.
 ghost use Rattle.qcow2_session.specs.CallSteps.{ExportStep, ImportStep, ReadingParts};
 ghost use Rattle.std.specs.Prelude.{◌≡◌, ◌≢◌, ◌⊎◌, ◌↔◌, ◌+◌, ◌-◌, ◌<◌, ◌≤◌, List, [], Option, None, Err, length, replicate};
 ghost use Rattle.std.specs.Prelude.{IfSome, IfErr, IfOk, OnOk, IsTrue};
@@ -22,12 +22,12 @@ use image_access::{Storage, StoragePreallocate, WrappedFormat};
 use qcow2_image::{ImageError, MappingKind, Qcow2};
 use std::alloc::Global;
 
-/// Makes an image's disk as a raw disk of the same size is, cluster by cluster, and flushes the image. The answer is the number of bytes.
-/// Only a cluster that differs is written, so where both read zero nothing is. After a refusal other than 14 and 15 the disk has the raw
-/// disk's bytes up to a cluster's start, and its own from there on. Of a raw disk that answers other bytes than it has, those count.
-/// Before any work it is refused 16 (failed), 12 (dependency), then 5 (invalid option) for unequal sizes. A cluster that differs is
-/// refused 1 (read-only), 9 (table prepared) as a write is. Where the work meets them: 4 (unaligned table), 7 (compressed),
-/// 8 (everything is in use), 13 (limit), 14 (memory), 15 (storage).
+/// Makes the disk of an image equal to a raw disk of the same size, cluster by cluster, and flushes the image. Returns the number of bytes.
+/// Only clusters that differ are written, and none that reads as zeros in both. After a refusal other than 14 and 15 the disk has the bytes of
+/// the raw disk up to a cluster boundary, and its own from there on. If the raw disk returns other bytes than it has, those count.
+/// Refused before any work 16 (failed), 12 (dependency), then 5 (invalid option) for unequal sizes. A cluster that differs may be
+/// refused 1 (read-only) and 9 (table prepared), as a write is. Refused 4 (unaligned table), 7 (compressed),
+/// 8 (everything is in use), 13 (limit), 14 (memory) and 15 (storage) if the work meets them.
 pub fn to_qcow2<R: Storage, S: Storage, F: WrappedFormat<S>>(
     alloc: Global,
     raw: &mut R,
@@ -63,7 +63,7 @@ pub fn to_qcow2<R: Storage, S: Storage, F: WrappedFormat<S>>(
     Ok(size)
 }
 
-// Makes all clusters as the raw disk is. The buffers are of one cluster each.
+// Makes all clusters equal to the raw disk. The buffers have one cluster each.
 fn import_all<R: Storage, S: Storage, F: WrappedFormat<S>>(
     raw: &mut R,
     image: &mut Qcow2<S, F>,
@@ -97,7 +97,7 @@ fn import_all<R: Storage, S: Storage, F: WrappedFormat<S>>(
     Ok(())
 }
 
-// Makes a range within one cluster as the raw disk is.
+// Makes a range within one cluster equal to the raw disk.
 fn import_at<R: Storage, S: Storage, F: WrappedFormat<S>>(
     raw: &mut R,
     image: &mut Qcow2<S, F>,
@@ -134,11 +134,11 @@ fn import_at<R: Storage, S: Storage, F: WrappedFormat<S>>(
     }
 }
 
-/// Makes a raw disk as an image's disk is, cluster by cluster. It is resized to no bytes, then to the disk's size, and each cluster that
-/// isn't all zeros is written. Zeros that the tables tell of aren't read: each L2 table that the disk could have is looked up once. The
-/// answer is the number of bytes. What the image's guest sees stays, and an image that was opened for reading isn't written.
-/// Before any work it is refused 16 (failed), 12 (dependency), then 14 (memory) where two clusters have no room. Where the work meets
-/// them: 4 (unaligned table), 7 (compressed), 8 (everything is in use), 14 (memory), 15 (storage). The raw disk may have any bytes then.
+/// Makes a raw disk equal to the disk of an image, cluster by cluster. The raw disk is emptied, then resized to the disk's size, and each
+/// cluster that isn't all zeros is written. Ranges that the tables map as zeros aren't read: each possible L2 table is looked up once.
+/// Returns the number of bytes. The image's guest sees no change, and an image that was opened for reading isn't written.
+/// Refused before any work 16 (failed), 12 (dependency), then 14 (memory) if there is no memory for two clusters. Refused
+/// 4 (unaligned table), 7 (compressed), 8 (everything is in use), 14 and 15 (storage) if the work meets them. The raw disk may have any bytes then.
 pub fn to_raw<S: Storage, F: WrappedFormat<S>, R: Storage>(
     alloc: Global,
     image: &mut Qcow2<S, F>,
@@ -164,7 +164,7 @@ pub fn to_raw<S: Storage, F: WrappedFormat<S>, R: Storage>(
     Ok(size)
 }
 
-// Writes all clusters that aren't zeros. The buffers are of one cluster each.
+// Writes all clusters that aren't zeros. The buffers have one cluster each.
 fn export_all<S: Storage, F: WrappedFormat<S>, R: Storage>(
     image: &mut Qcow2<S, F>,
     raw: &mut R,
@@ -190,8 +190,8 @@ fn export_all<S: Storage, F: WrappedFormat<S>, R: Storage>(
     Ok(())
 }
 
-// Passes over zeros that the tables tell of, up to a limit, or else writes the next cluster, unless it is zeros. The answer is the number
-// of bytes. The buffers are of one cluster each.
+// Skips what the tables map as zeros, up to a limit, or writes the next cluster unless it is zeros. Returns the number
+// of bytes. The buffers have one cluster each.
 fn export_some<S: Storage, F: WrappedFormat<S>, R: Storage>(
     image: &mut Qcow2<S, F>,
     raw: &mut R,
@@ -222,7 +222,7 @@ fn export_some<S: Storage, F: WrappedFormat<S>, R: Storage>(
     Ok(count as u64)
 }
 
-// How many bytes from an offset on are zeros as the tables tell, up to a limit and within one L2 table. No data are read.
+// How many bytes from an offset on the tables map as zeros, up to a limit and within one L2 table. No data are read.
 fn zero_run<S: Storage, F: WrappedFormat<S>>(
     image: &mut Qcow2<S, F>,
     at: u64,

@@ -1,4 +1,4 @@
-//! Commands on a qcow2 image, and what they are answered.
+//! Commands on a qcow2 image, and their replies.
 #![tactic(auto)]
 
 mod boxes;

@@ -1,4 +1,4 @@
-//! The headline over a storage that records its changes.
+//! The headline for a storage that records its changes.
 ghost use Rattle.image_access.specs.TraceStorage.{view_of_trace};
 ghost use Rattle.qcow2_session.specs.Opening.{Headline};
 ghost use Rattle.qcow2_session.specs.Recorded.{FirstWritesAreStops};
@@ -9,9 +9,9 @@ use image_access::{TraceStorage, WrappedFormat};
 use qcow2_image::{ImageError, Qcow2};
 use std::alloc::Global;
 
-/// Opens an image and answers each command as `open_and_run` does, on a storage that records its changes. What it held after its first
-/// so many writes (`TraceStorage::after`) is what a stop right then would leave of a file: a consistent image that opens again, in which
-/// each byte is as it was flushed last or given since.
+/// Opens an image and answers each command as `open_and_run` does, on a storage that records its changes. The contents after its first
+/// n writes (`TraceStorage::after`) are what a stop right then would leave of a file: a consistent image that opens again, in which
+/// each byte has its value at the last flush, or one given since.
 pub fn open_and_run_recorded<F: WrappedFormat<TraceStorage>>(
     alloc: Global,
     storage: TraceStorage,

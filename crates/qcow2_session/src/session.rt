@@ -1,4 +1,4 @@
-//! Commands, one after the other, on one image.
+//! Commands, one after another, on one image.
 ghost use Rattle.qcow2_session.specs.CallSteps.{CommandStep, ReadingParts, ReleasingStep, SpecialStep, WritesSoundly};
 ghost use Rattle.qcow2_session.specs.CallSteps.{WritingParts};
 ghost use Rattle.std.specs.Prelude.{◌≡◌, ◌+◌, ◌^◌, ◌≤◌, ◌⊎◌, ◌<◌, ◌++◌, ◌∷◌, ℕ, List, [], length, vec_len, IfSome};
@@ -45,142 +45,142 @@ use image_access::{PreallocateMode, Storage, WrappedFormat};
 use qcow2_image::{CommitRefused, ImageError, Mapping, Prepared, Qcow2};
 use std::alloc::Global;
 
-/// A call on an image. Prepared mappings stand in 256 slots, and mappings in 256 others. Offsets, lengths and sizes are in bytes. Each
-/// but `Write` is replied `Refused` where its call is refused.
+/// A call on an image. There are 256 slots for prepared mappings, and 256 for lookups. Offsets, lengths and sizes are in bytes. The reply
+/// to a refused call is `Refused`, except for `Write`.
 #[derive(Drop)]
 pub enum Command {
-    /// `read` of so many bytes from a guest offset on. Replied `Bytes`.
+    /// `read` from a guest offset on. Reply: `Bytes`.
     Read {
         offset: u64,
         length: u64,
     },
-    /// `write` of bytes from a guest offset on. Replied `Done` or `WriteRefused`.
+    /// `write` from a guest offset on. Reply: `Done` or `WriteRefused`.
     Write {
         offset: u64,
         bytes: Vec<u8>,
     },
-    /// `get_mapping` from a guest offset on, up to `max` bytes, into a slot for mappings. Replied `Mapping`.
+    /// `get_mapping` from a guest offset on, up to `max` bytes, into a slot for lookups. Reply: `Mapping`.
     GetMapping {
         slot: u8,
         offset: u64,
         max: u64,
     },
-    /// `read_mapped` of so many bytes, from `at` within the mapping in a slot on. Replied `Bytes`, or `Misuse`.
+    /// `read_mapped` from `at` in the lookup of a slot on. Reply: `Bytes` or `Misuse`.
     ReadMapped {
         slot: u8,
         at: u64,
         length: u64,
     },
-    /// `prepare_data_mapping` of a range, into an empty slot for prepared mappings. Replied `Prepared`, or `Misuse`.
+    /// `prepare_data_mapping` of a range, into an empty slot. Reply: `Prepared` or `Misuse`.
     PrepareDataMapping {
         slot: u8,
         offset: u64,
         length: u64,
         overwrite: bool,
     },
-    /// `write_mapped` of bytes, from `at` within the prepared mapping in a slot on. Replied `Done`, or `Misuse`.
+    /// `write_mapped` from `at` in the prepared mapping of a slot on. Reply: `Done` or `Misuse`.
     WriteMapped {
         slot: u8,
         at: u64,
         bytes: Vec<u8>,
     },
-    /// `commit_data_mapping` of what stands in a slot, which is empty then, but where that is handed back. Replied `Done`, or `Misuse`.
+    /// `commit_data_mapping` of the mapping in a slot, which is empty then, unless the mapping is handed back. Reply: `Done` or `Misuse`.
     CommitDataMapping {
         slot: u8,
     },
-    /// `discard_data_mapping` of what stands in a slot, which is empty then. Replied `Done`, or `Misuse`.
+    /// `discard_data_mapping` of the mapping in a slot, which is empty then. Reply: `Done` or `Misuse`.
     DiscardDataMapping {
         slot: u8,
     },
-    /// `ensure_zero_mapping` of a range. Replied `Range`.
+    /// `ensure_zero_mapping` of a range. Reply: `Range`.
     EnsureZeroMapping {
         offset: u64,
         length: u64,
     },
-    /// `discard_to_zero_unsafe` of a range. Replied `Range`.
+    /// `discard_to_zero_unsafe` of a range. Reply: `Range`.
     DiscardToZero {
         offset: u64,
         length: u64,
     },
-    /// `discard_to_any_unsafe` of a range. Replied `Range`.
+    /// `discard_to_any_unsafe` of a range. Reply: `Range`.
     DiscardToAny {
         offset: u64,
         length: u64,
     },
-    /// `discard_to_backing_unsafe` of a range. Replied `Range`.
+    /// `discard_to_backing_unsafe` of a range. Reply: `Range`.
     DiscardToBacking {
         offset: u64,
         length: u64,
     },
-    /// `readv_special` of so many bytes from a guest offset on. Replied `Done`.
+    /// `readv_special` from a guest offset on. Reply: `Done`.
     ReadvSpecial {
         offset: u64,
         length: u64,
     },
-    /// `try_readv_special` of so many bytes from a guest offset on. Replied `NotCompressed`.
+    /// `try_readv_special` from a guest offset on. Reply: `NotCompressed`.
     TryReadvSpecial {
         offset: u64,
         length: u64,
     },
-    /// `flush`. Replied `Done`.
+    /// `flush`. Reply: `Done`.
     Flush,
-    /// `sync`. Replied `Done`.
+    /// `sync`. Reply: `Done`.
     Sync,
-    /// `resize_grow` to a size, in a mode. Replied `Done`.
+    /// `resize_grow` to a size, in a mode. Reply: `Done`.
     ResizeGrow {
         size: u64,
         mode: PreallocateMode,
     },
-    /// `resize_shrink` to a size. Replied `Shrunk`.
+    /// `resize_shrink` to a size. Reply: `Shrunk`.
     ResizeShrink {
         size: u64,
     },
-    /// `size`, which is never refused. Replied `Size`.
+    /// `size`, which is never refused. Reply: `Size`.
     Size,
-    /// `leaked_clusters`, which is never refused. Replied `Leaked`.
+    /// `leaked_clusters`, which is never refused. Reply: `Leaked`.
     Leaked,
 }
 
-/// What a command is answered.
+/// The reply to a command.
 #[derive(Debug, PartialEq, Drop)]
 pub enum Reply {
-    /// It is done.
+    /// The call succeeded.
     Done,
     /// The bytes that were read.
     Bytes(Vec<u8>),
-    /// What stands for a range, and for how many bytes.
+    /// The mapping of a range, with its length.
     Mapping(Mapping),
-    /// Where a prepared mapping is to be written in the file, for how many bytes, and whether it is existing.
+    /// The host offset and the length of a prepared mapping, and whether it is existing.
     Prepared {
         offset: u64,
         length: u64,
         existing: bool,
     },
-    /// Where a range's first whole cluster begins, and how much of the range from there on was zeroed or discarded.
+    /// Where the first whole cluster of a range begins, and how many bytes from there on were zeroed or discarded.
     Range {
         offset: u64,
         length: u64,
     },
-    /// The offset of a range that doesn't begin in a compressed cluster, or none of no bytes.
+    /// The offset of a range that doesn't begin in a compressed cluster; none for no bytes.
     NotCompressed(Option<u64>),
-    /// The offset up to which a smaller disk's tail was dropped, or the old size where nothing became smaller.
+    /// The offset up to which the tail of a smaller disk was discarded, or the old size if the disk isn't smaller.
     Shrunk(u64),
     /// The size of the guest's disk, in bytes.
     Size(u64),
-    /// How many clusters couldn't be freed.
+    /// How many clusters could not be freed.
     Leaked(u64),
-    /// The call was refused, by a number and a name.
+    /// The call was refused.
     Refused(ImageError),
-    /// A write was refused after so many leading bytes were written.
+    /// A write was refused after this many leading bytes were written.
     WriteRefused(ImageError, u64),
-    /// The slot is empty or taken, or the range is outside its mapping. Nothing was called.
+    /// The slot is empty or in use, or the range is outside its mapping. No call was made.
     Misuse,
 }
 
-/// Reads so many bytes of the guest's disk, from an offset in bytes on.
-/// Refused in this order: 16 (failed), 12 (dependency), 2 (beyond size) for a range of one byte or more that passes the size. Where the
-/// work meets them: 4 (unaligned table), 7 (compressed), 8 (everything is in use), 14 (memory), 15 (storage). 14 also where the bytes
-/// have no room.
+/// Reads bytes of the guest's disk, from an offset in bytes on.
+/// Refused in this order: 16 (failed), 12 (dependency), 2 (beyond size) for a range of at least one byte that ends behind the size. Refused
+/// 4 (unaligned table), 7 (compressed), 8 (everything is in use), 14 (memory) and 15 (storage) if the work meets them, and 14 if there is
+/// no memory for the bytes.
 pub fn read<S: Storage, F: WrappedFormat<S>>(
     alloc: Global,
     image: &mut Qcow2<S, F>,
@@ -207,7 +207,7 @@ pub fn read<S: Storage, F: WrappedFormat<S>>(
     Ok(bytes)
 }
 
-// So many zeros. No bytes need no memory.
+// A list of zeros. An empty one needs no memory.
 pub(crate) fn zeros(alloc: Global, count: usize) -> Result<Vec<u8>, ImageError>
     ensures len { IfOk result (λ bytes. vec_len bytes ≡ count) }
     ensures cause { IfErr result (λ e. (e ≡ Memory) × (0 < count)) }
@@ -218,10 +218,10 @@ pub(crate) fn zeros(alloc: Global, count: usize) -> Result<Vec<u8>, ImageError>
     Ok(vec![in alloc; 0; count]?)
 }
 
-/// Fills the buffer with the guest's bytes, from an offset in bytes on, whatever clusters and tables they lie in. After a refusal the
+/// Fills the buffer with the guest's bytes, from an offset in bytes on. The range may cross clusters and tables. After a refusal the
 /// buffer may hold any bytes.
-/// Refused in this order: 16 (failed), 12 (dependency), 2 (beyond size) for a range of one byte or more that passes the size. Where the
-/// work meets them: 4 (unaligned table), 7 (compressed), 8 (everything is in use), 14 (memory), 15 (storage).
+/// Refused in this order: 16 (failed), 12 (dependency), 2 (beyond size) for a range of at least one byte that ends behind the size. Refused
+/// 4 (unaligned table), 7 (compressed), 8 (everything is in use), 14 (memory) and 15 (storage) if the work meets them.
 pub fn read_into<S: Storage, F: WrappedFormat<S>>(
     image: &mut Qcow2<S, F>,
     offset: u64,
@@ -249,7 +249,7 @@ pub fn read_into<S: Storage, F: WrappedFormat<S>>(
     Ok(())
 }
 
-// Reads the first bytes at least, and answers how many.
+// Reads at least the first bytes, and returns how many.
 fn read_some<S: Storage, F: WrappedFormat<S>>(
     image: &mut Qcow2<S, F>,
     offset: u64,
@@ -276,12 +276,12 @@ fn read_some<S: Storage, F: WrappedFormat<S>>(
     Ok(count)
 }
 
-/// Writes bytes to the guest's disk, from an offset in bytes on. A refusal says how many leading bytes were written; of a sound image
-/// they are none, or end where a cluster does.
-/// Refused in this order: 16 (failed), 12 (dependency), 2 (beyond size) for a range of one byte or more that passes the size,
-/// 1 (read-only) for one byte or more. Then comes 9 (table prepared), where a mapping that isn't existing is prepared in an L2 table of
-/// the range. Where the work meets them: 4 (unaligned table), 7 (compressed), 8 (everything is in use), 13 (limit), 14 (memory),
-/// 15 (storage), and 20 (overflow) where an L1 entry past 64 bits would have to be written.
+/// Writes bytes to the guest's disk, from an offset in bytes on. A refusal says how many leading bytes were written. On a sound image
+/// these are none, or end at a cluster boundary.
+/// Refused in this order: 16 (failed), 12 (dependency), 2 (beyond size) for a range of at least one byte that ends behind the size,
+/// 1 (read-only) for at least one byte; then 9 (table prepared), if a mapping that isn't existing is prepared in an L2 table of
+/// the range. Refused 4 (unaligned table), 7 (compressed), 8 (everything is in use), 13 (limit), 14 (memory) and
+/// 15 (storage) if the work meets them, and 20 (overflow) if an L1 entry past 64 bits would have to be written.
 pub fn write<S: Storage, F: WrappedFormat<S>>(
     image: &mut Qcow2<S, F>,
     offset: u64,
@@ -343,7 +343,7 @@ pub fn write<S: Storage, F: WrappedFormat<S>>(
     Ok(())
 }
 
-// Writes the first bytes at least, and answers how many. Of no bytes it answers whether they could be written.
+// Writes at least the first bytes, and returns how many. For no bytes, checks whether they could be written.
 fn write_some<S: Storage, F: WrappedFormat<S>>(
     image: &mut Qcow2<S, F>,
     offset: u64,
@@ -386,7 +386,7 @@ fn write_some<S: Storage, F: WrappedFormat<S>>(
     }
 }
 
-// Discards a mapping of the image.
+// Drops a mapping of the image.
 fn release<S: Storage, F: WrappedFormat<S>>(image: &mut Qcow2<S, F>, prepared: Prepared)
     requires { image_of prepared ≡ number_of image.old }
     ensures image { IsSameImage image.old image.new }
@@ -403,8 +403,8 @@ fn release<S: Storage, F: WrappedFormat<S>>(image: &mut Qcow2<S, F>, prepared: P
     }
 }
 
-/// Answers each command. Where room for the replies or the slots is refused the answer is empty, and nothing was called. Mappings that
-/// stand in slots at the end are discarded.
+/// Answers each command. If there is no memory for the replies or the slots, the result is empty, and no call was made. Mappings that are
+/// in slots at the end are dropped.
 pub fn run<S: Storage, F: WrappedFormat<S>>(
     alloc: Global,
     image: &mut Qcow2<S, F>,
@@ -728,7 +728,7 @@ fn sync<S: Storage, F: WrappedFormat<S>>(image: &mut Qcow2<S, F>) -> Reply
     Reply::Done
 }
 
-// Discards what stands in a slot.
+// Drops the mapping in a slot.
 fn release_slot<S: Storage, F: WrappedFormat<S>>(image: &mut Qcow2<S, F>, slot: Option<Prepared>)
     requires { IfSome slot (λ p. image_of p ≡ number_of image.old) }
     ensures step { ReleasingStep S.view F.backing image.old image.new }
@@ -739,7 +739,7 @@ fn release_slot<S: Storage, F: WrappedFormat<S>>(image: &mut Qcow2<S, F>, slot: 
     }
 }
 
-// Discards what is left.
+// Drops all mappings that are left.
 fn discard_all<S: Storage, F: WrappedFormat<S>>(image: &mut Qcow2<S, F>, slots: Slots)
     requires { slots.image ≡ number_of image.old }
     ensures step { ReleasingStep S.view F.backing image.old image.new }

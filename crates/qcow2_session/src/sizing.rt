@@ -16,7 +16,7 @@ use crate::session::Reply;
 use image_access::{PreallocateMode, Storage, WrappedFormat};
 use qcow2_image::Qcow2;
 
-// Makes the disk larger. The mode says what its new bytes are, and what place they take.
+// Grows the disk. The mode says what the new bytes are, and how they are allocated.
 pub(crate) fn grow<S: Storage, F: WrappedFormat<S>>(
     image: &mut Qcow2<S, F>,
     size: u64,
@@ -39,7 +39,7 @@ pub(crate) fn grow<S: Storage, F: WrappedFormat<S>>(
     }
 }
 
-// Makes the disk smaller. It is replied the offset up to which the clusters behind the new end were dropped.
+// Shrinks the disk. The reply is the offset up to which clusters behind the new end were discarded.
 pub(crate) fn shrink<S: Storage, F: WrappedFormat<S>>(image: &mut Qcow2<S, F>, size: u64) -> Reply
     ensures keeps { KeepsItself image.old image.new }
     ensures reading { is_writable image.old ≡ false → image.new ≡ image.old }

@@ -1,4 +1,4 @@
-//! The slots of a run, in which mappings stand.
+//! The slots of a run, which hold mappings.
 ghost use Rattle.std.specs.Prelude.{◌≡◌, ℕ, length, replicate, IfSome, MatchOption, Option, Some, None, slice_get};
 ghost use Rattle.std.specs.Prelude.{slice_set};
 ghost use Rattle.qcow2_image.specs.Prepared.{image_of};
@@ -9,7 +9,7 @@ use qcow2_image::{Mapping, Prepared};
 use std::alloc::Global;
 use std::mem;
 
-// The mappings of a run, by their slots. The prepared ones are of one image.
+// The mappings of a run, by slot. The prepared ones belong to one image.
 pub(crate) struct Slots {
     pub(crate) image: u64,
     pub(crate) prepared: Vec<Option<Prepared>>,
@@ -43,7 +43,7 @@ impl Slots {
         })
     }
 
-    // Puts something into a slot, and answers what was there.
+    // Puts a mapping, or none, into a slot, and returns what was there.
     pub(crate) fn put(&mut self, slot: u8, prepared: Option<Prepared>) -> Option<Prepared>
         requires { IfSome prepared (λ p. image_of p ≡ self.old.image) }
         ensures own { IfSome result (λ p. image_of p ≡ self.new.image) }
@@ -55,7 +55,7 @@ impl Slots {
         mem::replace(&mut self.prepared[usize::from(slot)], prepared)
     }
 
-    // Puts a prepared mapping into a slot that is empty.
+    // Puts a prepared mapping into an empty slot.
     pub(crate) fn fill(&mut self, slot: u8, prepared: Prepared)
         requires own { image_of prepared ≡ self.old.image }
         requires free { slice_get self.old.prepared.items slot ≡ Some None }

@@ -1,4 +1,4 @@
-//! The commands that read what isn't mapped plainly.
+//! The commands that read compressed ranges.
 ghost use Rattle.qcow2_session.specs.CallSteps.{CommandStep, SpecialStep};
 ghost use Rattle.std.specs.Prelude.{ℕ, ◌≡◌, ◌<◌, ◌⊎◌, [], List, Option, None, IfErr, IfOk, IfSome, MatchOption, Err};
 ghost use Rattle.qcow2_alloc.specs.ImageFile.{known_in};
@@ -22,7 +22,7 @@ use image_access::{Storage, WrappedFormat};
 use qcow2_image::{ImageError, Qcow2};
 use std::alloc::Global;
 
-// Reads a range that isn't mapped plainly. Today all but a range of no bytes is refused.
+// Reads a compressed range. Today every read of at least one byte is refused.
 pub(crate) fn readv_special<S: Storage, F: WrappedFormat<S>>(
     alloc: Global,
     image: &mut Qcow2<S, F>,
@@ -42,7 +42,7 @@ pub(crate) fn readv_special<S: Storage, F: WrappedFormat<S>>(
     }
 }
 
-// Answers the offset of a range that is mapped plainly.
+// Returns the offset of a range that isn't compressed.
 pub(crate) fn try_readv_special<S: Storage, F: WrappedFormat<S>>(
     alloc: Global,
     image: &mut Qcow2<S, F>,
