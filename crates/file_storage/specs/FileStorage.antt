@@ -1,4 +1,4 @@
--- A storage over a file: nothing is known of its bytes, so it isn't called honest. Its failures are counted, and where it failed an error is kept.
+-- The view of a storage over a file. Nothing is known of its bytes, so it is not honest in proofs. Its failures are counted, and the last error is kept.
 use Rattle.std.specs.Prelude.{◌≡◌, ◌≢◌, ℕ, Bool, [], codes, Option, None, Some, Result, Ok, Err}
 use Rattle.std.specs.declared.io.Error.{Error}
 use Rattle.image_access.specs.CallCount.{one_more}
@@ -6,10 +6,10 @@ use Rattle.image_access.specs.Moments.{StorageView}
 use Rattle.image_access.specs.declared.error.StorageError.{StorageError}
 use Rattle.image_access.specs.declared.error.StorageError.TheVariants.{Fault, Memory}
 
--- an open file or block device: which of them it is, how often it failed, and an error where it did
+-- An open file or block device: which of them it is, how often it failed, and an error if it did.
 pub record OpenFile : Type 0 where
   pub is_block_device : Bool
-  -- up to the greatest u64
+  -- The counter stops at the greatest u64.
   pub faults : ℕ
   pub last_error : Option Error
   pub kept : last_error ≡ None → faults ≡ 0
@@ -26,12 +26,12 @@ view_of_file file = record {
   mem_align = 1;
 }
 
--- a call answers what the system answered: its value, or for its error a fault, and the error is kept
+-- A call returns what the system returned: the value, or a fault for an error, which is kept.
 abbrev pub Tells : {T : Type 0} → Result T Error → Result T StorageError → Option Error → Type 0
 Tells (Ok value) result kept = result ≡ Ok value
 Tells (Err e) result kept = (result ≡ Err Fault) × (kept ≡ Some e)
 
--- What each call answers: at Ok nothing changes, and at a fault one more is counted, and some error is kept. No call is refused for want of memory.
+-- What each call returns. After a success nothing changed. After a fault the counter is higher by one, and some error is kept. No call is refused for lack of memory.
 abbrev pub CountsFailures : {T : Type 0} → OpenFile → OpenFile → Result T StorageError → Type 0
 CountsFailures old new (Ok _) = new ≡ old
 CountsFailures old new (Err Fault) = (new.is_block_device ≡ old.is_block_device) × (new.faults ≡ one_more old.faults) × (new.last_error ≢ None)

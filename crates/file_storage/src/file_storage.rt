@@ -8,7 +8,7 @@ use std::io;
 use std::marker::Model;
 use std::os::unix::fs::FileExt;
 
-/// A storage over an open file or block device. Of what it holds nothing is known. Each call that fails is counted, and the
+/// A storage over an open file or block device. Nothing is known of its bytes in proofs. Each call that fails is counted, and the
 /// system's error is kept.
 #[derive(Drop)]
 pub struct FileStorage {
@@ -33,7 +33,7 @@ impl FileStorage {
     ghost use Rattle.std.specs.Prelude.{◌≡◌, None};
     ghost use Rattle.file_storage.specs.FileStorage.{CountsFailures, Tells};
 
-    // The limit is the greatest size that it may be given.
+    // The limit is the greatest size that the file may get.
     pub(crate) fn new(file: File, is_block_device: bool, limit: u64, is_new: bool) -> Self
         ensures device { result.is_block_device ≡ is_block_device }
         ensures faults { result.faults ≡ 0 }
@@ -49,7 +49,7 @@ impl FileStorage {
         }
     }
 
-    /// Why the last call that failed did so; None only where none has failed. Calls that succeed leave it as it is.
+    /// The error of the last call that failed; None if none has failed. Successful calls leave it the same.
     pub fn last_error(&self) -> Option<io::Error>
         ensures last { result ≡ self.now.last_error }
         ensures each { result ≡ None → self.now.faults ≡ 0 }
@@ -57,13 +57,13 @@ impl FileStorage {
         self.last_error
     }
 
-    /// Whether there was no file before it was opened.
+    /// Whether there was no file before this one was opened.
     pub fn is_new(&self) -> bool {
         self.is_new
     }
 
-    /// The greatest size that it can have, in bytes: where a block device ends, and what the system lets this program give a file.
-    /// What is free on the file's device isn't asked.
+    /// The greatest possible size, in bytes: the end of a block device, or the system's file size limit for this program.
+    /// Free space on the device is not considered.
     pub fn greatest_size(&mut self) -> Result<u64, StorageError>
         ensures counts { CountsFailures self.old self.new result }
     {
@@ -74,7 +74,7 @@ impl FileStorage {
         self.told(end)
     }
 
-    // Gives a file a size up to the limit. A block device keeps its end.
+    // Sets the size of a file, up to the limit. A block device keeps its end.
     fn give_size(&self, size: u64) -> io::Result<()> {
         if self.is_block_device {
             fill_from(&self.file, size)
@@ -83,7 +83,7 @@ impl FileStorage {
         }
     }
 
-    // Refuses a change that ends past the limit.
+    // Refuses a change that ends behind the limit.
     fn require_room(&mut self, end: Option<u64>) -> Result<(), StorageError>
         ensures counts { CountsFailures self.old self.new result }
     {
@@ -91,7 +91,7 @@ impl FileStorage {
         self.told(answer)
     }
 
-    // Answers what the system answered. Its error is a fault, which is counted, and it is kept.
+    // Returns what the system returned. An error of the system is a fault: it is counted and kept.
     fn told<T>(&mut self, answer: io::Result<T>) -> Result<T, StorageError>
         ensures tells { Tells answer result self.new.last_error }
         ensures counts { CountsFailures self.old self.new result }
@@ -107,7 +107,7 @@ impl FileStorage {
     }
 }
 
-// Past the end of the file it reads zeros, also where no file can reach.
+// Reads from a file. Behind its end there are zeros, even at offsets that no file can reach.
 fn read_all(file: &File, at: u64, buf: &mut [u8]) -> io::Result<()> {
     let reachable = (i64::MAX as u64).saturating_sub(at);
     let within = usize::try_from(reachable)
@@ -201,7 +201,7 @@ impl Storage for FileStorage {
     fn flush(&mut self) -> Result<(), StorageError>
         ensures no_failure { IsOk result × (self.new ≡ self.old) }
     {
-        // No bytes wait here to be written.
+        // No bytes wait to be written here.
         Ok(())
     }
 
@@ -215,7 +215,7 @@ impl Storage for FileStorage {
     fn invalidate_cache(&mut self) -> Result<(), StorageError>
         ensures no_failure { IsOk result × (self.new ≡ self.old) }
     {
-        // Nothing is kept of earlier reads.
+        // No earlier reads are cached here.
         Ok(())
     }
 

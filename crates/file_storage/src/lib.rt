@@ -1,4 +1,4 @@
-//! A storage over a file or a block device, which keeps the system's last refusal.
+//! A storage over a file or a block device, which keeps the system's last error.
 #![tactic(auto)]
 
 mod file_storage;

@@ -1,4 +1,4 @@
-//! How large the system lets this program make a file.
+//! The system's file size limit for this program.
 ghost use Rattle.std.specs.Prelude.{◌≤◌, ◌↔◌, IsOk, IsSomeAnd};
 
 use std::rt::Files;
@@ -7,13 +7,13 @@ use std::{fs, io};
 /// Where Linux lists the limits of this program.
 const LIST: &str = "/proc/self/limits";
 
-/// What its line of the size of files begins with.
+/// The begin of the line with the file size limit.
 const NAME: &str = "Max file size";
 
-/// The system's number for a file that is too large.
+/// The system's error number for a file that is too large.
 const TOO_LARGE: i32 = 27;
 
-// The greatest size that this program may give a file, in bytes; the greatest u64 where there is no limit, or it isn't listed.
+// The file size limit of this program in bytes; the greatest u64 if there is none, or it isn't listed.
 pub(crate) fn greatest_size<R: Files + AllocGlobal>(rt: &R) -> io::Result<u64> {
     let list = match fs::read_to_string(rt, LIST) {
         Ok(list) => list,
@@ -32,7 +32,7 @@ fn fourth_number(line: &str) -> Option<u64> {
     line.split_ascii_whitespace().nth(3)?.parse().ok()
 }
 
-// Refuses a change that ends past a limit. The system ends a program that tries one.
+// Refuses a change that ends behind a limit. The system would kill a program that tries it.
 pub(crate) fn require_within(limit: u64, end: Option<u64>) -> io::Result<()>
     ensures { IsOk result ↔ IsSomeAnd end (λ e. e ≤ limit) }
 {

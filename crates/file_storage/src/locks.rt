@@ -1,4 +1,4 @@
-//! The locks of files, as Linux lists them for every program.
+//! File locks, as Linux lists them for all programs.
 ghost use Rattle.std.specs.Prelude.{◌≤◌, ◌↔◌, IsTrue};
 
 use std::fs::Metadata;
@@ -9,22 +9,22 @@ use std::{fs, io};
 /// Where the locks are listed.
 const LIST: &str = "/proc/locks";
 
-/// The first of the bytes that QEMU locks of a file that it has open. Each stands for something that it does or forbids.
+/// The first of the bytes that QEMU locks in an open file. Each stands for a permission that it uses or denies to others.
 const FIRST: u64 = 100;
 
-/// The last of them.
+/// The last of these bytes.
 const LAST: u64 = 299;
 
 /// How a program locks a file.
 #[derive(Clone, Copy, PartialEq, Eq)]
 pub(crate) enum Way {
-    /// As this crate does: the whole file.
+    /// Like this crate: the whole file.
     Whole,
-    /// As QEMU does: some bytes of it.
+    /// Like QEMU: some bytes of it.
     Bytes,
 }
 
-/// What the list says of a lock.
+/// A lock in the list.
 #[derive(Clone, Copy)]
 struct Lock<'a> {
     way: Way,
@@ -34,7 +34,7 @@ struct Lock<'a> {
     last: &'a str,
 }
 
-// Refuses a file that a program has locked in a way, and names the program where the list does. Where there is no list, nothing is refused.
+// Refuses a file that a program has locked in this way, and names the program if the list does. Without a list, nothing is refused.
 pub(crate) fn require_unlocked<R: Files + AllocGlobal>(
     rt: &R,
     file: &Metadata,
@@ -56,7 +56,7 @@ pub(crate) fn require_unlocked<R: Files + AllocGlobal>(
     Ok(())
 }
 
-// The error of a file that a program has open, whose process the list may tell.
+// The error for a file that a program has open. The list may give its process.
 fn in_use(rt: &impl AllocGlobal, process: &str) -> io::Error {
     let busy = io::ErrorKind::WouldBlock;
     let Ok(process) = process.parse::<u32>() else {
@@ -68,7 +68,7 @@ fn in_use(rt: &impl AllocGlobal, process: &str) -> io::Error {
     }
 }
 
-// A file's device and number, as the list writes them.
+// The device and number of a file, as the list writes them.
 fn listed_name(rt: &impl AllocGlobal, file: &Metadata) -> io::Result<String> {
     let device = file.dev();
     let major = ((device >> 8) & 0xfff) | ((device >> 32) & 0xffff_f000);
@@ -77,21 +77,21 @@ fn listed_name(rt: &impl AllocGlobal, file: &Metadata) -> io::Result<String> {
     Ok(format!(in rt.alloc(); "{major:02x}:{minor:02x}:{number}")?)
 }
 
-// Whether a lock is on the whole file, or on a byte that QEMU locks. A number that can't be read counts as one.
+// Whether a lock is on the whole file, or on a byte that QEMU locks. An unreadable number counts as one.
 fn is_met(lock: &Lock<'_>) -> bool {
     let first = lock.first.parse().unwrap_or(0);
     let last = lock.last.parse().unwrap_or(u64::MAX);
     lock.way == Way::Whole || is_between(first, last)
 }
 
-// Whether a range of bytes has one that QEMU locks.
+// Whether a range of bytes contains one that QEMU locks.
 fn is_between(first: u64, last: u64) -> bool
     ensures { IsTrue result ↔ ((first ≤ 299) × (100 ≤ last)) }
 {
     first <= LAST && last >= FIRST
 }
 
-// The lock of a line of the list; None of one that is only waited for, and of other kinds.
+// The lock in a line of the list; None for one that is only waited for, and for other kinds.
 fn lock_of(line: &str) -> Option<Lock<'_>> {
     let mut words = line.split_ascii_whitespace();
     words.next()?;

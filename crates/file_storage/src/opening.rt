@@ -6,13 +6,13 @@ use std::io;
 use std::os::unix::fs::{FileTypeExt, MetadataExt};
 use std::rt::Files;
 
-/// Opens a file or block device for reading and writing. It is refused with the system's error, and where another program
-/// has it open by this crate, or as QEMU has its files open.
+/// Opens a file or block device for reading and writing. Refused with the system's error, and if another program
+/// has it open through this crate, or QEMU has.
 pub fn open<R: Files<File = File> + AllocGlobal>(rt: &R, path: &str) -> io::Result<FileStorage> {
     storage_of(rt, open_old(rt, path)?, false)
 }
 
-/// The same, and a file is made, of no bytes, where there is none.
+/// Like `open`, but creates an empty file if there is none.
 pub fn create<R: Files<File = File> + AllocGlobal>(rt: &R, path: &str) -> io::Result<FileStorage> {
     let mut made = OpenOptions::new();
     made.read(true).write(true).create_new(true);
@@ -28,8 +28,8 @@ pub fn create<R: Files<File = File> + AllocGlobal>(rt: &R, path: &str) -> io::Re
     }
 }
 
-/// Opens a file or block device for reading. It is refused as by `open`, but other readers may have it open, and QEMU, and each change
-/// of one byte or more is a fault.
+/// Opens a file or block device for reading. Refused as by `open`, but other readers and QEMU may have it open. Every change
+/// of at least one byte is a fault.
 pub fn open_read_only<R: Files<File = File> + AllocGlobal>(
     rt: &R,
     path: &str,
@@ -40,7 +40,7 @@ pub fn open_read_only<R: Files<File = File> + AllocGlobal>(
     storage_of(rt, Opened { file, metadata }, false)
 }
 
-/// Whether two names are of one file.
+/// Whether two names are of the same file.
 pub fn is_same_file<R: Files>(rt: &R, path: &str, other: &str) -> bool {
     match (rt.metadata(path), rt.metadata(other)) {
         (Ok(metadata), Ok(other)) => Identity::of(&metadata) == Identity::of(&other),
@@ -48,7 +48,7 @@ pub fn is_same_file<R: Files>(rt: &R, path: &str, other: &str) -> bool {
     }
 }
 
-/// A file, by its device and its number there.
+/// The identity of a file: its device, and its number there.
 #[derive(Clone, Copy, PartialEq, Eq)]
 pub(crate) struct Identity {
     device: u64,
@@ -71,7 +71,7 @@ pub(crate) struct Opened {
     pub(crate) metadata: Metadata,
 }
 
-// A file that is there, opened for reading and writing.
+// Opens an existing file for reading and writing.
 pub(crate) fn open_old<R: Files<File = File> + AllocGlobal>(
     rt: &R,
     path: &str,
@@ -80,7 +80,7 @@ pub(crate) fn open_old<R: Files<File = File> + AllocGlobal>(
     claimed(rt, file)
 }
 
-// Locks a file that was opened for writing. Refused where another program has it open.
+// Locks a file that was opened for writing. Refused if another program has it open.
 pub(crate) fn claimed<R: Files<File = File> + AllocGlobal>(
     rt: &R,
     file: File,
@@ -91,7 +91,7 @@ pub(crate) fn claimed<R: Files<File = File> + AllocGlobal>(
     Ok(Opened { file, metadata })
 }
 
-// Where a file has no locks, none is asked for.
+// Locks a file, if the system has locks.
 fn locked<R: Files<File = File> + AllocGlobal>(
     rt: &R,
     metadata: &Metadata,
@@ -115,7 +115,7 @@ fn metadata_of(file: &File) -> io::Result<Metadata> {
     Ok(metadata)
 }
 
-// The storage over an open file. Only a file of a folder has a greatest size that is the program's.
+// The storage over an open file. Only a regular file is bound by the file size limit.
 pub(crate) fn storage_of<R: Files + AllocGlobal>(
     rt: &R,
     opened: Opened,

@@ -2,13 +2,13 @@ ghost use Rattle.std.specs.Prelude.{◌≡◌, ◌≤◌};
 
 use std::io::{Stdout, Write};
 
-/// All of it, in hundredths of a percent.
+/// The whole, in hundredths of a percent.
 const ALL: u64 = 10000;
 
-/// What is told next is more than the last by this, one percent.
+/// The least progress that is printed: one percent.
 const STEP: u64 = 100;
 
-// How much of a total was reached, told on standard output in the form of QEMU's tools.
+// The progress of a task, printed on standard output in the form of QEMU's tools.
 #[derive(Drop)]
 pub(crate) struct Progress {
     output: Stdout,
@@ -25,12 +25,12 @@ impl Progress {
         }
     }
 
-    // Counts from now on in parts of this total.
+    // Sets the total of the task.
     pub(crate) fn set_total(&mut self, total: u64) {
         self.total = total;
     }
 
-    // Tells that all up to an offset was reached, where that is one percent or more above what was told last.
+    // Prints the progress up to an offset, if it is at least one percent more than what was printed last.
     pub(crate) fn reach(&mut self, offset: u64) {
         let reached = hundredths(offset, self.total);
         if reached.saturating_sub(self.told) < STEP {
@@ -46,7 +46,7 @@ impl Progress {
     }
 }
 
-// A part of a total, in hundredths of a percent. Of a total of nothing it is all.
+// A part of a total, in hundredths of a percent. Of an empty total it is all.
 fn hundredths(part: u64, total: u64) -> u64
     ensures most { result ≤ 10000 }
     ensures all { total ≤ part → result ≡ 10000 }

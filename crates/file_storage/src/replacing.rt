@@ -1,4 +1,4 @@
-//! Files that get their name once they are whole.
+//! Files that get their name when they are complete.
 
 use crate::opening::{Identity, Opened, claimed, open_old, storage_of};
 use crate::{FileStorage, StreamedFile};
@@ -10,26 +10,26 @@ use std::path::{Path, PathBuf};
 use std::rt::Files;
 use std::{fs, io};
 
-/// What is to become of a file that `replace` opened: `finish` it, or `discard` it.
+/// A file that `replace` opened. Call `finish` or `discard` on it.
 #[derive(Drop)]
 pub struct Replacement {
     part: Option<Part>,
 }
 
-/// A file beside the one whose name it is to have.
+/// A file beside the one whose name it will get.
 #[derive(Drop)]
 struct Part {
     path: PathBuf,
     name: PathBuf,
     identity: Identity,
-    // It is locked for as long as it has the name.
+    // The old file, which is locked as long as it has the name.
     old: Option<Opened>,
 }
 
-/// Opens a file that is to be written from nothing, in place of the one that has this name, or where none has. Until `finish` it has
-/// another name: that of a file `NAME` is `.NAME.qimg-part`, in the same folder. What a run that was killed left under that name is
-/// removed. A block device, and what else isn't a file of a folder, is opened itself. Refused as `create` is, and where the folder takes
-/// no file.
+/// Opens an empty file that will replace the one with this name, if there is one. Until `finish` it has
+/// another name: for `NAME` it is `.NAME.qimg-part`, in the same folder. A file that a killed run left under that name is
+/// removed. A block device, and anything else that isn't a regular file, is opened itself. Refused as `create` is, and if the folder allows
+/// no new file.
 pub fn replace<R: Files<File = File> + AllocGlobal>(
     rt: &R,
     path: &str,
@@ -49,7 +49,7 @@ pub fn replace<R: Files<File = File> + AllocGlobal>(
 }
 
 impl Replacement {
-    /// Gives the file its name, once all of it is on its device. Where that fails it is removed. What was opened itself is flushed.
+    /// Gives the file its name, after all of it is on its device. If that fails, the file is removed. A file that was opened itself is flushed.
     pub fn finish<R: Files<File = File> + AllocGlobal>(
         self,
         rt: &R,
@@ -66,7 +66,7 @@ impl Replacement {
         done
     }
 
-    /// Removes the file, so that all is as it was. What was opened itself stays as it is.
+    /// Removes the file, so that everything is as before. A file that was opened itself stays.
     pub fn discard<R: Files<File = File> + AllocGlobal>(self, rt: &R) {
         if let Some(part) = self.part {
             remove(rt, &part);
@@ -78,7 +78,7 @@ fn is_link<R: Files>(rt: &R, path: &str) -> bool {
     rt.symlink_metadata(path).is_ok()
 }
 
-// Opens the file beside a name, with the rights of the one that has it.
+// Opens the file beside a name, with the permissions of the old file.
 fn open_part<R: Files<File = File> + AllocGlobal>(
     rt: &R,
     path: PathBuf,
@@ -113,7 +113,7 @@ fn part_name(rt: &impl AllocGlobal, path: &PathBuf) -> Result<PathBuf, AllocErro
     path.with_file_name(rt.alloc(), name.as_str())
 }
 
-// Makes a file that isn't there, with the rights of another. Its owner is that one's where the system allows it.
+// Creates a new file with the permissions of another, and with its owner if the system allows it.
 fn new_file<R: Files<File = File>>(
     rt: &R,
     name: &PathBuf,
@@ -135,7 +135,7 @@ fn give<R: Files<File = File>>(rt: &R, name: &PathBuf, old: &Metadata) -> io::Re
     std::os::unix::fs::chown(rt, name.as_path(), Some(old.uid()), Some(old.gid()))
 }
 
-// Removes what a run that was killed left. Refused where it is no file, and where a run still writes it.
+// Removes what a killed run left. Refused if it isn't a regular file, or a run is still writing it.
 fn remove_left<R: Files<File = File> + AllocGlobal>(rt: &R, name: &PathBuf) -> io::Result<()> {
     if !fs::symlink_metadata(rt, name.as_path())?.is_file() {
         return Err(io::Error::from(io::ErrorKind::AlreadyExists));
@@ -158,7 +158,7 @@ fn has_name<R: Files>(rt: &R, name: &PathBuf, identity: Identity) -> bool {
     }
 }
 
-// Refuses a file that another run has removed, before this one locked it.
+// Refuses a file that another run removed before this one locked it.
 fn require_own<R: Files>(rt: &R, part: &Part) -> io::Result<()> {
     if has_name(rt, &part.name, part.identity) {
         return Ok(());
@@ -166,7 +166,7 @@ fn require_own<R: Files>(rt: &R, part: &Part) -> io::Result<()> {
     Err(io::Error::new(io::ErrorKind::WouldBlock, "another program writes it"))
 }
 
-// Gives a file its name, which is on the device then too where the folder can be synced.
+// Gives a file its name, and syncs the folder if possible.
 fn put_in_place<R: Files<File = File> + AllocGlobal>(
     rt: &R,
     file: &mut StreamedFile,
@@ -191,7 +191,7 @@ fn sync_folder<R: Files<File = File>>(rt: &R, folder: Path<'_>) -> io::Result<()
     File::open(rt, folder)?.sync_all()
 }
 
-// What the system said of a file's last call, where that failed.
+// The system's error of a file's last call, if it failed.
 fn told(file: &StreamedFile, is_done: bool) -> io::Result<()> {
     if is_done {
         return Ok(());

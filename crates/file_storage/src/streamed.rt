@@ -10,19 +10,19 @@ use std::io;
 use std::io::Stdout;
 use std::marker::Model;
 
-/// How many bytes are held at most.
+/// The greatest number of bytes in memory.
 const ROOM: usize = 262144;
 
-/// What is as long as this is read and written as it comes.
+/// Reads and writes of at least this length are not buffered.
 const LONG: usize = 32768;
 
-/// After so many reads in a row the next ones are expected.
+/// After this many sequential reads, further ones are expected.
 const IN_A_ROW: u32 = 16;
 
-/// A storage over a file that is read or written from front to back, in long pieces. Reads in a row are answered by what was read
-/// ahead. Writes that continue one another are held, and written as one: before any other
-/// write, before each read, and before `size`, `flush` and `sync` answer. So the file has the writes up to one of them, in order.
-/// What can't be written stays held, and each of these calls is a fault until it is written.
+/// A storage over a file that is read or written from front to back. Sequential reads are answered from bytes that were read
+/// ahead. Adjacent writes are collected in memory, and written as one: before any other
+/// write, before each read, and before `size`, `flush` and `sync` return. So the file has the writes up to one of them, in order.
+/// Bytes that can't be written stay in memory, and each of these calls is a fault until they are written.
 #[derive(Drop)]
 pub struct StreamedFile {
     file: FileStorage,
@@ -46,7 +46,7 @@ impl Model for StreamedFile {
 }
 
 impl StreamedFile {
-    /// Takes an open file. Refused where memory is missing.
+    /// Takes an open file. Refused if memory runs out.
     pub fn new(alloc: Global, file: FileStorage) -> Result<StreamedFile, AllocError>
         ensures { IfOk result (λ s. s ≡ holding_nothing file) }
     {
@@ -62,22 +62,22 @@ impl StreamedFile {
         })
     }
 
-    /// Why the last call that failed did so; None only where none has failed.
+    /// The error of the last call that failed; None if none has failed.
     pub fn last_error(&self) -> Option<io::Error>
         ensures last { result ≡ self.now.file.last_error }
     {
         self.file.last_error()
     }
 
-    /// From now on it tells on standard output how far it was read or written, in percent of the size that `size` or `resize` last
-    /// had. That is told once it has risen by one percent or more. Where it can't be printed nothing is told.
+    /// From now on, prints on standard output how much was read or written, in percent of the size that `size` or `resize` last
+    /// returned or set. It prints when one percent more is done. Errors of the output are ignored.
     pub fn shows_progress(&mut self, output: Stdout)
         ensures same { self.new ≡ self.old }
     {
         self.progress = Some(Progress::new(output));
     }
 
-    // Takes a size as all that is to be read or written.
+    // Sets the size of everything that will be read or written.
     fn set_total(&mut self, size: u64)
         ensures same { self.new ≡ self.old }
     {
@@ -86,7 +86,7 @@ impl StreamedFile {
         }
     }
 
-    // Tells that it was read or written up to the end of these bytes.
+    // Records that everything up to the end of these bytes was read or written.
     fn reach(&mut self, at: u64, count: u64)
         ensures same { self.new ≡ self.old }
     {
@@ -95,7 +95,7 @@ impl StreamedFile {
         }
     }
 
-    // Reads, from what is held where it is there.
+    // Reads bytes, from memory if they are there.
     fn read_piece(&mut self, at: u64, buf: &mut [u8]) -> Result<(), StorageError>
         ensures counts { CountsFailures self.old.file self.new.file result }
         ensures written { LeavesNoneUnwritten self.old self.new result }
@@ -111,7 +111,7 @@ impl StreamedFile {
         self.read_ahead(at, buf)
     }
 
-    // Writes, or holds what is to be written.
+    // Writes bytes, or collects them in memory.
     fn write_piece(&mut self, at: u64, bytes: &[u8]) -> Result<(), StorageError>
         ensures counts { CountsFailures self.old.file self.new.file result }
         ensures written { WritesOrHolds self.old self.new at bytes.now result }
@@ -122,7 +122,7 @@ impl StreamedFile {
         if self.holds(at, bytes) {
             return Ok(());
         }
-        // What doesn't continue the bytes that wait comes after them.
+        // Bytes that don't continue those that wait are written after them.
         self.write_out()?;
         if self.holds(at, bytes) {
             return Ok(());
@@ -130,7 +130,7 @@ impl StreamedFile {
         self.file.write(at, bytes)
     }
 
-    // Writes what is held.
+    // Writes the bytes in memory.
     fn write_out(&mut self) -> Result<(), StorageError>
         ensures counts { CountsFailures self.old.file self.new.file result }
         ensures written { LeavesNoneUnwritten self.old self.new result }
@@ -147,14 +147,14 @@ impl StreamedFile {
         Ok(())
     }
 
-    // Forgets what was read ahead. What waits to be written stays held.
+    // Drops bytes that were read ahead. Bytes that wait to be written stay.
     fn forget(&mut self)
         ensures forgets { ForgetsReads self.old self.new }
     {
         self.held = if self.is_unwritten { self.held } else { 0 };
     }
 
-    // Holds bytes that are to be written, where they continue what is held and there is room. Whether it does.
+    // Collects bytes in memory, if they continue those that are there and there is room. Returns whether it did.
     fn holds(&mut self, at: u64, bytes: &[u8]) -> bool
         ensures holds { IsTrue result → HoldsMore self.old self.new at bytes.now }
         ensures stays { IsFalse result → self.new ≡ self.old }
@@ -176,7 +176,7 @@ impl StreamedFile {
         true
     }
 
-    // Fills the buffer with what was read ahead, where it was. Whether it was.
+    // Fills the buffer with bytes that were read ahead, if they are there. Returns whether it did.
     fn reads_held(&self, at: u64, buf: &mut [u8]) -> bool {
         let Some(from) = at.checked_sub(self.start) else {
             return false;
@@ -194,7 +194,7 @@ impl StreamedFile {
         true
     }
 
-    // The same, of what is now read ahead.
+    // Fills the buffer with bytes that are read ahead now.
     fn read_ahead(&mut self, at: u64, buf: &mut [u8]) -> Result<(), StorageError>
         ensures counts { CountsFailures self.old.file self.new.file result }
         ensures mark { self.new.is_unwritten ≡ self.old.is_unwritten }
@@ -209,7 +209,7 @@ impl StreamedFile {
         self.file.read(at, buf)
     }
 
-    // Whether this read continues one that continued others, and so on for long enough.
+    // Whether this read continues others, and enough of them.
     fn is_expected(&mut self, at: u64, count: usize) -> bool
         ensures same { self.new ≡ self.old }
     {
@@ -223,7 +223,7 @@ impl StreamedFile {
     }
 }
 
-// Puts bytes at a place, if there is room for all of them. Whether there is.
+// Puts bytes at a place, if there is room for all of them. Returns whether there is.
 fn put(room: &mut [u8], place: usize, bytes: &[u8]) -> bool
     ensures long { length room.new ≡ length room.old }
     ensures stays { IsFalse result → room.new ≡ room.old }
@@ -309,7 +309,7 @@ impl Storage for StreamedFile {
         ensures written { LeavesNoneUnwritten self.old self.new result }
         ensures forgets { HoldsNoReads self.new }
     {
-        // A file that is cut gets no bytes of before.
+        // After a cut, a file must not get bytes from before.
         self.forget();
         self.write_out()?;
         self.file.resize(size, how)?;
@@ -321,7 +321,7 @@ impl Storage for StreamedFile {
         ensures counts { CountsFailures self.old.file self.new.file result }
         ensures written { LeavesNoneUnwritten self.old self.new result }
     {
-        // The file has all that was written as it is flushed.
+        // The file gets everything that was written before it is flushed.
         self.write_out()?;
         self.file.flush()
     }
@@ -330,7 +330,7 @@ impl Storage for StreamedFile {
         ensures counts { CountsFailures self.old.file self.new.file result }
         ensures written { LeavesNoneUnwritten self.old self.new result }
     {
-        // The file has all that was written as it is synced.
+        // The file gets everything that was written before it is synced.
         self.write_out()?;
         self.file.sync()
     }
@@ -339,7 +339,7 @@ impl Storage for StreamedFile {
         ensures no_failure { IsOk result × (self.new.file ≡ self.old.file) }
         ensures forgets { ForgetsReads self.old self.new }
     {
-        // What was read ahead is asked anew.
+        // Bytes that were read ahead are read again.
         self.forget();
         self.file.invalidate_cache()
     }

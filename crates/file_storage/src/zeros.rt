@@ -7,7 +7,7 @@ use std::os::unix::fs::FileExt;
 /// Zeros that are written at a time.
 static ZEROS: [u8; 65536] = [0; 65536];
 
-// The number of bytes. A block device has one by its end alone.
+// The size in bytes. For a block device only its end gives it.
 pub(crate) fn size_of(mut file: &File) -> io::Result<u64> {
     file.seek(SeekFrom::End(0))
 }
@@ -23,7 +23,7 @@ pub(crate) fn write_zeros(file: &File, from: u64, to: u64) -> io::Result<()> {
     Ok(())
 }
 
-// Zeros that lie within the file are written. Past its end the file grows, and is zero there; a block device can't grow.
+// Writes zeros that lie in the file. Behind its end the file grows, and is zero there. A block device can't grow.
 pub(crate) fn write_or_grow(file: &File, from: u64, to: u64) -> io::Result<()> {
     let size = size_of(file)?;
     write_zeros(file, from, to.min(size))?;
@@ -33,8 +33,8 @@ pub(crate) fn write_or_grow(file: &File, from: u64, to: u64) -> io::Result<()> {
     Ok(())
 }
 
-// Cuts a file to a size, or grows it up to a limit. A file that has the size is left alone: one that was cut to no bytes is written to
-// the device as it is closed.
+// Cuts a file to a size, or extends it up to a limit. A file that has the size already is not touched: after a cut to no bytes, closing it writes
+// it to the device.
 pub(crate) fn set_size(file: &File, size: u64, limit: u64) -> io::Result<()> {
     let before = size_of(file)?;
     if before == size {
@@ -46,7 +46,7 @@ pub(crate) fn set_size(file: &File, size: u64, limit: u64) -> io::Result<()> {
     file.set_len(size)
 }
 
-// What a resize of a block device does: its end stays, and what lies past the size asked is zero.
+// Resizes a block device: its end stays, and bytes behind the given size become zeros.
 pub(crate) fn fill_from(file: &File, size: u64) -> io::Result<()> {
     let end = size_of(file)?;
     if size > end {
