@@ -1,4 +1,4 @@
-//! Numbers that are kept as runs.
+//! A set of numbers, stored as runs.
 #![tactic(auto)]
 
 ghost use Rattle.std.specs.Prelude.{◌≡◌, ◌≢◌, ◌+◌, ◌-◌, ◌<◌, ◌≤◌, ◌^◌, ◌⊎◌, ℕ, length};
@@ -9,7 +9,7 @@ use std::alloc::Global;
 use std::collections::BTreeMap;
 use std::marker::Model;
 
-/// Numbers, as an ordered map from the first number of each run to how many it has. There are no more runs than are allowed.
+/// A set of numbers, as an ordered map from the first number of each run to its length. The number of runs is bounded.
 #[derive(Drop)]
 pub struct NumberRuns {
     runs: BTreeMap<u64, u64>,
@@ -27,7 +27,7 @@ impl Model for NumberRuns {
     ghost invariant = { λ a. AreKept a.runs.entries a.most };
 }
 
-// Sets how many numbers the run has that begins at a number. With none it goes.
+// Sets the length of the run that begins at a number. Length 0 removes it.
 fn set_length(runs: &mut BTreeMap<u64, u64>, first: u64, n: u64)
     requires { run_at runs.old.entries first ≡ None → ⊥ }
     ensures some { 0 < n → run_at runs.new.entries first ≡ Some n }
@@ -44,7 +44,7 @@ fn set_length(runs: &mut BTreeMap<u64, u64>, first: u64, n: u64)
     }
 }
 
-// Sets how many numbers the run has that begins at a number, or puts it. With none nothing changes. False where there is no room.
+// Sets the length of the run that begins at a number, or inserts the run. Length 0 changes nothing. False if there is no room.
 fn put(runs: &mut BTreeMap<u64, u64>, most: usize, first: u64, n: u64) -> bool
     ensures some { IsTrue result → 0 < n → run_at runs.new.entries first ≡ Some n }
     ensures none { n ≡ 0 → IsTrue result × (runs.new.entries ≡ runs.old.entries) }
@@ -61,7 +61,7 @@ fn put(runs: &mut BTreeMap<u64, u64>, most: usize, first: u64, n: u64) -> bool
     runs.insert(first, n).is_ok()
 }
 
-// Takes the run out that begins at a number, where it has some numbers.
+// Removes the run that begins at a number, if it has numbers.
 fn drop_run(runs: &mut BTreeMap<u64, u64>, first: u64, n: u64)
     ensures gone { 0 < n → run_at runs.new.entries first ≡ None }
     ensures none { n ≡ 0 → runs.new.entries ≡ runs.old.entries }
@@ -73,7 +73,7 @@ fn drop_run(runs: &mut BTreeMap<u64, u64>, first: u64, n: u64)
     }
 }
 
-// The run that a number lies in: its first number, and how many it has.
+// The run that contains a number: its first number, and its length.
 fn find(runs: &BTreeMap<u64, u64>, most: usize, number: u64) -> Option<(u64, u64)>
     requires { AreKept runs.now.entries most }
     ensures run { IfSome result (λ run. run_at runs.now.entries run.0 ≡ Some run.1) }
@@ -106,7 +106,7 @@ fn find_from(runs: &BTreeMap<u64, u64>, number: u64) -> Option<(u64, u64)>
     }
 }
 
-// A run loses the numbers from `low` on up to before `high`. False where there is no room for what is left behind them. Nothing changes then.
+// Removes the numbers from `low` up to, not including, `high` from a run. False if there is no room for the rest behind them, and then nothing changed.
 fn cut(runs: &mut BTreeMap<u64, u64>, most: usize, run: (u64, u64), low: u64, high: u64) -> bool
     requires kept { AreKept runs.old.entries most }
     requires run { run_at runs.old.entries run.0 ≡ Some run.1 }
@@ -129,7 +129,7 @@ fn cut(runs: &mut BTreeMap<u64, u64>, most: usize, run: (u64, u64), low: u64, hi
     true
 }
 
-// Sees to it that no run goes over a number. False where there is no room for a run that is parted. The same numbers are in runs.
+// Splits the run that crosses a number, if one does. False if there is no room for the second part. The set stays the same.
 fn part(runs: &mut BTreeMap<u64, u64>, most: usize, at: u64) -> bool
     requires { AreKept runs.old.entries most }
     ensures kept { AreKept runs.new.entries most }
@@ -143,7 +143,7 @@ fn part(runs: &mut BTreeMap<u64, u64>, most: usize, at: u64) -> bool
     first == at || cut(runs, most, (first, n), at, at)
 }
 
-// Takes all runs out that begin at a number or behind it, and before an end.
+// Removes all runs that begin at a number or behind it, and before an end.
 fn drop_between(runs: &mut BTreeMap<u64, u64>, most: usize, first: u64, end: u64)
     requires kept { AreKept runs.old.entries most }
     requires begins { IsParted runs.old.entries first }
@@ -159,7 +159,7 @@ fn drop_between(runs: &mut BTreeMap<u64, u64>, most: usize, first: u64, end: u64
     }
 }
 
-// Where the run begins that ends right before a number, or the number itself where none does or none is asked for.
+// The begin of the run that ends right before a number; or the number itself, if no run does or joining is not asked for.
 fn begin_before(runs: &BTreeMap<u64, u64>, most: usize, number: u64, joins: bool) -> u64
     requires kept { AreKept runs.now.entries most }
     requires out { IsIn runs.now.entries number → ⊥ }
@@ -175,7 +175,7 @@ fn begin_before(runs: &BTreeMap<u64, u64>, most: usize, number: u64, joins: bool
     }
 }
 
-// How many numbers the run has that begins at a number; 0 where none does or none is asked for.
+// The length of the run that begins at a number; 0 if none does or joining is not asked for.
 fn length_at(runs: &BTreeMap<u64, u64>, most: usize, number: u64, joins: bool) -> u64
     requires { AreKept runs.now.entries most }
     ensures asked { 0 < result → IsTrue joins }
@@ -191,7 +191,7 @@ fn length_at(runs: &BTreeMap<u64, u64>, most: usize, number: u64, joins: bool) -
 }
 
 impl NumberRuns {
-    /// No numbers. There will be so many runs at most.
+    /// An empty set, with at most this many runs.
     pub fn new(alloc: Global, most: usize) -> NumberRuns
         ensures { (k : ℕ) → IsIn result k → ⊥ }
     {
@@ -201,7 +201,7 @@ impl NumberRuns {
         }
     }
 
-    /// The run that a number lies in: its first number, and how many it has.
+    /// The run that contains a number: its first number, and its length.
     pub fn run_of(&self, number: u64) -> Option<(u64, u64)>
         ensures some { IfSome result (IsRun self.now) }
         ensures within { IfSome result (λ run. (run.0 ≤ number) × (number < run.0 + run.1)) }
@@ -210,7 +210,7 @@ impl NumberRuns {
         find(&self.runs, self.most, number)
     }
 
-    /// The first run from a number on: its first number, and how many it has. Of the run that the number lies in, what is left from there.
+    /// The first run from a number on: its first number, and its length. If a run contains the number, the rest of it from there on.
     pub fn run_from(&self, number: u64) -> Option<(u64, u64)>
         ensures some { IfSome result (IsRun self.now) }
         ensures from { IfSome result (λ run. number ≤ run.0) }
@@ -223,7 +223,7 @@ impl NumberRuns {
         find_from(&self.runs, number)
     }
 
-    /// Adds so many numbers from one on, none of which is there, as one run. False where there is no room. Nothing changes then.
+    /// Adds n numbers from `first` on, none of which is in the set, as one run. False if there is no room, and then nothing changed.
     pub fn add(&mut self, first: u64, n: u64) -> bool
         requires near { first + n < 2 ^ 64 }
         requires apart { NoneIn self.old first (first + n) }
@@ -233,7 +233,7 @@ impl NumberRuns {
         put(&mut self.runs, self.most, first, n)
     }
 
-    /// Takes a number out. Its run is split in two. False where there is no room for the second. Nothing changes then.
+    /// Removes a number, and splits its run. False if there is no room for the second part, and then nothing changed.
     pub fn take(&mut self, number: u64) -> bool
         ensures taken { IsTrue result → Forgets self.old self.new number (number + 1) }
         ensures refused { IsFalse result → self.new ≡ self.old }
@@ -244,8 +244,8 @@ impl NumberRuns {
         cut(&mut self.runs, self.most, (first, n), number, number + 1)
     }
 
-    /// Adds a number. It joins the run before it and the one behind it where that is asked for. False where there is no room for a run,
-    /// and for the greatest number. Nothing changes then.
+    /// Adds a number. It joins the run before it and the one behind it, if that is asked for. False if there is no room for a run,
+    /// and for the greatest number; then nothing changed.
     pub fn give(&mut self, number: u64, joins_before: bool, joins_behind: bool) -> bool
         ensures given { IsTrue result → Adds self.old self.new number 1 }
         ensures refused { IsFalse result → self.new ≡ self.old }
@@ -270,8 +270,8 @@ impl NumberRuns {
         true
     }
 
-    /// Forgets the numbers from one on up to before an end. Runs that go over one of them are parted first, which takes room: false
-    /// where there is none. The same numbers are there then.
+    /// Removes the numbers from `first` up to, not including, `end`. Runs that cross one of these bounds are split before, which takes room: false
+    /// if there is none, and then the set stays the same.
     pub fn forget(&mut self, first: u64, end: u64) -> bool
         ensures forgotten { IsTrue result → Forgets self.old self.new first end }
         ensures refused { IsFalse result → SameNumbers self.old self.new }
@@ -286,7 +286,7 @@ impl NumberRuns {
         true
     }
 
-    /// Joins the run that ends right before a number with the one that begins there. The same numbers are in runs.
+    /// Joins the run that ends right before a number with the one that begins there. The set stays the same.
     pub fn join_at(&mut self, number: u64)
         ensures { SameNumbers self.old self.new }
     {
@@ -300,7 +300,7 @@ impl NumberRuns {
         }
     }
 
-    /// Forgets all numbers.
+    /// Removes all numbers.
     pub fn clear(&mut self)
         ensures { (k : ℕ) → IsIn self.new k → ⊥ }
     {
