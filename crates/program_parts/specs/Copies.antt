@@ -4,17 +4,17 @@ use Rattle.image_access.specs.Contents.{stored_byte}
 use Rattle.image_access.specs.Moments.{StorageView}
 use Rattle.qcow2_session.specs.Conversions.{IsLeft}
 
--- an honest raw disk keeps its bytes, and what it is copied to stays honest
+-- An honest raw disk keeps its bytes, and the target stays honest.
 pub record KeepsBoth (raw raw' copy copy' : StorageView) : Type 0 where
   pub raw_left : IsLeft raw raw'
   pub honest : copy.is_honest → copy'.is_honest
 
--- so far a copy has the first bytes, and no others
+-- The copy has the first `at` bytes, and no others.
 pub record IsCopiedUpTo (at : ℕ) (raw copy : List ℕ) : Type 0 where
   pub long : length copy ≡ at
   pub same : (o : ℕ) → o < at → stored_byte copy o ≡ stored_byte raw o
 
--- all bytes were copied, which are so many
+-- All bytes were copied, and there are n of them.
 pub record CopiesFrom (raw copy : List ℕ) (n : ℕ) : Type 0 where
   pub count : n ≡ length raw
   pub same : copy ≡ raw

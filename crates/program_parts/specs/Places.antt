@@ -13,32 +13,32 @@ use Rattle.program_parts.specs.declared.placing.Conversion.TheVariants as C
 use Rattle.program_parts.specs.declared.placing.Unplaced.{Unplaced}
 use Rattle.program_parts.specs.declared.placing.Unplaced.TheVariants as U
 
--- A name as contracts see it. It is honest where nobody else changes the folder, and where a file gets the name in one moment, is on its device by then, and isn't written afterwards.
+-- The view of a name. It is honest if nobody else changes the folder, and if a file gets the name in one moment, is on its device by then, and isn't written afterwards.
 pub record NameView : Type 1 where
   pub is_honest : Type 0
-  -- what the file of that name holds, or None where there is none
+  -- The contents of the file with this name, or None if there is none.
   pub holds : Option (List ℕ)
-  -- what it held at each moment before that, the last one first
+  -- The contents at each moment before, the latest first.
   pub held : List (Option (List ℕ))
 
--- nothing happened to it
+-- Nothing happened to the name.
 pub record StaysNamed (old new : NameView) : Type 0 where
   pub honest : old.is_honest → new.is_honest
   pub holds : new.holds ≡ old.holds
   pub held : new.held ≡ old.held
 
--- a file with these bytes got it
+-- A file with these bytes got the name.
 pub record GetsName (bytes : List ℕ) (old new : NameView) : Type 0 where
   pub honest : old.is_honest → new.is_honest
   pub holds : new.holds ≡ Some bytes
   pub held : new.held ≡ old.holds ∷ old.held
 
--- it got it, and where that was refused it may have got it
+-- The file got the name. If that was refused, it may have got it all the same.
 abbrev pub Renames : {E : Type 0} → Result (Unit {0}) E → List ℕ → NameView → NameView → Type 0
 Renames (Ok _) bytes old new = GetsName bytes old new
 Renames (Err _) bytes old new = StaysNamed old new ⊎ GetsName bytes old new
 
--- from one view to a later one the name held what it held at first, and then only what has P
+-- Since the old view, the name had its old contents, and after them only contents that satisfy P.
 pub record EachHeldSince (old new : NameView) (P : Option (List ℕ) → Type 0) : Type 0 where
   pub honest : old.is_honest → new.is_honest
   pub since : List (Option (List ℕ))
@@ -57,33 +57,33 @@ target_format C.ImageToRaw = Format.Raw
 target_format (C.RawToImage cluster width) = Format.Qcow2
 target_format C.RawToRaw = Format.Raw
 
--- a consistent image of a disk of so many bytes, whatever was read, and of an honest raw disk that disk
+-- A consistent image of size n, whatever was read. If the raw disk is honest, the image has its bytes.
 pub record IsWholeImage (n : ℕ) (source : StorageView) (bytes : List ℕ) : Type 0 where
   pub image : IsImageOfSize n (byte_at bytes)
   pub disk : source.is_honest → IsRawOf (disk_alone (byte_at bytes)) source.contents
 
--- The bytes are all of what is made: the raw disk of a consistent image, an image of a raw disk, or a copy of one.
+-- The bytes are the whole result: the raw disk of a consistent image, an image of a raw disk, or a copy of one.
 abbrev pub IsWhole : Conversion → ℕ → StorageView → List ℕ → Type 0
 IsWhole C.ImageToRaw n source bytes = source.is_honest → IsConsistent (byte_at source.contents) → IsExport source.contents n bytes
 IsWhole (C.RawToImage cluster width) n source bytes = IsWholeImage n source bytes
 IsWhole C.RawToRaw n source bytes = source.is_honest → CopiesFrom source.contents bytes n
 
--- an honest storage has all of it
+-- An honest storage has the whole result.
 pub record IsMade (how : Conversion) (n : ℕ) (source storage : StorageView) : Type 0 where
   pub honest : storage.is_honest
   pub whole : IsWhole how n source storage.contents
 
--- the file of a name has all of it
+-- The file of a name has the whole result.
 abbrev pub HoldsWhole : Conversion → ℕ → StorageView → Option (List ℕ) → Type 0
 HoldsWhole how n source (Some bytes) = IsWhole how n source bytes
 HoldsWhole how n source None = ⊥
 
--- At each moment of a conversion the file of the name is the one that had it before, or has all of what is made. Once the conversion is done it has.
+-- At every moment of a conversion, the name belongs to the old file or to one with the whole result. After a success it belongs to the latter.
 pub record Replaces {E : Type 0} (how : Conversion) (source : StorageView) (old new : NameView) (result : Result ℕ E) : Type 0 where
   pub each_moment : EachHeldSince old new (λ held. (n : ℕ) × HoldsWhole how n source held)
   pub done : IfOk result (λ n. HoldsWhole how n source new.holds)
 
--- what isn't made leaves the name as it was
+-- A result that is not made leaves the name unchanged.
 abbrev pub IsNameKept : {F P : Type 0} → Unplaced F → P → P → Type 0
 IsNameKept (U.Unmade file unmade) old new = new ≡ old
 IsNameKept (U.Unnamed cause) old new = Unit {0}

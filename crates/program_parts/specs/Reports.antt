@@ -1,4 +1,4 @@
--- The lines of a report of an image, each without its end, and the whole text.
+-- The lines of a report, each without its line feed, and the whole text.
 use Rattle.std.specs.Prelude.{ℕ, ◌≡◌, codes, Option, List, [], ◌∷◌, ◌++◌, length, ◌==◌, if◌then◌else◌}
 use Rattle.std.specs.Fmt.{decimal}
 use Rattle.std.specs.List.{flat_map}
@@ -32,7 +32,7 @@ breach_line (B.Copied cluster count named) = codes "copied" ␣ decimal cluster 
 abbrev pub leak_line : Leak → List ℕ
 leak_line leak = codes "leak" ␣ decimal leak.cluster ␣ decimal leak.count ␣ decimal leak.named
 
--- the last line, for so many breaches and leaks
+-- The last line, for these numbers of breaches and leaks.
 abbrev pub consistent_line : ℕ → List ℕ
 consistent_line leaks = codes "consistent, " ++ (decimal leaks ++ codes " leaked")
 
@@ -42,15 +42,15 @@ broken_line breaches = codes "broken, " ++ (decimal breaches ++ codes " breaches
 abbrev pub verdict_line : ℕ → ℕ → List ℕ
 verdict_line breaches leaks = if breaches == 0 then consistent_line leaks else broken_line breaches
 
--- lines, each with its end
+-- Lines, each with its line feed.
 abbrev pub text_of_lines : {A : Type 0} → (A → List ℕ) → List A → List ℕ
 text_of_lines line items = flat_map (λ item. line item ++ 10 ∷ []) items
 
--- breaches, then leaks, then the last line
+-- The breaches, then the leaks, then the last line.
 abbrev pub text_of_report : List Breach → List Leak → List ℕ
 text_of_report breaches leaks = text_of_lines breach_line breaches ++ (text_of_lines leak_line leaks ++ (verdict_line (length breaches) (length leaks) ++ 10 ∷ []))
 
--- these bytes are a consistent image, and its leaks were told
+-- These bytes are a consistent image, and its number of leaks was printed.
 pub record IsFoundConsistent (image : Bytes) (old new : Option (List ℕ)) : Type 0 where
   pub consistent : IsConsistent image
   pub leaks_are_told : Appends old new (text_of_report [] (leak_lines (header image) image))

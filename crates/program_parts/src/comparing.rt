@@ -1,4 +1,4 @@
-//! Whether two disks are the same.
+//! Comparing two disks.
 ghost use Rattle.std.specs.Prelude.{◌≡◌, ◌+◌, ◌^◌, ◌<◌, length, Ok, IfOk, MatchOption};
 ghost use Rattle.program_parts.specs.Disks.{IsComparisonOf, IsComparisonIn, IsKeptQuietly, IsOnlyRead};
 ghost use Rattle.program_parts.specs.Comparing.{IsComparedUpTo, IsFirstOther};
@@ -8,29 +8,29 @@ use image_access::{Format, Storage};
 use qcow2_image::ImageError;
 use std::alloc::{AllocError, Global};
 
-/// How many bytes are compared at a time.
+/// The number of bytes that are compared at a time.
 const PIECE: usize = 65536;
 
-/// What a comparison of two disks says.
+/// The result of a comparison of two disks.
 #[derive(Clone, Copy, Debug, PartialEq, Eq)]
 pub enum Comparison {
-    /// They have the same size and the same bytes.
+    /// The disks have the same size and the same bytes.
     Same,
-    /// They have different sizes.
+    /// The disks have different sizes.
     OtherSize,
-    /// They differ first in the byte at this offset.
+    /// The first byte that differs is at this offset.
     DiffersAt {
-        /// Its offset.
+        /// The offset in bytes.
         at: u64,
     },
 }
 
-/// Why disks weren't compared: one of them can't be read.
+/// Why disks were not compared: one of them can't be read.
 #[derive(Drop)]
 pub struct Unread {
-    /// Whether it is the second one.
+    /// Whether it is the second disk.
     pub is_other: bool,
-    /// Why it can't.
+    /// Why it can't be read.
     pub cause: ImageError,
 }
 
@@ -43,8 +43,8 @@ impl From<AllocError> for Unread {
     }
 }
 
-/// Compares the disks that two storages hold, each in a format, and hands the storages back, which are only read.
-/// Where one can't be opened or read, the answer is why: 4 (unaligned table), 7 (compressed), 12 (dependency), 13
+/// Compares the disks on two storages, each in a format, and returns the storages, which are only read.
+/// Refused if one can't be opened or read: 4 (unaligned table), 7 (compressed), 12 (dependency), 13
 /// (limit), 14 (memory), 15 (storage), 19 (metadata).
 pub fn compare_storages<S: Storage, T: Storage>(
     alloc: Global,
@@ -72,7 +72,7 @@ fn not_read(is_other: bool, cause: ImageError) -> Result<Comparison, Unread>
     Err(Unread { is_other, cause })
 }
 
-/// Compares two disks to the end, or up to the first byte that differs. Where one can't be read, the answer is why: 4 (unaligned table),
+/// Compares two disks up to the end, or up to the first byte that differs. Refused if one can't be read: 4 (unaligned table),
 /// 7 (compressed), 12 (dependency), 14 (memory), 15 (storage), 16 (failed).
 pub fn compare<A: DiskReader, B: DiskReader>(
     alloc: Global,
@@ -93,7 +93,7 @@ pub fn compare<A: DiskReader, B: DiskReader>(
     compare_all(one, other, size, &mut bytes, &mut others)
 }
 
-// What one of the disks answers.
+// A result of one of the two disks.
 fn of_disk<T>(is_other: bool, answer: Result<T, ImageError>) -> Result<T, Unread>
     ensures { IfOk result (λ value. answer ≡ Ok value) }
 {
@@ -103,7 +103,7 @@ fn of_disk<T>(is_other: bool, answer: Result<T, ImageError>) -> Result<T, Unread
     }
 }
 
-// Compares disks of so many bytes, by buffers of one length.
+// Compares disks of the same size, with buffers of the same length.
 fn compare_all<A: DiskReader, B: DiskReader>(
     one: &mut A,
     other: &mut B,
@@ -129,7 +129,7 @@ fn compare_all<A: DiskReader, B: DiskReader>(
     Ok(Comparison::Same)
 }
 
-// Compares a range of both, and answers where they differ first in it.
+// Compares a range of both disks, and returns the first offset in it that differs.
 fn compare_at<A: DiskReader, B: DiskReader>(
     one: &mut A,
     other: &mut B,
@@ -151,7 +151,7 @@ fn compare_at<A: DiskReader, B: DiskReader>(
     }
 }
 
-// Where two lists of one length differ first.
+// The first index at which two lists of the same length differ.
 fn first_difference(bytes: &[u8], others: &[u8]) -> Option<usize>
     requires { length others.now ≡ length bytes.now }
     ensures { MatchOption result (bytes.now ≡ others.now) (IsFirstOther bytes.now others.now) }

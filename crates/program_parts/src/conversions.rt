@@ -1,4 +1,4 @@
-//! New images, images of raw disks, and raw disks of images.
+//! Images from raw disks, and raw disks from images.
 ghost use Rattle.qcow2_session.specs.CountedFaults.{ConversionCounts};
 ghost use Rattle.std.specs.Prelude.{◌≡◌, ◌⊎◌, ◌<◌, ℕ, [], length, Err, IfErr, IfOk, IsErrAnd, IsTrue, Ok};
 ghost use Rattle.image_access.specs.Moments.{ContentsStay, EachMomentSince};
@@ -25,11 +25,11 @@ use qcow2_metadata::HeaderFields;
 use qcow2_session::convert::{to_qcow2, to_raw};
 use std::alloc::Global;
 
-/// Makes an image with the bytes of a raw disk, in clusters of so many bytes that are counted in so many bits, and hands its storage
-/// back. The answer is the number of bytes.
-/// Refused 5 (invalid option) for clusters or counts that images don't have, and then nothing was written. Where the work meets them:
-/// 13 (limit), 14 (memory), 15 (storage). A raw disk that has another size at the end is refused 5 too, and the image stands whole then.
-/// Of a storage that returns other bytes than were written, others come too.
+/// Makes an image with the bytes of a raw disk, with this cluster size in bytes and this refcount width in bits, and returns its storage
+/// and the number of bytes.
+/// Refused 5 (invalid option) for sizes or widths that images don't have, and then nothing was written. Refused
+/// 13 (limit), 14 (memory) and 15 (storage) if the work meets them. A raw disk that has another size at the end is refused 5 too, and then the
+/// image is complete. If the storage returns other bytes than were written, other refusals are possible.
 pub fn make_image<R: Storage, S: Storage>(
     alloc: Global,
     raw: &mut R,
@@ -73,7 +73,7 @@ pub fn make_image<R: Storage, S: Storage>(
     }
 }
 
-// Makes the image's disk as the raw disk is, which is to have the size that it had before.
+// Makes the disk of the image equal to the raw disk, which must have the size that it had before.
 fn fill<R: Storage, S: Storage, F: WrappedFormat<S>>(
     alloc: Global,
     raw: &mut R,
@@ -105,8 +105,8 @@ fn fill<R: Storage, S: Storage, F: WrappedFormat<S>>(
     Ok(count)
 }
 
-/// The size of an image's disk in bytes, as its header says it. The image is only read. Refused 19 (metadata) and 13 (limit) for a header
-/// that doesn't read. Where the work meets them: 14 (memory), 15 (storage).
+/// The size of an image's disk in bytes, by its header. The image is only read. Refused 19 (metadata) and 13 (limit) for an unreadable header,
+/// and 14 (memory) and 15 (storage) if the work meets them.
 pub fn disk_size<S: Storage>(alloc: Global, storage: &mut S) -> Result<u64, ImageError>
     ensures size { (S.view storage.old).is_honest
         → IfOk result (λ n. n ≡ (header (byte_at (S.view storage.old).contents)).size) }
@@ -116,9 +116,9 @@ pub fn disk_size<S: Storage>(alloc: Global, storage: &mut S) -> Result<u64, Imag
     Ok(fields.size)
 }
 
-/// Makes a raw disk of an image, which is only read and never written, and hands the image's storage back. The answer is the number of bytes.
-/// An image that doesn't open alone is refused as `open_alone` is: 19 (metadata), 13 (limit), 4 (unaligned table), 12 (dependency). The
-/// raw disk stays as it is then. Where the work meets them: 4 (unaligned table), 7 (compressed), 14 (memory), 15 (storage).
+/// Makes a raw disk from an image, which is only read and never written, and returns the image's storage and the number of bytes.
+/// An image that doesn't open alone is refused as by `open_alone`: 19 (metadata), 13 (limit), 4 (unaligned table), 12 (dependency). The
+/// raw disk stays unchanged then. Refused 4, 7 (compressed), 14 (memory) and 15 (storage) if the work meets them.
 pub fn make_raw_disk<S: Storage, R: Storage>(
     alloc: Global,
     storage: S,
@@ -148,7 +148,7 @@ pub fn make_raw_disk<S: Storage, R: Storage>(
     }
 }
 
-// Flushes a raw disk that was made whole, so that what it holds back is written before that is told.
+// Flushes a raw disk that is complete, so that bytes in memory are written before success is reported.
 fn flushed<R: Storage>(raw: &mut R, copied: Result<u64, ImageError>) -> Result<u64, ImageError>
     ensures same { ContentsStay (R.view raw.old) (R.view raw.new) }
     ensures honest { (R.view raw.old).is_honest → (R.view raw.new).is_honest }

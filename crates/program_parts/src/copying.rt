@@ -1,4 +1,4 @@
-//! Raw disks of raw disks.
+//! Copying raw disks.
 ghost use Rattle.std.specs.Prelude.{◌≡◌, ◌↔◌, ◌+◌, ◌<◌, length, replicate, IfErr, IfOk, IsTrue, OnOk};
 ghost use Rattle.image_access.specs.Contents.{bytes_at, overwritten};
 ghost use Rattle.qcow2_alloc.specs.ImageError.{IsFault};
@@ -8,12 +8,12 @@ use image_access::{Storage, StoragePreallocate};
 use qcow2_image::ImageError;
 use std::alloc::Global;
 
-/// How many bytes are copied at a time.
+/// The number of bytes that are copied at a time.
 const PIECE: usize = 65536;
 
-/// Makes a raw disk as another one is. It is resized to no bytes, and then each piece is written behind the last; of
-/// pieces that are zeros no bytes are written. The answer is the number of bytes. Where the work meets them: 14
-/// (memory), 15 (storage). The raw disk may have any bytes then.
+/// Makes a raw disk equal to another one. It is emptied, and then each piece is written behind the last one; for pieces of
+/// zeros no bytes are written. Returns the number of bytes. Refused 14
+/// (memory) and 15 (storage) if the work meets them. The target may have any bytes then.
 pub fn copy_raw_disk<R: Storage, S: Storage>(
     alloc: Global,
     raw: &mut R,
@@ -27,7 +27,7 @@ pub fn copy_raw_disk<R: Storage, S: Storage>(
     copy_by(alloc, raw, copy, PIECE)
 }
 
-// Copies so many bytes at a time.
+// Copies this many bytes at a time.
 fn copy_by<R: Storage, S: Storage>(
     alloc: Global,
     raw: &mut R,
@@ -49,7 +49,7 @@ fn copy_by<R: Storage, S: Storage>(
     Ok(size)
 }
 
-// Copies all pieces to an empty raw disk. The buffers are of one piece each.
+// Copies all pieces to an empty raw disk. The buffers have one piece each.
 fn copy_all<R: Storage, S: Storage>(
     raw: &mut R,
     copy: &mut S,
@@ -74,7 +74,7 @@ fn copy_all<R: Storage, S: Storage>(
     Ok(())
 }
 
-// Copies one piece, of which zeros take no place where the storage can do so.
+// Copies one piece. Zeros take no space if the storage supports that.
 fn copy_piece<R: Storage, S: Storage>(
     raw: &mut R,
     copy: &mut S,

@@ -1,11 +1,11 @@
-//! A disk below an image.
+//! A disk as the backing disk of an image.
 use crate::disk_storage::DiskStorage;
 use crate::disks::DiskReader;
 use image_access::{BackingDisk, Storage, StorageError};
 use qcow2_image::ImageError;
 
-/// A disk that lies below an image, which shows where that one has nothing of its own. Of what it holds nothing is
-/// known. Each read that fails is counted.
+/// A disk as a backing disk, which shows where the image above it is unmapped. Nothing is known of its
+/// bytes in proofs. Each read that fails is counted.
 #[derive(Drop)]
 pub struct DiskBelow<D: DiskReader> {
     storage: DiskStorage<D>,
@@ -13,7 +13,7 @@ pub struct DiskBelow<D: DiskReader> {
 }
 
 impl<D: DiskReader> DiskBelow<D> {
-    /// A disk that is to lie below an image. Refused as its size is: 14 (memory), 15 (storage).
+    /// Takes a disk. Refused as its size is: 14 (memory), 15 (storage).
     pub fn new(disk: D) -> Result<Self, ImageError> {
         let mut disk = disk;
         let size = disk.byte_count()?;

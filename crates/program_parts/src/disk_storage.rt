@@ -6,8 +6,8 @@ use crate::disks::DiskReader;
 use image_access::{Storage, StorageError, StoragePreallocate};
 use qcow2_image::ImageError;
 
-/// A storage with the bytes of a disk, which can only be read. Of what it holds nothing is known. Each call that fails is counted, and why
-/// a read last did so is kept.
+/// A storage with the bytes of a disk, for reading only. Nothing is known of its bytes in proofs. Each call that fails is counted, and
+/// the refusal of the last failed read is kept.
 #[derive(Drop)]
 pub struct DiskStorage<D: DiskReader> {
     disk: D,
@@ -16,7 +16,7 @@ pub struct DiskStorage<D: DiskReader> {
 }
 
 impl<D: DiskReader> DiskStorage<D> {
-    /// A storage with a disk's bytes.
+    /// A storage with the bytes of a disk.
     pub fn new(disk: D) -> Self {
         DiskStorage {
             disk,
@@ -25,12 +25,12 @@ impl<D: DiskReader> DiskStorage<D> {
         }
     }
 
-    /// The disk, and why the last read that failed did so.
+    /// The disk, and the refusal of the last failed read.
     pub fn into_parts(self) -> (D, Option<ImageError>) {
         (self.disk, self.last_refusal)
     }
 
-    // Answers that a call failed. A want of memory is no fault.
+    // The result of a call that failed. Lack of memory is not a fault.
     fn failed<T>(&mut self, refusal: ImageError) -> Result<T, StorageError>
         ensures cause { HasCause self.old.faults self.new.faults result }
     {

@@ -1,4 +1,4 @@
-//! Disks to be read: those of images, and raw ones.
+//! Disks to be read: of images, and raw ones.
 ghost use Rattle.std.specs.Prelude.{◌≡◌, ◌+◌, ◌≤◌, length, IfOk, MatchResult, OnOk};
 ghost use Rattle.qcow2_disk.specs.Calls.{Shows};
 ghost use Rattle.program_parts.specs.Disks.{IsKeptQuietly, IsOnlyRead, IsOpenedAs, IsSeenAs, LiesOn, SeenDisk};
@@ -11,16 +11,16 @@ use std::alloc::Global;
 
 /// A disk that can be read.
 pub trait DiskReader: Drop {
-    /// What a contract sees of it.
+    /// The view of the disk in contracts.
     ghost seen: { Self → SeenDisk };
 
-    /// The number of its bytes.
+    /// The size in bytes.
     fn byte_count(&mut self) -> Result<u64, ImageError>
         ensures step { IsOnlyRead (seen self.old) (seen self.new) }
         ensures size { (seen self.old).is_honest → IfOk result (λ n. n ≡ (seen self.old).disk.size) }
         ensures same { (seen self.old).is_honest → OnOk result (IsSeenAs (seen self.old).disk (seen self.new)) };
 
-    /// Fills the buffer with the bytes from an offset on. They have to lie below the disk's end. After a refusal it may hold any bytes.
+    /// Fills the buffer with the bytes from an offset on. They must lie below the disk's end. After a refusal the buffer may hold any bytes.
     fn read_bytes(&mut self, at: u64, bytes: &mut [u8]) -> Result<(), ImageError>
         ensures step { IsOnlyRead (seen self.old) (seen self.new) }
         ensures read { (seen self.old).is_honest → at + length bytes.old ≤ (seen self.old).disk.size
@@ -63,12 +63,12 @@ impl<S: Storage, F: WrappedFormat<S>> DiskReader for Qcow2<S, F> {
     }
 }
 
-/// The disk that a storage holds: its bytes themselves, or the disk of the image that they are.
+/// The disk on a storage: a raw disk, or the disk of an image.
 #[derive(Drop)]
 pub enum OpenDisk<S: Storage> {
     /// A raw disk.
     Raw(RawDisk<S>),
-    /// An image, which is opened for reading alone.
+    /// An image, opened for reading.
     Image(Qcow2<S, NoBacking>),
 }
 
@@ -104,8 +104,8 @@ impl<S: Storage> DiskReader for OpenDisk<S> {
     }
 }
 
-/// Opens the disk that a storage holds in a format, to be read. An image that needs another file is refused 12 (dependency). Else it is
-/// refused as `open_alone` is: 19 (metadata), 13 (limit), 4 (unaligned table), 14 (memory), 15 (storage).
+/// Opens the disk on a storage in a format, for reading. An image that needs another file is refused 12 (dependency). Otherwise it is
+/// refused as by `open_alone`: 19 (metadata), 13 (limit), 4 (unaligned table), 14 (memory), 15 (storage).
 pub fn open_disk<S: Storage>(
     alloc: Global,
     storage: S,

@@ -1,4 +1,4 @@
-//! Parts of programs: an image's report printed, images of raw disks, and raw disks of images.
+//! Parts of programs: printing reports, vetting, comparing disks, and conversions between images and raw disks.
 #![tactic(auto)]
 
 mod comparing;

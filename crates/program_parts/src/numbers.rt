@@ -1,10 +1,10 @@
-//! A number as words write it.
+//! Decimal numbers in words.
 ghost use Rattle.std.specs.Prelude.{◌≡◌};
 ghost use Rattle.std.specs.Char.{is_ascii_digit};
 ghost use Rattle.std.specs.List.{list_all};
 ghost use Rattle.program_parts.specs.Numbers.{number_of_word};
 
-/// The number that a word writes in decimal digits alone, where it has 64 bits.
+/// The value of a word of decimal digits, if it fits into 64 bits.
 #[tactic(auto, using(crate::proofs::Digits::parsed_number))]
 pub fn number(word: &str) -> Option<u64>
     ensures { result ≡ number_of_word word.now }

@@ -1,4 +1,4 @@
-//! Conversions whose target gets its name once it is whole.
+//! Conversions to a file that gets its name when it is complete.
 ghost use Rattle.std.specs.Prelude.{◌≡◌, IfErr, IfOk, IsTrue, OnOk};
 ghost use Rattle.program_parts.specs.Disks.{HoldsSameDisks, IsKeptQuietly};
 ghost use Rattle.qcow2_session.specs.Conversions.{IsLeft};
@@ -13,36 +13,36 @@ use qcow2_image::ImageError;
 use std::alloc::Global;
 use std::io;
 
-/// A name in a folder, which a file is to get once it is whole. Until then that file has another name.
+/// A name in a folder, for a file that gets it when it is complete. Until then the file has another name.
 pub trait Place<F: Storage>: Drop {
-    /// What a contract sees of the name.
+    /// The view of the name in contracts.
     ghost named: { Self → NameView };
 
-    /// Syncs a file, gives it the name, in place of the file that has it, and closes it. Refused with the system's
-    /// error: the name stays as it is, or is given all the same.
+    /// Syncs a file, gives it the name in place of the old file, and closes it. Refused with the system's
+    /// error: then the name stays the same, or the file got it all the same.
     fn finish(&mut self, file: F) -> io::Result<()>
         ensures { (named self.old).is_honest → (F.view file).is_honest
             → Renames result (F.view file).contents (named self.old) (named self.new) };
 }
 
-/// What is made of what.
+/// A kind of conversion.
 #[derive(Clone, Copy)]
 pub enum Conversion {
-    /// A raw disk of an image.
+    /// A raw disk from an image.
     ImageToRaw,
-    /// An image of a raw disk.
+    /// An image from a raw disk.
     RawToImage {
-        /// The bytes of a cluster.
+        /// The cluster size in bytes.
         cluster: u64,
-        /// The bits of a count.
+        /// The refcount width in bits.
         width: u64,
     },
-    /// A raw disk of another raw disk.
+    /// A raw disk from another raw disk.
     RawToRaw,
 }
 
 impl Conversion {
-    /// The format of what is read.
+    /// The format of the source.
     pub fn source(&self) -> Format
         ensures { result ≡ source_format self.now }
     {
@@ -52,7 +52,7 @@ impl Conversion {
         }
     }
 
-    /// The format of what is made.
+    /// The format of the target.
     pub fn target(&self) -> Format
         ensures { result ≡ target_format self.now }
     {
@@ -63,31 +63,31 @@ impl Conversion {
     }
 }
 
-/// Why a file isn't what was to be made.
+/// Why the result is not complete.
 #[derive(Drop)]
 pub enum Unmade {
     /// Reading or writing was refused.
     Refused(ImageError),
-    /// It reads otherwise than what it was made of.
+    /// The result reads otherwise than its source.
     Differs,
-    /// It couldn't be compared with what it was made of.
+    /// The result could not be compared with its source.
     Unread(Unread),
 }
 
-/// Why a file doesn't have its name.
+/// Why the result doesn't have its name.
 #[derive(Drop)]
 pub enum Unplaced<F: Storage> {
-    /// It isn't what was to be made. Here it is.
+    /// The result is not complete. The file is returned.
     Unmade(F, Unmade),
-    /// It is, and the system refused the name.
+    /// The result is complete, and the system refused the name.
     Unnamed(io::Error),
 }
 
-/// Makes an image or a raw disk of another one, compares the two if that is asked for, and gives the file that was
-/// made its name: until then the file has it that had it before. What is read is handed back. The answer is the number
+/// Makes an image or a raw disk from another one, compares the two if that is asked for, and gives the resulting file
+/// its name; until then the name belongs to the old file. Returns the source, and the number
 /// of bytes of the disk.
 /// Refused as `make_raw_disk`, `make_image` and `copy_raw_disk` are: 4 (unaligned table), 5 (invalid option), 7
-/// (compressed), 12 (dependency), 13 (limit), 14 (memory), 15 (storage), 19 (metadata). Then `Differs`, `Unread` as
+/// (compressed), 12 (dependency), 13 (limit), 14 (memory), 15 (storage), 19 (metadata); then `Differs`, `Unread` as
 /// `compare_storages` is, and `Unnamed`.
 pub fn convert<S: Storage, F: Storage, P: Place<F>>(
     alloc: Global,
@@ -117,7 +117,7 @@ pub fn convert<S: Storage, F: Storage, P: Place<F>>(
     }
 }
 
-// Makes a file what it is to be, and hands both back.
+// Writes the result to a file, and returns both files.
 fn make<S: Storage, F: Storage>(
     alloc: Global,
     source: S,
@@ -145,7 +145,7 @@ fn make<S: Storage, F: Storage>(
     }
 }
 
-// Compares what was made with what it was made of, where that is asked for, and hands both back.
+// Compares the result with its source, if that is asked for, and returns both.
 fn verify<S: Storage, F: Storage>(
     alloc: Global,
     source: S,

@@ -1,4 +1,4 @@
-//! The report of an image, as it is printed.
+//! Printing the report of an image.
 ghost use Rattle.std.specs.Prelude.{◌≡◌, ◌∷◌, ◌++◌, [], IfOk, OnOk, length};
 ghost use Rattle.std.specs.Fmt.{decimal};
 ghost use Rattle.std.specs.Io.KnownBytes.{Appends};
@@ -10,7 +10,7 @@ use qcow2_check::{Breach, Kind, Leak, Leaks, Report};
 use std::io;
 use std::io::Write;
 
-/// Prints the lines of a report: each breach, each leaked cluster, and what that comes to. Refused as the output is.
+/// Prints the lines of a report: each breach, each leaked cluster, and a summary. Refused as the output refuses.
 pub fn print_report<W: Write>(output: &mut W, report: &Report) -> io::Result<()>
     ensures { OnOk result (Appends (W.contents output.old) (W.contents output.new)
         (text_of_report report.now.breaches.items report.now.leaks)) }
@@ -37,7 +37,7 @@ fn print_consistent<W: Write>(output: &mut W, leaks: usize) -> io::Result<()>
     writeln!(output, "consistent, {leaks} leaked")
 }
 
-/// Prints a line for each breach. Refused as the output is.
+/// Prints a line for each breach. Refused as the output refuses.
 pub fn print_breaches<W: Write>(output: &mut W, breaches: &[Breach]) -> io::Result<()>
     ensures { OnOk result (Appends (W.contents output.old) (W.contents output.new) (text_of_lines breach_line breaches.now)) }
 {
@@ -47,7 +47,7 @@ pub fn print_breaches<W: Write>(output: &mut W, breaches: &[Breach]) -> io::Resu
     Ok(())
 }
 
-// The answer is how many there are.
+// Prints a line for each leak, and returns their number.
 fn print_leaks<W: Write>(output: &mut W, leaks: &Leaks) -> io::Result<usize>
     ensures lines { OnOk result (Appends (W.contents output.old) (W.contents output.new) (text_of_lines leak_line leaks.now)) }
     ensures count { IfOk result (λ n. n ≡ length leaks.now) }
@@ -60,7 +60,7 @@ fn print_leaks<W: Write>(output: &mut W, leaks: &Leaks) -> io::Result<usize>
     Ok(count)
 }
 
-// A leak is one of many, so its line is written without a formatter.
+// Prints the line of a leak, without a formatter, since there may be many.
 fn print_leak<W: Write>(output: &mut W, leak: &Leak) -> io::Result<()>
     ensures { OnOk result (Appends (W.contents output.old) (W.contents output.new) (leak_line leak.now ++ 10 ∷ [])) }
 {

@@ -1,4 +1,4 @@
-//! Whether an image that a stranger made may be taken in.
+//! Vetting: whether to accept an untrusted image.
 ghost use Rattle.std.specs.Prelude.{◌≡◌, IfErr, IfOk};
 ghost use Rattle.image_access.specs.Moments.{ContentsStay};
 ghost use Rattle.qcow2_metadata.specs.Bytes.{byte_at};
@@ -10,21 +10,21 @@ use qcow2_metadata::HeaderFields;
 use qcow2_session::{Report, check};
 use std::alloc::Global;
 
-/// What is to be known of an image before it is taken in.
+/// What to know of an image before accepting it.
 #[derive(Drop)]
 pub struct Vetted {
-    /// Each breach of its consistency, and each cluster that is leaked. Snapshots and a data file are breaches.
+    /// The breaches of consistency and the leaked clusters. Snapshots and a data file are breaches.
     pub report: Report,
-    /// Whether its header names a backing file.
+    /// Whether the header names a backing file.
     pub has_backing_file: bool,
-    /// The size of its disk, in bytes.
+    /// The size of the disk, in bytes.
     pub size: u64,
-    /// Whether that is more than is allowed.
+    /// Whether the size is more than allowed.
     pub is_too_large: bool,
 }
 
 impl Vetted {
-    /// Whether it may be taken in.
+    /// Whether the image may be accepted.
     pub fn passes(&self) -> bool
         ensures { result ≡ passes self.now }
     {
@@ -32,10 +32,10 @@ impl Vetted {
     }
 }
 
-/// Looks whether an image may be taken in whose disk is to have `max_size` bytes at most. It may be where it is consistent, and so needs
-/// no key, no data file and no repair, and has no snapshots; and where it names no backing file. Its bytes alone are read, and no name in
-/// them is followed. Refused 19 (metadata), 13 (limit) for a header, L1 table or reftable that doesn't read. Where the work meets them:
-/// 14 (memory), 15 (storage).
+/// Decides whether an image with a disk of at most `max_size` bytes may be accepted. It may be if it is consistent (so it needs no key, no data
+/// file and no repair, and has no snapshots) and names no backing file. Only the bytes of the image are read, and no name in
+/// them is followed. Refused 19 (metadata) and 13 (limit) for an unreadable header, L1 table or reftable, and
+/// 14 (memory) and 15 (storage) if the work meets them.
 pub fn vet<S: Storage>(alloc: Global, storage: &mut S, max_size: u64) -> Result<Vetted, ImageError>
     ensures vetted { (S.view storage.old).is_honest
         → IfOk result (IsVetted (byte_at (S.view storage.old).contents) max_size) }
