@@ -201,7 +201,7 @@ impl Storage for FileStorage {
     fn flush(&mut self) -> Result<(), StorageError>
         ensures no_failure { IsOk result × (self.new ≡ self.old) }
     {
-        // No bytes wait to be written here.
+        // No bytes wait here to be written.
         Ok(())
     }
 
@@ -215,7 +215,7 @@ impl Storage for FileStorage {
     fn invalidate_cache(&mut self) -> Result<(), StorageError>
         ensures no_failure { IsOk result × (self.new ≡ self.old) }
     {
-        // No earlier reads are cached here.
+        // Nothing is kept of earlier reads.
         Ok(())
     }
 

@@ -122,7 +122,7 @@ impl StreamedFile {
         if self.holds(at, bytes) {
             return Ok(());
         }
-        // Bytes that don't continue those that wait are written after them.
+        // What doesn't continue the bytes that wait comes after them.
         self.write_out()?;
         if self.holds(at, bytes) {
             return Ok(());
@@ -309,7 +309,7 @@ impl Storage for StreamedFile {
         ensures written { LeavesNoneUnwritten self.old self.new result }
         ensures forgets { HoldsNoReads self.new }
     {
-        // After a cut, a file must not get bytes from before.
+        // A file that is cut gets no bytes of before.
         self.forget();
         self.write_out()?;
         self.file.resize(size, how)?;
@@ -321,7 +321,7 @@ impl Storage for StreamedFile {
         ensures counts { CountsFailures self.old.file self.new.file result }
         ensures written { LeavesNoneUnwritten self.old self.new result }
     {
-        // The file gets everything that was written before it is flushed.
+        // The file has all that was written as it is flushed.
         self.write_out()?;
         self.file.flush()
     }
@@ -330,7 +330,7 @@ impl Storage for StreamedFile {
         ensures counts { CountsFailures self.old.file self.new.file result }
         ensures written { LeavesNoneUnwritten self.old self.new result }
     {
-        // The file gets everything that was written before it is synced.
+        // The file has all that was written as it is synced.
         self.write_out()?;
         self.file.sync()
     }
@@ -339,7 +339,7 @@ impl Storage for StreamedFile {
         ensures no_failure { IsOk result × (self.new.file ≡ self.old.file) }
         ensures forgets { ForgetsReads self.old self.new }
     {
-        // Bytes that were read ahead are read again.
+        // What was read ahead is asked anew.
         self.forget();
         self.file.invalidate_cache()
     }
