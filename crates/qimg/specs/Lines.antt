@@ -1,4 +1,4 @@
--- What a line of input asks for.
+-- The meaning of a line of input.
 use Rattle.std.specs.Prelude.{ℕ, Bool, true, false, ◌&&◌, ◌||◌, ◌==◌, nat_lt, nat_le, codes, List, [], ◌∷◌, length, replicate, Option, Some, None, if◌then◌else◌}
 use Rattle.std.specs.List.{list_all, slice_split}
 use Rattle.std.specs.Result.{result_ok}
@@ -10,7 +10,7 @@ use Rattle.qcow2_session.specs.declared.session.Command.{Command}
 use Rattle.qcow2_session.specs.declared.session.Command.TheVariants as C
 use Rattle.program_parts.specs.Numbers.{number_of_word}
 
--- what a command does to the image
+-- The meaning of a command.
 pub data Order : Type 0 where
   reads : (offset length : ℕ) → Order
   writes : (offset : ℕ) (bytes : List ℕ) → Order
@@ -30,7 +30,7 @@ pub data Order : Type 0 where
   sizes : Order
   syncs : Order
   leaks : Order
-  -- what no line asks for
+  -- No line means this.
   other : Order
 
 abbrev pub order_of_command : Command → Order
@@ -54,24 +54,24 @@ order_of_command C.Sync = syncs
 order_of_command C.Leaked = leaks
 order_of_command _ = other
 
--- the length of a `read`, a `fill` or a `special`, at most 1 MiB
+-- The length of a `read`, a `fill` or a `special`: at most 1 MiB.
 abbrev pub length_within : Option ℕ → Option ℕ
 length_within (Some n) = if nat_le n 1048576 then Some n else None
 length_within None = None
 
--- a slot, at most 255
+-- A slot: at most 255.
 abbrev pub slot_within : Option ℕ → Option ℕ
 slot_within (Some n) = if nat_le n 255 then Some n else None
 slot_within None = None
 
--- whether a range is announced as overwritten
+-- `overwrite` or `keep`.
 abbrev pub overwrite_of : List ℕ → Option Bool
 overwrite_of word = if bytes_eq word (codes "overwrite") then Some true else if bytes_eq word (codes "keep") then Some false else None
 
 abbrev pub is_lower_hex_digit : ℕ → Bool
 is_lower_hex_digit c = (nat_le 48 c && nat_le c 57) || (nat_le 97 c && nat_le c 102)
 
--- the bytes of one or more pairs of hexadecimal digits in lower case
+-- The bytes of at least one pair of lower-case hexadecimal digits.
 abbrev pub bytes_of : List ℕ → Option (List ℕ)
 bytes_of word = if nat_lt 0 (length word) && list_all is_lower_hex_digit word then result_ok (decode_of word) else None
 
@@ -79,7 +79,7 @@ abbrev pub first_byte : Option (List ℕ) → Option ℕ
 first_byte (Some (byte ∷ _)) = Some byte
 first_byte _ = None
 
--- the byte of one pair
+-- The byte of one pair.
 abbrev pub byte_of : List ℕ → Option ℕ
 byte_of word = if list_all is_lower_hex_digit word then first_byte (result_ok (decode_sized word 1)) else None
 
@@ -163,7 +163,7 @@ abbrev pub range_with : Option ℕ → Option ℕ → Option (ℕ × ℕ)
 range_with (Some offset) (Some length) = Some (offset, length)
 range_with _ _ = None
 
--- OFFSET LENGTH of a `zero`, `dzero`, `dany` or `dback`
+-- OFFSET LENGTH of a `zero`, `dzero`, `dany` or `dback`.
 abbrev pub range_alone : List (List ℕ) → Option (ℕ × ℕ)
 range_alone (offset ∷ length ∷ []) = range_with (number_of_word offset) (number_of_word length)
 range_alone _ = None
@@ -172,7 +172,7 @@ abbrev pub clear_of : (ℕ → ℕ → Order) → Option (ℕ × ℕ) → Option
 clear_of clears (Some range) = Some (clears range.0 range.1)
 clear_of clears None = None
 
--- the word of how a larger disk takes its place
+-- The word of a preallocation mode.
 abbrev pub mode_of : List ℕ → Option PreallocateMode
 mode_of word =
     if bytes_eq word (codes "none") then Some Mode.None
@@ -200,12 +200,12 @@ abbrev pub shrink_of : List (List ℕ) → Option Order
 shrink_of (size ∷ []) = shrinks_with (number_of_word size)
 shrink_of _ = None
 
--- a line of one word
+-- A line of one word.
 abbrev pub order_alone : Order → List (List ℕ) → Option Order
 order_alone asked [] = Some asked
 order_alone asked _ = None
 
--- what a line of these words asks for
+-- The meaning of a line with these words.
 abbrev pub order_of_words : List (List ℕ) → Option Order
 order_of_words [] = None
 order_of_words (name ∷ operands) =
@@ -230,6 +230,6 @@ order_of_words (name ∷ operands) =
     else if bytes_eq name (codes "leaks") then order_alone leaks operands
     else None
 
--- a line without its end: words separated by one space
+-- The meaning of a line without its line feed. Words are separated by single spaces.
 abbrev pub order_of_line : List ℕ → Option Order
 order_of_line line = order_of_words (slice_split (λ byte. byte == 32) line)

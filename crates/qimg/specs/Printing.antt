@@ -1,4 +1,4 @@
--- The line that is printed for a reply, without its end.
+-- The line that is printed for a reply, without its line feed.
 use Rattle.std.specs.Prelude.{ℕ, Bool, true, false, codes, List, [], ◌∷◌, ◌++◌, length, ◌==◌, Option, Some, None, if◌then◌else◌}
 use Rattle.std.specs.Fmt.{decimal, option_append, with_newline}
 use Rattle.hex.specs.Hex.{encode_lower}
@@ -39,7 +39,7 @@ prepared_line existing offset length = (if existing then codes "existing" else c
 abbrev pub refusal_line : ImageError → List ℕ
 refusal_line e = codes "refused" ␣ decimal (error_number_of e) ␣ error_name_of e
 
--- a write that was refused behind so many bytes
+-- The line of a write that was refused after this many bytes.
 abbrev pub write_refusal_line : ImageError → ℕ → List ℕ
 write_refusal_line e written = if written == 0 then refusal_line e else codes "refused" ␣ decimal (error_number_of e) ␣ error_name_of e ␣ codes "after" ␣ decimal written
 
@@ -58,14 +58,14 @@ line_of (R.Refused e) = Some (refusal_line e)
 line_of (R.WriteRefused e written) = Some (write_refusal_line e written)
 line_of R.Misuse = Some (codes "misuse")
 
--- refused or misused, wholly or in part
+-- The reply is a refusal, in whole or in part, or a misuse.
 abbrev pub is_refusal : Reply → Bool
 is_refusal (R.Refused _) = true
 is_refusal (R.WriteRefused _ _) = true
 is_refusal R.Misuse = true
 is_refusal _ = false
 
--- the lines of some replies, each with its end
+-- The lines of some replies, each with its line feed.
 abbrev pub text_of : List Reply → Option (List ℕ)
 text_of [] = Some []
 text_of (reply ∷ replies) = option_append (with_newline (line_of reply)) (text_of replies)

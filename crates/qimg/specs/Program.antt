@@ -1,4 +1,4 @@
--- What a run has done and printed, however it ended, and one that ended well.
+-- What a run has done and printed, whatever its status is.
 use Rattle.std.specs.Prelude.{◌≡◌, ◌⊎◌, ℕ, Bool, false, List, [], length, map, Vec, Option, Some, None, IfSome, Result, Ok, Err, is_ok, IfOk, OnOk}
 use Rattle.std.specs.Fmt.{option_append}
 use Rattle.std.specs.Global.{Global}
@@ -21,14 +21,14 @@ use Rattle.qimg.specs.Printing.{is_refusal, text_of}
 use Rattle.qimg.specs.Reading.{Asks, IsScriptOf, is_cut}
 use Rattle.qimg.specs.declared.reading.ScriptEnd.{ScriptEnd}
 
--- So many commands have one reply each, none of them a refusal, and the replies' lines were printed.
+-- The commands have one reply each, none of them a refusal, and the lines of the replies were printed.
 pub record ArePrinted (count : ℕ) (replies : List Reply) (old new : Option (List ℕ)) : Type 0 where
   pub one_each : length replies ≡ count
   pub accepted : list_any is_refusal replies ≡ false
   pub printed : IfSome (text_of replies) (Appends old new)
 
 module _ {S F : Type 0} (view : S → StorageView) (backing : F → BackingView) (start end : S) where
-  -- Commands were run on an image that was opened from a storage, as the headline says, and it was flushed and closed. What was printed are the replies of that run.
+  -- The commands were run on an image that was opened from a storage, as the headline says, and it was flushed and closed. The replies of that run were printed.
   pub record HasRun (commands : List Command) (old new : Option (List ℕ)) : Type 0 where
     pub run : Qcow2 S F × Vec Reply Global
     pub headline : Headline view backing (view start) None commands (Ok run)
@@ -37,18 +37,18 @@ module _ {S F : Type 0} (view : S → StorageView) (backing : F → BackingView)
     pub flush : FlushesImage view backing run.0 flushed (Ok tt)
     pub storage : end ≡ storage_of_image flushed
 
-  -- Each line of a text, where it is known, asked for a command, and these were run so.
+  -- Each line of a text, if it is known, is a command, and these were run.
   pub record HasRunText (text : Option (List ℕ)) (old new : Option (List ℕ)) : Type 0 where
     pub commands : List Command
     pub asks : IfSome text (λ text. Asks text (map order_of_command commands) [])
     pub ran : HasRun commands old new
 
-  -- An image that opened was flushed, which was answered so, and closed. Where none opened, its storage was handed back.
+  -- An image that was opened was flushed, with this result, and closed. If none was opened, its storage was returned.
   abbrev pub IsClosed : Result (Qcow2 S F × Vec Reply Global) (S × ImageError) → Result (Unit {0}) ImageError → Type 0
   IsClosed (Ok run) flush = (flushed : Qcow2 S F) × FlushesImage view backing run.0 flushed flush × (end ≡ storage_of_image flushed)
   IsClosed (Err refused) flush = end ≡ refused.0
 
-  -- However it ended, these commands were run: on an image that was opened from a storage, or on none, where opening it was refused. It was refused as a fault only where one was counted.
+  -- Whatever the status is, these commands were run: on an image that was opened from a storage, or on none, if opening was refused. It is refused with an I/O error only if one was counted.
   pub record EndsRun (commands : List Command) : Type 0 where
     pub run : Result (Qcow2 S F × Vec Reply Global) (S × ImageError)
     pub headline : Headline view backing (view start) None commands run
@@ -57,13 +57,13 @@ module _ {S F : Type 0} (view : S → StorageView) (backing : F → BackingView)
     pub flush : Result (Unit {0}) ImageError
     pub closed : IsClosed run flush
 
-  -- So it was, and the answer tells whether nothing was refused. As far as the output's writes were answered, the lines of that run were printed.
+  -- The commands were run, and the result says whether nothing was refused. If the output took every write, the lines of that run were printed.
   pub record PrintsRun (commands : List Command) (answer : Result Bool Error) (old new : Option (List ℕ)) : Type 0 where
     pub ran : EndsRun commands
     pub accepted : IfOk answer (λ accepted. accepted ≡ is_accepted (length commands) ran.run ran.flush)
     pub text : OnOk answer (IfSome (run_text (length commands) ran.run ran.flush) (Appends old new))
 
-  -- However it ended, the commands of a text's lines were run, all of them or those before one that couldn't be read. Where each write to the output and its flush were answered, what was printed are the lines of that run, and one for the line that couldn't be read. The status is of that run.
+  -- Whatever the status is, the commands in the lines of a text were run: all of them, or those before an unreadable line. If the output took every write and its flush, the lines of that run were printed, and one for the unreadable line. The status is that of the run.
   pub record EndsScript (text : Option (List ℕ)) (status : ℕ) (written : Result (Unit {0}) Error) (old new : Option (List ℕ)) : Type 0 where
     pub commands : List Command
     pub stop : ScriptEnd
@@ -72,6 +72,6 @@ module _ {S F : Type 0} (view : S → StorageView) (backing : F → BackingView)
     pub printed : OnOk written (IfSome (option_append (run_text (length commands) ran.run ran.flush) (Some (end_text (is_cut stop) (length commands)))) (Appends old new))
     pub status_is : status ≡ run_status (is_cut stop) (is_accepted (length commands) ran.run ran.flush) (is_ok written)
 
-  -- Or there was no room for the commands: the storage was left alone, and that was printed.
+  -- Or there was no memory for the commands: the storage is unchanged, and that was printed.
   abbrev pub EndsOrLeaves : Option (List ℕ) → ℕ → Result (Unit {0}) Error → Option (List ℕ) → Option (List ℕ) → Type 0
   EndsOrLeaves text status written old new = ((status ≡ 1) × (end ≡ start) × OnOk written (Appends old new (refusal_text Memory))) ⊎ EndsScript text status written old new

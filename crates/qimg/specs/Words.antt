@@ -1,4 +1,4 @@
--- What the words after the program's name ask for.
+-- The meaning of the words after the program's name.
 use Rattle.std.specs.Prelude.{ℕ, codes, List, [], ◌∷◌, Option, Some, None, if◌then◌else◌}
 use Rattle.std.specs.Str.{bytes_eq}
 use Rattle.image_access.specs.declared.storage.PreallocateMode.{PreallocateMode}
@@ -7,7 +7,7 @@ use Rattle.qimg.specs.declared.words.Invocation.TheVariants as I
 use Rattle.program_parts.specs.Numbers.{number_of_word}
 use Rattle.qimg.specs.Lines.{mode_of}
 
--- an image made, run commands on, checked, made of a raw disk, or a raw disk made of it
+-- The tasks: creating an image, running commands on one, checking one, importing and exporting a raw disk.
 pub data Asked : Type 0 where
   creates : (file : List ℕ) (size cluster width : ℕ) (mode : PreallocateMode) → Asked
   runs : (file : List ℕ) → Asked
@@ -15,7 +15,7 @@ pub data Asked : Type 0 where
   imports : (raw file : List ℕ) (cluster width : ℕ) → Asked
   exports : (file raw : List ℕ) → Asked
 
--- an invocation, with the names of its files
+-- An invocation, with the names of its files.
 abbrev pub asked : Invocation → Asked
 asked (I.Create file size cluster width mode) = creates file.now size cluster width mode
 asked (I.Run file) = runs file.now
@@ -31,7 +31,7 @@ abbrev pub imports_with : List ℕ → List ℕ → Option ℕ → Option ℕ �
 imports_with raw file (Some cluster) (Some width) = Some (imports raw file cluster width)
 imports_with raw file _ _ = None
 
--- `run FILE`, `check FILE`, `export FILE RAW`, `import RAW FILE CLUSTER WIDTH` with two numbers, or `create FILE SIZE CLUSTER WIDTH MODE` with three and a mode's word; nothing else is read
+-- `run FILE`, `check FILE`, `export FILE RAW`, `import RAW FILE CLUSTER WIDTH` with two numbers, or `create FILE SIZE CLUSTER WIDTH MODE` with three numbers and a mode. Nothing else is accepted.
 abbrev pub asked_by_words : List (List ℕ) → Option Asked
 asked_by_words (name ∷ file ∷ []) =
     if bytes_eq name (codes "run") then Some (runs file)

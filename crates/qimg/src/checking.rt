@@ -1,4 +1,4 @@
-//! The report of an image, as it is printed.
+//! Printing the report of an image.
 ghost use Rattle.std.specs.Prelude.{◌≡◌, ◌≤◌, []};
 ghost use Rattle.std.specs.Io.KnownBytes.{Appends};
 ghost use Rattle.image_access.specs.Moments.{ContentsStay};
@@ -13,7 +13,7 @@ use qcow2_session::{Report, check};
 use std::alloc::Global;
 use std::io::Write;
 
-/// Prints the report of the image in the storage, which is only read, and answers the exit status: 0 where it is consistent.
+/// Prints the report of the image on a storage, which is only read, and returns the exit status: 0 if it is consistent.
 pub fn report<S: Storage, W: Write>(alloc: Global, storage: &mut S, output: &mut W) -> u8
     ensures bound { result ≤ 1 }
     ensures consistent { (S.view storage.old).is_honest → result ≡ 0
@@ -27,7 +27,7 @@ pub fn report<S: Storage, W: Write>(alloc: Global, storage: &mut S, output: &mut
     tell(output, &report)
 }
 
-// Prints a report to the end, and answers the exit status.
+// Prints a report, and returns the exit status.
 fn tell<W: Write>(output: &mut W, report: &Report) -> u8
     ensures bound { result ≤ 1 }
     ensures consistent { result ≡ 0 → (report.now.breaches.items ≡ [])

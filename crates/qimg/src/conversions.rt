@@ -1,4 +1,4 @@
-//! Images of raw disks, and raw disks of images.
+//! Importing and exporting raw disks.
 ghost use Rattle.std.specs.Prelude.{◌≡◌, ◌≤◌, length};
 ghost use Rattle.image_access.specs.Moments.{ContentsStay, EachMomentSince};
 ghost use Rattle.qcow2_metadata.specs.Bytes.{byte_at};
@@ -15,7 +15,7 @@ use program_parts::{make_image, make_raw_disk};
 use std::alloc::Global;
 use std::io::Write;
 
-/// Makes an image of a raw disk in the storage, with the clusters and counts that the words ask for, and answers the exit status, with
+/// Makes an image from a raw disk on the storage, with the given cluster size and refcount width, and returns the exit status and
 /// the storage. Refused as `make_image` is.
 pub fn import_raw<R: Storage, S: Storage, W: Write>(
     alloc: Global,
@@ -53,8 +53,8 @@ pub fn import_raw<R: Storage, S: Storage, W: Write>(
     (status, storage)
 }
 
-/// Makes a raw disk of the image in the storage, which is only read, and answers the exit status, with the storage. An image that needs
-/// another file is refused 12 (dependency), and the raw disk stays as it is. Else it is refused as `make_raw_disk` is.
+/// Makes a raw disk from the image on the storage, which is only read, and returns the exit status and the storage. An image that needs
+/// another file is refused 12 (dependency), and the raw disk stays unchanged. Otherwise refused as `make_raw_disk` is.
 pub fn export_raw<S: Storage, R: Storage, W: Write>(
     alloc: Global,
     storage: S,

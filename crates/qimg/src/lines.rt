@@ -10,17 +10,17 @@ use program_parts::number;
 use qcow2_session::Command;
 use std::alloc::{AllocError, Global};
 
-/// The longest length of a `read`, a `fill` or a `special`.
+/// The greatest length of a `read`, a `fill` or a `special`.
 const LONGEST: u64 = 1_048_576;
 
-/// Why a line gives no command.
+/// Why a line is no command.
 #[derive(Clone, Copy)]
 pub enum LineError {
-    /// It isn't the line of a command.
+    /// It isn't a line of a command.
     Unreadable,
     /// A read failed in it.
     FailedRead,
-    /// There was no room for its command.
+    /// There was no memory for its command.
     Memory,
 }
 
@@ -32,7 +32,7 @@ impl From<AllocError> for LineError {
     }
 }
 
-/// The command of a line, which is given without its end. Refused `Unreadable` where it isn't the line of a command, and `Memory`.
+/// The command of a line, without its line feed. Refused `Unreadable` if it isn't a line of a command, and `Memory`.
 pub fn parse_line(alloc: Global, line: &str) -> Result<Command, LineError>
     ensures ok { IfOk result (λ command. order_of_line line.now ≡ Some (order_of_command command)) }
     ensures unreadable { IsErrOf result Unreadable → order_of_line line.now ≡ None }
@@ -266,7 +266,7 @@ fn shrink_command(operands: &[&str]) -> Result<Command, LineError>
     Ok(Command::ResizeShrink { size })
 }
 
-// How a larger disk takes the place that it adds.
+// The preallocation mode of a word.
 pub(crate) fn preallocation(word: &str) -> Option<PreallocateMode>
     ensures { result ≡ mode_of word.now }
 {
@@ -280,7 +280,7 @@ pub(crate) fn preallocation(word: &str) -> Option<PreallocateMode>
     }
 }
 
-// The offset and the length of a line that names nothing else.
+// The offset and the length of a line with no other operands.
 fn range_of_operands(operands: &[&str]) -> Result<(u64, u64), LineError>
     ensures ok { IfOk result (λ range. range_alone (map (λ word. word.now) operands.now) ≡ Some range) }
     ensures unreadable { IsErrOf result Unreadable → range_alone (map (λ word. word.now) operands.now) ≡ None }
@@ -294,7 +294,7 @@ fn range_of_operands(operands: &[&str]) -> Result<(u64, u64), LineError>
     Ok((offset, length))
 }
 
-// The slot of a line that names nothing else.
+// The slot of a line with no other operands.
 fn slot_of_operands(operands: &[&str]) -> Result<u8, LineError>
     ensures ok { IfOk result (λ slot. slot_alone (map (λ word. word.now) operands.now) ≡ Some slot) }
     ensures unreadable { IsErrOf result Unreadable → slot_alone (map (λ word. word.now) operands.now) ≡ None }
@@ -311,7 +311,7 @@ fn slot_of(word: &str) -> Option<u8>
     u8::try_from(number(word)?).ok()
 }
 
-// Whether a range is announced as overwritten.
+// Whether a word is `overwrite` or `keep`.
 fn overwrite(word: &str) -> Option<bool>
     ensures { result ≡ overwrite_of word.now }
 {
@@ -340,7 +340,7 @@ fn is_lower_hex(word: &str) -> bool
         .all(|byte| matches!(byte, b'0'..=b'9' | b'a'..=b'f'))
 }
 
-// The bytes of one or more pairs of hexadecimal digits in lower case.
+// The bytes of at least one pair of lower-case hexadecimal digits.
 fn pairs_of(alloc: Global, word: &str) -> Result<Vec<u8>, LineError>
     ensures ok { IfOk result (λ bytes. bytes_of word.now ≡ Some bytes.items) }
     ensures unreadable { IsErrOf result Unreadable → bytes_of word.now ≡ None }

@@ -1,4 +1,4 @@
-//! Makes qcow2 images, runs commands on them, checks them, and converts them from raw disks and to them.
+//! Creates qcow2 images, runs commands on them, checks them, and converts them from and to raw disks.
 #![tactic(auto)]
 
 mod checking;
@@ -23,10 +23,10 @@ use std::io;
 use std::io::{BufReader, BufWriter, Write};
 use std::process::ExitCode;
 
-// Room for the longest answer, in bytes.
+// The length of the longest answer, in bytes.
 const ANSWER: usize = 64;
 
-// The words after the program's name. One that isn't UTF-8 can't be read, and then there are none.
+// The words after the program's name. If one isn't UTF-8, there are none.
 fn given_words(rt: &HostRuntime) -> io::Result<Vec<String>> {
     let mut given = Vec::new(rt.alloc());
     match std::env::args(rt) {
@@ -41,7 +41,7 @@ fn given_words(rt: &HostRuntime) -> io::Result<Vec<String>> {
     Ok(given)
 }
 
-// Tells why a file couldn't be opened or kept, and refuses.
+// Reports why a file could not be opened or kept, and refuses.
 fn refuse_file(rt: &HostRuntime, file: &str, cause: &io::Error, output: &mut impl Write) -> u8 {
     if cause.kind() == io::ErrorKind::OutOfMemory {
         return refuse(output, &ImageError::Memory);
@@ -50,7 +50,7 @@ fn refuse_file(rt: &HostRuntime, file: &str, cause: &io::Error, output: &mut imp
     refuse(output, &ImageError::Storage)
 }
 
-// Tells why a call of the storage last failed, where the run didn't end well.
+// Reports why a call of the storage last failed, if the run failed.
 fn tell(rt: &HostRuntime, file: &str, status: u8, cause: Option<io::Error>) -> u8 {
     if status != DONE {
         if let Some(cause) = cause {
@@ -60,7 +60,7 @@ fn tell(rt: &HostRuntime, file: &str, status: u8, cause: Option<io::Error>) -> u
     status
 }
 
-// Prints an answer that was held back until its work was done, and answers the exit status.
+// Prints an answer that was held back until its work was done, and returns the exit status.
 fn print_answer(answer: &Vec<u8>, status: u8, output: &mut impl Write) -> u8 {
     let printed = output.write_all(answer);
     match end(printed, output) {
@@ -69,7 +69,7 @@ fn print_answer(answer: &Vec<u8>, status: u8, output: &mut impl Write) -> u8 {
     }
 }
 
-// Where the image isn't made, a file that was made for it is removed.
+// Creates an image in a file. If that fails, a new file is removed.
 fn create_file(
     rt: &HostRuntime,
     file: &str,
@@ -118,7 +118,7 @@ fn check_file(rt: &HostRuntime, file: &str, output: &mut impl Write) -> u8 {
     tell(rt, file, status, storage.last_error())
 }
 
-// Opens the file that a conversion is to write, which can't be the one that it reads.
+// Opens the target of a conversion, which can't be its source.
 fn open_target(
     rt: &HostRuntime,
     source: &str,
@@ -130,7 +130,7 @@ fn open_target(
     replace(rt, target)
 }
 
-// Refuses a target that can't hold an image's disk. Of an image whose header doesn't read nothing is said.
+// Refuses a target that is too small for an image's disk. If the header isn't readable, nothing is refused here.
 fn require_room(
     rt: &HostRuntime,
     image: &mut FileStorage,
@@ -146,7 +146,7 @@ fn require_room(
     Err(io::Error::new(io::ErrorKind::FileTooLarge, &text))
 }
 
-// Ends a conversion: a file that was written whole gets its name, and another one is removed. The answer says what came of it.
+// Ends a conversion: a complete file gets its name, and an incomplete one is removed. The answer says what happened.
 fn end_conversion(
     rt: &HostRuntime,
     file: &str,
@@ -169,7 +169,7 @@ fn end_conversion(
     }
 }
 
-// The raw disk is opened first: where it can't be, no file is made.
+// Imports a raw disk. The raw disk is opened first: if that fails, no file is created.
 fn import_file(
     rt: &HostRuntime,
     raw: &str,
@@ -204,7 +204,7 @@ fn import_file(
     print_answer(&answer, status, output)
 }
 
-// Tells that a raw disk begins as an image does: it may be one, that was to be copied.
+// Warns of a raw disk that begins like an image: perhaps it is one that was to be copied.
 fn report_image(rt: &HostRuntime, raw: &str, disk: &mut FileStorage) -> Result<(), ImageError> {
     if Qcow2::<FileStorage>::probe(disk)? {
         report_cause(
@@ -216,7 +216,7 @@ fn report_image(rt: &HostRuntime, raw: &str, disk: &mut FileStorage) -> Result<(
     Ok(())
 }
 
-// The image is opened first: where it can't be, no raw disk is made.
+// Exports an image. The image is opened first: if that fails, no raw disk is created.
 fn export_file(rt: &HostRuntime, file: &str, raw: &str, output: &mut impl Write) -> u8 {
     let mut storage = match file_storage::open_read_only(rt, file) {
         Ok(storage) => storage,

@@ -1,4 +1,4 @@
-//! What the program says beside its answers. That a message couldn't be written is no matter.
+//! Messages on standard error. Errors in writing them are ignored.
 
 use crate::printing::{is_refused, print_reply};
 use qcow2_image::ImageError;
@@ -6,8 +6,8 @@ use qcow2_session::Reply;
 use std::fmt::Display;
 use std::io::Write;
 
-/// Names the line, from 1, of the first reply that is a refusal or a misuse, and of the first one that a storage's failure refused,
-/// where that is another; each line has one reply.
+/// Names the line, counted from 1, of the first reply that is a refusal or a misuse, and of the first I/O error if that
+/// is another line. Each line has one reply.
 pub fn report_refused<M: Write>(messages: &mut M, replies: &[Reply]) {
     let refused = replies.iter().position(|reply| is_refused(reply));
     let failed = replies.iter().position(|reply| is_failure(reply));
@@ -17,7 +17,7 @@ pub fn report_refused<M: Write>(messages: &mut M, replies: &[Reply]) {
     }
 }
 
-// Whether the system refused what a reply answers.
+// Whether a reply is an I/O error.
 fn is_failure(reply: &Reply) -> bool {
     matches!(
         reply,
@@ -35,12 +35,12 @@ fn report_reply<M: Write>(messages: &mut M, replies: &[Reply], place: Option<usi
     }
 }
 
-/// Names a line, from 1, that couldn't be read.
+/// Names an unreadable line, counted from 1.
 pub fn report_bad_line<M: Write>(messages: &mut M, number: usize) {
     let _ = writeln!(messages, "qimg: line {number}: bad line");
 }
 
-/// Tells what the system said of a file.
+/// Reports the system's error for a file.
 pub fn report_cause<M: Write, E: Display>(messages: &mut M, file: &str, cause: &E) {
     let _ = writeln!(messages, "qimg: {file}: {cause}");
 }

@@ -9,7 +9,7 @@ use qcow2_session::Reply;
 use std::io;
 use std::io::Write;
 
-/// Prints the line of a reply. Refused as the output is.
+/// Prints the line of a reply. Refused as the output refuses.
 pub fn print_reply<W: Write>(output: &mut W, reply: &Reply) -> io::Result<()>
     ensures { OnOk result (IfSome (line_of reply.now) (λ line. Appends (W.contents output.old) (W.contents output.new) (line ++ 10 ∷ []))) }
 {
@@ -56,7 +56,7 @@ pub fn is_refused(reply: &Reply) -> bool
     )
 }
 
-/// Prints the lines of replies. Refused as the output is.
+/// Prints the lines of replies. Refused as the output refuses.
 pub fn print_replies<W: Write>(output: &mut W, replies: &[Reply]) -> io::Result<()>
     ensures { OnOk result (IfSome (text_of replies.now) (Appends (W.contents output.old) (W.contents output.new))) }
 {
@@ -66,7 +66,7 @@ pub fn print_replies<W: Write>(output: &mut W, replies: &[Reply]) -> io::Result<
     Ok(())
 }
 
-/// Prints the line of a refusal: its number and its name. Refused as the output is.
+/// Prints the line of a refusal: its number and its name. Refused as the output refuses.
 pub fn print_refusal<W: Write>(output: &mut W, e: &ImageError) -> io::Result<()>
     ensures { OnOk result (Appends (W.contents output.old) (W.contents output.new) (refusal_line e.now ++ 10 ∷ [])) }
 {

@@ -21,13 +21,13 @@ use std::io::{BufRead, Write};
 /// The exit status of a run in which nothing was refused: 0.
 pub const DONE: u8 = 0;
 
-/// The exit status where a printed line is a refusal, or a line couldn't be written: 1.
+/// The exit status if a printed line is a refusal, or the output failed: 1.
 pub const REFUSED: u8 = 1;
 
-/// The exit status where the words, or a line of the input, couldn't be read: 2.
+/// The exit status if the words, or a line of the input, can't be read: 2.
 pub const UNREADABLE: u8 = 2;
 
-/// Makes an image in the storage, as the words ask for, and answers the exit status, with the storage. Refused as
+/// Creates an image on the storage, as the words say, and returns the exit status and the storage. Refused as
 /// `Qcow2CreateBuilder::create` is: 5 (invalid option), 13 (limit), 14 (memory), 15 (storage).
 pub fn create<S: Storage, W: Write>(
     alloc: Global,
@@ -63,10 +63,10 @@ pub fn create<S: Storage, W: Write>(
     (status, storage)
 }
 
-/// Reads commands from the input, runs them on the image in the storage, prints their answers, and answers the exit status, whether the
-/// output could be written, and the storage. Messages name the lines that were refused or couldn't be read. An image that needs another
-/// file is refused 12 (dependency), and stays as it is; else it is refused as `open_and_run` is. `F` is the kind of a disk below; none is
-/// given.
+/// Reads commands from the input, runs them on the image on the storage, prints the replies, and returns the exit status, whether the
+/// output took everything, and the storage. Messages name lines that were refused or can't be read. An image that needs another
+/// file is refused 12 (dependency), and stays unchanged; otherwise refused as `open_and_run` is. `F` is the type of a backing disk; none
+/// is given.
 pub fn script<S: Storage, F: WrappedFormat<S>, R: BufRead, W: Write, M: Write>(
     alloc: Global,
     storage: S,
@@ -98,7 +98,7 @@ pub fn script<S: Storage, F: WrappedFormat<S>, R: BufRead, W: Write, M: Write>(
     (status, written, storage)
 }
 
-/// Prints the usage line, and answers the exit status.
+/// Prints the usage line, and returns the exit status.
 pub fn print_usage<W: Write>(output: &mut W) -> u8
     ensures { result ≡ 2 }
 {
@@ -107,7 +107,7 @@ pub fn print_usage<W: Write>(output: &mut W) -> u8
     UNREADABLE
 }
 
-/// Prints the line of a refusal, and answers the exit status.
+/// Prints the line of a refusal, and returns the exit status.
 pub fn refuse<W: Write>(output: &mut W, e: &ImageError) -> u8
     ensures { result ≡ 1 }
 {
@@ -116,7 +116,7 @@ pub fn refuse<W: Write>(output: &mut W, e: &ImageError) -> u8
     REFUSED
 }
 
-/// Ends the output, where its last line was printed, and answers the exit status.
+/// Flushes the output after its last line, and returns the exit status.
 pub fn end<W: Write>(printed: io::Result<()>, output: &mut W) -> u8
     ensures bound { result ≤ 1 }
     ensures printed { result ≡ 0 → IsOk printed }
@@ -128,7 +128,7 @@ pub fn end<W: Write>(printed: io::Result<()>, output: &mut W) -> u8
     }
 }
 
-// Flushes the output, whatever could be printed.
+// Flushes the output, even if printing failed.
 fn flush_output<W: Write, T: Drop>(output: &mut W, printed: io::Result<T>) -> io::Result<T>
     ensures printed { IfOk result (λ value. printed ≡ Ok value) }
     ensures same { Keeps (W.contents output.old) (W.contents output.new) }
@@ -139,7 +139,7 @@ fn flush_output<W: Write, T: Drop>(output: &mut W, printed: io::Result<T>) -> io
     Ok(value)
 }
 
-// The exit status, where a run was told whether nothing was refused, and whether its lines could be written.
+// The exit status, by whether anything was refused, and whether the lines could be printed.
 fn run_status(cut: bool, printed: io::Result<bool>) -> (u8, io::Result<()>)
     ensures status { IfOk printed (λ accepted. (result.1 ≡ Ok tt) × (result.0 ≡ run_status cut accepted true)) }
     ensures unwritten { IfErr printed (λ e. (result.1 ≡ Err e) × ((accepted : Bool) → result.0 ≡ run_status cut accepted false)) }
@@ -153,8 +153,8 @@ fn run_status(cut: bool, printed: io::Result<bool>) -> (u8, io::Result<()>)
     }
 }
 
-// Runs commands, prints what comes of them, and hands the storage back. Whether nothing was refused; an error where a line couldn't be
-// written.
+// Runs commands, prints their replies, and returns the storage. Returns whether nothing was refused; an error if a line could not be
+// printed.
 fn run_commands<S: Storage, F: WrappedFormat<S>, W: Write, M: Write>(
     alloc: Global,
     storage: S,
@@ -177,7 +177,7 @@ fn run_commands<S: Storage, F: WrappedFormat<S>, W: Write, M: Write>(
     }
 }
 
-// Prints the answers to so many commands. There is one reply to each, or none at all where there was no room for them.
+// Prints the replies to `count` commands. There is one for each, or none at all if there was no memory for them.
 fn print_answers<W: Write>(output: &mut W, count: usize, replies: &[Reply]) -> io::Result<bool>
     ensures accepted { IfOk result (λ accepted. accepted ≡ are_accepted count replies.now) }
     ensures text { OnOk result (IfSome (replies_text count replies.now) (Appends (W.contents output.old) (W.contents output.new))) }
@@ -189,7 +189,7 @@ fn print_answers<W: Write>(output: &mut W, count: usize, replies: &[Reply]) -> i
     Ok(!any_refused(replies))
 }
 
-// Prints what a flush was answered, behind the answers of an image. Nothing was refused where that is so of both.
+// Prints a refused flush, behind the replies. Returns whether nothing was refused.
 fn print_flush<W: Write>(
     output: &mut W,
     answered: io::Result<bool>,
@@ -206,7 +206,7 @@ fn print_flush<W: Write>(
     }
 }
 
-// Prints the line of a refusal, and that something was refused.
+// Prints the line of a refusal, and returns that something was refused.
 fn print_refused<W: Write>(output: &mut W, e: &ImageError) -> io::Result<bool>
     ensures accepted { IfOk result (λ accepted. accepted ≡ false) }
     ensures text { OnOk result (Appends (W.contents output.old) (W.contents output.new) (refusal_text e.now)) }
@@ -215,7 +215,7 @@ fn print_refused<W: Write>(output: &mut W, e: &ImageError) -> io::Result<bool>
     Ok(false)
 }
 
-// Tells of the line that couldn't be read, if there is one.
+// Reports the unreadable line, if there is one.
 fn print_end<W: Write, M: Write>(
     output: &mut W,
     messages: &mut M,

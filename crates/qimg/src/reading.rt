@@ -16,7 +16,7 @@ use std::io::BufRead;
 pub enum ScriptEnd {
     /// At the end of the input.
     Whole,
-    /// Before a line that asks for no command, or whose bytes aren't UTF-8.
+    /// Before a line that is no command, or isn't UTF-8.
     BadLine,
     /// Before a line in which a read failed.
     FailedRead,
@@ -25,14 +25,14 @@ pub enum ScriptEnd {
 /// The commands of an input.
 #[derive(Drop)]
 pub struct Script {
-    /// The commands of the lines before that, in their order.
+    /// The commands, in their order.
     pub commands: Vec<Command>,
     /// Where they end.
     pub end: ScriptEnd,
 }
 
 impl Script {
-    /// Whether the line after those of the commands couldn't be read, and ended the input.
+    /// Whether an unreadable line ended the input.
     pub fn is_cut(&self) -> bool
         ensures { result ≡ is_cut self.now.end }
     {
@@ -40,8 +40,8 @@ impl Script {
     }
 }
 
-/// Reads lines to the end of the input, or to the first one that can't be read. Such a line asks for no command, its bytes aren't UTF-8,
-/// or a read fails in it. Refused where memory is missing.
+/// Reads lines up to the end of the input, or up to the first one that can't be read: it is no command, isn't UTF-8,
+/// or a read fails in it. Refused if memory runs out.
 #[tactic(auto, using(crate::proofs::Scripts::script_failed))]
 pub fn read_script<R: BufRead>(alloc: Global, input: &mut R) -> Result<Script, AllocError>
     ensures { IfSome (R.remaining input.old)
@@ -98,7 +98,7 @@ fn next_command<R: BufRead>(alloc: Global, input: &mut R) -> Result<Option<Comma
     Ok(Some(command))
 }
 
-// A line without the line feed at its end, if it has one.
+// A line without its line feed, if it has one.
 fn without_end(line: &[u8]) -> &[u8]
     ensures { result.now ≡ strip_last 10 line.now }
 {

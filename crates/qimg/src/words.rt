@@ -6,14 +6,14 @@ use crate::lines::preallocation;
 use image_access::PreallocateMode;
 use program_parts::number;
 
-/// The line that is printed where the words are not understood.
+/// The line that is printed if the words can't be read.
 pub const USAGE: &str =
     "usage: qimg create FILE SIZE CLUSTER WIDTH MODE | run FILE | check FILE | import RAW FILE CLUSTER WIDTH | export FILE RAW";
 
-/// What the words of the command line ask for.
+/// The task of a command line.
 #[derive(Clone, Copy)]
 pub enum Invocation<'a> {
-    /// Make an image.
+    /// Create an image.
     Create {
         file: &'a str,
         size: u64,
@@ -25,25 +25,25 @@ pub enum Invocation<'a> {
     Run {
         file: &'a str,
     },
-    /// Tell what is wrong with an image.
+    /// Check an image.
     Check {
         file: &'a str,
     },
-    /// Make an image of a raw disk.
+    /// Make an image from a raw disk.
     Import {
         raw: &'a str,
         file: &'a str,
         cluster: u64,
         width: u64,
     },
-    /// Make a raw disk of an image.
+    /// Make a raw disk from an image.
     Export {
         file: &'a str,
         raw: &'a str,
     },
 }
 
-/// Reads the words after the program's name; None where they can't be read.
+/// Reads the words after the program's name; None if they can't be read.
 pub fn words(words: &[String]) -> Option<Invocation<'_>>
     ensures { option_map asked result ≡ asked_by_words (map string_bytes words.now) }
 {
