@@ -11,7 +11,7 @@ status_of_comparison C.Same = 0
 status_of_comparison C.OtherSize = 1
 status_of_comparison (C.DiffersAt at) = 1
 
--- what a status says of two disks, each held in a format by an honest storage
+-- What a status says of the disks on two honest storages, each in its format.
 pub record SaysOfDisks (f : Format) (v : StorageView) (g : Format) (w : StorageView) (status : ℕ) : Type 0 where
   pub same : status ≡ 0 → AreSameDisks (disk_held f v) (disk_held g w)
   pub differ : status ≡ 1 → ¬ AreSameDisks (disk_held f v) (disk_held g w)

@@ -1,9 +1,9 @@
--- Text, as JSON writes it.
+-- Text in JSON.
 use Rattle.std.specs.Prelude.{ℕ, false, ◌+◌, ◌/◌, ◌%◌, ◌==◌, nat_lt, codes, List, [], ◌∷◌, ◌++◌, if◌then◌else◌}
 use Rattle.std.specs.Fmt.{digit_glyph}
 use Rattle.std.specs.List.{flat_map}
 
--- a byte between quotation marks: 34 is the mark, and 92 the backslash
+-- A byte of a JSON string. 34 is the quotation mark, and 92 the backslash.
 abbrev pub escaped : ℕ → List ℕ
 escaped byte =
     if byte == 34 then 92 ∷ 34 ∷ []

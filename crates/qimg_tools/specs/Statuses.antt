@@ -14,43 +14,43 @@ use Rattle.program_parts.specs.Reports.{text_of_report}
 use Rattle.qimg_tools.specs.declared.failures.Failure.{Failure}
 use Rattle.qimg_tools.specs.declared.failures.Failure.TheVariants.{Refused, Unprinted}
 
--- the status for a report of these
+-- The status for a report with these breaches and leaks.
 abbrev pub status_of : List Breach → List Leak → ℕ
 status_of [] [] = 0
 status_of [] (leak ∷ leaks) = 3
 status_of (breach ∷ breaches) leaks = 2
 
--- a status is that of the lines which a report of the image in these bytes has
+-- The status is that of a report of the image in these bytes.
 abbrev pub IsStatusOfLines : Bytes → ℕ → Type 0
 IsStatusOfLines image status = status ≡ status_of (breach_lines (header image) image) (leak_lines (header image) image)
 
--- there are no snapshots, no bitmaps that are valid, and no feature that a reader must know
+-- The image has no snapshots, no valid bitmaps, and no incompatible feature.
 pub record IsCovered (h : HeaderFields) : Type 0 where
   pub no_snapshots : h.snapshots ≡ 0
   pub no_data_file : h.incompatible ≡ 0
   pub no_bitmaps : h.autoclear % 2 ≡ 0
 
--- what a status says of the image in these bytes
+-- What a status says of the image in these bytes.
 pub record IsStatusOf (image : Bytes) (status : ℕ) : Type 0 where
   pub clean : status ≡ 0 → IsCovered (header image) → IsConsistent image × (leak_lines (header image) image ≡ [])
   pub broken : status ≡ 2 → ¬ IsConsistent image
   pub leaking : status ≡ 3 → IsConsistent image × ¬ (leak_lines (header image) image ≡ [])
 
--- the report of the image in these bytes was printed
+-- The report of the image in these bytes was printed.
 abbrev pub IsReported : Bytes → Option (List ℕ) → Option (List ℕ) → Type 0
 IsReported image old new = Appends old new (text_of_report (breach_lines (header image) image) (leak_lines (header image) image))
 
--- Why there is no status: a number, with its cause for no report, where it has one; or that an answer couldn't be printed.
+-- Why there is no status: a refusal, with its cause if it has one; or the output failed.
 abbrev pub IsReasonForNoStatus : Bytes → Failure → Type 0
 IsReasonForNoStatus image (Refused e) = (reason : MetadataError) × (e ≡ of_metadata reason) × IsReasonNotToCheck (header image) image reason
 IsReasonForNoStatus image (Unprinted cause) = Unit {0}
 
--- the status for errors that were chosen among these breaches
+-- The status for errors that were chosen among these breaches.
 pub record IsStatusOfErrors (breaches : List Breach) (status : ℕ) : Type 0 where
   pub some : (status ≡ 0) ⊎ (status ≡ 2)
   pub broken : status ≡ 2 → breaches ≢ []
 
--- what the work may meet
+-- The failures that the work may meet.
 abbrev pub IsOfWork : Failure → Type 0
 IsOfWork (Refused e) = IsFault e
 IsOfWork (Unprinted cause) = Unit {0}

@@ -1,4 +1,4 @@
-//! Whether an image is consistent, and which clusters it keeps for nothing.
+//! The subcommand `check`.
 ghost use Rattle.std.specs.Prelude.{◌≡◌, ◌≤◌, IfErr, IfOk, OnOk};
 ghost use Rattle.image_access.specs.Moments.{ContentsStay};
 ghost use Rattle.qcow2_metadata.specs.Bytes.{byte_at};
@@ -22,10 +22,10 @@ use std::io::Write;
 /// The exit status of a consistent image with leaked clusters.
 const LEAKING: u8 = 3;
 
-/// Prints the report of an image, which is only read, and answers the exit status. That is 0 where it is consistent without leaked
-/// clusters, 3 with some, and 2 where it isn't consistent. Of an image with snapshots, bitmaps or a data file it is 2 where there is an
-/// error in what is known, and else 0, and what isn't covered is named. Refused 19 (metadata), 13 (limit) for a header, L1 table or
-/// reftable that doesn't read. Where the work meets them: 14 (memory), 15 (storage), and `Unprinted`.
+/// Prints the report of an image, which is only read, and returns the exit status: 0 if it is consistent without leaked
+/// clusters, 3 with some, and 2 if it isn't consistent. For an image with snapshots, bitmaps or a data file it is 2 if there is an
+/// error in the other parts, and otherwise 0, and the parts that are not covered are named. Refused 19 (metadata) and 13 (limit) for an
+/// unreadable header, L1 table or reftable, and 14 (memory), 15 (storage) and `Unprinted` if the work meets them.
 pub fn check<S: Storage, W: Write>(
     alloc: Global,
     storage: &mut S,
@@ -81,7 +81,7 @@ fn status_of(report: &Report) -> u8
     }
 }
 
-/// Prints the members that each report of a check has.
+/// Prints the JSON members that every report of a check has.
 pub fn begin_object<W: Write>(output: &mut W, file: &str, breaches: usize) -> io::Result<()> {
     write!(output, "{{\n    \"filename\": ")?;
     print_text(output, file)?;
@@ -100,7 +100,7 @@ fn print_object<W: Write>(output: &mut W, file: &str, report: &Report) -> io::Re
     writeln!(output, "}}")
 }
 
-/// Prints the member of an object that names breaches, each with its numbers.
+/// Prints the JSON member that lists breaches, each with its numbers.
 pub fn print_breaches<W: Write>(output: &mut W, breaches: &[Breach]) -> io::Result<()> {
     write!(output, "    \"breaches\": [")?;
     let mut between = "\n";
@@ -128,12 +128,12 @@ fn print_leaks<W: Write>(output: &mut W, leaks: &Leaks) -> io::Result<()> {
     writeln!(output, "{}]", end_of_list(leaks.is_empty()))
 }
 
-// What stands before the bracket that closes a list.
+// The text before the bracket that closes a list.
 fn end_of_list(is_empty: bool) -> &'static str {
     if is_empty { "" } else { "\n    " }
 }
 
-// The words are those of the lines of the text.
+// Prints a breach, with the words of the text report.
 fn print_breach<W: Write>(output: &mut W, breach: &Breach) -> io::Result<()> {
     match *breach {
         Breach::Snapshots { count } => {
@@ -164,7 +164,7 @@ fn print_breach<W: Write>(output: &mut W, breach: &Breach) -> io::Result<()> {
     }
 }
 
-// A cluster, with its count and how often it is named.
+// Prints a cluster, with its refcount and its references.
 fn print_counted<W: Write>(
     output: &mut W,
     kind: &str,

@@ -1,4 +1,4 @@
-//! Whether two disks are the same.
+//! The subcommand `compare`.
 ghost use Rattle.std.specs.Prelude.{◌≡◌, IfOk};
 ghost use Rattle.qimg_tools.specs.Compared.{IsStatusOfComparison, status_of_comparison};
 
@@ -11,12 +11,12 @@ use std::io::Write;
 /// The exit status of disks that differ.
 const DIFFERENT: u8 = 1;
 
-/// Why there is no answer on two disks.
+/// Why there is no answer for two disks.
 #[derive(Drop)]
 pub enum Uncompared {
     /// One of them can't be read.
     Unread(Unread),
-    /// The answer couldn't be printed.
+    /// The output failed.
     Unprinted(io::Error),
 }
 
@@ -26,9 +26,9 @@ impl From<io::Error> for Uncompared {
     }
 }
 
-/// Compares the disks that two storages hold, each in a format, prints what is found in the words of `qemu-img compare`, and answers the
-/// exit status, with the storages. That is 0 where both have the same size and the same bytes, and else 1. Where the work meets
-/// them: `Unread` as `compare_storages` is refused, and `Unprinted`.
+/// Compares the disks on two storages, each in a format, prints the result in the words of `qemu-img compare`, and returns the
+/// exit status and the storages: 0 if both have the same size and the same bytes, otherwise 1. Refused `Unread` as
+/// `compare_storages` is, and `Unprinted`.
 pub fn compare<S: Storage, T: Storage, W: Write>(
     alloc: Global,
     one: (S, Format),
@@ -47,7 +47,7 @@ pub fn compare<S: Storage, T: Storage, W: Write>(
     }
 }
 
-// Prints what a comparison says, and answers the exit status.
+// Prints the result of a comparison, and returns the exit status.
 fn tell<W: Write>(found: Comparison, output: &mut W) -> Result<u8, Uncompared>
     ensures { IfOk result (λ status. status ≡ status_of_comparison found) }
 {

@@ -1,4 +1,4 @@
-//! Conversions of files.
+//! The subcommand `convert`.
 
 use crate::failures::Failure;
 use crate::messages::{DONE, ended, explain, refuse, refuse_file, refused, warn_of_sectors};
@@ -12,16 +12,16 @@ use qcow2_image::{ImageError, Qcow2};
 use std::io;
 use std::io::Write;
 
-/// The names of the file that a conversion reads and of the one that it writes.
+/// The names of the source and the target of a conversion.
 #[derive(Clone, Copy)]
 pub struct Names<'a> {
-    /// The file that is read.
+    /// The source.
     pub from: &'a str,
-    /// The file that is written.
+    /// The target.
     pub to: &'a str,
 }
 
-// The two files of a conversion, and what came of it: the size of the disk, or a refusal, which may be the source's.
+// The two files of a conversion, and its result: the size of the disk, or a refusal, possibly of the source.
 #[derive(Drop)]
 struct Made {
     source: StreamedFile,
@@ -30,7 +30,7 @@ struct Made {
     is_of_source: bool,
 }
 
-/// The format of the disk in a file: what the words say, and else an image's where it begins as one does.
+/// The format of the disk in a file: as the words say, otherwise qcow2 if the file begins like an image.
 pub fn format_of(storage: &mut FileStorage, format: Option<DiskFormat>) -> Format {
     match format {
         Some(DiskFormat::Raw) => Format::Raw,
@@ -42,7 +42,7 @@ pub fn format_of(storage: &mut FileStorage, format: Option<DiskFormat>) -> Forma
     }
 }
 
-/// Makes an image or a raw disk of another one, as the words ask for, and answers the exit status.
+/// Makes an image or a raw disk from another one, as the words say, and returns the exit status.
 pub fn convert(
     rt: &HostRuntime,
     settings: &Settings<'_>,
@@ -76,7 +76,7 @@ pub fn convert(
     status
 }
 
-// Converts an open file to one that is opened for it, which gets its name at the end.
+// Converts an open file to a new one, which gets its name at the end.
 fn convert_file(
     rt: &HostRuntime,
     settings: &Settings<'_>,
@@ -112,7 +112,7 @@ fn convert_file(
     end_conversion(rt, settings, names, made, formats, place)
 }
 
-// Makes the disk of one file that of another. Of a raw one among them is told how far it was read or written.
+// Makes the disk of one file equal to that of another. The progress of a raw one is printed.
 fn make(
     rt: &HostRuntime,
     settings: &Settings<'_>,
@@ -212,7 +212,7 @@ fn rewrite_image(
     }
 }
 
-// Opens the file that a conversion is to write, which can't be the one that it reads.
+// Opens the target of a conversion, which can't be its source.
 fn open_target(rt: &HostRuntime, names: Names<'_>) -> io::Result<(FileStorage, Replacement)> {
     if is_same_file(rt, names.from, names.to) {
         return Err(io::Error::new(io::ErrorKind::InvalidInput, "it is the file that is read"));
@@ -220,7 +220,7 @@ fn open_target(rt: &HostRuntime, names: Names<'_>) -> io::Result<(FileStorage, R
     replace(rt, names.to)
 }
 
-// Refuses a target that can't hold an image's disk. Of an image whose header doesn't read nothing is said.
+// Refuses a target that is too small for an image's disk. If the header isn't readable, nothing is refused here.
 fn require_room(
     rt: &HostRuntime,
     image: &mut FileStorage,
@@ -236,7 +236,7 @@ fn require_room(
     Err(io::Error::new(io::ErrorKind::FileTooLarge, &text))
 }
 
-// The status where the header of an image is refused, and what the file is then.
+// The status if the header of an image is refused. Reports what the file is.
 fn refuse_header(rt: &HostRuntime, file: &str, storage: &mut FileStorage) -> Option<u8> {
     let refusal = disk_size(rt.alloc(), storage).err()?;
     let failed: Result<u8, Failure> = Err(Failure::Refused(refusal));
@@ -245,7 +245,7 @@ fn refuse_header(rt: &HostRuntime, file: &str, storage: &mut FileStorage) -> Opt
     Some(status)
 }
 
-// Ends a conversion: a file that was written whole gets its name, and another one is removed. What failed is told of the file that failed.
+// Ends a conversion: a complete file gets its name, and an incomplete one is removed. A failure is reported for the file that failed.
 fn end_conversion(
     rt: &HostRuntime,
     settings: &Settings<'_>,

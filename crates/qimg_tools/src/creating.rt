@@ -1,4 +1,4 @@
-//! New images.
+//! Creating images.
 ghost use Rattle.std.specs.Prelude.{◌≡◌, ◌<◌, false, Err, IfErr, IfOk, IsTrue};
 ghost use Rattle.qcow2_alloc.specs.Faults.{FaultsTold};
 ghost use Rattle.qcow2_alloc.specs.declared.error.ImageError.TheVariants.{InvalidOption, Limit, Preallocation};
@@ -10,9 +10,9 @@ use image_access::Storage;
 use qcow2_image::{ImageError, Qcow2CreateBuilder};
 use std::alloc::Global;
 
-/// Makes an image with a disk of so many bytes, which are zeros, and hands its storage back. The layout says what place they take. A
-/// layout that images don't have is refused 5 (invalid option), and then a size past the longest L1 table 13 (limit). Nothing was written
-/// then. Where the work meets them: 13 (limit), 14 (memory), 15 (storage).
+/// Creates an image with a disk of this size, which reads as zeros, and returns its storage. The layout says how it is allocated. A
+/// layout that images don't have is refused 5 (invalid option), and a size that is too large 13 (limit). Nothing was written
+/// then. Refused 13, 14 (memory) and 15 (storage) if the work meets them.
 pub fn create<S: Storage>(
     alloc: Global,
     storage: S,
@@ -32,9 +32,9 @@ pub fn create<S: Storage>(
     builder.create(alloc)
 }
 
-/// Makes an image over a backing file, whose name and format it is to give, and hands its storage back. Its disk has so many bytes, and
-/// the backing file shows in it. Refused as `create` is, and 5 (invalid option) also for names that don't fit into a cluster, and then
-/// 6 (preallocation) for a layout that takes place. Nothing was written then.
+/// Creates an image over a backing file with this name and format, and returns its storage. The disk has this size, and
+/// the backing file shows in it. Refused as `create` is, with 5 (invalid option) also for names that don't fit into a cluster, and then
+/// 6 (preallocation) for a layout that allocates clusters. Nothing was written then.
 pub fn create_over<S: Storage>(
     alloc: Global,
     storage: S,

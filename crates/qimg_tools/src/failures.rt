@@ -1,15 +1,15 @@
-//! Why a task wasn't done.
+//! Failures of tasks.
 
 use qcow2_image::ImageError;
 use std::io;
 use std::io::Write;
 
-/// Why a task wasn't done.
+/// Why a task failed.
 #[derive(Drop)]
 pub enum Failure {
     /// A call of the driver was refused.
     Refused(ImageError),
-    /// An answer couldn't be printed.
+    /// The output failed.
     Unprinted(io::Error),
 }
 
@@ -30,7 +30,7 @@ impl From<io::Error> for Failure {
     }
 }
 
-/// Tells why a task on a file wasn't done. That the message couldn't be written is no matter.
+/// Reports why a task on a file failed. Errors in writing the message are ignored.
 pub fn tell<M: Write>(messages: &mut M, file: &str, failure: &Failure) {
     let _ = match failure {
         Failure::Refused(refusal) => {

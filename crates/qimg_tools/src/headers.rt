@@ -1,4 +1,4 @@
-//! Headers that the library doesn't read: what such a file is, and what its header says.
+//! Headers that the library doesn't read: what the file is, and what its header says.
 ghost use Rattle.std.specs.Prelude.{◌≤◌, IfSome};
 ghost use Rattle.image_access.specs.Moments.{ContentsStay};
 
@@ -6,16 +6,16 @@ use image_access::Storage;
 use qcow2_metadata::MAGIC;
 use std::alloc::Global;
 
-/// How many bytes are looked at: the header of version 3, with its first further field.
+/// The number of bytes that are read: the header of version 3, with its first additional field.
 const LENGTH: usize = 112;
 
-/// The longest name of a backing file, in bytes.
+/// The greatest length of a backing file name, in bytes.
 const LONGEST_NAME: u32 = 1023;
 
-/// Where the features stand that a reader must know.
+/// The offset of the incompatible feature bits.
 const FEATURES: usize = 72;
 
-/// Whether a file begins with the four bytes of a qcow2 image, of whatever version; None where it can't be read.
+/// Whether a file begins with the magic number of qcow2, in any version; None if it can't be read.
 pub fn begins_qcow2<S: Storage>(storage: &mut S) -> Option<bool> {
     let mut bytes = [0; LENGTH];
     match storage.read(0, &mut bytes) {
@@ -24,7 +24,7 @@ pub fn begins_qcow2<S: Storage>(storage: &mut S) -> Option<bool> {
     }
 }
 
-/// What a file is whose header was refused, and what can be done; None where it can't be read, or nothing more is known of it.
+/// What a file is whose header was refused, and what to do; None if it can't be read, or nothing more is known.
 pub fn explained<S: Storage>(storage: &mut S) -> Option<&'static str> {
     let mut bytes = [0; LENGTH];
     if matches!(storage.size(), Ok(0)) {
@@ -38,7 +38,7 @@ pub fn explained<S: Storage>(storage: &mut S) -> Option<&'static str> {
     }
 }
 
-/// What the header of an image says that the library doesn't read.
+/// The fields of a header that the library doesn't read.
 #[derive(Drop)]
 pub struct Unread {
     /// The version: 2 or 3.
@@ -49,19 +49,19 @@ pub struct Unread {
     pub size: u64,
     /// Whether the data are encrypted.
     pub is_encrypted: bool,
-    /// The bits of features that a driver must know.
+    /// Incompatible feature bits.
     pub incompatible: u64,
-    /// The bits of features that a driver may pass over.
+    /// Compatible feature bits.
     pub compatible: u64,
-    /// The binary logarithm of the bits of a count.
+    /// The binary logarithm of the refcount width in bits.
     pub refcount_order: u32,
-    /// Whether data are compressed by zstd.
+    /// Whether data are compressed with zstd.
     pub is_zstd: bool,
     /// The name of the backing file.
     pub backing_name: Option<String>,
 }
 
-/// The numbers of a header of version 2 or 3 whose clusters and counts are such as images have; None for any other.
+/// The fields of a header of version 2 or 3 with a valid cluster size and refcount width; None for any other.
 pub fn numbers_of_unread<S: Storage>(alloc: Global, storage: &mut S) -> Option<Unread>
     ensures bits { IfSome result (λ found. found.cluster_bits ≤ 21) }
     ensures order { IfSome result (λ found. found.refcount_order ≤ 6) }
@@ -93,7 +93,7 @@ pub fn numbers_of_unread<S: Storage>(alloc: Global, storage: &mut S) -> Option<U
     })
 }
 
-// A name of so many bytes, at an offset that is 0 for none. A name that isn't text isn't told.
+// A name at an offset, which is 0 for none. A name that isn't UTF-8 is left out.
 fn name_at<S: Storage>(alloc: Global, storage: &mut S, offset: u64, length: u32) -> Option<String>
     ensures reading { ContentsStay (S.view storage.old) (S.view storage.new) }
 {
@@ -106,14 +106,14 @@ fn name_at<S: Storage>(alloc: Global, storage: &mut S, offset: u64, length: u32)
     String::from_str(alloc, name).ok()
 }
 
-// A number of eight bytes at a place, the greatest byte first.
+// The big-endian number of eight bytes at an offset.
 fn long_at(bytes: &[u8], place: usize) -> u64
     requires { place ≤ 104 }
 {
     u64::from(number_at(bytes, place)) << 32 | u64::from(number_at(bytes, place + 4))
 }
 
-// A number of four bytes at a place, the greatest byte first; 0 where there are no four.
+// The big-endian number of four bytes at an offset; 0 if there are no four bytes.
 fn number_at(bytes: &[u8], place: usize) -> u32 {
     match bytes.get(place..).and_then(|rest| rest.first_chunk::<4>()) {
         Some(four) => u32::from_be_bytes(*four),
@@ -121,7 +121,7 @@ fn number_at(bytes: &[u8], place: usize) -> u32 {
     }
 }
 
-// What begins with these bytes and is no qcow2 image.
+// What a file is that isn't a qcow2 image, by its first bytes.
 fn other_format(bytes: &[u8]) -> &'static str {
     if bytes.starts_with(b"KDMV") || bytes.starts_with(b"# Disk Desc") {
         "it is a VMDK image: qemu-img convert makes a qcow2 image of it"
@@ -150,7 +150,7 @@ fn explained_image(bytes: &[u8]) -> Option<&'static str> {
     }
 }
 
-// Which of the features that a reader must know isn't known, by the upper and the lower bits.
+// Which incompatible feature isn't known, by the upper and the lower bits.
 fn explained_features(upper: u32, lower: u32) -> Option<&'static str> {
     if upper != 0 || lower > 31 {
         Some("it has a feature that this program doesn't know")

@@ -1,4 +1,4 @@
-//! What an image is, by its header.
+//! The subcommand `info`.
 ghost use Rattle.std.specs.Prelude.{◌≤◌};
 ghost use Rattle.image_access.specs.Moments.{ContentsStay};
 
@@ -15,19 +15,19 @@ use std::alloc::Global;
 use std::io;
 use std::io::Write;
 
-/// The bit of an image whose counts may be behind.
+/// The compatible feature bit of lazy refcounts.
 const LAZY_COUNTS: u64 = 1;
 
-/// A file, by its name, and the room that it takes on its device, where that is known.
+/// A file: its name, and its size on its device, if that is known.
 #[derive(Clone, Copy)]
 pub struct File<'a> {
-    /// Its name, as the words give it.
+    /// The name, as the words give it.
     pub name: &'a str,
-    /// The bytes that it takes on its device, where that is known.
+    /// The number of bytes that it takes on its device, if that is known.
     pub room: Option<u64>,
 }
 
-/// What the header of an image says.
+/// The facts in the header of an image.
 #[derive(Clone, Copy)]
 struct Facts<'a> {
     version: u32,
@@ -44,8 +44,8 @@ struct Facts<'a> {
     data_file_name: Option<&'a str>,
 }
 
-/// Prints what the header of an image says, also of one whose features aren't known. The image is only read. Refused for its header
-/// 19 (metadata), 13 (limit), 4 (unaligned table). Where the work meets them: 14 (memory), 15 (storage), and `Unprinted`.
+/// Prints the facts in the header of an image, also of one with unknown features. The image is only read. Refused for its header
+/// 19 (metadata), 13 (limit) and 4 (unaligned table), and 14 (memory), 15 (storage) and `Unprinted` if the work meets them.
 pub fn info<S: Storage, W: Write>(
     alloc: Global,
     storage: &mut S,
@@ -154,7 +154,7 @@ fn print_lines<W: Write>(output: &mut W, file: &File<'_>, facts: &Facts<'_>) -> 
     print_features(output, facts)
 }
 
-// A line with a name, which an image's maker chose.
+// Prints a line with a name, which the author of the image chose.
 fn print_line<W: Write>(output: &mut W, key: &str, name: &str) -> io::Result<()> {
     write!(output, "{key}")?;
     print_plain(output, name)?;
@@ -261,7 +261,7 @@ fn print_named<W: Write>(output: &mut W, key: &str, text: &str) -> io::Result<()
     writeln!(output, ",")
 }
 
-// The version, as QEMU's tools name it.
+// The version, in the words of QEMU's tools.
 fn compat_of(facts: &Facts<'_>) -> &'static str {
     if facts.version < 3 { "0.10" } else { "1.1" }
 }
@@ -290,7 +290,7 @@ fn has_extended_entries(facts: &Facts<'_>) -> bool {
     facts.incompatible & 16 != 0
 }
 
-// Whether the bytes of the data file are the disk's, each at its place.
+// Whether the bytes of the data file are those of the disk, each at its own offset.
 fn is_raw_data(facts: &Facts<'_>) -> bool {
     facts.autoclear & 2 != 0
 }

@@ -1,4 +1,4 @@
-//! Text, as JSON writes it.
+//! Text in JSON.
 
 ghost use Rattle.std.specs.Prelude.{◌≡◌, ◌<◌, OnOk, false};
 ghost use Rattle.std.specs.Fmt.{digit_glyph};
@@ -8,7 +8,7 @@ ghost use Rattle.qimg_tools.specs.Json.{escaped, escaped_text, json_text};
 use std::io;
 use std::io::Write;
 
-/// Prints a text between quotation marks. Refused as the output is.
+/// Prints a JSON string. Refused as the output refuses.
 pub fn print_text<W: Write>(output: &mut W, text: &str) -> io::Result<()>
     ensures { OnOk result (Appends (W.contents output.old) (W.contents output.new) (json_text text.now)) }
 {
@@ -26,7 +26,7 @@ fn print_escaped<W: Write>(output: &mut W, text: &[u8]) -> io::Result<()>
     Ok(())
 }
 
-// A control character, a quotation mark and a backslash are written otherwise.
+// Prints a byte of a JSON string. Control characters, quotation marks and backslashes are escaped.
 fn print_byte<W: Write>(output: &mut W, byte: u8) -> io::Result<()>
     ensures { OnOk result (Appends (W.contents output.old) (W.contents output.new) (escaped byte)) }
 {

@@ -1,4 +1,4 @@
-//! Tells what an image is, maps, checks, vets and compares images, and makes images and raw disks of one another, with the habits of this field.
+//! The everyday subcommands of `qemu-img`, and `vet`: describes, maps, checks, vets, compares, converts, creates and resizes disk images.
 #![tactic(auto)]
 
 mod checking;
@@ -42,13 +42,13 @@ use std::io::{BufWriter, Write};
 use std::os::unix::fs::MetadataExt;
 use std::process::ExitCode;
 
-/// The exit status of a check of what is no qcow2 image.
+/// The exit status of a check of a file that is no qcow2 image.
 const NO_IMAGE: u8 = 63;
 
-/// The exit status of a comparison that couldn't be made.
+/// The exit status of a comparison that failed.
 const UNCOMPARED: u8 = 2;
 
-// The words after the program's name. Refused where one isn't UTF-8.
+// The words after the program's name. Refused if one isn't UTF-8.
 fn given_words(rt: &HostRuntime) -> io::Result<Vec<String>> {
     let mut given = Vec::new(rt.alloc());
     for word in std::env::args(rt)?.skip(1) {
@@ -57,7 +57,7 @@ fn given_words(rt: &HostRuntime) -> io::Result<Vec<String>> {
     Ok(given)
 }
 
-// The bytes of a file that take room on its device, where the system says so.
+// The size of a file on its device, if the system says it.
 fn room_of(rt: &HostRuntime, file: &str) -> Option<u64> {
     match std::fs::metadata(rt, file) {
         Ok(metadata) => metadata.blocks().checked_mul(512),
@@ -110,7 +110,7 @@ fn read_image(
     status
 }
 
-// A file that is no image can't be checked.
+// Explains why a file can't be checked: it is no image.
 fn explain_no_image(rt: &HostRuntime, file: &str, storage: &mut FileStorage) {
     let refused: Result<u8, Failure> = Err(Failure::Refused(ImageError::Metadata));
     ended(rt, file, None, &refused);
@@ -198,7 +198,7 @@ fn compare_files(
     UNCOMPARED
 }
 
-// Tells which of two files couldn't be compared, and why.
+// Reports which of two files could not be compared, and why.
 fn tell_uncompared(
     rt: &HostRuntime,
     names: Names<'_>,
@@ -230,7 +230,7 @@ fn say(line: &str, output: &mut impl Write) -> u8 {
     }
 }
 
-// Does what the words ask for. A comparison that can't be made has a status of its own, since 1 says that the disks differ.
+// Does what the words say. A comparison that fails has a status of its own, since 1 means that the disks differ.
 fn run_words(rt: &HostRuntime, given: &[String], output: &mut impl Write) -> u8 {
     match read_words(given) {
         Ok((Command::Compare, settings)) if !settings.flags.wants_help => {

@@ -1,4 +1,4 @@
-//! Making files that are new images.
+//! The subcommand `create`.
 
 use crate::converting::format_of;
 use crate::creating::{create, create_over};
@@ -12,7 +12,7 @@ use qcow2_image::ImageError;
 use std::io;
 use std::path::PathBuf;
 
-/// Makes an image in a file, as the words ask for, and answers the exit status. Of an image over a backing file the size may be left out.
+/// Creates an image in a file, as the words say, and returns the exit status. For an image over a backing file the size is optional.
 pub fn create_file(rt: &HostRuntime, settings: &Settings<'_>, file: &str, size: Option<u64>) -> u8 {
     match (settings.below, size) {
         (Some(below), _) => create_overlay(rt, settings, file, below, size),
@@ -28,7 +28,7 @@ pub fn create_file(rt: &HostRuntime, settings: &Settings<'_>, file: &str, size: 
     }
 }
 
-// The backing file is opened to see that it is there and what size its disk has.
+// Creates an overlay. The backing file is opened to see that it exists, and how large its disk is.
 fn create_overlay(
     rt: &HostRuntime,
     settings: &Settings<'_>,
@@ -55,7 +55,7 @@ fn create_overlay(
     end_creating(rt, file, size, storage, done)
 }
 
-// Where the image isn't made, a file that was made for it is removed.
+// Ends a creation. If it failed, a new file is removed.
 fn end_creating(
     rt: &HostRuntime,
     file: &str,
@@ -72,7 +72,7 @@ fn end_creating(
     ended(rt, file, storage.last_error(), &done)
 }
 
-// The size of a backing file's disk, and the word for its format. Its name is one in the folder of the file over it. The status where it
+// The size of a backing file's disk, and the word for its format. Its name is relative to the folder of the overlay. The status if it
 // can't be read.
 fn look_below(
     rt: &HostRuntime,

@@ -1,4 +1,4 @@
-//! What the whole disk of an image is mapped to.
+//! The subcommand `map`.
 ghost use Rattle.std.specs.Prelude.{◌≡◌, ◌<◌, ◌≤◌, IfOk, IsTrue};
 
 use crate::failures::Failure;
@@ -10,16 +10,16 @@ use std::alloc::Global;
 use std::io;
 use std::io::Write;
 
-/// What stands for a run of the disk.
+/// The mapping of a run of the disk.
 #[derive(Clone, Copy, PartialEq, Eq)]
 enum Content {
     /// Bytes of the file, from an offset on.
     Data { offset: u64 },
-    /// Compressed bytes of the file.
+    /// Compressed data.
     Compressed,
-    /// Zeros that the image names.
+    /// Zero clusters.
     Zero,
-    /// Nothing: zeros where there is no disk below.
+    /// Unmapped: zeros, if there is no backing disk.
     Unmapped { is_zero: bool },
 }
 
@@ -41,17 +41,17 @@ impl Run {
     }
 }
 
-/// How a map is printed.
+/// The form of a map.
 #[derive(Clone, Copy)]
 struct Page<'a> {
     file: &'a str,
     form: Form,
 }
 
-/// Prints what each run of an image's disk is mapped to. The image is opened for reading alone, and without the disk below it, and its
-/// storage is handed back. Refused as `open_image` is: 19 (metadata), 13 (limit), 4 (unaligned table). An image whose data stand in
-/// another file is refused 12 (dependency). All runs are looked up before any is printed. Where the work meets them: 4 (unaligned table),
-/// 14 (memory), 15 (storage), and `Unprinted`.
+/// Prints the mapping of each run of an image's disk. The image is opened for reading, without its backing disk, and its
+/// storage is returned. Refused as `open_image` is: 19 (metadata), 13 (limit), 4 (unaligned table). An image with a data
+/// file is refused 12 (dependency). All runs are looked up before any is printed. Refused 4, 14 (memory), 15 (storage) and `Unprinted`
+/// if the work meets them.
 pub fn map<S: Storage, W: Write>(
     alloc: Global,
     storage: S,
@@ -68,7 +68,7 @@ pub fn map<S: Storage, W: Write>(
     }
 }
 
-// Prints a map once it is known that all of it can be looked up.
+// Prints a map after it has looked up all of it.
 fn print_whole_map<S: Storage, W: Write>(
     image: &mut Qcow2<S>,
     page: &Page<'_>,
@@ -100,7 +100,7 @@ fn print_map<S: Storage, W: Write>(
     }
 }
 
-// Neighbours that are mapped alike are one run.
+// Prints the runs. Neighbours that are mapped alike are one run.
 fn print_runs<S: Storage, W: Write>(
     image: &mut Qcow2<S>,
     page: &Page<'_>,
@@ -157,7 +157,7 @@ fn run_at<S: Storage>(image: &mut Qcow2<S>, start: u64, size: u64) -> Result<Run
     })
 }
 
-// Whether a run goes on where another ends.
+// Whether a run continues another one.
 fn follows(run: &Run, next: &Run) -> bool
     ensures { IsTrue result → run.now.end ≡ next.now.start }
 {
@@ -182,7 +182,7 @@ fn print_run<W: Write>(output: &mut W, page: &Page<'_>, run: &Run) -> io::Result
     }
 }
 
-// Only data has a row.
+// Prints the row of a run. Only data has one.
 fn print_row<W: Write>(output: &mut W, file: &str, run: &Run) -> io::Result<()> {
     match run.content {
         Content::Data { offset } => {
@@ -201,7 +201,7 @@ fn print_row<W: Write>(output: &mut W, file: &str, run: &Run) -> io::Result<()> 
     writeln!(output)
 }
 
-// A number in the form of C's `%#-16x`, which writes nought without `0x`.
+// Prints a number like C's `%#-16x`, which writes 0 without `0x`.
 fn print_column<W: Write>(output: &mut W, number: u64) -> io::Result<()> {
     if number == 0 {
         return write!(output, "0               ");

@@ -1,4 +1,4 @@
-//! What is told on standard error, and the exit statuses that go with it.
+//! Messages on standard error, and exit statuses.
 
 use crate::failures::{Failure, tell};
 use crate::headers::explained;
@@ -8,33 +8,33 @@ use qcow2_image::ImageError;
 use std::io;
 use std::io::Write;
 
-/// The exit status where nothing was refused.
+/// The exit status if nothing was refused.
 pub const DONE: u8 = 0;
 
-/// The exit status of what was refused, or couldn't be printed.
+/// The exit status of a refusal, or of output that failed.
 pub const REFUSED: u8 = 1;
 
-// What an image is that needs another file.
+// The message for an image that needs another file.
 const NEEDS_ANOTHER: &str =
     "it names a backing file or a data file, which isn't opened: qemu-img convert makes one image of both";
 
-// What can be done with an image whose data are compressed.
+// The advice for an image with compressed data.
 const COMPRESSED: &str =
     "some of its data are compressed: qemu-img convert -O qcow2 makes an image that isn't";
 
-/// Tells why a file couldn't be opened, or what was done with it last failed.
+/// Reports why a file could not be opened, or the system's last error for it.
 pub fn refuse_file(rt: &HostRuntime, file: &str, cause: &io::Error) -> u8 {
     let _ = writeln!(rt.stderr(), "qimg-tools: {file}: {cause}");
     REFUSED
 }
 
-/// Tells why nothing was done with a file.
+/// Reports why nothing was done with a file.
 pub fn refuse(rt: &HostRuntime, file: &str, reason: &str) -> u8 {
     let _ = writeln!(rt.stderr(), "qimg-tools: {file}: {reason}");
     REFUSED
 }
 
-/// Tells why a task failed, if it did, with what the system said of the files last.
+/// Reports why a task failed, if it did, with the system's last errors for the files.
 pub fn ended(
     rt: &HostRuntime,
     file: &str,
@@ -54,7 +54,7 @@ pub fn ended(
     }
 }
 
-// What can be done with an image that was refused for what it is, apart from its header.
+// Advice for an image that was refused for another reason than its header.
 fn reason_of(failure: &Failure) -> Option<&'static str> {
     match failure {
         Failure::Refused(ImageError::Dependency) => Some(NEEDS_ANOTHER),
@@ -63,7 +63,7 @@ fn reason_of(failure: &Failure) -> Option<&'static str> {
     }
 }
 
-/// Tells what the driver refused, with what the system said of the files last.
+/// Reports a refusal of the driver, with the system's last errors for the files.
 pub fn refused(rt: &HostRuntime, file: &str, cause: Option<io::Error>, refusal: ImageError) -> u8 {
     ended(rt, file, cause, &Err(Failure::Refused(refusal)))
 }
@@ -74,7 +74,7 @@ fn tell_cause(rt: &HostRuntime, file: &str, cause: Option<io::Error>) {
     }
 }
 
-/// Tells which word can't be read, and why.
+/// Reports which word can't be read, and why.
 pub fn misused(rt: &HostRuntime, bad: BadWord<'_>) -> u8 {
     let BadWord { word, reason } = bad;
     let _ = match word {
@@ -85,7 +85,7 @@ pub fn misused(rt: &HostRuntime, bad: BadWord<'_>) -> u8 {
     REFUSED
 }
 
-/// Tells what a file is whose header was refused, where it did.
+/// Reports what a file is whose header was refused, if it was.
 pub fn explain<T>(
     rt: &HostRuntime,
     file: &str,
@@ -99,7 +99,7 @@ pub fn explain<T>(
     }
 }
 
-/// QEMU takes disks to have whole sectors alone.
+/// Warns that QEMU only sees whole sectors of a disk.
 pub fn warn_of_sectors(rt: &HostRuntime, file: &str, size: u64) {
     let more = size % 512;
     if more != 0 {

@@ -1,9 +1,9 @@
-//! Text as people read it, with nothing in it that a terminal would obey.
+//! Text for people, without characters that a terminal would obey.
 
 use std::io;
 use std::io::Write;
 
-/// Prints a text. A control character is printed as its number, as in `\x1b`. Refused as the output is.
+/// Prints a text. Control characters are printed as numbers, such as `\x1b`. Refused as the output refuses.
 pub fn print_plain<W: Write>(output: &mut W, text: &str) -> io::Result<()> {
     for letter in text.chars() {
         if letter.is_control() {

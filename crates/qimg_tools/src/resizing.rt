@@ -1,4 +1,4 @@
-//! Other sizes of an image's disk.
+//! The subcommand `resize`.
 ghost use Rattle.std.specs.Prelude.{◌≡◌, ◌<◌, ◌≤◌};
 ghost use Rattle.qimg_tools.specs.Changed.{size_after};
 
@@ -8,25 +8,25 @@ use qcow2_image::{ImageError, NoBacking, Qcow2};
 use qcow2_session::{read, write};
 use std::alloc::Global;
 
-/// How a disk gets another size.
+/// The settings of a resize.
 #[derive(Clone, Copy)]
 pub struct Resizing {
-    /// What its size is to be.
+    /// The new size, or its change.
     pub change: SizeChange,
-    /// What place a larger disk takes.
+    /// How a larger disk is allocated.
     pub preallocate: PreallocateMode,
-    /// Whether it may lose its last bytes.
+    /// Whether the disk may lose its last bytes.
     pub shrinks: bool,
 }
 
-/// Why a disk didn't get another size.
+/// Why a disk was not resized.
 #[derive(Drop)]
 pub enum Unresized {
     /// A call of the driver was refused.
     Refused(ImageError),
-    /// It would lose so many bytes, and that isn't allowed.
+    /// The disk would lose this many bytes, and that isn't allowed.
     WouldShrink(u64),
-    /// It would have less than no bytes, or more than 64 bits tell.
+    /// The new size would be negative, or not fit into 64 bits.
     NoSize,
 }
 
@@ -36,10 +36,10 @@ impl From<ImageError> for Unresized {
     }
 }
 
-/// Gives the disk of an image another size, and hands its storage back. The answer is the new size. New bytes read as zeros, but those of
-/// a compressed cluster that was the last one. Refused as `open_alone` is to write, which leaves the storage as it is: 19 (metadata),
-/// 13 (limit), 4 (unaligned table), 12 (dependency); then `NoSize`, and `WouldShrink`. Of a larger size also 13 (limit) where no L1 table
-/// is long enough. Where the work meets them: 14 (memory), 15 (storage), and in modes that take place those of `resize_grow`.
+/// Resizes the disk of an image, and returns its storage and the new size. New bytes read as zeros, except those of
+/// a compressed cluster at the old end. Refused as `open_alone` is for writing, which leaves the storage unchanged: 19 (metadata),
+/// 13 (limit), 4 (unaligned table), 12 (dependency); then `NoSize`, and `WouldShrink`; for a larger size also 13 if no L1 table
+/// is long enough. Refused 14 (memory) and 15 (storage) if the work meets them, and in modes that allocate as `resize_grow` is.
 pub fn resize<S: Storage>(
     alloc: Global,
     storage: S,
@@ -76,7 +76,7 @@ fn resize_image<S: Storage>(
     Ok(size)
 }
 
-// A size after a change, where it has 64 bits.
+// The size after a change, if it fits into 64 bits.
 fn changed(old: u64, change: SizeChange) -> Option<u64>
     ensures { result ≡ size_after old change }
 {
@@ -87,7 +87,7 @@ fn changed(old: u64, change: SizeChange) -> Option<u64>
     }
 }
 
-// Makes the bytes behind an old end zeros, in the cluster in which it lay: the disk may have been larger before.
+// Makes the bytes behind an old end zeros, up to the end of its cluster: the disk may have been larger before.
 fn clear_last<S: Storage>(
     alloc: Global,
     image: &mut Qcow2<S, NoBacking>,

@@ -1,4 +1,4 @@
-//! Sizes, as words write them and as they are printed.
+//! Sizes in words, and in the form for people.
 ghost use Rattle.std.specs.Prelude.{◌≡◌, ◌<◌, ◌≤◌};
 ghost use Rattle.program_parts.specs.Numbers.{number_of_word};
 ghost use Rattle.qimg_tools.specs.Sizes.{size_of_word, unit_of_letter, units};
@@ -6,8 +6,8 @@ ghost use Rattle.qimg_tools.specs.Sizes.{size_of_word, unit_of_letter, units};
 use program_parts::number;
 use std::fmt;
 
-/// The bytes that a word asks for: decimal digits, and at most one letter for a unit of 1024 to some power. None where it is
-/// something else, or passes 64 bits.
+/// The bytes of a word: decimal digits, and at most one letter for a power of 1024. None if it is
+/// something else, or doesn't fit into 64 bits.
 pub fn size(word: &str) -> Option<u64>
     ensures { result ≡ size_of_word word.now }
 {
@@ -34,7 +34,7 @@ fn unit_of_letter(letter: u8) -> Option<u64>
     }
 }
 
-// So many units, where 64 bits hold their bytes.
+// A number of units in bytes, if it fits into 64 bits.
 fn units(count: Option<u64>, unit: u64) -> Option<u64>
     ensures { result ≡ units count unit }
 {
@@ -50,19 +50,19 @@ fn number_of_digits(digits: &[u8]) -> Option<u64>
     }
 }
 
-/// What a disk's size is to be.
+/// A new size, or its change.
 #[derive(Clone, Copy)]
 pub enum SizeChange {
     /// A number of bytes.
     To(u64),
-    /// So many more than now.
+    /// This many more than now.
     More(u64),
-    /// So many fewer than now.
+    /// This many fewer than now.
     Fewer(u64),
 }
 
-/// What a word asks for of a disk's size: a size, or one behind `+` or `-` by which it grows or shrinks. None where it is something else,
-/// or passes 64 bits.
+/// The meaning of a word for a size: a size, or behind `+` or `-` a change. None if it is something else,
+/// or doesn't fit into 64 bits.
 pub fn size_change(word: &str) -> Option<SizeChange> {
     if let Some(more) = word.strip_prefix('+') {
         return Some(SizeChange::More(size(more)?));
@@ -73,7 +73,7 @@ pub fn size_change(word: &str) -> Option<SizeChange> {
     Some(SizeChange::To(size(word)?))
 }
 
-/// A number of bytes as people read it, in the form of QEMU's tools: in three digits of a unit of which it has a thousand at most.
+/// A number of bytes in the form of QEMU's tools for people: three digits, and a unit of which there are less than a thousand.
 #[derive(Clone, Copy)]
 pub struct Human(pub u64);
 
@@ -118,7 +118,7 @@ fn rounded(bytes: u64, shift: u32) -> u64
     u64::try_from(steps.saturating_mul(step)).unwrap_or(u64::MAX)
 }
 
-// A quotient, rounded to the nearest number; of two that are as near the even one.
+// A quotient, rounded to the nearest number, and to the even one in the middle.
 fn nearest(number: u128, unit: u128) -> u128
     requires { 0 < unit }
 {
@@ -131,7 +131,7 @@ fn nearest(number: u128, unit: u128) -> u128
     }
 }
 
-// The unit in which a number of bytes is told: two to which power, and its name. A thousand of one are told in the next.
+// The unit for a number of bytes: its power of two, and its name. A thousand of one unit take the next one.
 fn unit_of(bytes: u64) -> (u32, &'static str)
     ensures bound { result.0 ≤ 60 }
 {

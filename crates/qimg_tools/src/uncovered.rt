@@ -1,4 +1,4 @@
-//! Checking images with parts that a report doesn't cover: snapshots, bitmaps, and data in another file.
+//! Checking images with parts that a report doesn't cover: snapshots, bitmaps, and an external data file.
 ghost use Rattle.std.specs.Prelude.{◌↔◌, ◌≤◌, IfErr, IfOk, IsTrue};
 ghost use Rattle.image_access.specs.Moments.{ContentsStay};
 ghost use Rattle.qcow2_metadata.specs.Header.{IsInRange, IsWithinLimits};
@@ -20,21 +20,21 @@ use std::io::Write;
 /// The exit status of an image that isn't consistent.
 pub const BROKEN: u8 = 2;
 
-// The bits of an entry of the L1 table that are an offset.
+// The offset bits of an L1 entry.
 const TABLE_OFFSET: u64 = 0x00ff_ffff_ffff_fe00;
 
-// The bits of an entry of the reftable that are an offset.
+// The offset bits of a reftable entry.
 const BLOCK_OFFSET: u64 = 0xffff_ffff_ffff_fe00;
 
-/// Whether a report covers all of an image: it has no snapshots, no valid bitmaps, and no data file.
+/// Whether a report covers the whole image: it has no snapshots, no valid bitmaps, and no data file.
 pub fn is_covered(header: &HeaderFields) -> bool
     ensures { IsTrue result ↔ IsCovered header.now }
 {
     header.snapshots == 0 && header.incompatible == 0 && header.autoclear % 2 == 0
 }
 
-/// Prints the errors of an image that a report doesn't cover whole, and what it doesn't cover, and answers the exit status: 2 where there
-/// are errors, and else 0. Which clusters are leaked isn't told. Where the work meets them: 14 (memory), 15 (storage), and `Unprinted`.
+/// Prints the errors of an image that a report doesn't cover completely, and the parts that aren't covered, and returns the exit status: 2 if
+/// there are errors, otherwise 0. Leaked clusters aren't reported. Refused 14 (memory), 15 (storage) and `Unprinted` if the work meets them.
 pub fn check_partly<S: Storage, W: Write>(
     alloc: Global,
     storage: &mut S,
@@ -71,7 +71,7 @@ fn status_of_errors(breaches: &[Breach], errors: &[Breach]) -> u8
     }
 }
 
-// The tables were read before, so where they don't read now the storage failed.
+// The tables were readable before, so if they aren't now, the storage failed.
 fn failed(cause: &MetadataError) -> Failure
     ensures { IsOfWork result }
 {
@@ -81,7 +81,7 @@ fn failed(cause: &MetadataError) -> Failure
     }
 }
 
-// The breaches that are errors. With a data file that are those of clusters of the image itself.
+// The breaches that are errors. With a data file these are only those about clusters of the image itself.
 fn errors_of<S: Storage>(
     alloc: Global,
     storage: &mut S,
@@ -113,7 +113,7 @@ fn chosen(
     Ok(errors)
 }
 
-// Whether a breach is an error. Where data stand in another file, a cluster is named as often as the tables name it that aren't data's.
+// Whether a breach is an error. With a data file, only references by tables count.
 fn is_error(breach: &Breach, named: Option<&BTreeMap<u64, u64>>) -> bool {
     match (*breach, named) {
         (Breach::Snapshots { count: _ } | Breach::External, _) => false,
@@ -146,7 +146,7 @@ fn times(named: &BTreeMap<u64, u64>, cluster: u64) -> u64 {
     }
 }
 
-// How often each cluster is named by the header, the L1 table and the reftable.
+// The references to each cluster by the header, the L1 table and the reftable.
 fn named_by_tables<S: Storage>(
     alloc: Global,
     storage: &mut S,
@@ -176,7 +176,7 @@ fn named_by_tables<S: Storage>(
     Ok(named)
 }
 
-// The tables whose offsets the entries of a table have in some of their bits.
+// Counts the tables whose offsets are in these bits of a table's entries.
 fn add_tables(
     named: &mut BTreeMap<u64, u64>,
     table: &[u8],
@@ -191,7 +191,7 @@ fn add_tables(
     Ok(())
 }
 
-// How many clusters so many bytes take.
+// The number of clusters that this many bytes need.
 fn clusters_of(bytes: usize, bits: u32) -> u64
     requires { bits ≤ 21 }
 {
@@ -199,7 +199,7 @@ fn clusters_of(bytes: usize, bits: u32) -> u64
     (bytes as u64).div_ceil(size)
 }
 
-// A table at an offset, which is 0 for none.
+// Counts a table at an offset, which is 0 for none.
 fn add_table(named: &mut BTreeMap<u64, u64>, offset: u64, bits: u32) -> Result<(), AllocError>
     requires { bits ≤ 21 }
 {

@@ -1,4 +1,4 @@
-//! Whether an image that a stranger made may be taken in.
+//! The subcommand `vet`.
 ghost use Rattle.std.specs.Prelude.{◌≡◌, ◌↔◌, IfOk, IsTrue};
 ghost use Rattle.image_access.specs.Moments.{ContentsStay};
 ghost use Rattle.qcow2_metadata.specs.Bytes.{byte_at};
@@ -15,21 +15,21 @@ use std::alloc::Global;
 use std::io;
 use std::io::Write;
 
-/// The exit status of an image that may not be taken in.
+/// The exit status of an image that may not be accepted.
 const UNFIT: u8 = 2;
 
-/// What is vetted: a file by its name, and the bytes that its disk may have.
+/// What is vetted: a file, and the greatest size of its disk.
 #[derive(Clone, Copy)]
 pub struct Candidate<'a> {
-    /// Its name, as the words give it.
+    /// The name, as the words give it.
     pub name: &'a str,
-    /// How many bytes its disk may have.
+    /// The greatest size of the disk in bytes.
     pub max_size: u64,
 }
 
-/// Prints whether an image may be taken in, and else why not, and answers the exit status: 0 where it may be, and else 2. The image is
-/// only read, and no name in it is followed. Refused 19 (metadata), 13 (limit) for a header, L1 table or reftable that doesn't read.
-/// Where the work meets them: 14 (memory), 15 (storage), and `Unprinted`.
+/// Prints whether an image may be accepted, and if not, why, and returns the exit status: 0 if it may, otherwise 2. The image is
+/// only read, and no name in it is followed. Refused 19 (metadata) and 13 (limit) for an unreadable header, L1 table or reftable, and
+/// 14 (memory), 15 (storage) and `Unprinted` if the work meets them.
 pub fn vet<S: Storage, W: Write>(
     alloc: Global,
     storage: &mut S,
@@ -79,7 +79,7 @@ fn print_lines<W: Write>(output: &mut W, file: &Candidate<'_>, found: &Vetted) -
     }
 }
 
-// With a data file, most breaches tell of its clusters.
+// Prints breaches. With a data file, most of them are about its clusters.
 fn print_breaches<W: Write>(output: &mut W, breaches: &[Breach]) -> io::Result<()> {
     let has_snapshots = has_snapshots(breaches);
     if has_snapshots {

@@ -3,7 +3,7 @@
 use crate::sizes::size;
 use image_access::PreallocateMode;
 
-// Why an option isn't taken.
+// The reason against an option that the command doesn't have.
 const NO_OPTION: &str = "this command has no such option";
 
 /// What is printed for `--help`.
@@ -28,30 +28,30 @@ an image that may not be taken in. compare returns 1 for disks that differ, and 
 /// Why the words can't be read: one of them, and what is wrong with it.
 #[derive(Clone, Copy)]
 pub struct BadWord<'a> {
-    /// The word; of words that are missing the one before them.
+    /// The word; if a word is missing, the one before it.
     pub word: &'a str,
     /// What is wrong with it, as the end of a sentence.
     pub reason: &'static str,
 }
 
-/// What is to be done.
+/// The task of a command line.
 #[derive(Clone, Copy)]
 pub enum Command {
-    /// Tell what an image is.
+    /// Describe an image.
     Info,
-    /// Tell what an image's disk is mapped to.
+    /// Print the mapping of an image's disk.
     Map,
-    /// Tell whether an image is consistent.
+    /// Check an image.
     Check,
-    /// Tell whether a stranger's image may be taken in.
+    /// Decide whether to accept an untrusted image.
     Vet,
-    /// Tell whether two disks are the same.
+    /// Compare two disks.
     Compare,
-    /// Make an image or a raw disk of another one.
+    /// Make an image or a raw disk from another one.
     Convert,
-    /// Make an image.
+    /// Create an image.
     Create,
-    /// Give an image's disk another size.
+    /// Resize the disk of an image.
     Resize,
     /// Print the usage.
     Help,
@@ -59,10 +59,10 @@ pub enum Command {
     Version,
 }
 
-/// How an answer is printed.
+/// The form of an answer.
 #[derive(Clone, Copy)]
 pub enum Form {
-    /// As lines to be read by people: `human`.
+    /// Lines for people: `human`.
     Text,
     /// As JSON: `json`.
     Json,
@@ -71,66 +71,66 @@ pub enum Form {
 /// The format of a disk in a file.
 #[derive(Clone, Copy)]
 pub enum DiskFormat {
-    /// The bytes of the disk themselves.
+    /// A raw disk.
     Raw,
-    /// An image of this library.
+    /// A qcow2 image.
     Qcow2,
 }
 
-/// How a new image is laid out: the bytes of a cluster, the bits of its count, and what place is taken for the disk.
+/// The layout of a new image: cluster size, refcount width and preallocation.
 #[derive(Clone, Copy)]
 pub struct Layout {
-    /// The bytes of a cluster: 65,536 where none are asked for. Images have powers of two from 512 to 2,097,152.
+    /// The cluster size in bytes: by default 65,536. Images have powers of two from 512 to 2,097,152.
     pub cluster_size: u64,
-    /// The bits of a count: 16 where none are asked for. Images have powers of two from 1 to 64.
+    /// The refcount width in bits: by default 16. Images have powers of two from 1 to 64.
     pub refcount_bits: u64,
-    /// What place is taken for the disk: none where nothing is asked for.
+    /// The preallocation of the disk: by default none.
     pub preallocate: PreallocateMode,
 }
 
-/// What the words beside the command ask for.
+/// The settings in the words besides the command.
 #[derive(Clone, Copy)]
 pub struct Settings<'a> {
-    /// How the answer is printed: as text where nothing is asked for.
+    /// The form of the answer: text by default.
     pub form: Form,
-    /// The format of the disk that is read, or of the first one; None where nothing is asked for.
+    /// The format of the source, or of the first disk; None if it isn't given.
     pub source: Option<DiskFormat>,
-    /// The format of the second disk that is compared, or of a backing file; None where nothing is asked for.
+    /// The format of the second disk to compare, or of a backing file; None if it isn't given.
     pub other: Option<DiskFormat>,
-    /// The backing file of a new image; None where it is to have none.
+    /// The backing file of a new image, if it has one.
     pub below: Option<&'a str>,
-    /// The format of the disk that is made: raw where nothing is asked for.
+    /// The format of the target: raw by default.
     pub target: DiskFormat,
-    /// How a new image is laid out.
+    /// The layout of a new image.
     pub layout: Layout,
-    /// Whether the words say how.
+    /// Whether the words give a layout.
     pub has_layout: bool,
-    /// What place a larger disk takes: none where nothing is asked for.
+    /// How a larger disk is allocated: by default not at all.
     pub preallocate: PreallocateMode,
-    /// How many bytes the disk of an image that is taken in may have; any number where nothing is asked for.
+    /// The greatest size of the disk of an accepted image: unbounded by default.
     pub max_size: u64,
-    /// Which of the words that stand alone were given.
+    /// The options without a value.
     pub flags: Flags,
     /// The files, or the file and the size, in their order; at most two.
     pub operands: (Option<&'a str>, Option<&'a str>),
 }
 
-/// Options that have no value.
+/// Options without a value.
 #[derive(Clone, Copy)]
 pub struct Flags {
-    /// `-p`: how far a conversion is.
+    /// `-p`: prints the progress of a conversion.
     pub shows_progress: bool,
-    /// `-q`: nothing is printed that the status says.
+    /// `-q`: prints nothing that the status says.
     pub is_quiet: bool,
-    /// `--verify`: a conversion ends with a comparison.
+    /// `--verify`: compares the result of a conversion with its source.
     pub verifies: bool,
-    /// `--shrink`: a disk may lose its last bytes.
+    /// `--shrink`: the disk may lose its last bytes.
     pub shrinks: bool,
-    /// `--help`: the words of the command are to be explained, and nothing done.
+    /// `--help`: explains the words of the command, and does nothing else.
     pub wants_help: bool,
 }
 
-// An option that has a value.
+// An option with a value.
 #[derive(Clone, Copy)]
 enum Setting {
     Output,
@@ -143,7 +143,7 @@ enum Setting {
     Preallocation,
 }
 
-// The settings that words ask for, up to one of them, the option whose value comes next, and whether all further words are operands.
+// The settings in the words so far, the option whose value comes next, and whether all further words are operands.
 #[derive(Clone, Copy)]
 struct Reading<'a> {
     settings: Settings<'a>,
@@ -187,7 +187,7 @@ fn bad<'a, T>(word: &'a str, reason: &'static str) -> Result<T, BadWord<'a>> {
     Err(BadWord { word, reason })
 }
 
-// What is asked for where no words are.
+// The settings without any words.
 fn default_settings() -> Settings<'static> {
     Settings {
         form: Form::Text,
@@ -270,7 +270,7 @@ fn with_word<'a>(
     }
 }
 
-// Sizes by which a disk is to become smaller begin as options do.
+// Whether a word is an option. A size by which a disk shrinks begins like one.
 fn is_option(command: Command, word: &str) -> bool {
     match word.as_bytes() {
         [b'-', b'0'..=b'9', ..] => !matches!(command, Command::Resize),
@@ -279,7 +279,7 @@ fn is_option(command: Command, word: &str) -> bool {
     }
 }
 
-// The settings with an option that has no value; None where the command has no such option.
+// The settings with an option without a value; None if the command has no such option.
 fn with_flag<'a>(command: Command, settings: Settings<'a>, word: &str) -> Option<Settings<'a>> {
     let flags = settings.flags;
     let flags = match word.as_bytes() {
@@ -314,7 +314,7 @@ fn with_flag<'a>(command: Command, settings: Settings<'a>, word: &str) -> Option
     Some(Settings { flags, ..settings })
 }
 
-// Whether the status says all that the command prints.
+// Whether the status says everything that the command prints.
 fn takes_quiet(command: Command) -> bool {
     matches!(
         command,
@@ -322,7 +322,7 @@ fn takes_quiet(command: Command) -> bool {
     )
 }
 
-// The settings as they are, and an option that awaits its value.
+// The same settings, and an option that awaits its value.
 fn with_option<'a>(
     command: Command,
     reading: Reading<'a>,
@@ -351,7 +351,7 @@ fn setting_of(word: &str) -> Option<Setting> {
     }
 }
 
-// Whether an option belongs to a command.
+// Whether a command has an option.
 fn takes(command: Command, setting: Setting) -> bool {
     match setting {
         Setting::Output => matches!(
@@ -368,7 +368,7 @@ fn takes(command: Command, setting: Setting) -> bool {
     }
 }
 
-// The settings with an option's value, which stands in a word.
+// The settings with the value of an option, given as a word.
 fn with_value<'a>(
     command: Command,
     settings: Settings<'a>,
@@ -389,7 +389,7 @@ fn with_value<'a>(
     }
 }
 
-// The settings with a value; None where it can't be read.
+// The settings with a value; None if it can't be read.
 fn value_of<'a>(
     command: Command,
     settings: Settings<'a>,
@@ -420,7 +420,7 @@ fn value_of<'a>(
     }
 }
 
-// What a value is to be.
+// What a value must be.
 fn wanted(command: Command, setting: Setting) -> &'static str {
     match setting {
         Setting::Output => "the form of an answer is human or json",
@@ -473,7 +473,7 @@ fn format_of(word: &str) -> Option<DiskFormat> {
     }
 }
 
-// What place the modes of QEMU take.
+// The preallocation mode for a word of QEMU.
 fn mode_of(word: &str) -> Option<PreallocateMode> {
     match word.as_bytes() {
         b"off" => Some(PreallocateMode::None),
