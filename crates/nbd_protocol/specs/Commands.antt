@@ -6,7 +6,7 @@ use Rattle.nbd_protocol.specs.declared.request.Command.{Command}
 use Rattle.nbd_protocol.specs.declared.request.Command.TheVariants as C
 use Rattle.nbd_protocol.specs.declared.request.Request.{Request}
 
--- the offset behind a request's range
+-- The end of a request's range.
 abbrev pub end_of : Request → ℕ
 end_of r = r.offset + r.length
 
@@ -16,25 +16,25 @@ changes C.Trim = true
 changes C.WriteZeroes = true
 changes command = false
 
--- what was done where a request is answered without an error
+-- What was done, if the reply has no error.
 abbrev pub Does : Command → Request → List ℕ → (old new : DeviceView) → Type 0
 Does C.Write r payload = Writes r.offset payload
 Does C.Trim r payload = MayZero r.offset (end_of r)
 Does C.WriteZeroes r payload = Zeroes r.offset (end_of r)
 Does command r payload = Stays
 
--- and where it is answered with an error
+-- What may have been done, if the reply has an error.
 abbrev pub MayDo : Command → Request → List ℕ → (old new : DeviceView) → Type 0
 MayDo C.Write r payload = MayWrite r.offset payload
 MayDo C.Trim r payload = MayZero r.offset (end_of r)
 MayDo C.WriteZeroes r payload = MayZero r.offset (end_of r)
 MayDo command r payload = Stays
 
--- FLUSH, and any request with FUA, end with a flush and then a sync.
+-- FLUSH, and every request with FUA, end with a flush and then a sync.
 abbrev pub PersistsLast : {D : Type 0} → (Flushed Synced : D → D → Type 0) → D → Type 0
 PersistsLast {D} Flushed Synced new = (before : D) × Persists Flushed Synced before new
 
--- how many bytes runs of the disk have
+-- The number of bytes of runs of the disk.
 abbrev pub total : List Extent → ℕ
 total [] = 0
 total (e ∷ es) = e.length + total es

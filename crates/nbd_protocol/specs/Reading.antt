@@ -1,4 +1,4 @@
--- Reading fields from left to right: big-endian numbers, and strings with their length in front.
+-- Reading fields from left to right: big-endian numbers, and strings with their lengths before them.
 use Rattle.std.specs.Prelude.{ℕ, List, length, take, drop, Option, Some, None, nat_lt, if◌then◌else◌}
 use Rattle.std.specs.Int.{Width, w32, byte_len, from_be_bytes}
 
@@ -7,11 +7,11 @@ abbrev pub ◌>>=◌ : {A B : Type 0} → Option A → (A → Option B) → Opti
 (Some x) >>= f = f x
 None >>= f = None
 
--- a number, and the bytes after it
+-- A number, and the bytes behind it.
 abbrev pub number_at : Width → List ℕ → Option (ℕ × List ℕ)
 number_at w bytes = if nat_lt (length bytes) (byte_len w) then None else Some (from_be_bytes w (take (byte_len w) bytes), drop (byte_len w) bytes)
 
--- four bytes of length and that many bytes, and the bytes after them
+-- A string with its length of four bytes before it, and the bytes behind it.
 unfoldable pub string_at : List ℕ → Option (List ℕ × List ℕ)
 string_at bytes = do
   n ← number_at w32 bytes

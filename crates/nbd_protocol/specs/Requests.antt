@@ -1,4 +1,4 @@
--- The grammar of a request: 28 bytes.
+-- The encoding of a request: 28 bytes.
 use Rattle.std.specs.Prelude.{ℕ, ◌/◌, ◌%◌, ◌==◌, List, Option, Some, None, nat_le, if◌then◌else◌}
 use Rattle.std.specs.Int.{w16, w32, w64}
 use Rattle.nbd_protocol.specs.Reading.{◌>>=◌, number_at}
@@ -16,7 +16,7 @@ command_of n =
 abbrev pub flags_of : ℕ → Flags
 flags_of n = record { durable = n % 2 == 1; keeps_place = n / 2 % 2 == 1; one_extent = n / 8 % 2 == 1; unknown = nat_le 16 n }
 
--- a magic number, flags, a command, the client's cookie, an offset and a length
+-- A request: a magic number, flags, a command, the client's cookie, an offset and a length.
 unfoldable pub request_in : List ℕ → Option Request
 request_in bytes = do
   magic ← number_at w32 bytes

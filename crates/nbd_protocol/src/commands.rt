@@ -12,10 +12,10 @@ use std::alloc::Global;
 /// The greatest payload, in bytes.
 pub(crate) const MOST: u32 = 32 << 20;
 
-// How many zeros one write has at most.
+// The greatest number of zeros in one write.
 const CHUNK: u64 = 65536;
 
-// How many runs of the disk one reply has at most.
+// The greatest number of runs of the disk in one reply.
 const EXTENTS: usize = 1024;
 
 /// Flushes, and then syncs.
@@ -29,7 +29,7 @@ pub(crate) fn persist<D: Device>(device: &mut D) -> Result<(), Errno>
     device.sync()
 }
 
-/// Refuses a request whose range passes the disk's end, which changes a read-only disk, or which has an unknown flag.
+/// Refuses a request whose range ends behind the disk, which changes a read-only disk, or which has an unknown flag.
 pub(crate) fn check<D: Device>(device: &D, request: &Request) -> Result<(), Errno>
     ensures fits { OnOk result (end_of request.now < 2 ^ 64) }
     ensures within { OnOk result ((D.view device.now).is_sound → end_of request.now ≤ (D.view device.now).size) }
@@ -54,7 +54,7 @@ pub(crate) fn check<D: Device>(device: &D, request: &Request) -> Result<(), Errn
     }
 }
 
-// Discards whole units of a range, until it has no more, where the device can.
+// Discards the whole units of a range, until it has no more, if the device can.
 fn trim<D: Device>(device: &mut D, offset: u64, length: u32) -> Result<(), Errno>
     requires { offset + length < 2 ^ 64 }
     ensures { Acts (D.view device.old) (D.view device.new) (λ done. MayZero offset (offset + length) (D.view device.old) (D.view device.new))
@@ -118,7 +118,7 @@ fn write_zeros<D: Device>(
     Ok(())
 }
 
-// Lets a range read as zeros, from its front on, by whole units that are zeroed and by writes of what lies between them. Answers up to where.
+// Makes a range read as zeros, from its begin on: whole units are zeroed, and the bytes between them are written. Returns up to where.
 fn zero_units<D: Device>(
     device: &mut D,
     zeros: &[u8],
@@ -149,7 +149,7 @@ fn zero_units<D: Device>(
     Ok(at)
 }
 
-// Lets a range read as zeros: whole units without a write, where the device can, and the rest by writes.
+// Makes a range read as zeros: whole units without a write, if the device can, and the rest by writes.
 fn zero<D: Device>(
     device: &mut D,
     zeros: &[u8],
@@ -170,7 +170,7 @@ fn zero<D: Device>(
     write_zeros(device, zeros, at, offset + count - at)
 }
 
-// Fills a buffer with zeros, and writes them where nothing else can zero a range.
+// Fills a buffer with zeros, and writes them if nothing else can zero a range.
 fn write_zeroes<D: Device>(
     device: &mut D,
     request: &Request,
@@ -193,7 +193,7 @@ fn write_zeroes<D: Device>(
     )
 }
 
-/// Does what a request asks that has no answer of its own: the buffer holds the payload of a write, and any bytes then.
+/// Does what a request without a payload in its reply asks for. The buffer holds the payload of a write, and any bytes afterwards.
 pub(crate) fn perform<D: Device>(
     device: &mut D,
     request: &Request,
@@ -214,7 +214,7 @@ pub(crate) fn perform<D: Device>(
     persist(device)
 }
 
-// What it changes.
+// The change that a request asks for.
 fn change<D: Device>(device: &mut D, request: &Request, buffer: &mut Vec<u8>) -> Result<(), Errno>
     requires { end_of request.now < 2 ^ 64 }
     ensures { Acts (D.view device.old) (D.view device.new)
@@ -231,7 +231,7 @@ fn change<D: Device>(device: &mut D, request: &Request, buffer: &mut Vec<u8>) ->
     }
 }
 
-/// Fills a buffer with the bytes that a read asks for. After a refusal it holds any bytes.
+/// Fills a buffer with the bytes that a read asks for. After a refusal it may hold any bytes.
 pub(crate) fn read_disk<D: Device>(
     device: &mut D,
     request: &Request,
@@ -253,7 +253,7 @@ pub(crate) fn read_disk<D: Device>(
     device.read(request.offset, buffer)
 }
 
-// What stands for the disk from an offset on, and for how many bytes: as many as lookups in turn say the same of.
+// The state of the disk from an offset on, and for how many bytes it is the same, by one lookup after another.
 fn run_at<D: Device>(device: &mut D, offset: u64, max: u64) -> Result<(State, u64), Errno>
     requires { offset + max < 2 ^ 64 }
     ensures stays { Acts (D.view device.old) (D.view device.new)
@@ -275,7 +275,7 @@ fn run_at<D: Device>(device: &mut D, offset: u64, max: u64) -> Result<(State, u6
     Ok((state, done))
 }
 
-/// The runs of the disk that a request asks for: one, or as many as the range has, up to 1,024.
+/// The runs of the disk that a request asks for: one, or all of the range, up to 1,024.
 pub(crate) fn extents<D: Device>(
     alloc: Global,
     device: &mut D,

@@ -1,24 +1,24 @@
-//! What a server serves.
+//! The block device that a server serves.
 ghost use Rattle.std.specs.Prelude.{◌≡◌, ◌↔◌, ◌^◌, ◌<◌, ◌≤◌, IsTrue, OnOk, length};
 ghost use Rattle.nbd_protocol.specs.Devices.{Acts, Clears, DeviceView, MayWrite, Shows, Stays, Writes, error_number, state_number};
 ghost use Rattle.nbd_protocol.specs.declared.device.Errno.TheVariants.{NoMemory};
 
 use std::alloc::{AllocError, AllocFailed};
 
-/// Why a request is refused, as the system's errors have it.
+/// Why a request is refused, as an error of the system.
 #[derive(Clone, Copy, Debug, PartialEq, Eq)]
 pub enum Errno {
     /// 1: the export is read-only.
     NotPermitted,
     /// 5: the device failed.
     Io,
-    /// 12: memory is missing.
+    /// 12: an allocation of memory failed.
     NoMemory,
-    /// 22: the request means nothing, or passes the disk's end.
+    /// 22: the request is invalid, or its range ends behind the disk.
     Invalid,
-    /// 28: no place is left, or a write passes the disk's end.
+    /// 28: there is no room left, or a write ends behind the disk.
     NoSpace,
-    /// 95: the device can't do that.
+    /// 95: the device doesn't support this.
     NotSupported,
 }
 
@@ -38,14 +38,14 @@ impl Errno {
     }
 }
 
-/// What stands for a run of the disk.
+/// The state of a run of the disk.
 #[derive(Clone, Copy, Debug, PartialEq, Eq)]
 pub enum State {
-    /// Bytes.
+    /// Data.
     Data,
-    /// Zeros that have a place in the file.
+    /// Zeros that are allocated in the file.
     Zero,
-    /// Zeros without a place.
+    /// Zeros that are not allocated.
     Hole,
 }
 
@@ -80,20 +80,20 @@ impl State {
 
 /// A disk of bytes. Offsets, lengths and sizes are in bytes.
 pub trait Device {
-    /// What a contract sees of it.
+    /// The view of the device in contracts.
     ghost view: { Self → DeviceView };
 
-    /// What an answered flush did.
+    /// What a successful flush did.
     ghost Flushed: { Self → Self → Type 0 };
 
-    /// What an answered sync did.
+    /// What a successful sync did.
     ghost Synced: { Self → Self → Type 0 };
 
     /// The size of the disk.
     fn size(&self) -> u64
         ensures { (view self.now).is_sound → result ≡ (view self.now).size };
 
-    /// Whether each change is refused.
+    /// Whether every change is refused.
     fn is_read_only(&self) -> bool
         ensures { result ≡ (view self.now).is_read_only };
 
@@ -103,7 +103,7 @@ pub trait Device {
             (λ done. Shows (view self.old) offset bytes.new × Stays (view self.old) (view self.new))
             (Stays (view self.old) (view self.new)) result };
 
-    /// Writes bytes from an offset on. After a refusal some of them may be there.
+    /// Writes bytes from an offset on. After a refusal some of them may be written.
     fn write(&mut self, offset: u64, bytes: &[u8]) -> Result<(), Errno>
         ensures { Acts (view self.old) (view self.new) (λ done. Writes offset bytes.now (view self.old) (view self.new))
             (MayWrite offset bytes.now (view self.old) (view self.new)) result };
@@ -111,29 +111,29 @@ pub trait Device {
     /// Whether `discard` and `zero` can do anything.
     fn can_clear(&self) -> bool;
 
-    /// Zeroes whole units of a range, as clusters are, and gives their place up. Answers where the first begins and how many bytes were
-    /// zeroed: a front of those that the range has, and 0 where it has none.
+    /// Zeroes whole units of a range, such as clusters, and releases their space. Returns the offset of the first one and the number of bytes that were
+    /// zeroed: the first whole units of the range, and 0 if it has none.
     fn discard(&mut self, offset: u64, length: u64) -> Result<(u64, u64), Errno>
         ensures { Acts (view self.old) (view self.new) (λ part. Clears offset length part (view self.old) (view self.new))
             (Stays (view self.old) (view self.new)) result };
 
-    /// The same, and the place stays theirs where it can.
+    /// Like `discard`, but keeps the space allocated if possible.
     fn zero(&mut self, offset: u64, length: u64) -> Result<(u64, u64), Errno>
         ensures { Acts (view self.old) (view self.new) (λ part. Clears offset length part (view self.old) (view self.new))
             (Stays (view self.old) (view self.new)) result };
 
-    /// What stands for the disk from an offset on, and for how many bytes, up to `max`, it is known so.
+    /// The state of the disk from an offset on, and for how many bytes, up to `max`, it is known to be the same.
     fn look_up(&mut self, offset: u64, max: u64) -> Result<(State, u64), Errno>
         ensures { Acts (view self.old) (view self.new) (λ found. (found.1 ≤ max) × Stays (view self.old) (view self.new))
             (Stays (view self.old) (view self.new)) result };
 
-    /// Hands all that was written on to the file.
+    /// Hands everything that was written to the file.
     fn flush(&mut self) -> Result<(), Errno>
         ensures flushed { OnOk result (Flushed self.old self.new) }
         ensures stays { Acts (view self.old) (view self.new) (λ done. Stays (view self.old) (view self.new))
             (Stays (view self.old) (view self.new)) result };
 
-    /// Returns once what was handed on would outlive a loss of power.
+    /// Returns when everything that was flushed would survive a power loss.
     fn sync(&mut self) -> Result<(), Errno>
         ensures synced { OnOk result (Synced self.old self.new) }
         ensures stays { Acts (view self.old) (view self.new) (λ done. Stays (view self.old) (view self.new))

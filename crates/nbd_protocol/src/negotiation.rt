@@ -11,7 +11,7 @@ use std::alloc::{AllocError, Global};
 use std::io;
 use std::io::{ErrorKind, Read, Write};
 
-// How many bytes of data an option has at most.
+// The greatest length of an option's data.
 const MOST: u32 = 65536;
 
 const ACK: u32 = 1;
@@ -30,27 +30,27 @@ const UNKNOWN: u32 = 0x8000_0006;
 
 const CONTEXT: &[u8] = b"base:allocation";
 
-/// What is served.
+/// The export that is served.
 #[derive(Clone, Copy)]
 pub(crate) struct Export {
     /// The size of the disk, in bytes.
     pub(crate) size: u64,
-    /// What can be done with it.
+    /// The transmission flags.
     pub(crate) flags: u16,
 }
 
-/// What client and server agreed on.
+/// The result of the negotiation.
 #[derive(Clone, Copy)]
 pub(crate) struct Agreed {
     /// Replies are structured.
     pub(crate) structured: bool,
-    /// BLOCK_STATUS may be asked for.
+    /// BLOCK_STATUS is allowed.
     pub(crate) allocation: bool,
-    // No zeros stand behind an export.
+    // No zeros follow the answer to EXPORT_NAME.
     no_zeroes: bool,
 }
 
-/// How it goes on behind an option.
+/// How the negotiation continues after an option.
 #[derive(Clone, Copy, PartialEq, Eq)]
 enum Next {
     Option,
@@ -58,7 +58,7 @@ enum Next {
     End,
 }
 
-/// Agrees with a client on how requests are answered. None where the client wants none.
+/// Negotiates with a client. None if the client ends the negotiation.
 pub(crate) fn negotiate<R: Read, W: Write>(
     alloc: Global,
     reader: &mut R,
@@ -88,7 +88,7 @@ pub(crate) fn negotiate<R: Read, W: Write>(
     Ok(None)
 }
 
-/// Writes bytes, and lets none wait.
+/// Writes bytes, and flushes.
 #[tactic(auto, using(crate::proofs::Sends::appends_keeps))]
 pub(crate) fn send<W: Write>(writer: &mut W, bytes: &[u8]) -> io::Result<()>
     ensures { OnOk result (Appends (W.contents writer.old) (W.contents writer.new) bytes.now) }
@@ -98,7 +98,7 @@ pub(crate) fn send<W: Write>(writer: &mut W, bytes: &[u8]) -> io::Result<()>
     Ok(())
 }
 
-// Reads the flags of a client: whether it wants no zeros behind an export. Others are refused.
+// Reads the flags of a client: whether it wants no zeros after EXPORT_NAME. Other flags are refused.
 fn client_flags<R: Read>(reader: &mut R) -> io::Result<bool> {
     let mut bytes = [0; 4];
     reader.read_exact(&mut bytes)?;
@@ -109,7 +109,7 @@ fn client_flags<R: Read>(reader: &mut R) -> io::Result<bool> {
     }
 }
 
-// Reads an option and its data. One with more data than a client has reason to send is refused.
+// Reads an option and its data. An option with too much data is refused.
 fn next_option<R: Read>(reader: &mut R, room: &mut Vec<u8>) -> io::Result<OptionHeader>
     ensures { OnOk result (length room.new.items ≤ 65536) }
 {
@@ -127,7 +127,7 @@ fn next_option<R: Read>(reader: &mut R, room: &mut Vec<u8>) -> io::Result<Option
     Ok(header)
 }
 
-// Puts the replies to an option at the end.
+// Appends the replies to an option.
 fn answer(
     out: &mut Vec<u8>,
     option: u32,
@@ -162,7 +162,7 @@ fn answer(
     Ok(Next::Option)
 }
 
-// The old way to begin: no reply of its own. Another export ends it.
+// EXPORT_NAME, which has no reply of its own. Another export than the served one ends the connection.
 fn begin(
     out: &mut Vec<u8>,
     name: &[u8],
@@ -185,7 +185,7 @@ fn push_export(out: &mut Vec<u8>, export: Export) -> Result<(), AllocError> {
     Ok(())
 }
 
-// There is one export, whose name is empty.
+// LIST: there is one export, whose name is empty.
 fn list(out: &mut Vec<u8>, option: u32, data: &[u8]) -> Result<(), AllocError> {
     if !data.is_empty() {
         return push_reply(out, option, INVALID, &[]);
@@ -194,7 +194,7 @@ fn list(out: &mut Vec<u8>, option: u32, data: &[u8]) -> Result<(), AllocError> {
     push_reply(out, option, ACK, &[])
 }
 
-// Tells the size of the export and of its requests, and answers whether it is the one that is asked for.
+// Appends the size of the export and of its requests, and returns whether it is the one that is asked for.
 fn inform(out: &mut Vec<u8>, option: u32, data: &[u8], export: Export) -> Result<bool, AllocError> {
     match export_name(data) {
         None => {
@@ -221,7 +221,7 @@ fn inform(out: &mut Vec<u8>, option: u32, data: &[u8], export: Export) -> Result
     }
 }
 
-// Puts the one context at the end, by a number.
+// Appends the only context, with a number.
 fn push_context(out: &mut Vec<u8>, option: u32, number: u32) -> Result<(), AllocError> {
     let mut data = [0; 19];
     data[..4].copy_from_slice(&number.to_be_bytes());
@@ -229,7 +229,7 @@ fn push_context(out: &mut Vec<u8>, option: u32, number: u32) -> Result<(), Alloc
     push_reply(out, option, META, &data)
 }
 
-// Reads which contexts of the export are asked for, or puts a refusal at the end.
+// Reads which contexts of the export are asked for, or appends a refusal.
 fn asked_contexts(
     out: &mut Vec<u8>,
     option: u32,
@@ -264,7 +264,7 @@ fn list_contexts(
     Ok(())
 }
 
-// Answers whether the context is set.
+// SET_META_CONTEXT: returns whether the context is set.
 fn set_contexts(
     out: &mut Vec<u8>,
     option: u32,

@@ -6,7 +6,7 @@ ghost use Rattle.nbd_protocol.specs.Options.{header_in, kind_of, name_in, option
 use crate::reading::{string_at, u16_at, u32_at, u64_at};
 use std::alloc::AllocError;
 
-/// How long an option is, in bytes, without its data.
+/// The length of an option's header, in bytes.
 pub(crate) const OPTION: usize = 16;
 
 const MAGIC: u64 = 0x4e42_444d_4147_4943;
@@ -15,10 +15,10 @@ const OPTION_MAGIC: u64 = 0x4948_4156_454f_5054;
 
 const REPLY_MAGIC: u64 = 0x0003_e889_0455_65a9;
 
-// Fixed newstyle, and no zeros behind an export.
+// Fixed newstyle, and no zeros after EXPORT_NAME.
 const FLAGS: u16 = 3;
 
-/// What a client asks for before it sends requests.
+/// The options of a client.
 #[derive(Clone, Copy)]
 pub(crate) enum Kind {
     ExportName,
@@ -32,7 +32,7 @@ pub(crate) enum Kind {
     Unknown,
 }
 
-/// An option by its number, and how many bytes of data follow.
+/// An option, and the length of its data.
 #[derive(Clone, Copy)]
 pub(crate) struct OptionHeader {
     pub(crate) option: u32,
@@ -56,7 +56,7 @@ pub(crate) fn kind_of(number: u32) -> Kind
     }
 }
 
-/// Reads what stands in front of an option's data; None where the bytes are no option.
+/// Reads the header of an option; None if the bytes are none.
 #[tactic(auto, unfolding(crate::specs::Options::header_in))]
 pub(crate) fn option_header(bytes: &[u8]) -> Option<OptionHeader>
     ensures { result ≡ header_in bytes.now }
@@ -70,7 +70,7 @@ pub(crate) fn option_header(bytes: &[u8]) -> Option<OptionHeader>
     Some(OptionHeader { option, length })
 }
 
-/// The export's name in the data of INFO and GO.
+/// The name of the export in the data of INFO and GO.
 #[tactic(auto, unfolding(crate::specs::Options::name_in))]
 pub(crate) fn export_name(bytes: &[u8]) -> Option<&[u8]>
     ensures { option_map (λ x. x.now) result ≡ name_in bytes.now }
@@ -83,16 +83,16 @@ pub(crate) fn export_name(bytes: &[u8]) -> Option<&[u8]>
     Some(name)
 }
 
-/// What the data of LIST_META_CONTEXT and SET_META_CONTEXT ask for.
+/// The data of LIST_META_CONTEXT and SET_META_CONTEXT.
 #[derive(Clone, Copy)]
 pub(crate) struct Contexts {
-    /// The export is the one that is served: its name is empty.
+    /// The export is the served one: its name is empty.
     pub(crate) is_served: bool,
     /// There is no query.
     pub(crate) is_empty: bool,
     /// The context `base:allocation` is named.
     pub(crate) allocation: bool,
-    /// All contexts that begin with `base:` are.
+    /// All contexts that begin with `base:` are named.
     pub(crate) base: bool,
 }
 
@@ -130,7 +130,7 @@ fn push_head(out: &mut Vec<u8>, option: u32, kind: u32, length: u32) -> Result<(
     Ok(())
 }
 
-/// Puts a reply to an option at the end.
+/// Appends a reply to an option.
 pub(crate) fn push_reply(
     out: &mut Vec<u8>,
     option: u32,
@@ -145,7 +145,7 @@ pub(crate) fn push_reply(
     Ok(())
 }
 
-/// Puts what a server says first at the end.
+/// Appends the greeting of the server.
 pub(crate) fn push_greeting(out: &mut Vec<u8>) -> Result<(), AllocError> {
     out.extend_from_slice(&MAGIC.to_be_bytes())?;
     out.extend_from_slice(&OPTION_MAGIC.to_be_bytes())?;

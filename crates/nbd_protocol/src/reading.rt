@@ -1,4 +1,4 @@
-//! Fields of the protocol: big-endian numbers, and strings with their length in front.
+//! Fields of the protocol: big-endian numbers, and strings with their lengths before them.
 ghost use Rattle.std.specs.Prelude.{◌≡◌};
 ghost use Rattle.std.specs.Int.{w16, w32, w64};
 ghost use Rattle.std.specs.Option.{option_map};

@@ -1,4 +1,4 @@
-//! Replies to requests, as bytes.
+//! Encoding replies to requests.
 ghost use Rattle.std.specs.Prelude.{◌≡◌, ◌+◌, ◌*◌, ◌^◌, ◌<◌, ◌++◌, length, OnOk};
 ghost use Rattle.std.specs.List.{flat_map};
 ghost use Rattle.nbd_protocol.specs.Replies.{simple_reply, chunk_start, chunk_head, done_reply, error_reply, status_reply, read_head, extent_bytes, extents_reply};
@@ -88,7 +88,7 @@ fn push_error(
     Ok(())
 }
 
-/// Puts the reply to a request without an answer of its own at the end.
+/// Appends the reply to a request without a payload in its reply.
 pub(crate) fn push_status(
     out: &mut Vec<u8>,
     structured: bool,
@@ -103,7 +103,7 @@ pub(crate) fn push_status(
     }
 }
 
-/// Puts what stands in front of bytes that were read at the end.
+/// Appends what comes before the bytes of a read.
 pub(crate) fn push_read_head(
     out: &mut Vec<u8>,
     structured: bool,
@@ -122,7 +122,7 @@ pub(crate) fn push_read_head(
     Ok(())
 }
 
-/// Puts the reply that tells runs of the disk at the end.
+/// Appends the reply to BLOCK_STATUS.
 pub(crate) fn push_extents(
     out: &mut Vec<u8>,
     cookie: u64,

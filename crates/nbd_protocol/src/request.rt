@@ -4,12 +4,12 @@ ghost use Rattle.nbd_protocol.specs.Requests.{command_of, flags_of, request_in};
 
 use crate::reading::{u16_at, u32_at, u64_at};
 
-/// How long a request is, in bytes, without the payload of a write.
+/// The length of a request, in bytes, without the payload of a write.
 pub(crate) const REQUEST: usize = 28;
 
 const MAGIC: u32 = 0x2560_9513;
 
-/// What is to be done.
+/// The command of a request.
 #[derive(Clone, Copy)]
 pub(crate) enum Command {
     Read,
@@ -23,20 +23,20 @@ pub(crate) enum Command {
     Unknown,
 }
 
-/// How it is to be done.
+/// The flags of a request.
 #[derive(Clone, Copy)]
 pub(crate) struct Flags {
-    /// FUA: the reply comes once the change would outlive a loss of power.
+    /// FUA: the reply comes when the change would survive a power loss.
     pub(crate) durable: bool,
-    /// NO_HOLE: zeros keep their place in the file.
+    /// NO_HOLE: zeros stay allocated in the file.
     pub(crate) keeps_place: bool,
-    /// REQ_ONE: one extent is asked for.
+    /// REQ_ONE: only one extent is asked for.
     pub(crate) one_extent: bool,
-    /// A bit is set that the protocol doesn't define.
+    /// A bit that the protocol doesn't define is set.
     pub(crate) unknown: bool,
 }
 
-/// A request for a range of the disk, in bytes. The cookie is the client's, and comes back in the reply.
+/// A request for a range of the disk, in bytes. The client chose the cookie, which comes back in the reply.
 #[derive(Clone, Copy)]
 pub(crate) struct Request {
     pub(crate) flags: Flags,
@@ -73,7 +73,7 @@ fn flags_of(bits: u16) -> Flags
     }
 }
 
-/// Reads a request; None where the bytes are none.
+/// Reads a request; None if the bytes are none.
 #[tactic(auto, unfolding(crate::specs::Requests::request_in))]
 pub(crate) fn decode(bytes: &[u8]) -> Option<Request>
     ensures { result ≡ request_in bytes.now }

@@ -1,4 +1,4 @@
-//! Requests, answered one after the other.
+//! Answering requests, one after another.
 ghost use Rattle.std.specs.Prelude.{◌≡◌, ◌⊎◌, ◌≤◌, IfOk, IsTrue, OnOk, Ok, Err, length, true};
 ghost use Rattle.std.specs.Io.KnownBytes.{Appends, Consumes};
 ghost use Rattle.nbd_protocol.specs.Commands.{Does, MayDo, PersistsLast, end_of};
@@ -15,17 +15,17 @@ use std::alloc::Global;
 use std::io;
 use std::io::{ErrorKind, Read, Write};
 
-// Flags of an export: it has flags, and FLUSH, FUA, TRIM, WRITE_ZEROES and CACHE.
+// The transmission flags: HAS_FLAGS, FLUSH, FUA, TRIM, WRITE_ZEROES and CACHE.
 const WRITABLE: u16 = 1 + 4 + 8 + 32 + 64 + 1024;
 
-// It has flags, is read-only, and has FLUSH and CACHE.
+// The transmission flags of a read-only export: HAS_FLAGS, READ_ONLY, FLUSH and CACHE.
 const READ_ONLY: u16 = 1 + 2 + 4 + 1024;
 
 // How many bytes are skipped at once.
 const SKIPPED: usize = 4096;
 
-/// Serves a device to one client: agrees with it, and answers its requests in their order. Ends where the client disconnects or its input
-/// ends, and then flushes and syncs the device. An error tells that the client broke the protocol, or couldn't be read or written.
+/// Serves a device to one client: negotiates, and answers its requests in order. Ends when the client disconnects or its input
+/// ends, and then flushes and syncs the device. An error means that the client broke the protocol, or could not be read or written.
 pub fn serve<R: Read, W: Write, D: Device>(
     alloc: Global,
     reader: &mut R,
@@ -44,7 +44,7 @@ pub fn serve<R: Read, W: Write, D: Device>(
     }
 }
 
-// That a client's input ends is no error.
+// The end of a client's input is no error.
 fn ended(talked: io::Result<()>) -> io::Result<()> {
     match talked {
         Err(e) if e.kind() == ErrorKind::UnexpectedEof => Ok(()),
@@ -52,7 +52,7 @@ fn ended(talked: io::Result<()>) -> io::Result<()> {
     }
 }
 
-// Agrees with a client, and answers its requests.
+// Negotiates with a client, and answers its requests.
 fn talk<R: Read, W: Write, D: Device>(
     alloc: Global,
     reader: &mut R,
@@ -74,7 +74,7 @@ fn talk<R: Read, W: Write, D: Device>(
     }
 }
 
-// Room for a payload and for a reply, which grows to the greatest ones.
+// Buffers for a payload and for a reply, which grow up to the greatest ones.
 #[derive(Drop)]
 struct Room {
     payload: Vec<u8>,
@@ -110,7 +110,7 @@ fn answer_all<R: Read, W: Write, D: Device>(
     Ok(())
 }
 
-// Takes the payload of a write, and answers it.
+// Reads the payload of a write, and answers it.
 fn answer_write<R: Read, W: Write, D: Device>(
     reader: &mut R,
     writer: &mut W,
@@ -157,7 +157,7 @@ fn next_request<R: Read>(reader: &mut R) -> io::Result<Request> {
     }
 }
 
-// Reads the payload of a write, and answers whether there was memory for it; where there was none it is skipped. One that is too long is
+// Reads the payload of a write, and returns whether there was memory for it; if not, it is skipped. A payload that is too long is
 // refused, and nothing of it is read.
 fn take_payload<R: Read>(reader: &mut R, count: u32, buffer: &mut Vec<u8>) -> io::Result<bool>
     ensures bounded { length buffer.new.items ≤ 33554432 ⊎ (buffer.new.items ≡ buffer.old.items) }
@@ -176,7 +176,7 @@ fn take_payload<R: Read>(reader: &mut R, count: u32, buffer: &mut Vec<u8>) -> io
     Ok(true)
 }
 
-// Reads so many bytes, and keeps none.
+// Reads and drops this many bytes.
 fn skip<R: Read>(reader: &mut R, length: u32) -> io::Result<()> {
     let mut bytes = [0; SKIPPED];
     let mut rest = length as usize;
@@ -205,7 +205,7 @@ fn refuse<W: Write>(
     Ok(())
 }
 
-// Does what a request asks that has no answer of its own, and tells the client what came of it.
+// Does what a request without a payload in its reply asks for, and sends the reply.
 fn answer<W: Write, D: Device>(
     writer: &mut W,
     device: &mut D,
@@ -231,7 +231,7 @@ fn answer<W: Write, D: Device>(
     Ok(status)
 }
 
-// Answers a read by the disk's bytes, or by an error.
+// Answers a read with the bytes of the disk, or with an error.
 fn answer_read<W: Write, D: Device>(
     writer: &mut W,
     device: &mut D,
@@ -288,7 +288,7 @@ fn send_bytes<W: Write>(
     Ok(())
 }
 
-// Answers by what stands for a range of the disk, or by an error.
+// Answers BLOCK_STATUS with the runs of the range, or with an error.
 fn answer_extents<W: Write, D: Device>(
     alloc: Global,
     writer: &mut W,
