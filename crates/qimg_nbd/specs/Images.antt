@@ -9,12 +9,12 @@ use Rattle.qcow2_image.specs.Image.{is_failed, is_writable}
 use Rattle.qcow2_image.specs.ImageInvariant.{abstract_of}
 use Rattle.nbd_protocol.specs.Devices.{DeviceView}
 
--- a byte that can be read
+-- The byte of a value, if it can be read.
 abbrev pub byte_of : Value → Option ℕ
 byte_of (known_byte b) = Some b
 byte_of (compressed_byte bytes place) = None
 
--- the disk that a guest sees, while no mapping is prepared
+-- The device of an image: the disk of its guest, while no mapping is prepared.
 abbrev pub device_of : {S F : Type 0} → (S → StorageView) → (F → BackingView) → Qcow2 S F → DeviceView
 device_of view backing image = let v = abstract_of view backing image [] in record {
   is_sound = v.is_sound;

@@ -1,9 +1,9 @@
--- What the words after the program's name ask for.
+-- The meaning of the words after the program's name.
 use Rattle.std.specs.Prelude.{ℕ, Bool, true, false, codes, List, [], ◌∷◌, Option, Some, None, if◌then◌else◌}
 use Rattle.std.specs.Str.{bytes_eq}
 use Rattle.qimg_nbd.specs.declared.words.Invocation.{Invocation}
 
--- a file, and whether nothing in it may change
+-- A file, and whether it is only read.
 pub record Asked : Type 0 where
   pub file : List ℕ
   pub read_only : Bool
@@ -11,7 +11,7 @@ pub record Asked : Type 0 where
 abbrev pub asked : Invocation → Asked
 asked i = record { file = i.file.now; read_only = i.read_only }
 
--- `FILE` or `-r FILE`; nothing else is read
+-- `FILE` or `-r FILE`. Nothing else is accepted.
 abbrev pub asked_by_words : List (List ℕ) → Option Asked
 asked_by_words (file ∷ []) = Some (record { file = file; read_only = false })
 asked_by_words (option ∷ file ∷ []) = if bytes_eq option (codes "-r") then Some (record { file = file; read_only = true }) else None

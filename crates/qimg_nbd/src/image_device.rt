@@ -8,13 +8,13 @@ use nbd_protocol::{Device, Errno, State};
 use qcow2_image::{ImageError, MappingKind, Qcow2};
 use qcow2_session::{read_into, write};
 
-/// An image that a server serves.
+/// An image as a device for a server.
 pub struct ImageDevice<S: Storage, F: WrappedFormat<S>> {
     image: Qcow2<S, F>,
 }
 
 impl<S: Storage, F: WrappedFormat<S>> ImageDevice<S, F> {
-    /// Serves an image.
+    /// A device for an image.
     pub fn new(image: Qcow2<S, F>) -> Self
         ensures { result.image ≡ image }
     {
@@ -30,8 +30,8 @@ impl<S: Storage, F: WrappedFormat<S>> ImageDevice<S, F> {
     }
 }
 
-// The error that a client is told of a refusal: 12 of memory, 28 where no place is left, 1 of a read-only image, 22 of a range beyond the
-// size, and 5 of all others.
+// The error for a refusal that a client is sent: 12 for memory, 28 for lack of room, 1 for a read-only image, 22 for a range beyond the
+// size, and 5 for all others.
 fn errno_of(refusal: &ImageError) -> Errno {
     match refusal {
         ImageError::ReadOnly => Errno::NotPermitted,
@@ -42,7 +42,7 @@ fn errno_of(refusal: &ImageError) -> Errno {
     }
 }
 
-// What a run of the disk is told as. Zeros that the image names may have a place.
+// The state for the mapping of a run. Zero clusters may be allocated.
 fn state_of(kind: &MappingKind) -> State {
     match kind {
         MappingKind::Zero { explicit: true } => State::Zero,

@@ -15,16 +15,16 @@ use std::io;
 use std::io::{BufReader, BufWriter, Write};
 use std::process::ExitCode;
 
-// The client was served.
+// The exit status after a client was served.
 const DONE: u8 = 0;
 
-// The image couldn't be opened, served or kept.
+// The exit status if the image could not be opened, served or kept.
 const FAILED: u8 = 1;
 
-// The words couldn't be read.
+// The exit status if the words can't be read.
 const UNREADABLE: u8 = 2;
 
-// The words after the program's name. One that isn't UTF-8 can't be read, and then there are none.
+// The words after the program's name. If one isn't UTF-8, there are none.
 fn given_words(rt: &HostRuntime) -> io::Result<Vec<String>> {
     let mut given = Vec::new(rt.alloc());
     match std::env::args(rt) {
@@ -39,7 +39,7 @@ fn given_words(rt: &HostRuntime) -> io::Result<Vec<String>> {
     Ok(given)
 }
 
-// Tells on standard error what is wrong with a file, and answers the exit status.
+// Reports on standard error what is wrong with a file, and returns the exit status.
 fn report<E: Display>(rt: &HostRuntime, file: &str, cause: &E) -> u8 {
     let _ = writeln!(rt.stderr(), "qimg-nbd: {file}: {cause}");
     FAILED
@@ -53,7 +53,7 @@ fn open_storage(rt: &HostRuntime, invocation: &Invocation<'_>) -> io::Result<Fil
     }
 }
 
-// An image that needs another file is refused.
+// Serves a file. An image that needs another file is refused.
 fn serve_file(rt: &HostRuntime, invocation: &Invocation<'_>) -> u8 {
     let file = invocation.file;
     let storage = match open_storage(rt, invocation) {

@@ -3,17 +3,17 @@ ghost use Rattle.std.specs.Prelude.{◌≡◌, map, string_bytes};
 ghost use Rattle.std.specs.Option.{option_map};
 ghost use Rattle.qimg_nbd.specs.Words.{asked, asked_by_words};
 
-/// The line that is printed where the words are not understood.
+/// The line that is printed if the words can't be read.
 pub const USAGE: &str = "usage: qimg-nbd [-r] FILE";
 
-/// What the words ask for: a file, and whether nothing in it may change.
+/// A file, and whether it is only read.
 #[derive(Clone, Copy)]
 pub struct Invocation<'a> {
     pub file: &'a str,
     pub read_only: bool,
 }
 
-/// Reads the words after the program's name; None where they can't be read.
+/// Reads the words after the program's name; None if they can't be read.
 pub fn words(words: &[String]) -> Option<Invocation<'_>>
     ensures { option_map asked result ≡ asked_by_words (map string_bytes words.now) }
 {
