@@ -1,4 +1,4 @@
-//! A block server: one request of a client after the other, on one open image.
+//! A block server: requests of a client, one after another, on one open image.
 use image_access::Storage;
 use qcow2_image::{ImageError, Qcow2};
 use qcow2_session::{read, write};
@@ -6,7 +6,7 @@ use std::alloc::Global;
 
 const CHUNK: u64 = 65536;
 
-/// What a client asks for.
+/// A request of a client.
 #[derive(Drop)]
 pub enum Request {
     Read { offset: u64, length: u64 },
@@ -16,7 +16,7 @@ pub enum Request {
     Flush,
 }
 
-/// Does what is asked, and answers the bytes that were read. A refusal's number goes to the client, who asks `size` for the disk's size.
+/// Answers a request, with the bytes that were read. The number of a refusal goes to the client, who asks `size` for the disk's size.
 pub fn serve<S: Storage>(
     alloc: Global,
     image: &mut Qcow2<S>,
@@ -43,7 +43,7 @@ fn write_all<S: Storage>(
     }
 }
 
-// Lets a range read as zeros: whole clusters by a mark of their entry, the rest by written zeros. Version 2 has no such mark.
+// Makes a range read as zeros: whole clusters as zero clusters, the rest by written zeros. Version 2 has no zero clusters.
 fn zero<S: Storage>(
     alloc: Global,
     image: &mut Qcow2<S>,
@@ -95,7 +95,7 @@ fn write_zeros<S: Storage>(
     }
 }
 
-// Frees the whole clusters of a range. What cannot be freed stays.
+// Frees the whole clusters of a range. Other bytes stay.
 fn discard<S: Storage>(image: &mut Qcow2<S>, offset: u64, length: u64) -> Result<(), ImageError> {
     let mut at = offset;
     let mut rest = length;

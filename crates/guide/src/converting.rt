@@ -1,4 +1,4 @@
-//! A raw disk becomes an image, and an image a raw disk.
+//! Converting a raw disk to an image, and an image to a raw disk.
 use crate::opening::make;
 use image_access::Storage;
 use qcow2_image::{ImageError, Qcow2};
@@ -18,7 +18,7 @@ pub fn import<R: Storage, S: Storage>(
     Ok(image)
 }
 
-/// Makes a raw disk of an image, and answers its size.
+/// Makes a raw disk from an image, and returns its size.
 pub fn export<S: Storage, R: Storage>(
     alloc: Global,
     image: &mut Qcow2<S>,

@@ -1,4 +1,4 @@
-//! A chain manager: what an overlay has itself is written into the image below it.
+//! A chain manager, which merges an overlay into the image below it.
 use image_access::Storage;
 use qcow2_image::{ImageError, MappingKind, Qcow2};
 use qcow2_session::{read, write};
@@ -6,7 +6,7 @@ use std::alloc::Global;
 
 const CHUNK: u64 = 65536;
 
-// Writes bytes of one range, or answers why not.
+// Writes the bytes of a range, or returns why not.
 fn write_all<S: Storage>(
     image: &mut Qcow2<S>,
     offset: u64,
@@ -18,7 +18,7 @@ fn write_all<S: Storage>(
     }
 }
 
-// Whether the image has the range itself: not the disk below it, and not nothing.
+// Whether the image has the range itself: it is neither unmapped nor one of the backing disk.
 fn is_own(kind: &MappingKind) -> bool {
     !matches!(
         kind,
@@ -26,7 +26,7 @@ fn is_own(kind: &MappingKind) -> bool {
     )
 }
 
-/// Writes what the overlay has itself into the image below, and flushes. Both have the same size.
+/// Writes the ranges that the overlay has itself into the image below, and flushes. Both have the same size.
 pub fn merge<S: Storage, T: Storage>(
     alloc: Global,
     overlay: &mut Qcow2<S>,

@@ -1,4 +1,4 @@
-//! Examples of programs over the driver, as `docs/GUIDE.md` tells them.
+//! The examples of `docs/GUIDE.md`: programs that use the driver.
 #![tactic(auto)]
 
 pub mod block_server;

@@ -1,9 +1,9 @@
-//! Opening an image in a storage, or making one.
+//! Opening and creating an image.
 use image_access::Storage;
 use qcow2_image::{ImageError, Qcow2, Qcow2CreateBuilder};
 use std::alloc::Global;
 
-/// Opens an image for writing. Images that are open together have different numbers.
+/// Opens an image for writing. Images that are open together must have different numbers.
 pub fn open<S: Storage>(alloc: Global, storage: S, number: u64) -> Result<Qcow2<S>, ImageError> {
     match Qcow2::builder(storage, number).write(true).open(alloc) {
         Ok(image) => Ok(image),
@@ -11,7 +11,7 @@ pub fn open<S: Storage>(alloc: Global, storage: S, number: u64) -> Result<Qcow2<
     }
 }
 
-/// Makes an image of so many bytes, in clusters of 65,536 bytes, and opens it.
+/// Creates an image of this size, with clusters of 65,536 bytes, and opens it.
 pub fn make<S: Storage>(
     alloc: Global,
     storage: S,

@@ -1,10 +1,10 @@
-//! An image over another disk.
+//! Opening an overlay.
 use image_access::{Storage, WrappedFormat};
 use qcow2_image::{ImageError, Qcow2};
 use std::alloc::Global;
 
-/// Opens an image for writing over the disk below it, which is read where the image has nothing of its own, and never written. An image
-/// whose data stand in another file is refused, and stays as it is.
+/// Opens an image for writing over its backing disk, which is read where the image is unmapped, and never written. An image
+/// with a data file is refused, and stays unchanged.
 pub fn open_over<S: Storage, F: WrappedFormat<S>>(
     alloc: Global,
     storage: S,
