@@ -82,7 +82,7 @@ module _ {K V : Type 0} where
   abbrev pub OthersStay : (K → K → Bool) → K → List (K × Slot V) → List (K × Slot V) → Type 0
   OthersStay eq k es fs = (j : K) → eq k j ≡ false → IsSome (lookup (eq j) fs) → lookup (eq j) fs ≡ lookup (eq j) es
 
-  -- Each key keeps its pins.
+  -- Each key keeps its pins, and if no entry was pinned, none is.
   pub record KeepsPins (eq : K → K → Bool) (es fs : List (K × Slot V)) : Type 0 where
     pub pins : (k : K) → pins_at (eq k) fs ≡ pins_at (eq k) es
     pub free : pinned es ≡ [] → pinned fs ≡ []

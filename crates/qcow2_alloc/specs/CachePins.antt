@@ -21,7 +21,7 @@ module _ {S : Type 0} where
   abbrev pub l2_pins : MetadataCaches S → ℕ → ℕ
   l2_pins caches cluster = option_map_or (λ s. s.pins) (lookup (λ k. cluster == k) caches.l2.entries) 0
 
-  -- The caches always have room: no refblock is pinned, and there is room for an L2 table unless all are pinned.
+  -- Both caches have a size above 0, and no refblock is pinned. So there is always room for a refblock, and for an L2 table unless all are pinned.
   pub record CachesHaveRoom (caches : MetadataCaches S) : Type 0 where
     pub tables : 0 < caches.l2.size
     pub some : 0 < caches.rb.size

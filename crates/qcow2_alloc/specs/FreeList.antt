@@ -73,7 +73,7 @@ pub record FillsClusters (t : EntryTableView) : Type 0 where
   pub whole : entry_count t % (2 ^ t.cluster_bits / 8) ≡ 0
   pub elsewhere : IfSome t.cluster (λ c. 0 < c)
 
--- The reftable was replaced by a longer one, possibly several times. Each one fills whole clusters of the same size. These entries are the clusters of the old ones.
+-- The reftable was replaced by a longer one, any number of times. Each one fills whole clusters of the same size. These entries are the clusters of the old ones.
 abbrev pub GaveWay : EntryTableView → List ClustersToFreeEntry → EntryTableView → Type 0
 GaveWay old [] new = SamePlace old new
 GaveWay old (e ∷ es) new = IsRunOfTable old e × (next : EntryTableView) × (entry_count old < entry_count next) × (next.cluster_bits ≡ old.cluster_bits) × FillsClusters next × GaveWay next es new

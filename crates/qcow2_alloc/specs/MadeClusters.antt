@@ -54,7 +54,7 @@ module _ {S : Type 0} (view : S → StorageView) where
   abbrev pub ListsUsed : ImageFile S → ImageFile S → Type 0
   ListsUsed old new = (k : ℕ) → IsListedSince old.free_list new.free_list k → IsUsed view old k
 
-  -- The refcount of a cluster is higher by at least as often as it was put on the list, not counting once for clusters of the old reftable. So a listed cluster was allocated in the call, or the old reftable lay there.
+  -- The refcount of a cluster rises at least as often as it is put on the list, or once less for a cluster of the old reftable. So a listed cluster was allocated in the call, or the old reftable lay there.
   abbrev pub CountsListed : ImageFile S → ImageFile S → Type 0
   CountsListed old new = (k : ℕ) → count old.header.fields (known_in view old) k + listed_at new.free_list k ≤ count new.header.fields (known_in view new) k + listed_at old.free_list k + reftable_at old.header.fields k
 

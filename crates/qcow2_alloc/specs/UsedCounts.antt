@@ -36,7 +36,7 @@ module _ {S : Type 0} where
   abbrev pub TellsFirstFree : MetadataCaches S → ℕ → ℕ → ℕ → Type 0
   TellsFirstFree caches block index n = IfSome (rb_at caches block) (λ b. index ≤ counts_of b → IsFirstZero b index (index + n))
 
-  -- The refblock of the cluster's range is cached, and the cluster's refcount is 0, or the refblock is not one of such an image.
+  -- The refblock of the cluster's range is cached, and the refcount of `next` in it is 0, or the refblock is not one of such an image.
   abbrev pub IsHeldFree : HeaderFields → EntryTableView → MetadataCaches S → ℕ → ℕ → Type 0
   IsHeldFree h reftable caches cluster next =
       (block : ℕ) × (b : RefBlockView) × NamesBlock h reftable (cluster / counts_per_block h) (Some block) × (rb_at caches block ≡ Some b) × (IsBlockOf h b → count_at b (next % counts_per_block h) ≡ 0)
