@@ -1,4 +1,4 @@
--- What calls in turn do, whatever they return.
+-- What several calls do, one after another, whatever they return.
 use Rattle.std.proofs.Common.{◌⊎◌, inl, inr, Result, Ok, Err}
 use Rattle.std.specs.Result.{IsErrAnd}
 use Rattle.std.specs.Prelude.{IsTrue}
