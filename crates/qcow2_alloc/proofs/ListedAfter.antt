@@ -1,4 +1,4 @@
--- What a longer reftable changes beside itself: the header says where it stands, and what the old one needed is listed. And what follows one such step after another.
+-- What a longer reftable changes besides itself: the header points to it, and the clusters of the old one are listed. And what follows from several such steps.
 use Rattle.qcow2_alloc.specs.ImageStorage.{is_changed_of}
 use Rattle.std.proofs.lemmas.Bool.{or_right}
 use Rattle.std.proofs.Common.{◌≡◌, ℕ, ◌+◌, ◌<◌, Bool, true, false, List, [], ◌++◌, append_assoc, append-nil, Result, Ok, Err, IsTrue, inl, inr, refl, sym, ap, ◌∙◌, subst, arith}

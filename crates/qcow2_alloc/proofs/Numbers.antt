@@ -1,4 +1,4 @@
--- The size, and the places of the L1 table and the reftable, are written over the header that stands on the storage, whatever its names are.
+-- The size, and the pointers to the L1 table and the reftable, are written to the header on the storage, whatever its names are.
 use Rattle.std.proofs.Common.{ℕ, ◌*◌, ◌^◌, ◌<◌, ◌≤◌, List, refl, sym, subst, arith}
 use Rattle.image_access.specs.Moments.{StorageView}
 use Rattle.qcow2_metadata.specs.Bytes.{byte_at}

@@ -1,4 +1,4 @@
--- A longer reftable is written behind its refblocks, and stands ready then.
+-- A longer reftable is written behind its refblocks, and is ready then.
 use Rattle.std.proofs.Common.{◌≡◌, ℕ, ◌+◌, ◌*◌, ◌/◌, ◌%◌, ◌<◌, ◌≤◌, List, Option, None, Some, Result, Ok, Err, refl, sym, ap, ◌∙◌, subst, arith, inl, inr}
 use Rattle.std.specs.Option.{option_map}
 use Rattle.std.proofs.lemmas.Nat.{mod_below}

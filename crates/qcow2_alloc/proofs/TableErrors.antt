@@ -1,4 +1,4 @@
--- A lower layer's error becomes one that stands in the way of tables.
+-- The error of a lower layer becomes a refusal of tables.
 use Rattle.image_access.specs.declared.error.StorageError.{StorageError}
 use Rattle.image_access.specs.declared.error.StorageError.TheVariants as S
 use Rattle.qcow2_metadata.specs.declared.error.MetadataError.{MetadataError}

@@ -1,4 +1,4 @@
--- Calls of the caches leave cluster 0 alone where no cached table stands there.
+-- If no cached table lies in cluster 0, calls of the caches leave that cluster the same.
 use Rattle.std.proofs.Common.{◌≡◌, inl, inr, ℕ, ◌*◌, ◌<◌, ◌^◌, Bool, true, false, cond, eqb, List, [], ◌∷◌, Option, Some, None, Result, Ok, Err, IsSome, refl, sym, ap, ◌∙◌, subst, arith}
 use Rattle.std.specs.Option.{IfSome, IsNone, option_map, option_map_or, option_or}
 use Rattle.std.specs.Map.{lookup, lookup_entry, remove_entry, set_value}

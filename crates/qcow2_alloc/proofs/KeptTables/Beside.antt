@@ -1,4 +1,4 @@
--- Bytes are written where no table stands: what is kept of the caches is kept over the new bytes.
+-- A write to bytes that belong to no table keeps the invariant of the caches.
 use Rattle.std.proofs.Common.{◌≡◌, ◌⊎◌, inl, inr, ℕ, ◌/◌, ◌<◌, refl, sym, ap, ◌∙◌, subst, arith}
 use Rattle.qcow2_metadata.specs.Bytes.{Bytes}
 use Rattle.qcow2_metadata.specs.declared.header.HeaderFields.{HeaderFields}

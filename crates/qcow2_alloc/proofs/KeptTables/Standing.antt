@@ -1,4 +1,4 @@
--- The modified tables of a cache stand where the image has tables, whatever is flushed, loaded or put in. So flushes and loads are refused by the storage or for memory.
+-- The modified tables of a cache lie where the image has tables, whatever is flushed, loaded or inserted. So flushes and loads are refused only by the storage or because memory runs out.
 use Rattle.std.proofs.Common.{◌≡◌, ◌⊎◌, inl, inr, ℕ, ◌+◌, ◌*◌, ◌/◌, ◌^◌, ◌≤◌, Bool, true, false, ◌&&◌, cond, eqb, List, [], ◌∷◌, ◌++◌, length, Option, Some, None, Result, Ok, Err, IfErr, refl, sym, ap, ◌∙◌, subst, arith}
 use Rattle.std.proofs.lemmas.Bool.{cases_Bool, cases_eq}
 use Rattle.std.specs.Option.{option_map_or, option_or, IfSome}

@@ -1,4 +1,4 @@
--- Calls of the caches one after another, and turns of the direction.
+-- Calls of the caches one after another, and changes of the order of writes.
 use Rattle.std.proofs.Common.{◌≡◌, ◌⊎◌, inl, inr, List, ℕ, Result, Ok, Err, OnOk, refl, sym, ◌∙◌, subst}
 use Rattle.image_access.specs.Moments.{StorageView, EachMomentSince, IsLeftBy}
 use Rattle.image_access.proofs.EachMomentSince.{passes_none, passes_on, passes_if}
