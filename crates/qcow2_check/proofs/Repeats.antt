@@ -1,4 +1,4 @@
--- A table that is read once for all its places, which stand one after the other.
+-- A table that is read once for all references to it, which follow each other.
 use Rattle.std.proofs.Common.{◌≡◌, ℕ, ◌+◌}
 use Rattle.qcow2_check.specs.declared.tally_map.TallyMap.{TallyMap}
 use Rattle.qcow2_check.specs.Tallies.{tally_in}
