@@ -1,4 +1,4 @@
--- Where the rest of a header stays, so do its names and its extensions, and the bits of its counts.
+-- If the rest of a header stays the same, the names, the extensions and the refcount width do too.
 use Rattle.std.proofs.Common.{◌≡◌, ℕ, ◌+◌, ◌^◌, ◌<◌, ◌≤◌, ◌==◌, inl, inr, List, Some, None, Option, sym, ap, ◌∙◌, subst, arith, if◌then◌else◌}
 use Rattle.std.proofs.lemmas.Bool.{eq-eqb}
 use Rattle.std.proofs.Math.Pow.{pow_mono}
