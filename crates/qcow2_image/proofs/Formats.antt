@@ -1,4 +1,4 @@
--- What of an image stays where its header does, but perhaps for where the reftable stands.
+-- What stays the same in an image if its header does, except the pointer to the reftable.
 use Rattle.std.proofs.Common.{◌≡◌, ℕ, sym, ◌∙◌, subst}
 use Rattle.std.specs.Prelude.{Option, None, Some}
 use Rattle.qcow2_metadata.specs.Bytes.{Bytes}

@@ -1,4 +1,4 @@
--- Prepared mappings stand ready where what stands for guest clusters stays, and so do the L2 tables that are marked copied.
+-- Prepared mappings stay ready if the mappings of guest clusters stay the same, and so do the L2 tables that are marked copied.
 use Rattle.std.proofs.Common.{◌≡◌, ℕ, ◌+◌, ◌/◌, sym, ap, ◌∙◌, subst}
 use Rattle.std.specs.Prelude.{Option, Some, None, slice_get}
 use Rattle.qcow2_metadata.specs.Bytes.{Bytes}

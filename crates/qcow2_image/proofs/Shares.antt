@@ -1,4 +1,4 @@
--- What stands behind the shares of a prepared mapping: which clusters, and whose bytes.
+-- What the shares of a prepared mapping mean: which clusters they hold, and whose bytes.
 use Rattle.std.proofs.Common.{◌≡◌, inl, inr, ℕ, zero, suc, ◌+◌, ◌-◌, ◌*◌, ◌/◌, ◌%◌, ◌<◌, ◌≤◌, Bool, true, false, List, [], ◌∷◌, ◌++◌, length, Option, Some, None, refl, sym, ap, ◌∙◌, subst, arith, cond}
 use Rattle.std.specs.Prelude.{IsTrue, nat_le, slice_get, slice_set}
 use Rattle.std.specs.Option.{option_map_or}

@@ -1,4 +1,4 @@
--- A call is answered, or refused and the image marked as failed where that is told, from what its work did.
+-- A call succeeds, or is refused and marks the image as failed by the rule, depending on what its work did.
 use Rattle.std.proofs.Common.{◌≡◌, ◌⊎◌, inl, inr, Bool, true, false, List, [], refl, sym, ap, ◌∙◌, subst}
 use Rattle.std.specs.Prelude.{Option, IsTrue}
 use Rattle.image_access.specs.Backing.{BackingView}

@@ -1,4 +1,4 @@
--- What stands in the way of tables is met where the work is.
+-- Refusals of tables are refusals that the work of a call may meet.
 use Rattle.image_access.specs.declared.error.StorageError.{StorageError}
 use Rattle.image_access.specs.declared.error.StorageError.TheVariants as S
 use Rattle.qcow2_metadata.specs.declared.error.MetadataError.{MetadataError}

@@ -1,4 +1,4 @@
--- A committed mapping is copied data, each byte at the place that was told.
+-- A committed mapping is copied data, each byte at the host offset that the prepare returned.
 use Rattle.std.proofs.Common.{◌≡◌, ℕ, ◌+◌, ◌/◌, ◌%◌, ◌<◌, Bool, true, false, List, Option, Some, None, length, sym, ap, ◌∙◌, subst, arith}
 use Rattle.std.specs.Prelude.{IsSome, Ok, Result, slice_get, slice_set}
 use Rattle.image_access.specs.Backing.{BackingView}

@@ -1,4 +1,4 @@
--- Why an image isn't created: what its parts meet, and when a storage's failure is told.
+-- Why an image is not created: the refusals of its parts, and when a fault of the storage is reported.
 use Rattle.std.proofs.Common.{[], List, ◌≡◌, ◌≢◌, inl, inr, ℕ, ◌+◌, ◌^◌, ◌<◌, ◌≤◌, true, Option, Some, None, Result, Ok, Err, refl, sym, ap, ◌∙◌, subst, arith}
 use Rattle.std.specs.Prelude.{IfErr, IsTrue, not}
 use Rattle.std.specs.Option.{option_or}

@@ -1,4 +1,4 @@
--- An unwritten image is opened, made larger and flushed: what a stop leaves on the way, and what stands then.
+-- An unwritten image is opened, grown and flushed: what a stop leaves meanwhile, and what the storage holds then.
 use Rattle.std.proofs.Common.{◌≡◌, ◌⊎◌, inl, inr, ⊎_elim, ℕ, ◌^◌, max, List, [], ◌∷◌, ◌++◌, None, Some, Result, Ok, Err, refl, sym, ap, ◌∙◌, subst, arith, false}
 use Rattle.std.specs.Prelude.{IfOk, OnOk, Option, is_some, option_map}
 use Rattle.std.specs.String.{string_bytes}

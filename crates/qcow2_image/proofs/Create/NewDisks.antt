@@ -1,4 +1,4 @@
--- New disks: what is unwritten shows zeros, and nothing stands for its guest clusters; what a mode leaves for them; and what calls that give zeros alone keep.
+-- New disks: an unwritten one shows zeros, and its guest clusters are unmapped; the mappings that a mode leaves; and what calls keep that give only zeros.
 use Rattle.std.proofs.Common.{◌≡◌, ◌⊎◌, inl, inr, ⊎_elim, ℕ, ◌+◌, ◌*◌, ◌/◌, ◌%◌, ◌<◌, ◌≤◌, Bool, true, false, List, [], ◌∷◌, None, refl, sym, ap, ◌∙◌, subst, arith}
 use Rattle.std.specs.Prelude.{◌||◌, nat_le, if◌then◌else◌}
 use Rattle.std.proofs.lemmas.Nat.{div-mul-add, mod-mul-add, pow_pos}

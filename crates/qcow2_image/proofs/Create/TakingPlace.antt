@@ -1,4 +1,4 @@
--- A new disk is made larger and flushed. Where place is taken for that, each moment shows zeros, and then that stands for each guest cluster which the mode leaves.
+-- A new disk is grown and flushed. If clusters are allocated for it, every moment shows zeros, and each guest cluster gets the mapping of the mode.
 use Rattle.std.proofs.Common.{◌≡◌, inl, inr, ⊎_elim, ℕ, ◌<◌, ◌≤◌, true, false, List, [], ◌∷◌, Option, None, Some, Result, Ok, Err, refl, sym, ap, ◌∙◌, subst, arith}
 use Rattle.std.specs.Prelude.{IsTrue, is_some, not}
 use Rattle.std.specs.Option.{option_or}

@@ -1,4 +1,4 @@
--- Where a lookup finds what can't be read plainly, a compressed cluster stands, and nowhere else.
+-- A lookup finds a special range exactly if the guest cluster is compressed.
 use Rattle.std.proofs.Common.{◌≡◌, inl, inr, ℕ, ◌/◌, Bool, true, false, refl, sym, ◌∙◌, subst, []}
 use Rattle.std.proofs.lemmas.Bool.{cases_lt}
 use Rattle.qcow2_metadata.specs.Bytes.{Bytes}

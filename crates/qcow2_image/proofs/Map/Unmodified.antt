@@ -1,4 +1,4 @@
--- Tables are loaded and evicted, and bytes are read, of an image of which nothing is modified: what stands on its storage stays.
+-- Tables are loaded and evicted, and bytes are read, in an image without modified tables: the contents of its storage stay the same.
 use Rattle.std.proofs.Common.{◌≡◌}
 use Rattle.image_access.specs.Moments.{StorageView, EachMomentSince, IsLeftBy}
 use Rattle.qcow2_alloc.specs.Quiet.{IsQuiet}

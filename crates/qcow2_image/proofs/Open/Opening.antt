@@ -1,4 +1,4 @@
--- The header and the tables are loaded as they stand on the storage, and the autoclear bits are cleared: the file is as sound as before.
+-- The header and the tables are loaded from the storage, and the autoclear bits are cleared: the file is as sound as before.
 use Rattle.std.proofs.Common.{◌≡◌, ℕ, ◌*◌, ◌/◌, ◌^◌, [], List, Result, length, refl, sym, ap, ◌∙◌, subst, arith}
 use Rattle.std.specs.Prelude.{Some, None, false}
 use Rattle.image_access.specs.Backing.{BackingView}

@@ -1,4 +1,4 @@
--- The header that stands in an image's bytes is one alone; and an image that needs another file is refused for that.
+-- The bytes of an image hold only one header; and an image that needs another file is refused for that.
 use Rattle.std.proofs.Common.{◌≡◌, ◌≢◌, ◌⊎◌, Result, ◌/◌, ◌%◌, ℕ, is_some, List, true, false, Bool, refl, sym, ap, ◌∙◌, subst, inl, inr}
 use Rattle.std.specs.Prelude.{◌||◌, ◌==◌}
 use Rattle.image_access.specs.Moments.{StorageView}

@@ -1,4 +1,4 @@
--- What can stand behind a mapping that is out: copied data where it is, or a new cluster that was filled.
+-- What can follow a prepared mapping: copied data in place, or a new cluster that was filled.
 use Rattle.std.proofs.Common.{◌≡◌, ◌⊎◌, inl, inr, ℕ, ◌+◌, ◌-◌, ◌*◌, ◌/◌, ◌%◌, ◌<◌, Bool, true, false, List, length, [], ◌∷◌, Option, Some, None, refl, sym, ap, ◌∙◌, subst, arith, min}
 use Rattle.std.specs.Prelude.{Result, Ok, Err, slice_get, ◌&&◌, ◌≢◌}
 use Rattle.std.proofs.lemmas.Nat.{div-add-mod', div-mul-add, mod-mul-add, mod_below, pow_pos}

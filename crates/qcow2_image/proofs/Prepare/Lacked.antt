@@ -1,4 +1,4 @@
--- Why a part of a call was refused for a limit: it is so of parts before and behind it.
+-- Why a part of a call was refused for a limit: the cause holds with the parts before and behind it, too.
 use Rattle.qcow2_image.specs.Image.{ImageStays, IsBegun}
 use Rattle.qcow2_image.specs.ImageSteps.{ImageStep}
 use Rattle.qcow2_image.specs.Ranges.{TakesDataAt}

@@ -1,4 +1,4 @@
--- What stands in the way of a call that takes clusters, whatever is prepared, by what stands in the way of its parts.
+-- Why a call that allocates is refused, whatever is prepared, from the refusals of its parts.
 use Rattle.std.proofs.Common.{◌≡◌, inl, inr, Result, Ok, Err}
 use Rattle.std.specs.Prelude.{IfErr}
 use Rattle.qcow2_alloc.specs.declared.error.ImageError.{ImageError}

@@ -1,4 +1,4 @@
--- Where a prepared mapping that isn't existing stands: in clusters that an entry can name, so within 64 bits.
+-- Where a prepared mapping that isn't existing lies: in clusters that an entry can hold, so within 64 bits.
 use Rattle.std.proofs.Common.{◌≡◌, ℕ, ◌+◌, ◌*◌, ◌/◌, ◌%◌, ◌^◌, ◌<◌, ◌≤◌, Bool, true, false, List, length, Option, Some, None, refl, subst, arith, pow_mono}
 use Rattle.std.specs.Prelude.{get_or, if◌then◌else◌}
 use Rattle.std.proofs.lemmas.Nat.{div-add-mod', mod_below, pow_pos}

@@ -1,4 +1,4 @@
--- What has to stand on the storage before an L1 entry names a new table is written.
+-- Everything is written that must be on the storage before an L1 entry names a new table.
 use Rattle.std.proofs.Common.{List, Option, Result, Ok, Err}
 use Rattle.std.specs.Prelude.{OnOk}
 use Rattle.image_access.specs.Backing.{BackingView}

@@ -1,4 +1,4 @@
--- Turns that pass a boundary change something, which is counted.
+-- Steps of a shrink that pass a cluster boundary change something, which is counted.
 use Rattle.std.proofs.Common.{◌≡◌, inl, inr, ℕ, ◌<◌, ap, arith}
 use Rattle.std.proofs.lemmas.Bool.{cases_lt}
 use Rattle.std.proofs.lemmas.Nat.{pow_pos}

@@ -1,4 +1,4 @@
--- A turn that is refused, behind which clusters are freed.
+-- A refused step of a shrink, after which clusters are freed.
 use Rattle.std.proofs.Common.{◌≡◌, ◌⊎◌, ◌<◌, ℕ, arith, inl, inr, Bool, true, false, List, [], refl, sym, ap, ◌∙◌, subst}
 use Rattle.std.specs.Prelude.{IsTrue, Option, Err}
 use Rattle.image_access.specs.Backing.{BackingView}

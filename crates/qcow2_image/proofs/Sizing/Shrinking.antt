@@ -1,4 +1,4 @@
--- A smaller disk: turns one after another, and then the size.
+-- A shrink: steps one after another, and then the size.
 use Rattle.std.proofs.Common.{◌≡◌, ◌⊎◌, inl, inr, ℕ, ◌-◌, ◌^◌, ◌<◌, ◌≤◌, Bool, true, false, List, [], ◌∷◌, refl, sym, ap, ◌∙◌, subst, arith, cond}
 use Rattle.std.specs.Prelude.{◌==◌, IfSome, IsTrue, Option, Some, None, Ok, Err, nat_lt, not}
 use Rattle.std.specs.Option.{option_or}

@@ -1,4 +1,4 @@
--- The tail of a disk is uncovered in turns: where they end, and one part behind another.
+-- The tail of a disk is unmapped step by step: where the steps end, and one part after another.
 use Rattle.std.proofs.Common.{◌≡◌, ◌⊎◌, inl, inr, ℕ, ◌+◌, ◌-◌, ◌*◌, ◌/◌, ◌%◌, ◌^◌, ◌<◌, ◌≤◌, List, [], ◌∷◌, refl, sym, ap, ◌∙◌, subst, arith, cond, min}
 use Rattle.std.specs.Prelude.{◌==◌, Option, nat_lt, if◌then◌else◌}
 use Rattle.std.proofs.lemmas.Bool.{cases_lt, cond-true, cond-false, eq-eqb, lt-ltb, le-ltb}

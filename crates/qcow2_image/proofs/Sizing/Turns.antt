@@ -1,4 +1,4 @@
--- One turn uncovers whole clusters up to the end of an L2 table, or is refused.
+-- One step unmaps whole clusters up to the end of an L2 table, or is refused.
 use Rattle.std.proofs.Common.{◌≡◌, ◌⊎◌, inl, inr, refl, Bool, true, false, None, ℕ, ◌+◌, ◌-◌, ◌^◌, ◌<◌, ◌≤◌, List, [], sym, ap, ◌∙◌, subst, arith, min}
 use Rattle.std.specs.Prelude.{◌||◌, ◌&&◌, ◌==◌, IfSome, Option, Some, Result, Ok, Err, nat_le, nat_lt, not}
 use Rattle.std.specs.Option.{option_or}

@@ -1,4 +1,4 @@
--- What stands for the guest clusters of a tail once it is uncovered: nothing. Ranges behind one another are one.
+-- The guest clusters of a tail after it is discarded: they are unmapped. Adjacent ranges are one range.
 use Rattle.std.proofs.Common.{◌≡◌, ◌⊎◌, inl, inr, ℕ, ◌-◌, ◌*◌, ◌<◌, ◌≤◌, true, false, sym, ap, ◌∙◌, arith}
 use Rattle.std.specs.Prelude.{nat_le, nat_lt}
 use Rattle.std.proofs.lemmas.Bool.{and_from, and_left, and_right, cases_lt, cond-true, cond-false, le-leb, le-ltb, lt-leb, lt-ltb}

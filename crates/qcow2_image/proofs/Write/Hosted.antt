@@ -1,4 +1,4 @@
--- Where the bytes of a prepared mapping stand: each has its place to itself, in a cluster that isn't cluster 0.
+-- Where the bytes of a prepared mapping lie: each has a place of its own, outside of cluster 0.
 use Rattle.std.proofs.Common.{◌≡◌, inl, inr, ℕ, ◌+◌, ◌/◌, ◌%◌, ◌<◌, ◌≤◌, true, List, refl, sym, ap, ◌∙◌, subst, arith}
 use Rattle.std.specs.Prelude.{Option, Some, None, slice_get, get_or}
 use Rattle.std.proofs.Math.Nat.{div-eq_of_lt}

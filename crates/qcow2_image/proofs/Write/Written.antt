@@ -1,4 +1,4 @@
--- Bytes are written where no table stands: in place over data, or to the private cluster of a prepared mapping.
+-- Bytes are written where no table lies: in place over data, or to the private cluster of a prepared mapping.
 use Rattle.std.proofs.Common.{◌≡◌, ◌⊎◌, inl, inr, ℕ, ◌+◌, ◌-◌, ◌/◌, ◌<◌, List, length, [], refl, sym, ap, ◌∙◌, subst, arith}
 use Rattle.std.specs.Prelude.{Option, IfSome}
 use Rattle.std.proofs.lemmas.Bool.{cases_lt}
