@@ -1,4 +1,4 @@
--- What guests read of data that stand in a row, and of clusters that are mapped alike; and how long a run of these is.
+-- What guests read of contiguous data, and of clusters that are mapped alike; and how long such a run is.
 use Rattle.std.proofs.Common.{◌≡◌, ℕ, ◌+◌, ◌-◌, ◌*◌, ◌/◌, ◌%◌, ◌<◌, ◌≤◌, Bool, refl, sym, ap, ◌∙◌, arith, inl, inr, subst, min}
 use Rattle.std.specs.Prelude.{Option}
 use Rattle.std.proofs.lemmas.Bool.{cases_lt}

@@ -1,4 +1,4 @@
--- What a guest sees of an image whose data stand in another file: that file's bytes where its entries are, and no byte of a table.
+-- What a guest sees of an image with an external data file: bytes of that file where the image has data, and no byte of a table.
 use Rattle.std.proofs.Common.{◌≡◌, ℕ, ◌+◌, ◌*◌, ◌/◌, ◌%◌, ◌≢◌, Bool, true, false, cond, eqb, refl, sym, ap, ◌∙◌, arith, subst, inl, inr}
 use Rattle.std.proofs.lemmas.Bool.{cases_eq, cond-true, cond-false, eq-eqb, ne_eqb}
 use mathlib.Core.Path.{fun_ext}

@@ -1,4 +1,4 @@
--- What stays where the header does, but perhaps for where the reftable stands.
+-- What stays the same if the header does, except the pointer to the reftable.
 use Rattle.std.proofs.Common.{◌≡◌, ℕ, refl, ap, sym, ◌∙◌}
 use Rattle.qcow2_metadata.specs.Bytes.{Bytes}
 use Rattle.qcow2_metadata.specs.declared.header.HeaderFields.{HeaderFields}

@@ -1,4 +1,4 @@
--- An image whose data stand in another file, and which is consistent so, is guarded as it is opened.
+-- A consistent image with an external data file has the invariant when it is opened.
 use Rattle.std.proofs.Common.{◌≡◌, ℕ, ◌+◌, ◌-◌, ◌/◌, ◌%◌, ◌<◌, ◌≤◌, ◌≢◌, Bool, true, false, cond, eqb, refl, sym, ap, ◌∙◌, arith, subst, inl, inr, max}
 use Rattle.std.specs.Prelude.{Option, Some, None}
 use Rattle.std.proofs.lemmas.Bool.{cases_eq, cases_lt, cond-false, cond-true, eq-eqb, eqb-true}

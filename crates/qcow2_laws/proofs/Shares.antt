@@ -1,4 +1,4 @@
--- What stands in a cluster: the header, a part of the L1 table or of the reftable, a refblock or an L2 table. Bytes that change elsewhere change nothing of it.
+-- What a cluster holds: the header, a part of the L1 table or of the reftable, a refblock or an L2 table. Changes of other bytes don't affect it.
 use Rattle.std.proofs.Common.{◌≡◌, ℕ, ◌+◌, ◌-◌, ◌*◌, ◌/◌, ◌%◌, ◌<◌, ◌≤◌, ◌≢◌, Bool, true, false, ltb, leb, refl, sym, ap, ◌∙◌, arith, subst}
 use Rattle.std.specs.Prelude.{◌&&◌}
 use Rattle.std.proofs.lemmas.Bool.{cond-true, le-leb, lt-ltb, and_from}

@@ -1,4 +1,4 @@
--- Writes to clusters that no table stands in keep the guard, and what was kept, with what they give.
+-- Writes to clusters without a table keep the invariant, and leave a stop as safe as before, with what they give.
 use Rattle.std.proofs.Common.{false, ◌≡◌, ℕ, ◌+◌, ◌*◌, ◌/◌, ◌%◌, ◌<◌, ◌≤◌, ◌⊎◌, List, [], refl, sym, ap, ◌∙◌, arith, inl, inr, subst, max}
 use Rattle.std.proofs.lemmas.Bool.{cases_eq, cases_lt}
 use Rattle.std.proofs.lemmas.Nat.{div-add-mod', mod_below, mod-mul-add, pow_pos}
