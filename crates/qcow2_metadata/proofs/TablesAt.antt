@@ -1,4 +1,4 @@
--- Tables whose bytes stand in a file.
+-- Tables with their bytes in a file.
 use Rattle.std.proofs.Common.{◌≡◌, ℕ, zero, suc, ◌+◌, ◌*◌, ◌/◌, ◌%◌, ◌^◌, ◌<◌, ◌≤◌, List, Result, Ok, Err, length, sym, ap, ◌∙◌, arith, OnOk}
 use Rattle.image_access.specs.Contents.{bytes_at, overwritten}
 use Rattle.image_access.specs.Moments.{ContentsBecome}
