@@ -1,4 +1,4 @@
--- The parts of a write heed what is prepared: no byte is written under an L2 table that another mapping keeps, unless it is written where it is.
+-- The parts of a write respect the prepared mappings: no byte is written under an L2 table that another mapping pins, unless it is written in place.
 use Rattle.std.proofs.Common.{◌≡◌, ◌∙◌, inl, inr, ℕ, ◌+◌, ◌-◌, ◌*◌, ◌/◌, ◌%◌, ◌<◌, ◌≤◌, List, Option, take, drop, length, refl, sym, ap, subst, arith}
 use Rattle.std.specs.Prelude.{Ok}
 use Rattle.std.proofs.lemmas.Bool.{cases_lt}

@@ -1,4 +1,4 @@
--- A part of a range is refused for what the work meets, where nothing refuses the whole at once.
+-- If no check refuses a whole range, a part of it is refused only for causes that the work may meet.
 use Rattle.std.proofs.Common.{◌≡◌, ◌+◌, ◌<◌, ◌≤◌, ◌∙◌, inl, inr, ℕ, Bool, true, false, not, IsTrue, List, Option, Some, None, refl, sym, ap, arith}
 use Rattle.std.specs.Prelude.{◌&&◌, nat_lt}
 use Rattle.std.specs.Option.{option_or}

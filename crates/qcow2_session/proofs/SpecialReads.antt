@@ -1,4 +1,4 @@
--- What special reads tell.
+-- What special reads mean.
 use Rattle.std.proofs.Common.{◌≡◌, ◌⊎◌, ◌<◌, false, true, inl, inr, refl, sym, ◌∙◌, subst, ℕ, zero, suc, arith, Option, Some, None}
 use Rattle.std.specs.Prelude.{IsErr, IfErr, IfOk, MatchOption, Result, Ok, Err}
 use Rattle.qcow2_metadata.specs.Bytes.{Bytes}

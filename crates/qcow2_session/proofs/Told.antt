@@ -1,4 +1,4 @@
--- What a run tells of its image, one command after the other.
+-- What a run says of its image, one command after another.
 use Rattle.std.proofs.Common.{◌≡◌, ℕ, List, [], ◌∷◌, ◌++◌, false, refl, sym, ap, ◌∙◌, subst, Option, Some, None}
 use mathlib.Core.Path.{fun_ext}
 use Rattle.std.specs.Prelude.{replicate, IfSome, Ok, Err}

@@ -1,4 +1,4 @@
--- Calls one after another, whatever they answer.
+-- Calls one after another, whatever they return.
 use Rattle.std.proofs.Common.{◌≡◌, ◌⊎◌, ⊎_elim, inl, inr, ℕ, zero, suc, ◌<◌, List, [], true, false, IsTrue, refl, sym, ap, ◌∙◌, arith}
 use Rattle.std.specs.Prelude.{Option, Some, None, IfErr, IfSome, Result, Ok, Err, IsErr, IsErrAnd}
 use Rattle.qcow2_metadata.specs.Guest.{Value}

@@ -1,4 +1,4 @@
--- An image that was opened for reading is never written: calls that write are refused before any work, and all others leave what stands on its storage.
+-- An image that was opened for reading is never written: calls that write are refused before any work, and all others leave the contents of its storage the same.
 use Rattle.std.proofs.Common.{◌≡◌, ◌⊎◌, ⊎_elim, inl, inr, ℕ, zero, suc, ◌<◌, ◌≤◌, List, [], ◌∷◌, Bool, true, false, not, IsTrue, refl, sym, ap, ◌∙◌, subst, arith, Option, Some, None, Ok, Err}
 use Rattle.std.specs.Prelude.{IfSome, IsNone, IsSome, nat_lt, replicate, slice_get, slice_set, ◌&&◌}
 use Rattle.std.specs.Option.{option_or}

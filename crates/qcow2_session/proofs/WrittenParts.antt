@@ -1,4 +1,4 @@
--- What a session's write has done so far: the bytes of its answered parts are written, and no others were given.
+-- What a session's write has done up to some part: the bytes of the parts that succeeded are written, and no others were given.
 use Rattle.std.proofs.Common.{◌≡◌, ⊎_elim, inl, inr, ℕ, ◌+◌, ◌-◌, ◌<◌, ◌≤◌, List, [], ◌∷◌, take, drop, length, refl, sym, ap, ◌∙◌, subst, arith}
 use Rattle.std.specs.Prelude.{Ok}
 use Rattle.std.proofs.lemmas.Grind.{common_steps}
