@@ -3,6 +3,7 @@ use Rattle.std.specs.Prelude.{◌≡◌, ◌≢◌, ℕ, ◌+◌, ◌-◌, ◌^�
 use Rattle.image_access.specs.declared.error.StorageError.{StorageError}
 use Rattle.image_access.specs.declared.error.StorageError.TheVariants.{Fault, Memory}
 
+-- The counters of a storage or a disk for tests.
 pub record Counted : Type 0 where
   -- The number of calls so far. The counter stops at the greatest u64.
   pub made : ℕ

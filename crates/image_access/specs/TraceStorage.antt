@@ -7,6 +7,7 @@ use Rattle.image_access.specs.declared.change.Change.{Change}
 use Rattle.image_access.specs.declared.error.StorageError.{StorageError}
 use Rattle.image_access.specs.declared.error.StorageError.TheVariants.{Fault, Memory}
 
+-- A trace: the contents at the start, and what happened since.
 pub record Trace : Type 0 where
   -- The contents at the start.
   pub start : List ℕ
