@@ -74,11 +74,13 @@ pub record AbstractImage : Type 1 where
   pub slots : ℕ → Option PreparedMapping
   pub hosts : ℕ → Option HostRange
 
+-- What the content of a slot means, if there is such a slot and it is not empty.
 abbrev pub meaning_at : {P M : Type 0} → (P → M) → Option (Option P) → Option M
 meaning_at means (Some (Some p)) = Some (means p)
 meaning_at means (Some None) = None
 meaning_at means None = None
 
+-- The view of an image with the prepared mappings `out`, by slot.
 abbrev pub abstract_image : {D P : Type 0} → Abstraction D P → D → List (Option P) → AbstractImage
 abstract_image spec d out = record {
   number = spec.number d;

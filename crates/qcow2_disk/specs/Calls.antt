@@ -36,6 +36,7 @@ pub record Stops (old new : AbstractImage) (given : List GivenBytes) (asked : Li
   pub contents : LeavesKept old.setting.backing (checkpoint_with given asked m) new.storage
   pub known : new.is_sound → StopOkEverywhere old.setting.backing (checkpoint_with given asked m) new.known
 
+-- The storage and the known contents are safe at a checkpoint, before a call.
 abbrev pub StartsAt : AbstractImage → Checkpoint → Type 0
 StartsAt v m = LeavesKept v.setting.backing m v.storage × StopOkEverywhere v.setting.backing m v.known
 
@@ -93,6 +94,7 @@ pub record WritesSome (old : Disk) (offset : ℕ) (bytes : List ℕ) (n : ℕ) (
   pub size : new.size ≡ old.size
   pub values : (o : ℕ) → (new.value o ≡ (with_bytes old offset (take n bytes)).value o) ⊎ (new.value o ≡ (with_bytes old offset bytes).value o)
 
+-- What a guest may see after a refused write, of which the first n bytes were written.
 abbrev pub MayWrite : Refusal → Guest → ℕ → List ℕ → ℕ → Guest → Type 0
 MayWrite memory old offset bytes n new = (n ≤ length bytes) × ((d : Disk) × WritesSome old.disk offset bytes n d × (new ≡ with_disk old d))
 MayWrite e old offset bytes n new = (n ≤ length bytes) × (new ≡ with_disk old (with_bytes old.disk offset (take n bytes)))
@@ -103,21 +105,26 @@ pub data Clearing : Type 0 where
   to_kept_zero : Clearing
   to_backing : Clearing
 
+-- The disk after the clusters between two offsets are cleared.
 abbrev pub cleared : Setting → Disk → Clearing → ℕ → ℕ → Disk
 cleared x d to_backing from to = uncovered d x.backing from to
 cleared x d to_zero from to = zeroed_between d from to
 cleared x d to_kept_zero from to = zeroed_between d from to
 
+-- The disk after the whole clusters of a range are cleared.
 abbrev pub cleared_at : Setting → Disk → Clearing → ℕ → ℕ → Disk
 cleared_at x d how offset n = cleared x d how (touched_from x.cluster_size offset) (touched_to x.cluster_size d.size offset n)
 
+-- What clearing a range gives: the values that its whole clusters then show.
 abbrev pub given_by_clear : Setting → Disk → Clearing → ℕ → ℕ → GivenBytes
 given_by_clear x d how offset n = given_shown (cleared_at x d how offset n) (touched_from x.cluster_size offset) (touched_to x.cluster_size d.size offset n)
 
+-- Whether a growth in this mode leaves the old bytes behind the end as they are.
 abbrev pub shows_old : PreallocateMode → Bool
 shows_old Mode.None = true
 shows_old mode = false
 
+-- The disk after a growth. A size that is not larger changes nothing.
 abbrev pub grown_to : Setting → Disk → ℕ → PreallocateMode → Disk
 grown_to x d size mode = if nat_le size d.size then d else grown x.cluster_size d size (shows_old mode)
 

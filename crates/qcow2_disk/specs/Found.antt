@@ -8,6 +8,7 @@ use Rattle.qcow2_metadata.specs.declared.l2_mapping.L2Mapping.{L2Mapping}
 use Rattle.qcow2_metadata.specs.declared.l2_mapping.L2Mapping.TheVariants.{Data, Zero, Compressed, Uncovered}
 use Rattle.qcow2_disk.specs.Alike.{IsAlikeRun, IsLongestRun}
 
+-- The kind of a mapping.
 pub data Kind : Type 0 where
   -- Bytes of a file, from a host offset on: of the image's own file or of an external one. They are writable in place if the cluster is marked copied.
   raw : (is_external : Bool) → (offset : ℕ) → (is_writable : Bool) → Kind

@@ -53,6 +53,7 @@ IsHiddenIn h b m = (o : ℕ) → IsTrue (m.is_private o) → IsTrue (m.is_hidden
 abbrev pub put_mapping : PreparedMapping → ℕ → List ℕ → PreparedMapping
 put_mapping m at bytes = record m { shown = λ o. if m.is_private o then laid_over (m.from + at) (length bytes) (λ i. known_byte (byte_at bytes i)) m.shown o else m.shown o }
 
+-- The disk after a put: bytes in place change, private ones do not.
 abbrev pub put_disk : Disk → PreparedMapping → ℕ → List ℕ → Disk
 put_disk d m at bytes = record d { value = λ o. if m.is_private o then d.value o else (with_bytes d (m.from + at) bytes).value o }
 

@@ -17,6 +17,7 @@ use Rattle.qcow2_disk.specs.GrownCovers.{IsRightlyGrown}
 use Rattle.qcow2_disk.specs.UngivenCovers.{Touches, UngivenStay}
 use Rattle.qcow2_disk.specs.Calls.{Refusal, memory, storage, not_compressed, another, IsRefusalByFault, Shows, with_disk, with_slot, MayWrite, Clearing, cleared_at, given_by_clear, grown_to, given_by_grow, MayGrow, IsShrunk, given_by_shrink, given_by_shrunk}
 
+-- A command of a run: one call on an image.
 pub data Command : Type 0 where
   read : (offset length : ℕ) → Command
   write : (offset : ℕ) → (bytes : List ℕ) → Command
@@ -38,6 +39,7 @@ pub data Command : Type 0 where
   get_size : Command
   get_leaked : Command
 
+-- The reply to a command.
 pub data Reply : Type 0 where
   done : Reply
   bytes_are : List ℕ → Reply
@@ -162,6 +164,7 @@ IsStorageReply (refused e) = e ≡ storage
 IsStorageReply (write_refused e n) = e ≡ storage
 IsStorageReply reply = ⊥
 
+-- The lookups after a command: a new one at its place, and the same at all others.
 abbrev pub found_after : (ℕ → Option Found) → Command → Reply → ℕ → Option Found
 found_after found (get_mapping place offset max) (mapping_is from kind n) k = if k == place then Some (record { from = from; length = n }) else found k
 found_after found command reply k = found k
@@ -173,6 +176,7 @@ pub record State : Type 0 where
   pub is_failed : Bool
   pub checkpoint : Checkpoint
 
+-- The state at the begin of a run: nothing was looked up, and the checkpoint is the disk and the contents of the storage.
 abbrev pub started : AbstractImage → State
 started v = record { guest = guest_of v; found = λ _. None; is_failed = false; checkpoint = checkpoint_at (guest_of v).disk (stored_bytes v) }
 
@@ -194,6 +198,7 @@ checkpoint_after x old flush done new = checkpoint_at new.disk old.checkpoint.he
 checkpoint_after x old (shrink size) (number_is answer) new = checkpoint_with (given_by_shrunk x old.guest.disk size answer ∷ []) (asked_by (shrink size)) old.checkpoint
 checkpoint_after x old command reply new = checkpoint_during x old command
 
+-- The state after a command that was replied to.
 abbrev pub stepped : Setting → State → Command → Reply → Guest → Bool → State
 stepped x old command reply new failed = record {
   guest = new;
@@ -209,6 +214,7 @@ CommandStep x old command reply new =
     ⊎ ((old.is_failed ≡ false) × MayAnswer old.guest.disk command reply × (¬ IsStorageReply reply) × ((guest : Guest) × CommandMeaning x old.found old.guest command reply guest × (new ≡ stepped x old command reply guest false))
     ⊎ ((old.is_failed ≡ false) × MayAnswer old.guest.disk command reply × IsFaultReply reply × (new ≡ stepped x old command reply old.guest true)))
 
+-- A run: each command has one reply, and leads from one state to the next.
 abbrev pub Run : Setting → State → List Command → List Reply → State → Type 0
 Run x old [] [] new = new ≡ old
 Run x old (command ∷ commands) (reply ∷ replies) new = (mid : State) × CommandStep x old command reply mid × Run x mid commands replies new

@@ -13,9 +13,11 @@ pub record GivenBytes : Type 0 where
   pub count : ℕ
   pub value : ℕ → Value
 
+-- The value is the one that is given for offset o.
 abbrev pub IsIn : GivenBytes → ℕ → Value → Type 0
 IsIn g o v = (g.from ≤ o) × (o < g.from + g.count) × (v ≡ g.value (o - g.from))
 
+-- The value is one of those that are given for offset o.
 abbrev pub IsGiven : List GivenBytes → ℕ → Value → Type 0
 IsGiven [] o v = ⊥
 IsGiven (g ∷ given_bytes) o v = IsIn g o v ⊎ IsGiven given_bytes o v
@@ -36,6 +38,7 @@ pub record Checkpoint : Type 0 where
 abbrev pub checkpoint_at : Disk → Bytes → Checkpoint
 checkpoint_at d b = record { last = d; header_bytes = b; given = []; asked = [] }
 
+-- The checkpoint after calls that give these values and ask for these sizes.
 abbrev pub checkpoint_with : List GivenBytes → List ℕ → Checkpoint → Checkpoint
 checkpoint_with given asked m = record m { given = given ++ m.given; asked = asked ++ m.asked }
 
