@@ -22,6 +22,7 @@ StandsAtGuest h g Uncovered = ⊤
 abbrev pub IsOwnTable : HeaderFields → Bytes → ℕ → Type 0
 IsOwnTable h b place = (named_for_tables h b (place / cluster_size h) ≡ 1) × (count h b (place / cluster_size h) ≡ 1)
 
+-- A consistent image with an external data file.
 pub record ConsistentBeside (h : HeaderFields) (b : Bytes) : Type 0 where
   pub header_reads : HeaderReads h b
   pub reftable_fits : ReftableFits h

@@ -7,6 +7,7 @@ pub data Direction : Type 0 where
   L2DependsOnRb : Direction
   RbDependsOnL2 : Direction
 
+-- The numbers of one host cluster.
 pub record Cluster : Type 0 where
   -- References by the header, the L1 table, the reftable and their entries; and those of them by L1 entries that are marked copied.
   pub table_refs : ℕ

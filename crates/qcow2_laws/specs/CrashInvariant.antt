@@ -68,6 +68,7 @@ cluster h p on_storage known c = record {
   old_data = p.old_data c;
 }
 
+-- The crash invariant, between the bytes on the storage and the known contents, with the order of the caches (`d`) and what is pending (`p`). Every step of the driver keeps it.
 pub record CrashInvariant (h : HeaderFields) (d : Direction) (p : Pending) (on_storage known : Bytes) : Type 0 where
   pub top : IsTop h on_storage
   pub same_top : SameTop h on_storage known

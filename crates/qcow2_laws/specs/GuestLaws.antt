@@ -119,11 +119,13 @@ pub data Hosting : Type 0 where
   Kept : Hosting
   Held : Hosting
 
+-- Guest byte o has this place in the file, in this way.
 abbrev pub IsHostedAt : DriverState → Hosting → (o place : ℕ) → Type 0
 IsHostedAt s InPlace o place = IsDataAt s.header s.known true o place
 IsHostedAt s Kept o place = (host : ℕ) × (cover s.header s.known (o / cluster_size s.header) ≡ Zero (Some (host, true))) × (host + o % cluster_size s.header ≡ place)
 IsHostedAt s Held o place = 0 < s.pending.new_data (place / cluster_size s.header)
 
+-- The place is in new data.
 abbrev pub IsHeld : Hosting → Type 0
 IsHeld InPlace = ⊥
 IsHeld Kept = ⊥

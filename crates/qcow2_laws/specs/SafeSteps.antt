@@ -14,6 +14,7 @@ pub record DriverState : Type 0 where
   pub on_storage : Bytes
   pub known : Bytes
 
+-- The crash invariant of a state.
 abbrev pub StateInvariant : DriverState → Type 0
 StateInvariant s = CrashInvariant s.header s.direction s.pending s.on_storage s.known
 

@@ -36,6 +36,7 @@ SameL1Table old new = (i : ℕ) → l1_entry old.header new.on_storage i ≡ l1_
 abbrev pub SameUsedBytesBut : ℕ → DriverState → DriverState → Type 0
 SameUsedBytesBut c old new = (o : ℕ) → o / cluster_size old.header ≢ c → 0 < used_by_guests old (o / cluster_size old.header) → new.known o ≡ old.known o
 
+-- Guests cannot see the step, except in the bytes of cluster c.
 pub record IsUnseenBut (c : ℕ) (old new : DriverState) : Type 0 where
   pub header : KeepsFormat old.header new.header
   pub covers : SameCovers old.header old.known new.known
@@ -45,6 +46,7 @@ pub record IsUnseenBut (c : ℕ) (old new : DriverState) : Type 0 where
 abbrev pub SameOtherCovers : ℕ → DriverState → DriverState → Type 0
 SameOtherCovers guest old new = (g : ℕ) → g ≢ guest → cover old.header old.known g ≡ cover old.header new.known g
 
+-- The mapping of one guest cluster changes. The header, all other mappings and the bytes that guests use stay the same.
 pub record IsMappedAnew (guest : ℕ) (old new : DriverState) : Type 0 where
   pub header : new.header ≡ old.header
   pub covers : SameOtherCovers guest old new
