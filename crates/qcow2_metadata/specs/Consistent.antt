@@ -17,6 +17,7 @@ abbrev pub KeptIsAligned : HeaderFields → Option (ℕ × Bool) → Type 0
 KeptIsAligned h None = ⊤
 KeptIsAligned h (Some k) = IsAligned h k.0
 
+-- The host cluster of a mapping, if it has one, is aligned.
 abbrev pub CoverIsAligned : HeaderFields → L2Mapping → Type 0
 CoverIsAligned h (Data host copied) = IsAligned h host
 CoverIsAligned h (Zero kept) = KeptIsAligned h kept

@@ -21,6 +21,7 @@ host_offset entry = bits_of 9 55 entry * 512
 abbrev pub block_offset : ℕ → ℕ
 block_offset entry = bits_of 9 63 entry * 512
 
+-- Bit 63 of an L1 or L2 entry: copied.
 abbrev pub is_copied : ℕ → Bool
 is_copied entry = has_bit entry 63
 

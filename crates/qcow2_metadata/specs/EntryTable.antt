@@ -7,6 +7,7 @@ use Rattle.qcow2_metadata.specs.TableBytes.{entry_at, IsClusterBits}
 use Rattle.qcow2_metadata.specs.declared.error.MetadataError.{MetadataError}
 use Rattle.qcow2_metadata.specs.declared.error.MetadataError.TheVariants.{Storage, Memory, Version, Unaligned, Limit, Format}
 
+-- The view of an L1 table or a reftable in memory.
 pub record EntryTableView : Type 0 where
   -- Where the table begins, if it has a place.
   pub cluster : Option ℕ

@@ -134,10 +134,12 @@ pub record IsWellFormed (h : HeaderFields) (b : Bytes) : Type 0 where
   pub extensions : ExtensionsRead b (cluster_size h) h.header_length
   pub backing_name : BackingNameReads h b
 
+-- The L1 table and the reftable have no more entries than QEMU and this library allow.
 pub record IsWithinLimits (h : HeaderFields) : Type 0 where
   pub few_l1_entries : h.l1_entries ≤ 4194304
   pub few_reftable_entries : reftable_entries h ≤ 1048576
 
+-- The header is readable.
 pub record HeaderReads (h : HeaderFields) (b : Bytes) : Type 0 where
   pub well_formed : IsWellFormed h b
   pub within_limits : IsWithinLimits h

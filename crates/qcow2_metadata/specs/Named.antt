@@ -36,6 +36,7 @@ named_by_cover h cluster (Zero kept) = named_by_kept h cluster kept
 named_by_cover h cluster (Compressed place sectors) = touched_by h cluster place ((place / 512 + sectors) * 512 - 1)
 named_by_cover h cluster Uncovered = 0
 
+-- References by the header: to cluster 0, and to the clusters of the L1 table and of the reftable.
 unfoldable pub named_by_header : HeaderFields → ℕ → ℕ
 named_by_header h cluster =
     in_cluster h cluster 0 + in_run h cluster h.l1_offset (8 * h.l1_entries) + in_run h cluster h.reftable_offset (h.reftable_clusters * cluster_size h)

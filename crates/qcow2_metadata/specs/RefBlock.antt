@@ -5,6 +5,7 @@ use Rattle.qcow2_metadata.specs.Header.{HeaderFields}
 use Rattle.qcow2_metadata.specs.Entries.{block_count}
 use Rattle.qcow2_metadata.specs.TableBytes.{IsClusterBits, IsPlaced}
 
+-- The view of a refblock in memory.
 pub record RefBlockView : Type 0 where
   -- Where the refblock lies, if it has a place.
   pub cluster : Option ℕ
