@@ -11,6 +11,7 @@ use Rattle.qcow2_image.specs.declared.image.Qcow2.{Qcow2}
 use Rattle.qcow2_image.specs.declared.prepared.Prepared.{Prepared}
 use Rattle.qcow2_image.specs.Prepared.{table_of}
 use Rattle.qcow2_image.specs.ImageInvariant.{pins_by, pins_of, over_all, abstract_of}
+use Rattle.qcow2_image.specs.PinnedTables.{HasPinnedTable}
 use Rattle.qcow2_image.specs.Backings.{HasPrepared}
 
 -- ---- pins
@@ -55,6 +56,14 @@ module _ {S F : Type 0} (view : S → StorageView) (backing : F → BackingView)
 
   pub some_prepared : (t : ℕ) → 0 < l2_pins image.file.caches t → HasPrepared out
   some_prepared t some = pinned_by out t (subst (λ n. 0 < n) (sound.pinned t) some)
+
+  -- a mapping that isn't existing keeps a table
+  pub table_prepared : HasPrepared out → HasPinnedTable image
+  table_prepared has =
+      let t = table_is (table_of has.mapping) has.pins in
+      let some = pins_all out has.place has.mapping t.0 has.there t.1 in
+      let is = sound.pinned t.0 in
+      record { cluster = t.0; pins = omega (arith, some, is) }
 
 -- what the search for a pinned table found
 pub found_pinned : (pins : ℕ → ℕ) (r : Option ℕ) → IfSome r (λ t. 0 < pins t) → is_some r ≡ true → (t : ℕ) × (0 < pins t)

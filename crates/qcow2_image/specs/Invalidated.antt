@@ -1,9 +1,10 @@
--- `invalidate_cache`: everything that was cached is dropped, and the pointers to the tables are read again.
-use Rattle.std.specs.Prelude.{◌≡◌, ◌<◌, ◌*◌, ◌⊎◌, ℕ, Bool, false, IsTrue, IfErr, IfSome, IsSome, List, [], Option, None, OnOk, Result, Ok, Err}
+-- What an image is once all that it kept of its file was dropped, and where its tables stand was read anew.
+use Rattle.std.specs.Prelude.{◌≡◌, ◌<◌, ◌≤◌, ◌*◌, ◌⊎◌, ℕ, Bool, false, IsTrue, IfErr, IfSome, IsErrAnd, IsSome, List, [], Option, None, OnErr, OnOk, Result, Ok, Err, option_map}
 use Rattle.image_access.specs.Backing.{BackingView}
 use Rattle.image_access.specs.Moments.{StorageView}
 use Rattle.qcow2_metadata.specs.Bytes.{Bytes}
-use Rattle.qcow2_metadata.specs.Header.{header, entries_per_cluster, with_fields, with_tables_of, HeaderReads, IsWellFormed, IsWithinLimits}
+use Rattle.qcow2_metadata.specs.EntryTable.{EntryTableView}
+use Rattle.qcow2_metadata.specs.Header.{HeaderView, header, entries_per_cluster, with_fields, with_tables_of, HeaderReads, IsWellFormed, IsWithinLimits}
 use Rattle.qcow2_metadata.specs.HeaderLoad.{HasAlignedTables}
 use Rattle.qcow2_metadata.specs.declared.header.HeaderFields.{HeaderFields}
 use Rattle.qcow2_alloc.specs.CachePins.{l2_pins, CachesHaveRoom}
@@ -23,7 +24,7 @@ use Rattle.qcow2_image.specs.Noted.{FailsOnceWritten}
 use Rattle.qcow2_image.specs.PinnedTables.{HasPinnedTable}
 use Rattle.qcow2_image.specs.Readable.{IsReasonAgainstTables}
 use Rattle.qcow2_image.specs.Refusals.{IsMet, MarksFailed}
-use Rattle.qcow2_image.specs.Unwritten.{ContentsStayThroughout}
+use Rattle.qcow2_image.specs.Unwritten.{ContentsStayThroughout, HoldsNothingModified}
 use Rattle.qcow2_image.specs.declared.image.Qcow2.{Qcow2}
 use Rattle.qcow2_image.specs.declared.prepared.Prepared.{Prepared}
 
@@ -39,6 +40,14 @@ IsReasonAgainstPlaces h b writable e = ⊥
 -- Why the pointers, or the tables that they lead to, are not read.
 abbrev pub IsReasonNotToRead : HeaderFields → Bytes → Bool → ImageError → Type 0
 IsReasonNotToRead h b writable e = IsReasonAgainstPlaces h b writable e ⊎ IsReasonAgainstTables (with_tables_of h (header b)) b writable e
+
+-- 21, and what is answered while a mapping is prepared that isn't existing
+abbrev pub IsStillInUse : ImageError → Type 0
+IsStillInUse (I.StillInUse tables) = Unit {0}
+IsStillInUse e = ⊥
+
+abbrev pub IsOfPrepared : ImageError → Type 0
+IsOfPrepared e = IsStillInUse e ⊎ (e ≡ I.Memory)
 
 module _ {S F : Type 0} where
   -- No table is cached.
@@ -56,7 +65,22 @@ module _ {S F : Type 0} where
     pub below : new.backing ≡ old.backing
     pub leaks : leaked_in new ≡ leaked_in old
 
-  -- The call succeeds only if no L2 table is pinned. If one is, it is refused 21, or 14 if there is no memory for the list of pinned tables.
+  -- the reftable in memory, where there is one
+  abbrev pub reftable_in : Qcow2 S F → Option EntryTableView
+  reftable_in image = option_map (λ a. a.reftable) image.allocator
+
+  -- The header, the L1 table and the reftable in memory are as they were.
+  pub record KeepsTables (old new : Qcow2 S F) : Type 0 where
+    pub header : new.file.header ≡ old.file.header
+    pub l1_table : new.l1_table ≡ old.l1_table
+    pub reftable : reftable_in new ≡ reftable_in old
+
+  -- numbers of a header that are those in memory, but for where the L1 table and the reftable stand, and with a reftable no longer than one may be
+  pub record ArePlacesFor (image : Qcow2 S F) (places : HeaderView) : Type 0 where
+    pub others : places.fields ≡ with_tables_of image.file.header.fields places.fields
+    pub few : places.fields.reftable_clusters * entries_per_cluster image.file.header.fields ≤ 1048576
+
+  -- While a mapping is prepared that isn't existing, the answer is 21, or 14 where its list of tables has no room.
   abbrev pub HeedsPrepared : {T : Type 0} → Qcow2 S F → Result T ImageError → Type 0
   HeedsPrepared old (Ok _) = ¬ HasPinnedTable old
   HeedsPrepared old (Err (I.StillInUse tables)) = Unit {0}
@@ -66,7 +90,9 @@ module _ {S F : Type 0} where
   -- The list of clusters to free is emptied, and tables are dropped.
   pub record DropsCached (old new : Qcow2 S F) : Type 0 where
     pub rest : new ≡ record old { file = record old.file { caches = new.file.caches; free_list = [] }; allocator = new.allocator }
+    pub reftable : reftable_in new ≡ reftable_in old
     pub leaks : leaked_in new ≡ leaked_in old
+    pub unmodified : HoldsNothingModified old → HoldsNothingModified new
 
   module _ (view : S → StorageView) where
     -- No cluster waits to be freed and no table to be written, as right after a flush.
@@ -78,11 +104,10 @@ module _ {S F : Type 0} where
     abbrev pub WritesNothing : Qcow2 S F → Qcow2 S F → Type 0
     WritesNothing old new = (view_in view old.file).is_honest → ContentsStayThroughout (view_in view old.file) (view_in view new.file)
 
-    -- The pointers to the tables are read. Only the storage and the header change.
+    -- Where the tables stand is read: the storage alone changes.
     pub record ReadsPlaces (old new : Qcow2 S F) : Type 0 where
       pub part : ImageStep view old new
-      pub rest : new ≡ record old { file = record old.file { storage = new.file.storage; header = new.file.header } }
-      pub header : new.file.header ≡ with_fields old.file.header (with_tables_of old.file.header.fields new.file.header.fields)
+      pub rest : new ≡ record old { file = record old.file { storage = new.file.storage } }
       pub silent : WritesNothing old new
 
     -- The tables are read.
@@ -92,10 +117,19 @@ module _ {S F : Type 0} where
       pub leaks : leaked_in new ≡ leaked_in old
       pub silent : WritesNothing old new
 
-    -- A part of the call: it is the same image, and nothing is written. The header's cluster stays the same, if the header has no table there.
+    -- A part leaves it the same image. It writes nothing, modifies no cached table, and leaves the rest as above. The header's cluster is left alone where the header names no table there.
     pub record ReadsAnew (old new : Qcow2 S F) : Type 0 where
       pub part : ImageStepWhere view (NamesTablesBehind new.file.header.fields) old new
       pub rest : KeepsAllButTables old new
+      pub silent : WritesNothing old new
+      pub unmodified : HoldsNothingModified old → HoldsNothingModified new
+
+    -- so does one that reads the tables and takes them over: the caches and the list of freed clusters stay
+    pub record TakesTables (old new : Qcow2 S F) : Type 0 where
+      pub part : ImageStepWhere view (NamesTablesBehind new.file.header.fields) old new
+      pub rest : new ≡ record old { file = record old.file { storage = new.file.storage; header = new.file.header }; l1_table = new.l1_table; allocator = new.allocator }
+      pub header : new.file.header ≡ with_fields old.file.header (with_tables_of old.file.header.fields new.file.header.fields)
+      pub leaks : leaked_in new ≡ leaked_in old
       pub silent : WritesNothing old new
 
     -- Why the call is refused 21: an L2 table is pinned, and then no other one stays cached; or a refblock is pinned, which never happens on a sound image.
@@ -111,7 +145,7 @@ module _ {S F : Type 0} where
         pub reftable : IfSome image.allocator (λ a. HasReftable view image.file a.reftable)
 
       module _ (old new : Qcow2 S F) (result : Result (Unit {0}) ImageError) where
-        -- What every call does. It writes nothing and frees no cluster. If it succeeds, no table is cached, and the tables in memory were read from the storage, if that is honest.
+        -- What holds of every call. Nothing is written, no cluster is freed, and no cached table is modified where none was. Answered, no table is cached, and those of an honest storage were read.
         pub record InvalidatingStep : Type 0 where
           pub image : IsSameImage old new
           pub marks : MarksFailed old new result
@@ -120,18 +154,22 @@ module _ {S F : Type 0} where
           pub faults : CountsImageFaults view backing old new result
           pub rest : KeepsAllButTables old new
           pub silent : WritesNothing old new
+          pub unmodified : HoldsNothingModified old → HoldsNothingModified new
           pub dropped : OnOk result (HoldsNoTable new)
           pub read : (view_in view old.file).is_honest → OnOk result (IsAsStored new)
 
-        -- Why the call is refused, and what it leaves then. A failed image stays as it is. Any other one forgets which clusters wait to be freed, whatever the answer.
+        -- Why it is refused, and what then. The header, the L1 table and the reftable stay as they are. A failed image stays so altogether. Of any other one the clusters to be freed are forgotten, whatever the answer is.
         pub record InvalidatingFails : Type 0 where
           pub failed : IsTrue (is_failed old) → (result ≡ Err I.Failed) × (new ≡ old)
+          pub kept : OnErr result (KeepsTables old new)
           pub cause : is_failed old ≡ false → IfErr result IsMet
           pub prepared : is_failed old ≡ false → HeedsPrepared old result
           pub why : is_failed old ≡ false → (view_in view old.file).is_honest → IfErr result (IsReasonAgainstReading old new)
           pub list : is_failed old ≡ false → HasNothingToFree new
 
-        -- A sound image with nothing to free or to write looks the same after the call. If no mapping is prepared, only a fault refuses it.
+        -- On a sound image a fault and want of memory alone refuse it where nothing is prepared, and it is told as still in use only where something is. On one at rest nothing changes that a call shows.
         pub record InvalidatesSoundly : Type 0 where
           pub same : IsAtRest old → AnswersCall view backing old new [] (λ done was is. is ≡ was) result
-          pub fault : IsAtRest old → (out : List (Option Prepared)) → (abstract_of view backing old out).is_sound → ¬ HasPrepared out → IfErr result IsFault
+          pub fault : (out : List (Option Prepared)) → (abstract_of view backing old out).is_sound → ¬ HasPrepared out → IfErr result IsFault
+          pub prepared : (out : List (Option Prepared)) → (abstract_of view backing old out).is_sound → HasPrepared out → IsErrAnd result IsOfPrepared
+          pub in_use : (out : List (Option Prepared)) → (abstract_of view backing old out).is_sound → IfErr result (λ e. IsStillInUse e → HasPrepared out)

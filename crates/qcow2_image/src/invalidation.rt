@@ -1,13 +1,14 @@
-//! Dropping everything that an image caches, and reading its tables again.
-ghost use Rattle.std.specs.Prelude.{◌≡◌, List, [], Option, IfErr, IfSome, OnOk};
+//! Dropping what an image keeps of its file, and reading its tables anew.
+ghost use Rattle.std.specs.Prelude.{◌≡◌, ◌↔◌, ◌<◌, ◌≤◌, ◌*◌, IfErr, IfOk, IfSome, IsTrue, List, [], OnErr, OnOk, Option};
 ghost use Rattle.qcow2_alloc.specs.ImageError.{IsOfTables};
 ghost use Rattle.qcow2_alloc.specs.ImageFile.{view_in, contents_in, HasReftable};
 ghost use Rattle.qcow2_laws.specs.CrashInvariant.{Pending};
-ghost use Rattle.qcow2_metadata.specs.Header.{header, with_tables_of};
+ghost use Rattle.qcow2_metadata.specs.Header.{entries_per_cluster, header, with_fields, with_tables_of};
 ghost use Rattle.qcow2_image.specs.Image.{is_writable, HasNothingToFree};
 ghost use Rattle.qcow2_image.specs.ImageInvariant.{HasL1Table, ImageInvariant};
 ghost use Rattle.qcow2_image.specs.ImageSteps.{ImageFails, ImageStep};
-ghost use Rattle.qcow2_image.specs.Invalidated.{DropsCached, HeedsPrepared, HoldsNoTable, IsAsStored, IsAtRest};
+ghost use Rattle.qcow2_image.specs.Invalidated.{ArePlacesFor, DropsCached, HeedsPrepared, HoldsNoTable, IsAsStored};
+ghost use Rattle.qcow2_image.specs.Invalidated.{IsAtRest, KeepsTables, TakesTables};
 ghost use Rattle.qcow2_image.specs.Invalidated.{IsReasonAgainstPlaces, IsReasonAgainstReading};
 ghost use Rattle.qcow2_image.specs.Invalidated.{ReadsPlaces, ReadsTables};
 ghost use Rattle.qcow2_image.specs.Invalidated.{InvalidatesSoundly, InvalidatingFails, InvalidatingStep};
@@ -19,15 +20,37 @@ ghost use Rattle.qcow2_image.specs.declared.prepared.Prepared.{Prepared};
 
 use crate::{ImageError, Qcow2};
 use image_access::{Storage, WrappedFormat};
+use qcow2_metadata::{Header, MAX_REFTABLE_ENTRIES};
+use std::mem;
+
+// Whether the reftable of another header has more clusters than one may have, by the cluster size of this one.
+fn is_too_long(header: &Header, other: &Header) -> bool
+    ensures { IsTrue result ↔ (1048576 < other.now.fields.reftable_clusters * entries_per_cluster header.now.fields) }
+{
+    let entries = u64::from(other.reftable_clusters()) * (header.cluster_size() / 8);
+    entries > MAX_REFTABLE_ENTRIES as u64
+}
+
+// Takes over where the L1 table and the reftable of another header stand, where these aren't too long.
+fn take_places(header: &mut Header, other: &Header)
+    requires { other.now.fields.reftable_clusters * entries_per_cluster header.old.fields ≤ 1048576 }
+    ensures { header.new ≡ with_fields header.old (with_tables_of header.old.fields other.now.fields) }
+{
+    match header.update(other) {
+        Ok(()) => {}
+        Err(_) => unreachable!(),
+    }
+}
 
 #[tactic(auto, using(crate::proofs::Call::MetErrors::tables_met, crate::proofs::Call::MetErrors::storage_met, crate::proofs::Call::MetErrors::metadata_met))]
 impl<S: Storage, F: WrappedFormat<S>> Qcow2<S, F> {
-    /// Drops everything that is cached, unwritten, and reads the pointers to the tables, the L1 table and the reftable again:
-    /// for an image that another program wrote to. Call `flush` before, with no mapping prepared: everything that is not flushed is
-    /// lost, and clusters that wait to be freed stay leaked. The backing disk stays the same.
-    /// Refused 16 (failed); then 21 (still in use) while a mapping is prepared that isn't existing. By then the list of clusters to
-    /// free is empty, and only the L2 tables of such mappings are left. Then 19 (metadata), 13 (limit) and
-    /// 4 (unaligned table) for what is read. Refused 14 (memory) and 15 (storage) if the work meets them.
+    /// Drops all that it keeps of its file, unwritten, and reads anew where its tables stand, the L1 table and the reftable:
+    /// for an image that another program wrote to. Call `flush` before, with no mapping prepared: what isn't flushed is
+    /// lost, and clusters that wait to be freed stay leaked. The disk below is left alone. Refused, it still has the header, the
+    /// L1 table and the reftable that it had.
+    /// Refused 16 (failed). Then 21 (still in use) while a mapping is prepared that isn't existing; by then the clusters to
+    /// be freed are forgotten, and the L2 tables of no such mapping are dropped. Then what reading meets: 19 (metadata),
+    /// 13 (limit), 4 (unaligned table). Where the work meets them: 14 (memory), 15 (storage).
     pub fn invalidate_cache(&mut self) -> Result<(), ImageError>
         ensures step { InvalidatingStep S.view F.backing self.old self.new result }
         ensures fails { InvalidatingFails S.view F.backing self.old self.new result }
@@ -45,6 +68,7 @@ impl<S: Storage, F: WrappedFormat<S>> Qcow2<S, F> {
         ensures step { ReadsAnew S.view self.old self.new }
         ensures fails { ImageFails S.view F.backing self.old self.new result IsMet }
         ensures prepared { HeedsPrepared self.old result }
+        ensures kept { OnErr result (KeepsTables self.old self.new) }
         ensures why { (view_in S.view self.old.file).is_honest
             → IfErr result (IsReasonAgainstReading S.view self.old self.new) }
         ensures list { HasNothingToFree self.new }
@@ -54,8 +78,8 @@ impl<S: Storage, F: WrappedFormat<S>> Qcow2<S, F> {
             → ImageInvariant S.view F.backing p self.old out → UnseenStep S.view F.backing p p self.old self.new out }
     {
         self.drop_cached()?;
-        self.read_places()?;
-        self.read_tables()
+        let places = self.read_places()?;
+        self.take_over(places)
     }
 
     // Empties the list of clusters to free, and drops the L2 tables, then the refblocks.
@@ -77,13 +101,14 @@ impl<S: Storage, F: WrappedFormat<S>> Qcow2<S, F> {
         }
     }
 
-    // Reads the pointers to the L1 table and the reftable.
-    fn read_places(&mut self) -> Result<(), ImageError>
+    // Reads where the L1 table and the reftable stand: the header in memory with these places, without its names.
+    fn read_places(&mut self) -> Result<Header, ImageError>
         ensures step { ReadsPlaces S.view self.old self.new }
         ensures fails { ImageFails S.view F.backing self.old self.new result IsOfTables }
+        ensures places { IfOk result (ArePlacesFor self.old) }
         ensures read { (view_in S.view self.old.file).is_honest
-            → OnOk result (with_tables_of self.old.file.header.fields
-            (header (contents_in S.view self.old.file)) ≡ self.new.file.header.fields) }
+            → IfOk result (λ places. with_tables_of self.old.file.header.fields
+            (header (contents_in S.view self.old.file)) ≡ places.fields) }
         ensures why { (view_in S.view self.old.file).is_honest → IfErr result (IsReasonAgainstPlaces
             self.old.file.header.fields (contents_in S.view self.old.file) (is_writable self.old)) }
         ensures keeps { (p : Pending) (out : List (Option Prepared)) → ImageInvariant S.view F.backing p self.old out
@@ -92,14 +117,44 @@ impl<S: Storage, F: WrappedFormat<S>> Qcow2<S, F> {
         self.file.storage.invalidate_cache()?;
         let writable = self.allocator.is_some();
         let header = self.file.storage.load_header(self.file.alloc, writable)?;
-        self.file.header.update(&header)?;
+        if is_too_long(&self.file.header, &header) {
+            return Err(ImageError::Limit);
+        }
+        let mut places = self.file.header.without_names();
+        take_places(&mut places, &header);
+        Ok(places)
+    }
+
+    // Reads the L1 table and the reftable at these places, and takes them over with the places: all together, or none.
+    fn take_over(&mut self, places: Header) -> Result<(), ImageError>
+        requires { ArePlacesFor self.old places }
+        ensures step { TakesTables S.view self.old self.new }
+        ensures fails { ImageFails S.view F.backing self.old self.new result IsMet }
+        ensures kept { OnErr result (KeepsTables self.old self.new) }
+        ensures taken { OnOk result (self.new.file.header.fields ≡ places.fields) }
+        ensures read { (view_in S.view self.old.file).is_honest
+            → OnOk result (HasL1Table S.view F.backing self.new.file self.new.l1_table
+            × IfSome self.new.allocator (λ a. HasReftable S.view self.new.file a.reftable)) }
+        ensures why { (view_in S.view self.old.file).is_honest → IfErr result (IsReasonAgainstTables
+            places.fields (contents_in S.view self.old.file) (is_writable self.old)) }
+        ensures keeps { places.fields ≡ self.old.file.header.fields → (p : Pending) (out : List (Option Prepared))
+            → ImageInvariant S.view F.backing p self.old out
+            → UnseenStep S.view F.backing p p self.old self.new out }
+    {
+        let named = mem::replace(&mut self.file.header, places);
+        let read = self.read_tables();
+        let places = mem::replace(&mut self.file.header, named);
+        read?;
+        take_places(&mut self.file.header, &places);
         Ok(())
     }
 
-    // Reads the L1 table and, for writing, the reftable. The clusters that these refer to are never allocated then, even if their refcounts are 0.
+    // Reads the L1 table and, for writing, the reftable, and then takes both over. No cluster that these name is taken then,
+    // even if it isn't counted.
     fn read_tables(&mut self) -> Result<(), ImageError>
         ensures step { ReadsTables S.view self.old self.new }
         ensures fails { ImageFails S.view F.backing self.old self.new result IsMet }
+        ensures refused { OnErr result ((self.new.l1_table ≡ self.old.l1_table) × (self.new.allocator ≡ self.old.allocator)) }
         ensures read { (view_in S.view self.old.file).is_honest
             → OnOk result (HasL1Table S.view F.backing self.new.file self.new.l1_table
             × IfSome self.new.allocator (λ a. HasReftable S.view self.new.file a.reftable)) }

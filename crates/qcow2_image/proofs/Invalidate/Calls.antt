@@ -1,26 +1,25 @@
 -- An image whose tables were dropped and read anew, from the parts of the call.
-use Rattle.std.proofs.Common.{◌≡◌, ℕ, ◌<◌, List, inl, inr, Result, Ok, Err, refl, sym, ap, ◌∙◌, subst}
-use Rattle.std.specs.Prelude.{IfSome, IsSome, OnOk, Option}
+use Rattle.std.proofs.Common.{◌≡◌, ℕ, ◌<◌, ◌≤◌, ◌*◌, List, inl, inr, Result, Ok, Err, refl, sym, ap, ◌∙◌, subst}
+use Rattle.std.specs.Prelude.{IfSome, IsErrAnd, IsSome, OnOk, Option}
 use Rattle.image_access.specs.Backing.{BackingView}
 use Rattle.image_access.specs.Moments.{StorageView}
 use Rattle.qcow2_metadata.specs.Bytes.{byte_at}
-use Rattle.qcow2_metadata.specs.Header.{HeaderView, header, with_fields, with_tables_of}
+use Rattle.qcow2_metadata.specs.Header.{HeaderView, entries_per_cluster, header, with_fields, with_tables_of}
 use Rattle.qcow2_metadata.specs.declared.header.HeaderFields.{HeaderFields}
 use Rattle.qcow2_laws.specs.CrashInvariant.{Pending}
 use Rattle.qcow2_alloc.specs.CachePins.{l2_pins, CachesHaveRoom}
 use Rattle.qcow2_alloc.specs.ImageError.{IsFault}
 use Rattle.qcow2_alloc.specs.ImageFile.{contents_in, known_in, view_in, HasReftable}
-use Rattle.qcow2_alloc.specs.MetadataCaches.{l2_at, rb_at}
+use Rattle.qcow2_alloc.specs.MetadataCaches.{l2_at, rb_at, AreAllWritten}
 use Rattle.qcow2_alloc.specs.declared.cache.MetadataCaches.{MetadataCaches}
 use Rattle.qcow2_alloc.specs.declared.error.ImageError.{ImageError}
 use Rattle.qcow2_alloc.specs.declared.error.ImageError.TheVariants as I
 use Rattle.qcow2_alloc.specs.declared.image_file.ImageFile.{ImageFile}
 use Rattle.qcow2_alloc.proofs.KeptMarks.{notes_then}
-use Rattle.qcow2_image.specs.BehindHeader.{NamesTablesBehind}
 use Rattle.qcow2_image.specs.Image.{is_writable, leaked_in, ImageStays, IsBegun}
 use Rattle.qcow2_image.specs.ImageInvariant.{HasL1Table, ImageInvariant}
 use Rattle.qcow2_image.specs.ImageSteps.{ImageStep}
-use Rattle.qcow2_image.specs.Invalidated.{DropsCached, HeedsPrepared, HoldsNoTable, IsAsStored, IsAtRest, IsReasonAgainstPlaces, IsReasonAgainstReading, IsReasonNotToRead, ReadsAnew, ReadsPlaces, ReadsTables}
+use Rattle.qcow2_image.specs.Invalidated.{ArePlacesFor, DropsCached, HeedsPrepared, HoldsNoTable, IsAsStored, IsAtRest, IsReasonAgainstPlaces, IsReasonAgainstReading, IsOfPrepared, IsReasonNotToRead, IsStillInUse, KeepsTables, ReadsAnew, ReadsPlaces, TakesTables, reftable_in}
 use Rattle.qcow2_image.specs.PinnedTables.{HasPinnedTable}
 use Rattle.qcow2_image.specs.Readable.{IsReasonAgainstTables}
 use Rattle.qcow2_image.specs.Unwritten.{ContentsStayThroughout}
@@ -28,7 +27,8 @@ use Rattle.qcow2_image.specs.declared.image.Qcow2.{Qcow2}
 use Rattle.qcow2_image.specs.declared.prepared.Prepared.{Prepared}
 use Rattle.qcow2_image.proofs.Call.BehindHeader.{behind_then}
 use Rattle.qcow2_image.proofs.Call.ImageSteps.{step_then}
-use Rattle.qcow2_image.proofs.Invalidate.Reading.{silent_then}
+use Rattle.qcow2_image.proofs.Invalidate.Reading.{silent_none, silent_then, stays_over}
+use Rattle.qcow2_image.proofs.Invalidate.TakenOver.{kept_then}
 use Rattle.qcow2_image.proofs.Invalidate.Reasons.{l1_fault, places_fault, reftable_fault}
 
 -- what holds in any case holds of an answer
@@ -40,6 +40,10 @@ pub on_map : {A E : Type 0} {P Q : Type 0} (r : Result A E) → (P → Q) → On
 on_map (Ok x) follows holds = follows holds
 on_map (Err e) follows holds = tt
 
+pub on_both : {A E : Type 0} {P Q R : Type 0} (r : Result A E) → (P → Q → R) → OnOk r P → OnOk r Q → OnOk r R
+on_both (Ok x) follows first second = follows first second
+on_both (Err e) follows first second = tt
+
 stays_on : {S F : Type 0} {a b c : Qcow2 S F} → ImageStays a b → ImageStays b c → ImageStays a c
 stays_on first then = record {
   image = record {
@@ -49,6 +53,19 @@ stays_on first then = record {
     external = then.image.external ∙ first.image.external;
   };
   failed = then.failed ∙ first.failed;
+}
+
+-- the clusters to be freed are forgotten, and tables are dropped: those in memory stay
+pub kept_dropped : {S F : Type 0} (a b : Qcow2 S F) → DropsCached a b → KeepsTables a b
+kept_dropped a b drops = record { header = ap (λ (i : Qcow2 _ _). i.file.header) drops.rest; l1_table = ap (λ (i : Qcow2 _ _). i.l1_table) drops.rest; reftable = drops.reftable }
+
+-- the first part left it so
+pub anew_dropped : {S F : Type 0} (view : S → StorageView) (a b : Qcow2 S F) → ImageStep view a b → DropsCached a b → ReadsAnew view a b
+anew_dropped view a b step drops = record {
+  part = record { stays = step.stays; notes = step.notes; header_cluster = λ names. step.header_cluster };
+  rest = record { header = stays_over a.file.header b.file.header (ap (λ (i : Qcow2 _ _). i.file.header) drops.rest); below = ap (λ (i : Qcow2 _ _). i.backing) drops.rest; leaks = drops.leaks };
+  silent = λ honest. subst (λ (v : StorageView). ContentsStayThroughout (view_in view a.file) v) (sym (ap (λ (i : Qcow2 _ _). view_in view i.file) drops.rest)) (silent_none (view_in view a.file));
+  unmodified = drops.unmodified;
 }
 
 module _ {S F : Type 0} (view : S → StorageView) (a b d : Qcow2 S F) (step : ImageStep view a b) (drops : DropsCached a b) (places : ReadsPlaces view b d) where
@@ -65,10 +82,41 @@ module _ {S F : Type 0} (view : S → StorageView) (a b d : Qcow2 S F) (step : I
   pub honest_places : (view_in view a.file).is_honest → (view_in view b.file).is_honest
   honest_places honest = subst (λ (v : StorageView). v.is_honest) (sym same_view) honest
 
-  module _ (e : Qcow2 S F) (tables : ReadsTables view d e) where
-    last_header : e.file.header ≡ d.file.header
-    last_header = ap (λ (i : Qcow2 S F). i.file.header) tables.rest
+  placed_header : d.file.header ≡ b.file.header
+  placed_header = ap (λ (i : Qcow2 S F). i.file.header) places.rest
 
+  unmodified_places : AreAllWritten b.file.caches → AreAllWritten d.file.caches
+  unmodified_places all = subst AreAllWritten (sym (ap (λ (i : Qcow2 S F). i.file.caches) places.rest)) all
+
+  pub anew_places : ReadsAnew view a d
+  anew_places =
+      let first = step_then step places.part in
+      record {
+        part = record { stays = first.stays; notes = first.notes; header_cluster = λ names. first.header_cluster };
+        rest = record {
+          header = stays_over a.file.header d.file.header (placed_header ∙ same_header);
+          below = ap (λ (i : Qcow2 S F). i.backing) places.rest ∙ ap (λ (i : Qcow2 S F). i.backing) drops.rest;
+          leaks = ap (λ (i : Qcow2 S F). leaked_in i) places.rest ∙ drops.leaks;
+        };
+        silent = silent_places;
+        unmodified = λ none. unmodified_places (drops.unmodified none);
+      }
+
+  pub kept_places : KeepsTables a d
+  kept_places = kept_then (kept_dropped a b drops) (record {
+    header = placed_header;
+    l1_table = ap (λ (i : Qcow2 S F). i.l1_table) places.rest;
+    reftable = ap (λ (i : Qcow2 S F). reftable_in i) places.rest;
+  })
+
+  -- the places that were read for one image are places for the next
+  pub places_for : (w : HeaderView) → ArePlacesFor b w → ArePlacesFor d w
+  places_for w are = record {
+    others = subst (λ (v : HeaderView). w.fields ≡ with_tables_of v.fields w.fields) (sym placed_header) are.others;
+    few = subst (λ (v : HeaderView). w.fields.reftable_clusters * entries_per_cluster v.fields ≤ 1048576) (sym placed_header) are.few;
+  }
+
+  module _ (e : Qcow2 S F) (tables : TakesTables view d e) where
     pub anew_then : ReadsAnew view a e
     anew_then =
         let first = step_then step places.part in
@@ -76,15 +124,15 @@ module _ {S F : Type 0} (view : S → StorageView) (a b d : Qcow2 S F) (step : I
           part = record {
             stays = stays_on first.stays tables.part.stays;
             notes = notes_then first.notes tables.part.notes;
-            header_cluster = λ names. behind_then first.header_cluster (tables.part.header_cluster (subst (λ (v : HeaderView). NamesTablesBehind v.fields) last_header names));
+            header_cluster = λ names. behind_then first.header_cluster (tables.part.header_cluster names);
           };
           rest = record {
-            header = subst (λ (v : HeaderView). v ≡ with_fields a.file.header (with_tables_of a.file.header.fields v.fields)) (sym last_header)
-                (subst (λ (v : HeaderView). d.file.header ≡ with_fields v (with_tables_of v.fields d.file.header.fields)) same_header places.header);
+            header = subst (λ (v : HeaderView). e.file.header ≡ with_fields v (with_tables_of v.fields e.file.header.fields)) (placed_header ∙ same_header) tables.header;
             below = ap (λ (i : Qcow2 S F). i.backing) tables.rest ∙ ap (λ (i : Qcow2 S F). i.backing) places.rest ∙ ap (λ (i : Qcow2 S F). i.backing) drops.rest;
             leaks = tables.leaks ∙ ap (λ (i : Qcow2 S F). leaked_in i) places.rest ∙ drops.leaks;
           };
           silent = λ honest. silent_then (view_in view a.file) (view_in view d.file) (view_in view e.file) honest (silent_places honest) tables.silent;
+          unmodified = λ none. subst AreAllWritten (sym (ap (λ (i : Qcow2 S F). i.file.caches) tables.rest)) (unmodified_places (drops.unmodified none));
         }
 
     -- no table came into the caches
@@ -93,12 +141,12 @@ module _ {S F : Type 0} (view : S → StorageView) (a b d : Qcow2 S F) (step : I
         let same : e.file.caches ≡ b.file.caches = ap (λ (i : Qcow2 S F). i.file.caches) tables.rest ∙ ap (λ (i : Qcow2 S F). i.file.caches) places.rest in
         record { tables = λ k. ap (λ (m : MetadataCaches S). l2_at m k) same ∙ none.tables k; blocks = λ k. ap (λ (m : MetadataCaches S). rb_at m k) same ∙ none.blocks k }
 
-    pub as_stored : (backing : F → BackingView) → (view_in view a.file).is_honest → with_tables_of b.file.header.fields (header (contents_in view b.file)) ≡ d.file.header.fields
+    pub as_stored : (backing : F → BackingView) (w : HeaderView) → (view_in view a.file).is_honest → with_tables_of b.file.header.fields (header (contents_in view b.file)) ≡ w.fields → e.file.header.fields ≡ w.fields
         → HasL1Table view backing e.file e.l1_table × IfSome e.allocator (λ x. HasReftable view e.file x.reftable) → IsAsStored view backing e
-    as_stored backing honest there has =
+    as_stored backing w honest there taken has =
         let all = silent_then (view_in view a.file) (view_in view d.file) (view_in view e.file) honest (silent_places honest) tables.silent in
         let same : (view_in view e.file).contents ≡ (view_in view b.file).contents = all.0 honest ∙ sym (ap (λ (v : StorageView). v.contents) same_view) in
-        let fields : e.file.header.fields ≡ with_tables_of b.file.header.fields (header (contents_in view b.file)) = ap (λ (v : HeaderView). v.fields) last_header ∙ sym there in
+        let fields : e.file.header.fields ≡ with_tables_of b.file.header.fields (header (contents_in view b.file)) = taken ∙ sym there in
         record {
           header_is =
               subst (λ (h : HeaderFields). with_tables_of h (header (contents_in view e.file)) ≡ h) (sym fields)
@@ -131,6 +179,18 @@ module _ {S F : Type 0} (view : S → StorageView) (old new : Qcow2 S F) where
           | inr reftable ↦ reftable_fault h b top e reftable.2
         ]
       ]
+
+-- ---- while a mapping is prepared, and where it is told so
+module _ {S F : Type 0} (old : Qcow2 S F) where
+  pub heeds_all : (r : Result (Unit {0}) ImageError) → HasPinnedTable old → HeedsPrepared old r → IsErrAnd r IsOfPrepared
+  heeds_all (Ok x) has none = absurd (none has)
+  heeds_all (Err (I.StillInUse tables)) has heeds = inl tt
+  heeds_all (Err I.Memory) has heeds = inr refl
+  heeds_all (Err e) has none = absurd (none has)
+
+  pub told_in_use : (view : S → StorageView) (new : Qcow2 S F) (P : Type 0) → (HasPinnedTable old → P) → CachesHaveRoom old.file.caches → (e : ImageError) → IsReasonAgainstReading view old new e → IsStillInUse e → P
+  told_in_use view new P then room (I.StillInUse tables) why is = elim why [ inl has ↦ then has.0 | inr full ↦ absurd (full room) ]
+  told_in_use view new P then room e why is = absurd is
 
 -- ---- since the call began, and after it was marked
 module _ {S F : Type 0} (view : S → StorageView) (old begun : Qcow2 S F) (begins : IsBegun old begun) where

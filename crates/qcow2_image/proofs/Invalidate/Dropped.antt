@@ -1,4 +1,5 @@
 -- Tables are dropped of an image at rest: no guest sees it.
+use Rattle.std.proofs.lemmas.Bool.{cases_Bool}
 use Rattle.std.proofs.Common.{◌≡◌, ℕ, ◌<◌, ◌/◌, ◌==◌, Bool, false, inl, inr, List, [], ◌∷◌, length, map, Option, Some, None, Result, Ok, Err, refl, sym, ap, ◌∙◌, subst, arith}
 use Rattle.std.specs.Prelude.{◌≢◌, IfErr, IfSome, OnOk}
 use mathlib.Core.Path.{fun_ext}
@@ -9,14 +10,15 @@ use Rattle.qcow2_metadata.specs.EntryTable.{EntryTableView, entry_count}
 use Rattle.qcow2_metadata.specs.Header.{cluster_size}
 use Rattle.qcow2_metadata.specs.L2Table.{L2TableView}
 use Rattle.qcow2_metadata.specs.declared.header.HeaderFields.{HeaderFields}
+use Rattle.qcow2_laws.specs.Caches.{AreClean}
 use Rattle.qcow2_laws.specs.Clusters.{Direction}
 use Rattle.qcow2_laws.specs.CrashInvariant.{Pending, CrashInvariant}
-use Rattle.qcow2_alloc.specs.AsyncLruCache.{pinned, pins_at, value_at}
+use Rattle.qcow2_alloc.specs.AsyncLruCache.{is_pinned, pinned, pins_at, value_at}
 use Rattle.qcow2_alloc.specs.CachePins.{l2_pins, CachesHaveRoom, LeavesPinned}
 use Rattle.qcow2_alloc.specs.BehindHeader.{KeepBehindHeader}
 use Rattle.qcow2_alloc.specs.ImageFile.{contents_in, known_in, view_in}
 use Rattle.qcow2_alloc.specs.KeptTables.{cached_tables}
-use Rattle.qcow2_alloc.specs.MetadataCaches.{known_of, l2_tables, order_of, CacheInvariant, TakenOff, TakesOff, UnseenCacheStep}
+use Rattle.qcow2_alloc.specs.MetadataCaches.{known_of, l2_tables, order_of, refblocks, AreAllWritten, CacheInvariant, TakenOff, TakesOff, UnseenCacheStep}
 use Rattle.qcow2_alloc.specs.declared.async_lru_cache.slot.Slot.{Slot}
 use Rattle.qcow2_alloc.specs.declared.clusters_to_free.ClustersToFreeEntry.{ClustersToFreeEntry}
 use Rattle.qcow2_alloc.specs.declared.error.ImageError.{ImageError}
@@ -27,6 +29,7 @@ use Rattle.qcow2_alloc.specs.declared.allocation.Allocator.{Allocator}
 use Rattle.qcow2_alloc.specs.declared.cache.MetadataCaches.{MetadataCaches}
 use Rattle.qcow2_alloc.proofs.KeptTables.Turning.{safe_none}
 use Rattle.qcow2_alloc.proofs.CachedEntries.FirstPinned.{none_pinned}
+use Rattle.qcow2_alloc.proofs.CachedEntries.Lists.{pinned_gone, pinned_kept}
 use Rattle.qcow2_alloc.proofs.CachedEntries.Pins.{pinned_twice}
 use Rattle.qcow2_alloc.proofs.HeaderClusters.{bytes_stay}
 use Rattle.qcow2_image.specs.BehindHeader.{IsBesideNumbers, KeepsTablesBehind}
@@ -113,6 +116,25 @@ module _ {V : Type 0} where
   left_none es fs (Ok x) left = left.1
   left_none es fs (Err e) left = tt
 
+  -- those that stay are as little modified as all were
+  clean_pinned : (bits bits' : ℕ) (bytes : V → List ℕ) (is_modified : V → Bool) (es : List (ℕ × Slot V)) → AreClean (cached_tables bits bytes is_modified es) → AreClean (cached_tables bits' bytes is_modified (pinned es))
+  clean_pinned bits bits' bytes is_modified [] clean = tt
+  clean_pinned bits bits' bytes is_modified (e ∷ es) clean = elim (cases_Bool (is_pinned e.1)) [
+    | inl some ↦ subst (λ l. AreClean (cached_tables bits' bytes is_modified l)) (sym (pinned_kept e es some)) (clean.0, clean_pinned bits bits' bytes is_modified es clean.1)
+    | inr none ↦ subst (λ l. AreClean (cached_tables bits' bytes is_modified l)) (sym (pinned_gone e es none)) (clean_pinned bits bits' bytes is_modified es clean.1)
+  ]
+
+  clean_moved : (bits bits' : ℕ) (bytes : V → List ℕ) (is_modified : V → Bool) (es : List (ℕ × Slot V)) → AreClean (cached_tables bits bytes is_modified es) → AreClean (cached_tables bits' bytes is_modified es)
+  clean_moved bits bits' bytes is_modified [] clean = tt
+  clean_moved bits bits' bytes is_modified (e ∷ es) clean = (clean.0, clean_moved bits bits' bytes is_modified es clean.1)
+
+  pub clean_left : (bits bits' : ℕ) (bytes : V → List ℕ) (is_modified : V → Bool) (es fs : List (ℕ × Slot V)) (r : Result (Unit {0}) ImageError) → LeavesPinned es r fs → AreClean (cached_tables bits bytes is_modified es) → AreClean (cached_tables bits' bytes is_modified fs)
+  clean_left bits bits' bytes is_modified es fs (Ok x) left clean = subst (λ l. AreClean (cached_tables bits' bytes is_modified l)) (sym left.1) tt
+  clean_left bits bits' bytes is_modified es fs (Err e) left clean = elim left.1 [
+    | inl memory ↦ subst (λ l. AreClean (cached_tables bits' bytes is_modified l)) (sym memory.1) (clean_moved bits bits' bytes is_modified es clean)
+    | inr used ↦ subst (λ l. AreClean (cached_tables bits' bytes is_modified l)) (sym used.3) (clean_pinned bits bits' bytes is_modified es clean)
+  ]
+
   pub none_held : (es : List (ℕ × Slot V)) → es ≡ [] → (c : ℕ) → value_at (λ k. c == k) es ≡ None
   none_held es is c = ap (λ (l : List (ℕ × Slot V)). value_at (λ k. c == k) l) is
 
@@ -169,6 +191,13 @@ module _ {S F : Type 0} (view : S → StorageView) (backing : F → BackingView)
     | inl memory ↦ subst (IsReasonAgainstReading view old new) (sym memory.0) (inl tt)
     | inr used ↦ subst (IsReasonAgainstReading view old new) (sym used.1) (inr (λ room. lacks_room es fs e left (free room)))
   ]
+
+-- both caches drop tables: of the L2 tables first, of the refblocks then
+pub unmodified_l2 : {S : Type 0} (caches caches' : MetadataCaches S) (r : Result (Unit {0}) ImageError) → LeavesPinned caches.l2.entries r caches'.l2.entries → refblocks caches' ≡ refblocks caches → AreAllWritten caches → AreAllWritten caches'
+unmodified_l2 caches caches' r left same all = (clean_left _ _ _ _ caches.l2.entries caches'.l2.entries r left all.0, subst AreClean (sym same) all.1)
+
+pub unmodified_rb : {S : Type 0} (caches caches' : MetadataCaches S) (r : Result (Unit {0}) ImageError) → LeavesPinned caches.rb.entries r caches'.rb.entries → l2_tables caches' ≡ l2_tables caches → AreAllWritten caches → AreAllWritten caches'
+unmodified_rb caches caches' r left same all = (subst AreClean (sym same) all.0, clean_left _ _ _ _ caches.rb.entries caches'.rb.entries r left all.1)
 
 -- without an L2 table there is no entry for one
 no_entry : {A B : Type 0} (f : A → B) (es : List A) → map f es ≡ [] → es ≡ []

@@ -2,7 +2,7 @@
 use Rattle.std.proofs.Common.{◌≡◌, inl, inr, ℕ, Bool, List, Option, Some, None, Result, refl, sym, ap, ◌∙◌, subst, arith}
 use Rattle.image_access.specs.Backing.{BackingView}
 use Rattle.image_access.specs.Moments.{StorageView, ContentsStay, EachMomentSince, IsLeftBy}
-use Rattle.image_access.proofs.EachMomentSince.{passes_if, passes_on}
+use Rattle.image_access.proofs.EachMomentSince.{passes_if, passes_none, passes_on}
 use Rattle.qcow2_metadata.specs.Bytes.{Bytes, byte_at}
 use Rattle.qcow2_metadata.specs.Entries.{l1_entry, reftable_entry}
 use Rattle.qcow2_metadata.specs.EntryTable.{EntryTableView}
@@ -31,7 +31,6 @@ use Rattle.qcow2_alloc.specs.SparedHeaders.{StandsBehindHeader}
 use Rattle.std.specs.Prelude.{is_some}
 use Rattle.qcow2_alloc.proofs.HeaderClusters.{bytes_stay, same_kept}
 use Rattle.qcow2_alloc.proofs.KeptMarks.{notes_of_storage}
-use Rattle.qcow2_metadata.specs.Header.{has_data_file}
 use Rattle.qcow2_image.specs.BehindHeader.{IsBesideNumbers, IsL1TableBehind, KeepsTablesBehind, NamesTablesBehind, TablesBehindHeader}
 use Rattle.qcow2_image.specs.Image.{leaked_by, leaked_in}
 use Rattle.qcow2_image.specs.Invalidated.{ReadsPlaces, ReadsTables, WritesNothing}
@@ -42,6 +41,9 @@ use Rattle.qcow2_alloc.specs.declared.cache.MetadataCaches.{MetadataCaches}
 pub silent_read : {T : Type 0} (old new : StorageView) (result : Result T MetadataError) → OnlyReads old new result → old.is_honest → ContentsStayThroughout old new
 silent_read old new result reads honest = (reads.same, reads.time honest)
 
+pub silent_none : (v : StorageView) → ContentsStayThroughout v v
+silent_none v = ((λ honest. refl), passes_none v (IsLeftBy v))
+
 pub silent_then : (old mid new : StorageView) → old.is_honest → ContentsStayThroughout old mid → (mid.is_honest → ContentsStayThroughout mid new) → ContentsStayThroughout old new
 silent_then old mid new honest first then =
     let there = first.1.honest honest in
@@ -49,9 +51,9 @@ silent_then old mid new honest first then =
     let same = first.0 honest in
     ((λ _. last.0 there ∙ same), passes_on (IsLeftBy old) first.1 last.1 (λ c is. is ∙ same))
 
--- the header's tables are those in memory
-pub same_places : (v v' : HeaderView) (other : HeaderFields) (b : Bytes) → IsTop v.fields b → other ≡ header b → v' ≡ with_fields v (with_tables_of v.fields other) → v' ≡ v
-same_places v v' other b top there is = is ∙ ap (λ (h : HeaderFields). with_fields v (with_tables_of v.fields h)) (there ∙ top.header_is)
+-- places that were found in the header of a sound image are those in memory
+pub same_places : (h w : HeaderFields) (b : Bytes) → IsTop h b → with_tables_of h (header b) ≡ w → w ≡ h
+same_places h w b top there = sym there ∙ ap (λ (k : HeaderFields). with_tables_of h k) top.header_is
 
 -- ---- tables that were read before the last bytes were
 module _ {S F : Type 0} (view : S → StorageView) (backing : F → BackingView) (file : ImageFile S) (storage' : ImageStorage S) (same : (view (storage_of storage')).contents ≡ (view_in view file).contents) where
@@ -100,20 +102,16 @@ behind_silent {v = v} {v' = v'} kept silent = record {
   };
 }
 
-module _ {S F : Type 0} (view : S → StorageView) (old : Qcow2 S F) (storage' : ImageStorage S) (v : HeaderView) (same : SameNotes old.file.storage storage') (silent : (view_in view old.file).is_honest → ContentsStayThroughout (view_in view old.file) (view (storage_of storage')))
-    (honest : (view_in view old.file).is_honest → (view (storage_of storage')).is_honest) (is : v ≡ with_fields old.file.header (with_tables_of old.file.header.fields v.fields)) where
-  pub places_read : ReadsPlaces view old (record old { file = record old.file { storage = storage'; header = v } })
+module _ {S F : Type 0} (view : S → StorageView) (old : Qcow2 S F) (storage' : ImageStorage S) (same : SameNotes old.file.storage storage') (silent : (view_in view old.file).is_honest → ContentsStayThroughout (view_in view old.file) (view (storage_of storage')))
+    (honest : (view_in view old.file).is_honest → (view (storage_of storage')).is_honest) where
+  pub places_read : ReadsPlaces view old (record old { file = record old.file { storage = storage' } })
   places_read = record {
     part = record {
-      stays = record {
-        image = record { number = refl; size = ap (λ (x : HeaderView). x.fields.size) is; writable = refl; external = ap (λ (x : HeaderView). has_data_file x.fields) is };
-        failed = refl;
-      };
+      stays = record { image = record { number = refl; size = refl; writable = refl; external = refl }; failed = refl };
       notes = notes_of_storage (kept_silent view old.file.storage storage' same silent honest);
-      header_cluster = behind_silent (λ bits lies. record { header = ap (λ (x : HeaderView). x.fields.cluster_bits) is ∙ lies.header; l1 = lies.l1; caches = lies.caches; reftable = lies.reftable }) silent;
+      header_cluster = behind_silent (λ bits lies. lies) silent;
     };
     rest = refl;
-    header = is;
     silent = silent;
   }
 

@@ -12,30 +12,33 @@ use Rattle.qcow2_image.specs.Invalidated.{IsReasonAgainstPlaces, IsReasonAgainst
 use Rattle.qcow2_image.specs.Readable.{IsReasonAgainstTables}
 use Rattle.qcow2_image.specs.declared.image.Qcow2.{Qcow2}
 use Rattle.qcow2_image.proofs.Call.Called.{keeps_then}
-use Rattle.qcow2_image.proofs.Invalidate.Calls.{anew_then, as_stored, honest_places, none_held_then, on_any, on_map, places_reason, silent_places, tables_reason}
+use Rattle.qcow2_image.proofs.Call.FaultCounts.{counted_since, faults_then}
+use Rattle.qcow2_image.proofs.Invalidate.Calls.{anew_then, as_stored, honest_places, anew_dropped, anew_places, kept_dropped, kept_places, none_held_then, on_any, on_both, places_for, places_reason, silent_places, tables_reason}
+use Rattle.qcow2_image.proofs.Invalidate.Reading.{same_places}
+use Rattle.qcow2_image.proofs.Invalidate.TakenOver.{kept_then, on_refused, on_refused_map}
 use Rattle.qcow2_image.proofs.image.Qcow2.drop_and_read.Goals as goal
 
-pub returns-in_err-read_places-clause-why : goal.returns-in_err-read_places-clause-why
-returns-in_err-read_places-clause-why g c = λ honest.
+pub returns-in_err-places-clause-why : goal.returns-in_err-places-clause-why
+returns-in_err-places-clause-why g c = λ honest.
     let view = g.S.Storage.view in
     let old = c.args.self.now in
     let dropped = c.drop_cached.new.self in
     let placed = c.read_places.new.self in
     let drops = c.drop_cached.ensures in
     let places = c.read_places.ensures in
-    let e = c.in_err-read_places.field-0.0 in
-    let why = c.in_err-read_places.ensures.why (honest_places view old dropped placed drops.step drops.rest places.step honest) in
+    let e = c.in_err-places.field-0.0 in
+    let why = c.in_err-places.ensures.why (honest_places view old dropped placed drops.step drops.rest places.step honest) in
     let there = subst (λ (w : Bool). IsReasonAgainstPlaces dropped.file.header.fields (contents_in view dropped.file) w e) drops.step.stays.image.writable why in
     let here = subst (λ (i : Qcow2 _ _). IsReasonAgainstPlaces i.file.header.fields (contents_in view i.file) (is_writable old) e) drops.rest.rest there in
-    handed_on (λ (r : Result _ ImageError). IfErr r (IsReasonAgainstReading view old placed)) c.from_residual-in_err-read_places.result e c.from_residual-in_err-read_places.ensures (places_reason view old placed e here)
+    handed_on (λ (r : Result _ ImageError). IfErr r (IsReasonAgainstReading view old placed)) c.from_residual-in_err-places.result e c.from_residual-in_err-places.ensures (places_reason view old placed e here)
 
-pub returns-in_err-read_places-clause-keeps : goal.returns-in_err-read_places-clause-keeps
-returns-in_err-read_places-clause-keeps g c = λ rest p out sound.
+pub returns-in_err-places-clause-keeps : goal.returns-in_err-places-clause-keeps
+returns-in_err-places-clause-keeps g c = λ rest p out sound.
     let first = c.drop_cached.ensures.keeps rest p out sound in
     keeps_then g.S.Storage.view g.F.BackingDisk.backing out c.args.self.now c.drop_cached.new.self c.read_places.new.self p p p (λ k h. h) first (c.read_places.ensures.keeps p out first.sound)
 
 pub returns-clause-step : goal.returns-clause-step
-returns-clause-step g c = anew_then g.S.Storage.view c.args.self.now c.drop_cached.new.self c.read_places.new.self c.drop_cached.ensures.step c.drop_cached.ensures.rest c.read_places.ensures.step c.read_tables.new.self c.read_tables.ensures.step
+returns-clause-step g c = anew_then g.S.Storage.view c.args.self.now c.drop_cached.new.self c.read_places.new.self c.drop_cached.ensures.step c.drop_cached.ensures.rest c.read_places.ensures.step c.take_over.new.self c.take_over.ensures.step
 
 pub returns-clause-why : goal.returns-clause-why
 returns-clause-why g c = λ honest.
@@ -45,22 +48,22 @@ returns-clause-why g c = λ honest.
     let placed = c.read_places.new.self in
     let drops = c.drop_cached.ensures in
     let places = c.read_places.ensures in
-    let new = c.read_tables.new.self in
+    let new = c.take_over.new.self in
     let there = honest_places view old dropped placed drops.step drops.rest places.step honest in
     let silent = silent_places view old dropped placed drops.step drops.rest places.step honest in
-    let named = c.in_ok-read_places.ensures.read there in
-    IfErr-weaker c.read_tables.result (IsReasonAgainstTables placed.file.header.fields (contents_in view placed.file) (is_writable placed)) (IsReasonAgainstReading view old new)
+    let named = c.in_ok-places.ensures.read there in
+    IfErr-weaker c.take_over.result (IsReasonAgainstTables c.in_ok-places.places.fields (contents_in view placed.file) (is_writable placed)) (IsReasonAgainstReading view old new)
     (λ e why.
-    let first = subst (λ (w : Bool). IsReasonAgainstTables placed.file.header.fields (contents_in view placed.file) w e) (places.step.part.stays.image.writable ∙ drops.step.stays.image.writable) why in
-    let second = subst (λ (k : List ℕ). IsReasonAgainstTables placed.file.header.fields (byte_at k) (is_writable old) e) (silent.0 honest) first in
+    let first = subst (λ (w : Bool). IsReasonAgainstTables c.in_ok-places.places.fields (contents_in view placed.file) w e) (places.step.part.stays.image.writable ∙ drops.step.stays.image.writable) why in
+    let second = subst (λ (k : List ℕ). IsReasonAgainstTables c.in_ok-places.places.fields (byte_at k) (is_writable old) e) (silent.0 honest) first in
     let third = subst (λ (h : HeaderFields). IsReasonAgainstTables h (contents_in view old.file) (is_writable old) e) (sym named) second in
     tables_reason view old new e (subst (λ (i : Qcow2 _ _). IsReasonAgainstTables (with_tables_of i.file.header.fields (header (contents_in view i.file))) (contents_in view old.file) (is_writable old) e) drops.rest.rest third))
-    (c.read_tables.ensures.why (silent.1.honest honest))
+    (c.take_over.ensures.why (silent.1.honest honest))
 
 pub returns-clause-dropped : goal.returns-clause-dropped
 returns-clause-dropped g c =
-    on_any c.read_tables.result
-    (none_held_then g.S.Storage.view c.args.self.now c.drop_cached.new.self c.read_places.new.self c.drop_cached.ensures.step c.drop_cached.ensures.rest c.read_places.ensures.step c.read_tables.new.self c.read_tables.ensures.step c.in_ok-drop_cached.ensures.dropped)
+    on_any c.take_over.result
+    (none_held_then g.S.Storage.view c.args.self.now c.drop_cached.new.self c.read_places.new.self c.drop_cached.ensures.step c.drop_cached.ensures.rest c.read_places.ensures.step c.take_over.new.self c.take_over.ensures.step c.in_ok-drop_cached.ensures.dropped)
 
 pub returns-clause-read : goal.returns-clause-read
 returns-clause-read g c = λ honest.
@@ -72,8 +75,8 @@ returns-clause-read g c = λ honest.
     let places = c.read_places.ensures in
     let there = honest_places view old dropped placed drops.step drops.rest places.step honest in
     let silent = silent_places view old dropped placed drops.step drops.rest places.step honest in
-    on_map c.read_tables.result (as_stored view old dropped placed drops.step drops.rest places.step c.read_tables.new.self c.read_tables.ensures.step g.F.BackingDisk.backing honest (c.in_ok-read_places.ensures.read there))
-    (c.read_tables.ensures.read (silent.1.honest honest))
+    on_both c.take_over.result (as_stored view old dropped placed drops.step drops.rest places.step c.take_over.new.self c.take_over.ensures.step g.F.BackingDisk.backing c.in_ok-places.places honest (c.in_ok-places.ensures.read there))
+    c.take_over.ensures.taken (c.take_over.ensures.read (silent.1.honest honest))
 
 pub returns-clause-keeps : goal.returns-clause-keeps
 returns-clause-keeps g c = λ rest p out sound.
@@ -82,5 +85,36 @@ returns-clause-keeps g c = λ rest p out sound.
     let old = c.args.self.now in
     let placed = c.read_places.new.self in
     let first = c.drop_cached.ensures.keeps rest p out sound in
-    let second = keeps_then view below out old c.drop_cached.new.self placed p p p (λ k h. h) first (c.read_places.ensures.keeps p out first.sound) in
-    keeps_then view below out old placed c.read_tables.new.self p p p (λ k h. h) second (c.read_tables.ensures.keeps p out second.sound)
+    let dropped = c.drop_cached.new.self in
+    let second = keeps_then view below out old dropped placed p p p (λ k h. h) first (c.read_places.ensures.keeps p out first.sound) in
+    let found = same_places dropped.file.header.fields c.in_ok-places.places.fields (contents_in view dropped.file) first.sound.file.caches.kept.kept.crash_invariant.top (c.in_ok-places.ensures.read first.sound.file.honest) in
+    let same = found ∙ sym (ap (λ (i : Qcow2 _ _). i.file.header.fields) c.read_places.ensures.step.rest) in
+    keeps_then view below out old placed c.take_over.new.self p p p (λ k h. h) second (c.take_over.ensures.keeps same p out second.sound)
+
+pub take_over-requires : goal.take_over-requires
+take_over-requires g c = places_for g.S.Storage.view c.args.self.now c.drop_cached.new.self c.read_places.new.self c.drop_cached.ensures.step c.drop_cached.ensures.rest c.read_places.ensures.step c.in_ok-places.places c.in_ok-places.ensures.places
+
+pub returns-in_err-drop_cached-clause-step : goal.returns-in_err-drop_cached-clause-step
+returns-in_err-drop_cached-clause-step g c = anew_dropped g.S.Storage.view c.args.self.now c.drop_cached.new.self c.drop_cached.ensures.step c.drop_cached.ensures.rest
+
+pub returns-in_err-drop_cached-clause-kept : goal.returns-in_err-drop_cached-clause-kept
+returns-in_err-drop_cached-clause-kept g c = on_refused c.from_residual.result (kept_dropped c.args.self.now c.drop_cached.new.self c.drop_cached.ensures.rest)
+
+pub returns-in_err-places-clause-step : goal.returns-in_err-places-clause-step
+returns-in_err-places-clause-step g c = anew_places g.S.Storage.view c.args.self.now c.drop_cached.new.self c.read_places.new.self c.drop_cached.ensures.step c.drop_cached.ensures.rest c.read_places.ensures.step
+
+pub returns-in_err-places-clause-kept : goal.returns-in_err-places-clause-kept
+returns-in_err-places-clause-kept g c = on_refused c.from_residual-in_err-places.result
+    (kept_places g.S.Storage.view c.args.self.now c.drop_cached.new.self c.read_places.new.self c.drop_cached.ensures.step c.drop_cached.ensures.rest c.read_places.ensures.step)
+
+pub returns-clause-kept : goal.returns-clause-kept
+returns-clause-kept g c =
+    let first = kept_places g.S.Storage.view c.args.self.now c.drop_cached.new.self c.read_places.new.self c.drop_cached.ensures.step c.drop_cached.ensures.rest c.read_places.ensures.step in
+    on_refused_map c.take_over.result (kept_then first) c.take_over.ensures.kept
+
+pub returns-clause-fails : goal.returns-clause-fails
+returns-clause-fails g c =
+    let view = g.S.Storage.view in
+    let below = g.F.BackingDisk.backing in
+    let first = faults_then view below c.args.self.now c.drop_cached.new.self c.read_places.new.self c.in_ok-drop_cached.ensures.fails.faults.told c.in_ok-places.ensures.fails.faults.told in
+    record { faults = counted_since view below c.args.self.now c.read_places.new.self c.take_over.new.self c.take_over.result first c.take_over.ensures.fails.faults; cause = c.take_over.ensures.fails.cause }

@@ -1,18 +1,20 @@
-use Rattle.std.proofs.Common.{◌≡◌, ◌∙◌, Result, Some, refl, sym, ap, subst, rules}
-use Rattle.std.specs.Prelude.{IfErr}
+use Rattle.std.proofs.Common.{◌≡◌, ◌∙◌, List, Option, Result, Some, refl, sym, ap, subst, rules}
+use Rattle.std.specs.Prelude.{IfErr, option_map}
 use Rattle.qcow2_alloc.specs.CachePins.{LeavesPinned}
 use Rattle.qcow2_alloc.specs.KeptNotes.{kept_same}
 use Rattle.qcow2_alloc.specs.declared.allocation.Allocator.{Allocator}
+use Rattle.qcow2_alloc.specs.declared.clusters_to_free.ClustersToFreeEntry.{ClustersToFreeEntry}
 use Rattle.qcow2_alloc.specs.declared.error.ImageError.{ImageError}
 use Rattle.qcow2_alloc.specs.declared.image_file.ImageFile.{ImageFile}
 use Rattle.qcow2_alloc.proofs.AllocationSteps.{handed_on}
 use Rattle.qcow2_alloc.proofs.KeptMarks.{notes_of_marks, notes_then}
+use Rattle.qcow2_image.specs.Image.{leaked_by}
 use Rattle.qcow2_image.specs.Invalidated.{IsReasonAgainstReading}
 use Rattle.qcow2_image.specs.UnseenSteps.{UnseenStep}
 use Rattle.qcow2_image.specs.declared.image.Qcow2.{Qcow2}
 use Rattle.qcow2_image.proofs.Call.BehindHeader.{behind_by, behind_tables, behind_then}
 use Rattle.qcow2_image.proofs.Call.Called.{keeps_then}
-use Rattle.qcow2_image.proofs.Invalidate.Dropped.{anew_moved, behind_dropped, dropped_moved, holds_none, left_none, no_entries, rests_there, why_blocks, why_left}
+use Rattle.qcow2_image.proofs.Invalidate.Dropped.{anew_moved, behind_dropped, dropped_moved, holds_none, left_none, no_entries, rests_there, unmodified_l2, unmodified_rb, why_blocks, why_left}
 use Rattle.qcow2_image.proofs.image.Qcow2.drop_cached.Goals as goal
 
 pub returns-in_err-invalidate_l2-clause-why : goal.returns-in_err-invalidate_l2-clause-why
@@ -112,3 +114,42 @@ returns-clause-keeps g c = λ rest p out sound.
     let there = rests_there view below old c.invalidate_l2.new.self list empty l2.taken l2.step.order l2.step.marks.room l2.step.marks.pins rest p out sound in
     let last : Qcow2 _ _ = record mid { file = record mid.file { caches = c.invalidate_rb.new.self } } in
     keeps_then view below out old mid last p p p (λ k h. h) first (dropped_moved view below mid c.invalidate_rb.new.self list empty rb.taken rb.step.order rb.step.marks.room rb.step.marks.pins there p out first.sound)
+
+pub returns-in_err-invalidate_l2-clause-rest : goal.returns-in_err-invalidate_l2-clause-rest
+returns-in_err-invalidate_l2-clause-rest g c =
+    let old = c.args.self.now in
+    let l2 = c.invalidate_l2.ensures in
+    record {
+      rest = ap (λ (l : List ClustersToFreeEntry). record old { file = record old.file { caches = c.invalidate_l2.new.self; free_list = l } }) c.take-forgotten.ensures.emptied;
+      reftable = refl;
+      leaks = refl;
+      unmodified = unmodified_l2 old.file.caches c.invalidate_l2.new.self c.invalidate_l2.result l2.left l2.blocks;
+    }
+
+pub returns-in-Some-clause-rest : goal.returns-in-Some-clause-rest
+returns-in-Some-clause-rest g c =
+    let old = c.args.self.now in
+    let l2 = c.invalidate_l2.ensures in
+    let rb = c.invalidate_rb_cache.ensures in
+    let a' = c.invalidate_rb_cache.new.self in
+    let caches = c.invalidate_rb_cache.new.file.caches in
+    record {
+      rest =
+          ap (λ (f : ImageFile _). record old { file = f; allocator = Some a' }) rb.rest
+          ∙ ap (λ (l : List ClustersToFreeEntry). record old { file = record old.file { caches = caches; free_list = l }; allocator = Some a' }) c.take-forgotten.ensures.emptied;
+      reftable = ap (λ (a : Allocator). Some a.reftable) rb.anew ∙ sym (ap (λ (o : Option Allocator). option_map (λ a. a.reftable) o) c.in-Some.is);
+      leaks = ap (λ (a : Allocator). a.leaked_clusters) rb.anew ∙ sym (ap (λ (o : Option Allocator). leaked_by o) c.in-Some.is);
+      unmodified = λ all. unmodified_rb c.invalidate_l2.new.self caches c.invalidate_rb_cache.result rb.left rb.tables (unmodified_l2 old.file.caches c.invalidate_l2.new.self c.invalidate_l2.result l2.left l2.blocks all);
+    }
+
+pub returns-clause-rest : goal.returns-clause-rest
+returns-clause-rest g c =
+    let old = c.args.self.now in
+    let l2 = c.invalidate_l2.ensures in
+    let rb = c.invalidate_rb.ensures in
+    record {
+      rest = ap (λ (l : List ClustersToFreeEntry). record old { file = record old.file { caches = c.invalidate_rb.new.self; free_list = l } }) c.take-forgotten.ensures.emptied;
+      reftable = refl;
+      leaks = refl;
+      unmodified = λ all. unmodified_rb c.invalidate_l2.new.self c.invalidate_rb.new.self c.invalidate_rb.result rb.left rb.tables (unmodified_l2 old.file.caches c.invalidate_l2.new.self c.invalidate_l2.result l2.left l2.blocks all);
+    }

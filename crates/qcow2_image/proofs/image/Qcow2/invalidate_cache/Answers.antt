@@ -1,5 +1,5 @@
 use Rattle.std.proofs.Common.{◌≡◌, ◌∙◌, true, false, [], Result, sym, ap, subst}
-use Rattle.std.specs.Prelude.{IfErr}
+use Rattle.std.specs.Prelude.{IfErr, IsErrAnd, OnErr}
 use Rattle.std.proofs.lemmas.Result.{IfErr-weaker}
 use Rattle.qcow2_disk.specs.Calls.{IsSame}
 use Rattle.qcow2_alloc.specs.ImageError.{IsFault}
@@ -7,14 +7,16 @@ use Rattle.qcow2_alloc.specs.declared.error.ImageError.{ImageError}
 use Rattle.qcow2_image.specs.Calls.{AnswersCall}
 use Rattle.qcow2_image.specs.Image.{is_failed}
 use Rattle.qcow2_image.specs.ImageInvariant.{pending_in}
-use Rattle.qcow2_image.specs.Invalidated.{HeedsPrepared, IsReasonAgainstReading}
+use Rattle.qcow2_image.specs.Invalidated.{HeedsPrepared, IsOfPrepared, IsReasonAgainstReading, IsStillInUse, KeepsTables, reftable_in}
 use Rattle.qcow2_image.specs.Refusals.{IsMet}
 use Rattle.qcow2_image.specs.declared.image.Qcow2.{Qcow2}
-use Rattle.qcow2_image.proofs.Backings.{some_prepared}
+use Rattle.qcow2_image.specs.Backings.{HasPrepared}
+use Rattle.qcow2_image.proofs.Backings.{some_prepared, table_prepared}
 use Rattle.qcow2_image.proofs.Call.Called.{keeps_then, told_answers, tells_quietly}
 use Rattle.qcow2_image.proofs.Call.Marked.{may_mark}
 use Rattle.qcow2_image.proofs.Map.Loading.{if_ok_any}
-use Rattle.qcow2_image.proofs.Invalidate.Calls.{heeds_begun, reading_fault, rests_begun, why_begun}
+use Rattle.qcow2_image.proofs.Invalidate.Calls.{heeds_all, heeds_begun, reading_fault, rests_begun, told_in_use, why_begun}
+use Rattle.qcow2_image.proofs.Invalidate.TakenOver.{on_refused_map}
 use Rattle.qcow2_image.proofs.image.Qcow2.invalidate_cache.Goals as goal
 
 pub returns-clause-fails : goal.returns-clause-fails
@@ -29,6 +31,11 @@ returns-clause-fails g c =
     let same = ap (λ (i : Qcow2 _ _). i.file) c.mark_failure.ensures.rest in
     record {
       failed = λ bad. absurd (let no : false ≡ true = sym c.if-self.false ∙ bad in cc);
+      kept = subst (λ (x : Result _ _). OnErr x (KeepsTables old new)) answer (on_refused_map r (λ kept. record {
+        header = ap (λ (i : Qcow2 _ _). i.file.header) c.mark_failure.ensures.rest ∙ kept.header ∙ ap (λ (i : Qcow2 _ _). i.file.header) c.begin.ensures.rest;
+        l1_table = ap (λ (i : Qcow2 _ _). i.l1_table) c.mark_failure.ensures.rest ∙ kept.l1_table ∙ ap (λ (i : Qcow2 _ _). i.l1_table) c.begin.ensures.rest;
+        reftable = ap (λ (i : Qcow2 _ _). reftable_in i) c.mark_failure.ensures.rest ∙ kept.reftable ∙ ap (λ (i : Qcow2 _ _). reftable_in i) c.begin.ensures.rest;
+      }) c.drop_and_read-done.ensures.kept);
       cause = λ _. subst (λ (x : Result _ _). IfErr x IsMet) answer c.drop_and_read-done.ensures.fails.cause;
       prepared = λ _. subst (λ (x : Result _ _). HeedsPrepared old x) answer (heeds_begun view old begun c.begin.ensures.begun r c.drop_and_read-done.ensures.prepared);
       why =
@@ -67,10 +74,18 @@ returns-clause-sound g c =
           (is_failed new) (λ done v w. IsSame v w) r (may_mark read new r c.mark_failure.ensures.marks) (c.drop_and_read-done.ensures.step.part.stays.image.number ∙ c.begin.ensures.stays.image.number)
           c.if-self.false (λ out sound same. if_ok_any r (λ done. same)))));
       fault =
-          λ rest out sound none.
+          λ out sound none.
           let first = c.begin.ensures.keeps (pending_in view below old out) out sound in
           subst (λ (x : Result _ _). IfErr x IsFault) answer
           (IfErr-weaker r (IsReasonAgainstReading view begun read) IsFault
           (λ e why. reading_fault view old new below (pending_in view below old out) out sound (λ has. none (some_prepared view below old out sound has.cluster has.pins)) e (why_begun view old begun c.begin.ensures.begun read new same e why))
+          (c.drop_and_read-done.ensures.why first.sound.file.honest));
+      prepared = λ out sound has. subst (λ (x : Result _ _). IsErrAnd x IsOfPrepared) answer (heeds_all old r (table_prepared view below old out sound has) (heeds_begun view old begun c.begin.ensures.begun r c.drop_and_read-done.ensures.prepared));
+      in_use =
+          λ out sound.
+          let first = c.begin.ensures.keeps (pending_in view below old out) out sound in
+          subst (λ (x : Result _ _). IfErr x (λ e. IsStillInUse e → HasPrepared out)) answer
+          (IfErr-weaker r (IsReasonAgainstReading view begun read) (λ e. IsStillInUse e → HasPrepared out)
+          (λ e why. told_in_use old view new (HasPrepared out) (λ has. some_prepared view below old out sound has.cluster has.pins) sound.file.room e (why_begun view old begun c.begin.ensures.begun read new same e why))
           (c.drop_and_read-done.ensures.why first.sound.file.honest));
     }

@@ -1,7 +1,7 @@
-use Rattle.std.proofs.Common.{◌∙◌, ◌*◌, ◌<◌, List, ℕ, Result, inr, sym, ap, subst}
+use Rattle.std.proofs.Common.{◌≡◌, ◌∙◌, ◌*◌, ◌<◌, ◌≤◌, List, ℕ, Result, inr, refl, sym, ap, subst}
 use Rattle.std.specs.Prelude.{IfErr}
 use Rattle.qcow2_metadata.specs.Bytes.{byte_at}
-use Rattle.qcow2_metadata.specs.Header.{HeaderView, header, entries_per_cluster}
+use Rattle.qcow2_metadata.specs.Header.{HeaderView, header, entries_per_cluster, with_tables_of}
 use Rattle.qcow2_metadata.specs.HeaderLoad.{IsReasonToRefuse}
 use Rattle.qcow2_metadata.specs.declared.error.MetadataError.{MetadataError}
 use Rattle.qcow2_metadata.specs.declared.header.HeaderFields.{HeaderFields}
@@ -11,12 +11,12 @@ use Rattle.qcow2_alloc.specs.declared.error.ImageError.{ImageError}
 use Rattle.qcow2_alloc.proofs.AllocationSteps.{handed_on}
 use Rattle.qcow2_image.specs.Image.{is_writable}
 use Rattle.qcow2_image.specs.Invalidated.{IsReasonAgainstPlaces}
-use Rattle.qcow2_image.specs.UnseenSteps.{UnseenStep}
 use Rattle.qcow2_image.specs.Unwritten.{ContentsStayThroughout}
 use Rattle.qcow2_image.proofs.Map.Loading.{read_moved}
 use Rattle.qcow2_image.proofs.Map.Quiet.{kept_throughout}
-use Rattle.qcow2_image.proofs.Invalidate.Reading.{notes_through, places_read, same_notes, same_places, silent_moved, silent_read, silent_then, stays_over, takes_over}
+use Rattle.qcow2_image.proofs.Invalidate.Reading.{notes_through, places_read, same_notes, silent_moved, silent_read, silent_then}
 use Rattle.qcow2_image.proofs.Invalidate.Reasons.{header_against}
+use Rattle.qcow2_image.proofs.Invalidate.TakenOver.{not_above}
 use Rattle.qcow2_image.proofs.image.Qcow2.read_places.Goals as goal
 
 pub returns-in_err-invalidate_cache-clause-keeps : goal.returns-in_err-invalidate_cache-clause-keeps
@@ -43,36 +43,36 @@ returns-in_err-header-clause-keeps g c = λ p out sound.
     let silent = silent_then (view_in view old.file) (view c.invalidate_cache.new.self.storage) (view c.load_header.new.self.storage) honest (kept_throughout _ _ calls.time same honest) (silent_read _ _ c.load_header.result c.load_header.ensures.reads) in
     silent_moved view g.F.BackingDisk.backing old out p sound c.load_header.new.self silent
 
-pub returns-in_err-update-clause-step : goal.returns-in_err-update-clause-step
-returns-in_err-update-clause-step g c =
+pub returns-then-is_too_long-clause-step : goal.returns-then-is_too_long-clause-step
+returns-then-is_too_long-clause-step g c =
     let view = g.S.Storage.view in
     let old = c.args.self.now in
     let calls = c.invalidate_cache.ensures.calls in
     let first : (view_in view old.file).is_honest → ContentsStayThroughout (view_in view old.file) (view c.invalidate_cache.new.self.storage) = λ honest. kept_throughout (view_in view old.file) (view c.invalidate_cache.new.self.storage) calls.time c.invalidate_cache.ensures.same honest in
-    places_read view old c.load_header.new.self c.update.new.self (notes_through view old.file.storage c.invalidate_cache.new.self c.load_header.new.self c.invalidate_cache.ensures.unnoted (same_notes view c.invalidate_cache.new.self c.load_header.new.self c.load_header.ensures.rest))
+    places_read view old c.load_header.new.self (notes_through view old.file.storage c.invalidate_cache.new.self c.load_header.new.self c.invalidate_cache.ensures.unnoted (same_notes view c.invalidate_cache.new.self c.load_header.new.self c.load_header.ensures.rest))
     (λ honest. silent_then (view_in view old.file) (view c.invalidate_cache.new.self.storage) (view c.load_header.new.self.storage) honest (first honest) (silent_read _ _ c.load_header.result c.load_header.ensures.reads))
-    (λ honest. c.load_header.ensures.reads.honest (calls.honest honest)) (stays_over old.file.header c.update.new.self c.in_err-update.ensures.same)
+    (λ honest. c.load_header.ensures.reads.honest (calls.honest honest))
 
-pub returns-in_err-update-clause-why : goal.returns-in_err-update-clause-why
-returns-in_err-update-clause-why g c = λ honest.
-    let old = c.args.self.now in
-    let h = old.file.header.fields in
-    let b = contents_in g.S.Storage.view old.file in
-    let e = c.in_err-update.field-0.0 in
+pub returns-then-is_too_long-clause-why : goal.returns-then-is_too_long-clause-why
+returns-then-is_too_long-clause-why g c = λ honest.
+    let h = c.args.self.now.file.header.fields in
     let there = (c.in_ok-header.ensures.ok (c.invalidate_cache.ensures.calls.honest honest)).fields ∙ ap (λ (l : List ℕ). header (byte_at l)) (c.invalidate_cache.ensures.same honest) in
-    handed_on (λ (r : Result _ ImageError). IfErr r (IsReasonAgainstPlaces h b (is_writable old))) c.from_residual-in_err-update.result (of_metadata e) c.from_residual-in_err-update.ensures
-    (subst (λ (x : MetadataError). IsReasonAgainstPlaces h b (is_writable old) (of_metadata x)) (sym c.in_err-update.ensures.err.0) (inr (subst (λ (k : HeaderFields). 1048576 < k.reftable_clusters * entries_per_cluster h) there c.in_err-update.ensures.err.1)))
+    inr (subst (λ (k : HeaderFields). 1048576 < k.reftable_clusters * entries_per_cluster h) there (c.is_too_long.ensures.0 c.if-is_too_long.true))
 
-pub returns-in_err-update-clause-keeps : goal.returns-in_err-update-clause-keeps
-returns-in_err-update-clause-keeps g c = λ p out sound.
+pub returns-then-is_too_long-clause-keeps : goal.returns-then-is_too_long-clause-keeps
+returns-then-is_too_long-clause-keeps g c = λ p out sound.
     let view = g.S.Storage.view in
-    let below = g.F.BackingDisk.backing in
     let old = c.args.self.now in
     let honest = sound.file.honest in
     let calls = c.invalidate_cache.ensures.calls in
     let same = c.invalidate_cache.ensures.same in
     let silent = silent_then (view_in view old.file) (view c.invalidate_cache.new.self.storage) (view c.load_header.new.self.storage) honest (kept_throughout _ _ calls.time same honest) (silent_read _ _ c.load_header.result c.load_header.ensures.reads) in
-    subst (λ (v : HeaderView). UnseenStep view below p p old (record old { file = record old.file { storage = c.load_header.new.self; header = v } }) out) (sym c.in_err-update.ensures.same) (silent_moved view below old out p sound c.load_header.new.self silent)
+    silent_moved view g.F.BackingDisk.backing old out p sound c.load_header.new.self silent
+
+pub take_places-requires : goal.take_places-requires
+take_places-requires g c =
+    let few = not_above 1048576 _ c.is_too_long.result c.if-is_too_long.false c.is_too_long.ensures.1 in
+    subst (λ (v : HeaderView). c.in_ok-header.header.fields.reftable_clusters * entries_per_cluster v.fields ≤ 1048576) (sym c.without_names-places.ensures) few
 
 pub returns-clause-step : goal.returns-clause-step
 returns-clause-step g c =
@@ -80,19 +80,35 @@ returns-clause-step g c =
     let old = c.args.self.now in
     let calls = c.invalidate_cache.ensures.calls in
     let first : (view_in view old.file).is_honest → ContentsStayThroughout (view_in view old.file) (view c.invalidate_cache.new.self.storage) = λ honest. kept_throughout (view_in view old.file) (view c.invalidate_cache.new.self.storage) calls.time c.invalidate_cache.ensures.same honest in
-    places_read view old c.load_header.new.self c.update.new.self (notes_through view old.file.storage c.invalidate_cache.new.self c.load_header.new.self c.invalidate_cache.ensures.unnoted (same_notes view c.invalidate_cache.new.self c.load_header.new.self c.load_header.ensures.rest))
+    places_read view old c.load_header.new.self (notes_through view old.file.storage c.invalidate_cache.new.self c.load_header.new.self c.invalidate_cache.ensures.unnoted (same_notes view c.invalidate_cache.new.self c.load_header.new.self c.load_header.ensures.rest))
     (λ honest. silent_then (view_in view old.file) (view c.invalidate_cache.new.self.storage) (view c.load_header.new.self.storage) honest (first honest) (silent_read _ _ c.load_header.result c.load_header.ensures.reads))
-    (λ honest. c.load_header.ensures.reads.honest (calls.honest honest)) (takes_over old.file.header c.update.new.self c.in_ok-header.header.fields c.in_ok-update.ensures.ok)
+    (λ honest. c.load_header.ensures.reads.honest (calls.honest honest))
+
+pub returns-clause-places : goal.returns-clause-places
+returns-clause-places g c =
+    let h = c.args.self.now.file.header.fields in
+    let found = c.in_ok-header.header.fields in
+    let is : c.take_places.new.header.fields ≡ with_tables_of h found = ap (λ (v : HeaderView). v.fields) c.take_places.ensures ∙ ap (λ (v : HeaderView). with_tables_of v.fields found) c.without_names-places.ensures in
+    let few = not_above 1048576 _ c.is_too_long.result c.if-is_too_long.false c.is_too_long.ensures.1 in
+    record {
+      others = subst (λ (f : HeaderFields). f ≡ with_tables_of h f) (sym is) refl;
+      few = subst (λ (f : HeaderFields). f.reftable_clusters * entries_per_cluster h ≤ 1048576) (sym is) few;
+    }
+
+pub returns-clause-read : goal.returns-clause-read
+returns-clause-read g c = λ honest.
+    let h = c.args.self.now.file.header.fields in
+    let found = c.in_ok-header.header.fields in
+    let is : c.take_places.new.header.fields ≡ with_tables_of h found = ap (λ (v : HeaderView). v.fields) c.take_places.ensures ∙ ap (λ (v : HeaderView). with_tables_of v.fields found) c.without_names-places.ensures in
+    let there = (c.in_ok-header.ensures.ok (c.invalidate_cache.ensures.calls.honest honest)).fields ∙ ap (λ (l : List ℕ). header (byte_at l)) (c.invalidate_cache.ensures.same honest) in
+    sym (is ∙ ap (λ (k : HeaderFields). with_tables_of h k) there)
 
 pub returns-clause-keeps : goal.returns-clause-keeps
 returns-clause-keeps g c = λ p out sound.
     let view = g.S.Storage.view in
-    let below = g.F.BackingDisk.backing in
     let old = c.args.self.now in
     let honest = sound.file.honest in
     let calls = c.invalidate_cache.ensures.calls in
     let same = c.invalidate_cache.ensures.same in
-    let there = (c.in_ok-header.ensures.ok (calls.honest honest)).fields ∙ ap (λ (l : List ℕ). header (byte_at l)) (same honest) in
     let silent = silent_then (view_in view old.file) (view c.invalidate_cache.new.self.storage) (view c.load_header.new.self.storage) honest (kept_throughout _ _ calls.time same honest) (silent_read _ _ c.load_header.result c.load_header.ensures.reads) in
-    subst (λ (v : HeaderView). UnseenStep view below p p old (record old { file = record old.file { storage = c.load_header.new.self; header = v } }) out)
-    (sym (same_places old.file.header c.update.new.self c.in_ok-header.header.fields (contents_in view old.file) sound.file.caches.kept.kept.crash_invariant.top there c.in_ok-update.ensures.ok)) (silent_moved view below old out p sound c.load_header.new.self silent)
+    silent_moved view g.F.BackingDisk.backing old out p sound c.load_header.new.self silent
