@@ -276,13 +276,44 @@ BAD_LINES = [
     b"shrink",
     b"shrink 100 none",
     b"sync 0",
-    b"invalidate",
+    b"invalidate 0",
+    b"Invalidate",
     b"leaks 0",
 ]
 
 
 def syncs_and_counts_leaks():
     answers(disk(), [("fill 0 512 11", "ok"), ("flush", "ok"), ("sync", "ok"), ("leaks", "leaks 0"), ("read 0 2", "data 1111")])
+
+
+def invalidates():
+    answers(disk_with_a_cluster(), [("invalidate", "ok"), ("read 0 2", "data 1111"), ("leaks", "leaks 0"), ("size", "size 65536")])
+    equal(contents("disk")[2560:3072], b"\x11" * 512, "the data")
+
+
+def an_invalidation_drops_what_is_not_flushed():
+    answers(disk_with_a_cluster(), [("write 0 2222", "ok"), ("fill 512 512 33", "ok"), ("invalidate", "ok"), ("read 0 2", "data 2222"), ("read 512 2", "data 0000"), ("flush", "ok")])
+    answers("disk", [("read 510 4", "data 11110000")])
+
+
+def refuses_to_invalidate_beside_a_prepared_mapping():
+    answers(disk_with_a_cluster(), [
+        ("prepare 0 512 512 overwrite", "prepared 3072 512"),
+        ("invalidate", "refused 21 still in use"),
+        ("put 0 0 2222", "ok"),
+        ("commit 0", "ok"),
+        ("invalidate", "ok"),
+        ("read 0 2", "data 1111"),
+        ("read 512 2", "data 0000"),
+        ("prepare 1 0 2 overwrite", "existing 2560 2"),
+        ("invalidate", "ok"),
+        ("put 1 0 44", "ok"),
+        ("read 0 2", "data 4411"),
+        ("prepare 2 512 512 overwrite", "prepared 3072 512"),
+        ("invalidate", "refused 21 still in use"),
+        ("drop 2", "ok"),
+        ("invalidate", "ok"),
+    ], status=1)
 
 
 def stops_at_a_bad_line(line):
@@ -408,6 +439,9 @@ def main():
         takes_no_bytes_at_the_last_offset,
         stops_at_a_bad_line_without_its_end,
         syncs_and_counts_leaks,
+        invalidates,
+        an_invalidation_drops_what_is_not_flushed,
+        refuses_to_invalidate_beside_a_prepared_mapping,
         a_bad_line_goes_before_a_refusal,
         a_read_that_fails_is_a_bad_line,
         leaves_the_input_where_the_file_is_missing,

@@ -22,13 +22,13 @@ had_after k before now none = let n : length before.changes ≡ 0 = ap length no
 
 module _ {F : Type 0} (backing : F → BackingView) (before : Trace) (below : Option F) (commands : List Command) where
   pub first_writes : (result : Result (Qcow2 Trace F × Vec Reply Global) (Trace × ImageError)) → Headline view_of_trace backing (view_of_trace before) below commands result
-      → EachMomentOpensAgain view_of_trace backing (view_of_trace before) below result → FirstWritesAreStops backing before below commands result
-  first_writes (Ok run) headline again none consistent stays = (
-    (λ k. again tt consistent stays (contents_after k (storage_of_image run.0)) (had_after k before (storage_of_image run.0) none)),
+      → EachMomentOpensAgain view_of_trace backing (view_of_trace before) below commands result → FirstWritesAreStops backing before below commands result
+  first_writes (Ok run) headline again none consistent stays = λ unflushed. (
+    (λ k. again unflushed tt consistent stays (contents_after k (storage_of_image run.0)) (had_after k before (storage_of_image run.0) none)),
     ⊎_elim
         (λ (no_room : HadNoRoom view_of_trace backing (view_of_trace before) below run.0 run.1.items). inl no_room)
         (λ (all : IsHeadline (image_abstraction view_of_trace backing) (view_of_trace before) (bytes_below backing below) run.0 (map command_of commands) (map reply_of run.1.items)).
         inr (record { headline = all; writes = λ k. all.stops (contents_after k (storage_of_image run.0)) (had_after k before (storage_of_image run.0) none) }))
-        (headline tt consistent stays),
+        (headline tt consistent stays unflushed),
   )
   first_writes (Err refused) headline again none consistent stays = λ k. again tt consistent stays (contents_after k refused.0) (had_after k before refused.0 none)

@@ -3,12 +3,14 @@ use Rattle.std.proofs.Common.{◌≡◌, inl, inr, List, [], ◌∷◌, false, I
 use Rattle.std.proofs.lemmas.Bool.{cases_Bool}
 use Rattle.image_access.specs.Backing.{BackingView}
 use Rattle.image_access.specs.Moments.{StorageView}
+use Rattle.qcow2_alloc.specs.ImageFile.{view_in}
 use Rattle.qcow2_alloc.specs.ImageStorage.{storage_of}
 use Rattle.qcow2_image.specs.declared.image.Qcow2.{Qcow2}
 use Rattle.qcow2_image.specs.declared.prepared.Prepared.{Prepared}
 use Rattle.qcow2_image.specs.Image.{is_failed, is_writable}
 use Rattle.qcow2_image.specs.Ranges.{ReleasesOneMapping}
-use Rattle.qcow2_image.specs.Unwritten.{ReadsQuietly}
+use Rattle.qcow2_image.specs.Unwritten.{ContentsStayThroughout, HoldsNothingModified, ReadsQuietly}
+use Rattle.qcow2_image.proofs.Map.Unmodified.{quiet_still}
 use Rattle.qcow2_image.proofs.Map.Quiet.{reads_none, reads_same, reads_aside}
 use Rattle.qcow2_alloc.proofs.KeptTables.AllWritten.{written_then}
 use Rattle.qcow2_session.specs.Told.{AreExisting, IsLeftQuietly, IsNeverWritten, IsToldAlong, RunPoint, StaysQuiet}
@@ -19,6 +21,13 @@ module _ {S F : Type 0} (view : S → StorageView) where
   -- the image is the same one
   pub quiet_image : (old new : Qcow2 S F) → new ≡ old → ReadsQuietly view old new
   quiet_image old new same = reads_same view old new (ap (λ (image : Qcow2 S F). image.file) same)
+
+  -- nothing was written, and no table was modified
+  pub quiet_silent : (old new : Qcow2 S F) → (HoldsNothingModified old → HoldsNothingModified new) → ((view_in view old.file).is_honest → ContentsStayThroughout (view_in view old.file) (view_in view new.file)) → ReadsQuietly view old new
+  quiet_silent old new unmodified silent = record {
+    tables = unmodified;
+    quiet = λ all honest. let same = silent honest in quiet_still (view_in view old.file) (view_in view new.file) (same.1.honest honest) same.1 (same.0 honest);
+  }
 
   -- so an image opened for reading is never written, from its opening on
   pub never_written : (old new : Qcow2 S F) → StaysQuiet view old new → IsNeverWritten view old new

@@ -1,11 +1,11 @@
--- What a run says of its image, one command after another.
-use Rattle.std.proofs.Common.{◌≡◌, ℕ, List, [], ◌∷◌, ◌++◌, false, refl, sym, ap, ◌∙◌, subst, Option, Some, None}
+-- What a run tells of its image, one command after the other.
+use Rattle.std.proofs.Common.{◌≡◌, ℕ, map, List, [], ◌∷◌, ◌++◌, false, refl, sym, ap, ◌∙◌, subst, Option, Some, None}
 use mathlib.Core.Path.{fun_ext}
 use Rattle.std.specs.Prelude.{replicate, IfSome, Ok, Err}
 use Rattle.image_access.specs.Backing.{BackingView}
 use Rattle.image_access.specs.Moments.{StorageView}
 use Rattle.qcow2_disk.specs.AbstractImages.{Setting}
-use Rattle.qcow2_disk.specs.Runs.{Found, State, RefinesState, RefinesCommand, begun}
+use Rattle.qcow2_disk.specs.Runs.{Found, State, RefinesState, RefinesCommand, HasNoInvalidation, KeepsUnflushed, begun}
 use Rattle.qcow2_image.specs.declared.image.Qcow2.{Qcow2}
 use Rattle.qcow2_image.specs.declared.mapping.Mapping.{Mapping}
 use Rattle.qcow2_image.specs.declared.prepared.Prepared.{Prepared}
@@ -39,6 +39,11 @@ image_itself same = record { number = same.number; writable = same.writable; ext
 
 pub itself_then : {S F : Type 0} {old mid new : Qcow2 S F} → KeepsItself old mid → KeepsItself mid new → KeepsItself old new
 itself_then first second = record { number = second.number ∙ first.number; writable = second.writable ∙ first.writable; external = second.external ∙ first.external }
+
+-- a list of commands without an invalidation, up to its last one
+pub none_before : (commands : List Command) (command : Command) → HasNoInvalidation (map command_of (commands ++ command ∷ [])) → HasNoInvalidation (map command_of commands) × KeepsUnflushed (command_of command)
+none_before [] command none = (tt, none.0)
+none_before (c ∷ commands) command none = let rest = none_before commands command none.1 in ((none.0, rest.0), rest.1)
 
 -- ---- a run so far
 
@@ -77,7 +82,7 @@ module _ {S F : Type 0} (view : S → StorageView) (backing : F → BackingView)
   pub record IsToldSoFar (old : Qcow2 S F) (last : RunPoint S F) (commands : List Command) (replies : List Reply) : Type 0 where
     pub points : List (RunPoint S F)
     pub along : IsToldAlong view backing (first_point old) commands replies points last
-    pub so_far : (x : Setting) (s : State) → RefinesState x (abstract_of view backing old []) s → StepsSoFar x (first_point old) last (begun s) commands replies points
+    pub so_far : HasNoInvalidation (map command_of commands) → (x : Setting) (s : State) → RefinesState x (abstract_of view backing old []) s → StepsSoFar x (first_point old) last (begun s) commands replies points
 
   pub first_told : (image : Qcow2 S F) (out : List (Option Prepared)) (mappings : List (Option Mapping)) (replies : List Reply) → out ≡ free_slots → mappings ≡ replicate 256 None → replies ≡ []
       → IsToldSoFar image (record { image = image; prepared = out; found = mappings_in mappings }) [] replies
@@ -88,7 +93,7 @@ module _ {S F : Type 0} (view : S → StorageView) (backing : F → BackingView)
       (record {
         points = [];
         along = ap (λ (f : ℕ → Option Mapping). record { image = image; prepared = free_slots; found = f }) (fun_ext (λ k. sym (none_mapped 256 k)));
-        so_far = λ x s stands. record {
+        so_far = λ none x s stands. record {
           end = begun s;
           steps = refl;
           stands = free_stands (image_abstraction view backing) (free_places view backing) image 256 x s stands;
@@ -97,14 +102,15 @@ module _ {S F : Type 0} (view : S → StorageView) (backing : F → BackingView)
       })))
 
   pub told_more : (old : Qcow2 S F) (last next : RunPoint S F) (commands : List Command) (replies : List Reply) (command : Command) (reply : Reply) → IsToldSoFar old last commands replies → IsToldStep view backing last next command reply
-      → ((x : Setting) (s : State) → RefinesState x (abstract_at view backing last) s → (s.is_failed ≡ false → (k : ℕ) → s.found k ≡ range_of (last.found k)) → RefinesCommand x (abstract_at view backing last) (abstract_at view backing next) s (command_of command) (reply_of reply))
+      → (KeepsUnflushed (command_of command) → (x : Setting) (s : State) → RefinesState x (abstract_at view backing last) s → (s.is_failed ≡ false → (k : ℕ) → s.found k ≡ range_of (last.found k)) → RefinesCommand x (abstract_at view backing last) (abstract_at view backing next) s (command_of command) (reply_of reply))
       → IsToldSoFar old next (commands ++ command ∷ []) (replies ++ reply ∷ [])
   told_more old last next commands replies command reply told step command_step = record {
     points = told.points ++ next ∷ [];
     along = told_push (first_point old) commands replies told.points last command reply next told.along step;
-    so_far = λ x s stands.
-        let before = told.so_far x s stands in
-        let now = command_step x before.end before.stands before.found in record {
+    so_far = λ none x s stands.
+        let parts = none_before commands command none in
+        let before = told.so_far parts.0 x s stands in
+        let now = command_step parts.1 x before.end before.stands before.found in record {
           end = now.end;
           steps = steps_push x (first_point old) (begun s) commands replies told.points last before.end command reply next told.along before.steps now;
           stands = now.stands;

@@ -2,7 +2,7 @@
 use Rattle.qcow2_alloc.specs.declared.error.ImageError.TheVariants as I
 use Rattle.qcow2_session.specs.declared.session.Command.TheVariants as C
 use Rattle.qcow2_session.specs.declared.session.Reply.TheVariants as R
-use Rattle.std.specs.Prelude.{ℕ, ◌+◌, ◌<◌, ◌≤◌, ◌≡◌, ◌↔◌, ◌⊎◌, ◌&&◌, not, nat_lt, true, false, length, List, [], ◌∷◌, Option, Some, None, Ok, Err, IfSome, IsNone, MatchOption, slice_get}
+use Rattle.std.specs.Prelude.{ℕ, ◌+◌, ◌<◌, ◌≤◌, ◌≡◌, ◌↔◌, ◌⊎◌, ◌&&◌, not, nat_lt, true, false, length, List, [], ◌∷◌, Option, Some, None, Ok, Err, IfSome, IsNone, IsSomeAnd, MatchOption, slice_get}
 use Rattle.std.specs.Option.{option_or}
 use Rattle.image_access.specs.Backing.{BackingView}
 use Rattle.image_access.specs.Moments.{StorageView}
@@ -17,6 +17,7 @@ use Rattle.qcow2_image.specs.Clearing.{IsUnderMapping, from_in, refuses_clearing
 use Rattle.qcow2_image.specs.Found.{IsFoundWhole, further_by}
 use Rattle.qcow2_image.specs.Image.{is_failed, is_writable, size_of}
 use Rattle.qcow2_image.specs.ImageInvariant.{abstract_of}
+use Rattle.qcow2_image.specs.Invalidated.{IsOfPrepared, IsStillInUse}
 use Rattle.qcow2_image.specs.L1Entries.{NeedsFarEntry}
 use Rattle.qcow2_image.specs.MetAlone.{CopiesCompressed, IsCacheHeld, IsMetLooking, IsMetMapped, IsMetPutting, IsMetReadingRange, IsMetSpecial, IsMetGrowing, IsMetTaking}
 use Rattle.qcow2_image.specs.Preallocation.{IsUnderMappingIn}
@@ -65,6 +66,7 @@ module _ {S F : Type 0} (image : Qcow2 S F) where
   first_cause (C.TryReadvSpecial offset n) = unusable image
   first_cause C.Flush = refuse_if (is_failed image) I.Failed
   first_cause C.Sync = refuse_if (is_failed image) I.Failed
+  first_cause C.InvalidateCache = refuse_if (is_failed image) I.Failed
   first_cause (C.ResizeGrow size mode) = refuses_to_grow size mode
   first_cause (C.ResizeShrink size) = refuses_to_resize image
   first_cause C.Size = None
@@ -180,8 +182,14 @@ module _ {S F : Type 0} (view : S → StorageView) (backing : F → BackingView)
   StopsRightly offset bytes R.Done = HeedsMappings view backing old before offset bytes (Ok tt)
   StopsRightly offset bytes reply = Unit {0}
 
-  -- What prepared mappings refuse: ranges of a pinned L2 table (9) and a shrink (17), and nothing else. Putting, and reading what was looked up, is refused 10 only if the mapping is outdated. Commits and flushes are refused only by a fault.
-  -- Reads, lookups and puts are refused by a fault, or for a cause in the image or in its prepared mappings.
+  -- While a mapping is prepared that isn't existing an invalidation is refused, 21, or 14 where the list of tables that stay has no room. Else it is refused for a fault alone.
+  pub record HeedsInUse (reply : Reply) : Type 0 where
+    pub some : HasPrepared before → IsSomeAnd (refusal_in reply) IsOfPrepared
+    pub none : ¬ HasPrepared before → IfSome (refusal_in reply) IsFault
+    pub told : IfSome (refusal_in reply) (λ e. IsStillInUse e → HasPrepared before)
+
+  -- What a prepared mapping refuses, and nothing else: a range of its L2 table (9), a smaller disk (17), an invalidation (21). What is put, or read as it was looked up, is refused as outdated (10) only where it is. A commit and a flush are refused for a fault alone.
+  -- What is read, looked up or put is refused for a fault, and for what has a cause in the image or in what is prepared.
   abbrev pub MeetsOnSound : (found : ℕ → Option Mapping) → Command → Reply → Type 0
   MeetsOnSound found (C.Read offset n) reply = IfSome (refusal_in reply) (IsMetReadingRange before offset (offset + n) old.file.header.fields (known_in view old.file))
   MeetsOnSound found (C.Write offset bytes) reply = (refusal_in reply ≡ Some I.TablePrepared → IsUnderMappingIn old.file.header.fields offset (offset + length bytes.items) before) × StopsRightly offset bytes.items reply
@@ -190,6 +198,7 @@ module _ {S F : Type 0} (view : S → StorageView) (backing : F → BackingView)
   MeetsOnSound found (C.ReadMapped slot at n) reply = ReadsLookedUp found slot at n reply × IfSome (refusal_in reply) (IsMetLookedUp found slot at n)
   MeetsOnSound found (C.WriteMapped slot at bytes) reply = (refusal_in reply ≡ Some I.OutdatedMapping → IsOutdatedAt slot at (length bytes.items)) × IfSome (refusal_in reply) (IsMetPuttingAt slot at)
   MeetsOnSound found (C.CommitDataMapping slot) reply = IfSome (refusal_in reply) IsFault
+  MeetsOnSound found C.InvalidateCache reply = HeedsInUse reply
   MeetsOnSound found C.Flush reply = IfSome (refusal_in reply) IsFault
   MeetsOnSound found (C.EnsureZeroMapping offset n) reply = IsUntouchedUnder offset n reply
   MeetsOnSound found (C.DiscardToZero offset n) reply = IsUntouchedUnder offset n reply

@@ -2,7 +2,7 @@
 use Rattle.std.specs.Prelude.{ℕ, ◌≡◌, Option, Result, Ok, Err}
 use Rattle.qcow2_disk.specs.Calls.{to_zero, to_kept_zero, to_backing}
 use Rattle.qcow2_metadata.specs.Bytes.{Bytes}
-use Rattle.qcow2_disk.specs.Runs.{Command, Reply, IsRightlyPlain, IsRightlySpecial, read, write, get_mapping, read_mapped, prepare, put, commit, discard, clear, read_special, try_read_special, flush, sync, grow, shrink, get_size, get_leaked, done, bytes_are, mapping_is, prepared_is, range_is, plain_at, number_is, refused, write_refused, misuse}
+use Rattle.qcow2_disk.specs.Runs.{Command, Reply, IsRightlyPlain, IsRightlySpecial, read, write, get_mapping, read_mapped, prepare, put, commit, discard, clear, read_special, try_read_special, flush, sync, invalidate_cache, grow, shrink, get_size, get_leaked, done, bytes_are, mapping_is, prepared_is, range_is, plain_at, number_is, refused, write_refused, misuse}
 use Rattle.qcow2_alloc.specs.declared.error.ImageError.{ImageError}
 use Rattle.qcow2_alloc.specs.declared.error.ImageError.TheVariants.{NotCompressed}
 use Rattle.qcow2_image.specs.Calls.{refusal_of}
@@ -29,6 +29,7 @@ command_of (C.ReadvSpecial offset n) = read_special offset n
 command_of (C.TryReadvSpecial offset n) = try_read_special offset n
 command_of C.Flush = flush
 command_of C.Sync = sync
+command_of C.InvalidateCache = invalidate_cache
 command_of (C.ResizeGrow size mode) = grow size mode
 command_of (C.ResizeShrink size) = shrink size
 command_of C.Size = get_size

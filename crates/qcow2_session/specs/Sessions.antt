@@ -13,7 +13,7 @@ use Rattle.qcow2_disk.specs.Mappings.{given_of}
 use Rattle.qcow2_disk.specs.AbstractImages.{Setting, Guest, guest_of, IsOpened}
 use Rattle.qcow2_disk.specs.Calls.{AnsweredEffect, RefusedEffect, Shows, with_disk, MayWrite}
 use Rattle.qcow2_disk.specs.Found.{IsFoundIn, rest_of_table}
-use Rattle.qcow2_disk.specs.Runs.{Command as RunCommand, Reply as RunReply, get_mapping, mapping_is, Found, State, RefinesState, RefinesCommand, RefinesWholeRun, RefinesDisk, begun}
+use Rattle.qcow2_disk.specs.Runs.{Command as RunCommand, Reply as RunReply, get_mapping, mapping_is, Found, State, RefinesState, RefinesCommand, RefinesWholeRun, RefinesDisk, HasNoInvalidation, begun}
 use Rattle.qcow2_alloc.specs.declared.error.ImageError.{ImageError}
 use Rattle.qcow2_alloc.specs.declared.error.ImageError.TheVariants.{BeyondSize, Dependency, Failed, ReadOnly, TablePrepared}
 use Rattle.qcow2_alloc.specs.ImageFile.{contents_in, known_in}
@@ -167,18 +167,18 @@ module _ {S F : Type 0} (view : S → StorageView) (backing : F → BackingView)
   abbrev pub IsUntouched : List Reply → Type 0
   IsUntouched replies = (replies ≡ []) × (new ≡ old)
 
-  -- The replies continue every run that agrees with the image, and then all mappings are dropped.
+  -- without an invalidation the replies go on with each run that the image stands at, and then all mappings are let go
   abbrev pub RunsThrough : List Command → List Reply → Type 0
-  RunsThrough commands replies = (x : Setting) (s : State) →
+  RunsThrough commands replies = HasNoInvalidation (map command_of commands) → (x : Setting) (s : State) →
       RefinesState x (abstract_of view backing old []) s → IsUntouched replies ⊎ RefinesWholeRun (image_abstraction view backing) x old new (begun s) (map command_of commands) (map reply_of replies)
 
   -- On an image that was just opened, the lookups at the begin of the run find what is in the bytes of its file.
   abbrev pub LookupsFindContents : List Command → List Reply → Type 0
-  LookupsFindContents commands replies = IsOpened (abstract_of view backing old []) → LooksUp (contents_in view old.file) (is_some old.backing) (map command_of commands) (map reply_of replies)
+  LookupsFindContents commands replies = HasNoInvalidation (map command_of commands) → IsOpened (abstract_of view backing old []) → LooksUp (contents_in view old.file) (is_some old.backing) (map command_of commands) (map reply_of replies)
 
-  -- On an image that was just opened, the replies are a run of its disk.
+  -- without an invalidation they mean the disk, of an image that was just opened
   abbrev pub RunRefinesDisk : List Command → List Reply → Type 0
-  RunRefinesDisk commands replies = IsOpened (abstract_of view backing old []) → IsUntouched replies ⊎ RefinesDisk (image_abstraction view backing) old new (map command_of commands) (map reply_of replies)
+  RunRefinesDisk commands replies = HasNoInvalidation (map command_of commands) → IsOpened (abstract_of view backing old []) → IsUntouched replies ⊎ RefinesDisk (image_abstraction view backing) old new (map command_of commands) (map reply_of replies)
 
 -- A part of a write, behind its first `done` bytes. At some image `before` it, exactly these bytes are written, and the rest of the range is prepared.
 -- For the first part, `before` is the image at the begin of the write.

@@ -1,10 +1,10 @@
--- What the replies of a run say of the image itself, beyond their meaning for the guest's disk.
-use Rattle.std.specs.Prelude.{ℕ, ◌<◌, ◌≤◌, ◌≡◌, ◌⊎◌, false, IsTrue, IsNone, List, [], ◌∷◌, MatchOption, Option, Some, None, is_none, replicate, slice_get, slice_set}
+-- What the replies of a run tell of the image itself, beside what they mean in words of a guest's disk.
+use Rattle.std.specs.Prelude.{ℕ, ◌<◌, ◌≤◌, ◌≡◌, ◌⊎◌, false, IsTrue, IsNone, List, [], ◌∷◌, MatchOption, Option, Some, None, is_none, replicate, map, slice_get, slice_set}
 use Rattle.image_access.specs.Backing.{BackingView}
 use Rattle.image_access.specs.Moments.{StorageView}
 use Rattle.qcow2_disk.specs.AbstractImages.{AbstractImage, Setting}
 use Rattle.qcow2_disk.specs.Rules.{answered}
-use Rattle.qcow2_disk.specs.Runs.{State, RefinesState, RefinesCommand, begun}
+use Rattle.qcow2_disk.specs.Runs.{State, RefinesState, RefinesCommand, HasNoInvalidation, begun}
 use Rattle.qcow2_metadata.specs.Header.{cluster_size}
 use Rattle.qcow2_alloc.specs.ImageError.{IsOfTables}
 use Rattle.qcow2_alloc.specs.ImageFile.{known_in}
@@ -156,12 +156,12 @@ module _ {S F : Type 0} (view : S → StorageView) (backing : F → BackingView)
   StepsAlong x first s commands replies points end = ⊥
 
   module _ (old new : Qcow2 S F) where
-    -- A whole run through these points, after which the mappings that are left are dropped. That fails no image. The commands are steps of every run that agrees with the image.
+    -- A whole run, through these points, after which the mappings that are left are let go, which fails no image. Without an invalidation its commands are steps of each run that the image stands at.
     pub record IsToldRun (commands : List Command) (replies : List Reply) : Type 0 where
       pub points : List (RunPoint S F)
       pub last : RunPoint S F
       pub along : IsToldAlong (first_point old) commands replies points last
-      pub steps : (x : Setting) (s : State) → RefinesState x (abstract_of view backing old []) s → (end : State) × StepsAlong x (first_point old) (begun s) commands replies points end
+      pub steps : HasNoInvalidation (map command_of commands) → (x : Setting) (s : State) → RefinesState x (abstract_of view backing old []) s → (end : State) × StepsAlong x (first_point old) (begun s) commands replies points end
       pub leaves : ReleasesMappings view backing last.image new last.prepared []
       pub keeps : KeepsItself last.image new
       pub failed : is_failed new ≡ is_failed last.image

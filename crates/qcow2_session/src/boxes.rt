@@ -24,7 +24,7 @@ pub fn run_in_boxes(
         ((DynStorage-box storage).Storage.view storage.value) below commands.now) }
     ensures again { IsOnceClosed result
         (EachMomentOpensAgain (λ b. (DynStorage-box b).Storage.view b.value) (λ d. (BackingDisk-box d).backing d.value)
-        ((DynStorage-box storage).Storage.view storage.value) below) }
+        ((DynStorage-box storage).Storage.view storage.value) below commands.now) }
     ensures tells { IsOnceClosed result
         (TellsOfOpened (λ b. (DynStorage-box b).Storage.view b.value) (λ d. (BackingDisk-box d).backing d.value)
         ((DynStorage-box storage).Storage.view storage.value) below number commands.now) }
@@ -48,7 +48,7 @@ fn run_and_close<S: Storage, F: WrappedFormat<S>>(
     commands: &[Command],
 ) -> (S, Result<Vec<Reply>, ImageError>)
     ensures headline { IsOnceClosed result (Headline S.view F.backing (S.view storage) below commands.now) }
-    ensures again { IsOnceClosed result (EachMomentOpensAgain S.view F.backing (S.view storage) below) }
+    ensures again { IsOnceClosed result (EachMomentOpensAgain S.view F.backing (S.view storage) below commands.now) }
     ensures tells { IsOnceClosed result (TellsOfOpened S.view F.backing (S.view storage) below number commands.now) }
     ensures faults { IsOnceClosed result (CountsSinceBefore S.view F.backing (S.view storage) below) }
     ensures another { (S.view storage).is_honest → NeedsMissing (missing_beside below) (S.view storage).contents

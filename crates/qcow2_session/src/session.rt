@@ -1,8 +1,11 @@
-//! Commands, one after another, on one image.
-ghost use Rattle.qcow2_session.specs.CallSteps.{CommandStep, ReadingParts, ReleasingStep, SpecialStep, WritesSoundly};
+//! Commands, one after the other, on one image.
+ghost use Rattle.qcow2_session.specs.CallSteps.{CommandStep, InvalidatingCommand, ReadingParts, ReleasingStep};
+ghost use Rattle.qcow2_session.specs.CallSteps.{SpecialStep, WritesSoundly};
 ghost use Rattle.qcow2_session.specs.CallSteps.{WritingParts};
 ghost use Rattle.std.specs.Prelude.{◌≡◌, ◌+◌, ◌^◌, ◌≤◌, ◌⊎◌, ◌<◌, ◌++◌, ◌∷◌, ℕ, List, [], length, vec_len, IfSome};
-ghost use Rattle.std.specs.Prelude.{IfErr, IfOk, IsTrue, MatchResult, OnOk, Option, None, Some, Err, true, false, ◌-◌};
+ghost use Rattle.qcow2_disk.specs.Runs.{HasNoInvalidation, KeepsUnflushed};
+ghost use Rattle.qcow2_session.specs.Commands.{command_of};
+ghost use Rattle.std.specs.Prelude.{map, IfErr, IfOk, IsTrue, MatchResult, OnOk, Option, None, Some, Err, true, false, ◌-◌};
 ghost use Rattle.qcow2_alloc.specs.declared.error.ImageError.TheVariants.{Limit, Memory, OutdatedMapping};
 ghost use Rattle.qcow2_alloc.specs.declared.error.ImageError.TheVariants.{TablePrepared};
 ghost use Rattle.qcow2_alloc.specs.ImageFile.{known_in};
@@ -126,7 +129,9 @@ pub enum Command {
     Flush,
     /// `sync`. Reply: `Done`.
     Sync,
-    /// `resize_grow` to a size, in a mode. Reply: `Done`.
+    /// `invalidate_cache`, which drops what isn't flushed. Replied `Done`.
+    InvalidateCache,
+    /// `resize_grow` to a size, in a mode. Replied `Done`.
     ResizeGrow {
         size: u64,
         mode: PreallocateMode,
@@ -412,7 +417,7 @@ pub fn run<S: Storage, F: WrappedFormat<S>>(
 ) -> Vec<Reply>
     ensures number { number_of image.new ≡ number_of image.old }
     ensures faults { RunCounts S.view F.backing image.old image.new result.items }
-    ensures header_cluster { StaysBehindHeader S.view image.old image.new }
+    ensures header_cluster { HasNoInvalidation (map command_of commands.now) → StaysBehindHeader S.view image.old image.new }
     ensures count { (result.items ≡ []) ⊎ (vec_len result ≡ length commands.now) }
     ensures runs { RunsThrough S.view F.backing image.old image.new commands.now result.items }
     ensures means { RunRefinesDisk S.view F.backing image.old image.new commands.now result.items }
@@ -444,10 +449,11 @@ fn step<S: Storage, F: WrappedFormat<S>>(
     requires { slots.old.image ≡ number_of image.old }
     ensures keeps { KeepsItself image.old image.new }
     ensures faults { CommandCounts S.view F.backing image.old image.new result }
-    ensures header_cluster { StaysBehindHeader S.view image.old image.new }
+    ensures header_cluster { KeepsUnflushed (command_of command.now) → StaysBehindHeader S.view image.old image.new }
     ensures marks { MarksBy S.view image.old image.new command.now (refusal_in result) }
     ensures slots { slots.new.image ≡ slots.old.image }
-    ensures command_step { CommandSteps S.view F.backing image.old image.new slots.old slots.new command.now result }
+    ensures command_step { KeepsUnflushed (command_of command.now)
+        → CommandSteps S.view F.backing image.old image.new slots.old slots.new command.now result }
     ensures finds { Finds slots.old slots.new command.now result }
     ensures tells { TellsOfImage S.view F.backing image.old image.new slots.old.prepared.items slots.new.prepared.items command.now result }
     ensures after { SlotsAfter slots.old.prepared.items command.now result slots.new.prepared.items }
@@ -490,6 +496,7 @@ fn step<S: Storage, F: WrappedFormat<S>>(
         }
         Command::Flush => flush(image),
         Command::Sync => sync(image),
+        Command::InvalidateCache => invalidate(image),
         Command::ResizeGrow { size, mode } => grow(image, *size, *mode),
         Command::ResizeShrink { size } => shrink(image, *size),
         Command::Size => Reply::Size(image.size()),
@@ -728,7 +735,19 @@ fn sync<S: Storage, F: WrappedFormat<S>>(image: &mut Qcow2<S, F>) -> Reply
     Reply::Done
 }
 
-// Drops the mapping in a slot.
+fn invalidate<S: Storage, F: WrappedFormat<S>>(image: &mut Qcow2<S, F>) -> Reply
+    ensures step { InvalidatingCommand S.view F.backing image.old image.new result }
+    ensures causes { (before : List (Option Prepared)) (found : ℕ → Option Mapping)
+        → IsRightlyRefused S.view F.backing image.old image.new before found Command.InvalidateCache result }
+    ensures finds { (slots : Slots) → Finds slots slots Command.InvalidateCache result }
+{
+    if let Err(refusal) = image.invalidate_cache() {
+        return Reply::Refused(refusal);
+    }
+    Reply::Done
+}
+
+// Discards what stands in a slot.
 fn release_slot<S: Storage, F: WrappedFormat<S>>(image: &mut Qcow2<S, F>, slot: Option<Prepared>)
     requires { IfSome slot (λ p. image_of p ≡ number_of image.old) }
     ensures step { ReleasingStep S.view F.backing image.old image.new }

@@ -29,6 +29,7 @@ pub data Order : Type 0 where
   flushes : Order
   sizes : Order
   syncs : Order
+  invalidates : Order
   leaks : Order
   -- No line means this.
   other : Order
@@ -51,6 +52,7 @@ order_of_command (C.ResizeShrink size) = shrinks size
 order_of_command C.Flush = flushes
 order_of_command C.Size = sizes
 order_of_command C.Sync = syncs
+order_of_command C.InvalidateCache = invalidates
 order_of_command C.Leaked = leaks
 order_of_command _ = other
 
@@ -227,6 +229,7 @@ order_of_words (name ∷ operands) =
     else if bytes_eq name (codes "flush") then order_alone flushes operands
     else if bytes_eq name (codes "size") then order_alone sizes operands
     else if bytes_eq name (codes "sync") then order_alone syncs operands
+    else if bytes_eq name (codes "invalidate") then order_alone invalidates operands
     else if bytes_eq name (codes "leaks") then order_alone leaks operands
     else None
 

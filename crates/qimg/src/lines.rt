@@ -77,6 +77,7 @@ fn parse_words(alloc: Global, words: &[&str]) -> Result<Command, LineError>
         "flush" => alone(Command::Flush, operands),
         "size" => alone(Command::Size, operands),
         "sync" => alone(Command::Sync, operands),
+        "invalidate" => alone(Command::InvalidateCache, operands),
         "leaks" => alone(Command::Leaked, operands),
         _ => Err(LineError::Unreadable),
     }

@@ -36,7 +36,7 @@ pub returns-in-Err-clause-another : goal.returns-in-Err-clause-another
 returns-in-Err-clause-another g c = λ honest needs. (c.in-Err.ensures.another honest needs).1
 
 pub returns-clause-headline : goal.returns-clause-headline
-returns-clause-headline g c = λ honest consistent stays.
+returns-clause-headline g c = λ honest consistent stays unflushed.
     let view = g.S.Storage.view in
     let below = g.F.BackingDisk.backing in
     let before = view c.args.storage in
@@ -55,10 +55,10 @@ returns-clause-headline g c = λ honest consistent stays.
     (λ (none : IsUntouched view below opened new c.run-replies.result.items). inl (none.0, subst (λ (image : _). IsKeptSince before (view (storage_of_image image))) (sym none.1) since))
     (λ (refines : RefinesDisk (image_abstraction view below) opened new (map command_of c.args.commands.now) (map reply_of c.run-replies.result.items)).
     inr (from_bytes (image_abstraction view below) before bytes opened new _ _ consistent (g.S.Storage.only_now c.args.storage) since is.clean refl setting is.sound opens.surplus opens.leaks refines))
-    (c.run-replies.ensures.means is)
+    (c.run-replies.ensures.means unflushed is)
 
 pub returns-clause-again : goal.returns-clause-again
-returns-clause-again g c = λ honest consistent stays k had.
+returns-clause-again g c = λ unflushed honest consistent stays k had.
     let view = g.S.Storage.view in
     let below = g.F.BackingDisk.backing in
     let before = view c.args.storage in
@@ -70,7 +70,7 @@ returns-clause-again g c = λ honest consistent stays k had.
     kept_opens_again before (view (storage_of_image new)) consistent (g.S.Storage.only_now c.args.storage) none.1 k had)
     (λ (all : IsHeadline (image_abstraction view below) before (bytes_below below c.args.below) new commands replies).
     opens_again k (stop_consistent ((image_abstraction view below).setting all.opened) (started (abstract_of view below all.opened [])) all.refines.end commands replies all.refines.run (byte_at k) (all.stops k had)))
-    (returns-clause-headline g c honest consistent stays)
+    (returns-clause-headline g c honest consistent stays unflushed)
 
 pub returns-clause-tells : goal.returns-clause-tells
 returns-clause-tells g c =

@@ -3,7 +3,7 @@ use Rattle.std.specs.Prelude.{replicate}
 use Rattle.std.proofs.lemmas.Grind.{common_steps}
 use Rattle.std.proofs.lemmas.List.{take_more, take_all, map-append}
 use Rattle.qcow2_image.specs.ImageInvariant.{abstract_of, image_abstraction}
-use Rattle.qcow2_disk.specs.Runs.{RefinesWholeRun, begun, started}
+use Rattle.qcow2_disk.specs.Runs.{HasNoInvalidation, RefinesWholeRun, begun, started}
 use Rattle.qcow2_disk.proofs.RunSteps.{begins, completes, refines_the_disk}
 use Rattle.qcow2_session.specs.Commands.{command_of, reply_of}
 use Rattle.qcow2_image.proofs.Free.{free_places, nothing_since, whole}
@@ -13,7 +13,7 @@ use Rattle.qcow2_session.proofs.Meanings.{ranges_after}
 use Rattle.qcow2_session.proofs.Places.{surplus_none}
 use Rattle.qcow2_session.proofs.Runs.{GoesOn, first_of_all, command_step_on, map_more}
 use Rattle.qcow2_session.specs.Told.{IsToldRun, RunPoint, first_point}
-use Rattle.qcow2_session.proofs.Told.{IsToldSoFar, first_told, image_itself, itself_then, same_itself, told_more}
+use Rattle.qcow2_session.proofs.Told.{IsToldSoFar, first_told, image_itself, itself_then, none_before, same_itself, told_more}
 use Rattle.qcow2_session.specs.Sessions.{mappings_in, range_of, IsUntouched}
 use Rattle.qcow2_session.proofs.Unwritten.{existing_none}
 use Rattle.qcow2_session.specs.CountedFaults.{RunCounts}
@@ -25,12 +25,12 @@ use Rattle.qcow2_session.proofs.session.run.Goals as goal
 
 pub loop-command-init : goal.loop-command-init
 loop-command-init g c = record {
-  behind = behind_none;
+  behind = λ _. behind_none;
   faults = subst (λ l. RunCounts g.S.Storage.view g.F.BackingDisk.backing c.args.image.now c.args.image.now l) (sym c.in-Ok.ensures.items) (none_counted g.S.Storage.view g.F.BackingDisk.backing c.args.image.now);
   own = grind (arith, common_steps);
   keeps = same_itself refl;
   answered = c.in-Ok.ensures.len;
-  ran = λ x s stands.
+  ran = λ _ x s stands.
       let view = g.S.Storage.view in
       let below = g.F.BackingDisk.backing in
       first_of_all (image_abstraction view below) (free_places view below) c.args.image.now 256 x s _ _ _ c.in-Some.ensures.prepared c.in-Some.ensures.mappings (ap (λ l. map reply_of l) c.in-Ok.ensures.items) stands;
@@ -39,13 +39,16 @@ loop-command-init g c = record {
 
 pub loop-command-preserved : goal.loop-command-preserved
 loop-command-preserved g c = record {
-  behind = behind_then c.loop-command.invariant.behind c.step-reply.ensures.header_cluster;
+  behind = λ none.
+      let split = take_more c.args.commands.now c.loop-command.command-index c.command-item.result c.loop-command-test.true ∙ ap (λ q. take c.loop-command.command-index c.args.commands.now ++ q ∷ []) (sym c.command-item.is) in
+      let parts = none_before (take c.loop-command.command-index c.args.commands.now) c.command-item.result (subst (λ l. HasNoInvalidation (map command_of l)) split none) in
+      behind_then (c.loop-command.invariant.behind parts.0) (c.step-reply.ensures.header_cluster parts.1);
   faults = subst (λ l. RunCounts g.S.Storage.view g.F.BackingDisk.backing c.args.image.now c.step-reply.new.image l) (sym c.push_reserved.ensures.items)
       (run_counts_more g.S.Storage.view g.F.BackingDisk.backing c.args.image.now c.loop-command.image c.step-reply.new.image c.loop-command.replies.items c.step-reply.result c.loop-command.invariant.faults c.step-reply.ensures.faults);
   own = c.step-reply.ensures.slots ∙ c.loop-command.invariant.own ∙ sym c.step-reply.ensures.keeps.number;
   keeps = itself_then c.loop-command.invariant.keeps c.step-reply.ensures.keeps;
   answered = c.push_reserved.ensures.len ∙ ap (λ n. n + 1) c.loop-command.invariant.answered;
-  ran = λ x s stands.
+  ran = λ none x s stands.
       let spec = image_abstraction g.S.Storage.view g.F.BackingDisk.backing in
       let done = c.loop-command.command-index in
       let commands = c.args.commands.now in
@@ -56,10 +59,11 @@ loop-command-preserved g c = record {
       let out = c.step-reply.new.slots.prepared.items in
       let found = c.step-reply.new.slots.mappings.items in
       let split = take_more commands done c.command-item.result c.loop-command-test.true ∙ ap (λ q. take done commands ++ q ∷ []) (sym c.command-item.is) in
+      let parts = none_before (take done commands) c.command-item.result (subst (λ l. HasNoInvalidation (map command_of l)) split none) in
       subst (λ l. GoesOn spec x first free next out (begun s) (map command_of (take (done + 1) commands)) l found) (sym (ap (λ l. map reply_of l) c.push_reserved.ensures.items ∙ map-append reply_of replies (c.step-reply.result ∷ [])))
       (subst (λ k. GoesOn spec x first free next out (begun s) k (map reply_of replies ++ reply_of c.step-reply.result ∷ []) found) (sym (map_more command_of commands done c.command-item.result split))
       (command_step_on spec x first c.loop-command.image next free c.loop-command.slots.prepared.items out (begun s) (map command_of (take done commands)) (map reply_of replies)
-      c.loop-command.slots.mappings.items found (command_of c.command-item.result) (reply_of c.step-reply.result) (c.loop-command.invariant.ran x s stands) (c.step-reply.ensures.command_step x) (λ k. ap range_of (c.step-reply.ensures.finds k) ∙ ranges_after (mappings_in c.loop-command.slots.mappings.items) c.command-item.result c.step-reply.result k)));
+      c.loop-command.slots.mappings.items found (command_of c.command-item.result) (reply_of c.step-reply.result) (c.loop-command.invariant.ran parts.0 x s stands) (c.step-reply.ensures.command_step parts.1 x) (λ k. ap range_of (c.step-reply.ensures.finds k) ∙ ranges_after (mappings_in c.loop-command.slots.mappings.items) c.command-item.result c.step-reply.result k)));
   told =
       let view = g.S.Storage.view in
       let below = g.F.BackingDisk.backing in
@@ -79,7 +83,7 @@ pub returns-clause-number : goal.returns-clause-number
 returns-clause-number g c = c.discard_all.ensures.step.image.number ∙ c.loop-command.invariant.keeps.number
 
 pub returns-clause-runs : goal.returns-clause-runs
-returns-clause-runs g c = λ x s stands.
+returns-clause-runs g c = λ none x s stands.
     let view = g.S.Storage.view in
     let below = g.F.BackingDisk.backing in
     let spec = image_abstraction view below in
@@ -87,12 +91,13 @@ returns-clause-runs g c = λ x s stands.
     let new = c.discard_all.new.image in
     let replies = map reply_of c.loop-command.replies.items in
     let all : take c.loop-command.command-index c.args.commands.now ≡ c.args.commands.now = take_all c.loop-command.command-index c.args.commands.now c.loop-command-test.false in
+    let so_far = subst (λ k. HasNoInvalidation (map command_of k)) (sym all) none in
     inr (subst (λ k. RefinesWholeRun spec x old new (begun s) (map command_of k) replies) all
     (completes spec x old c.loop-command.image new (replicate 256 None) c.loop-command.slots.prepared.items (begun s) (map command_of (take c.loop-command.command-index c.args.commands.now)) replies
-    (c.loop-command.invariant.ran x s stands).ran c.discard_all.ensures.sees (λ k. refl) (surplus_none spec (free_places view below) old 256)))
+    (c.loop-command.invariant.ran so_far x s stands).ran c.discard_all.ensures.sees (λ k. refl) (surplus_none spec (free_places view below) old 256)))
 
 pub returns-clause-means : goal.returns-clause-means
-returns-clause-means g c = λ opened.
+returns-clause-means g c = λ none opened.
     let view = g.S.Storage.view in
     let below = g.F.BackingDisk.backing in
     let old = c.args.image.now in
@@ -100,14 +105,14 @@ returns-clause-means g c = λ opened.
     let stands = begins before opened.sound (whole view below old [] opened.sound) opened.clean in
     ⊎_elim (λ h. inl h)
     (λ all. inr (refines_the_disk (image_abstraction view below) old c.discard_all.new.image (map command_of c.args.commands.now) (map reply_of c.loop-command.replies.items) (nothing_since view below g.S.Storage.only_now old) stands all))
-    (returns-clause-runs g c before.setting (started before) stands)
+    (returns-clause-runs g c none before.setting (started before) stands)
 
 pub returns-in_default-clause-maps : goal.returns-in_default-clause-maps
-returns-in_default-clause-maps g c = λ opened.
+returns-in_default-clause-maps g c = λ none opened.
     none_said (contents_in g.S.Storage.view c.args.image.now.file) (is_some c.args.image.now.backing) (map command_of c.args.commands.now) c.new.result.items c.new.ensures.items
 
 pub returns-in_default-new-clause-maps : goal.returns-in_default-new-clause-maps
-returns-in_default-new-clause-maps g c = λ opened.
+returns-in_default-new-clause-maps g c = λ none opened.
     none_said (contents_in g.S.Storage.view c.args.image.now.file) (is_some c.args.image.now.backing) (map command_of c.args.commands.now) c.new-in_default-new.result.items c.new-in_default-new.ensures.items
 
 pub returns-in_default-clause-faults : goal.returns-in_default-clause-faults
@@ -127,20 +132,22 @@ returns-clause-tells g c =
       points = told.points;
       last = record { image = c.loop-command.image; prepared = c.loop-command.slots.prepared.items; found = mappings_in c.loop-command.slots.mappings.items };
       along = told.along;
-      steps = λ x s stands. let so_far = told.so_far x s stands in (so_far.end, so_far.steps);
+      steps = λ none x s stands. let so_far = told.so_far none x s stands in (so_far.end, so_far.steps);
       leaves = c.discard_all.ensures.sees;
       keeps = image_itself c.discard_all.ensures.step.image;
       failed = c.discard_all.ensures.step.marks;
     }))
 
 pub returns-clause-header_cluster : goal.returns-clause-header_cluster
-returns-clause-header_cluster g c = behind_then c.loop-command.invariant.behind c.discard_all.ensures.step.header_cluster
+returns-clause-header_cluster g c = λ none.
+    let all : take c.loop-command.command-index c.args.commands.now ≡ c.args.commands.now = take_all c.loop-command.command-index c.args.commands.now c.loop-command-test.false in
+    behind_then (c.loop-command.invariant.behind (subst (λ k. HasNoInvalidation (map command_of k)) (sym all) none)) c.discard_all.ensures.step.header_cluster
 
 pub returns-in_default-clause-header_cluster : goal.returns-in_default-clause-header_cluster
-returns-in_default-clause-header_cluster g c = behind_none
+returns-in_default-clause-header_cluster g c = λ _. behind_none
 
 pub returns-in_default-new-clause-header_cluster : goal.returns-in_default-new-clause-header_cluster
-returns-in_default-new-clause-header_cluster g c = behind_none
+returns-in_default-new-clause-header_cluster g c = λ _. behind_none
 
 pub returns-clause-quiet : goal.returns-clause-quiet
 returns-clause-quiet g c = λ reading.
@@ -148,7 +155,7 @@ returns-clause-quiet g c = λ reading.
     written_then g.S.Storage.view (along_quietly g.S.Storage.view g.F.BackingDisk.backing (first_point c.args.image.now) (take c.loop-command.command-index c.args.commands.now) c.loop-command.replies.items told.points _ told.along reading existing_none) c.discard_all.ensures.step.quiet
 
 pub returns-clause-maps : goal.returns-clause-maps
-returns-clause-maps g c = λ opened.
+returns-clause-maps g c = λ none opened.
     let view = g.S.Storage.view in
     let below = g.F.BackingDisk.backing in
     let old = c.args.image.now in
@@ -160,6 +167,6 @@ returns-clause-maps g c = λ opened.
     ⊎_elim
     (λ (untouched : IsUntouched view below old new replies). none_said b (is_some old.backing) (map command_of commands) replies untouched.0)
     (λ (told : IsToldRun view below old new commands replies).
-    let steps = told.steps before.setting (started before) (begins before opened.sound (whole view below old [] opened.sound) opened.clean) in
+    let steps = told.steps none before.setting (started before) (begins before opened.sound (whole view below old [] opened.sound) opened.clean) in
     looked_up view below before.setting b (first_point old) (begun (started before)) steps.0 commands replies told.points steps.1 refl opened.clean)
     (returns-clause-tells g c)

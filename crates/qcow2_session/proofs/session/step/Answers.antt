@@ -3,6 +3,7 @@ use Rattle.qcow2_session.specs.CountedFaults.{refusal_in}
 use Rattle.qcow2_session.specs.Marks.{MarksBy}
 use Rattle.std.proofs.Common.{refl, ap, sym, subst, ◌∙◌, None, Some}
 use Rattle.qcow2_disk.proofs.RunSteps.{done_as, refused_as, none_as}
+use Rattle.qcow2_disk.specs.Runs.{KeepsUnflushed}
 use Rattle.qcow2_session.specs.Commands.{command_of}
 use Rattle.qcow2_session.specs.Sessions.{CommandSteps, mappings_in}
 use Rattle.qcow2_session.proofs.Answering.{reading_first, error_is, write_error_is, not_both, reads_answer, writes_answer, write_refused_answer}
@@ -17,72 +18,72 @@ use Rattle.qcow2_session.proofs.Quiet.{quiet_left}
 use Rattle.qcow2_session.proofs.session.step.Goals as goal
 
 pub returns-in-Ok-clause-command_step : goal.returns-in-Ok-clause-command_step
-returns-in-Ok-clause-command_step g c = λ x s stands founds. done_as x _ _ s _ _ _ (ap command_of c.in-Read.is) stands (reads_answer g.S.Storage.view g.F.BackingDisk.backing c.args.image.now c.args.slots.now.prepared.items _ (λ e h. not_both h) _ _ _ c.in-Ok.ensures.early) (c.in-Ok.ensures.sees c.args.slots.now.prepared.items) (λ f. f) (λ _ _. refl) (λ _. tt)
+returns-in-Ok-clause-command_step g c = λ _ x s stands founds. done_as x _ _ s _ _ _ (ap command_of c.in-Read.is) stands (reads_answer g.S.Storage.view g.F.BackingDisk.backing c.args.image.now c.args.slots.now.prepared.items _ (λ e h. not_both h) _ _ _ c.in-Ok.ensures.early) (c.in-Ok.ensures.sees c.args.slots.now.prepared.items) (λ f. f) (λ _ _. refl) (λ _. tt)
 
 pub returns-in-Err-clause-command_step : goal.returns-in-Err-clause-command_step
-returns-in-Err-clause-command_step g c = λ x s stands founds. refused_as x _ _ s _ _ _ _ (ap command_of c.in-Read.is) stands (record { sized = λ _. tt; failed = λ f. error_is (reading_first c.args.image.now _ _ _ c.in-Err.ensures.early f); may = λ _. tt }) (c.in-Err.ensures.sees c.args.slots.now.prepared.items) (λ f. f) (λ f. f) (λ _ _. refl) tt
+returns-in-Err-clause-command_step g c = λ _ x s stands founds. refused_as x _ _ s _ _ _ _ (ap command_of c.in-Read.is) stands (record { sized = λ _. tt; failed = λ f. error_is (reading_first c.args.image.now _ _ _ c.in-Err.ensures.early f); may = λ _. tt }) (c.in-Err.ensures.sees c.args.slots.now.prepared.items) (λ f. f) (λ f. f) (λ _ _. refl) tt
 
 pub returns-in-Ok-write-clause-command_step : goal.returns-in-Ok-write-clause-command_step
-returns-in-Ok-write-clause-command_step g c = λ x s stands founds. done_as x _ _ s _ _ _ (ap command_of c.in-Write.is) stands (writes_answer g.S.Storage.view g.F.BackingDisk.backing c.args.image.now c.args.slots.now.prepared.items _ (λ e h. not_both h) _ _ (rw c.deref.ensures.value at c.in-Ok-write.ensures.early)) (rw c.deref.ensures.value at (c.in-Ok-write.ensures.sees c.args.slots.now.prepared.items)) (λ f. f) (λ _ _. refl)
+returns-in-Ok-write-clause-command_step g c = λ _ x s stands founds. done_as x _ _ s _ _ _ (ap command_of c.in-Write.is) stands (writes_answer g.S.Storage.view g.F.BackingDisk.backing c.args.image.now c.args.slots.now.prepared.items _ (λ e h. not_both h) _ _ (rw c.deref.ensures.value at c.in-Ok-write.ensures.early)) (rw c.deref.ensures.value at (c.in-Ok-write.ensures.sees c.args.slots.now.prepared.items)) (λ f. f) (λ _ _. refl)
     (λ sound. rightly_written g.S.Storage.view g.F.BackingDisk.backing c.write.new.image c.args.slots.now.prepared.items ((rw c.deref.ensures.value at (c.in-Ok-write.ensures.sees c.args.slots.now.prepared.items)).answer sound).0 _ _
     (λ some. ((rw c.deref.ensures.value at c.in-Ok-write.ensures.copied) some c.args.slots.now.prepared.items sound).range))
 
 pub returns-in-Err-write-clause-command_step : goal.returns-in-Err-write-clause-command_step
-returns-in-Err-write-clause-command_step g c = λ x s stands founds. refused_as x _ _ s _ _ _ _ (ap command_of c.in-Write.is) stands (write_refused_answer g.S.Storage.view g.F.BackingDisk.backing c.args.image.now c.args.slots.now.prepared.items _ _ _ _ _ (λ h. write_error_is h) (rw c.deref.ensures.value at c.in-Err-write.ensures.early) (rw c.deref.ensures.value at c.in-Err-write.ensures.within)) (rw c.deref.ensures.value at (c.in-Err-write.ensures.sees c.args.slots.now.prepared.items)) (λ f. f) (λ f. f) (λ _ _. refl) tt
+returns-in-Err-write-clause-command_step g c = λ _ x s stands founds. refused_as x _ _ s _ _ _ _ (ap command_of c.in-Write.is) stands (write_refused_answer g.S.Storage.view g.F.BackingDisk.backing c.args.image.now c.args.slots.now.prepared.items _ _ _ _ _ (λ h. write_error_is h) (rw c.deref.ensures.value at c.in-Err-write.ensures.early) (rw c.deref.ensures.value at c.in-Err-write.ensures.within)) (rw c.deref.ensures.value at (c.in-Err-write.ensures.sees c.args.slots.now.prepared.items)) (λ f. f) (λ f. f) (λ _ _. refl) tt
 
 pub returns-in-Flush-clause-command_step : goal.returns-in-Flush-clause-command_step
-returns-in-Flush-clause-command_step g c = subst (λ q. CommandSteps g.S.Storage.view g.F.BackingDisk.backing c.args.image.now c.flush.new.image c.args.slots.now c.args.slots.now q c.flush.result) (sym c.in-Flush.is) (c.flush.ensures.command_step c.args.slots.now)
+returns-in-Flush-clause-command_step g c = λ _. subst (λ q. CommandSteps g.S.Storage.view g.F.BackingDisk.backing c.args.image.now c.flush.new.image c.args.slots.now c.args.slots.now q c.flush.result) (sym c.in-Flush.is) (c.flush.ensures.command_step c.args.slots.now)
 
 pub returns-in-Sync-clause-command_step : goal.returns-in-Sync-clause-command_step
-returns-in-Sync-clause-command_step g c = subst (λ q. CommandSteps g.S.Storage.view g.F.BackingDisk.backing c.args.image.now c.sync.new.image c.args.slots.now c.args.slots.now q c.sync.result) (sym c.in-Sync.is) (c.sync.ensures.command_step c.args.slots.now)
+returns-in-Sync-clause-command_step g c = λ _. subst (λ q. CommandSteps g.S.Storage.view g.F.BackingDisk.backing c.args.image.now c.sync.new.image c.args.slots.now c.args.slots.now q c.sync.result) (sym c.in-Sync.is) (c.sync.ensures.command_step c.args.slots.now)
 
 pub returns-in-Size-clause-command_step : goal.returns-in-Size-clause-command_step
-returns-in-Size-clause-command_step g c = λ x s stands founds. none_as x _ s _ _ _ (ap command_of c.in-Size.is) stands (record { sized = λ _. tt; failed = λ _. tt; may = λ _. tt }) (λ sound. (c.size.ensures.sees c.args.slots.now.prepared.items sound, refl)) (λ f. f) (λ _ _. refl) tt
+returns-in-Size-clause-command_step g c = λ _ x s stands founds. none_as x _ s _ _ _ (ap command_of c.in-Size.is) stands (record { sized = λ _. tt; failed = λ _. tt; may = λ _. tt }) (λ sound. (c.size.ensures.sees c.args.slots.now.prepared.items sound, refl)) (λ f. f) (λ _ _. refl) tt
 
 pub returns-in-Leaked-clause-command_step : goal.returns-in-Leaked-clause-command_step
-returns-in-Leaked-clause-command_step g c = λ x s stands founds. none_as x _ s _ _ _ (ap command_of c.in-Leaked.is) stands (record { sized = λ _. tt; failed = λ _. tt; may = λ _. tt }) (λ sound. refl) (λ f. f) (λ _ _. refl) tt
+returns-in-Leaked-clause-command_step g c = λ _ x s stands founds. none_as x _ s _ _ _ (ap command_of c.in-Leaked.is) stands (record { sized = λ _. tt; failed = λ _. tt; may = λ _. tt }) (λ sound. refl) (λ f. f) (λ _ _. refl) tt
 
 pub returns-in-GetMapping-clause-command_step : goal.returns-in-GetMapping-clause-command_step
-returns-in-GetMapping-clause-command_step g c = subst (λ q. CommandSteps g.S.Storage.view g.F.BackingDisk.backing c.args.image.now c.get_mapping.new.image c.args.slots.now c.get_mapping.new.slots q c.get_mapping.result) (sym c.in-GetMapping.is) c.get_mapping.ensures.command_step
+returns-in-GetMapping-clause-command_step g c = λ _. subst (λ q. CommandSteps g.S.Storage.view g.F.BackingDisk.backing c.args.image.now c.get_mapping.new.image c.args.slots.now c.get_mapping.new.slots q c.get_mapping.result) (sym c.in-GetMapping.is) c.get_mapping.ensures.command_step
 
 pub returns-in-ReadMapped-clause-command_step : goal.returns-in-ReadMapped-clause-command_step
-returns-in-ReadMapped-clause-command_step g c = subst (λ q. CommandSteps g.S.Storage.view g.F.BackingDisk.backing c.args.image.now c.read_mapped.new.image c.args.slots.now c.args.slots.now q c.read_mapped.result) (sym c.in-ReadMapped.is) c.read_mapped.ensures.command_step
+returns-in-ReadMapped-clause-command_step g c = λ _. subst (λ q. CommandSteps g.S.Storage.view g.F.BackingDisk.backing c.args.image.now c.read_mapped.new.image c.args.slots.now c.args.slots.now q c.read_mapped.result) (sym c.in-ReadMapped.is) c.read_mapped.ensures.command_step
 
 pub returns-in-PrepareDataMapping-clause-command_step : goal.returns-in-PrepareDataMapping-clause-command_step
-returns-in-PrepareDataMapping-clause-command_step g c = subst (λ q. CommandSteps g.S.Storage.view g.F.BackingDisk.backing c.args.image.now c.prepare.new.image c.args.slots.now c.prepare.new.slots q c.prepare.result) (sym c.in-PrepareDataMapping.is) c.prepare.ensures.command_step
+returns-in-PrepareDataMapping-clause-command_step g c = λ _. subst (λ q. CommandSteps g.S.Storage.view g.F.BackingDisk.backing c.args.image.now c.prepare.new.image c.args.slots.now c.prepare.new.slots q c.prepare.result) (sym c.in-PrepareDataMapping.is) c.prepare.ensures.command_step
 
 pub returns-in-WriteMapped-clause-command_step : goal.returns-in-WriteMapped-clause-command_step
-returns-in-WriteMapped-clause-command_step g c = subst (λ q. CommandSteps g.S.Storage.view g.F.BackingDisk.backing c.args.image.now c.write_mapped.new.image c.args.slots.now c.args.slots.now q c.write_mapped.result) (sym c.in-WriteMapped.is) c.write_mapped.ensures.command_step
+returns-in-WriteMapped-clause-command_step g c = λ _. subst (λ q. CommandSteps g.S.Storage.view g.F.BackingDisk.backing c.args.image.now c.write_mapped.new.image c.args.slots.now c.args.slots.now q c.write_mapped.result) (sym c.in-WriteMapped.is) c.write_mapped.ensures.command_step
 
 pub returns-in-CommitDataMapping-clause-command_step : goal.returns-in-CommitDataMapping-clause-command_step
-returns-in-CommitDataMapping-clause-command_step g c = subst (λ q. CommandSteps g.S.Storage.view g.F.BackingDisk.backing c.args.image.now c.commit.new.image c.args.slots.now c.commit.new.slots q c.commit.result) (sym c.in-CommitDataMapping.is) c.commit.ensures.command_step
+returns-in-CommitDataMapping-clause-command_step g c = λ _. subst (λ q. CommandSteps g.S.Storage.view g.F.BackingDisk.backing c.args.image.now c.commit.new.image c.args.slots.now c.commit.new.slots q c.commit.result) (sym c.in-CommitDataMapping.is) c.commit.ensures.command_step
 
 pub returns-in-DiscardDataMapping-clause-command_step : goal.returns-in-DiscardDataMapping-clause-command_step
-returns-in-DiscardDataMapping-clause-command_step g c = subst (λ q. CommandSteps g.S.Storage.view g.F.BackingDisk.backing c.args.image.now c.discard.new.image c.args.slots.now c.discard.new.slots q c.discard.result) (sym c.in-DiscardDataMapping.is) c.discard.ensures.command_step
+returns-in-DiscardDataMapping-clause-command_step g c = λ _. subst (λ q. CommandSteps g.S.Storage.view g.F.BackingDisk.backing c.args.image.now c.discard.new.image c.args.slots.now c.discard.new.slots q c.discard.result) (sym c.in-DiscardDataMapping.is) c.discard.ensures.command_step
 
 pub returns-in-EnsureZeroMapping-clause-command_step : goal.returns-in-EnsureZeroMapping-clause-command_step
-returns-in-EnsureZeroMapping-clause-command_step g c = subst (λ q. CommandSteps g.S.Storage.view g.F.BackingDisk.backing c.args.image.now c.ensure_zero.new.image c.args.slots.now c.args.slots.now q c.ensure_zero.result) (sym c.in-EnsureZeroMapping.is) (c.ensure_zero.ensures.command_step c.args.slots.now)
+returns-in-EnsureZeroMapping-clause-command_step g c = λ _. subst (λ q. CommandSteps g.S.Storage.view g.F.BackingDisk.backing c.args.image.now c.ensure_zero.new.image c.args.slots.now c.args.slots.now q c.ensure_zero.result) (sym c.in-EnsureZeroMapping.is) (c.ensure_zero.ensures.command_step c.args.slots.now)
 
 pub returns-in-DiscardToZero-clause-command_step : goal.returns-in-DiscardToZero-clause-command_step
-returns-in-DiscardToZero-clause-command_step g c = subst (λ q. CommandSteps g.S.Storage.view g.F.BackingDisk.backing c.args.image.now c.discard_to_zero.new.image c.args.slots.now c.args.slots.now q c.discard_to_zero.result) (sym c.in-DiscardToZero.is) (c.discard_to_zero.ensures.command_step c.args.slots.now)
+returns-in-DiscardToZero-clause-command_step g c = λ _. subst (λ q. CommandSteps g.S.Storage.view g.F.BackingDisk.backing c.args.image.now c.discard_to_zero.new.image c.args.slots.now c.args.slots.now q c.discard_to_zero.result) (sym c.in-DiscardToZero.is) (c.discard_to_zero.ensures.command_step c.args.slots.now)
 
 pub returns-in-DiscardToAny-clause-command_step : goal.returns-in-DiscardToAny-clause-command_step
-returns-in-DiscardToAny-clause-command_step g c = subst (λ q. CommandSteps g.S.Storage.view g.F.BackingDisk.backing c.args.image.now c.discard_to_any.new.image c.args.slots.now c.args.slots.now q c.discard_to_any.result) (sym c.in-DiscardToAny.is) (c.discard_to_any.ensures.command_step c.args.slots.now)
+returns-in-DiscardToAny-clause-command_step g c = λ _. subst (λ q. CommandSteps g.S.Storage.view g.F.BackingDisk.backing c.args.image.now c.discard_to_any.new.image c.args.slots.now c.args.slots.now q c.discard_to_any.result) (sym c.in-DiscardToAny.is) (c.discard_to_any.ensures.command_step c.args.slots.now)
 
 pub returns-in-DiscardToBacking-clause-command_step : goal.returns-in-DiscardToBacking-clause-command_step
-returns-in-DiscardToBacking-clause-command_step g c = subst (λ q. CommandSteps g.S.Storage.view g.F.BackingDisk.backing c.args.image.now c.discard_to_backing.new.image c.args.slots.now c.args.slots.now q c.discard_to_backing.result) (sym c.in-DiscardToBacking.is) (c.discard_to_backing.ensures.command_step c.args.slots.now)
+returns-in-DiscardToBacking-clause-command_step g c = λ _. subst (λ q. CommandSteps g.S.Storage.view g.F.BackingDisk.backing c.args.image.now c.discard_to_backing.new.image c.args.slots.now c.args.slots.now q c.discard_to_backing.result) (sym c.in-DiscardToBacking.is) (c.discard_to_backing.ensures.command_step c.args.slots.now)
 
 pub returns-in-ReadvSpecial-clause-command_step : goal.returns-in-ReadvSpecial-clause-command_step
-returns-in-ReadvSpecial-clause-command_step g c = subst (λ q. CommandSteps g.S.Storage.view g.F.BackingDisk.backing c.args.image.now c.readv_special.new.image c.args.slots.now c.args.slots.now q c.readv_special.result) (sym c.in-ReadvSpecial.is) (c.readv_special.ensures.command_step c.args.slots.now)
+returns-in-ReadvSpecial-clause-command_step g c = λ _. subst (λ q. CommandSteps g.S.Storage.view g.F.BackingDisk.backing c.args.image.now c.readv_special.new.image c.args.slots.now c.args.slots.now q c.readv_special.result) (sym c.in-ReadvSpecial.is) (c.readv_special.ensures.command_step c.args.slots.now)
 
 pub returns-in-TryReadvSpecial-clause-command_step : goal.returns-in-TryReadvSpecial-clause-command_step
-returns-in-TryReadvSpecial-clause-command_step g c = subst (λ q. CommandSteps g.S.Storage.view g.F.BackingDisk.backing c.args.image.now c.try_readv_special.new.image c.args.slots.now c.args.slots.now q c.try_readv_special.result) (sym c.in-TryReadvSpecial.is) (c.try_readv_special.ensures.command_step c.args.slots.now)
+returns-in-TryReadvSpecial-clause-command_step g c = λ _. subst (λ q. CommandSteps g.S.Storage.view g.F.BackingDisk.backing c.args.image.now c.try_readv_special.new.image c.args.slots.now c.args.slots.now q c.try_readv_special.result) (sym c.in-TryReadvSpecial.is) (c.try_readv_special.ensures.command_step c.args.slots.now)
 
 pub returns-in-ResizeGrow-clause-command_step : goal.returns-in-ResizeGrow-clause-command_step
-returns-in-ResizeGrow-clause-command_step g c = subst (λ q. CommandSteps g.S.Storage.view g.F.BackingDisk.backing c.args.image.now c.grow.new.image c.args.slots.now c.args.slots.now q c.grow.result) (sym c.in-ResizeGrow.is) (c.grow.ensures.command_step c.args.slots.now)
+returns-in-ResizeGrow-clause-command_step g c = λ _. subst (λ q. CommandSteps g.S.Storage.view g.F.BackingDisk.backing c.args.image.now c.grow.new.image c.args.slots.now c.args.slots.now q c.grow.result) (sym c.in-ResizeGrow.is) (c.grow.ensures.command_step c.args.slots.now)
 
 pub returns-in-ResizeShrink-clause-command_step : goal.returns-in-ResizeShrink-clause-command_step
-returns-in-ResizeShrink-clause-command_step g c = subst (λ q. CommandSteps g.S.Storage.view g.F.BackingDisk.backing c.args.image.now c.shrink.new.image c.args.slots.now c.args.slots.now q c.shrink.result) (sym c.in-ResizeShrink.is) (c.shrink.ensures.command_step c.args.slots.now)
+returns-in-ResizeShrink-clause-command_step g c = λ _. subst (λ q. CommandSteps g.S.Storage.view g.F.BackingDisk.backing c.args.image.now c.shrink.new.image c.args.slots.now c.args.slots.now q c.shrink.result) (sym c.in-ResizeShrink.is) (c.shrink.ensures.command_step c.args.slots.now)
 
 pub returns-in-Ok-clause-tells : goal.returns-in-Ok-clause-tells
 returns-in-Ok-clause-tells g c = subst (λ q. TellsOfImage g.S.Storage.view g.F.BackingDisk.backing c.args.image.now c.read.new.image c.args.slots.now.prepared.items c.args.slots.now.prepared.items q (Bytes c.in-Ok.bytes)) (sym c.in-Read.is) tt
@@ -288,10 +289,10 @@ pub returns-in-ResizeShrink-clause-after : goal.returns-in-ResizeShrink-clause-a
 returns-in-ResizeShrink-clause-after g c = subst (λ q. SlotsAfter c.args.slots.now.prepared.items q c.shrink.result c.args.slots.now.prepared.items) (sym c.in-ResizeShrink.is) refl
 
 pub returns-in-Size-clause-header_cluster : goal.returns-in-Size-clause-header_cluster
-returns-in-Size-clause-header_cluster g c = behind_none
+returns-in-Size-clause-header_cluster g c = λ _. behind_none
 
 pub returns-in-Leaked-clause-header_cluster : goal.returns-in-Leaked-clause-header_cluster
-returns-in-Leaked-clause-header_cluster g c = behind_none
+returns-in-Leaked-clause-header_cluster g c = λ _. behind_none
 
 pub returns-in-Ok-clause-quiet : goal.returns-in-Ok-clause-quiet
 returns-in-Ok-clause-quiet g c = λ reading existing. record { reading = c.read.ensures.step.image.writable ∙ reading; quiet = c.read.ensures.step.quiet; existing = existing }
@@ -424,3 +425,84 @@ returns-in-Size-clause-marks g c = subst (λ q. MarksBy g.S.Storage.view c.args.
 
 pub returns-in-Leaked-clause-marks : goal.returns-in-Leaked-clause-marks
 returns-in-Leaked-clause-marks g c = subst (λ q. MarksBy g.S.Storage.view c.args.image.now c.args.image.now q (None)) (sym c.in-Leaked.is) (at_rest g.S.Storage.view None c.args.image.now refl)
+
+pub returns-in-Ok-clause-header_cluster : goal.returns-in-Ok-clause-header_cluster
+returns-in-Ok-clause-header_cluster g c = λ _. c.read.ensures.step.header_cluster
+
+pub returns-in-Err-clause-header_cluster : goal.returns-in-Err-clause-header_cluster
+returns-in-Err-clause-header_cluster g c = λ _. c.read.ensures.step.header_cluster
+
+pub returns-in-Ok-write-clause-header_cluster : goal.returns-in-Ok-write-clause-header_cluster
+returns-in-Ok-write-clause-header_cluster g c = λ _. c.write.ensures.header_cluster
+
+pub returns-in-Err-write-clause-header_cluster : goal.returns-in-Err-write-clause-header_cluster
+returns-in-Err-write-clause-header_cluster g c = λ _. c.write.ensures.header_cluster
+
+pub returns-in-GetMapping-clause-header_cluster : goal.returns-in-GetMapping-clause-header_cluster
+returns-in-GetMapping-clause-header_cluster g c = λ _. c.get_mapping.ensures.step.header_cluster
+
+pub returns-in-ReadMapped-clause-header_cluster : goal.returns-in-ReadMapped-clause-header_cluster
+returns-in-ReadMapped-clause-header_cluster g c = λ _. c.read_mapped.ensures.step.header_cluster
+
+pub returns-in-PrepareDataMapping-clause-header_cluster : goal.returns-in-PrepareDataMapping-clause-header_cluster
+returns-in-PrepareDataMapping-clause-header_cluster g c = λ _. c.prepare.ensures.step.header_cluster
+
+pub returns-in-WriteMapped-clause-header_cluster : goal.returns-in-WriteMapped-clause-header_cluster
+returns-in-WriteMapped-clause-header_cluster g c = λ _. c.write_mapped.ensures.step.header_cluster
+
+pub returns-in-CommitDataMapping-clause-header_cluster : goal.returns-in-CommitDataMapping-clause-header_cluster
+returns-in-CommitDataMapping-clause-header_cluster g c = λ _. c.commit.ensures.step.header_cluster
+
+pub returns-in-DiscardDataMapping-clause-header_cluster : goal.returns-in-DiscardDataMapping-clause-header_cluster
+returns-in-DiscardDataMapping-clause-header_cluster g c = λ _. c.discard.ensures.step.header_cluster
+
+pub returns-in-EnsureZeroMapping-clause-header_cluster : goal.returns-in-EnsureZeroMapping-clause-header_cluster
+returns-in-EnsureZeroMapping-clause-header_cluster g c = λ _. c.ensure_zero.ensures.step.header_cluster
+
+pub returns-in-DiscardToZero-clause-header_cluster : goal.returns-in-DiscardToZero-clause-header_cluster
+returns-in-DiscardToZero-clause-header_cluster g c = λ _. c.discard_to_zero.ensures.step.header_cluster
+
+pub returns-in-DiscardToAny-clause-header_cluster : goal.returns-in-DiscardToAny-clause-header_cluster
+returns-in-DiscardToAny-clause-header_cluster g c = λ _. c.discard_to_any.ensures.step.header_cluster
+
+pub returns-in-DiscardToBacking-clause-header_cluster : goal.returns-in-DiscardToBacking-clause-header_cluster
+returns-in-DiscardToBacking-clause-header_cluster g c = λ _. c.discard_to_backing.ensures.step.header_cluster
+
+pub returns-in-ReadvSpecial-clause-header_cluster : goal.returns-in-ReadvSpecial-clause-header_cluster
+returns-in-ReadvSpecial-clause-header_cluster g c = λ _. c.readv_special.ensures.step.header_cluster
+
+pub returns-in-TryReadvSpecial-clause-header_cluster : goal.returns-in-TryReadvSpecial-clause-header_cluster
+returns-in-TryReadvSpecial-clause-header_cluster g c = λ _. c.try_readv_special.ensures.step.header_cluster
+
+pub returns-in-Flush-clause-header_cluster : goal.returns-in-Flush-clause-header_cluster
+returns-in-Flush-clause-header_cluster g c = λ _. c.flush.ensures.step.header_cluster
+
+pub returns-in-Sync-clause-header_cluster : goal.returns-in-Sync-clause-header_cluster
+returns-in-Sync-clause-header_cluster g c = λ _. c.sync.ensures.step.header_cluster
+
+pub returns-in-ResizeGrow-clause-header_cluster : goal.returns-in-ResizeGrow-clause-header_cluster
+returns-in-ResizeGrow-clause-header_cluster g c = λ _. c.grow.ensures.header_cluster
+
+pub returns-in-ResizeShrink-clause-header_cluster : goal.returns-in-ResizeShrink-clause-header_cluster
+returns-in-ResizeShrink-clause-header_cluster g c = λ _. c.shrink.ensures.header_cluster
+
+pub returns-in-InvalidateCache-clause-header_cluster : goal.returns-in-InvalidateCache-clause-header_cluster
+returns-in-InvalidateCache-clause-header_cluster g c = λ kept. absurd (subst (λ q. KeepsUnflushed (command_of q)) c.in-InvalidateCache.is kept)
+
+pub returns-in-InvalidateCache-clause-command_step : goal.returns-in-InvalidateCache-clause-command_step
+returns-in-InvalidateCache-clause-command_step g c = λ kept. absurd (subst (λ q. KeepsUnflushed (command_of q)) c.in-InvalidateCache.is kept)
+
+pub returns-in-InvalidateCache-clause-tells : goal.returns-in-InvalidateCache-clause-tells
+returns-in-InvalidateCache-clause-tells g c = subst (λ q. TellsOfImage g.S.Storage.view g.F.BackingDisk.backing c.args.image.now c.invalidate.new.image c.args.slots.now.prepared.items c.args.slots.now.prepared.items q c.invalidate.result) (sym c.in-InvalidateCache.is) tt
+
+pub returns-in-InvalidateCache-clause-causes : goal.returns-in-InvalidateCache-clause-causes
+returns-in-InvalidateCache-clause-causes g c = subst (λ q. IsRightlyRefused g.S.Storage.view g.F.BackingDisk.backing c.args.image.now c.invalidate.new.image c.args.slots.now.prepared.items (mappings_in c.args.slots.now.mappings.items) q c.invalidate.result) (sym c.in-InvalidateCache.is) (c.invalidate.ensures.causes c.args.slots.now.prepared.items (mappings_in c.args.slots.now.mappings.items))
+
+pub returns-in-InvalidateCache-clause-after : goal.returns-in-InvalidateCache-clause-after
+returns-in-InvalidateCache-clause-after g c = subst (λ q. SlotsAfter c.args.slots.now.prepared.items q c.invalidate.result c.args.slots.now.prepared.items) (sym c.in-InvalidateCache.is) refl
+
+pub returns-in-InvalidateCache-clause-quiet : goal.returns-in-InvalidateCache-clause-quiet
+returns-in-InvalidateCache-clause-quiet g c = λ reading existing. record { reading = c.invalidate.ensures.step.image.writable ∙ reading; quiet = c.invalidate.ensures.step.quiet; existing = existing }
+
+pub returns-in-InvalidateCache-clause-marks : goal.returns-in-InvalidateCache-clause-marks
+returns-in-InvalidateCache-clause-marks g c = subst (λ q. MarksBy g.S.Storage.view c.args.image.now c.invalidate.new.image q (refusal_in c.invalidate.result)) (sym c.in-InvalidateCache.is) c.invalidate.ensures.step.marks
