@@ -1,6 +1,6 @@
-use Rattle.std.proofs.Common.{◌≡◌, ◌≢◌, ◌+◌, ◌<◌, ◌≤◌, ◌⊎◌, inl, inr, ℕ, List, Option, Some, None, arith, subst, sym, ap, ◌∙◌}
+use Rattle.std.proofs.Common.{◌≡◌, ◌≢◌, ◌+◌, ◌<◌, ◌≤◌, ◌⊎◌, inl, inr, ℕ, List, Option, Some, None, arith, subst, ◌∙◌}
 use Rattle.std.proofs.lemmas.Bool.Decides.{nat_tests}
-use Rattle.number_runs.specs.NumberRuns.{run_at, AreApart, AreKept, SameNumbers}
+use Rattle.number_runs.specs.NumberRuns.{run_at, AreApart, SameNumbers}
 use Rattle.number_runs.proofs.Runs.{joined_apart, joined_stays, joined_was}
 use Rattle.number_runs.proofs.NumberRuns.join_at.Goals as goal
 
