@@ -1,5 +1,5 @@
 -- An allocator stays one of its file, over steps and where a call is refused.
-use Rattle.std.proofs.Common.{◌≡◌, ◌⊎◌, inl, inr, subst, sym, ℕ, ◌≤◌, Option, Some, None, arith}
+use Rattle.std.proofs.Common.{◌≡◌, ◌⊎◌, inl, inr, subst, sym, ℕ, ◌≤◌, List, Option, Some, None, arith}
 use Rattle.std.specs.Prelude.{IfSome}
 use Rattle.image_access.specs.Moments.{StorageView}
 use Rattle.qcow2_metadata.specs.Entries.{count}
@@ -11,7 +11,8 @@ use Rattle.qcow2_alloc.specs.declared.image_file.ImageFile.{ImageFile}
 use Rattle.qcow2_alloc.specs.Allocation.{RefusedGrowth, UnseenAllocatorStep}
 use Rattle.qcow2_alloc.specs.ImageFile.{known_in, HasReftable, UnseenFileGrowth, InterruptedFileStep}
 use Rattle.qcow2_alloc.specs.KeptAllocators.{IsAllocatorOf}
-use Rattle.qcow2_alloc.specs.LowestRuns.{NoFreeBelowHint, BrokeOff}
+use Rattle.qcow2_alloc.specs.LowestRuns.{NoFreeBelowHint, SearchesAnew, BrokeOff}
+use Rattle.number_runs.specs.NumberRuns.{IsIn}
 use Rattle.qcow2_alloc.proofs.AllocationSteps.{on_of}
 
 module _ {S : Type 0} (view : S → StorageView) where
@@ -27,6 +28,17 @@ module _ {S : Type 0} (view : S → StorageView) where
   -- an allocator that only spares other clusters, all of which are in use
   pub spared_kept : (file : ImageFile S) (t t' : Allocator) → t' ≡ record t { named = t'.named } → (NoFreeBelowHint view t file → NoFreeBelowHint view t' file) → IsAllocatorOf view file t → IsAllocatorOf view file t'
   spared_kept file t t' rest hint is = record { reftable = subst (λ (x : Allocator). HasReftable view file x.reftable) (sym rest) is.reftable; hint = hint is.hint }
+
+  -- an allocator whose search begins anew
+  pub anew_kept : (file : ImageFile S) (t t' : Allocator) → SearchesAnew t t' → IsAllocatorOf view file t → IsAllocatorOf view file t'
+  anew_kept file t t' anew is = record {
+    reftable = subst (HasReftable view file) (sym anew.reftable) is.reftable;
+    hint = λ k passed. elim passed [
+      | inl below ↦ absurd (let zero = anew.first in omega (arith, below, zero))
+      | inr (inl spared) ↦ is.hint k (inr (inl (subst (λ (runs : List (ℕ × ℕ)). IsIn runs k) anew.named spared)))
+      | inr (inr covered) ↦ absurd (anew.unread k covered.0)
+    ];
+  }
 
   -- a refused call left both as they are kept, or broke off
   pub refused_kept : (p q : Pending) (a b : ImageFile S) (t : Allocator) (e : ImageError) → RefusedGrowth view p a t b q e → NoFreeBelowHint view t b ⊎ BrokeOff b e → (UnseenFileGrowth view p q a b × IsAllocatorOf view b t) ⊎ InterruptedFileStep view a b e

@@ -15,6 +15,7 @@ pub mod PlacedBlocks
 pub mod NamedBlocks
 pub mod CountsStay
 pub mod Hints
+pub mod KeptRuns
 pub mod KeptAllocators
 pub mod Freeing
 pub mod ListedAfter

@@ -11,7 +11,6 @@ use Rattle.qcow2_metadata.specs.Header.{cluster_size, entries_per_cluster, refta
 use Rattle.qcow2_metadata.specs.Entries.{l1_entry, reftable_entry, block_offset, count}
 use Rattle.qcow2_metadata.specs.EntryTable.{EntryTableView, IsRefTableOf, entry_count}
 use Rattle.qcow2_metadata.specs.TableBytes.{entry_at}
-use Rattle.qcow2_metadata.specs.L2Mapping.{IsHostCluster}
 use Rattle.qcow2_metadata.specs.Named.{in_cluster, table_in, named_by_reftable, named_by_l1_table, named_for_tables}
 use Rattle.qcow2_laws.specs.Guests.{named_by_guest}
 use Rattle.qcow2_laws.specs.Changes.{one_at}

@@ -210,8 +210,9 @@ pub spared_used : {S : Type 0} (view : S → StorageView) (p : Pending) (file : 
     → AllocatorInvariant view t p file → IsL1TableOf file.header.fields (contents_in view file) l1_table → NoFreeBelowHint view t file → NoFreeBelowHint view t' file
 spared_used view p file t t' l1_table all rest spares sound is_l1 hint = subst (λ (x : Allocator). NoFreeBelowHint view x file) (sym rest) (λ k passed. elim passed [
   | inl below ↦ hint k (inl below)
-  | inr spared ↦ elim (spares.was k spared) [
-    | inl old ↦ hint k (inr old)
+  | inr (inr covered) ↦ hint k (inr (inr covered))
+  | inr (inl spared) ↦ elim (spares.was k spared) [
+    | inl old ↦ hint k (inr (inl old))
     | inr named ↦ tables_used view p file k sound.sound (named_some file.header.fields (contents_in view file) t.reftable l1_table k sound.reftable.entries is_l1 named)
   ]
 ])

@@ -18,9 +18,38 @@ BrokeOff file e = IsFault e × (e ≡ I.Memory → IsTrue (has_noted file))
 abbrev pub IsLowestRun : (ℕ → Type 0) → ℕ → ℕ → Type 0
 IsLowestRun used first n = (start : ℕ) → start < first → (k : ℕ) × (start ≤ k) × (k < start + n) × (k < first) × used k
 
--- A search for free clusters passes over this cluster: it lies below the first free one, or is spared because a table that the image was opened with refers to it.
+-- a cluster is kept as one in use: it lies in a range that was read, and in no free run
+abbrev pub IsCovered : Allocator → ℕ → Type 0
+IsCovered allocator k = IsIn allocator.read k × (IsIn allocator.free k → ⊥)
+
+-- it is spared as one of the tables that the image was opened with, or kept as one in use
+abbrev pub IsKnown : Allocator → ℕ → Type 0
+IsKnown allocator k = IsIn allocator.named k ⊎ IsCovered allocator k
+
+-- a search passes over a cluster without taking it: it lies below the first free one, or is known
 abbrev pub IsPassed : Allocator → ℕ → Type 0
-IsPassed allocator k = (k < allocator.first_free_cluster) ⊎ IsIn allocator.named k
+IsPassed allocator k = (k < allocator.first_free_cluster) ⊎ IsKnown allocator k
+
+-- The search begins anew: from the first cluster on, and no cluster is kept as one in use. What is spared, the reftable and what leaked stay.
+pub record SearchesAnew (old new : Allocator) : Type 0 where
+  pub first : new.first_free_cluster ≡ 0
+  pub unread : (k : ℕ) → ¬ IsIn new.read k
+  pub named : new.named ≡ old.named
+  pub reftable : new.reftable ≡ old.reftable
+  pub leaks : new.leaked_clusters ≡ old.leaked_clusters
+
+-- a search passes over no other clusters
+abbrev pub PassesNoOthers : Allocator → Allocator → Type 0
+PassesNoOthers old new = (k : ℕ) → IsPassed new k → IsPassed old k
+
+-- no cluster
+abbrev pub NoCluster : ℕ → Type 0
+NoCluster k = ⊥
+
+-- only the runs that are kept change, and no other cluster is kept as one in use than was, or than is said
+pub record KeepsRuns (old new : Allocator) (IsMore : ℕ → Type 0) : Type 0 where
+  pub rest : new ≡ record old { read = new.read; free = new.free; crowded = new.crowded }
+  pub covered : (k : ℕ) → IsCovered new k → IsCovered old k ⊎ IsMore k
 
 -- The search starts at the same cluster, and spares no further ones.
 pub record SearchStays (old new : Allocator) : Type 0 where

@@ -14,6 +14,7 @@ ghost use Rattle.qcow2_alloc.specs.BegunAnew.{BeginsAnew};
 ghost use Rattle.qcow2_alloc.specs.MetadataCaches.{order_of};
 ghost use Rattle.qcow2_metadata.specs.L2Mapping.{IsHostCluster};
 
+use crate::free_runs::MOST_KNOWN;
 use crate::spared_clusters::MOST_SPARED;
 use crate::{
     ClusterKind, ClustersToFreeEntry, ClustersToFreeList, ImageError, ImageFile, PendingClusters,
@@ -22,13 +23,20 @@ use image_access::Storage;
 use number_runs::NumberRuns;
 use qcow2_metadata::{ClusterCount, HostCluster, MAX_HOST_OFFSET, MAX_REFTABLE_ENTRIES, RefTable};
 
-/// Allocates clusters, and frees those on the list of clusters to free. No cluster below the first free one is free.
+/// Takes clusters, and frees those that are to be freed. No cluster below the first free one has count 0, and none that lies in a range
+/// that was read but in no free run.
 #[derive(Drop)]
 pub struct Allocator {
     pub(crate) reftable: RefTable,
     pub(crate) first_free_cluster: u64,
     pub(crate) leaked_clusters: u64,
     pub(crate) named: NumberRuns,
+    /// The clusters of the ranges whose refblocks were read.
+    pub(crate) read: NumberRuns,
+    /// Of these the free ones. No run goes over the end of a range.
+    pub(crate) free: NumberRuns,
+    /// The first cluster of the last range that there was no room for, or the greatest number.
+    pub(crate) crowded: u64,
 }
 
 #[tactic(auto, using(crate::proofs::TableErrors::storage_of_tables, crate::proofs::TableErrors::metadata_of_tables, crate::proofs::TableErrors::cache_of_tables))]
@@ -57,6 +65,9 @@ impl Allocator {
             first_free_cluster: 0,
             leaked_clusters: 0,
             named: NumberRuns::new(file.alloc, MOST_SPARED),
+            read: NumberRuns::new(file.alloc, MOST_KNOWN),
+            free: NumberRuns::new(file.alloc, MOST_KNOWN),
+            crowded: u64::MAX,
         })
     }
 
@@ -229,11 +240,29 @@ impl Allocator {
         ensures fails { Fails S.view file.old.storage file.new.storage result IsOfTables }
         ensures leaks { (p : Pending) → AllocatorInvariant S.view self.old p file.old → SameLeaks self.old self.new }
     {
+        self.skip_kept();
+        self.search_run(file, n)
+    }
+
+    // Takes the lowest run from the first free cluster on.
+    fn search_run<S: Storage>(&mut self, file: &mut ImageFile<S>, n: u64) -> Result<u64, ImageError>
+        ensures step { FileStep S.view self.old.reftable file.old self.new.reftable file.new }
+        ensures noted { OnOk result (IsTrue file.new.caches.is_changed) }
+        ensures sound { (p : Pending) (is_data : Bool) → AllocatorInvariant S.view self.old p file.old
+            → MayTake is_data file.old → TakesLowestSoundly S.view
+            (TakesSomeRun S.view p file.old self.new file.new
+            (pending_then p file.old.free_list file.new.free_list) is_data n result)
+            (λ first. first) n self.old file.old self.new file.new result }
+        ensures nameable { IfOk result (λ first. IsHostCluster file.old.header.fields.cluster_bits first) }
+        ensures elsewhere { IfOk result (λ first. 0 < first) }
+        ensures fails { Fails S.view file.old.storage file.new.storage result IsOfTables }
+        ensures leaks { (p : Pending) → AllocatorInvariant S.view self.old p file.old → SameLeaks self.old self.new }
+    {
         let limit = (MAX_HOST_OFFSET >> file.header.cluster_bits()) + 1;
         self.first_free_cluster = self.first_free_cluster.max(1);
         let mut first = self.first_free_cluster;
         'search: while 0 < n && n <= limit && first <= limit - n {
-            let taken = self.take_run(file, first, n)?;
+            let taken = self.try_run(file, first, n)?;
             if taken == n {
                 return Ok(first);
             }
@@ -242,7 +271,31 @@ impl Allocator {
         Err(ImageError::Limit)
     }
 
-    // Allocates the n clusters from `first` on. Returns n, or how many lie before one that is in use; those are freed again.
+    // Takes n clusters from first on. Where one of them is kept as one in use, none is taken: how many lie before that.
+    fn try_run<S: Storage>(
+        &mut self,
+        file: &mut ImageFile<S>,
+        first: u64,
+        n: u64,
+    ) -> Result<u64, ImageError>
+        requires near { first + n < 2 ^ 63 }
+        requires above { 0 < first }
+        ensures step { FileStep S.view self.old.reftable file.old self.new.reftable file.new }
+        ensures fails { Fails S.view file.old.storage file.new.storage result IsOfTables }
+        ensures sound { (p : Pending) (is_data : Bool) → AllocatorInvariant S.view self.old p file.old
+            → MayTake is_data file.old
+            → TakesRunSoundly S.view p is_data self.old file.old self.new file.new first n result }
+        ensures noted { IfOk result (λ taken. taken ≡ n → 0 < n → IsTrue file.new.caches.is_changed) }
+        ensures within { IfOk result (λ taken. taken ≤ n) }
+    {
+        let room = self.room_from(first, n);
+        if room < n {
+            return Ok(room);
+        }
+        self.take_run(file, first, n)
+    }
+
+    // Takes n clusters from first on: n, or how many lay before one that is in use; those are given back.
     fn take_run<S: Storage>(
         &mut self,
         file: &mut ImageFile<S>,
@@ -294,6 +347,7 @@ impl Allocator {
     {
         self.reach_block(file, cluster)?;
         let taken = self.raise(file, cluster)?;
+        self.note_used(cluster, taken, file.header.rb_bits());
         if cluster == self.first_free_cluster {
             self.first_free_cluster = cluster + 1;
         }

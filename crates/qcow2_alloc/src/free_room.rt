@@ -11,6 +11,7 @@ ghost use Rattle.qcow2_alloc.specs.Rooms.{lacks, opens, IsReach, IsRoomBelow, Ta
 ghost use Rattle.qcow2_alloc.specs.Steps.{Fails, TableStep, ReachesRoomSoundly, TakesRoomSoundly};
 ghost use Rattle.qcow2_alloc.specs.Steps.{LeavesSoundly};
 
+use crate::free_runs::range_around;
 use crate::{Allocator, ImageError, ImageFile};
 use image_access::Storage;
 
@@ -35,6 +36,32 @@ struct Reach {
 impl Allocator {
     // Allocates the first room for so many clusters of a reftable that lies below an end.
     pub(crate) fn take_room<S: Storage>(
+        &mut self,
+        file: &mut ImageFile<S>,
+        clusters: u64,
+        end: u64,
+    ) -> Result<Room, ImageError>
+        requires some { 0 < clusters }
+        requires few { clusters ≤ 2 ^ 32 }
+        requires near { end ≤ 2 ^ 60 }
+        ensures step { TableStep S.view self.old.reftable file.old self.new.reftable file.new }
+        ensures fails { Fails S.view file.old.storage file.new.storage result IsOfTables }
+        ensures sound { (p : Pending) → AllocatorInvariant S.view self.old p file.old
+            → TakesRoomSoundly S.view p clusters end self.old file.old self.new file.new result }
+        ensures room { IfOk result (IsRoomBelow file.old.header.fields self.old.reftable clusters end file.new) }
+        ensures reftable { self.new.reftable ≡ self.old.reftable }
+        ensures first { SearchStays self.old self.new }
+    {
+        let room = self.find_room(file, clusters, end)?;
+        let bits = file.header.rb_bits();
+        let (first, _) = range_around(room.first, bits);
+        let (_, behind) = range_around(room.first + room.blocks + room.clusters, bits);
+        self.forget_range(first, behind);
+        Ok(room)
+    }
+
+    // Takes the first room, as `take_room` does. What is kept of its ranges stays.
+    fn find_room<S: Storage>(
         &mut self,
         file: &mut ImageFile<S>,
         clusters: u64,

@@ -281,12 +281,13 @@ impl Allocator {
         };
         let index = HostCluster::new(cluster).rb_index(bits);
         let lowered = file.caches.rb_decrement(block, index);
-        self.note_lowered(cluster, file.caches.rb_is_zero(block, index));
+        self.note_lowered(cluster, file.caches.rb_is_zero(block, index), bits);
         Ok(lowered)
     }
 
-    // A cluster whose refcount is 0 now may be allocated again, and is not spared any longer.
-    fn note_lowered(&mut self, cluster: u64, is_free: bool)
+    // A cluster whose count is 0 now may be taken again, and isn't spared any longer.
+    fn note_lowered(&mut self, cluster: u64, is_free: bool, bits: u32)
+        requires { bits < 64 }
         ensures reftable { self.new.reftable ≡ self.old.reftable }
         ensures leaked { self.new.leaked_clusters ≡ self.old.leaked_clusters }
         ensures passed { (k : ℕ) → IsPassed self.new k → IsPassed self.old k }
@@ -297,6 +298,7 @@ impl Allocator {
         if is_free {
             self.first_free_cluster = self.first_free_cluster.min(cluster);
             self.spare_no_longer(cluster);
+            self.note_free(cluster, bits);
         }
     }
 }

@@ -7,6 +7,7 @@ mod cache;
 mod clusters_to_free;
 mod error;
 mod free_room;
+mod free_runs;
 mod freed_clusters;
 mod image_file;
 mod image_storage;

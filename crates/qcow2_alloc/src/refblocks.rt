@@ -10,7 +10,7 @@ ghost use Rattle.qcow2_alloc.specs.CachePins.{LeavesPinned};
 ghost use Rattle.qcow2_alloc.specs.SparedHeaders.{KeepBehindHeader};
 ghost use Rattle.qcow2_alloc.specs.Steps.{EnsuresSoundly, Fails, FindsBlock, GetsSoundly, TableStep, TakesOneSoundly};
 ghost use Rattle.qcow2_alloc.specs.Steps.{BlockStep, FileStep, RangeStep, ReachesSoundly};
-ghost use Rattle.qcow2_alloc.specs.LowestRuns.{NoFreeBelowHint, KeepsNoFreeBelowHint, SearchStays};
+ghost use Rattle.qcow2_alloc.specs.LowestRuns.{NoFreeBelowHint, KeepsNoFreeBelowHint, SearchesAnew, SearchStays};
 ghost use Rattle.number_runs.specs.NumberRuns.{IsIn};
 ghost use Rattle.qcow2_alloc.specs.ImageError.{IsOfTables};
 ghost use Rattle.qcow2_alloc.specs.ImageFile.{has_noted, AllocatorInvariant};
@@ -91,9 +91,10 @@ impl Allocator {
         ensures taken { TakesOff (AreClean (refblocks file.old.caches)) file.old.caches file.new.caches }
         ensures rest { file.new ≡ record file.old { caches = file.new.caches } }
         ensures header_cluster { KeepBehindHeader file.old.caches file.new.caches }
-        ensures anew { self.new ≡ record self.old { first_free_cluster = 0 } }
+        ensures anew { SearchesAnew self.old self.new }
     {
         self.first_free_cluster = 0;
+        self.forget_runs();
         file.caches.invalidate_rb()
     }
 
@@ -220,6 +221,33 @@ impl Allocator {
 
     // Allocates the lowest free cluster below an end, and makes refblocks that count themselves if they are needed. Cluster 0 is the header's.
     fn take_lowest_below<S: Storage>(
+        &mut self,
+        file: &mut ImageFile<S>,
+        end: u64,
+    ) -> Result<Option<u64>, ImageError>
+        requires { end < 2 ^ 63 }
+        ensures step { TableStep S.view self.old.reftable file.old self.new.reftable file.new }
+        ensures noted { IfOk result (λ at. IsSome at → IsTrue file.new.caches.is_changed) }
+        ensures below { IfOk result (λ at. IfSome at (λ at. (0 < at) × (at < end))) }
+        ensures entries { KeepsEntries (λ k. end ≤ k * counts_per_block file.old.header.fields)
+            self.old.reftable self.new.reftable }
+        ensures sound { (p : Pending) → AllocatorInvariant S.view self.old p file.old
+            → TakesLowest S.view p file.old self.new file.new result }
+        ensures fails { Fails S.view file.old.storage file.new.storage result IsOfTables }
+        ensures leaks { SameLeaks self.old self.new }
+        ensures hint { (p : Pending) → AllocatorInvariant S.view self.old p file.old
+            → NoFreeBelowHint S.view self.old file.old → KeepsNoFreeBelowHint S.view self.new file.new result }
+    {
+        self.skip_kept();
+        let Some(cluster) = self.search_below(file, end)? else {
+            return Ok(None);
+        };
+        self.note_used(cluster, true, file.header.rb_bits());
+        Ok(Some(cluster))
+    }
+
+    // Takes the lowest free cluster from the first free one on. What is kept of its range stays.
+    fn search_below<S: Storage>(
         &mut self,
         file: &mut ImageFile<S>,
         end: u64,

@@ -1,20 +1,25 @@
 //! Clusters in use, which a search for free ones passes over.
-ghost use Rattle.std.specs.Prelude.{◌≡◌, ◌+◌, ◌/◌, ◌^◌, ◌<◌, ◌≤◌, IfOk};
+ghost use Rattle.std.specs.Prelude.{◌≡◌, ◌⊎◌, ℕ, ◌+◌, ◌-◌, ◌/◌, ◌^◌, ◌<◌, ◌≤◌, IfOk, IfSome};
+ghost use Rattle.std.specs.Prelude.{IsTrue, IsFalse};
+ghost use Rattle.number_runs.specs.NumberRuns.{IsIn, Adds, NoneIn};
 ghost use Rattle.qcow2_laws.specs.CrashInvariant.{Pending};
 ghost use Rattle.qcow2_metadata.specs.Header.{counts_per_block};
 ghost use Rattle.qcow2_alloc.specs.Allocation.{HasNone};
 ghost use Rattle.qcow2_alloc.specs.ImageError.{IsOfTables};
 ghost use Rattle.qcow2_alloc.specs.ImageFile.{AllocatorInvariant};
-ghost use Rattle.qcow2_alloc.specs.LowestRuns.{NoFreeBelowHint, KeepsNoFreeBelowHint};
-ghost use Rattle.qcow2_alloc.specs.UsedCounts.{passed_hint, PassesUsed, GoesFar};
+ghost use Rattle.qcow2_alloc.specs.LowestRuns.{IsCovered, NoFreeBelowHint, KeepsNoFreeBelowHint, KeepsRuns};
+ghost use Rattle.qcow2_alloc.specs.UsedCounts.{MovesOn, PassesUsed, PassesKnown, StaysSound, GoesFar, GoesFarIn};
+ghost use Rattle.qcow2_alloc.specs.UsedCounts.{AreFoundFree, IsFoundUsed, SparedStayOut};
 ghost use Rattle.qcow2_alloc.specs.Steps.{Fails, TableStep};
 
-use crate::{Allocator, ImageError, ImageFile};
+use crate::free_runs::range_around;
+use crate::{Allocator, ImageError, ImageFile, MetadataCaches};
 use image_access::Storage;
 use qcow2_metadata::HostCluster;
 
 impl Allocator {
-    // Passes over the clusters in use from one on, and moves the first free cluster if the search started there.
+    // Goes on behind the clusters in use from one on, and notes where the first free one may be. What is kept of its range
+    // tells which they are, or else its refblock does.
     pub(crate) fn pass_used<S: Storage>(
         &mut self,
         file: &mut ImageFile<S>,
@@ -22,27 +27,263 @@ impl Allocator {
     ) -> Result<u64, ImageError>
         requires { cluster < 2 ^ 63 }
         ensures step { TableStep S.view self.old.reftable file.old self.new.reftable file.new }
-        ensures moves { self.new ≡ record self.old {
-          first_free_cluster = passed_hint self.old.first_free_cluster cluster result;
-        } }
+        ensures moves { MovesOn self.old self.new cluster result }
         ensures sound { (p : Pending) → AllocatorInvariant S.view self.old p file.old
-            → PassesUsed S.view p file.old self.new file.new cluster result }
+            → PassesKnown S.view p self.old file.old self.new file.new cluster result }
         ensures fails { Fails S.view file.old.storage file.new.storage result IsOfTables }
         ensures behind { IfOk result (λ next. cluster ≤ next) }
-        ensures far { IfOk result (GoesFar file.old.header.fields self.old.reftable file.new.caches cluster) }
+        ensures far { IfOk result (GoesFarIn file.old.header.fields self.new file.new.caches cluster) }
         ensures hint { (p : Pending) → AllocatorInvariant S.view self.old p file.old
             → NoFreeBelowHint S.view self.old file.old → KeepsNoFreeBelowHint S.view self.new file.new result }
         ensures none { HasNone self.old.reftable (cluster / counts_per_block file.old.header.fields)
             → file.new ≡ file.old }
     {
-        let next = self.behind_used(file, cluster)?;
+        self.keep_range(file, cluster)?;
+        let next = self.next_open(file, cluster)?;
         if cluster == self.first_free_cluster {
             self.first_free_cluster = next;
         }
         Ok(next)
     }
 
-    // The end of the clusters in use from one on, by its refblock, at most the end of its range. Without a refblock none is in use.
+    // Where the clusters in use from one on end: those that are kept as such, where its range was read, or else those that its
+    // refblock tells.
+    fn next_open<S: Storage>(
+        &self,
+        file: &mut ImageFile<S>,
+        cluster: u64,
+    ) -> Result<u64, ImageError>
+        requires { cluster < 2 ^ 63 }
+        ensures step { TableStep S.view self.now.reftable file.old self.now.reftable file.new }
+        ensures sound { (p : Pending) → AllocatorInvariant S.view self.now p file.old
+            → PassesKnown S.view p self.now file.old self.now file.new cluster result }
+        ensures fails { Fails S.view file.old.storage file.new.storage result IsOfTables }
+        ensures behind { IfOk result (λ next. cluster ≤ next) }
+        ensures far { IfOk result (GoesFarIn file.old.header.fields self.now file.new.caches cluster) }
+        ensures none { HasNone self.now.reftable (cluster / counts_per_block file.old.header.fields)
+            → file.new ≡ file.old }
+    {
+        if self.is_read(cluster) {
+            return Ok(self.behind_kept(cluster));
+        }
+        self.behind_used(file, cluster)
+    }
+
+    // Keeps what the refblock of a cluster's range counts, unless it is kept already or there was no room for it.
+    fn keep_range<S: Storage>(
+        &mut self,
+        file: &mut ImageFile<S>,
+        cluster: u64,
+    ) -> Result<(), ImageError>
+        requires { cluster < 2 ^ 63 }
+        ensures step { TableStep S.view self.old.reftable file.old self.new.reftable file.new }
+        ensures rest { self.new
+            ≡ record self.old { read = self.new.read; free = self.new.free; crowded = self.new.crowded } }
+        ensures sound { (p : Pending) → AllocatorInvariant S.view self.old p file.old
+            → StaysSound S.view p file.old self.new file.new result }
+        ensures fails { Fails S.view file.old.storage file.new.storage result IsOfTables }
+        ensures hint { (p : Pending) → AllocatorInvariant S.view self.old p file.old
+            → NoFreeBelowHint S.view self.old file.old → KeepsNoFreeBelowHint S.view self.new file.new result }
+        ensures none { HasNone self.old.reftable (cluster / counts_per_block file.old.header.fields)
+            → file.new ≡ file.old }
+    {
+        let bits = file.header.rb_bits();
+        let (first, end) = range_around(cluster, bits);
+        if self.crowded == first || self.is_read(cluster) {
+            return Ok(());
+        }
+        let Some(block) = self.load_block(file, cluster >> bits)? else {
+            return Ok(());
+        };
+        self.read_range(&mut file.caches, block, first, end);
+        Ok(())
+    }
+
+    // Keeps what a held refblock counts of the clusters from one on up to before an end. Where there is no room, nothing is kept of them.
+    fn read_range<S: Storage>(
+        &mut self,
+        caches: &mut MetadataCaches<S>,
+        block: HostCluster,
+        first: u64,
+        end: u64,
+    )
+        requires { first ≤ end }
+        ensures kept { KeepsRuns self.old self.new (IsFoundUsed self.old caches.old block first end) }
+        ensures spared { SparedStayOut self.old self.new }
+        ensures same { caches.new ≡ caches.old }
+    {
+        self.forget_range(first, end);
+        if !self.list_range(caches, block, first, end) {
+            self.forget_range(first, end);
+            self.crowded = first;
+        }
+    }
+
+    // Keeps what a held refblock counts of clusters of which nothing is kept. False where there is no room.
+    fn list_range<S: Storage>(
+        &mut self,
+        caches: &mut MetadataCaches<S>,
+        block: HostCluster,
+        first: u64,
+        end: u64,
+    ) -> bool
+        requires order { first ≤ end }
+        requires unread { NoneIn self.old.read first end }
+        requires none { NoneIn self.old.free first end }
+        ensures rest { self.new ≡ record self.old { read = self.new.read; free = self.new.free } }
+        ensures kept { (k : ℕ) → IsCovered self.new k
+            → IsCovered self.old k ⊎ IsFoundUsed self.old caches.old block first end k }
+        ensures spared { SparedStayOut self.old self.new }
+        ensures same { caches.new ≡ caches.old }
+    {
+        if !self.list_free(caches, block, first, end) {
+            return false;
+        }
+        self.add_read(first, end)
+    }
+
+    // The clusters from one on up to before an end are read now, of which none was. False where there is no room.
+    fn add_read(&mut self, first: u64, end: u64) -> bool
+        requires order { first ≤ end }
+        requires unread { NoneIn self.old.read first end }
+        ensures rest { self.new ≡ record self.old { read = self.new.read } }
+        ensures added { IsTrue result → Adds self.old.read self.new.read first (end - first) }
+        ensures refused { IsFalse result → self.new ≡ self.old }
+    {
+        if !self.read.add(first, end - first) {
+            return false;
+        }
+        self.read.join_at(first);
+        self.read.join_at(end);
+        true
+    }
+
+    // Lists the free clusters of a held refblock, from one on up to before an end. False where there is no room for all.
+    fn list_free<S: Storage>(
+        &mut self,
+        caches: &mut MetadataCaches<S>,
+        block: HostCluster,
+        first: u64,
+        end: u64,
+    ) -> bool
+        requires order { first ≤ end }
+        requires none { NoneIn self.old.free first end }
+        ensures rest { self.new ≡ record self.old { free = self.new.free } }
+        ensures stays { (k : ℕ) → IsIn self.old.free k → IsIn self.new.free k }
+        ensures listed { IsTrue result → (k : ℕ) → first ≤ k → k < end
+            → IsFoundUsed self.old caches.old block first end k ⊎ IsIn self.new.free k }
+        ensures spared { SparedStayOut self.old self.new }
+        ensures same { caches.new ≡ caches.old }
+    {
+        let mut at = first;
+        'listing: while at < end {
+            let Some(next) = self.list_stretch(caches, block, first, at, end) else {
+                return false;
+            };
+            at = next;
+        }
+        true
+    }
+
+    // Passes over clusters in use or spared, or lists free ones: what there is from a cluster on. None where there is no room.
+    fn list_stretch<S: Storage>(
+        &mut self,
+        caches: &mut MetadataCaches<S>,
+        block: HostCluster,
+        first: u64,
+        at: u64,
+        end: u64,
+    ) -> Option<u64>
+        requires from { first ≤ at }
+        requires below { at < end }
+        requires none { NoneIn self.old.free at end }
+        ensures rest { self.new ≡ record self.old { free = self.new.free } }
+        ensures stays { (k : ℕ) → IsIn self.old.free k → IsIn self.new.free k }
+        ensures onward { IfSome result (λ next. (at < next) × (next ≤ end) × NoneIn self.new.free next end) }
+        ensures listed { IfSome result (λ next. (k : ℕ) → at ≤ k → k < next
+            → IsFoundUsed self.old caches.old block first end k ⊎ IsIn self.new.free k) }
+        ensures spared { SparedStayOut self.old self.new }
+        ensures same { caches.new ≡ caches.old }
+    {
+        let used = caches.rb_used_from(block, (at - first) as usize) as u64;
+        if used == 0 {
+            return self.list_open(caches, block, first, at, end);
+        }
+        Some(at.saturating_add(used).min(end))
+    }
+
+    // Passes over spared clusters, or lists free ones, as `list_stretch` does.
+    fn list_open<S: Storage>(
+        &mut self,
+        caches: &MetadataCaches<S>,
+        block: HostCluster,
+        first: u64,
+        at: u64,
+        end: u64,
+    ) -> Option<u64>
+        requires from { first ≤ at }
+        requires below { at < end }
+        requires none { NoneIn self.old.free at end }
+        ensures rest { self.new ≡ record self.old { free = self.new.free } }
+        ensures stays { (k : ℕ) → IsIn self.old.free k → IsIn self.new.free k }
+        ensures onward { IfSome result (λ next. (at < next) × (next ≤ end) × NoneIn self.new.free next end) }
+        ensures listed { IfSome result (λ next. (k : ℕ) → at ≤ k → k < next
+            → IsIn self.old.named k ⊎ IsIn self.new.free k) }
+        ensures spared { SparedStayOut self.old self.new }
+    {
+        if let Some((spared, n)) = self.named.run_of(at) {
+            return Some((spared + n).min(end));
+        }
+        let n = self.free_from(caches, block, first, at, end);
+        if n == 0 {
+            return None;
+        }
+        if !self.free.add(at, n) {
+            return None;
+        }
+        Some(at + n)
+    }
+
+    // How many clusters from one on up to before an end a held refblock counts as 0, and aren't spared.
+    fn free_from<S: Storage>(
+        &self,
+        caches: &MetadataCaches<S>,
+        block: HostCluster,
+        first: u64,
+        at: u64,
+        end: u64,
+    ) -> u64
+        requires from { first ≤ at }
+        requires below { at < end }
+        ensures within { at + result ≤ end }
+        ensures spared { NoneIn self.now.named at (at + result) }
+        ensures free { AreFoundFree caches.now block first at (at + result) }
+    {
+        let stop = self.spared_from(at, end);
+        let mut next = at;
+        'counting: while next < stop {
+            if !caches.rb_is_zero(block, (next - first) as usize) {
+                return next - at;
+            }
+            next += 1;
+        }
+        next - at
+    }
+
+    // The first spared cluster from one on, or an end before it.
+    fn spared_from(&self, at: u64, end: u64) -> u64
+        requires { at ≤ end }
+        ensures from { at ≤ result }
+        ensures to { result ≤ end }
+        ensures none { NoneIn self.now.named at result }
+    {
+        match self.named.run_from(at) {
+            Some((spared, _)) => spared.min(end),
+            None => end,
+        }
+    }
+
+    // Where the clusters in use from one on end, as its refblock tells, at the end of its range at the latest. Without a refblock there are none.
     pub(crate) fn behind_used<S: Storage>(
         &self,
         file: &mut ImageFile<S>,

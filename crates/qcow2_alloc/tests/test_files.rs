@@ -10,7 +10,17 @@ pub(crate) fn file_of<S: Storage>(
     storage: S,
     header: Header,
 ) -> Result<ImageFile<S>, AllocError> {
-    let caches = MetadataCaches::new(alloc, &header, 2, 2)?;
+    file_with(alloc, storage, header, 2)
+}
+
+// A file over a storage, with two cached L2 tables at most, and so many refblocks.
+pub(crate) fn file_with<S: Storage>(
+    alloc: Global,
+    storage: S,
+    header: Header,
+    refblocks: usize,
+) -> Result<ImageFile<S>, AllocError> {
+    let caches = MetadataCaches::new(alloc, &header, 2, refblocks)?;
     Ok(ImageFile {
         alloc,
         storage: ImageStorage::new(storage),

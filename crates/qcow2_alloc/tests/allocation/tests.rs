@@ -1,8 +1,10 @@
 //! Clusters that are asked for, over an image of a header, a reftable and a refblock.
 use super::{Allocator, MAX_HOST_OFFSET};
-use crate::test_files::file_of;
-use crate::{ImageError, ImageFile};
+use crate::free_runs::MOST_KNOWN;
+use crate::test_files::{file_of, file_with};
+use crate::{ClustersToFreeEntry, ImageError, ImageFile};
 use image_access::{Storage, TraceStorage};
+use number_runs::NumberRuns;
 use qcow2_metadata::{ClusterCount, Header, HostCluster, HostOffset, L1Table};
 use std::alloc::{AllocError, Global};
 use std::test::*;
@@ -137,5 +139,103 @@ fn tables_are_spared_whatever_their_counts_are(rt: HostRuntime) -> Result<(), Fa
     bytes[518] = 4;
     let storage = TraceStorage::new(alloc, bytes)?;
     assert_eq!(rt; lowest_behind_tables(alloc, storage)?, (true, 4));
+    Ok(())
+}
+
+// 200 refblocks of 64 counts, in clusters 5 to 204 behind their reftable. All count 1, but for one of 0 in each of the last three.
+fn nearly_full(alloc: Global) -> Result<TraceStorage, AllocError> {
+    let mut bytes = vec![in alloc; 0u8; 205 * 512]?;
+    for range in 0..200 {
+        let offset = (5 + range as u64) * 512;
+        bytes[512 + 8 * range..520 + 8 * range].copy_from_slice(&offset.to_be_bytes());
+        for index in 0..64 {
+            let is_free = range >= 197 && index == range - 190;
+            bytes[(5 + range) * 512 + 8 * index + 7] = u8::from(!is_free);
+        }
+    }
+    TraceStorage::new(alloc, bytes)
+}
+
+// The first clusters that three searches for n of them find.
+fn searched<S: Storage>(
+    allocator: &mut Allocator,
+    file: &mut ImageFile<S>,
+    n: u64,
+) -> Result<[u64; 3], ImageError> {
+    let mut found = [0; 3];
+    for place in &mut found {
+        let run = allocator.allocate_data(file, ClusterCount::new(n))?;
+        *place = run.cluster().value();
+        run.make_persistent();
+    }
+    Ok(found)
+}
+
+// What three searches find in a nearly full image where so many runs are kept at most; where it goes on, three low clusters
+// are freed, and three more searches find those. How often the storage was read comes last.
+fn searched_in(
+    alloc: Global,
+    most: usize,
+    n: u64,
+    steps: usize,
+) -> Result<([u64; 3], u64), ImageError> {
+    let storage = nearly_full(alloc)?;
+    let mut header = Header::new(9, 6, None, None, None);
+    header.set_reftable(HostOffset::new(512), 4)?;
+    let mut file = file_with(alloc, storage, header, 8)?;
+    let mut allocator = Allocator::new(&mut file)?;
+    allocator.read = NumberRuns::new(alloc, most);
+    allocator.free = NumberRuns::new(alloc, most);
+    let mut found = [0; 3];
+    if steps > 0 {
+        found = searched(&mut allocator, &mut file, n)?;
+    }
+    if steps > 1 {
+        for cluster in [1000, 2000, 3000] {
+            let run = ClustersToFreeEntry::data(HostCluster::new(cluster), ClusterCount::new(1));
+            file.free_list.push(alloc, run)?;
+        }
+        allocator.free(&mut file)?;
+    }
+    if steps > 2 {
+        found = searched(&mut allocator, &mut file, n)?;
+    }
+    Ok((found, file.into_storage().reads()))
+}
+
+#[test]
+fn searches_read_no_range_twice(rt: HostRuntime) -> Result<(), Fail> {
+    let alloc = rt.alloc();
+    for (n, first, second) in [
+        (1, [12615, 12680, 12745], [1000, 2000, 3000]),
+        (2, [12800, 12802, 12804], [12806, 12808, 12810]),
+        (5, [12800, 12805, 12810], [12815, 12820, 12825]),
+    ] {
+        let (_, opened) = searched_in(alloc, MOST_KNOWN, n, 0)?;
+        let (found, searched) = searched_in(alloc, MOST_KNOWN, n, 1)?;
+        let (_, freed) = searched_in(alloc, MOST_KNOWN, n, 2)?;
+        let (again, all) = searched_in(alloc, MOST_KNOWN, n, 3)?;
+        assert_eq!(rt; found, first);
+        assert_eq!(rt; searched - opened, 200);
+        assert_eq!(rt; again, second);
+        assert_eq!(rt; all - freed, 0);
+    }
+    Ok(())
+}
+
+#[test]
+fn without_room_for_runs_searches_find_the_same(rt: HostRuntime) -> Result<(), Fail> {
+    let alloc = rt.alloc();
+    for (n, first, second) in [
+        (1, [12615, 12680, 12745], [1000, 2000, 3000]),
+        (2, [12800, 12802, 12804], [12806, 12808, 12810]),
+    ] {
+        for most in 0..6 {
+            let (found, _) = searched_in(alloc, most, n, 1)?;
+            let (again, _) = searched_in(alloc, most, n, 3)?;
+            assert_eq!(rt; found, first);
+            assert_eq!(rt; again, second);
+        }
+    }
     Ok(())
 }

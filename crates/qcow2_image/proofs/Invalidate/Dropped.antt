@@ -25,6 +25,7 @@ use Rattle.qcow2_alloc.specs.declared.error.ImageError.{ImageError}
 use Rattle.qcow2_alloc.specs.declared.error.ImageError.TheVariants as I
 use Rattle.qcow2_alloc.specs.declared.image_file.ImageFile.{ImageFile}
 use Rattle.qcow2_alloc.specs.KeptAllocators.{IsAllocatorOf}
+use Rattle.qcow2_alloc.specs.LowestRuns.{SearchesAnew}
 use Rattle.qcow2_alloc.specs.declared.allocation.Allocator.{Allocator}
 use Rattle.qcow2_alloc.specs.declared.cache.MetadataCaches.{MetadataCaches}
 use Rattle.qcow2_alloc.proofs.KeptTables.Turning.{safe_none}
@@ -227,11 +228,11 @@ behind_dropped {v = v} is same keeps = record {
 
 -- both kinds of tables are dropped, and the allocator begins anew
 pub anew_moved : {S F : Type 0} (view : S → StorageView) (backing : F → BackingView) (p : Pending) (old mid : Qcow2 S F) (caches' : MetadataCaches S) (a a' : Allocator) (out : List (Option Prepared)) → UnseenStep view backing p p old mid out
-    → UnseenStep view backing p p mid (record mid { file = record mid.file { caches = caches' } }) out → mid.allocator ≡ Some a → a' ≡ record a { first_free_cluster = 0 }
+    → UnseenStep view backing p p mid (record mid { file = record mid.file { caches = caches' } }) out → mid.allocator ≡ Some a → SearchesAnew a a'
     → UnseenStep view backing p p old (record mid { file = record mid.file { caches = caches' }; allocator = Some a' }) out
 anew_moved view backing p old mid caches' a a' out first second is anew =
     let last : Qcow2 _ _ = record mid { file = record mid.file { caches = caches' } } in
     let own : IsAllocatorOf view last.file a = subst (λ (x : Option Allocator). IfSome x (IsAllocatorOf view last.file)) is second.sound.reftable in
     keeps_then view backing out old mid (record last { allocator = Some a' }) p p p (λ k h. h) first
     (with_tables view backing p mid last out second mid.l1_table (Some a') second.sound.l1_table (begins_over view last.file a a' anew own)
-    (ap (λ (x : Allocator). x.leaked_clusters) anew ∙ sym (ap (λ (x : Option Allocator). leaked_by x) is)))
+    (anew.leaks ∙ sym (ap (λ (x : Option Allocator). leaked_by x) is)))

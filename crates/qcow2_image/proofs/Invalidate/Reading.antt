@@ -14,7 +14,8 @@ use Rattle.qcow2_laws.specs.CrashInvariant.{Pending, IsTop}
 use Rattle.qcow2_alloc.specs.ImageFile.{view_in, contents_in, HasReftable}
 use Rattle.qcow2_alloc.specs.ImageStorage.{storage_of}
 use Rattle.qcow2_alloc.specs.KeptAllocators.{IsAllocatorOf}
-use Rattle.qcow2_alloc.specs.LowestRuns.{IsPassed}
+use Rattle.qcow2_alloc.specs.LowestRuns.{IsPassed, SearchesAnew}
+use Rattle.qcow2_alloc.proofs.KeptAllocators.{anew_kept}
 use Rattle.qcow2_alloc.specs.declared.allocation.Allocator.{Allocator}
 use Rattle.qcow2_alloc.specs.declared.image_file.ImageFile.{ImageFile}
 use Rattle.qcow2_alloc.specs.declared.image_storage.ImageStorage.{ImageStorage}
@@ -65,9 +66,8 @@ pub begins_of : {S : Type 0} (view : S → StorageView) (file : ImageFile S) (a 
 begins_of view file a passed reftable = record { reftable = reftable; hint = λ k is. absurd (passed k is) }
 
 -- one that looks for free clusters from the first one on again
-pub begins_over : {S : Type 0} (view : S → StorageView) (file : ImageFile S) (a a' : Allocator) → a' ≡ record a { first_free_cluster = 0 } → IsAllocatorOf view file a → IsAllocatorOf view file a'
-begins_over view file a a' is own =
-    subst (IsAllocatorOf view file) (sym is) (record { reftable = own.reftable; hint = λ k passed. elim passed [ inl below ↦ absurd (omega (arith, below)) | inr spared ↦ own.hint k (inr spared) ] })
+pub begins_over : {S : Type 0} (view : S → StorageView) (file : ImageFile S) (a a' : Allocator) → SearchesAnew a a' → IsAllocatorOf view file a → IsAllocatorOf view file a'
+begins_over view file a a' anew own = anew_kept view file a a' anew own
 
 -- ---- a sound image whose storage was read
 module _ {S F : Type 0} (view : S → StorageView) (backing : F → BackingView) (image : Qcow2 S F) (out : List (Option Prepared)) (p : Pending) (sound : ImageInvariant view backing p image out) where

@@ -29,8 +29,8 @@ use Rattle.qcow2_alloc.proofs.PlacedBlocks.{IsFree, is_free, file_step_rewritten
 use Rattle.qcow2_alloc.proofs.SparedHeaders.{spares_cached, spares_then, spares_written, at_place}
 use Rattle.qcow2_alloc.specs.SparedHeaders.{CachesSpareHeader}
 use Rattle.qcow2_alloc.specs.HeaderClusters.{KeepsHeaderCluster}
-use Rattle.qcow2_alloc.proofs.KeptMarks.{kept_marks_then, marks_of_both, placed_kept, marks_of_storage}
-use Rattle.qcow2_alloc.proofs.Steps.{fails_of, fails_on, fails_since, fails_storage, same_faults}
+use Rattle.qcow2_alloc.proofs.KeptMarks.{kept_marks_then, placed_kept, marks_of_storage}
+use Rattle.qcow2_alloc.proofs.Steps.{fails_on, fails_since, fails_storage, same_faults}
 use Rattle.qcow2_alloc.proofs.refblocks.write_block.Goals as goal
 
 -- all counts are written, and then the block's bytes, or they are not

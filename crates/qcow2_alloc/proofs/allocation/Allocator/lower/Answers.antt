@@ -30,3 +30,6 @@ returns-then-is_fault-clause-sound g c = λ p owed sound may. record {
   leaks = c.try_lower.ensures.leaked;
   hint = c.in-Err.ensures.hint p owed sound may;
 }
+
+pub returns-clause-first : goal.returns-clause-first
+returns-clause-first g c = λ low. let stays = c.try_lower.ensures.first low in record { first = stays.first; passed = λ k passed. stays.passed k passed }

@@ -74,7 +74,7 @@ returns-in_err-reftable-clause-begins g c = if_no_ok _ c.from_residual.result (o
 pub returns-clause-begins : goal.returns-clause-begins
 returns-clause-begins g c = record {
   first = refl;
-  passed = λ k passed. elim passed [ inl below ↦ absurd (omega (arith, below)) | inr spared ↦ c.new.ensures k spared ];
+  passed = λ k passed. elim passed [ inl below ↦ absurd (omega (arith, below)) | inr (inl spared) ↦ c.new.ensures k spared | inr (inr covered) ↦ c.new-2.ensures k covered.0 ];
   leaks = refl;
   reftable = λ honest.
       table_loaded g.S.Storage.view c.args.file.now c.load_reftable.new.self c.in_ok-reftable.reftable c.in-Some.cluster c.cluster_bits-bits.result c.reftable_entries-entries.result c.reftable_offset.result

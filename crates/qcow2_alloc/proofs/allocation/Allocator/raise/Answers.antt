@@ -1,4 +1,4 @@
-use Rattle.std.proofs.Common.{◌≡◌, inr, Bool, ◌==◌, ◌/◌, ◌%◌, ◌^◌, true, false, Ok, refl, sym, ap, ◌∙◌, arith}
+use Rattle.std.proofs.Common.{inl, ◌≡◌, inr, Bool, ◌==◌, ◌/◌, ◌%◌, ◌^◌, true, false, Ok, refl, sym, ap, ◌∙◌, arith}
 use Rattle.std.proofs.lemmas.Bool.Decides.{nat_tests}
 use Rattle.qcow2_metadata.specs.Entries.{block_offset, count}
 use Rattle.qcow2_metadata.specs.TableBytes.{entry_at}
@@ -83,6 +83,6 @@ pub returns-then-is_spared-clause-sound : goal.returns-then-is_spared-clause-sou
 returns-then-is_spared-clause-sound g c = λ p is_data sound may. record {
   takes = allocator_step_none g.S.Storage.view p c.args.file.now c.args.self.now sound;
   fault = tt;
-  used = λ hint has none. hint c.args.cluster (inr (c.is_spared.ensures.0 c.if-is_spared.true));
+  used = λ hint has none. hint c.args.cluster (inr (inl (c.is_spared.ensures.0 c.if-is_spared.true)));
   free = λ taken. absurd (not_both false taken refl);
 }

@@ -9,7 +9,8 @@ use Rattle.qcow2_alloc.proofs.allocation.Allocator.take.Goals.{then-cluster-self
 use Rattle.qcow2_alloc.proofs.Outcomes.{if_no_ok}
 use Rattle.qcow2_alloc.proofs.MadeClusters.{lists_used_still}
 use Rattle.std.proofs.Common.{◌≡◌, ◌∙◌, Ok, ap, refl, sym, subst, inl, inr}
-use Rattle.qcow2_alloc.specs.LowestRuns.{NoFreeBelowHint}
+use Rattle.qcow2_alloc.specs.LowestRuns.{IsUsed, NoFreeBelowHint}
+use Rattle.qcow2_alloc.proofs.KeptRuns.{hint_kept}
 use Rattle.qcow2_alloc.specs.Steps.{TakesSoundly}
 use Rattle.qcow2_alloc.proofs.ListedAfter.{header_counts}
 use Rattle.qcow2_alloc.proofs.Steps.{fails_ok, fails_on, fails_since, step_as, step_on, step_then}
@@ -23,10 +24,11 @@ returns-in_err-taken-clause-step g c = step_then (record { header = c.reach_bloc
 
 pub returns-clause-step : goal.returns-clause-step
 returns-clause-step g c =
-    let same : c.if-cluster-self.self.reftable ≡ c.raise.new.self.reftable = elim c.if-cluster-self.branch [
+    let noted : c.if-cluster-self.self.reftable ≡ c.note_used.new.self.reftable = elim c.if-cluster-self.branch [
       | then-cluster-self w ↦ ap (λ (t : Allocator). t.reftable) w.self-is
       | else-cluster-self w ↦ ap (λ (t : Allocator). t.reftable) w.self-is
     ] in
+    let same : c.if-cluster-self.self.reftable ≡ c.raise.new.self.reftable = noted ∙ ap (λ (t : Allocator). t.reftable) c.note_used.ensures.kept.rest in
     step_as same refl (step_then (record { header = c.reach_block.ensures.step.header; list = c.reach_block.ensures.step.list; former = c.reach_block.ensures.step.former; marks = c.reach_block.ensures.step.marks; header_cluster = c.reach_block.ensures.step.header_cluster }) (step_on c.raise.ensures.step))
 
 pub returns-in_err-reach_block-clause-fails : goal.returns-in_err-reach_block-clause-fails
@@ -94,14 +96,18 @@ returns-clause-sound g c = λ p d sound may.
     let two = c.in_ok-taken.ensures.sound q d (is_sound_on view p q a b c.reach_block.new.self one) (may_still d a b c.reach_block.ensures.step.marks.order may) in
     let t = c.raise.new.self in
     let file = c.raise.new.file in
-    let same : c.if-cluster-self.self.reftable ≡ t.reftable = elim c.if-cluster-self.branch [
+    let noted = c.note_used.new.self in
+    let kept = c.note_used.ensures.kept in
+    let same_noted : c.if-cluster-self.self.reftable ≡ noted.reftable = elim c.if-cluster-self.branch [
       | then-cluster-self w ↦ ap (λ (t : Allocator). t.reftable) w.self-is
       | else-cluster-self w ↦ ap (λ (t : Allocator). t.reftable) w.self-is
     ] in
-    let leaks : c.if-cluster-self.self.leaked_clusters ≡ t.leaked_clusters = elim c.if-cluster-self.branch [
+    let same : c.if-cluster-self.self.reftable ≡ t.reftable = same_noted ∙ ap (λ (t : Allocator). t.reftable) kept.rest in
+    let leaks_noted : c.if-cluster-self.self.leaked_clusters ≡ noted.leaked_clusters = elim c.if-cluster-self.branch [
       | then-cluster-self w ↦ ap (λ (t : Allocator). t.leaked_clusters) w.self-is
       | else-cluster-self w ↦ ap (λ (t : Allocator). t.leaked_clusters) w.self-is
     ] in
+    let leaks : c.if-cluster-self.self.leaked_clusters ≡ t.leaked_clusters = leaks_noted ∙ ap (λ (t : Allocator). t.leaked_clusters) kept.rest in
     let used = λ (hint : NoFreeBelowHint view c.args.self.now a). two.used (reached.hint hint) (range_as c.reach_block.new.self.reftable c.args.cluster (counts_per_block a.header.fields) (counts_per_block b.header.fields) (header_counts a.header b.header c.reach_block.ensures.step.header) c.in_ok-reach_block.ensures.has) in
     record {
       takes = subst (λ (r : Pending). TakesCluster view p a c.if-cluster-self.self file r d c.args.cluster (Ok c.in_ok-taken.taken)) (ap (pending_then p a.free_list) (sym c.raise.ensures.step.list))
@@ -113,11 +119,11 @@ returns-clause-sound g c = λ p d sound may.
       free = λ taken before. two.free taken (reached.uses c.args.cluster before);
       hint = λ hint.
           let raised = hint_raised view q d c.args.cluster b file c.reach_block.new.self t c.in_ok-taken.taken (passed_same c.reach_block.new.self c.raise.new.self c.raise.ensures.same) two.takes (reached.hint hint) in
+          let here = raised_used view q d c.args.cluster b file t c.in_ok-taken.taken two.takes (used hint) in
+          let known = hint_kept view file t noted (λ k. k ≡ c.args.cluster) kept (λ k same. subst (IsUsed view file) (sym same) here) raised in
           elim c.if-cluster-self.branch [
-            | then-cluster-self w ↦
-                subst (λ t. NoFreeBelowHint view t file) (sym w.self-is)
-                (hint_more view file t c.args.cluster raised (sym w.if-cluster-self.true) (raised_used view q d c.args.cluster b file t c.in_ok-taken.taken two.takes (used hint)))
-            | else-cluster-self w ↦ subst (λ t. NoFreeBelowHint view t file) (sym w.self-is) raised
+            | then-cluster-self w ↦ subst (λ t. NoFreeBelowHint view t file) (sym w.self-is) (hint_more view file noted c.args.cluster known (sym w.if-cluster-self.true) here)
+            | else-cluster-self w ↦ subst (λ t. NoFreeBelowHint view t file) (sym w.self-is) known
           ];
       limit = λ hint near. tt;
     }

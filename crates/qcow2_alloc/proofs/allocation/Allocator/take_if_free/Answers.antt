@@ -86,4 +86,4 @@ pub returns-then-is_spared-clause-sound : goal.returns-then-is_spared-clause-sou
 returns-then-is_spared-clause-sound g c = λ p sound. allocator_step_none g.S.Storage.view p c.args.file.now c.args.self.now sound
 
 pub returns-then-is_spared-clause-used : goal.returns-then-is_spared-clause-used
-returns-then-is_spared-clause-used g c = λ p sound hint none. hint c.args.cluster (inr (c.is_spared.ensures.0 c.if-is_spared.true))
+returns-then-is_spared-clause-used g c = λ p sound hint none. hint c.args.cluster (inr (inl (c.is_spared.ensures.0 c.if-is_spared.true)))

@@ -1,4 +1,4 @@
-use Rattle.std.proofs.Common.{◌≡◌, ℕ, None, ◌+◌, ◌*◌, ◌/◌, ◌<◌, ◌≤◌, sym, ap, ◌∙◌, subst, arith, Some, refl, inl, Err}
+use Rattle.std.proofs.Common.{◌≡◌, ℕ, ◌+◌, ◌*◌, ◌/◌, ◌<◌, ◌≤◌, sym, ap, ◌∙◌, subst, arith, Some, refl, inl}
 use Rattle.qcow2_metadata.specs.declared.header.HeaderFields.{HeaderFields}
 use Rattle.qcow2_metadata.specs.EntryTable.{EntryTableView, entry_count}
 use Rattle.qcow2_metadata.specs.Header.{cluster_size, HeaderView}
@@ -25,8 +25,7 @@ use Rattle.qcow2_alloc.proofs.Outcomes.{on_no_ok, on_err}
 use Rattle.std.proofs.lemmas.Bool.{or_left}
 use Rattle.qcow2_alloc.specs.ImageStorage.{is_changed_of}
 use Rattle.std.specs.Prelude.{IfSome}
-use Rattle.qcow2_alloc.proofs.KeptMarks.{marks_of_both}
-use Rattle.qcow2_alloc.proofs.Steps.{fails_of, fails_on, fails_since, pointer_step_on, pointer_step_then, table_step_cached, table_step_then, table_step_part, pointer_step_to}
+use Rattle.qcow2_alloc.proofs.Steps.{fails_on, fails_since, pointer_step_on, pointer_step_then, table_step_cached, table_step_then, table_step_part, pointer_step_to}
 use Rattle.qcow2_alloc.proofs.allocation.Allocator.write_reftable.Goals as goal
 
 pub returns-in_err-before_rb-clause-sound : goal.returns-in_err-before_rb-clause-sound

@@ -2,6 +2,7 @@ use Rattle.std.proofs.Common.{◌≡◌, ◌∙◌, List, Option, Result, Some, 
 use Rattle.std.specs.Prelude.{IfErr, option_map}
 use Rattle.qcow2_alloc.specs.CachePins.{LeavesPinned}
 use Rattle.qcow2_alloc.specs.KeptNotes.{kept_same}
+use Rattle.qcow2_metadata.specs.EntryTable.{EntryTableView}
 use Rattle.qcow2_alloc.specs.declared.allocation.Allocator.{Allocator}
 use Rattle.qcow2_alloc.specs.declared.clusters_to_free.ClustersToFreeEntry.{ClustersToFreeEntry}
 use Rattle.qcow2_alloc.specs.declared.error.ImageError.{ImageError}
@@ -42,7 +43,7 @@ returns-in-Some-clause-step g c =
       notes = notes_then {b = c.invalidate_l2.new.self} (record { storage = kept_same old.file.storage; tables = l2.step.marks.changes }) (notes_of_marks rb.marks);
       header_cluster =
           behind_then (behind_tables l2.step.header_cluster)
-          (behind_by view (ap (λ (f : ImageFile _). record old { file = f; allocator = Some c.invalidate_rb_cache.new.self }) rb.rest) (behind_dropped c.in-Some.is (ap (λ (a : Allocator). a.reftable) rb.anew) rb.header_cluster));
+          (behind_by view (ap (λ (f : ImageFile _). record old { file = f; allocator = Some c.invalidate_rb_cache.new.self }) rb.rest) (behind_dropped c.in-Some.is rb.anew.reftable rb.header_cluster));
     }
 
 pub returns-in-Some-clause-why : goal.returns-in-Some-clause-why
@@ -137,8 +138,8 @@ returns-in-Some-clause-rest g c =
       rest =
           ap (λ (f : ImageFile _). record old { file = f; allocator = Some a' }) rb.rest
           ∙ ap (λ (l : List ClustersToFreeEntry). record old { file = record old.file { caches = caches; free_list = l }; allocator = Some a' }) c.take-forgotten.ensures.emptied;
-      reftable = ap (λ (a : Allocator). Some a.reftable) rb.anew ∙ sym (ap (λ (o : Option Allocator). option_map (λ a. a.reftable) o) c.in-Some.is);
-      leaks = ap (λ (a : Allocator). a.leaked_clusters) rb.anew ∙ sym (ap (λ (o : Option Allocator). leaked_by o) c.in-Some.is);
+      reftable = ap (λ (r : EntryTableView). Some r) rb.anew.reftable ∙ sym (ap (λ (o : Option Allocator). option_map (λ a. a.reftable) o) c.in-Some.is);
+      leaks = rb.anew.leaks ∙ sym (ap (λ (o : Option Allocator). leaked_by o) c.in-Some.is);
       unmodified = λ all. unmodified_rb c.invalidate_l2.new.self caches c.invalidate_rb_cache.result rb.left rb.tables (unmodified_l2 old.file.caches c.invalidate_l2.new.self c.invalidate_l2.result l2.left l2.blocks all);
     }
 

@@ -7,7 +7,7 @@ use Rattle.qcow2_alloc.specs.ImageFile.{AllocatorInvariant}
 use Rattle.qcow2_alloc.specs.LowestRuns.{NoFreeBelowHint, SearchStays}
 use Rattle.qcow2_alloc.proofs.FullRooms.{IsFullBelow}
 use Rattle.qcow2_alloc.specs.Steps.{TableStep}
-use Rattle.qcow2_alloc.proofs.allocation.Allocator.take_room.Given as goal
+use Rattle.qcow2_alloc.proofs.allocation.Allocator.find_room.Given as goal
 
 -- nothing is taken yet
 abbrev pub invariant-search : goal.invariant-search

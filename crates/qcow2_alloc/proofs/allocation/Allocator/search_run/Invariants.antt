@@ -7,7 +7,7 @@ use Rattle.qcow2_alloc.specs.ImageFile.{AllocatorInvariant}
 use Rattle.qcow2_alloc.specs.FreeList.{pending_then}
 use Rattle.qcow2_alloc.specs.LowestRuns.{NoFreeBelowHint, IsLowestRun, IsUsed, StaysUsed}
 use Rattle.qcow2_alloc.specs.Steps.{FileStep}
-use Rattle.qcow2_alloc.proofs.allocation.Allocator.lowest_run.Given as goal
+use Rattle.qcow2_alloc.proofs.allocation.Allocator.search_run.Given as goal
 
 -- nothing is taken yet
 abbrev pub invariant-search : goal.invariant-search

@@ -6,7 +6,7 @@ use Rattle.qcow2_alloc.specs.Faults.{faults_of}
 use Rattle.qcow2_alloc.specs.ImageFile.{AllocatorInvariant}
 use Rattle.qcow2_alloc.specs.LowestRuns.{NoFreeBelowHint}
 use Rattle.qcow2_alloc.specs.Steps.{TableStep}
-use Rattle.qcow2_alloc.proofs.allocation.Allocator.take_lowest_below.Given as goal
+use Rattle.qcow2_alloc.proofs.allocation.Allocator.search_below.Given as goal
 
 -- nothing is taken yet, and no refblock was placed for the ranges from the end on
 abbrev pub invariant-search : goal.invariant-search
