@@ -156,9 +156,13 @@ def same_bytes(model):
     os.remove("raw")
 
 
+def create_version(version, size, cluster):
+    tool("qemu-img", "create", "-q", "-f", "qcow2", "-o", f"cluster_size={cluster},compat={version}", "disk", size)
+
+
 def random_work(cluster, version):
     size = 40 * cluster - 512 if cluster > 512 else 40 * cluster
-    tool("qemu-img", "create", "-q", "-f", "qcow2", "-o", f"cluster_size={cluster},compat={version}", "disk", size)
+    create_version(version, size, cluster)
     model = Model(size, f"{cluster} {version}")
     for _ in range(4):
         with served("disk"):
@@ -168,10 +172,9 @@ def random_work(cluster, version):
         same_bytes(model)
 
 
-def killed(cluster):
+def killed(cluster, version):
     """A server that is killed at work leaves a consistent image, which has what was flushed."""
-    size = 256 * cluster
-    create("disk", size, cluster)
+    create_version(version, 256 * cluster, cluster)
     for turn in range(4):
         value = turn + 1
         with served("disk"):
@@ -281,10 +284,11 @@ def main():
     every = Checks()
     every.run("words", refuses_words)
     for cluster in CLUSTERS:
-        for name, check in (("map", maps), ("size", says_its_size), ("copies", copies), ("qemu-io", reads_what_qemu_wrote), ("libnbd", started_by_libnbd), ("killed", killed), ("hostile", hostile_bytes)):
+        for name, check in (("map", maps), ("size", says_its_size), ("copies", copies), ("qemu-io", reads_what_qemu_wrote), ("libnbd", started_by_libnbd), ("hostile", hostile_bytes)):
             every.run(f"{name} {cluster}", check, cluster)
         for version in ("0.10", "1.1"):
             every.run(f"random work {cluster} {version}", random_work, cluster, version)
+            every.run(f"killed {cluster} {version}", killed, cluster, version)
     every.done()
 
 

@@ -4,12 +4,14 @@ use Rattle.nbd_protocol.specs.declared.request.Command.{Command}
 use Rattle.nbd_protocol.specs.declared.request.Command.TheVariants as C
 use Rattle.nbd_protocol.specs.declared.request.Request.{Request}
 use Rattle.nbd_protocol.specs.Commands.{Does, MayDo}
-use Rattle.nbd_protocol.specs.Devices.{DeviceView, MayWrite, MayZero, Stays, StaysBeside, Writes, Zeroes}
-use Rattle.nbd_protocol.proofs.Ranges.{may_of_stays, may_of_zeroes, may_start, may_then, stays_start, stays_then}
+use Rattle.nbd_protocol.specs.Devices.{DeviceView, MayWrite, Stays, StaysBeside, Writes, Zeroes}
+use Rattle.nbd_protocol.proofs.Ranges.{may_of_zeroes, may_start, stays_start, stays_then}
+use Rattle.nbd_protocol.proofs.Trims.{trims_of_stays, trims_start, trims_then}
 
 beside_stays : (from to : ℕ) (a b c : DeviceView) → StaysBeside from to a b → Stays b c → StaysBeside from to a c
 beside_stays from to a b c k s = record {
   size = s.size ∙ k.size;
+  unit = s.unit ∙ k.unit;
   values = λ o lt out. let lt' : o < b.size = omega (arith, k.size) in s.values o lt' (inr (omega arith)) ∙ k.values o lt out;
 }
 
@@ -25,9 +27,6 @@ zeroes_stays from to a b c z s = record {
   within = λ o lt low high. let lt' : o < b.size = omega (arith, s.size) in s.values o lt' (inr (omega arith)) ∙ z.within o lt' low high;
 }
 
-zero_stays : (from to : ℕ) (a b c : DeviceView) → MayZero from to a b → Stays b c → MayZero from to a c
-zero_stays from to a b c z s = may_then from to from to a b c z (may_of_stays from to b c s) (omega arith) (omega arith)
-
 may_write : (offset : ℕ) (bytes : List ℕ) (a b : DeviceView) → Writes offset bytes a b → MayWrite offset bytes a b
 may_write offset bytes a b w = record {
   beside = w.beside;
@@ -35,7 +34,7 @@ may_write offset bytes a b w = record {
 }
 
 write_start : (offset : ℕ) (bytes : List ℕ) (a : DeviceView) → MayWrite offset bytes a a
-write_start offset bytes a = record { beside = record { size = refl; values = λ o lt out. refl }; within = λ i lt here. inl refl }
+write_start offset bytes a = record { beside = record { size = refl; unit = refl; values = λ o lt out. refl }; within = λ i lt here. inl refl }
 
 -- what stays behind it is still done
 pub does_stays : (command : Command) (r : Request) (payload : List ℕ) (a b c : DeviceView) → Does command r payload a b → Stays b c → Does command r payload a c
@@ -43,7 +42,7 @@ does_stays C.Read r payload a b c d s = stays_then a b c d s
 does_stays C.Write r payload a b c d s = writes_stays r.offset payload a b c d s
 does_stays C.Disconnect r payload a b c d s = stays_then a b c d s
 does_stays C.Flush r payload a b c d s = stays_then a b c d s
-does_stays C.Trim r payload a b c d s = zero_stays r.offset (r.offset + r.length) a b c d s
+does_stays C.Trim r payload a b c d s = trims_then r.offset (r.offset + r.length) a b c d (trims_of_stays r.offset (r.offset + r.length) b c s)
 does_stays C.Cache r payload a b c d s = stays_then a b c d s
 does_stays C.WriteZeroes r payload a b c d s = zeroes_stays r.offset (r.offset + r.length) a b c d s
 does_stays C.BlockStatus r payload a b c d s = stays_then a b c d s
@@ -67,7 +66,7 @@ may_do_nothing C.Read r payload a = stays_start a
 may_do_nothing C.Write r payload a = write_start r.offset payload a
 may_do_nothing C.Disconnect r payload a = stays_start a
 may_do_nothing C.Flush r payload a = stays_start a
-may_do_nothing C.Trim r payload a = may_start r.offset (r.offset + r.length) a
+may_do_nothing C.Trim r payload a = trims_start r.offset (r.offset + r.length) a
 may_do_nothing C.Cache r payload a = stays_start a
 may_do_nothing C.WriteZeroes r payload a = may_start r.offset (r.offset + r.length) a
 may_do_nothing C.BlockStatus r payload a = stays_start a

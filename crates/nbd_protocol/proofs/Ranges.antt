@@ -7,23 +7,24 @@ use Rattle.std.proofs.lemmas.List.Elements.{All-take}
 use Rattle.nbd_protocol.specs.Devices.{Clears, DeviceView, MayWrite, MayZero, Stays, StaysBeside, Writes, Zeroes}
 
 pub stays_beside : (from to : ℕ) (a b : DeviceView) → Stays a b → StaysBeside from to a b
-stays_beside from to a b s = record { size = s.size; values = λ o lt out. s.values o lt (inr (omega arith)) }
+stays_beside from to a b s = record { size = s.size; unit = s.unit; values = λ o lt out. s.values o lt (inr (omega arith)) }
 
 pub stays_start : (a : DeviceView) → Stays a a
-stays_start a = record { size = refl; values = λ o lt out. refl }
+stays_start a = record { size = refl; unit = refl; values = λ o lt out. refl }
 
 pub stays_then : (a b c : DeviceView) → Stays a b → Stays b c → Stays a c
 stays_then a b c s t = record {
   size = t.size ∙ s.size;
+  unit = t.unit ∙ s.unit;
   values = λ o lt out. let lt' : o < b.size = omega (arith, s.size) in t.values o lt' out ∙ s.values o lt out;
 }
 
 pub may_start : (from to : ℕ) (a : DeviceView) → MayZero from to a a
-may_start from to a = record { beside = record { size = refl; values = λ o lt out. refl }; within = λ o lt low high. inl refl }
+may_start from to a = record { beside = record { size = refl; unit = refl; values = λ o lt out. refl }; within = λ o lt low high. inl refl }
 
 pub zeroes_start : (at : ℕ) (a : DeviceView) → Zeroes at at a a
 zeroes_start at a = record {
-  beside = record { size = refl; values = λ o lt out. refl };
+  beside = record { size = refl; unit = refl; values = λ o lt out. refl };
   within = λ o lt low high. absurd (omega arith);
 }
 
@@ -32,6 +33,7 @@ pub zeroes_join : (from mid to : ℕ) (a b c : DeviceView) → Zeroes from mid a
 zeroes_join from mid to a b c z y low high = record {
   beside = record {
     size = y.beside.size ∙ z.beside.size;
+    unit = y.beside.unit ∙ z.beside.unit;
     values = λ o lt out. let lt' : o < b.size = omega (arith, z.beside.size) in
         elim out [
           | inl below ↦ y.beside.values o lt' (inl (omega arith)) ∙ z.beside.values o lt (inl below)
@@ -50,6 +52,7 @@ pub zeroes_join_back : (from mid to : ℕ) (a b c : DeviceView) → Zeroes mid t
 zeroes_join_back from mid to a b c z y low high = record {
   beside = record {
     size = y.beside.size ∙ z.beside.size;
+    unit = y.beside.unit ∙ z.beside.unit;
     values = λ o lt out. let lt' : o < b.size = omega (arith, z.beside.size) in
         elim out [
           | inl below ↦ y.beside.values o lt' (inl below) ∙ z.beside.values o lt (inl (omega arith))
@@ -83,6 +86,7 @@ may_then from to low high a b c m n le ge =
     record {
       beside = record {
         size = n.beside.size ∙ m.beside.size;
+        unit = n.beside.unit ∙ m.beside.unit;
         values = λ o lt out. let lt' : o < b.size = omega (arith, m.beside.size) in
             elim out [
               | inl below ↦ n.beside.values o lt' (inl (omega arith)) ∙ m.beside.values o lt (inl below)
@@ -122,6 +126,7 @@ pub may_so_far : (from at to : ℕ) (a b : DeviceView) → Zeroes from at a b �
 may_so_far from at to a b z le = record {
   beside = record {
     size = z.beside.size;
+    unit = z.beside.unit;
     values = λ o lt out. elim out [ inl below ↦ z.beside.values o lt (inl below) | inr past ↦ z.beside.values o lt (inr (omega arith)) ];
   };
   within = λ o lt after before. let lt' : o < b.size = omega (arith, z.beside.size) in

@@ -1,4 +1,5 @@
 pub mod Commands
+pub mod Conversations
 pub mod Devices
 pub mod Options
 pub mod Reading

@@ -1,8 +1,8 @@
 //! What a request does to a device.
-ghost use Rattle.std.specs.Prelude.{◌≡◌, ◌+◌, ◌^◌, ◌<◌, ◌≤◌, ◌++◌, All, IfOk, IsTrue, OnOk, length, true};
-ghost use Rattle.nbd_protocol.specs.Commands.{Does, MayDo, PersistsLast, changes, end_of, total};
-ghost use Rattle.nbd_protocol.specs.Devices.{Acts, Clears, MayZero, Persists, Shows, Stays, Zeroes};
-ghost use Rattle.nbd_protocol.specs.declared.request.Command.TheVariants.{Flush};
+ghost use Rattle.std.specs.Prelude.{◌≡◌, ◌+◌, ◌^◌, ◌<◌, ◌≤◌, ◌==◌, ◌&&◌, ◌||◌, All, IfOk, IsTrue, OnErr, OnOk, length, nat_lt, not, true};
+ghost use Rattle.nbd_protocol.specs.Commands.{AreExtents, Does, HasPayload, IsChecked, IsLookedUp, MayDo, PersistsLast, Refused, changes, end_of, is_done, most, past_end, persists, refuses};
+ghost use Rattle.nbd_protocol.specs.Devices.{Acts, ChangeFails, Clears, Fails, IsFault, IsSameDevice, MayZero, Persists, Shows, Stays, Tells, Trims, Zeroes};
+ghost use Rattle.nbd_protocol.specs.declared.request.Command.TheVariants.{Write};
 
 use crate::device::{Device, Errno, State};
 use crate::replies::Extent;
@@ -20,6 +20,8 @@ const EXTENTS: usize = 1024;
 
 /// Flushes, and then syncs.
 pub(crate) fn persist<D: Device>(device: &mut D) -> Result<(), Errno>
+    ensures step { IsSameDevice (D.view device.old) (D.view device.new) }
+    ensures fails { Fails (D.view device.old) IsFault result }
     ensures persisted { OnOk result (Persists D.Flushed D.Synced device.old device.new) }
     ensures last { OnOk result (PersistsLast D.Flushed D.Synced device.new) }
     ensures stays { Acts (D.view device.old) (D.view device.new) (λ done. Stays (D.view device.old) (D.view device.new))
@@ -29,36 +31,95 @@ pub(crate) fn persist<D: Device>(device: &mut D) -> Result<(), Errno>
     device.sync()
 }
 
-/// Refuses a request whose range ends behind the disk, which changes a read-only disk, or which has an unknown flag.
-pub(crate) fn check<D: Device>(device: &D, request: &Request) -> Result<(), Errno>
+fn changes(command: Command) -> bool
+    ensures { result ≡ changes command }
+{
+    matches!(
+        command,
+        Command::Write | Command::Trim | Command::WriteZeroes
+    )
+}
+
+// The error where a range passes the disk's end.
+fn past_end(command: Command) -> Errno
+    ensures { result ≡ past_end command }
+{
+    match command {
+        Command::Write | Command::WriteZeroes => Errno::NoSpace,
+        _ => Errno::Invalid,
+    }
+}
+
+fn is_done(command: Command) -> bool
+    ensures { result ≡ is_done command }
+{
+    matches!(
+        command,
+        Command::Write | Command::Flush | Command::Trim | Command::Cache | Command::WriteZeroes
+    )
+}
+
+// The range of a request passes a disk's end.
+fn passes(request: &Request, size: u64) -> bool
+    ensures { result ≡ nat_lt size (end_of request.now) }
+{
+    match request.offset.checked_add(u64::from(request.length)) {
+        Some(end) => size < end,
+        None => true,
+    }
+}
+
+// A disk that is only read would change.
+fn is_forbidden(read_only: bool, command: Command) -> bool
+    ensures { result ≡ (changes command && read_only) }
+{
+    changes(command) && read_only
+}
+
+// Why a request is refused before anything is done.
+fn refusal(read_only: bool, size: u64, meaningless: bool, request: &Request) -> Option<Errno>
+    ensures { result ≡ refuses read_only size meaningless request.now }
+{
+    if request.flags.unknown {
+        return Some(Errno::Invalid);
+    }
+    if is_forbidden(read_only, request.command) {
+        return Some(Errno::NotPermitted);
+    }
+    if passes(request, size) {
+        return Some(past_end(request.command));
+    }
+    if meaningless {
+        return Some(Errno::Invalid);
+    }
+    None
+}
+
+/// Refuses a request which has an unknown flag, which changes a read-only disk, whose range passes the disk's end, or which means nothing.
+pub(crate) fn check<D: Device>(
+    device: &D,
+    request: &Request,
+    meaningless: bool,
+) -> Result<(), Errno>
     ensures fits { OnOk result (end_of request.now < 2 ^ 64) }
     ensures within { OnOk result ((D.view device.now).is_sound → end_of request.now ≤ (D.view device.now).size) }
     ensures writable { OnOk result ((D.view device.now).is_read_only ≡ true → changes request.now.command ≡ true → ⊥) }
+    ensures checked { IsChecked (D.view device.now) meaningless request.now result }
 {
-    let writes = matches!(
-        request.command,
-        Command::Write | Command::Trim | Command::WriteZeroes
-    );
-    if request.flags.unknown {
-        return Err(Errno::Invalid);
-    }
-    if writes && device.is_read_only() {
-        return Err(Errno::NotPermitted);
-    }
-    match request.offset.checked_add(u64::from(request.length)) {
-        Some(end) if end <= device.size() => Ok(()),
-        _ if matches!(request.command, Command::Write | Command::WriteZeroes) => Err(
-            Errno::NoSpace,
-        ),
-        _ => Err(Errno::Invalid),
+    match refusal(device.is_read_only(), device.size(), meaningless, request) {
+        Some(error) => Err(error),
+        None => Ok(()),
     }
 }
 
 // Discards the whole units of a range, until it has no more, if the device can.
 fn trim<D: Device>(device: &mut D, offset: u64, length: u32) -> Result<(), Errno>
     requires { offset + length < 2 ^ 64 }
-    ensures { Acts (D.view device.old) (D.view device.new) (λ done. MayZero offset (offset + length) (D.view device.old) (D.view device.new))
-        (MayZero offset (offset + length) (D.view device.old) (D.view device.new)) result }
+    ensures step { IsSameDevice (D.view device.old) (D.view device.new) }
+    ensures fails { ChangeFails (D.view device.old) (offset + length) result }
+    ensures sound { Acts (D.view device.old) (D.view device.new)
+        (λ done. Trims offset (offset + length) (D.view device.old) (D.view device.new))
+        (Trims offset (offset + length) (D.view device.old) (D.view device.new)) result }
 {
     let mut at = offset;
     let mut rest = u64::from(length);
@@ -84,7 +145,10 @@ fn clear<D: Device>(
     length: u64,
     keeps_place: bool,
 ) -> Result<(u64, u64), Errno>
-    ensures { Acts (D.view device.old) (D.view device.new) (λ part. Clears offset length part (D.view device.old) (D.view device.new))
+    ensures step { IsSameDevice (D.view device.old) (D.view device.new) }
+    ensures fails { ChangeFails (D.view device.old) (offset + length) result }
+    ensures sound { Acts (D.view device.old) (D.view device.new)
+        (λ part. Clears offset length part (D.view device.old) (D.view device.new))
         (Stays (D.view device.old) (D.view device.new)) result }
 {
     if keeps_place {
@@ -104,7 +168,10 @@ fn write_zeros<D: Device>(
     requires zeros { All (λ b. b ≡ 0) zeros.now }
     requires some { 0 < length zeros.now }
     requires fits { offset + count < 2 ^ 64 }
-    ensures { Acts (D.view device.old) (D.view device.new) (λ done. Zeroes offset (offset + count) (D.view device.old) (D.view device.new))
+    ensures step { IsSameDevice (D.view device.old) (D.view device.new) }
+    ensures fails { ChangeFails (D.view device.old) (offset + count) result }
+    ensures sound { Acts (D.view device.old) (D.view device.new)
+        (λ done. Zeroes offset (offset + count) (D.view device.old) (D.view device.new))
         (MayZero offset (offset + count) (D.view device.old) (D.view device.new)) result }
 {
     let mut at = offset;
@@ -129,8 +196,11 @@ fn zero_units<D: Device>(
     requires zeros { All (λ b. b ≡ 0) zeros.now }
     requires some { 0 < length zeros.now }
     requires fits { offset + count < 2 ^ 64 }
+    ensures step { IsSameDevice (D.view device.old) (D.view device.new) }
+    ensures fails { ChangeFails (D.view device.old) (offset + count) result }
     ensures within { IfOk result (λ at. (offset ≤ at) × (at ≤ offset + count)) }
-    ensures zeroes { Acts (D.view device.old) (D.view device.new) (λ at. Zeroes offset at (D.view device.old) (D.view device.new))
+    ensures zeroes { Acts (D.view device.old) (D.view device.new)
+        (λ at. Zeroes offset at (D.view device.old) (D.view device.new))
         (MayZero offset (offset + count) (D.view device.old) (D.view device.new)) result }
 {
     let mut at = offset;
@@ -160,7 +230,10 @@ fn zero<D: Device>(
     requires zeros { All (λ b. b ≡ 0) zeros.now }
     requires some { 0 < length zeros.now }
     requires fits { offset + count < 2 ^ 64 }
-    ensures { Acts (D.view device.old) (D.view device.new) (λ done. Zeroes offset (offset + count) (D.view device.old) (D.view device.new))
+    ensures step { IsSameDevice (D.view device.old) (D.view device.new) }
+    ensures fails { ChangeFails (D.view device.old) (offset + count) result }
+    ensures sound { Acts (D.view device.old) (D.view device.new)
+        (λ done. Zeroes offset (offset + count) (D.view device.old) (D.view device.new))
         (MayZero offset (offset + count) (D.view device.old) (D.view device.new)) result }
 {
     if count == 0 || !device.can_clear() {
@@ -177,7 +250,9 @@ fn write_zeroes<D: Device>(
     buffer: &mut Vec<u8>,
 ) -> Result<(), Errno>
     requires { end_of request.now < 2 ^ 64 }
-    ensures { Acts (D.view device.old) (D.view device.new)
+    ensures step { IsSameDevice (D.view device.old) (D.view device.new) }
+    ensures fails { ChangeFails (D.view device.old) (end_of request.now) result }
+    ensures sound { Acts (D.view device.old) (D.view device.new)
         (λ done. Zeroes request.now.offset (end_of request.now) (D.view device.old) (D.view device.new))
         (MayZero request.now.offset (end_of request.now) (D.view device.old) (D.view device.new)) result }
 {
@@ -193,31 +268,44 @@ fn write_zeroes<D: Device>(
     )
 }
 
-/// Does what a request without a payload in its reply asks for. The buffer holds the payload of a write, and any bytes afterwards.
+// FLUSH, and any request with FUA.
+fn persists(request: &Request) -> bool
+    ensures { result ≡ persists request.now }
+{
+    request.flags.durable || matches!(request.command, Command::Flush)
+}
+
+/// Does what a request asks that has no answer of its own: the buffer holds the payload of a write, and any bytes then.
 pub(crate) fn perform<D: Device>(
     device: &mut D,
     request: &Request,
     buffer: &mut Vec<u8>,
 ) -> Result<(), Errno>
+    ensures step { IsSameDevice (D.view device.old) (D.view device.new) }
+    ensures fails { HasPayload request.now buffer.old.items
+        → Refused (D.view device.old) (not (is_done request.now.command)) request.now result }
     ensures does { Acts (D.view device.old) (D.view device.new)
         (λ done. Does request.now.command request.now buffer.old.items (D.view device.old) (D.view device.new))
         (MayDo request.now.command request.now buffer.old.items (D.view device.old) (D.view device.new)) result }
-    ensures durable { request.now.flags.durable ≡ true → OnOk result (PersistsLast D.Flushed D.Synced device.new) }
-    ensures flushed { request.now.command ≡ Flush → OnOk result (PersistsLast D.Flushed D.Synced device.new) }
-    ensures writable { OnOk result ((D.view device.old).is_read_only ≡ true → changes request.now.command ≡ true → ⊥) }
+    ensures persisted { IsTrue (persists request.now) → OnOk result (PersistsLast D.Flushed D.Synced device.new) }
 {
-    check(device, request)?;
+    check(device, request, !is_done(request.command))?;
     change(device, request, buffer)?;
-    if !request.flags.durable && !matches!(request.command, Command::Flush) {
-        return Ok(());
+    if persists(request) {
+        return persist(device);
     }
-    persist(device)
+    Ok(())
 }
 
 // The change that a request asks for.
 fn change<D: Device>(device: &mut D, request: &Request, buffer: &mut Vec<u8>) -> Result<(), Errno>
     requires { end_of request.now < 2 ^ 64 }
-    ensures { Acts (D.view device.old) (D.view device.new)
+    ensures step { IsSameDevice (D.view device.old) (D.view device.new) }
+    ensures fails { HasPayload request.now buffer.old.items → IsTrue (is_done request.now.command)
+        → ChangeFails (D.view device.old) (end_of request.now) result }
+    ensures changes { IsTrue (is_done request.now.command) → OnErr result (IsTrue (changes request.now.command)) }
+    ensures failed { IsTrue (D.view device.old).is_failed → request.now.command ≡ Write → OnOk result ⊥ }
+    ensures does { Acts (D.view device.old) (D.view device.new)
         (λ done. Does request.now.command request.now buffer.old.items (D.view device.old) (D.view device.new))
         (MayDo request.now.command request.now buffer.old.items (D.view device.old) (D.view device.new)) result }
 {
@@ -237,18 +325,22 @@ pub(crate) fn read_disk<D: Device>(
     request: &Request,
     buffer: &mut Vec<u8>,
 ) -> Result<(), Errno>
+    ensures step { IsSameDevice (D.view device.old) (D.view device.new) }
+    ensures fails { Refused (D.view device.old) (request.now.length == 0 || nat_lt most request.now.length)
+        request.now result }
     ensures count { OnOk result (length buffer.new.items ≡ request.now.length) }
     ensures within { OnOk result ((D.view device.old).is_sound → end_of request.now ≤ (D.view device.old).size) }
-    ensures few { OnOk result (request.now.length ≤ 33554432) }
+    ensures few { OnOk result (request.now.length ≤ most) }
     ensures shows { Acts (D.view device.old) (D.view device.new)
-        (λ done. Shows (D.view device.old) request.now.offset buffer.new.items × Stays (D.view device.old) (D.view device.new))
+        (λ done. Shows (D.view device.old) request.now.offset buffer.new.items
+        × Stays (D.view device.old) (D.view device.new))
         (Stays (D.view device.old) (D.view device.new)) result }
 {
-    check(device, request)?;
-    if request.length == 0 || request.length > MOST {
-        return Err(Errno::Invalid);
-    }
-    buffer.clear();
+    check(
+        device,
+        request,
+        request.length == 0 || request.length > MOST,
+    )?;
     buffer.resize(request.length as usize, 0)?;
     device.read(request.offset, buffer)
 }
@@ -256,9 +348,12 @@ pub(crate) fn read_disk<D: Device>(
 // The state of the disk from an offset on, and for how many bytes it is the same, by one lookup after another.
 fn run_at<D: Device>(device: &mut D, offset: u64, max: u64) -> Result<(State, u64), Errno>
     requires { offset + max < 2 ^ 64 }
-    ensures stays { Acts (D.view device.old) (D.view device.new)
-        (λ found. Stays (D.view device.old) (D.view device.new)) (Stays (D.view device.old) (D.view device.new)) result }
+    ensures step { IsSameDevice (D.view device.old) (D.view device.new) }
+    ensures fails { Fails (D.view device.old) IsFault result }
     ensures within { IfOk result (λ found. found.1 ≤ max) }
+    ensures sound { Acts (D.view device.old) (D.view device.new)
+        (λ found. Tells offset max found (D.view device.old) × Stays (D.view device.old) (D.view device.new))
+        (Stays (D.view device.old) (D.view device.new)) result }
 {
     let (state, count) = device.look_up(offset, max)?;
     let mut done = count.min(max);
@@ -281,15 +376,14 @@ pub(crate) fn extents<D: Device>(
     device: &mut D,
     request: &Request,
 ) -> Result<Vec<Extent>, Errno>
-    ensures few { IfOk result (λ found. length found.items ≤ 1024) }
-    ensures within { IfOk result (λ found. total found.items ≤ request.now.length) }
-    ensures stays { Acts (D.view device.old) (D.view device.new)
-        (λ found. Stays (D.view device.old) (D.view device.new)) (Stays (D.view device.old) (D.view device.new)) result }
+    ensures step { IsSameDevice (D.view device.old) (D.view device.new) }
+    ensures fails { Refused (D.view device.old) (request.now.length == 0) request.now result }
+    ensures answer { IfOk result (λ found. IsLookedUp request.now found.items) }
+    ensures sound { Acts (D.view device.old) (D.view device.new) (λ found.
+        AreExtents (D.view device.old) request.now.offset found.items × Stays (D.view device.old) (D.view device.new))
+        (Stays (D.view device.old) (D.view device.new)) result }
 {
-    check(device, request)?;
-    if request.length == 0 {
-        return Err(Errno::Invalid);
-    }
+    check(device, request, request.length == 0)?;
     let most = if request.flags.one_extent { 1 } else { EXTENTS };
     let mut found = Vec::new(alloc);
     let mut done = 0;

@@ -1,6 +1,6 @@
-//! The block device that a server serves.
-ghost use Rattle.std.specs.Prelude.{◌≡◌, ◌↔◌, ◌^◌, ◌<◌, ◌≤◌, IsTrue, OnOk, length};
-ghost use Rattle.nbd_protocol.specs.Devices.{Acts, Clears, DeviceView, MayWrite, Shows, Stays, Writes, error_number, state_number};
+//! What a server serves.
+ghost use Rattle.std.specs.Prelude.{◌≡◌, ◌↔◌, ◌+◌, ◌^◌, ◌<◌, ◌≤◌, IsTrue, OnOk, length};
+ghost use Rattle.nbd_protocol.specs.Devices.{Acts, Clears, DeviceView, Fails, IsFault, IsSameDevice, MayWrite, RefusesToChange, RefusesToRead, Shows, Stays, Tells, Writes, error_number, state_number};
 ghost use Rattle.nbd_protocol.specs.declared.device.Errno.TheVariants.{NoMemory};
 
 use std::alloc::{AllocError, AllocFailed};
@@ -99,13 +99,18 @@ pub trait Device {
 
     /// Fills the buffer with the bytes from an offset on. After a refusal it may hold any bytes.
     fn read(&mut self, offset: u64, bytes: &mut [u8]) -> Result<(), Errno>
-        ensures { Acts (view self.old) (view self.new)
+        ensures step { IsSameDevice (view self.old) (view self.new) }
+        ensures fails { Fails (view self.old) (RefusesToRead (view self.old) (offset + length bytes.old)) result }
+        ensures sound { Acts (view self.old) (view self.new)
             (λ done. Shows (view self.old) offset bytes.new × Stays (view self.old) (view self.new))
             (Stays (view self.old) (view self.new)) result };
 
     /// Writes bytes from an offset on. After a refusal some of them may be written.
     fn write(&mut self, offset: u64, bytes: &[u8]) -> Result<(), Errno>
-        ensures { Acts (view self.old) (view self.new) (λ done. Writes offset bytes.now (view self.old) (view self.new))
+        ensures step { IsSameDevice (view self.old) (view self.new) }
+        ensures fails { Fails (view self.old) (RefusesToChange (view self.old) (offset + length bytes.now)) result }
+        ensures sound { Acts (view self.old) (view self.new)
+            (λ done. Writes offset bytes.now (view self.old) (view self.new))
             (MayWrite offset bytes.now (view self.old) (view self.new)) result };
 
     /// Whether `discard` and `zero` can do anything.
@@ -114,28 +119,41 @@ pub trait Device {
     /// Zeroes whole units of a range, such as clusters, and releases their space. Returns the offset of the first one and the number of bytes that were
     /// zeroed: the first whole units of the range, and 0 if it has none.
     fn discard(&mut self, offset: u64, length: u64) -> Result<(u64, u64), Errno>
-        ensures { Acts (view self.old) (view self.new) (λ part. Clears offset length part (view self.old) (view self.new))
+        ensures step { IsSameDevice (view self.old) (view self.new) }
+        ensures fails { Fails (view self.old) (RefusesToChange (view self.old) (offset + length)) result }
+        ensures sound { Acts (view self.old) (view self.new)
+            (λ part. Clears offset length part (view self.old) (view self.new))
             (Stays (view self.old) (view self.new)) result };
 
     /// Like `discard`, but keeps the space allocated if possible.
     fn zero(&mut self, offset: u64, length: u64) -> Result<(u64, u64), Errno>
-        ensures { Acts (view self.old) (view self.new) (λ part. Clears offset length part (view self.old) (view self.new))
+        ensures step { IsSameDevice (view self.old) (view self.new) }
+        ensures fails { Fails (view self.old) (RefusesToChange (view self.old) (offset + length)) result }
+        ensures sound { Acts (view self.old) (view self.new)
+            (λ part. Clears offset length part (view self.old) (view self.new))
             (Stays (view self.old) (view self.new)) result };
 
     /// The state of the disk from an offset on, and for how many bytes, up to `max`, it is known to be the same.
     fn look_up(&mut self, offset: u64, max: u64) -> Result<(State, u64), Errno>
-        ensures { Acts (view self.old) (view self.new) (λ found. (found.1 ≤ max) × Stays (view self.old) (view self.new))
+        ensures step { IsSameDevice (view self.old) (view self.new) }
+        ensures fails { Fails (view self.old) IsFault result }
+        ensures sound { Acts (view self.old) (view self.new)
+            (λ found. Tells offset max found (view self.old) × Stays (view self.old) (view self.new))
             (Stays (view self.old) (view self.new)) result };
 
     /// Hands everything that was written to the file.
     fn flush(&mut self) -> Result<(), Errno>
+        ensures step { IsSameDevice (view self.old) (view self.new) }
+        ensures fails { Fails (view self.old) IsFault result }
         ensures flushed { OnOk result (Flushed self.old self.new) }
-        ensures stays { Acts (view self.old) (view self.new) (λ done. Stays (view self.old) (view self.new))
+        ensures sound { Acts (view self.old) (view self.new) (λ done. Stays (view self.old) (view self.new))
             (Stays (view self.old) (view self.new)) result };
 
     /// Returns when everything that was flushed would survive a power loss.
     fn sync(&mut self) -> Result<(), Errno>
+        ensures step { IsSameDevice (view self.old) (view self.new) }
+        ensures fails { Fails (view self.old) IsFault result }
         ensures synced { OnOk result (Synced self.old self.new) }
-        ensures stays { Acts (view self.old) (view self.new) (λ done. Stays (view self.old) (view self.new))
+        ensures sound { Acts (view self.old) (view self.new) (λ done. Stays (view self.old) (view self.new))
             (Stays (view self.old) (view self.new)) result };
 }

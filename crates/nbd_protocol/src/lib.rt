@@ -9,6 +9,7 @@ mod reading;
 mod replies;
 mod request;
 mod serving;
+mod way;
 
 pub use device::{Device, Errno, State};
 pub use serving::serve;

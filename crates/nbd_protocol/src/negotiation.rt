@@ -1,6 +1,6 @@
 //! The negotiation, up to the first request.
-ghost use Rattle.std.specs.Prelude.{◌≤◌, OnOk, length};
-ghost use Rattle.std.specs.Io.KnownBytes.{Appends};
+ghost use Rattle.std.specs.Prelude.{◌≤◌, List, OnOk, length, ℕ};
+ghost use Rattle.std.specs.Io.KnownBytes.{Appends, Consumes};
 
 use crate::options::{
     Contexts, Kind, OPTION, OptionHeader, export_name, kind_of, option_header, push_greeting,
@@ -64,7 +64,10 @@ pub(crate) fn negotiate<R: Read, W: Write>(
     reader: &mut R,
     writer: &mut W,
     export: Export,
-) -> io::Result<Option<Agreed>> {
+) -> io::Result<Option<Agreed>>
+    ensures { OnOk result ((heard said : List ℕ) × Consumes (R.remaining reader.old) (R.remaining reader.new) heard
+        × Appends (W.contents writer.old) (W.contents writer.new) said) }
+{
     let mut out = Vec::new(alloc);
     let mut data = Vec::new(alloc);
     push_greeting(&mut out)?;
@@ -98,8 +101,10 @@ pub(crate) fn send<W: Write>(writer: &mut W, bytes: &[u8]) -> io::Result<()>
     Ok(())
 }
 
-// Reads the flags of a client: whether it wants no zeros after EXPORT_NAME. Other flags are refused.
-fn client_flags<R: Read>(reader: &mut R) -> io::Result<bool> {
+// Reads the flags of a client: whether it wants no zeros behind an export. Others are refused.
+fn client_flags<R: Read>(reader: &mut R) -> io::Result<bool>
+    ensures { OnOk result ((heard : List ℕ) × Consumes (R.remaining reader.old) (R.remaining reader.new) heard) }
+{
     let mut bytes = [0; 4];
     reader.read_exact(&mut bytes)?;
     match u32::from_be_bytes(bytes) {
@@ -111,7 +116,8 @@ fn client_flags<R: Read>(reader: &mut R) -> io::Result<bool> {
 
 // Reads an option and its data. An option with too much data is refused.
 fn next_option<R: Read>(reader: &mut R, room: &mut Vec<u8>) -> io::Result<OptionHeader>
-    ensures { OnOk result (length room.new.items ≤ 65536) }
+    ensures bounded { OnOk result (length room.new.items ≤ 65536) }
+    ensures heard { OnOk result ((heard : List ℕ) × Consumes (R.remaining reader.old) (R.remaining reader.new) heard) }
 {
     let mut bytes = [0; OPTION];
     reader.read_exact(&mut bytes)?;

@@ -1,16 +1,20 @@
-//! Answering requests, one after another.
-ghost use Rattle.std.specs.Prelude.{◌≡◌, ◌⊎◌, ◌≤◌, IfOk, IsTrue, OnOk, Ok, Err, length, true};
+//! Requests, answered one after the other.
+ghost use Rattle.std.specs.Prelude.{◌≡◌, ◌⊎◌, ◌≤◌, IfOk, List, [], OnOk, Ok, Some, length, true, ℕ};
 ghost use Rattle.std.specs.Io.KnownBytes.{Appends, Consumes};
-ghost use Rattle.nbd_protocol.specs.Commands.{Does, MayDo, PersistsLast, end_of};
-ghost use Rattle.nbd_protocol.specs.Devices.{Acts, Shows, Stays};
-ghost use Rattle.nbd_protocol.specs.Replies.{read_reply, status_reply};
-ghost use Rattle.nbd_protocol.specs.declared.request.Command.TheVariants.{Flush};
+ghost use Rattle.nbd_protocol.specs.Commands.{HasPayload, PersistsLast};
+ghost use Rattle.nbd_protocol.specs.Conversations.{AnswersLookup, AnswersRead, AnswersStatus, Conversation, Deals, Says, Served, way_of};
+ghost use Rattle.nbd_protocol.specs.Devices.{Persists};
+ghost use Rattle.nbd_protocol.specs.Replies.{extents_reply, read_reply, status_reply};
+ghost use Rattle.nbd_protocol.specs.Requests.{request_in};
+ghost use Rattle.nbd_protocol.specs.declared.request.Command.TheVariants.{Write as CommandWrite};
+ghost use Rattle.nbd_protocol.specs.declared.way.Way.TheVariants.{Payload};
 
 use crate::commands::{MOST, extents, perform, persist, read_disk};
 use crate::device::{Device, Errno};
 use crate::negotiation::{Agreed, Export, negotiate, send};
-use crate::replies::{push_extents, push_read_head, push_status};
+use crate::replies::{Extent, push_extents, push_read_head, push_status};
 use crate::request::{Command, REQUEST, Request, decode};
+use crate::way::{Way, way_of};
 use std::alloc::Global;
 use std::io;
 use std::io::{ErrorKind, Read, Write};
@@ -33,6 +37,8 @@ pub fn serve<R: Read, W: Write, D: Device>(
     device: &mut D,
 ) -> io::Result<()>
     ensures persisted { OnOk result (PersistsLast D.Flushed D.Synced device.new) }
+    ensures talked { (talked : D) × OnOk result (Persists D.Flushed D.Synced talked device.new) × ((talked ≡ device.old)
+        ⊎ Served D.view D.Flushed D.Synced R.remaining W.contents reader.old writer.old writer.new device.old talked) }
 {
     let talked = talk(alloc, reader, writer, device);
     match persist(device) {
@@ -58,7 +64,11 @@ fn talk<R: Read, W: Write, D: Device>(
     reader: &mut R,
     writer: &mut W,
     device: &mut D,
-) -> io::Result<()> {
+) -> io::Result<()>
+    ensures { (device.new ≡ device.old)
+        ⊎ Served D.view D.Flushed D.Synced R.remaining W.contents
+        reader.old writer.old writer.new device.old device.new }
+{
     let flags = if device.is_read_only() {
         READ_ONLY
     } else {
@@ -81,74 +91,36 @@ struct Room {
     reply: Vec<u8>,
 }
 
+// Answers requests, until the client disconnects.
 fn answer_all<R: Read, W: Write, D: Device>(
     alloc: Global,
     reader: &mut R,
     writer: &mut W,
     device: &mut D,
     agreed: Agreed,
-) -> io::Result<()> {
+) -> io::Result<()>
+    ensures { Conversation D.view D.Flushed D.Synced agreed.structured R.remaining W.contents agreed.allocation
+        reader.old writer.old writer.new device.old device.new }
+{
     let mut room = Room {
         payload: Vec::new(alloc),
         reply: Vec::new(alloc),
     };
     for _ in 0..u64::MAX {
         let request = next_request(reader)?;
-        match request.command {
-            Command::Disconnect => break,
-            Command::Write => answer_write(reader, writer, device, agreed, &request, &mut room)?,
-            Command::BlockStatus if agreed.allocation => answer_extents(
-                alloc,
-                writer,
-                device,
-                &request,
-                &mut room.reply,
-            )?,
-            _ => answer_plainly(writer, device, agreed, &request, &mut room)?,
+        if let Command::Disconnect = request.command {
+            return Ok(());
         }
+        deal(alloc, reader, writer, device, agreed, &request, &mut room)?;
     }
     Ok(())
 }
 
-// Reads the payload of a write, and answers it.
-fn answer_write<R: Read, W: Write, D: Device>(
-    reader: &mut R,
-    writer: &mut W,
-    device: &mut D,
-    agreed: Agreed,
-    request: &Request,
-    room: &mut Room,
-) -> io::Result<()> {
-    if take_payload(reader, request.length, &mut room.payload)? {
-        return answer_plainly(writer, device, agreed, request, room);
-    }
-    refuse(
-        writer,
-        agreed.structured,
-        request,
-        Errno::NoMemory,
-        &mut room.reply,
-    )
-}
-
-fn answer_plainly<W: Write, D: Device>(
-    writer: &mut W,
-    device: &mut D,
-    agreed: Agreed,
-    request: &Request,
-    room: &mut Room,
-) -> io::Result<()> {
-    let structured = agreed.structured;
-    let payload = &mut room.payload;
-    let reply = &mut room.reply;
-    let _ = match request.command {
-        Command::Read => answer_read(writer, device, structured, request, payload, reply)?,
-        _ => answer(writer, device, structured, request, payload, reply)?,
-    };
-    Ok(())
-}
-
-fn next_request<R: Read>(reader: &mut R) -> io::Result<Request> {
+// Reads a request.
+fn next_request<R: Read>(reader: &mut R) -> io::Result<Request>
+    ensures { IfOk result (λ request. (head : List ℕ) × (length head ≡ 28) × (request_in head ≡ Some request)
+        × Consumes (R.remaining reader.old) (R.remaining reader.new) head) }
+{
     let mut bytes = [0; REQUEST];
     reader.read_exact(&mut bytes)?;
     match decode(&bytes) {
@@ -157,17 +129,83 @@ fn next_request<R: Read>(reader: &mut R) -> io::Result<Request> {
     }
 }
 
-// Reads the payload of a write, and returns whether there was memory for it; if not, it is skipped. A payload that is too long is
+// Deals with a request: takes its payload, does what it asks, and tells what came of it.
+fn deal<R: Read, W: Write, D: Device>(
+    alloc: Global,
+    reader: &mut R,
+    writer: &mut W,
+    device: &mut D,
+    agreed: Agreed,
+    request: &Request,
+    room: &mut Room,
+) -> io::Result<()>
+    ensures { Deals D.view D.Flushed D.Synced agreed.structured R.remaining W.contents
+        (way_of agreed.allocation request.now.command) request.now
+        reader.old reader.new writer.old writer.new device.old device.new result }
+{
+    let structured = agreed.structured;
+    match way_of(agreed.allocation, request.command) {
+        Way::Bytes => answer_read(
+            writer,
+            device,
+            structured,
+            request,
+            &mut room.payload,
+            &mut room.reply,
+        ),
+        Way::Runs => answer_lookup(alloc, writer, device, request, &mut room.reply),
+        Way::Payload => answer_write(reader, writer, device, structured, request, room),
+        Way::Status => answer(
+            writer,
+            device,
+            structured,
+            request,
+            &mut room.payload,
+            &mut room.reply,
+        ),
+    }
+}
+
+// Takes the payload of a write, and answers it.
+fn answer_write<R: Read, W: Write, D: Device>(
+    reader: &mut R,
+    writer: &mut W,
+    device: &mut D,
+    structured: bool,
+    request: &Request,
+    room: &mut Room,
+) -> io::Result<()>
+    ensures { request.now.command ≡ CommandWrite
+        → Deals D.view D.Flushed D.Synced structured R.remaining W.contents Payload request.now
+        reader.old reader.new writer.old writer.new device.old device.new result }
+{
+    let taken = take_payload(reader, request.length, &mut room.payload)?;
+    if taken {
+        return answer(
+            writer,
+            device,
+            structured,
+            request,
+            &mut room.payload,
+            &mut room.reply,
+        );
+    }
+    let refused = Err(Errno::NoMemory);
+    tell(writer, structured, request, &refused, &mut room.reply)
+}
+
+// Reads the payload of a write, and answers whether there was memory for it; where there was none it is skipped. One that is too long is
 // refused, and nothing of it is read.
 fn take_payload<R: Read>(reader: &mut R, count: u32, buffer: &mut Vec<u8>) -> io::Result<bool>
     ensures bounded { length buffer.new.items ≤ 33554432 ⊎ (buffer.new.items ≡ buffer.old.items) }
     ensures taken { IfOk result (λ taken. taken ≡ true → (length buffer.new.items ≡ count)
         × Consumes (R.remaining reader.old) (R.remaining reader.new) buffer.new.items) }
+    ensures skipped { OnOk result ((bytes : List ℕ) × (length bytes ≡ count)
+        × Consumes (R.remaining reader.old) (R.remaining reader.new) bytes) }
 {
     if count > MOST {
         return Err(io::Error::new(ErrorKind::InvalidData, "a payload that is too long"));
     }
-    buffer.clear();
     if let Err(_) = buffer.resize(count as usize, 0) {
         skip(reader, count)?;
         return Ok(false);
@@ -176,10 +214,13 @@ fn take_payload<R: Read>(reader: &mut R, count: u32, buffer: &mut Vec<u8>) -> io
     Ok(true)
 }
 
-// Reads and drops this many bytes.
-fn skip<R: Read>(reader: &mut R, length: u32) -> io::Result<()> {
+// Reads so many bytes, and keeps none.
+fn skip<R: Read>(reader: &mut R, count: u32) -> io::Result<()>
+    ensures { OnOk result ((bytes : List ℕ) × (length bytes ≡ count)
+        × Consumes (R.remaining reader.old) (R.remaining reader.new) bytes) }
+{
     let mut bytes = [0; SKIPPED];
-    let mut rest = length as usize;
+    let mut rest = count as usize;
     while rest > 0 {
         let some = rest.min(SKIPPED);
         reader.read_exact(&mut bytes[..some])?;
@@ -188,19 +229,19 @@ fn skip<R: Read>(reader: &mut R, length: u32) -> io::Result<()> {
     Ok(())
 }
 
-// Answers a request that was not done.
-fn refuse<W: Write>(
+// Tells a client whether its request was done.
+fn tell<W: Write>(
     writer: &mut W,
     structured: bool,
     request: &Request,
-    error: Errno,
+    status: &Result<(), Errno>,
     reply: &mut Vec<u8>,
 ) -> io::Result<()>
     ensures { OnOk result (Appends (W.contents writer.old) (W.contents writer.new)
-        (status_reply structured request.now.cookie (Err error))) }
+        (status_reply structured request.now.cookie status.now)) }
 {
     reply.clear();
-    push_status(reply, structured, request.cookie, &Err(error))?;
+    push_status(reply, structured, request.cookie, status)?;
     send(writer, reply)?;
     Ok(())
 }
@@ -213,22 +254,13 @@ fn answer<W: Write, D: Device>(
     request: &Request,
     buffer: &mut Vec<u8>,
     reply: &mut Vec<u8>,
-) -> io::Result<Result<(), Errno>>
-    ensures told { IfOk result (λ status. Appends (W.contents writer.old) (W.contents writer.new)
-        (status_reply structured request.now.cookie status)) }
-    ensures does { IfOk result (λ status. Acts (D.view device.old) (D.view device.new)
-        (λ done. Does request.now.command request.now buffer.old.items (D.view device.old) (D.view device.new))
-        (MayDo request.now.command request.now buffer.old.items (D.view device.old) (D.view device.new)) status) }
-    ensures durable { request.now.flags.durable ≡ true
-        → IfOk result (λ status. OnOk status (PersistsLast D.Flushed D.Synced device.new)) }
-    ensures flushed { request.now.command ≡ Flush
-        → IfOk result (λ status. OnOk status (PersistsLast D.Flushed D.Synced device.new)) }
+) -> io::Result<()>
+    ensures { HasPayload request.now buffer.old.items → Says W.contents writer.old writer.new result
+        (λ told. AnswersStatus D.view D.Flushed D.Synced structured
+        request.now buffer.old.items told device.old device.new) }
 {
     let status = perform(device, request, buffer);
-    reply.clear();
-    push_status(reply, structured, request.cookie, &status)?;
-    send(writer, reply)?;
-    Ok(status)
+    tell(writer, structured, request, &status, reply)
 }
 
 // Answers a read with the bytes of the disk, or with an error.
@@ -239,25 +271,13 @@ fn answer_read<W: Write, D: Device>(
     request: &Request,
     buffer: &mut Vec<u8>,
     reply: &mut Vec<u8>,
-) -> io::Result<Result<(), Errno>>
-    ensures told { IfOk result (λ status. Appends (W.contents writer.old) (W.contents writer.new)
-        (read_reply structured request.now.cookie request.now.offset buffer.new.items status)) }
-    ensures count { IfOk result (λ status. OnOk status (length buffer.new.items ≡ request.now.length)) }
-    ensures within { IfOk result (λ status. OnOk status ((D.view device.old).is_sound
-        → end_of request.now ≤ (D.view device.old).size)) }
-    ensures shows { IfOk result (λ status. Acts (D.view device.old) (D.view device.new)
-        (λ done. Shows (D.view device.old) request.now.offset buffer.new.items × Stays (D.view device.old) (D.view device.new))
-        (Stays (D.view device.old) (D.view device.new)) status) }
+) -> io::Result<()>
+    ensures { Says W.contents writer.old writer.new result
+        (λ told. AnswersRead D.view D.Flushed D.Synced structured request.now [] told device.old device.new) }
 {
     match read_disk(device, request, buffer) {
-        Ok(()) => {
-            send_bytes(writer, structured, request, buffer, reply)?;
-            Ok(Ok(()))
-        }
-        Err(error) => {
-            refuse(writer, structured, request, error, reply)?;
-            Ok(Err(error))
-        }
+        Ok(()) => send_bytes(writer, structured, request, buffer, reply),
+        Err(error) => tell(writer, structured, request, &Err(error), reply),
     }
 }
 
@@ -288,23 +308,36 @@ fn send_bytes<W: Write>(
     Ok(())
 }
 
-// Answers BLOCK_STATUS with the runs of the range, or with an error.
-fn answer_extents<W: Write, D: Device>(
+// Answers by what stands for a range of the disk, or by an error.
+fn answer_lookup<W: Write, D: Device>(
     alloc: Global,
     writer: &mut W,
     device: &mut D,
     request: &Request,
     reply: &mut Vec<u8>,
 ) -> io::Result<()>
-    ensures stays { (D.view device.old).is_sound → ((D.view device.new).is_sound × Stays (D.view device.old) (D.view device.new))
-        ⊎ IsTrue (D.view device.new).is_failed }
+    ensures { Says W.contents writer.old writer.new result
+        (λ told. AnswersLookup D.view D.Flushed D.Synced true request.now [] told device.old device.new) }
 {
     match extents(alloc, device, request) {
-        Ok(found) => {
-            reply.clear();
-            push_extents(reply, request.cookie, &found)?;
-            send(writer, reply)
-        }
-        Err(error) => refuse(writer, true, request, error, reply),
+        Ok(found) => send_extents(writer, request, &found, reply),
+        Err(error) => tell(writer, true, request, &Err(error), reply),
     }
+}
+
+// Sends runs of the disk.
+fn send_extents<W: Write>(
+    writer: &mut W,
+    request: &Request,
+    found: &[Extent],
+    reply: &mut Vec<u8>,
+) -> io::Result<()>
+    requires { length found.now ≤ 1024 }
+    ensures { OnOk result (Appends (W.contents writer.old) (W.contents writer.new)
+        (extents_reply request.now.cookie found.now)) }
+{
+    reply.clear();
+    push_extents(reply, request.cookie, found)?;
+    send(writer, reply)?;
+    Ok(())
 }

@@ -121,7 +121,7 @@ fn units(offset: u64, length: u64) -> (u64, u64) {
 impl Device for MemDevice {
     ghost use Rattle.std.specs.Prelude.{None, false};
 
-    ghost view = { λ d. record { is_sound = ⊥; is_failed = false; is_read_only = d.read_only; size = 16; value = λ o. None } };
+    ghost view = { λ d. record { is_sound = ⊥; is_failed = false; is_read_only = d.read_only; size = 16; value = λ o. None; unit = 4 } };
 
     ghost Flushed = { λ old new. Unit {0} };
 

@@ -9,8 +9,8 @@ use Rattle.image_access.specs.Moments.{StorageView}
 use Rattle.qcow2_metadata.specs.Bytes.{byte_at, laid_over}
 use Rattle.qcow2_metadata.specs.Guest.{Value, known_byte}
 use Rattle.qcow2_metadata.specs.Header.{cluster_size}
-use Rattle.qcow2_disk.specs.AbstractImages.{AbstractImage, Guest, guest_of}
-use Rattle.qcow2_disk.specs.Calls.{AnsweredEffect, MayWrite as MayWriteTo, IsSame, Refusal, RefusedEffect, Shows as ShowsBytes, WritesSome, another, memory, not_compressed, storage, with_disk}
+use Rattle.qcow2_disk.specs.AbstractImages.{AbstractImage, Guest, Setting, guest_of}
+use Rattle.qcow2_disk.specs.Calls.{AnsweredEffect, CallEffect, MayWrite as MayWriteTo, IsSame, Refusal, RefusedEffect, Shows as ShowsBytes, WritesSome, another, memory, not_compressed, storage, with_disk}
 use Rattle.qcow2_disk.specs.Disk.{Disk, with_bytes, zeroed_between}
 use Rattle.qcow2_disk.specs.Rules.{answered, touched_from, touched_to}
 use Rattle.qcow2_disk.specs.Stops.{GivenBytes}
@@ -18,9 +18,9 @@ use Rattle.qcow2_disk.proofs.ForUsers.{laid_inside, laid_outside}
 use Rattle.qcow2_image.specs.declared.image.Qcow2.{Qcow2}
 use Rattle.qcow2_image.specs.ImageInvariant.{abstract_of}
 use Rattle.qcow2_image.proofs.Clear.Touched.{rounded_from}
-use Rattle.nbd_protocol.specs.Devices.{Clears, DeviceView, MayWrite, Shows, Stays, Writes}
+use Rattle.nbd_protocol.specs.Devices.{AreUnits, Clears, DeviceView, MayWrite, Shows, Stays, Writes}
 use Rattle.qimg_nbd.specs.Images.{byte_of, device_of}
-use Rattle.qimg_nbd.proofs.Parts.{answered_length, touched_within}
+use Rattle.qimg_nbd.proofs.Parts.{answered_length, part_units, touched_within}
 
 -- ---- disks
 
@@ -59,21 +59,25 @@ module _ {S F : Type 0} (view : S → StorageView) (backing : F → BackingView)
   abbrev b : DeviceView
   b = device_of view backing new
 
-  pub same_guest : guest_of w ≡ guest_of v → Stays a b
-  same_guest e = record { size = ap (λ (x : Guest). x.disk.size) e; values = λ o lt out. ap (λ (x : Guest). byte_of (x.disk.value o)) e }
+  -- the clusters stay as large
+  same_unit : (given : List GivenBytes) → CallEffect v w given [] → a.is_sound → b.unit ≡ a.unit
+  same_unit given acts sound = ap (λ (x : Setting). x.cluster_size) (acts.works sound).setting
+
+  pub same_guest : guest_of w ≡ guest_of v → b.unit ≡ a.unit → Stays a b
+  same_guest e unit = record { size = ap (λ (x : Guest). x.disk.size) e; unit = unit; values = λ o lt out. ap (λ (x : Guest). byte_of (x.disk.value o)) e }
 
   pub refused_same : (given : List GivenBytes) (e : Refusal) → RefusedEffect v w given [] e (IsSame v w) → a.is_sound → (b.is_sound × Stays a b) ⊎ IsTrue b.is_failed
-  refused_same given e effect sound = elim (effect.answer sound) [ inl kept ↦ inl (kept.0, same_guest kept.1) | inr failed ↦ inr failed.1 ]
+  refused_same given e effect sound = elim (effect.answer sound) [ inl kept ↦ inl (kept.0, same_guest kept.1 (same_unit given effect.acts sound)) | inr failed ↦ inr failed.1 ]
 
   pub answered_same : AnsweredEffect v w [] [] (guest_of w ≡ guest_of v) → a.is_sound → b.is_sound × Stays a b
-  answered_same effect sound = let done = effect.answer sound in (done.0, same_guest done.1)
+  answered_same effect sound = let done = effect.answer sound in (done.0, same_guest done.1 (same_unit [] effect.acts sound))
 
   pub answered_flush : (P : Type 0) → AnsweredEffect v w [] [] (P × IsSame v w) → a.is_sound → b.is_sound × Stays a b
-  answered_flush P effect sound = let done = effect.answer sound in (done.0, same_guest done.1.1)
+  answered_flush P effect sound = let done = effect.answer sound in (done.0, same_guest done.1.1 (same_unit [] effect.acts sound))
 
   pub read_bytes : (offset : ℕ) (bytes : List ℕ) → AnsweredEffect v w [] [] (ShowsBytes (guest_of v).disk offset bytes × (guest_of w ≡ guest_of v))
       → a.is_sound → b.is_sound × (Shows a offset bytes × Stays a b)
-  read_bytes offset bytes effect sound = let done = effect.answer sound in (done.0, (λ i lt. ap byte_of (done.1.0 i lt), same_guest done.1.1))
+  read_bytes offset bytes effect sound = let done = effect.answer sound in (done.0, (λ i lt. ap byte_of (done.1.0 i lt), same_guest done.1.1 (same_unit [] effect.acts sound)))
 
   pub wrote_bytes : (offset : ℕ) (bytes : List ℕ) (given : List GivenBytes) → AnsweredEffect v w given [] (guest_of w ≡ with_disk (guest_of v) (with_bytes (guest_of v).disk offset bytes))
       → a.is_sound → b.is_sound × Writes offset bytes a b
@@ -82,6 +86,7 @@ module _ {S F : Type 0} (view : S → StorageView) (backing : F → BackingView)
     record {
       beside = record {
         size = ap (λ (x : Guest). x.disk.size) done.1;
+        unit = same_unit given effect.acts sound;
         values = λ o lt out. ap (λ (x : Guest). byte_of (x.disk.value o)) done.1 ∙ ap byte_of (old_byte d offset bytes o out);
       };
       within = λ i lt here. ap (λ (x : Guest). byte_of (x.disk.value (offset + i))) done.1 ∙ ap byte_of (new_byte d offset bytes i lt);
@@ -89,10 +94,11 @@ module _ {S F : Type 0} (view : S → StorageView) (backing : F → BackingView)
   )
 
   -- the leading bytes are there
-  wrote_front : (offset n : ℕ) (bytes : List ℕ) → n ≤ length bytes → guest_of w ≡ with_disk (guest_of v) (with_bytes (guest_of v).disk offset (take n bytes)) → MayWrite offset bytes a b
-  wrote_front offset n bytes le is = let d = (guest_of v).disk in record {
+  wrote_front : (offset n : ℕ) (bytes : List ℕ) → n ≤ length bytes → guest_of w ≡ with_disk (guest_of v) (with_bytes (guest_of v).disk offset (take n bytes)) → b.unit ≡ a.unit → MayWrite offset bytes a b
+  wrote_front offset n bytes le is unit = let d = (guest_of v).disk in record {
     beside = record {
       size = ap (λ (x : Guest). x.disk.size) is;
+      unit = unit;
       values = λ o lt out. ap (λ (x : Guest). byte_of (x.disk.value o)) is ∙ ap byte_of (front_outside d offset n bytes le o out);
     };
     within = λ i lt here. let e = ap (λ (x : Guest). byte_of (x.disk.value (offset + i))) is in
@@ -100,10 +106,11 @@ module _ {S F : Type 0} (view : S → StorageView) (backing : F → BackingView)
   }
 
   -- of those behind them any may be
-  wrote_some : (offset n : ℕ) (bytes : List ℕ) → n ≤ length bytes → (d : Disk) → WritesSome (guest_of v).disk offset bytes n d → guest_of w ≡ with_disk (guest_of v) d → MayWrite offset bytes a b
-  wrote_some offset n bytes le d some is = let c = (guest_of v).disk in record {
+  wrote_some : (offset n : ℕ) (bytes : List ℕ) → n ≤ length bytes → (d : Disk) → WritesSome (guest_of v).disk offset bytes n d → guest_of w ≡ with_disk (guest_of v) d → b.unit ≡ a.unit → MayWrite offset bytes a b
+  wrote_some offset n bytes le d some is unit = let c = (guest_of v).disk in record {
     beside = record {
       size = ap (λ (x : Guest). x.disk.size) is ∙ some.size;
+      unit = unit;
       values = λ o lt out. ap (λ (x : Guest). byte_of (x.disk.value o)) is ∙ ap byte_of (elim (some.values o) [
         | inl front ↦ front ∙ front_outside c offset n bytes le o out
         | inr all ↦ all ∙ old_byte c offset bytes o out
@@ -116,15 +123,15 @@ module _ {S F : Type 0} (view : S → StorageView) (backing : F → BackingView)
         ];
   }
 
-  may_write : (e : Refusal) (offset n : ℕ) (bytes : List ℕ) → MayWriteTo e (guest_of v) offset bytes n (guest_of w) → MayWrite offset bytes a b
-  may_write memory offset n bytes may = wrote_some offset n bytes may.0 may.1.0 may.1.1 may.1.2
-  may_write storage offset n bytes may = wrote_front offset n bytes may.0 may.1
-  may_write (not_compressed place) offset n bytes may = wrote_front offset n bytes may.0 may.1
-  may_write (another number) offset n bytes may = wrote_front offset n bytes may.0 may.1
+  may_write : (e : Refusal) (offset n : ℕ) (bytes : List ℕ) → MayWriteTo e (guest_of v) offset bytes n (guest_of w) → b.unit ≡ a.unit → MayWrite offset bytes a b
+  may_write memory offset n bytes may unit = wrote_some offset n bytes may.0 may.1.0 may.1.1 may.1.2 unit
+  may_write storage offset n bytes may unit = wrote_front offset n bytes may.0 may.1 unit
+  may_write (not_compressed place) offset n bytes may unit = wrote_front offset n bytes may.0 may.1 unit
+  may_write (another number) offset n bytes may unit = wrote_front offset n bytes may.0 may.1 unit
 
   pub refused_write : (e : Refusal) (offset n : ℕ) (bytes : List ℕ) (given : List GivenBytes) → RefusedEffect v w given [] e (MayWriteTo e (guest_of v) offset bytes n (guest_of w))
       → a.is_sound → (b.is_sound × MayWrite offset bytes a b) ⊎ IsTrue b.is_failed
-  refused_write e offset n bytes given effect sound = elim (effect.answer sound) [ inl kept ↦ inl (kept.0, may_write e offset n bytes kept.1) | inr failed ↦ inr failed.1 ]
+  refused_write e offset n bytes given effect sound = elim (effect.answer sound) [ inl kept ↦ inl (kept.0, may_write e offset n bytes kept.1 (same_unit given effect.acts sound)) | inr failed ↦ inr failed.1 ]
 
   pub cleared : (offset n : ℕ) (part : ℕ × ℕ) (given : List GivenBytes)
       → AnsweredEffect v w given [] ((part ≡ answered (cluster_size old.file.header.fields) (guest_of v).disk.size offset n)
@@ -145,10 +152,13 @@ module _ {S F : Type 0} (view : S → StorageView) (backing : F → BackingView)
         done.0,
         record {
           low = omega (arith, begin, up);
+          whole = λ some. let k = part_units cs d.size offset n (pow_pos old.file.header.fields.cluster_bits) (let c : part.1 ≡ (answered cs d.size offset n).1 = count in omega (arith, c, some)) in
+              subst (λ (p : ℕ × ℕ). AreUnits cs d.size p.0 (p.0 + p.1)) (sym done.1.0) k;
           high = λ some. elim (answered_length from to (offset + n)) [ inl is ↦ let c : part.1 ≡ min to (offset + n) - from = count ∙ is.1 in omega (arith, c, begin, some) | inr is ↦ let c : part.1 ≡ 0 = count ∙ is.1 in absurd (omega (arith, c, some)) ];
           zeroes = record {
             beside = record {
               size = size;
+              unit = same_unit given effect.acts sound;
               values = λ o lt out. kept o (elim (answered_length from to (offset + n)) [
                 | inr is ↦ let c : part.1 ≡ 0 = count ∙ is.1 in elim out [ inl below ↦ inl (omega (arith, begin)) | inr past ↦ inr (omega (arith, begin, c, is.0)) ]
                 | inl is ↦ let c : part.1 ≡ min to (offset + n) - from = count ∙ is.1 in elim out [

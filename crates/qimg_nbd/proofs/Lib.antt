@@ -1,2 +1,4 @@
+pub mod Errors
 pub mod Images
+pub mod Lookups
 pub mod Parts

@@ -1,13 +1,25 @@
 -- An image as a block device.
-use Rattle.std.specs.Prelude.{ℕ, [], Option, Some, None, not}
+use Rattle.std.specs.Prelude.{ℕ, ◌≡◌, false, true, [], Option, Some, None, Ok, not}
 use Rattle.image_access.specs.Backing.{BackingView}
 use Rattle.image_access.specs.Moments.{StorageView}
 use Rattle.qcow2_metadata.specs.Guest.{Value, known_byte, compressed_byte}
 use Rattle.qcow2_disk.specs.AbstractImages.{AbstractImage, guest_of}
+use Rattle.qcow2_alloc.specs.ImageFile.{view_in}
+use Rattle.qcow2_alloc.specs.declared.error.ImageError.{ImageError}
+use Rattle.qcow2_alloc.specs.declared.error.ImageError.TheVariants as I
 use Rattle.qcow2_image.specs.declared.image.Qcow2.{Qcow2}
+use Rattle.qcow2_image.specs.declared.mapping.MappingKind.{MappingKind}
+use Rattle.qcow2_image.specs.declared.mapping.MappingKind.TheVariants as M
+use Rattle.qcow2_image.specs.Calls.{AnswersCall, FlushesImage}
 use Rattle.qcow2_image.specs.Image.{is_failed, is_writable}
 use Rattle.qcow2_image.specs.ImageInvariant.{abstract_of}
+use Rattle.qcow2_image.specs.ImageSteps.{ReadingCall}
+use Rattle.qcow2_image.specs.Unwritten.{ContentsStayThroughout}
 use Rattle.nbd_protocol.specs.Devices.{DeviceView}
+use Rattle.nbd_protocol.specs.declared.device.Errno.{Errno}
+use Rattle.nbd_protocol.specs.declared.device.Errno.TheVariants as E
+use Rattle.nbd_protocol.specs.declared.device.State.{State}
+use Rattle.nbd_protocol.specs.declared.device.State.TheVariants as Run
 
 -- The byte of a value, if it can be read.
 abbrev pub byte_of : Value → Option ℕ
@@ -22,4 +34,32 @@ device_of view backing image = let v = abstract_of view backing image [] in reco
   is_read_only = not (is_writable image);
   size = (guest_of v).disk.size;
   value = λ o. byte_of ((guest_of v).disk.value o);
+  unit = v.setting.cluster_size;
 }
+
+-- the error that a client is told of a refusal: a read-only image, a range beyond the size, no place left, no memory, and all others
+abbrev pub error_of : ImageError → Errno
+error_of I.ReadOnly = E.NotPermitted
+error_of I.BeyondSize = E.Invalid
+error_of I.Limit = E.NoSpace
+error_of I.Memory = E.NoMemory
+error_of e = E.Io
+
+-- what a run of the disk is told as: zeros that the image names may have a place
+abbrev pub told_state : MappingKind → State
+told_state (M.Zero true) = Run.Zero
+told_state (M.Zero false) = Run.Hole
+told_state kind = Run.Data
+
+module _ {S F : Type 0} (view : S → StorageView) (backing : F → BackingView) (old new : Qcow2 S F) where
+  -- A flush that was answered, as the image's own call says it: the image could be used, and its storage has all that it knows.
+  pub record Flushes : Type 0 where
+    pub usable : is_failed old ≡ false
+    pub flushes : FlushesImage view backing old new (Ok (tt {0}))
+
+  -- A sync that was answered, as the image's own call says it: the image could be used, reads as before, and its storage kept its contents all the time.
+  pub record Syncs : Type 0 where
+    pub usable : is_failed old ≡ false
+    pub step : ReadingCall view backing {T = Unit {0}} old new (Ok (tt {0}))
+    pub silent : (view_in view old.file).is_honest → ContentsStayThroughout (view_in view old.file) (view_in view new.file)
+    pub sees : AnswersCall view backing old new [] (λ done was is. is ≡ was) (Ok (tt {0}))

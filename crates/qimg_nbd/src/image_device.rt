@@ -1,7 +1,6 @@
 //! An image as a block device.
-ghost use Rattle.std.specs.Prelude.{◌≡◌, [], Ok};
-ghost use Rattle.qcow2_image.specs.Calls.{AnswersCall, FlushesImage};
-ghost use Rattle.qimg_nbd.specs.Images.{device_of};
+ghost use Rattle.std.specs.Prelude.{◌≡◌};
+ghost use Rattle.qimg_nbd.specs.Images.{Flushes, Syncs, device_of, error_of, told_state};
 
 use image_access::{Storage, WrappedFormat};
 use nbd_protocol::{Device, Errno, State};
@@ -30,9 +29,11 @@ impl<S: Storage, F: WrappedFormat<S>> ImageDevice<S, F> {
     }
 }
 
-// The error for a refusal that a client is sent: 12 for memory, 28 for lack of room, 1 for a read-only image, 22 for a range beyond the
-// size, and 5 for all others.
-fn errno_of(refusal: &ImageError) -> Errno {
+// The error that a client is told of a refusal: 12 of memory, 28 where no place is left, 1 of a read-only image, 22 of a range beyond the
+// size, and 5 of all others.
+fn errno_of(refusal: &ImageError) -> Errno
+    ensures { result ≡ error_of refusal.now }
+{
     match refusal {
         ImageError::ReadOnly => Errno::NotPermitted,
         ImageError::BeyondSize => Errno::Invalid,
@@ -42,8 +43,10 @@ fn errno_of(refusal: &ImageError) -> Errno {
     }
 }
 
-// The state for the mapping of a run. Zero clusters may be allocated.
-fn state_of(kind: &MappingKind) -> State {
+// What a run of the disk is told as. Zeros that the image names may have a place.
+fn state_of(kind: &MappingKind) -> State
+    ensures { result ≡ told_state kind.now }
+{
     match kind {
         MappingKind::Zero { explicit: true } => State::Zero,
         MappingKind::Zero { explicit: false } => State::Hole,
@@ -54,9 +57,9 @@ fn state_of(kind: &MappingKind) -> State {
 impl<S: Storage, F: WrappedFormat<S>> Device for ImageDevice<S, F> {
     ghost view = { λ d. device_of S.view F.backing d.image };
 
-    ghost Flushed = { λ old new. FlushesImage S.view F.backing old.image new.image (Ok (tt {0})) };
+    ghost Flushed = { λ old new. Flushes S.view F.backing old.image new.image };
 
-    ghost Synced = { λ old new. AnswersCall S.view F.backing old.image new.image [] (λ done was is. is ≡ was) (Ok (tt {0})) };
+    ghost Synced = { λ old new. Syncs S.view F.backing old.image new.image };
 
     fn size(&self) -> u64 {
         self.image.size()

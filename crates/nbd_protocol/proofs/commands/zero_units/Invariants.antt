@@ -1,7 +1,7 @@
 use Rattle.std.proofs.Common.{◌≡◌, ◌+◌, ◌≤◌}
-use Rattle.nbd_protocol.specs.Devices.{Zeroes}
+use Rattle.nbd_protocol.specs.Devices.{IsSameDevice, Zeroes}
 use Rattle.nbd_protocol.proofs.commands.zero_units.Given as goal
 
 abbrev pub invariant-loop : goal.invariant-loop
-invariant-loop g l = let view = g.D.Device.view in (l.at + l.rest ≡ l.offset + l.count) × (l.offset ≤ l.at)
+invariant-loop g l = let view = g.D.Device.view in (l.at + l.rest ≡ l.offset + l.count) × (l.offset ≤ l.at) × IsSameDevice (view l.fn.device) (view l.device)
     × ((view l.fn.device).is_sound → (view l.device).is_sound × Zeroes l.offset l.at (view l.fn.device) (view l.device))
