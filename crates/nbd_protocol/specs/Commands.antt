@@ -18,11 +18,11 @@ changes C.Trim = true
 changes C.WriteZeroes = true
 changes command = false
 
--- a write has as many bytes as it says
+-- The payload of a write has the length that the request says.
 abbrev pub HasPayload : Request → List ℕ → Type 0
 HasPayload r payload = r.command ≡ C.Write → length payload ≡ r.length
 
--- it is done by calls of the device that answer nothing but that it is done
+-- The supported commands whose reply is a status, without data.
 abbrev pub is_done : Command → Bool
 is_done C.Write = true
 is_done C.Flush = true
@@ -35,32 +35,32 @@ abbrev pub is_flush : Command → Bool
 is_flush C.Flush = true
 is_flush command = false
 
--- FLUSH, and any request with FUA
+-- FLUSH, and every request with FUA.
 abbrev pub persists : Request → Bool
 persists r = r.flags.durable || is_flush r.command
 
--- the greatest payload, in bytes
+-- The greatest payload, in bytes.
 abbrev pub most : ℕ
 most = 33554432
 
--- the error where a range passes the disk's end
+-- The error for a range that ends behind the disk.
 abbrev pub past_end : Command → Errno
 past_end C.Write = E.NoSpace
 past_end C.WriteZeroes = E.NoSpace
 past_end command = E.Invalid
 
--- Why a request is refused before anything is done, of a disk of this size: an unknown flag, a change of a disk that is only read, a range that passes the end, and a request that means nothing. The first counts.
+-- Why a request to a disk of this size is refused before anything is done. In this order: an unknown flag, a change of a read-only disk, a range that ends behind the disk, or a meaningless request.
 abbrev pub refuses : (read_only : Bool) → (size : ℕ) → (meaningless : Bool) → Request → Option Errno
 refuses read_only size meaningless r =
     if r.flags.unknown then Some E.Invalid else if changes r.command && read_only then Some E.NotPermitted
     else if nat_lt size (end_of r) then Some (past_end r.command) else if meaningless then Some E.Invalid else None
 
--- and why in doing it: the device failed, memory is missing, or no place is left for a change
+-- Why a request that passed the checks is refused: the device failed, there is no memory, or there is no room for a change.
 abbrev pub IsLate : Command → Errno → Type 0
 IsLate command E.NoSpace = IsTrue (changes command)
 IsLate command e = IsFault e
 
--- the device is asked for it, whatever it can do
+-- Commands that always call the device.
 abbrev pub asks_always : Command → Bool
 asks_always C.Read = true
 asks_always C.Write = true
@@ -70,23 +70,23 @@ asks_always command = false
 abbrev pub asks_device : Request → Bool
 asks_device r = persists r || asks_always r.command
 
--- it is refused by EIO, or for want of memory
+-- The request is refused with EIO or ENOMEM.
 abbrev pub IsFailure : {T : Type 0} → Result T Errno → Type 0
 IsFailure (Ok x) = ⊥
 IsFailure (Err e) = IsFault e
 
--- what is refused at once
+-- The error of a result, if there is one.
 abbrev pub refusal_of : {T : Type 0} → Result T Errno → Option Errno
 refusal_of (Ok x) = None
 refusal_of (Err e) = Some e
 
--- It is refused at once exactly for these causes. The size that it is compared with is the disk's, of a sound device.
+-- The checks refuse a request exactly for these reasons. The size that its range is compared with is the disk's, if the device is sound.
 pub record IsChecked {T : Type 0} (d : DeviceView) (meaningless : Bool) (r : Request) (result : Result T Errno) : Type 0 where
   pub size : ℕ
   pub is_size : d.is_sound → size ≡ d.size
   pub refusal : refusal_of result ≡ refuses d.is_read_only size meaningless r
 
--- Which error a request is answered with. The size that it is compared with is the disk's, of a sound device. A failed one answers EIO.
+-- Which errors answer a request. The size that its range is compared with is the disk's, if the device is sound. A request that passes the checks and has to call a failed device is answered with EIO or ENOMEM.
 pub record Refused {T : Type 0} (d : DeviceView) (meaningless : Bool) (r : Request) (result : Result T Errno) : Type 0 where
   pub size : ℕ
   pub is_size : d.is_sound → size ≡ d.size
@@ -94,7 +94,7 @@ pub record Refused {T : Type 0} (d : DeviceView) (meaningless : Bool) (r : Reque
   pub late : refuses d.is_read_only size meaningless r ≡ None → d.is_sound → IfErr result (IsLate r.command)
   pub failed : refuses d.is_read_only size meaningless r ≡ None → IsTrue d.is_failed → IsTrue (asks_device r) → IsFailure result
 
--- what was done where a request is answered without an error
+-- What was done, if the reply has no error.
 abbrev pub Does : Command → Request → List ℕ → (old new : DeviceView) → Type 0
 Does C.Write r payload = Writes r.offset payload
 Does C.Trim r payload = Trims r.offset (end_of r)
@@ -112,17 +112,17 @@ MayDo command r payload = Stays
 abbrev pub PersistsLast : {D : Type 0} → (Flushed Synced : D → D → Type 0) → D → Type 0
 PersistsLast {D} Flushed Synced new = (before : D) × Persists Flushed Synced before new
 
--- Runs of a disk from an offset on, one behind the other: each has bytes, and all of these are zero where it says so.
+-- Consecutive runs of the disk, from an offset on. None is empty, and all bytes of a run are zero if its state says so.
 abbrev pub AreExtents : DeviceView → ℕ → List Extent → Type 0
 AreExtents d offset [] = Unit {0}
 AreExtents d offset (e ∷ es) = (0 < e.length) × (IsTrue (is_zeros e.state) → ShowsZeros d offset (offset + e.length)) × AreExtents d (offset + e.length) es
 
--- how many bytes runs of the disk have
+-- The number of bytes of runs of the disk.
 abbrev pub total : List Extent → ℕ
 total [] = 0
 total (e ∷ es) = e.length + total es
 
--- The runs that a request is answered with: one at least, one alone where one is asked for, and no more bytes than its range has.
+-- The runs in a reply: at least one, at most 1,024 (or one, if the request asks for one), and no more bytes than the range has.
 pub record IsLookedUp (r : Request) (found : List Extent) : Type 0 where
   pub some : 0 < length found
   pub few : length found ≤ (if r.flags.one_extent then 1 else 1024)

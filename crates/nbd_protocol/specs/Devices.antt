@@ -1,4 +1,4 @@
--- What a contract sees of a block device, and what a call does to it.
+-- The view of a block device in contracts, and what a call does to it.
 use Rattle.std.specs.Prelude.{ℕ, ◌+◌, ◌*◌, ◌/◌, ◌%◌, ◌≡◌, ◌⊎◌, ◌<◌, ◌≤◌, Bool, true, false, IsTrue, List, length, slice_index, Option, Some, Result, Ok, Err, IfErr, IsErrOf}
 use Rattle.nbd_protocol.specs.declared.device.Errno.{Errno}
 use Rattle.nbd_protocol.specs.declared.device.Errno.TheVariants as E
@@ -16,7 +16,7 @@ pub record DeviceView : Type 1 where
   pub size : ℕ
   -- The byte at an offset, or none if it can't be read.
   pub value : ℕ → Option ℕ
-  -- how many bytes a unit has that is cleared as a whole, as clusters are; the disk's last unit may be shorter
+  -- The size in bytes of a unit, such as a cluster, that is cleared only as a whole. The last unit of the disk may be shorter.
   pub unit : ℕ
 
 -- The error number that a client is sent.
@@ -34,13 +34,13 @@ state_number S.Data = 0
 state_number S.Zero = 2
 state_number S.Hole = 3
 
--- it says that all bytes are zero
+-- The state says that all bytes are zero.
 abbrev pub is_zeros : State → Bool
 is_zeros S.Data = false
 is_zeros S.Zero = true
 is_zeros S.Hole = true
 
--- the disk has these bytes at an offset
+-- The disk has these bytes at an offset.
 abbrev pub Shows : DeviceView → ℕ → List ℕ → Type 0
 Shows d offset bytes = (i : ℕ) → i < length bytes → d.value (offset + i) ≡ Some (slice_index bytes i)
 
@@ -77,43 +77,43 @@ pub record MayWrite (offset : ℕ) (bytes : List ℕ) (old new : DeviceView) : T
   pub beside : StaysBeside offset (offset + length bytes) old new
   pub within : (i : ℕ) → i < length bytes → offset + i < old.size → (new.value (offset + i) ≡ old.value (offset + i)) ⊎ (new.value (offset + i) ≡ Some (slice_index bytes i))
 
--- from one offset up to another there are whole units, of which the last may end with the disk
+-- The range from one offset up to another consists of whole units. The last one may end with the disk.
 pub record AreUnits (unit size from to : ℕ) : Type 0 where
   pub some : 0 < unit
   pub begins : from % unit ≡ 0
   pub ends : (to % unit ≡ 0) ⊎ (size ≤ to)
 
--- the unit that an offset lies in is inside a range, or the range ends with the disk within it
+-- The unit that contains the offset lies within the range, or its part on the disk does.
 pub record IsInWhole (unit size from to o : ℕ) : Type 0 where
   pub after : from ≤ o / unit * unit
   pub before : o < to
   pub ends : (o / unit * unit + unit ≤ to) ⊎ (size ≤ to)
 
--- Each byte is as it was, or is zero and lies in a unit that is wholly inside a range: what the range cuts stays.
+-- Each byte is the old one, or zero in a unit that lies within the range. Units that lie in it only partly stay the same.
 pub record Trims (from to : ℕ) (old new : DeviceView) : Type 0 where
   pub size : new.size ≡ old.size
   pub unit : new.unit ≡ old.unit
   pub values : (o : ℕ) → o < old.size → (new.value o ≡ old.value o) ⊎ (IsInWhole old.unit old.size from to o × (new.value o ≡ Some 0))
 
--- Whole units of a range are zeroed, which are told by where the first begins and by their length. All else is as it was: also what the range cuts off.
+-- Whole units of the range are zeroed, which are returned as an offset and a length. Everything else is the same, also the rest of the range.
 pub record Clears (offset n : ℕ) (part : ℕ × ℕ) (old new : DeviceView) : Type 0 where
   pub low : offset ≤ part.0
   pub high : 0 < part.1 → part.0 + part.1 ≤ offset + n
   pub whole : 0 < part.1 → AreUnits old.unit old.size part.0 (part.0 + part.1)
   pub zeroes : Zeroes part.0 (part.0 + part.1) old new
 
--- What a lookup tells of a disk: of no more bytes than were asked for, of some where the disk has any, and of zeros only where all are zero.
+-- The result of a lookup: no more bytes than requested, at least one if the disk has any there, and a state of zeros only if all of them are zero.
 pub record Tells (offset max : ℕ) (found : State × ℕ) (d : DeviceView) : Type 0 where
   pub within : found.1 ≤ max
   pub some : offset < d.size → 0 < max → 0 < found.1
   pub zeros : IsTrue (is_zeros found.0) → ShowsZeros d offset (offset + found.1)
 
--- What holds of every call: a device that only reads does so still, and one that failed has failed.
+-- What every call keeps: whether the device is read-only, and that it failed.
 pub record IsSameDevice (old new : DeviceView) : Type 0 where
   pub read_only : new.is_read_only ≡ old.is_read_only
   pub failed : IsTrue old.is_failed → IsTrue new.is_failed
 
--- the device failed, or memory is missing
+-- EIO or ENOMEM: the device failed, or there is no memory.
 abbrev pub IsFault : Errno → Type 0
 IsFault E.NotPermitted = ⊥
 IsFault E.Io = Unit {0}
@@ -122,29 +122,29 @@ IsFault E.Invalid = ⊥
 IsFault E.NoSpace = ⊥
 IsFault E.NotSupported = ⊥
 
--- why bytes up to an offset aren't read
+-- Why a read up to an offset is refused.
 abbrev pub RefusesToRead : DeviceView → (to : ℕ) → Errno → Type 0
 RefusesToRead d to E.Invalid = d.size < to
 RefusesToRead d to e = IsFault e
 
--- and why they aren't changed: also that the device only reads, or has no place left
+-- Why a change up to an offset is refused: as a read is, or because the device is read-only or has no room left.
 abbrev pub RefusesToChange : DeviceView → (to : ℕ) → Errno → Type 0
 RefusesToChange d to E.NotPermitted = IsTrue d.is_read_only
 RefusesToChange d to E.Invalid = d.size < to
 RefusesToChange d to E.NoSpace = Unit {0}
 RefusesToChange d to e = IsFault e
 
--- Why a call is refused: each call of a failed device by EIO, and one of a sound device for one of these causes.
+-- Why a call is refused. A failed device refuses every call with EIO, a sound one only for these reasons.
 pub record Fails {T : Type 0} (old : DeviceView) (Refuses : Errno → Type 0) (result : Result T Errno) : Type 0 where
   pub failed : IsTrue old.is_failed → IsErrOf result E.Io
   pub cause : old.is_sound → IfErr result Refuses
 
--- The same of a part of a change, up to an offset, that may need no call.
+-- Why a change up to an offset is refused, which may need no call. A failed device refuses it only with EIO or ENOMEM, a sound one only for the reasons against a change.
 pub record ChangeFails {T : Type 0} (old : DeviceView) (to : ℕ) (result : Result T Errno) : Type 0 where
   pub failed : IsTrue old.is_failed → IfErr result IsFault
   pub cause : old.is_sound → IfErr result (RefusesToChange old to)
 
--- Where a call was answered, a sound device is sound, and this was done. Where it was refused, it is sound and this is so, or it failed.
+-- If the call succeeded, a sound device is sound, and `done` holds. If it was refused, the device is sound and `still` holds, or it failed.
 abbrev pub Acts : {T : Type 0} (old new : DeviceView) → (done : T → Type 0) → (still : Type 0) → Result T Errno → Type 0
 Acts old new done still (Ok answer) = old.is_sound → new.is_sound × done answer
 Acts old new done still (Err e) = old.is_sound → (new.is_sound × still) ⊎ IsTrue new.is_failed

@@ -40,7 +40,7 @@ fn changes(command: Command) -> bool
     )
 }
 
-// The error where a range passes the disk's end.
+// The error for a range that ends behind the disk.
 fn past_end(command: Command) -> Errno
     ensures { result ≡ past_end command }
 {
@@ -59,7 +59,7 @@ fn is_done(command: Command) -> bool
     )
 }
 
-// The range of a request passes a disk's end.
+// Whether the range of a request ends behind the disk.
 fn passes(request: &Request, size: u64) -> bool
     ensures { result ≡ nat_lt size (end_of request.now) }
 {
@@ -69,7 +69,7 @@ fn passes(request: &Request, size: u64) -> bool
     }
 }
 
-// A disk that is only read would change.
+// Whether the command would change a read-only disk.
 fn is_forbidden(read_only: bool, command: Command) -> bool
     ensures { result ≡ (changes command && read_only) }
 {
@@ -95,7 +95,7 @@ fn refusal(read_only: bool, size: u64, meaningless: bool, request: &Request) -> 
     None
 }
 
-/// Refuses a request which has an unknown flag, which changes a read-only disk, whose range passes the disk's end, or which means nothing.
+/// Refuses a request that has an unknown flag, changes a read-only disk, has a range that ends behind the disk, or is meaningless.
 pub(crate) fn check<D: Device>(
     device: &D,
     request: &Request,
@@ -268,14 +268,14 @@ fn write_zeroes<D: Device>(
     )
 }
 
-// FLUSH, and any request with FUA.
+// Whether the request is FLUSH or has FUA.
 fn persists(request: &Request) -> bool
     ensures { result ≡ persists request.now }
 {
     request.flags.durable || matches!(request.command, Command::Flush)
 }
 
-/// Does what a request asks that has no answer of its own: the buffer holds the payload of a write, and any bytes then.
+/// Does what a request without a payload in its reply asks for. The buffer holds the payload of a write, and any bytes afterwards.
 pub(crate) fn perform<D: Device>(
     device: &mut D,
     request: &Request,

@@ -1,4 +1,4 @@
-//! What a server serves.
+//! The block device that a server serves.
 ghost use Rattle.std.specs.Prelude.{◌≡◌, ◌↔◌, ◌+◌, ◌^◌, ◌<◌, ◌≤◌, IsTrue, OnOk, length};
 ghost use Rattle.nbd_protocol.specs.Devices.{Acts, Clears, DeviceView, Fails, IsFault, IsSameDevice, MayWrite, RefusesToChange, RefusesToRead, Shows, Stays, Tells, Writes, error_number, state_number};
 ghost use Rattle.nbd_protocol.specs.declared.device.Errno.TheVariants.{NoMemory};

@@ -101,7 +101,7 @@ pub(crate) fn send<W: Write>(writer: &mut W, bytes: &[u8]) -> io::Result<()>
     Ok(())
 }
 
-// Reads the flags of a client: whether it wants no zeros behind an export. Others are refused.
+// Reads the flags of a client: whether it wants no zeros after EXPORT_NAME. Other flags are refused.
 fn client_flags<R: Read>(reader: &mut R) -> io::Result<bool>
     ensures { OnOk result ((heard : List ℕ) × Consumes (R.remaining reader.old) (R.remaining reader.new) heard) }
 {

@@ -1,4 +1,4 @@
-//! Requests, answered one after the other.
+//! Answering requests, one after another.
 ghost use Rattle.std.specs.Prelude.{◌≡◌, ◌⊎◌, ◌≤◌, IfOk, List, [], OnOk, Ok, Some, length, true, ℕ};
 ghost use Rattle.std.specs.Io.KnownBytes.{Appends, Consumes};
 ghost use Rattle.nbd_protocol.specs.Commands.{HasPayload, PersistsLast};
@@ -91,7 +91,7 @@ struct Room {
     reply: Vec<u8>,
 }
 
-// Answers requests, until the client disconnects.
+// Answers requests until the client disconnects.
 fn answer_all<R: Read, W: Write, D: Device>(
     alloc: Global,
     reader: &mut R,
@@ -116,7 +116,7 @@ fn answer_all<R: Read, W: Write, D: Device>(
     Ok(())
 }
 
-// Reads a request.
+// Reads the next request.
 fn next_request<R: Read>(reader: &mut R) -> io::Result<Request>
     ensures { IfOk result (λ request. (head : List ℕ) × (length head ≡ 28) × (request_in head ≡ Some request)
         × Consumes (R.remaining reader.old) (R.remaining reader.new) head) }
@@ -129,7 +129,7 @@ fn next_request<R: Read>(reader: &mut R) -> io::Result<Request>
     }
 }
 
-// Deals with a request: takes its payload, does what it asks, and tells what came of it.
+// Handles a request: reads its payload, does what it asks for, and sends the reply.
 fn deal<R: Read, W: Write, D: Device>(
     alloc: Global,
     reader: &mut R,
@@ -166,7 +166,7 @@ fn deal<R: Read, W: Write, D: Device>(
     }
 }
 
-// Takes the payload of a write, and answers it.
+// Reads the payload of a write, and answers it.
 fn answer_write<R: Read, W: Write, D: Device>(
     reader: &mut R,
     writer: &mut W,
@@ -194,7 +194,7 @@ fn answer_write<R: Read, W: Write, D: Device>(
     tell(writer, structured, request, &refused, &mut room.reply)
 }
 
-// Reads the payload of a write, and answers whether there was memory for it; where there was none it is skipped. One that is too long is
+// Reads the payload of a write, and returns whether there was memory for it; if not, it is skipped. A payload that is too long is
 // refused, and nothing of it is read.
 fn take_payload<R: Read>(reader: &mut R, count: u32, buffer: &mut Vec<u8>) -> io::Result<bool>
     ensures bounded { length buffer.new.items ≤ 33554432 ⊎ (buffer.new.items ≡ buffer.old.items) }
@@ -214,7 +214,7 @@ fn take_payload<R: Read>(reader: &mut R, count: u32, buffer: &mut Vec<u8>) -> io
     Ok(true)
 }
 
-// Reads so many bytes, and keeps none.
+// Reads and drops this many bytes.
 fn skip<R: Read>(reader: &mut R, count: u32) -> io::Result<()>
     ensures { OnOk result ((bytes : List ℕ) × (length bytes ≡ count)
         × Consumes (R.remaining reader.old) (R.remaining reader.new) bytes) }
@@ -229,7 +229,7 @@ fn skip<R: Read>(reader: &mut R, count: u32) -> io::Result<()>
     Ok(())
 }
 
-// Tells a client whether its request was done.
+// Sends a reply without data: that the request was done, or its error.
 fn tell<W: Write>(
     writer: &mut W,
     structured: bool,
@@ -308,7 +308,7 @@ fn send_bytes<W: Write>(
     Ok(())
 }
 
-// Answers by what stands for a range of the disk, or by an error.
+// Answers BLOCK_STATUS with the runs of the range, or with an error.
 fn answer_lookup<W: Write, D: Device>(
     alloc: Global,
     writer: &mut W,
@@ -325,7 +325,7 @@ fn answer_lookup<W: Write, D: Device>(
     }
 }
 
-// Sends runs of the disk.
+// Answers BLOCK_STATUS with these runs.
 fn send_extents<W: Write>(
     writer: &mut W,
     request: &Request,

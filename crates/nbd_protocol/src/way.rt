@@ -7,17 +7,17 @@ use crate::request::Command;
 /// How a request is answered.
 #[derive(Clone, Copy)]
 pub(crate) enum Way {
-    /// By the disk's bytes.
+    /// With bytes of the disk.
     Bytes,
-    /// By what stands for runs of the disk.
+    /// With runs of the disk and their states.
     Runs,
-    /// By whether it was done, once its payload is there.
+    /// With success or an error, after its payload was read.
     Payload,
-    /// By whether it was done.
+    /// With success or an error.
     Status,
 }
 
-/// How a request is answered; BLOCK_STATUS only where the context was agreed on.
+/// How a command is answered. BLOCK_STATUS is answered with runs only if the client negotiated the context.
 pub(crate) fn way_of(allocation: bool, command: Command) -> Way
     ensures { result ≡ way_of allocation command }
 {

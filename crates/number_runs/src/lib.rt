@@ -223,7 +223,7 @@ impl NumberRuns {
         find_from(&self.runs, number)
     }
 
-    /// The first number from one on that isn't there.
+    /// The first number from this one on that is not in the set.
     pub fn end_from(&self, number: u64) -> u64
         ensures from { number ≤ result }
         ensures all { (k : ℕ) → number ≤ k → k < result → IsIn self.now k }
@@ -236,7 +236,7 @@ impl NumberRuns {
         end
     }
 
-    /// Adds so many numbers from one on, none of which is there, as one run. False where there is no room. Nothing changes then.
+    /// Adds n numbers from `first` on, none of which is in the set, as one run. False if there is no room, and then nothing changed.
     pub fn add(&mut self, first: u64, n: u64) -> bool
         requires near { first + n < 2 ^ 64 }
         requires apart { NoneIn self.old first (first + n) }

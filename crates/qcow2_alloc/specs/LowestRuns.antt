@@ -18,19 +18,19 @@ BrokeOff file e = IsFault e × (e ≡ I.Memory → IsTrue (has_noted file))
 abbrev pub IsLowestRun : (ℕ → Type 0) → ℕ → ℕ → Type 0
 IsLowestRun used first n = (start : ℕ) → start < first → (k : ℕ) × (start ≤ k) × (k < start + n) × (k < first) × used k
 
--- a cluster is kept as one in use: it lies in a range that was read, and in no free run
+-- The allocator remembers the cluster as in use: it lies in a range that was read, and in no free run.
 abbrev pub IsCovered : Allocator → ℕ → Type 0
 IsCovered allocator k = IsIn allocator.read k × (IsIn allocator.free k → ⊥)
 
--- it is spared as one of the tables that the image was opened with, or kept as one in use
+-- The cluster is spared because a table that the image was opened with refers to it, or it is remembered as in use.
 abbrev pub IsKnown : Allocator → ℕ → Type 0
 IsKnown allocator k = IsIn allocator.named k ⊎ IsCovered allocator k
 
--- a search passes over a cluster without taking it: it lies below the first free one, or is known
+-- A search for free clusters passes over this cluster: it lies below the first free one, is spared because a table that the image was opened with refers to it, or is remembered as in use.
 abbrev pub IsPassed : Allocator → ℕ → Type 0
 IsPassed allocator k = (k < allocator.first_free_cluster) ⊎ IsKnown allocator k
 
--- The search begins anew: from the first cluster on, and no cluster is kept as one in use. What is spared, the reftable and what leaked stay.
+-- The search starts at cluster 0 again, and no range counts as read. The spared clusters, the reftable and the number of leaked clusters stay the same.
 pub record SearchesAnew (old new : Allocator) : Type 0 where
   pub first : new.first_free_cluster ≡ 0
   pub unread : (k : ℕ) → ¬ IsIn new.read k
@@ -38,20 +38,20 @@ pub record SearchesAnew (old new : Allocator) : Type 0 where
   pub reftable : new.reftable ≡ old.reftable
   pub leaks : new.leaked_clusters ≡ old.leaked_clusters
 
--- a search passes over no other clusters
+-- A search passes over no further clusters.
 abbrev pub PassesNoOthers : Allocator → Allocator → Type 0
 PassesNoOthers old new = (k : ℕ) → IsPassed new k → IsPassed old k
 
--- no cluster
+-- The empty set of clusters.
 abbrev pub NoCluster : ℕ → Type 0
 NoCluster k = ⊥
 
--- only the runs that are kept change, and no other cluster is kept as one in use than was, or than is said
+-- Only the remembered refcounts change. Every cluster that is remembered as in use was so before, or satisfies `IsMore`.
 pub record KeepsRuns (old new : Allocator) (IsMore : ℕ → Type 0) : Type 0 where
   pub rest : new ≡ record old { read = new.read; free = new.free; crowded = new.crowded }
   pub covered : (k : ℕ) → IsCovered new k → IsCovered old k ⊎ IsMore k
 
--- The search starts at the same cluster, and spares no further ones.
+-- The search starts at the same cluster, and passes over no further ones.
 pub record SearchStays (old new : Allocator) : Type 0 where
   pub first : new.first_free_cluster ≡ old.first_free_cluster
   pub passed : (k : ℕ) → IsPassed new k → IsPassed old k
@@ -75,7 +75,7 @@ module _ {S : Type 0} (view : S → StorageView) where
   KeepsUsedBut n old new (Ok answer) = (k : ℕ) → n k ≡ 0 → IsUsed old k → IsUsed new k
   KeepsUsedBut n old new (Err e) = ((k : ℕ) → n k ≡ 0 → IsUsed old k → IsUsed new k) ⊎ BrokeOff new e
 
-  -- A search passes over no free cluster: none below the first free one, and none that is spared.
+  -- A search passes over no free cluster: none below the first free one, none that is spared, and none that is remembered as in use.
   abbrev pub NoFreeBelowHint : Allocator → ImageFile S → Type 0
   NoFreeBelowHint allocator file = (k : ℕ) → IsPassed allocator k → IsUsed file k
 

@@ -26,12 +26,12 @@ abbrev pub passed_hint : ℕ → ℕ → Result ℕ ImageError → ℕ
 passed_hint hint from (Ok next) = if from == hint then next else hint
 passed_hint hint from (Err e) = hint
 
--- A search that stood at a cluster goes on. But for where it begins and the runs that are kept, nothing changes.
+-- A search that was at a cluster continues. Only the first free cluster and the remembered refcounts change.
 pub record MovesOn (old new : Allocator) (from : ℕ) (result : Result ℕ ImageError) : Type 0 where
   pub rest : new ≡ record old { first_free_cluster = new.first_free_cluster; read = new.read; free = new.free; crowded = new.crowded }
   pub first : new.first_free_cluster ≡ passed_hint old.first_free_cluster from result
 
--- no spared cluster comes into a free run
+-- No spared cluster is added to a free run.
 abbrev pub SparedStayOut : Allocator → Allocator → Type 0
 SparedStayOut old new = (k : ℕ) → IsIn new.free k → IsIn old.free k ⊎ (IsIn old.named k → ⊥)
 
@@ -55,15 +55,15 @@ module _ {S : Type 0} where
   abbrev pub GoesFar : HeaderFields → EntryTableView → MetadataCaches S → ℕ → ℕ → Type 0
   GoesFar h reftable caches cluster next = ((next ≡ cluster) × HasNone reftable (cluster / counts_per_block h)) ⊎ (next % counts_per_block h ≡ 0) ⊎ IsHeldFree h reftable caches cluster next
 
-  -- so it does by the counts, or it goes on at a cluster that isn't kept as one in use
+  -- A search that started at a cluster continues at another: as far as the refcounts allow, or at one that is not remembered as in use.
   abbrev pub GoesFarIn : HeaderFields → Allocator → MetadataCaches S → ℕ → ℕ → Type 0
   GoesFarIn h allocator caches cluster next = GoesFar h allocator.reftable caches cluster next ⊎ (IsCovered allocator next → ⊥)
 
-  -- a cluster of a range is spared, or a held refblock counts it
+  -- The cluster is spared, or it lies in a range and its refcount in a cached refblock is above 0.
   abbrev pub IsFoundUsed : Allocator → MetadataCaches S → ℕ → ℕ → ℕ → ℕ → Type 0
   IsFoundUsed allocator caches block first end k = IsIn allocator.named k ⊎ ((first ≤ k) × (k < end) × TellsUsed caches block (k - first) 1)
 
-  -- a held refblock counts the clusters of a range from one on, up to before another, as 0
+  -- The clusters from `at` up to `end` have refcount 0 in a cached refblock of the range that begins at `first`.
   abbrev pub AreFoundFree : MetadataCaches S → ℕ → ℕ → ℕ → ℕ → Type 0
   AreFoundFree caches block first at end = (k : ℕ) → at ≤ k → k < end → TellsZero caches block (k - first) true
 
@@ -72,17 +72,17 @@ module _ {S : Type 0} where
     abbrev pub AreUsed : ImageFile S → ℕ → ℕ → Type 0
     AreUsed file from end = (k : ℕ) → from ≤ k → k < end → IsUsed view file k
 
-    -- the file and its allocator stay sound, or a fault ended it
+    -- The file and its allocator stay sound, or a fault ended the call.
     abbrev pub StaysSound : {A : Type 0} → Pending → ImageFile S → Allocator → ImageFile S → Result A ImageError → Type 0
     StaysSound p old allocator' new (Ok done) = UnseenAllocatorStep view p old allocator' new p
     StaysSound p old allocator' new (Err e) = IsFault e × RefusedFileStep view p old allocator' new e
 
-    -- so they do, and where no cluster that a search passed over was free, what lies between two that it stands at is in use
+    -- The file and its allocator stay sound, or a fault ended the search. If it passed over no free cluster before, all clusters from the one where it started up to the one where it continues are in use.
     abbrev pub PassesKnown : Pending → Allocator → ImageFile S → Allocator → ImageFile S → ℕ → Result ℕ ImageError → Type 0
     PassesKnown p allocator old allocator' new from (Ok next) = UnseenAllocatorStep view p old allocator' new p × (NoFreeBelowHint view allocator old → AreUsed new from next)
     PassesKnown p allocator old allocator' new from (Err e) = IsFault e × RefusedFileStep view p old allocator' new e
 
-    -- a search that stood at a cluster goes on at another, and what lies between is in use; or a fault ended it
+    -- A search that started at one cluster continues at another, and all clusters between them are in use; or a fault ended it.
     abbrev pub PassesUsed : Pending → ImageFile S → Allocator → ImageFile S → ℕ → Result ℕ ImageError → Type 0
     PassesUsed p old allocator' new from (Ok next) = UnseenAllocatorStep view p old allocator' new p × AreUsed new from next
     PassesUsed p old allocator' new from (Err e) = IsFault e × RefusedFileStep view p old allocator' new e

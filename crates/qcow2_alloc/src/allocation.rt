@@ -23,8 +23,8 @@ use image_access::Storage;
 use number_runs::NumberRuns;
 use qcow2_metadata::{ClusterCount, HostCluster, MAX_HOST_OFFSET, MAX_REFTABLE_ENTRIES, RefTable};
 
-/// Takes clusters, and frees those that are to be freed. No cluster below the first free one has count 0, and none that lies in a range
-/// that was read but in no free run.
+/// Allocates clusters, and frees those on the list of clusters to free. No cluster below the first free one is free, and none of a range
+/// that was read is free unless it lies in a free run.
 #[derive(Drop)]
 pub struct Allocator {
     pub(crate) reftable: RefTable,
@@ -33,9 +33,9 @@ pub struct Allocator {
     pub(crate) named: NumberRuns,
     /// The clusters of the ranges whose refblocks were read.
     pub(crate) read: NumberRuns,
-    /// Of these the free ones. No run goes over the end of a range.
+    /// The free ones among these. No run crosses the end of a range.
     pub(crate) free: NumberRuns,
-    /// The first cluster of the last range that there was no room for, or the greatest number.
+    /// The first cluster of the last range that there was no room to remember, or `u64::MAX`.
     pub(crate) crowded: u64,
 }
 
@@ -244,7 +244,7 @@ impl Allocator {
         self.search_run(file, n)
     }
 
-    // Takes the lowest run from the first free cluster on.
+    // Allocates the lowest free run from the first free cluster on.
     fn search_run<S: Storage>(&mut self, file: &mut ImageFile<S>, n: u64) -> Result<u64, ImageError>
         ensures step { FileStep S.view self.old.reftable file.old self.new.reftable file.new }
         ensures noted { OnOk result (IsTrue file.new.caches.is_changed) }
@@ -271,7 +271,8 @@ impl Allocator {
         Err(ImageError::Limit)
     }
 
-    // Takes n clusters from first on. Where one of them is kept as one in use, none is taken: how many lie before that.
+    // Allocates the n clusters from `first` on, as `take_run` does. If `room_from` finds one that is remembered as in use, none is allocated,
+    // and the result is how many lie before it.
     fn try_run<S: Storage>(
         &mut self,
         file: &mut ImageFile<S>,
@@ -295,7 +296,7 @@ impl Allocator {
         self.take_run(file, first, n)
     }
 
-    // Takes n clusters from first on: n, or how many lay before one that is in use; those are given back.
+    // Allocates the n clusters from `first` on. Returns n, or how many lie before one that is in use; those are freed again.
     fn take_run<S: Storage>(
         &mut self,
         file: &mut ImageFile<S>,

@@ -34,7 +34,7 @@ struct Reach {
 }
 
 impl Allocator {
-    // Allocates the first room for so many clusters of a reftable that lies below an end.
+    // Allocates the first room below an end for this many clusters of a reftable, and forgets the remembered refcounts of its ranges.
     pub(crate) fn take_room<S: Storage>(
         &mut self,
         file: &mut ImageFile<S>,
@@ -60,7 +60,7 @@ impl Allocator {
         Ok(room)
     }
 
-    // Takes the first room, as `take_room` does. What is kept of its ranges stays.
+    // Allocates the first room, as `take_room` does, without forgetting refcounts.
     fn find_room<S: Storage>(
         &mut self,
         file: &mut ImageFile<S>,

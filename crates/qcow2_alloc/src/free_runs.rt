@@ -1,5 +1,5 @@
-//! What is kept of the counts that were read: the clusters of the ranges that were read, and the runs of free ones among
-//! them. A search asks these before it asks a refblock. Where there is no room for a run its range is forgotten.
+//! The refcounts that an allocator remembers: the clusters of the ranges whose refblocks were read, and the runs of free clusters among
+//! them. A search looks here before it reads a refblock. If there is no room for a run, its range is forgotten.
 ghost use Rattle.std.specs.Prelude.{◌≡◌, ◌↔◌, ℕ, ◌+◌, ◌*◌, ◌/◌, ◌^◌, ◌<◌, ◌≤◌, IsTrue};
 ghost use Rattle.number_runs.specs.NumberRuns.{IsIn, NoneIn};
 ghost use Rattle.qcow2_alloc.specs.LowestRuns.{IsCovered, KeepsRuns, NoCluster, PassesNoOthers};
@@ -7,10 +7,10 @@ ghost use Rattle.qcow2_alloc.specs.LowestRuns.{IsCovered, KeepsRuns, NoCluster, 
 use crate::Allocator;
 use qcow2_metadata::HostCluster;
 
-/// How many runs of free clusters there are at most, and how many of clusters that were read.
+/// The greatest number of runs of free clusters, and of runs of clusters whose refcounts were read.
 pub(crate) const MOST_KNOWN: usize = 1 << 18;
 
-// The range of a cluster: its first cluster, and the first one behind it.
+// The range of clusters that share a refblock with this one: the first of them, and the one behind the last.
 pub(crate) fn range_around(cluster: u64, bits: u32) -> (u64, u64)
     requires { bits < 64 }
     ensures from { result.0 ≤ cluster }
@@ -23,7 +23,7 @@ pub(crate) fn range_around(cluster: u64, bits: u32) -> (u64, u64)
 }
 
 impl Allocator {
-    // Forgets all counts that were read.
+    // Forgets all refcounts.
     pub(crate) fn forget_runs(&mut self)
         ensures kept { KeepsRuns self.old self.new NoCluster }
         ensures unread { (k : ℕ) → IsIn self.new.read k → ⊥ }
@@ -34,8 +34,7 @@ impl Allocator {
         self.crowded = u64::MAX;
     }
 
-    // Forgets the counts of the clusters from one on up to before an end, and all that were read where there is no room to
-    // part a run.
+    // Forgets the refcounts of the clusters from `first` up to `end`. If there is no room to split a run, all refcounts are forgotten.
     pub(crate) fn forget_range(&mut self, first: u64, end: u64)
         ensures kept { KeepsRuns self.old self.new NoCluster }
         ensures unread { NoneIn self.new.read first end }
@@ -51,7 +50,7 @@ impl Allocator {
         }
     }
 
-    // Forgets the counts of a cluster's range.
+    // Forgets the refcounts of the cluster's range.
     fn forget_around(&mut self, cluster: u64, bits: u32)
         requires { bits < 64 }
         ensures kept { KeepsRuns self.old self.new NoCluster }
@@ -62,7 +61,7 @@ impl Allocator {
         self.forget_range(first, end);
     }
 
-    // Whether the range of a cluster was read.
+    // Whether the cluster's range was read.
     pub(crate) fn is_read(&self, cluster: u64) -> bool
         ensures read { IsTrue result ↔ IsIn self.now.read cluster }
         ensures near { IsTrue result → cluster + 1 < 2 ^ 64 }
@@ -70,7 +69,7 @@ impl Allocator {
         self.read.run_of(cluster).is_some()
     }
 
-    // Whether a cluster lies in a free run.
+    // Whether the cluster lies in a free run.
     fn is_open(&self, cluster: u64) -> bool
         ensures open { IsTrue result ↔ IsIn self.now.free cluster }
         ensures near { IsTrue result → cluster + 1 < 2 ^ 64 }
@@ -78,7 +77,8 @@ impl Allocator {
         self.free.run_of(cluster).is_some()
     }
 
-    // A cluster is free now. Where its range was read it lies in a run of that.
+    // Records that the cluster is free now. If its range was read, the cluster is added to a free run there, or the range is forgotten if
+    // there is no room.
     pub(crate) fn note_free(&mut self, cluster: u64, bits: u32)
         requires { bits < 64 }
         ensures kept { KeepsRuns self.old self.new NoCluster }
@@ -93,7 +93,8 @@ impl Allocator {
         }
     }
 
-    // A cluster is in use now. It is taken out of its run; where its count wasn't 0 although it lay in one, its range is forgotten.
+    // Records that the cluster is in use now, and removes it from its free run. The range is forgotten if the refcount was not 0 although
+    // the cluster lay in a free run, or if there is no room to split the run.
     pub(crate) fn note_used(&mut self, cluster: u64, was_free: bool, bits: u32)
         requires { bits < 64 }
         ensures kept { KeepsRuns self.old self.new (λ k. k ≡ cluster) }
@@ -111,7 +112,7 @@ impl Allocator {
         }
     }
 
-    // Where the clusters that are kept as ones in use end, from one on.
+    // The first cluster from this one on that is not remembered as in use.
     pub(crate) fn behind_kept(&self, cluster: u64) -> u64
         ensures behind { cluster ≤ result }
         ensures kept { (k : ℕ) → cluster ≤ k → k < result → IsCovered self.now k }
@@ -124,7 +125,7 @@ impl Allocator {
         }
     }
 
-    // The search begins behind the clusters that are kept as ones in use.
+    // Moves the first free cluster past those from it on that are remembered as in use.
     pub(crate) fn skip_kept(&mut self)
         ensures rest { self.new ≡ record self.old { first_free_cluster = self.new.first_free_cluster } }
         ensures passed { PassesNoOthers self.old self.new }
@@ -133,7 +134,7 @@ impl Allocator {
         self.first_free_cluster = self.behind_kept(self.first_free_cluster);
     }
 
-    // How many of n clusters from one on lie before one that is kept as one in use.
+    // Returns n, or how many clusters from `first` on lie before one that is remembered as in use.
     pub(crate) fn room_from(&self, first: u64, n: u64) -> u64
         ensures within { result ≤ n }
         ensures kept { result < n → IsCovered self.now (first + result) }

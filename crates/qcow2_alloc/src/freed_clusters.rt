@@ -285,7 +285,8 @@ impl Allocator {
         Ok(lowered)
     }
 
-    // A cluster whose count is 0 now may be taken again, and isn't spared any longer.
+    // A cluster whose refcount is 0 now may be allocated again, and is not spared any longer. If its range was read, it lies in a free run
+    // now, or the range is forgotten.
     fn note_lowered(&mut self, cluster: u64, is_free: bool, bits: u32)
         requires { bits < 64 }
         ensures reftable { self.new.reftable ≡ self.old.reftable }

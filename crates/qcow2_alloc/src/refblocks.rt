@@ -78,8 +78,9 @@ fn write_block<S: Storage>(file: &mut ImageFile<S>, mut block: RefBlock) -> Resu
 
 #[tactic(auto, using(crate::proofs::TableErrors::storage_of_tables, crate::proofs::TableErrors::metadata_of_tables, crate::proofs::TableErrors::cache_of_tables))]
 impl Allocator {
-    /// Drops the refblocks without a pin, unwritten. Refcounts that were not written are lost, and the search for free clusters
-    /// starts anew. Refused 21 (still in use) with the clusters of the pinned ones, and 14 (memory), which drops nothing.
+    /// Drops the refblocks without a pin, unwritten. Refcounts that were not written are lost, the remembered ones are forgotten, and the
+    /// search for free clusters starts at cluster 0 again. Refused 21 (still in use) with the clusters of the pinned ones, and
+    /// 14 (memory), which drops no refblock.
     pub fn invalidate_rb_cache<S: Storage>(
         &mut self,
         file: &mut ImageFile<S>,
@@ -246,7 +247,7 @@ impl Allocator {
         Ok(Some(cluster))
     }
 
-    // Takes the lowest free cluster from the first free one on. What is kept of its range stays.
+    // Allocates the lowest free cluster from the first free one on, without removing it from its free run.
     fn search_below<S: Storage>(
         &mut self,
         file: &mut ImageFile<S>,

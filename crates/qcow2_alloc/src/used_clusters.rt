@@ -18,8 +18,8 @@ use image_access::Storage;
 use qcow2_metadata::HostCluster;
 
 impl Allocator {
-    // Goes on behind the clusters in use from one on, and notes where the first free one may be. What is kept of its range
-    // tells which they are, or else its refblock does.
+    // Passes over the clusters in use from one on, and moves the first free cluster if the search started there. Which clusters are in use
+    // is known from the remembered refcounts, or else from the refblock.
     pub(crate) fn pass_used<S: Storage>(
         &mut self,
         file: &mut ImageFile<S>,
@@ -46,8 +46,7 @@ impl Allocator {
         Ok(next)
     }
 
-    // Where the clusters in use from one on end: those that are kept as such, where its range was read, or else those that its
-    // refblock tells.
+    // The end of the clusters in use from one on: by the remembered refcounts, if the cluster's range was read, otherwise by its refblock.
     fn next_open<S: Storage>(
         &self,
         file: &mut ImageFile<S>,
@@ -69,7 +68,7 @@ impl Allocator {
         self.behind_used(file, cluster)
     }
 
-    // Keeps what the refblock of a cluster's range counts, unless it is kept already or there was no room for it.
+    // Remembers the refcounts in the refblock of the cluster's range, unless they are remembered already or there was no room for them.
     fn keep_range<S: Storage>(
         &mut self,
         file: &mut ImageFile<S>,
@@ -99,7 +98,7 @@ impl Allocator {
         Ok(())
     }
 
-    // Keeps what a held refblock counts of the clusters from one on up to before an end. Where there is no room, nothing is kept of them.
+    // Remembers the refcounts of the clusters from `first` up to `end` in a cached refblock. If there is no room, they are forgotten.
     fn read_range<S: Storage>(
         &mut self,
         caches: &mut MetadataCaches<S>,
@@ -119,7 +118,7 @@ impl Allocator {
         }
     }
 
-    // Keeps what a held refblock counts of clusters of which nothing is kept. False where there is no room.
+    // Remembers the refcounts in a cached refblock for a range of which nothing is remembered. False if there is no room.
     fn list_range<S: Storage>(
         &mut self,
         caches: &mut MetadataCaches<S>,
@@ -142,7 +141,7 @@ impl Allocator {
         self.add_read(first, end)
     }
 
-    // The clusters from one on up to before an end are read now, of which none was. False where there is no room.
+    // Marks the clusters from `first` up to `end` as read, of which none was. False if there is no room.
     fn add_read(&mut self, first: u64, end: u64) -> bool
         requires order { first ≤ end }
         requires unread { NoneIn self.old.read first end }
@@ -158,7 +157,8 @@ impl Allocator {
         true
     }
 
-    // Lists the free clusters of a held refblock, from one on up to before an end. False where there is no room for all.
+    // Adds the free clusters from `first` up to `end` in a cached refblock to the free runs, except spared ones. False if there is no room
+    // for all.
     fn list_free<S: Storage>(
         &mut self,
         caches: &mut MetadataCaches<S>,
@@ -185,7 +185,8 @@ impl Allocator {
         true
     }
 
-    // Passes over clusters in use or spared, or lists free ones: what there is from a cluster on. None where there is no room.
+    // Passes over clusters in use or spared from `at` on, or adds a free run there. Returns the cluster behind them, or none if there is no
+    // room.
     fn list_stretch<S: Storage>(
         &mut self,
         caches: &mut MetadataCaches<S>,
@@ -212,7 +213,7 @@ impl Allocator {
         Some(at.saturating_add(used).min(end))
     }
 
-    // Passes over spared clusters, or lists free ones, as `list_stretch` does.
+    // Passes over spared clusters from `at` on, or adds a free run there. Returns the cluster behind them, or none if there is no room.
     fn list_open<S: Storage>(
         &mut self,
         caches: &MetadataCaches<S>,
@@ -244,7 +245,7 @@ impl Allocator {
         Some(at + n)
     }
 
-    // How many clusters from one on up to before an end a held refblock counts as 0, and aren't spared.
+    // The length of the run from `at` on, up to `end` at most, whose refcounts in a cached refblock are 0 and that isn't spared.
     fn free_from<S: Storage>(
         &self,
         caches: &MetadataCaches<S>,
@@ -270,7 +271,7 @@ impl Allocator {
         next - at
     }
 
-    // The first spared cluster from one on, or an end before it.
+    // The first spared cluster from `at` on, or `end` if none lies below it.
     fn spared_from(&self, at: u64, end: u64) -> u64
         requires { at ≤ end }
         ensures from { at ≤ result }
@@ -283,7 +284,7 @@ impl Allocator {
         }
     }
 
-    // Where the clusters in use from one on end, as its refblock tells, at the end of its range at the latest. Without a refblock there are none.
+    // The end of the clusters in use from one on, by its refblock, at most the end of its range. Without a refblock none is in use.
     pub(crate) fn behind_used<S: Storage>(
         &self,
         file: &mut ImageFile<S>,

@@ -169,17 +169,17 @@ abbrev pub found_after : (ℕ → Option Found) → Command → Reply → ℕ �
 found_after found (get_mapping place offset max) (mapping_is from kind n) k = if k == place then Some (record { from = from; length = n }) else found k
 found_after found command reply k = found k
 
--- The command isn't `invalidate_cache`: that drops what isn't flushed, and reads what stands in the file.
+-- Every command except `invalidate_cache`, which drops everything that is not flushed and reads the tables in the file again.
 abbrev pub KeepsUnflushed : Command → Type 0
 KeepsUnflushed invalidate_cache = ⊥
 KeepsUnflushed command = Unit {0}
 
--- no command of a list is `invalidate_cache`
+-- No command of the list is `invalidate_cache`.
 abbrev pub HasNoInvalidation : List Command → Type 0
 HasNoInvalidation [] = Unit {0}
 HasNoInvalidation (command ∷ commands) = KeepsUnflushed command × HasNoInvalidation commands
 
--- A run so far: what the guest sees, what was found, and what was flushed last with what was given and asked since.
+-- The state of a run: what the guest sees, the last lookups, whether the image failed, and the checkpoint: the last flush with everything given and asked for since.
 pub record State : Type 0 where
   pub guest : Guest
   pub found : ℕ → Option Found

@@ -1,4 +1,4 @@
--- What an image is once all that it kept of its file was dropped, and where its tables stand was read anew.
+-- `invalidate_cache`: everything that was cached is dropped, and the tables and their pointers are read again.
 use Rattle.std.specs.Prelude.{◌≡◌, ◌<◌, ◌≤◌, ◌*◌, ◌⊎◌, ℕ, Bool, false, IsTrue, IfErr, IfSome, IsErrAnd, IsSome, List, [], Option, None, OnErr, OnOk, Result, Ok, Err, option_map}
 use Rattle.image_access.specs.Backing.{BackingView}
 use Rattle.image_access.specs.Moments.{StorageView}
@@ -41,11 +41,12 @@ IsReasonAgainstPlaces h b writable e = ⊥
 abbrev pub IsReasonNotToRead : HeaderFields → Bytes → Bool → ImageError → Type 0
 IsReasonNotToRead h b writable e = IsReasonAgainstPlaces h b writable e ⊎ IsReasonAgainstTables (with_tables_of h (header b)) b writable e
 
--- 21, and what is answered while a mapping is prepared that isn't existing
+-- The call is refused 21, because tables are still in use.
 abbrev pub IsStillInUse : ImageError → Type 0
 IsStillInUse (I.StillInUse tables) = Unit {0}
 IsStillInUse e = ⊥
 
+-- A refusal 21, or 14 for lack of memory.
 abbrev pub IsOfPrepared : ImageError → Type 0
 IsOfPrepared e = IsStillInUse e ⊎ (e ≡ I.Memory)
 
@@ -65,22 +66,22 @@ module _ {S F : Type 0} where
     pub below : new.backing ≡ old.backing
     pub leaks : leaked_in new ≡ leaked_in old
 
-  -- the reftable in memory, where there is one
+  -- The reftable in memory, if there is one.
   abbrev pub reftable_in : Qcow2 S F → Option EntryTableView
   reftable_in image = option_map (λ a. a.reftable) image.allocator
 
-  -- The header, the L1 table and the reftable in memory are as they were.
+  -- The header, the L1 table and the reftable in memory are unchanged.
   pub record KeepsTables (old new : Qcow2 S F) : Type 0 where
     pub header : new.file.header ≡ old.file.header
     pub l1_table : new.l1_table ≡ old.l1_table
     pub reftable : reftable_in new ≡ reftable_in old
 
-  -- numbers of a header that are those in memory, but for where the L1 table and the reftable stand, and with a reftable no longer than one may be
+  -- A header that differs from the one in memory only in the pointers to the L1 table and the reftable. With the cluster size in memory, its reftable is within the limit.
   pub record ArePlacesFor (image : Qcow2 S F) (places : HeaderView) : Type 0 where
     pub others : places.fields ≡ with_tables_of image.file.header.fields places.fields
     pub few : places.fields.reftable_clusters * entries_per_cluster image.file.header.fields ≤ 1048576
 
-  -- While a mapping is prepared that isn't existing, the answer is 21, or 14 where its list of tables has no room.
+  -- The call succeeds only if no L2 table is pinned. If one is, it is refused 21, or 14 if there is no memory for the list of pinned tables.
   abbrev pub HeedsPrepared : {T : Type 0} → Qcow2 S F → Result T ImageError → Type 0
   HeedsPrepared old (Ok _) = ¬ HasPinnedTable old
   HeedsPrepared old (Err (I.StillInUse tables)) = Unit {0}
@@ -104,7 +105,7 @@ module _ {S F : Type 0} where
     abbrev pub WritesNothing : Qcow2 S F → Qcow2 S F → Type 0
     WritesNothing old new = (view_in view old.file).is_honest → ContentsStayThroughout (view_in view old.file) (view_in view new.file)
 
-    -- Where the tables stand is read: the storage alone changes.
+    -- The pointers to the tables are read. Only the storage changes.
     pub record ReadsPlaces (old new : Qcow2 S F) : Type 0 where
       pub part : ImageStep view old new
       pub rest : new ≡ record old { file = record old.file { storage = new.file.storage } }
@@ -117,14 +118,14 @@ module _ {S F : Type 0} where
       pub leaks : leaked_in new ≡ leaked_in old
       pub silent : WritesNothing old new
 
-    -- A part leaves it the same image. It writes nothing, modifies no cached table, and leaves the rest as above. The header's cluster is left alone where the header names no table there.
+    -- A part of the call: it is the same image, and nothing is written. If no cached table was modified, none is afterwards. The header's cluster stays the same, if the header has no table there.
     pub record ReadsAnew (old new : Qcow2 S F) : Type 0 where
       pub part : ImageStepWhere view (NamesTablesBehind new.file.header.fields) old new
       pub rest : KeepsAllButTables old new
       pub silent : WritesNothing old new
       pub unmodified : HoldsNothingModified old → HoldsNothingModified new
 
-    -- so does one that reads the tables and takes them over: the caches and the list of freed clusters stay
+    -- The tables are read, and replace those in memory together with their pointers. Nothing is written, and the caches and the list of clusters to free stay the same.
     pub record TakesTables (old new : Qcow2 S F) : Type 0 where
       pub part : ImageStepWhere view (NamesTablesBehind new.file.header.fields) old new
       pub rest : new ≡ record old { file = record old.file { storage = new.file.storage; header = new.file.header }; l1_table = new.l1_table; allocator = new.allocator }
@@ -145,7 +146,7 @@ module _ {S F : Type 0} where
         pub reftable : IfSome image.allocator (λ a. HasReftable view image.file a.reftable)
 
       module _ (old new : Qcow2 S F) (result : Result (Unit {0}) ImageError) where
-        -- What holds of every call. Nothing is written, no cluster is freed, and no cached table is modified where none was. Answered, no table is cached, and those of an honest storage were read.
+        -- What every call does. It writes nothing and frees no cluster. If no cached table was modified, none is afterwards. If it succeeds, no table is cached, and the tables in memory were read from the storage, if that is honest.
         pub record InvalidatingStep : Type 0 where
           pub image : IsSameImage old new
           pub marks : MarksFailed old new result
@@ -158,7 +159,7 @@ module _ {S F : Type 0} where
           pub dropped : OnOk result (HoldsNoTable new)
           pub read : (view_in view old.file).is_honest → OnOk result (IsAsStored new)
 
-        -- Why it is refused, and what then. The header, the L1 table and the reftable stay as they are. A failed image stays so altogether. Of any other one the clusters to be freed are forgotten, whatever the answer is.
+        -- Why the call is refused, and what it leaves then: the header, the L1 table and the reftable in memory are unchanged. A failed image stays as it is. Any other one forgets which clusters wait to be freed, whatever the answer.
         pub record InvalidatingFails : Type 0 where
           pub failed : IsTrue (is_failed old) → (result ≡ Err I.Failed) × (new ≡ old)
           pub kept : OnErr result (KeepsTables old new)
@@ -167,7 +168,7 @@ module _ {S F : Type 0} where
           pub why : is_failed old ≡ false → (view_in view old.file).is_honest → IfErr result (IsReasonAgainstReading old new)
           pub list : is_failed old ≡ false → HasNothingToFree new
 
-        -- On a sound image a fault and want of memory alone refuse it where nothing is prepared, and it is told as still in use only where something is. On one at rest nothing changes that a call shows.
+        -- A sound image with nothing to free or to write looks the same after the call. While a mapping that isn't existing is prepared, the call is refused 21 or 14. Otherwise it is refused only for a fault.
         pub record InvalidatesSoundly : Type 0 where
           pub same : IsAtRest old → AnswersCall view backing old new [] (λ done was is. is ≡ was) result
           pub fault : (out : List (Option Prepared)) → (abstract_of view backing old out).is_sound → ¬ HasPrepared out → IfErr result IsFault

@@ -1,4 +1,4 @@
-//! Dropping what an image keeps of its file, and reading its tables anew.
+//! Dropping everything that an image caches, and reading its tables again.
 ghost use Rattle.std.specs.Prelude.{◌≡◌, ◌↔◌, ◌<◌, ◌≤◌, ◌*◌, IfErr, IfOk, IfSome, IsTrue, List, [], OnErr, OnOk, Option};
 ghost use Rattle.qcow2_alloc.specs.ImageError.{IsOfTables};
 ghost use Rattle.qcow2_alloc.specs.ImageFile.{view_in, contents_in, HasReftable};
@@ -23,7 +23,7 @@ use image_access::{Storage, WrappedFormat};
 use qcow2_metadata::{Header, MAX_REFTABLE_ENTRIES};
 use std::mem;
 
-// Whether the reftable of another header has more clusters than one may have, by the cluster size of this one.
+// Whether the other header's reftable exceeds the limit with the cluster size of this header.
 fn is_too_long(header: &Header, other: &Header) -> bool
     ensures { IsTrue result ↔ (1048576 < other.now.fields.reftable_clusters * entries_per_cluster header.now.fields) }
 {
@@ -31,7 +31,7 @@ fn is_too_long(header: &Header, other: &Header) -> bool
     entries > MAX_REFTABLE_ENTRIES as u64
 }
 
-// Takes over where the L1 table and the reftable of another header stand, where these aren't too long.
+// Takes the pointers to the L1 table and the reftable from another header, whose reftable is within the limit.
 fn take_places(header: &mut Header, other: &Header)
     requires { other.now.fields.reftable_clusters * entries_per_cluster header.old.fields ≤ 1048576 }
     ensures { header.new ≡ with_fields header.old (with_tables_of header.old.fields other.now.fields) }
@@ -44,13 +44,13 @@ fn take_places(header: &mut Header, other: &Header)
 
 #[tactic(auto, using(crate::proofs::Call::MetErrors::tables_met, crate::proofs::Call::MetErrors::storage_met, crate::proofs::Call::MetErrors::metadata_met))]
 impl<S: Storage, F: WrappedFormat<S>> Qcow2<S, F> {
-    /// Drops all that it keeps of its file, unwritten, and reads anew where its tables stand, the L1 table and the reftable:
-    /// for an image that another program wrote to. Call `flush` before, with no mapping prepared: what isn't flushed is
-    /// lost, and clusters that wait to be freed stay leaked. The disk below is left alone. Refused, it still has the header, the
-    /// L1 table and the reftable that it had.
-    /// Refused 16 (failed). Then 21 (still in use) while a mapping is prepared that isn't existing; by then the clusters to
-    /// be freed are forgotten, and the L2 tables of no such mapping are dropped. Then what reading meets: 19 (metadata),
-    /// 13 (limit), 4 (unaligned table). Where the work meets them: 14 (memory), 15 (storage).
+    /// Drops everything that is cached, unwritten, and reads the pointers to the tables, the L1 table and the reftable again:
+    /// for an image that another program wrote to. Call `flush` before, with no mapping prepared: everything that is not flushed is
+    /// lost, and clusters that wait to be freed stay leaked. The backing disk stays the same. After a refusal the header, the L1 table
+    /// and the reftable in memory are unchanged.
+    /// Refused 16 (failed); then 21 (still in use) while a mapping is prepared that isn't existing. By then the list of clusters to
+    /// free is empty, and only the L2 tables of such mappings are left. Then 19 (metadata), 13 (limit) and
+    /// 4 (unaligned table) for what is read. Refused 14 (memory) and 15 (storage) if the work meets them.
     pub fn invalidate_cache(&mut self) -> Result<(), ImageError>
         ensures step { InvalidatingStep S.view F.backing self.old self.new result }
         ensures fails { InvalidatingFails S.view F.backing self.old self.new result }
@@ -101,7 +101,7 @@ impl<S: Storage, F: WrappedFormat<S>> Qcow2<S, F> {
         }
     }
 
-    // Reads where the L1 table and the reftable stand: the header in memory with these places, without its names.
+    // Reads the pointers to the L1 table and the reftable. Returns the header in memory with these pointers, without its names.
     fn read_places(&mut self) -> Result<Header, ImageError>
         ensures step { ReadsPlaces S.view self.old self.new }
         ensures fails { ImageFails S.view F.backing self.old self.new result IsOfTables }
@@ -125,7 +125,7 @@ impl<S: Storage, F: WrappedFormat<S>> Qcow2<S, F> {
         Ok(places)
     }
 
-    // Reads the L1 table and the reftable at these places, and takes them over with the places: all together, or none.
+    // Reads the L1 table and the reftable at these pointers. Replaces the tables and pointers in memory by them, or none if it is refused.
     fn take_over(&mut self, places: Header) -> Result<(), ImageError>
         requires { ArePlacesFor self.old places }
         ensures step { TakesTables S.view self.old self.new }
@@ -149,8 +149,8 @@ impl<S: Storage, F: WrappedFormat<S>> Qcow2<S, F> {
         Ok(())
     }
 
-    // Reads the L1 table and, for writing, the reftable, and then takes both over. No cluster that these name is taken then,
-    // even if it isn't counted.
+    // Reads the L1 table and, for writing, the reftable, and replaces those in memory if all could be read. The clusters that these refer
+    // to are not allocated then, even if their refcounts are 0.
     fn read_tables(&mut self) -> Result<(), ImageError>
         ensures step { ReadsTables S.view self.old self.new }
         ensures fails { ImageFails S.view F.backing self.old self.new result IsMet }

@@ -30,14 +30,14 @@ module _ {S F : Type 0} (view : S → StorageView) (backing : F → BackingView)
     pub header_cluster : StaysBehindHeader view old new
     pub marks : MarksAtOnce view (refusal_in reply) old new
 
-  -- An invalidation leaves it the same image, tells each fault and marks it so. It writes nothing where no cached table is modified.
+  -- An invalidation: it is the same image, the reply reports every fault that was counted, and the image is marked as failed by the rule. It writes nothing if no cached table is modified.
   pub record InvalidatingCommand (reply : Reply) : Type 0 where
     pub image : IsSameImage old new
     pub faults : CommandCounts view backing old new reply
     pub marks : MarksAtOnce view (refusal_in reply) old new
     pub quiet : ReadsQuietly view old new
 
-  -- The end of a prepared mapping that is given up counts no fault and marks nothing.
+  -- Dropping a prepared mapping counts no fault and marks nothing.
   pub record ReleasingStep : Type 0 where
     pub image : IsSameImage old new
     pub faults : SameFaults view backing old new

@@ -182,14 +182,14 @@ module _ {S F : Type 0} (view : S → StorageView) (backing : F → BackingView)
   StopsRightly offset bytes R.Done = HeedsMappings view backing old before offset bytes (Ok tt)
   StopsRightly offset bytes reply = Unit {0}
 
-  -- While a mapping is prepared that isn't existing an invalidation is refused, 21, or 14 where the list of tables that stay has no room. Else it is refused for a fault alone.
+  -- While a mapping that isn't existing is prepared, an invalidation is refused 21, or 14 if there is no memory for the list of pinned tables. Otherwise it is refused only for a fault.
   pub record HeedsInUse (reply : Reply) : Type 0 where
     pub some : HasPrepared before → IsSomeAnd (refusal_in reply) IsOfPrepared
     pub none : ¬ HasPrepared before → IfSome (refusal_in reply) IsFault
     pub told : IfSome (refusal_in reply) (λ e. IsStillInUse e → HasPrepared before)
 
-  -- What a prepared mapping refuses, and nothing else: a range of its L2 table (9), a smaller disk (17), an invalidation (21). What is put, or read as it was looked up, is refused as outdated (10) only where it is. A commit and a flush are refused for a fault alone.
-  -- What is read, looked up or put is refused for a fault, and for what has a cause in the image or in what is prepared.
+  -- What prepared mappings refuse: ranges of a pinned L2 table (9), a shrink (17) and an invalidation (21), and nothing else. Putting, and reading what was looked up, is refused 10 only if the mapping is outdated. Commits and flushes are refused only by a fault.
+  -- Reads, lookups and puts are refused by a fault, or for a cause in the image or in its prepared mappings.
   abbrev pub MeetsOnSound : (found : ℕ → Option Mapping) → Command → Reply → Type 0
   MeetsOnSound found (C.Read offset n) reply = IfSome (refusal_in reply) (IsMetReadingRange before offset (offset + n) old.file.header.fields (known_in view old.file))
   MeetsOnSound found (C.Write offset bytes) reply = (refusal_in reply ≡ Some I.TablePrepared → IsUnderMappingIn old.file.header.fields offset (offset + length bytes.items) before) × StopsRightly offset bytes.items reply

@@ -58,7 +58,7 @@ module _ {S F : Type 0} (view : S → StorageView) (backing : F → BackingView)
   abbrev pub HadNoRoom : Qcow2 S F → List Reply → Type 0
   HadNoRoom image replies = (replies ≡ []) × IsKeptSince before (view (storage_of_image image))
 
-  -- Where a consistent image stands on an honest storage, and the disk below is honest, it opens and runs as the headline says, without an invalidation. Opening it may be refused for few reasons alone, and then each moment has a consistent image with the same disk.
+  -- If the storage is honest and holds a consistent image, and the backing disk is honest, the image opens and, without the command `InvalidateCache`, runs as the headline says. If opening is refused, it is for one of three reasons, and every moment has a consistent image with the same disk.
   abbrev pub Headline : List Command → Result (Qcow2 S F × Vec Reply Global) (S × ImageError) → Type 0
   Headline commands (Ok run) = before.is_honest → IsConsistent (byte_at before.contents) → IsHonestBacking view backing below → HasNoInvalidation (map command_of commands)
       → HadNoRoom run.0 run.1.items ⊎ IsHeadline (image_abstraction view backing) before (bytes_below backing below) run.0 (map command_of commands) (map reply_of run.1.items)
@@ -68,14 +68,14 @@ module _ {S F : Type 0} (view : S → StorageView) (backing : F → BackingView)
   abbrev pub OpensAgainSince : StorageView → Type 0
   OpensAgainSince new = before.is_honest → IsConsistent (byte_at before.contents) → IsHonestBacking view backing below → (c : List ℕ) → new.had_since before.moment c → OpensAgain c
 
-  -- so it is where it was opened and ran without an invalidation, and where it was refused
+  -- Every content since then opens again, if opening was refused, or if the run had no command `InvalidateCache`.
   abbrev pub EachMomentOpensAgain : List Command → Result (Qcow2 S F × Vec Reply Global) (S × ImageError) → Type 0
   EachMomentOpensAgain commands (Ok run) = HasNoInvalidation (map command_of commands) → OpensAgainSince (view (storage_of_image run.0))
   EachMomentOpensAgain commands (Err refused) = OpensAgainSince (view refused.0)
 
-  -- The image that was opened, whatever the contents were, is over the disk below, has its number, is to be written and works. Opening changed the autoclear field alone, and the replies tell of it.
-  -- Where the header names its tables behind cluster 0, none stands there as it is opened. Then the run leaves the bytes there alone, without an invalidation, but for the header's numbers.
-  -- From consistent contents, over an honest disk, it is sound, has each surplus as they had it, and stands at the begin of a run from the disk that it showed.
+  -- The image that was opened, whatever it contains: it is over the given backing disk, has its number, is opened for writing and has not failed. Opening changed only the autoclear field. The replies match the image.
+  -- If the header's pointers lead behind cluster 0, no table lies in cluster 0 when the image is opened, and a run without the command `InvalidateCache` changes only header fields there.
+  -- If the contents are consistent and the backing disk is honest, the image is sound, has the surplus of each cluster in them, and begins a run from the disk that it shows.
   pub record IsToldOfOpened (number : ℕ) (commands : List Command) (image : Qcow2 S F) (replies : List Reply) : Type 0 where
     pub opened : Qcow2 S F
     pub over : opened.backing ≡ below

@@ -167,16 +167,16 @@ module _ {S F : Type 0} (view : S → StorageView) (backing : F → BackingView)
   abbrev pub IsUntouched : List Reply → Type 0
   IsUntouched replies = (replies ≡ []) × (new ≡ old)
 
-  -- without an invalidation the replies go on with each run that the image stands at, and then all mappings are let go
+  -- Without the command `InvalidateCache`, the replies continue every run that agrees with the image, and then all mappings are dropped.
   abbrev pub RunsThrough : List Command → List Reply → Type 0
   RunsThrough commands replies = HasNoInvalidation (map command_of commands) → (x : Setting) (s : State) →
       RefinesState x (abstract_of view backing old []) s → IsUntouched replies ⊎ RefinesWholeRun (image_abstraction view backing) x old new (begun s) (map command_of commands) (map reply_of replies)
 
-  -- On an image that was just opened, the lookups at the begin of the run find what is in the bytes of its file.
+  -- On an image that was just opened, the lookups at the begin of a run without the command `InvalidateCache` find what is in the bytes of its file.
   abbrev pub LookupsFindContents : List Command → List Reply → Type 0
   LookupsFindContents commands replies = HasNoInvalidation (map command_of commands) → IsOpened (abstract_of view backing old []) → LooksUp (contents_in view old.file) (is_some old.backing) (map command_of commands) (map reply_of replies)
 
-  -- without an invalidation they mean the disk, of an image that was just opened
+  -- On an image that was just opened, the replies are a run of its disk, without the command `InvalidateCache`.
   abbrev pub RunRefinesDisk : List Command → List Reply → Type 0
   RunRefinesDisk commands replies = HasNoInvalidation (map command_of commands) → IsOpened (abstract_of view backing old []) → IsUntouched replies ⊎ RefinesDisk (image_abstraction view backing) old new (map command_of commands) (map reply_of replies)
 

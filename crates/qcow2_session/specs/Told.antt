@@ -1,4 +1,4 @@
--- What the replies of a run tell of the image itself, beside what they mean in words of a guest's disk.
+-- What the replies of a run say of the image itself, beyond their meaning for the guest's disk.
 use Rattle.std.specs.Prelude.{ℕ, ◌<◌, ◌≤◌, ◌≡◌, ◌⊎◌, false, IsTrue, IsNone, List, [], ◌∷◌, MatchOption, Option, Some, None, is_none, replicate, map, slice_get, slice_set}
 use Rattle.image_access.specs.Backing.{BackingView}
 use Rattle.image_access.specs.Moments.{StorageView}
@@ -156,7 +156,7 @@ module _ {S F : Type 0} (view : S → StorageView) (backing : F → BackingView)
   StepsAlong x first s commands replies points end = ⊥
 
   module _ (old new : Qcow2 S F) where
-    -- A whole run, through these points, after which the mappings that are left are let go, which fails no image. Without an invalidation its commands are steps of each run that the image stands at.
+    -- A whole run through these points, after which the mappings that are left are dropped. That fails no image. Without the command `InvalidateCache`, the commands are steps of every run that agrees with the image.
     pub record IsToldRun (commands : List Command) (replies : List Reply) : Type 0 where
       pub points : List (RunPoint S F)
       pub last : RunPoint S F

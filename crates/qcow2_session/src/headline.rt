@@ -19,13 +19,13 @@ use image_access::{Storage, WrappedFormat};
 use qcow2_image::{ImageError, Qcow2, Qcow2OpenBuilder};
 use std::alloc::Global;
 
-/// Opens an image for writing, over the disk below where one is given, and answers each command as `run` does. With none the image is
-/// to need no other file; with one, no file but that disk. Tables that are still modified stay in memory until a `flush`. A refused
-/// opening hands the storage back; images that are open together have different numbers. Without a command `InvalidateCache`, a
-/// consistent image opens again wherever this was stopped: whatever the storage held since is consistent too.
-/// Refused for the header 19 (metadata), 13 (limit), 4 (unaligned table), in this order. Then 12 (dependency) for an image that needs
-/// a file which is missing: it stays as it is. For its tables 13 (limit), 19 (metadata), and where the work meets them 14 (memory),
-/// 15 (storage).
+/// Opens an image for writing, over the backing disk if one is given, and answers each command as `run` does. Without a backing disk the
+/// image must need no other file, with one no other file than that. Modified tables stay in memory until a `flush`. If opening is
+/// refused, the storage is returned. Images that are open together must have different numbers. Without the command `InvalidateCache`, a
+/// consistent image opens again wherever this was stopped: every content that the storage had since is consistent too.
+/// Refused for the header 19 (metadata), 13 (limit), 4 (unaligned table), in this order; then 12 (dependency) for an image that needs
+/// a missing file, which stays the same; then for its tables 13 and 19. Refused 14 (memory) and
+/// 15 (storage) if the work meets them.
 pub fn open_and_run<S: Storage, F: WrappedFormat<S>>(
     alloc: Global,
     storage: S,

@@ -1,4 +1,4 @@
-//! Commands, one after the other, on one image.
+//! Commands, one after another, on one image.
 ghost use Rattle.qcow2_session.specs.CallSteps.{CommandStep, InvalidatingCommand, ReadingParts, ReleasingStep};
 ghost use Rattle.qcow2_session.specs.CallSteps.{SpecialStep, WritesSoundly};
 ghost use Rattle.qcow2_session.specs.CallSteps.{WritingParts};
@@ -129,9 +129,9 @@ pub enum Command {
     Flush,
     /// `sync`. Reply: `Done`.
     Sync,
-    /// `invalidate_cache`, which drops what isn't flushed. Replied `Done`.
+    /// `invalidate_cache`, which drops everything that is not flushed. Reply: `Done`.
     InvalidateCache,
-    /// `resize_grow` to a size, in a mode. Replied `Done`.
+    /// `resize_grow` to a size, in a mode. Reply: `Done`.
     ResizeGrow {
         size: u64,
         mode: PreallocateMode,
@@ -747,7 +747,7 @@ fn invalidate<S: Storage, F: WrappedFormat<S>>(image: &mut Qcow2<S, F>) -> Reply
     Reply::Done
 }
 
-// Discards what stands in a slot.
+// Drops the mapping in a slot.
 fn release_slot<S: Storage, F: WrappedFormat<S>>(image: &mut Qcow2<S, F>, slot: Option<Prepared>)
     requires { IfSome slot (λ p. image_of p ≡ number_of image.old) }
     ensures step { ReleasingStep S.view F.backing image.old image.new }

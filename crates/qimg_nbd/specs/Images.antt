@@ -37,7 +37,7 @@ device_of view backing image = let v = abstract_of view backing image [] in reco
   unit = v.setting.cluster_size;
 }
 
--- the error that a client is told of a refusal: a read-only image, a range beyond the size, no place left, no memory, and all others
+-- The error that a client is sent for a refusal: a read-only image, a range beyond the size, no room, no memory, or any other.
 abbrev pub error_of : ImageError → Errno
 error_of I.ReadOnly = E.NotPermitted
 error_of I.BeyondSize = E.Invalid
@@ -45,19 +45,19 @@ error_of I.Limit = E.NoSpace
 error_of I.Memory = E.NoMemory
 error_of e = E.Io
 
--- what a run of the disk is told as: zeros that the image names may have a place
+-- The state for the mapping of a run. Zero clusters may be allocated.
 abbrev pub told_state : MappingKind → State
 told_state (M.Zero true) = Run.Zero
 told_state (M.Zero false) = Run.Hole
 told_state kind = Run.Data
 
 module _ {S F : Type 0} (view : S → StorageView) (backing : F → BackingView) (old new : Qcow2 S F) where
-  -- A flush that was answered, as the image's own call says it: the image could be used, and its storage has all that it knows.
+  -- A flush that succeeded, by the contract of the image: the image had not failed, and everything known is on its storage.
   pub record Flushes : Type 0 where
     pub usable : is_failed old ≡ false
     pub flushes : FlushesImage view backing old new (Ok (tt {0}))
 
-  -- A sync that was answered, as the image's own call says it: the image could be used, reads as before, and its storage kept its contents all the time.
+  -- A sync that succeeded, by the contract of the image: the image had not failed, it reads as before, and an honest storage kept its contents all the time.
   pub record Syncs : Type 0 where
     pub usable : is_failed old ≡ false
     pub step : ReadingCall view backing {T = Unit {0}} old new (Ok (tt {0}))

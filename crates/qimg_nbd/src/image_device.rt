@@ -29,8 +29,8 @@ impl<S: Storage, F: WrappedFormat<S>> ImageDevice<S, F> {
     }
 }
 
-// The error that a client is told of a refusal: 12 of memory, 28 where no place is left, 1 of a read-only image, 22 of a range beyond the
-// size, and 5 of all others.
+// The error for a refusal that a client is sent: 12 for memory, 28 for lack of room, 1 for a read-only image, 22 for a range beyond the
+// size, and 5 for all others.
 fn errno_of(refusal: &ImageError) -> Errno
     ensures { result ≡ error_of refusal.now }
 {
@@ -43,7 +43,7 @@ fn errno_of(refusal: &ImageError) -> Errno
     }
 }
 
-// What a run of the disk is told as. Zeros that the image names may have a place.
+// The state for the mapping of a run. Zero clusters may be allocated.
 fn state_of(kind: &MappingKind) -> State
     ensures { result ≡ told_state kind.now }
 {
