@@ -1,5 +1,6 @@
-//! Dropping everything that an image caches, and reading its tables again.
-ghost use Rattle.std.specs.Prelude.{◌≡◌, ◌↔◌, ◌<◌, ◌≤◌, ◌*◌, IfErr, IfOk, IfSome, IsTrue, List, [], OnErr, OnOk, Option};
+//! Dropping what an image keeps of its file, and reading its tables anew.
+ghost use Rattle.std.specs.Prelude.{◌≡◌, ◌↔◌, ◌<◌, ◌≤◌, ◌*◌, IfErr, IfOk, IfSome, IsTrue, List, []};
+ghost use Rattle.std.specs.Prelude.{OnErr, OnOk, Option};
 ghost use Rattle.qcow2_alloc.specs.ImageError.{IsOfTables};
 ghost use Rattle.qcow2_alloc.specs.ImageFile.{view_in, contents_in, HasReftable};
 ghost use Rattle.qcow2_laws.specs.CrashInvariant.{Pending};
@@ -154,7 +155,8 @@ impl<S: Storage, F: WrappedFormat<S>> Qcow2<S, F> {
     fn read_tables(&mut self) -> Result<(), ImageError>
         ensures step { ReadsTables S.view self.old self.new }
         ensures fails { ImageFails S.view F.backing self.old self.new result IsMet }
-        ensures refused { OnErr result ((self.new.l1_table ≡ self.old.l1_table) × (self.new.allocator ≡ self.old.allocator)) }
+        ensures refused { OnErr result ((self.new.l1_table ≡ self.old.l1_table)
+            × (self.new.allocator ≡ self.old.allocator)) }
         ensures read { (view_in S.view self.old.file).is_honest
             → OnOk result (HasL1Table S.view F.backing self.new.file self.new.l1_table
             × IfSome self.new.allocator (λ a. HasReftable S.view self.new.file a.reftable)) }
