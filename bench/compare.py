@@ -24,6 +24,7 @@ QIMG_NBD = os.environ.get("QIMG_NBD", os.path.join(ROOT, "build", "qimg-nbd"))
 MIB = 1048576
 SIZES = (65536, 4096, 512)
 LEAST = 3
+PEAK = ["/usr/bin/time", "-q", "-f", "%M", "-o", "memory"]
 
 
 @dataclass
@@ -46,7 +47,7 @@ class Side:
             it.writelines(f"{line}\n" for line in self.lines)
         with open("lines", "rb") as given:
             before, start = resource.getrusage(resource.RUSAGE_CHILDREN), time.monotonic()
-            done = subprocess.run(["/usr/bin/time", "-q", "-f", "%M", "-o", "memory", *self.words], stdin=given, stdout=subprocess.DEVNULL, stderr=subprocess.DEVNULL)
+            done = subprocess.run([*PEAK, *self.words], stdin=given, stdout=subprocess.DEVNULL, stderr=subprocess.DEVNULL)
             seconds, after = time.monotonic() - start, resource.getrusage(resource.RUSAGE_CHILDREN)
         if done.returncode not in self.statuses:
             raise AssertionError(f"{' '.join(self.words)} ended with status {done.returncode}")
@@ -72,7 +73,8 @@ class Server:
         _, status, used = os.wait4(server, 0)
         if status != 0:
             raise AssertionError(f"{' '.join(self.words)} ended with status {status}")
-        return used.ru_utime + used.ru_stime, time.monotonic() - start, used.ru_maxrss
+        with open("memory", encoding="utf-8") as it:
+            return used.ru_utime + used.ru_stime, time.monotonic() - start, int(it.read())
 
     def accepting(self):
         """Starts a server that speaks on its standard input and output, once a client has come, as socat and inetd do."""
@@ -85,13 +87,13 @@ class Server:
             os.unlink("s")
             os.dup2(taken.fileno(), 0)
             os.dup2(taken.fileno(), 1)
-            os.execvp(self.words[0], self.words)
+            os.execvp(PEAK[0], [*PEAK, *self.words])
         listener.close()
         return child
 
     def listening(self):
         """Starts a server that makes the socket itself."""
-        server = subprocess.Popen(self.words).pid
+        server = subprocess.Popen([*PEAK, *self.words]).pid
         while not os.path.exists("s"):
             time.sleep(0.001)
         return server

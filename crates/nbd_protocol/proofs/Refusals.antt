@@ -128,17 +128,17 @@ change_of_call d to r f = record { failed = λ x. faults_of r (f.failed x); caus
 -- a part that is done later, whose error is handed on
 pub change_fails_later : {T U : Type 0} (a b : DeviceView) (to to' : ℕ) (e : Errno) (r : Result T Errno) → IsErrAnd r (λ x. x ≡ e) → ChangeFails {T = U} b to (Err e) → IsSameDevice a b
     → (a.is_sound → b.is_sound × (b.size ≡ a.size) × (to ≤ to')) → ChangeFails a to' r
-change_fails_later a b to to' e r is f same sound_later = record {
+change_fails_later a b to to' e r is f same after = record {
   failed = λ x. handed IsFault e r is (f.failed (same.failed x));
-  cause = λ sound. let s = sound_later sound in handed (RefusesToChange a to') e r is (change_later a b to to' e same.read_only s.1 s.2 (f.cause s.0));
+  cause = λ sound. let s = after sound in handed (RefusesToChange a to') e r is (change_later a b to to' e same.read_only s.1 s.2 (f.cause s.0));
 }
 
 -- or whose result is
 pub change_fails_last : {T : Type 0} (a b : DeviceView) (to to' : ℕ) (r : Result T Errno) → ChangeFails b to r → IsSameDevice a b
     → (a.is_sound → b.is_sound × (b.size ≡ a.size) × (to ≤ to')) → ChangeFails a to' r
-change_fails_last a b to to' r f same sound_later = record {
+change_fails_last a b to to' r f same after = record {
   failed = λ x. f.failed (same.failed x);
-  cause = λ sound. let s = sound_later sound in weaker (RefusesToChange b to) (RefusesToChange a to') r (λ e. change_later a b to to' e same.read_only s.1 s.2) (f.cause s.0);
+  cause = λ sound. let s = after sound in weaker (RefusesToChange b to) (RefusesToChange a to') r (λ e. change_later a b to to' e same.read_only s.1 s.2) (f.cause s.0);
 }
 
 -- a change is refused of a request that passed the first tests
