@@ -1,6 +1,6 @@
 -- What a client is told of a refused call of an image.
-use Rattle.std.proofs.Common.{[], List, ◌≡◌, ◌⊎◌, inl, inr, ℕ, ◌+◌, ◌<◌, ◌≤◌, Bool, true, false, Option, Some, None, Result, Ok, Err, refl, sym, ap, subst, ◌∙◌, arith}
-use Rattle.std.specs.Prelude.{◌&&◌, IfErr, IfSome, IsErrOf, IsTrue, nat_lt, not}
+use Rattle.std.proofs.Common.{[], List, ◌≡◌, ◌⊎◌, inl, inr, ℕ, ◌+◌, ◌<◌, Bool, true, false, Option, Some, None, Result, Ok, Err, refl, sym, ap, subst, ◌∙◌, arith}
+use Rattle.std.specs.Prelude.{◌&&◌, IfSome, IsTrue, nat_lt, not}
 use Rattle.std.specs.Option.{option_or}
 use Rattle.std.proofs.lemmas.Grind.{common_steps}
 use Rattle.image_access.specs.Backing.{BackingView}
@@ -18,7 +18,7 @@ use Rattle.qcow2_image.specs.Clearing.{refuses_clearing}
 use Rattle.qcow2_image.specs.Image.{IsSameImage, is_external, is_failed, is_writable, size_of}
 use Rattle.qcow2_image.specs.ImageInvariant.{abstract_of}
 use Rattle.qcow2_image.specs.MetAlone.{IsMetLooking, IsMetReadingRange}
-use Rattle.qcow2_image.specs.Refusals.{IsMet, IsMetPreparing, passes, refuse_if, refuses_to_prepare, refuses_to_read, unusable}
+use Rattle.qcow2_image.specs.Refusals.{IsMetPreparing, passes, refuse_if, refuses_to_prepare, refuses_to_read, unusable}
 use Rattle.qcow2_image.specs.declared.image.Qcow2.{Qcow2}
 use Rattle.qcow2_image.specs.declared.prepared.Prepared.{Prepared}
 use Rattle.qcow2_image.proofs.HiddenBytes.{header_is}

@@ -1,13 +1,13 @@
 -- What the calls of an image do to it as a block device.
-use Rattle.std.proofs.Common.{◌≡◌, ◌⊎◌, inl, inr, ℕ, ◌+◌, ◌-◌, ◌<◌, ◌≤◌, ◌^◌, List, [], ◌∷◌, length, take, Ok, refl, sym, ap, subst, ◌∙◌, arith, min}
-use Rattle.std.specs.Prelude.{IsTrue, Result, Err, Some, slice_index}
+use Rattle.std.proofs.Common.{◌≡◌, ◌⊎◌, inl, inr, ℕ, ◌+◌, ◌-◌, ◌<◌, ◌≤◌, List, [], length, take, sym, ap, subst, ◌∙◌, arith, min}
+use Rattle.std.specs.Prelude.{IsTrue, Some}
 use Rattle.std.proofs.lemmas.Bool.{cases_lt}
 use Rattle.std.proofs.lemmas.List.{get_or-take, length-take-le}
 use Rattle.std.proofs.lemmas.Nat.{pow_pos}
 use Rattle.image_access.specs.Backing.{BackingView}
 use Rattle.image_access.specs.Moments.{StorageView}
 use Rattle.qcow2_metadata.specs.Bytes.{byte_at, laid_over}
-use Rattle.qcow2_metadata.specs.Guest.{Value, known_byte}
+use Rattle.qcow2_metadata.specs.Guest.{known_byte}
 use Rattle.qcow2_metadata.specs.Header.{cluster_size}
 use Rattle.qcow2_disk.specs.AbstractImages.{AbstractImage, Guest, Setting, guest_of}
 use Rattle.qcow2_disk.specs.Calls.{AnsweredEffect, CallEffect, MayWrite as MayWriteTo, IsSame, Refusal, RefusedEffect, Shows as ShowsBytes, WritesSome, another, memory, not_compressed, storage, with_disk}

@@ -1,6 +1,6 @@
 -- What a lookup of an image tells of its disk.
-use Rattle.std.proofs.Common.{◌≡◌, inl, inr, ℕ, ◌+◌, ◌-◌, ◌/◌, ◌<◌, ◌≤◌, Bool, true, false, List, [], is_some, refl, sym, ap, ◌∙◌, subst, arith}
-use Rattle.std.specs.Prelude.{IsTrue, Some}
+use Rattle.std.proofs.Common.{◌≡◌, inl, inr, ℕ, ◌+◌, ◌-◌, ◌/◌, ◌<◌, ◌≤◌, Bool, true, false, [], is_some, refl, sym, ap, ◌∙◌, subst, arith}
+use Rattle.std.specs.Prelude.{IsTrue}
 use Rattle.std.proofs.lemmas.Bool.{cases_lt}
 use Rattle.image_access.specs.Backing.{BackingView}
 use Rattle.image_access.specs.Moments.{StorageView}
@@ -19,11 +19,10 @@ use Rattle.qcow2_image.specs.ImageInvariant.{ImageInvariant, abstract_of, backin
 use Rattle.qcow2_image.specs.declared.image.Qcow2.{Qcow2}
 use Rattle.qcow2_image.specs.declared.mapping.MappingKind.{MappingKind}
 use Rattle.qcow2_image.specs.declared.mapping.MappingKind.TheVariants as M
-use Rattle.qcow2_image.specs.declared.prepared.Prepared.{Prepared}
 use Rattle.qcow2_image.proofs.HiddenBytes.{header_is}
 use Rattle.qcow2_image.proofs.Map.Reading.{none_below, zero_shown}
 use Rattle.nbd_protocol.specs.declared.device.State.{State}
-use Rattle.nbd_protocol.specs.Devices.{DeviceView, ShowsZeros, Stays, Tells, is_zeros}
+use Rattle.nbd_protocol.specs.Devices.{Stays, Tells, is_zeros}
 use Rattle.qimg_nbd.specs.Images.{byte_of, device_of, told_state}
 use Rattle.qimg_nbd.proofs.Errors.{size_is}
 use Rattle.qimg_nbd.proofs.Images.{answered_same}
