@@ -1,6 +1,7 @@
 pub mod Digits
 pub mod Known
 pub mod Imported
+pub mod Layered
 pub mod Exported
 pub mod Texts
 pub mod Counted

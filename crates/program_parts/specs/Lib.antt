@@ -2,6 +2,7 @@ pub mod Comparing
 pub mod Conversions
 pub mod Copies
 pub mod Disks
+pub mod Layers
 pub mod Lines
 pub mod Numbers
 pub mod Places

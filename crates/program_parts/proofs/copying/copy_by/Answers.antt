@@ -1,9 +1,7 @@
-use Rattle.std.proofs.Common.{◌≡◌, ap, sym, subst, ◌∙◌}
 use Rattle.qcow2_alloc.specs.ImageError.{IsFault, of_storage}
 use Rattle.qcow2_alloc.proofs.AllocationSteps.{fault_of_storage}
 use Rattle.qcow2_alloc.proofs.KeptTables.Causes.{given_err}
-use Rattle.image_access.specs.Moments.{StorageView}
-use Rattle.program_parts.proofs.Copied.{copied_from, keeps_none, keeps_raw, keeps_resized, keeps_then}
+use Rattle.program_parts.proofs.Copied.{copied_from, keeps_raw, keeps_resized, keeps_then}
 use Rattle.program_parts.proofs.copying.copy_by.Goals as goal
 
 pub returns-in_err-size-clause-step : goal.returns-in_err-size-clause-step

@@ -1,5 +1,3 @@
-use Rattle.std.proofs.Common.{subst, sym}
-use Rattle.program_parts.proofs.OnlyRead.{left_then}
 use Rattle.program_parts.proofs.Placed.{made_now, replaces_all, replaces_maybe}
 use Rattle.program_parts.proofs.placing.convert.Goals as goal
 
