@@ -256,7 +256,7 @@ def why_an_image_is_refused():
 def names_what_the_lines_say():
     report = json.loads(tools("check", "--output=json", "disk")[1])
     lines = tools("check", "disk")[1].splitlines()
-    named = [" ".join(str(value) for value in it.values()) for it in report["breaches"] + report["leaked-clusters"]]
+    named = [" ".join(str(value) for key, value in it.items() if "guest-ranges" not in key) for it in report["breaches"] + report["leaked-clusters"]]
     equal((named, report["corruptions"], report["leaks"]), (lines[:-1], len(report["breaches"]), len(report["leaked-clusters"])), "what is named")
     return report
 
@@ -269,10 +269,50 @@ def check_names_each_breach():
     equal(names_what_the_lines_say()["leaked-clusters"], [{"kind": "leak", "cluster": at, "count": 1, "named": 0} for at in (4, 5)], "leaks")
     check_of_a_consistent_image()
     put("disk", 1034, bytes(2))
-    equal(names_what_the_lines_say()["breaches"], [{"kind": kind, "cluster": 5, "count": 0, "named": 1} for kind in ("under", "copied")], "a missing count")
+    equal(names_what_the_lines_say()["breaches"], [{"kind": kind, "cluster": 5, "count": 0, "named": 1, "guest-ranges": [{"start": 0, "length": 512}]} for kind in ("under", "copied")], "a missing count")
     put("disk", 60, (2).to_bytes(4, "big"))
     report = json.loads(tools("check", "--output=json", "disk")[1])
     equal((report["not-covered"]["snapshots"], [it["kind"] for it in report["breaches"]], report["leaked-clusters"]), (2, ["under", "copied"], None), "beside snapshots")
+
+
+def touches(ranges, *more):
+    """The first breach touches these ranges of the disk."""
+    breach = names_what_the_lines_say()["breaches"][0]
+    equal([(it["start"], it["length"]) for it in breach["guest-ranges"]], ranges, f"the ranges of {breach}")
+    equal(("more-guest-ranges" in breach, *more), (len(ranges) == 16, *more), "whether there are more")
+
+
+def ranges_that_breaches_touch():
+    """Each breach of a cluster names the ranges that stand on it: of data, of an L2 table, of the L1 table, and none of a refblock."""
+    for cluster, ranges in ((5, [(0, 512)]), (4, [(0, 32768)]), (3, [(0, 65536)]), (2, [])):
+        check_of_a_consistent_image()
+        put("disk", 1024 + 2 * cluster, bytes(2))
+        equal(tools("check", "disk")[1].splitlines()[0], f"under {cluster} 0 1", "the breach")
+        touches(ranges)
+    check_of_a_consistent_image()
+    entry = contents("disk")[2048:2056]
+    put("disk", 2056, entry)
+    touches([(0, 1024)])
+    for at in range(0, 64, 2):
+        put("disk", 2048 + 8 * at, entry + bytes(8))
+    touches([(at * 512, 512) for at in range(0, 32, 2)])
+
+
+def ranges_of_unaligned_offsets():
+    """The disk ends within the range of its last table."""
+    create("disk", (1 << 20) + 512, 4096)
+    run("disk", "fill 12288 4096 11", "flush")
+    table = int.from_bytes(contents("disk")[40:48], "big")
+    l2 = int.from_bytes(contents("disk")[table + 1:table + 8], "big")
+    whole = contents("disk")
+    put("disk", l2 + 8 * 3, ((1 << 63) | 0x5200).to_bytes(8, "big"))
+    equal("unaligned data 20992" in tools("check", "disk")[1], True, "the breach")
+    touches([(12288, 4096)])
+    with open("disk", "wb") as it:
+        it.write(whole)
+    put("disk", table, ((1 << 63) | l2 + 512).to_bytes(8, "big"))
+    equal(f"unaligned l2 {l2 + 512}" in tools("check", "disk")[1], True, "the breach")
+    touches([(0, (1 << 20) + 512)])
 
 
 def with_a_snapshot():
@@ -577,6 +617,185 @@ def conversions_that_are_verified():
         with open("other", "wb") as it:
             it.write(BEFORE)
 
+
+# Images over others
+
+BELOW = ["--backing", "upper", "--backing", "middle", "--backing", "lowest"]
+
+
+def stacked():
+    """A raw disk, and three images over it, of other sizes and clusters. Each shows bytes and zeros of its own, and hides some below."""
+    with open("lowest", "wb") as it:
+        it.write(random.Random(7).randbytes((1 << 20) + 512))
+    for name, layout, below, size, *lines in (
+        ("middle", "cluster_size=4096", "lowest", "3M", "write -P 1 64k 64k", "write -z 256k 64k", "write -P 2 2M 5120", "write -P 9 2900k 4k"),
+        ("upper", "cluster_size=512", "middle", "2M", "write -P 3 128k 512", "write -P 4 1900k 512", "write -z 300k 1k"),
+        ("disk", "cluster_size=65536", "upper", "4M", "write -P 5 0 64k", "write -z 512k 128k", "write -P 6 3M 64k", "write -P 7 700k 512"),
+    ):
+        tool("qemu-img", "create", "-q", "-f", "qcow2", "-o", layout, "-b", below, "-F", "raw" if below == "lowest" else "qcow2", name, size)
+        qemu_io(name, *lines)
+
+
+def images_over_others():
+    """They are flattened as by qemu-img, into a raw disk and into an image, and each layer stays as it is."""
+    stacked()
+    tool("qemu-img", "convert", "-f", "qcow2", "-O", "raw", "disk", "theirs")
+    before = [contents(name) for name in ("disk", "upper", "middle", "lowest")]
+    equal(told("convert", "--verify", *BELOW, "disk", "raw"), "", "what is printed")
+    equal(contents("raw") == contents("theirs"), True, "the raw disk")
+    for layout in ("cluster_size=512", "cluster_size=2M,refcount_bits=1"):
+        told("convert", "--verify", "-F", "raw", *BELOW, "-O", "qcow2", "-o", layout, "disk", "other")
+        consistent("other", 0)
+        equal(tool("qemu-img", "compare", "disk", "other").strip(), "Images are identical.", f"the image of {layout}")
+    told("convert", "--backing=middle", "--backing", "lowest", "upper", "raw")
+    equal(contents("raw") == open_by_qemu("upper"), True, "a part of the layers")
+    equal(rises(told("convert", "-p", *BELOW, "disk", "raw")), [0, 100], "the percents")
+    equal([contents(name) for name in ("disk", "upper", "middle", "lowest")] == before, True, "the layers")
+
+
+def open_by_qemu(image):
+    tool("qemu-img", "convert", "-f", "qcow2", "-O", "raw", image, "by-qemu")
+    return contents("by-qemu")
+
+
+def names_in_images_are_not_followed():
+    """What lies below an image is what the words name, wherever it lies, and whatever the header names."""
+    stacked()
+    wanted = open_by_qemu("disk")
+    os.mkdir("folder")
+    for name in ("upper", "middle", "lowest"):
+        os.rename(name, os.path.join("folder", f"my {name}"))
+    with open("lowest", "wb") as it:
+        it.write(b"\x99" * (1 << 20))
+    words = [word for name in ("upper", "middle", "lowest") for word in ("--backing", f"folder/my {name}")]
+    told("convert", *words, "disk", "raw")
+    equal(contents("raw") == wanted, True, "the disk")
+    middle = "folder/my middle"
+    place = int.from_bytes(contents(middle)[100:104], "big")
+    equal(contents(middle)[place:place + 4], b"\xe2\x79\x2a\xca", "the extension for the format")
+    put(middle, place, b"\x12\x34\x56\x78")
+    equal(tools("convert", *words, "disk", "raw"), (1, "", f"qimg-tools: {middle}: it doesn't say the format of its backing file: -F is to say it\n"), "a format that isn't known")
+    told("convert", "-F", "raw", *words, "disk", "raw")
+    equal(contents("raw") == wanted, True, "the disk, with the format in words")
+
+
+def layers_that_are_refused():
+    """What is missing, too much, or can't be read is named, and no file is made."""
+    stacked()
+    shutil.copy("lowest", "more")
+    before = {name: contents(name) for name in os.listdir(".")}
+    names = "names no backing file: --backing is given too often"
+    for words, named, said in (
+        (["disk"], "disk", "refused 12 dependency"), (BELOW[:2] + ["disk"], "upper", "refused 12 dependency"), (BELOW[:4] + ["disk"], "middle", "refused 12 dependency"),
+        ([*BELOW, "--backing", "more", "disk"], "lowest", names), (["--backing", "more", "-F", "qcow2", "upper"], "more", "refused 19 metadata"),
+        (["--backing", "missing", "disk"], "missing", "No such file"), (["--backing", ".", "disk"], ".", ""), (["-f", "raw", "--backing", "lowest", "disk"], "disk", "a raw disk lies over no backing file"),
+        (["--backing", "middle", "--backing", "upper", "--backing", "lowest", "disk"], "upper", names), ([*BELOW, "-F", "qcow2", "disk"], "lowest", "refused 19 metadata"),
+    ):
+        for target in (["-O", "qcow2"], []):
+            status, text, messages = tools("convert", *target, *words, "other")
+            equal((status, text, messages.startswith(f"qimg-tools: {named}: "), said in messages), (1, "", True, True), f"{words}, with {messages}")
+    equal(tools("convert", *BELOW, "disk", "middle"), (1, "", "qimg-tools: middle: it is a file that is read\n"), "a layer as the target")
+    equal({name: contents(name) for name in os.listdir(".")} == before, True, "the files")
+
+
+def a_layer_that_fails():
+    """The layer that can't be read is named, with the system's words, and the target stays."""
+    stacked()
+    compressed("zlib")
+    os.rename("disk", "packed")
+    tool("qemu-img", "create", "-q", "-f", "qcow2", "-b", "packed", "-F", "qcow2", "over")
+    with open("other", "wb") as it:
+        it.write(BEFORE)
+    for target in (["-O", "qcow2"], []):
+        status, _, messages = tools("convert", *target, "--backing", "packed", "over", "other")
+        equal((status, messages.splitlines()[0], contents("other")), (1, "qimg-tools: packed: refused 7 compressed", BEFORE), "a compressed layer")
+    stacked()
+    done = subprocess.run(["strace", "-f", "-qq", "-o", "calls", "-P", os.path.abspath("lowest"), "-e", "inject=pread64:error=EIO:when=2", TOOLS, "convert", *BELOW, "disk", "other"], capture_output=True, timeout=600)
+    if "INJECTED" not in contents("calls").decode():
+        raise AssertionError("no read failed")
+    wanted = "qimg-tools: lowest: refused 15 storage\nqimg-tools: lowest: Input/output error (os error 5)\n"
+    equal((done.returncode, done.stderr.decode(), contents("other")), (1, wanted, BEFORE), "a layer on a bad device")
+
+
+# Large and thin disks
+
+def within(seconds, *words):
+    """The program ends in time, and answers its status, what it printed, and its messages."""
+    done = subprocess.run([TOOLS, *words], capture_output=True, timeout=seconds, check=False)
+    return done.returncode, done.stdout.decode(), done.stderr.decode()
+
+
+def thin_disks():
+    """An empty disk of ten tebibytes is exported by its tables, and takes no room."""
+    told("create", "disk", "10T")
+    equal(within(120, "convert", "disk", "raw"), (0, "", ""), "the export")
+    equal((os.path.getsize("raw"), os.stat("raw").st_blocks < 100), (10 << 40, True), "the raw disk")
+
+
+def a_disk_that_no_table_maps():
+    """A small file may claim a disk of 2 ^ 63 bytes. Its map ends where its tables do, and no raw disk is made of it."""
+    told("create", "-o", "cluster_size=512", "disk", "64k")
+    put("disk", 24, (1 << 63).to_bytes(8, "big"))
+    equal(json.loads(within(60, "map", "--json", "disk")[1]), [{"start": 0, "length": 1 << 63, "depth": 0, "present": False, "zero": True, "data": False}], "the map")
+    before = sorted(os.listdir("."))
+    status, text, messages = within(60, "convert", "disk", "raw")
+    equal((status, text, messages.startswith("qimg-tools: raw: "), sorted(os.listdir("."))), (1, "", True, before), f"the export, with {messages}")
+    equal(within(60, "vet", "--max-size", "1T", "disk")[0], 2, "whether it may be taken in")
+
+
+def sparse_raw_disks():
+    """Holes of a raw disk take no cluster of an image, and no room of a raw disk that comes back."""
+    with open("raw", "wb") as it:
+        it.truncate(1 << 30)
+    put("raw", 300 << 20, b"\x11" * 4096)
+    equal(within(120, "convert", "-O", "qcow2", "raw", "disk"), (0, "", ""), "the import")
+    equal([it["length"] for it in json.loads(told("map", "--json", "disk")) if it["data"]], [65536], "what is mapped")
+    told("convert", "disk", "again")
+    equal((os.path.getsize("again"), os.stat("again").st_blocks * 512 <= 131072), (1 << 30, True), "the raw disk that came back")
+
+
+# Each kind of image that QEMU makes
+
+def zstd_compressed():
+    compressed("zstd")
+
+
+def zlib_compressed():
+    compressed("zlib")
+
+
+def extended():
+    tool("qemu-img", "create", "-q", "-f", "qcow2", "-o", "extended_l2=on", "disk", "1M")
+
+
+def plain():
+    qemu_image("cluster_size=4096")
+
+
+# What each command answers: `info`, `check`, `vet` and `convert`, and what is said where a conversion is refused.
+KINDS = [
+    (plain, 0, 0, 0, 0, ""), (preallocated, 0, 0, 0, 0, ""), (with_lazy_counts, 0, 0, 0, 0, ""), (with_a_snapshot, 0, 0, 2, 0, ""), (with_a_bitmap, 0, 0, 0, 0, ""),
+    (chained, 0, 0, 2, 1, "names a backing file"), (with_a_data_file, 0, 0, 2, 1, "a data file"), (zlib_compressed, 0, 0, 0, 1, "compressed"), (zstd_compressed, 0, 1, 1, 1, "otherwise than by zlib"),
+    (extended, 0, 1, 1, 1, "extended L2"), (encrypted, 0, 1, 1, 1, "encrypted"),
+]
+
+
+def a_kind_of_image(make, info, check, vet, convert, said):
+    make()
+    before = contents("disk")
+    for command, status in (("info", info), ("check", check), ("vet", vet)):
+        got, text, messages = tools(command, "disk")
+        equal((got, bool(text)), (status, status != 1), f"{command}, with {messages}")
+        equal(said in messages or status != 1, True, f"what is said: {messages}")
+    for target in ([], ["-O", "qcow2"]):
+        got, _, messages = tools("convert", "--verify", *target, "disk", "made")
+        equal((got, said in messages, os.path.exists("made")), (convert, True, convert == 0), f"convert {target}, with {messages}")
+        if convert == 0:
+            equal(tool("qemu-img", "compare", *(["-F", "qcow2"] if target else ["-F", "raw"]), "-f", "qcow2", "disk", "made").strip(), "Images are identical.", "what was made")
+            os.remove("made")
+    equal(contents("disk") == before, True, "the image")
+
+
 def created(words, layout):
     told("create", *words, "disk", "10M")
     consistent("disk", 0)
@@ -789,7 +1008,7 @@ BAD_WORDS = [
     (["info", "--frob", "disk"], "--frob"), (["vet"], "a file is missing"), (["vet", "--max-size", "x", "disk"], "x"), (["vet", "-o", "disk"], "-o"), (["resize", "disk"], "a second word is missing"),
     (["resize", "disk", "+"], "+"), (["resize", "--preallocation=some", "disk", "1M"], "--preallocation=some"), (["resize", "--shrink=1", "disk", "1M"], "--shrink=1"), (["resize", "-F", "raw", "disk", "1M"], "-F"),
     (["convert", "--verify=yes", "a", "b"], "--verify=yes"), (["convert", "-o", "preallocation=full", "-O", "qcow2", "a", "b"], "preallocation=full"), (["create", "--shrink", "disk", "1M"], "--shrink"),
-    (["create", "-b", "base", "disk", "1M"], "-b"), (["create", "-F", "raw", "disk", "1M"], "-F"), (["convert", "-b", "base", "disk", "other"], "-b"), (["info", "-1", "disk"], "-1"), (["info", "--", "-1", "disk"], "disk"),
+    (["create", "-b", "base", "disk", "1M"], "-b"), (["create", "-F", "raw", "disk", "1M"], "-F"), (["convert", "-b", "base", "disk", "other"], "-b"), (["convert", "-F", "raw", "disk", "other"], "-F"), (["convert", "--backing"], "--backing"), (["map", "--backing", "base", "disk"], "--backing"), (["info", "-1", "disk"], "-1"), (["info", "--", "-1", "disk"], "disk"),
 ]
 
 
@@ -827,10 +1046,13 @@ def main():
         why_an_image_is_refused, check_names_each_breach, a_map_that_cannot_be_finished, formats_that_are_given, parts_of_sectors, the_file_that_failed, files_past_a_limit, a_device_that_is_too_small,
         an_image_that_qemu_has_open, a_conversion_that_is_stopped, words_that_are_no_text,
         info_of_what_is_not_read, images_without_errors, errors_beside_what_is_not_covered, images_that_may_be_taken_in, images_that_may_not_be_taken_in, what_cannot_be_vetted, comparisons, disks_that_cannot_be_compared,
+        ranges_that_breaches_touch, ranges_of_unaligned_offsets, images_over_others, names_in_images_are_not_followed, layers_that_are_refused, a_layer_that_fails, thin_disks, a_disk_that_no_table_maps, sparse_raw_disks,
         overlays, sizes_of_disks, bytes_that_come_back, an_overlay_is_not_resized, preallocations, images_of_images, images_of_what_cannot_be_read, conversions_that_are_verified,
         sizes, layouts_that_images_do_not_have, progress_as_qemu_shows_it, progress_of_little_and_of_much, conversions_that_are_refused, a_full_device, help_and_version,
     ):
         checks.run(check.__name__, check)
+    for make, *answers in KINDS:
+        checks.run(f"an image of QEMU, {make.__name__}", a_kind_of_image, make, *answers)
     for words, layout in (([], (65536, 16)), (["-o", "cluster_size=4k"], (4096, 16)), (["-o", "refcount_bits=1,cluster_size=2M"], (2 << 20, 1)), (["-o", "cluster_size=512", "-o", "refcount_bits=64"], (512, 64))):
         checks.run(f"create {words}", created, words, layout)
     for size, layout in ((1 << 20, "cluster_size=512"), (5 << 20, "cluster_size=64k,refcount_bits=1"), (100000 // 512 * 512, "cluster_size=4096")):

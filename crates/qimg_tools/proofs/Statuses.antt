@@ -60,3 +60,7 @@ reason image (Unprinted cause) is = tt
 pub partly_fails : (image : Bytes) (r : Result ℕ Failure) → IfErr r IsOfWork → IfErr r (IsReasonForNoStatus image)
 partly_fails image (Ok status) is = tt
 partly_fails image (Err failure) is = reason image failure is
+
+-- so is what printing meets
+pub work_fails : {A : Type 0} (image : Bytes) (r : Result A Failure) (failure : Failure) → r ≡ Err failure → IfErr r IsOfWork → IsReasonForNoStatus image failure
+work_fails {A} image r failure is work = let P : Result A Failure → Type 0 = λ it. IfErr it IsOfWork in reason image failure (subst P is work)

@@ -2,6 +2,8 @@ pub mod Changed
 pub mod Compared
 pub mod Json
 pub mod Layouts
+pub mod Named
 pub mod Sizes
 pub mod Statuses
+pub mod Touched
 pub mod Vetted

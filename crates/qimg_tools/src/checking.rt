@@ -2,13 +2,16 @@
 ghost use Rattle.std.specs.Prelude.{◌≡◌, ◌≤◌, IfErr, IfOk, OnOk};
 ghost use Rattle.image_access.specs.Moments.{ContentsStay};
 ghost use Rattle.qcow2_metadata.specs.Bytes.{byte_at};
-ghost use Rattle.qcow2_metadata.specs.Header.{header};
-ghost use Rattle.qimg_tools.specs.Statuses.{status_of, IsCovered, IsReasonForNoStatus, IsStatusOf, IsStatusOfLines, IsReported};
+ghost use Rattle.qcow2_metadata.specs.Header.{IsInRange, IsWithinLimits, header};
+ghost use Rattle.std.specs.Io.KnownBytes.{Appends};
+ghost use Rattle.program_parts.specs.Reports.{text_of_report};
+ghost use Rattle.qimg_tools.specs.Statuses.{status_of, IsCovered, IsOfWork, IsReasonForNoStatus, IsStatusOf, IsStatusOfLines, IsReported};
 ghost use Rattle.qimg_tools.specs.declared.words.Form.TheVariants.{Text};
 
-use crate::failures::Failure;
+use crate::failures::{Failure, unless_unprinted};
 use crate::json::print_text;
-use crate::uncovered::{BROKEN, check_partly, is_covered};
+use crate::touched::{Ranges, Touched, touched_by};
+use crate::uncovered::{BROKEN, check_partly, failed, is_covered};
 use crate::words::Form;
 use image_access::Storage;
 use program_parts::print_report;
@@ -62,10 +65,7 @@ pub fn check<S: Storage, W: Write>(
             output,
         );
     }
-    match form {
-        Form::Text => print_report(output, &report)?,
-        Form::Json => print_object(output, file, &report)?,
-    }
+    print_in(alloc, storage, &header, &report, file, form, output)?;
     Ok(status_of(&report))
 }
 
@@ -90,39 +90,118 @@ pub fn begin_object<W: Write>(output: &mut W, file: &str, breaches: usize) -> io
     writeln!(output, "    \"corruptions\": {breaches},")
 }
 
-fn print_object<W: Write>(output: &mut W, file: &str, report: &Report) -> io::Result<()> {
+// Prints a report in a form.
+fn print_in<S: Storage, W: Write>(
+    alloc: Global,
+    storage: &mut S,
+    header: &HeaderFields,
+    report: &Report,
+    file: &str,
+    form: Form,
+    output: &mut W,
+) -> Result<(), Failure>
+    requires in_range { IsInRange header.now }
+    requires within_limits { IsWithinLimits header.now }
+    ensures printed { form ≡ Text → OnOk result (Appends (W.contents output.old) (W.contents output.new)
+        (text_of_report report.now.breaches.items report.now.leaks)) }
+    ensures fails { IfErr result IsOfWork }
+    ensures reading { ContentsStay (S.view storage.old) (S.view storage.new) }
+{
+    match form {
+        Form::Text => unless_unprinted(print_report(output, report)),
+        Form::Json => print_object(alloc, storage, header, report, file, output),
+    }
+}
+
+// Prints a report as JSON, with the ranges of the disk that its breaches touch.
+fn print_object<S: Storage, W: Write>(
+    alloc: Global,
+    storage: &mut S,
+    header: &HeaderFields,
+    report: &Report,
+    file: &str,
+    output: &mut W,
+) -> Result<(), Failure>
+    requires in_range { IsInRange header.now }
+    requires within_limits { IsWithinLimits header.now }
+    ensures fails { IfErr result IsOfWork }
+    ensures reading { ContentsStay (S.view storage.old) (S.view storage.new) }
+{
+    let touched = match touched_by(alloc, storage, header, &report.breaches) {
+        Ok(touched) => touched,
+        Err(e) => return Err(failed(&e)),
+    };
+    unless_unprinted(print_members(output, file, report, &touched))
+}
+
+fn print_members<W: Write>(
+    output: &mut W,
+    file: &str,
+    report: &Report,
+    touched: &Touched,
+) -> io::Result<()> {
     let breaches = report.breaches.len();
     let leaks = report.leaks.len();
     begin_object(output, file, breaches)?;
     writeln!(output, "    \"leaks\": {leaks},")?;
-    print_breaches(output, &report.breaches)?;
+    print_breaches(output, &report.breaches, touched)?;
     print_leaks(output, &report.leaks)?;
     writeln!(output, "}}")
 }
 
-/// Prints the JSON member that lists breaches, each with its numbers.
-pub fn print_breaches<W: Write>(output: &mut W, breaches: &[Breach]) -> io::Result<()> {
+/// Prints the member of an object that names breaches, each with its numbers and the ranges of the disk that it touches.
+pub fn print_breaches<W: Write>(
+    output: &mut W,
+    breaches: &[Breach],
+    touched: &Touched,
+) -> io::Result<()> {
     write!(output, "    \"breaches\": [")?;
     let mut between = "\n";
     for breach in breaches {
-        write!(output, "{between}        ")?;
+        write!(output, "{between}        {{ ")?;
         print_breach(output, breach)?;
+        print_ranges(output, touched.of(breach))?;
+        write!(output, " }}")?;
         between = ",\n";
     }
     writeln!(output, "{}],", end_of_list(breaches.is_empty()))
+}
+
+// Prints the members that tell ranges of the disk.
+fn print_ranges<W: Write>(output: &mut W, ranges: Option<&Ranges>) -> io::Result<()> {
+    let Some(ranges) = ranges else {
+        return write!(output, ", \"guest-ranges\": []");
+    };
+    write!(output, ", \"guest-ranges\": [")?;
+    let mut between = "";
+    for range in &ranges.first {
+        let start = range.start;
+        let length = range.length;
+        write!(
+            output,
+            "{between}{{ \"start\": {start}, \"length\": {length} }}"
+        )?;
+        between = ", ";
+    }
+    write!(output, "]")?;
+    match ranges.has_more {
+        true => write!(output, ", \"more-guest-ranges\": true"),
+        false => Ok(()),
+    }
 }
 
 fn print_leaks<W: Write>(output: &mut W, leaks: &Leaks) -> io::Result<()> {
     write!(output, "    \"leaked-clusters\": [")?;
     let mut between = "\n";
     for leak in leaks.iter() {
-        write!(output, "{between}        ")?;
+        write!(output, "{between}        {{ ")?;
         let Leak {
             cluster,
             count,
             named,
         } = leak;
         print_counted(output, "leak", cluster, count, named)?;
+        write!(output, " }}")?;
         between = ",\n";
     }
     writeln!(output, "{}]", end_of_list(leaks.is_empty()))
@@ -137,14 +216,14 @@ fn end_of_list(is_empty: bool) -> &'static str {
 fn print_breach<W: Write>(output: &mut W, breach: &Breach) -> io::Result<()> {
     match *breach {
         Breach::Snapshots { count } => {
-            write!(output, "{{ \"kind\": \"snapshots\", \"count\": {count} }}")
+            write!(output, "\"kind\": \"snapshots\", \"count\": {count}")
         }
-        Breach::External => write!(output, "{{ \"kind\": \"external\" }}"),
+        Breach::External => write!(output, "\"kind\": \"external\""),
         Breach::Unaligned { kind, offset } => {
             let table = table_word(kind);
             write!(
                 output,
-                "{{ \"kind\": \"unaligned\", \"table\": \"{table}\", \"offset\": {offset} }}"
+                "\"kind\": \"unaligned\", \"table\": \"{table}\", \"offset\": {offset}"
             )
         }
         Breach::Under {
@@ -154,7 +233,7 @@ fn print_breach<W: Write>(output: &mut W, breach: &Breach) -> io::Result<()> {
         } => print_counted(output, "under", cluster, count, named),
         Breach::Shared { cluster, named } => write!(
             output,
-            "{{ \"kind\": \"shared\", \"cluster\": {cluster}, \"named\": {named} }}"
+            "\"kind\": \"shared\", \"cluster\": {cluster}, \"named\": {named}"
         ),
         Breach::Copied {
             cluster,
@@ -174,7 +253,7 @@ fn print_counted<W: Write>(
 ) -> io::Result<()> {
     write!(
         output,
-        "{{ \"kind\": \"{kind}\", \"cluster\": {cluster}, \"count\": {count}, \"named\": {named} }}"
+        "\"kind\": \"{kind}\", \"cluster\": {cluster}, \"count\": {count}, \"named\": {named}"
     )
 }
 

@@ -1,5 +1,6 @@
 //! The subcommand `compare`.
 ghost use Rattle.std.specs.Prelude.{◌≡◌, IfOk};
+ghost use Rattle.program_parts.specs.Disks.{IsKeptQuietly};
 ghost use Rattle.qimg_tools.specs.Compared.{IsStatusOfComparison, status_of_comparison};
 
 use image_access::{Format, Storage};
@@ -26,15 +27,16 @@ impl From<io::Error> for Uncompared {
     }
 }
 
-/// Compares the disks on two storages, each in a format, prints the result in the words of `qemu-img compare`, and returns the
-/// exit status and the storages: 0 if both have the same size and the same bytes, otherwise 1. Refused `Unread` as
-/// `compare_storages` is, and `Unprinted`.
+/// Compares the disks that two storages hold, each in a format, prints what is found in the words of `qemu-img compare`, and answers the
+/// exit status, with the storages, which are only read. That is 0 where both have the same size and the same bytes, and else 1. Where
+/// the work meets them: `Unread` as `compare_storages` is refused, and `Unprinted`.
 pub fn compare<S: Storage, T: Storage, W: Write>(
     alloc: Global,
     one: (S, Format),
     other: (T, Format),
     output: &mut W,
 ) -> (S, T, Result<u8, Uncompared>)
+    ensures step { IsKeptQuietly (S.view one.0) (S.view result.0) × IsKeptQuietly (T.view other.0) (T.view result.1) }
     ensures status { IfOk result.2 (IsStatusOfComparison one.1 (S.view one.0) other.1 (T.view other.0)) }
 {
     let (one, other, found) = compare_storages(alloc, one, other);

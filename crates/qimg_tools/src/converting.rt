@@ -1,12 +1,14 @@
 //! The subcommand `convert`.
 
 use crate::failures::Failure;
+use crate::layers::{Files, open_layers};
 use crate::messages::{DONE, ended, explain, refuse, refuse_file, refused, warn_of_sectors};
-use crate::words::{DiskFormat, Layout, Settings};
-use file_storage::{FileStorage, Replacement, StreamedFile, is_same_file, replace};
+use crate::target::Target;
+use crate::words::{DiskFormat, Settings, Words};
+use file_storage::{FileStorage, StreamedFile, is_same_file, replace};
 use image_access::{Format, Storage};
 use program_parts::{
-    Comparison, DiskStorage, compare_storages, disk_size, make_image, make_raw_disk, open_disk,
+    Conversion, DiskStorage, Layers, Unmade, Unplaced, convert as convert_storage, disk_size,
 };
 use qcow2_image::{ImageError, Qcow2};
 use std::io;
@@ -21,13 +23,19 @@ pub struct Names<'a> {
     pub to: &'a str,
 }
 
-// The two files of a conversion, and its result: the size of the disk, or a refusal, possibly of the source.
+// What a conversion reads: a file, or the disk of an image over others.
 #[derive(Drop)]
-struct Made {
-    source: StreamedFile,
-    target: StreamedFile,
-    done: Result<u64, ImageError>,
-    is_of_source: bool,
+enum Source<'a> {
+    File(&'a str, StreamedFile),
+    Layers(Files<'a>, DiskStorage<Layers<StreamedFile>>),
+}
+
+// Why a source wasn't read: the file, what the system said of it last, and why the last read of an image was refused.
+#[derive(Drop)]
+struct Unread<'a> {
+    file: &'a str,
+    cause: Option<io::Error>,
+    refusal: Option<ImageError>,
 }
 
 /// The format of the disk in a file: as the words say, otherwise qcow2 if the file begins like an image.
@@ -45,10 +53,11 @@ pub fn format_of(storage: &mut FileStorage, format: Option<DiskFormat>) -> Forma
 /// Makes an image or a raw disk from another one, as the words say, and returns the exit status.
 pub fn convert(
     rt: &HostRuntime,
-    settings: &Settings<'_>,
+    words: &Words<'_>,
     names: Names<'_>,
     output: &mut impl Write,
 ) -> u8 {
+    let settings = &words.settings;
     let mut source = match file_storage::open_read_only(rt, names.from) {
         Ok(source) => source,
         Err(e) => return refuse_file(rt, names.from, &e),
@@ -57,278 +66,293 @@ pub fn convert(
         (None, DiskFormat::Raw) => Format::Qcow2,
         (format, _) => format_of(&mut source, format),
     };
-    let formats = match (format, settings.target) {
-        (Format::Raw, DiskFormat::Raw) => {
-            return refuse(
-                rt,
-                names.from,
-                "a raw disk of a raw disk is a copy, as cp makes it",
-            );
+    let status = match (format, settings.target) {
+        (Format::Raw, _) if !words.layers.is_empty() => {
+            refuse(rt, names.from, "a raw disk lies over no backing file")
         }
-        (Format::Raw, DiskFormat::Qcow2) => (Format::Raw, Format::Qcow2),
-        (Format::Qcow2, DiskFormat::Qcow2) => (Format::Qcow2, Format::Qcow2),
-        (Format::Qcow2, DiskFormat::Raw) => (Format::Qcow2, Format::Raw),
+        (Format::Raw, DiskFormat::Raw) => refuse(
+            rt,
+            names.from,
+            "a raw disk of a raw disk is a copy, as cp makes it",
+        ),
+        (Format::Raw, DiskFormat::Qcow2) => convert_raw_disk(rt, settings, names, source, output),
+        (Format::Qcow2, _) => convert_image(rt, words, names, source, output),
     };
-    let status = convert_file(rt, settings, names, source, formats, output);
     if settings.flags.shows_progress && status == DONE {
         let _ = writeln!(output, "    (100.00/100%)");
     }
     status
 }
 
-// Converts an open file to a new one, which gets its name at the end.
-fn convert_file(
+fn convert_raw_disk(
     rt: &HostRuntime,
     settings: &Settings<'_>,
     names: Names<'_>,
     source: FileStorage,
-    formats: (Format, Format),
     output: &mut impl Write,
 ) -> u8 {
-    let mut source = source;
-    if matches!(formats.0, Format::Qcow2) {
-        if let Some(status) = refuse_header(rt, names.from, &mut source) {
-            return status;
-        }
-    }
-    let (mut target, place) = match open_target(rt, names) {
-        Ok(target) => target,
-        Err(e) => return refuse_file(rt, names.to, &e),
+    let source = match StreamedFile::new(rt.alloc(), source) {
+        Ok(source) => Source::File(names.from, source),
+        Err(e) => return refuse_file(rt, names.from, &io::Error::from(e)),
     };
-    if matches!(formats.1, Format::Raw) {
-        if let Err(e) = require_room(rt, &mut source, &mut target) {
-            place.discard(rt);
-            return refuse_file(rt, names.to, &e);
-        }
-    }
-    let (Ok(source), Ok(target)) = (
-        StreamedFile::new(rt.alloc(), source),
-        StreamedFile::new(rt.alloc(), target),
-    ) else {
-        place.discard(rt);
-        return refuse_file(rt, names.from, &io::Error::from(io::ErrorKind::OutOfMemory));
-    };
-    let made = make(rt, settings, source, target, formats, output);
-    end_conversion(rt, settings, names, made, formats, place)
-}
-
-// Makes the disk of one file equal to that of another. The progress of a raw one is printed.
-fn make(
-    rt: &HostRuntime,
-    settings: &Settings<'_>,
-    source: StreamedFile,
-    target: StreamedFile,
-    formats: (Format, Format),
-    output: &mut impl Write,
-) -> Made {
-    let mut source = source;
-    let mut target = target;
-    if settings.flags.shows_progress {
-        let _ = write!(output, "    (0.00/100%)\r");
-        let _ = output.flush();
-        match formats {
-            (Format::Raw, _) => source.shows_progress(rt.stdout()),
-            (_, Format::Raw) => target.shows_progress(rt.stdout()),
-            _ => {}
-        }
-    }
-    match formats {
-        (Format::Raw, _) => import_disk(rt, settings.layout, source, target),
-        (_, Format::Raw) => {
-            let (source, done) = make_raw_disk(rt.alloc(), source, &mut target);
-            Made {
-                source,
-                target,
-                done,
-                is_of_source: false,
-            }
-        }
-        _ => rewrite_image(rt, settings.layout, source, target),
-    }
-}
-
-fn import_disk(
-    rt: &HostRuntime,
-    layout: Layout,
-    source: StreamedFile,
-    target: StreamedFile,
-) -> Made {
-    let mut source = source;
-    let (target, done) = make_image(
-        rt.alloc(),
-        &mut source,
-        target,
-        layout.cluster_size,
-        layout.refcount_bits,
-    );
-    Made {
-        source,
-        target,
-        done,
-        is_of_source: false,
-    }
-}
-
-fn rewrite_image(
-    rt: &HostRuntime,
-    layout: Layout,
-    source: StreamedFile,
-    target: StreamedFile,
-) -> Made {
-    let disk = match open_disk(rt.alloc(), source, Format::Qcow2) {
-        Ok(disk) => disk,
-        Err((source, refusal)) => {
-            return Made {
-                source,
-                target,
-                done: Err(refusal),
-                is_of_source: true,
-            };
-        }
-    };
-    let mut disk = DiskStorage::new(disk);
-    let (target, done) = make_image(
-        rt.alloc(),
-        &mut disk,
-        target,
-        layout.cluster_size,
-        layout.refcount_bits,
-    );
-    let (disk, refusal) = disk.into_parts();
-    let source = disk.into_storage();
-    match refusal {
-        Some(refusal) if done.is_err() => Made {
-            source,
-            target,
-            done: Err(refusal),
-            is_of_source: true,
-        },
-        _ => Made {
-            source,
-            target,
-            done,
-            is_of_source: false,
-        },
-    }
-}
-
-// Opens the target of a conversion, which can't be its source.
-fn open_target(rt: &HostRuntime, names: Names<'_>) -> io::Result<(FileStorage, Replacement)> {
-    if is_same_file(rt, names.from, names.to) {
-        return Err(io::Error::new(io::ErrorKind::InvalidInput, "it is the file that is read"));
-    }
-    replace(rt, names.to)
-}
-
-// Refuses a target that is too small for an image's disk. If the header isn't readable, nothing is refused here.
-fn require_room(
-    rt: &HostRuntime,
-    image: &mut FileStorage,
-    target: &mut FileStorage,
-) -> io::Result<()> {
-    let (Ok(size), Ok(greatest)) = (disk_size(rt.alloc(), image), target.greatest_size()) else {
-        return Ok(());
-    };
-    if size <= greatest {
-        return Ok(());
-    }
-    let text = format!(in rt.alloc(); "it can hold {greatest} bytes, and the disk has {size}")?;
-    Err(io::Error::new(io::ErrorKind::FileTooLarge, &text))
-}
-
-// The status if the header of an image is refused. Reports what the file is.
-fn refuse_header(rt: &HostRuntime, file: &str, storage: &mut FileStorage) -> Option<u8> {
-    let refusal = disk_size(rt.alloc(), storage).err()?;
-    let failed: Result<u8, Failure> = Err(Failure::Refused(refusal));
-    let status = ended(rt, file, storage.last_error(), &failed);
-    explain(rt, file, storage, &failed);
-    Some(status)
-}
-
-// Ends a conversion: a complete file gets its name, and an incomplete one is removed. A failure is reported for the file that failed.
-fn end_conversion(
-    rt: &HostRuntime,
-    settings: &Settings<'_>,
-    names: Names<'_>,
-    made: Made,
-    formats: (Format, Format),
-    place: Replacement,
-) -> u8 {
-    let Made {
-        source,
-        target,
-        done,
-        is_of_source,
-    } = made;
-    let size = match done {
-        Ok(size) => size,
-        Err(refusal) => {
-            let cause = source.last_error();
-            let status = end_refused(rt, names, refusal, cause, target, is_of_source);
-            place.discard(rt);
-            return status;
-        }
-    };
-    if matches!(formats.1, Format::Qcow2) {
-        warn_of_sectors(rt, names.to, size);
-    }
-    let mut target = target;
-    if settings.flags.verifies {
-        let (left, status) = verify(rt, names, (source, formats.0), (target, formats.1));
-        target = left;
-        if status != DONE {
-            place.discard(rt);
-            return status;
-        }
-    }
-    match place.finish(rt, &mut target) {
-        Ok(()) => DONE,
+    match open_target(rt, names, None) {
+        Ok((file, target)) => convert_file(rt, settings, names, source, file, target, output),
         Err(e) => refuse_file(rt, names.to, &e),
     }
 }
 
-fn end_refused(
+// Converts an image, over the files that the words name below it. All of them are opened before the target is.
+fn convert_image(
     rt: &HostRuntime,
+    words: &Words<'_>,
     names: Names<'_>,
-    refusal: ImageError,
-    cause: Option<io::Error>,
-    target: StreamedFile,
-    is_of_source: bool,
+    source: FileStorage,
+    output: &mut impl Write,
 ) -> u8 {
-    let mut target = target;
-    let _ = target.flush();
-    let is_of_target = !is_of_source
-        && (target.last_error().is_some() || matches!(refusal, ImageError::InvalidOption));
-    if is_of_target {
-        return refused(rt, names.to, target.last_error(), refusal);
+    let mut source = source;
+    let size = match header_size(rt, names.from, &mut source) {
+        Ok(size) => size,
+        Err(status) => return status,
+    };
+    let source = match open_source(rt, words, names, source) {
+        Ok(source) => source,
+        Err(status) => return status,
+    };
+    let needed = match words.settings.target {
+        DiskFormat::Raw => Some(size),
+        DiskFormat::Qcow2 => None,
+    };
+    match open_target(rt, names, needed) {
+        Ok((file, target)) => convert_file(
+            rt,
+            &words.settings,
+            names,
+            source,
+            file,
+            target,
+            output,
+        ),
+        Err(e) => refuse_file(rt, names.to, &e),
     }
-    refused(rt, names.from, cause, refusal)
 }
 
-// Compares a target with its source, before it gets its name.
-fn verify(
+// A raw disk is made of an image alone by its tables, so that zeros take no time. Of anything else what is read is a disk.
+fn open_source<'a>(
+    rt: &HostRuntime,
+    words: &'a Words<'_>,
+    names: Names<'a>,
+    source: FileStorage,
+) -> Result<Source<'a>, u8> {
+    let makes_raw_disk = matches!(words.settings.target, DiskFormat::Raw);
+    if makes_raw_disk && words.layers.is_empty() {
+        return match StreamedFile::new(rt.alloc(), source) {
+            Ok(source) => Ok(Source::File(names.from, source)),
+            Err(e) => Err(refuse_file(rt, names.from, &io::Error::from(e))),
+        };
+    }
+    let files = Files {
+        names,
+        below: &words.layers,
+        format: match words.settings.other {
+            Some(DiskFormat::Raw) => Some(Format::Raw),
+            Some(DiskFormat::Qcow2) => Some(Format::Qcow2),
+            None => None,
+        },
+    };
+    let layers = open_layers(rt, &files, source)?;
+    Ok(Source::Layers(files, DiskStorage::new(layers)))
+}
+
+// Opens the file that a conversion is to write, which can't be the one that it reads, and is to hold so many bytes.
+fn open_target<'a>(
+    rt: &'a HostRuntime,
+    names: Names<'_>,
+    needed: Option<u64>,
+) -> io::Result<(StreamedFile, Target<'a>)> {
+    if is_same_file(rt, names.from, names.to) {
+        return Err(io::Error::new(io::ErrorKind::InvalidInput, "it is the file that is read"));
+    }
+    let (file, place) = replace(rt, names.to)?;
+    let target = Target::new(rt, place);
+    match ready_file(rt, file, needed) {
+        Ok(file) => Ok((file, target)),
+        Err(e) => {
+            target.discard();
+            Err(e)
+        }
+    }
+}
+
+// A file that is to hold so many bytes. Refused where it can't; no file has 2 ^ 63.
+fn ready_file(
+    rt: &HostRuntime,
+    file: FileStorage,
+    needed: Option<u64>,
+) -> io::Result<StreamedFile> {
+    let mut file = file;
+    if let (Some(size), Ok(greatest)) = (needed, file.greatest_size()) {
+        let greatest = greatest.min(i64::MAX as u64);
+        if size > greatest {
+            let text = format!(in rt.alloc();
+                "it can hold {greatest} bytes, and the disk has {size}"
+            )?;
+            return Err(io::Error::new(io::ErrorKind::FileTooLarge, &text));
+        }
+    }
+    Ok(StreamedFile::new(rt.alloc(), file)?)
+}
+
+/// The size of an image's disk by its header. The status where that is refused, and then it is told what the file is.
+pub fn header_size(rt: &HostRuntime, file: &str, storage: &mut FileStorage) -> Result<u64, u8> {
+    let refusal = match disk_size(rt.alloc(), storage) {
+        Ok(size) => return Ok(size),
+        Err(refusal) => refusal,
+    };
+    let failed: Result<u8, Failure> = Err(Failure::Refused(refusal));
+    let status = ended(rt, file, storage.last_error(), &failed);
+    explain(rt, file, storage, &failed);
+    Err(status)
+}
+
+// Converts what is open to a file that is open, which gets its name at the end. Of a file that is a raw disk it is told how far it was
+// read or written.
+fn convert_file(
+    rt: &HostRuntime,
+    settings: &Settings<'_>,
+    names: Names<'_>,
+    source: Source<'_>,
+    file: StreamedFile,
+    target: Target<'_>,
+    output: &mut impl Write,
+) -> u8 {
+    let mut source = source;
+    let mut file = file;
+    if settings.flags.shows_progress {
+        let _ = write!(output, "    (0.00/100%)\r");
+        let _ = output.flush();
+        match (&mut source, settings.target) {
+            (Source::File(_, _), DiskFormat::Raw) => file.shows_progress(rt.stdout()),
+            (Source::File(_, source), DiskFormat::Qcow2) => source.shows_progress(rt.stdout()),
+            (Source::Layers(_, _), _) => {}
+        }
+    }
+    let mut target = target;
+    let (unread, made) = convert_source(rt, settings, source, file, &mut target);
+    end_conversion(rt, settings, names, unread, made, target)
+}
+
+// Converts what is open to a file, which gets its name at the end, and answers what came of it, and why the source wasn't read if it wasn't.
+fn convert_source<'a>(
+    rt: &HostRuntime,
+    settings: &Settings<'_>,
+    source: Source<'a>,
+    file: StreamedFile,
+    target: &mut Target<'_>,
+) -> (Unread<'a>, Result<u64, Unplaced<StreamedFile>>) {
+    let verifies = settings.flags.verifies;
+    match source {
+        Source::File(name, source) => {
+            let how = how_converted(settings, Conversion::ImageToRaw);
+            let (source, made) = convert_storage(rt.alloc(), source, file, target, how, verifies);
+            let unread = Unread {
+                file: name,
+                cause: source.last_error(),
+                refusal: None,
+            };
+            (unread, made)
+        }
+        Source::Layers(files, source) => {
+            let how = how_converted(settings, Conversion::RawToRaw);
+            let (source, made) = convert_storage(rt.alloc(), source, file, target, how, verifies);
+            (unread_layer(&files, source), made)
+        }
+    }
+}
+
+// An image is made of what is read as a raw disk; a raw disk in one way or the other.
+fn how_converted(settings: &Settings<'_>, to_raw: Conversion) -> Conversion {
+    match settings.target {
+        DiskFormat::Raw => to_raw,
+        DiskFormat::Qcow2 => Conversion::RawToImage {
+            cluster: settings.layout.cluster_size,
+            width: settings.layout.refcount_bits,
+        },
+    }
+}
+
+// Which of the layers was read last, and why that was refused if it was.
+fn unread_layer<'a>(files: &Files<'a>, source: DiskStorage<Layers<StreamedFile>>) -> Unread<'a> {
+    let (layers, refusal) = source.into_parts();
+    let (place, storage) = layers.into_last_read();
+    let cause = match storage {
+        Some(storage) => storage.last_error(),
+        None => None,
+    };
+    Unread {
+        file: files.name(place),
+        cause,
+        refusal,
+    }
+}
+
+// Ends a conversion. A file that didn't get its name is removed, and what failed is told of the file that failed.
+fn end_conversion(
+    rt: &HostRuntime,
+    settings: &Settings<'_>,
+    names: Names<'_>,
+    unread: Unread<'_>,
+    made: Result<u64, Unplaced<StreamedFile>>,
+    target: Target<'_>,
+) -> u8 {
+    match made {
+        Ok(size) => {
+            if matches!(settings.target, DiskFormat::Qcow2) {
+                warn_of_sectors(rt, names.to, size);
+            }
+            DONE
+        }
+        Err(Unplaced::Unnamed(e)) => refuse_file(rt, names.to, &e),
+        Err(Unplaced::Unmade(file, unmade)) => {
+            let status = tell_unmade(rt, names, unread, file, unmade);
+            target.discard();
+            status
+        }
+    }
+}
+
+// Tells why a file isn't what was to be made.
+fn tell_unmade(
     rt: &HostRuntime,
     names: Names<'_>,
-    source: (StreamedFile, Format),
-    target: (StreamedFile, Format),
-) -> (StreamedFile, u8) {
-    let mut target = target;
-    let _ = target.0.flush();
-    let (source, target, found) = compare_storages(rt.alloc(), source, target);
-    let status = match found {
-        Ok(Comparison::Same) => DONE,
-        Ok(_) => refuse(
-            rt,
-            names.to,
-            "it was written, and reads otherwise than the source",
-        ),
-        Err(unread) => {
-            if unread.is_other {
-                refused(rt, names.to, target.last_error(), unread.cause)
-            } else {
-                refused(rt, names.from, source.last_error(), unread.cause)
-            }
+    unread: Unread<'_>,
+    file: StreamedFile,
+    unmade: Unmade,
+) -> u8 {
+    let mut file = file;
+    let _ = file.flush();
+    let (refusal, is_of_target) = match unmade {
+        Unmade::Differs => {
+            return refuse(
+                rt,
+                names.to,
+                "it was written, and reads otherwise than the source",
+            );
+        }
+        Unmade::Unread(found) => (found.cause, found.is_other),
+        Unmade::Refused(refusal) => {
+            let is_of_target = is_of_target(&file, &unread, &refusal);
+            (refusal, is_of_target)
         }
     };
-    (target, status)
+    if is_of_target {
+        return refused(rt, names.to, file.last_error(), refusal);
+    }
+    let refusal = unread.refusal.unwrap_or(refusal);
+    refused(rt, unread.file, unread.cause, refusal)
+}
+
+// Whether it is the file that is written which was refused.
+fn is_of_target(file: &StreamedFile, unread: &Unread<'_>, refusal: &ImageError) -> bool {
+    unread.refusal.is_none()
+        && (file.last_error().is_some() || *refusal == ImageError::InvalidOption)
 }

@@ -1,4 +1,6 @@
-//! Failures of tasks.
+//! Why a task wasn't done.
+ghost use Rattle.std.specs.Prelude.{◌≡◌, IfErr, Ok, OnOk};
+ghost use Rattle.qimg_tools.specs.Statuses.{IsOfWork};
 
 use qcow2_image::ImageError;
 use std::io;
@@ -30,7 +32,18 @@ impl From<io::Error> for Failure {
     }
 }
 
-/// Reports why a task on a file failed. Errors in writing the message are ignored.
+/// What printing comes to, as a task's answer.
+pub fn unless_unprinted(printed: io::Result<()>) -> Result<(), Failure>
+    ensures fails { IfErr result IsOfWork }
+    ensures printed { OnOk result (printed ≡ Ok tt) }
+{
+    match printed {
+        Ok(()) => Ok(()),
+        Err(e) => Err(Failure::Unprinted(e)),
+    }
+}
+
+/// Tells why a task on a file wasn't done. That the message couldn't be written is no matter.
 pub fn tell<M: Write>(messages: &mut M, file: &str, failure: &Failure) {
     let _ = match failure {
         Failure::Refused(refusal) => {

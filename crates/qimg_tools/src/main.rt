@@ -9,12 +9,15 @@ mod failures;
 mod headers;
 mod info;
 mod json;
+mod layers;
 mod making;
 mod map;
 mod messages;
 mod plain;
 mod resizing;
 mod sizes;
+mod target;
+mod touched;
 mod uncovered;
 mod vetting;
 mod words;
@@ -33,7 +36,7 @@ use crate::messages::{
 use crate::resizing::{Resizing, Unresized, resize};
 use crate::sizes::{SizeChange, size, size_change};
 use crate::vetting::{Candidate, vet};
-use crate::words::{BadWord, Command, Settings, USAGE, read_words};
+use crate::words::{BadWord, Command, Settings, USAGE, Words, read_words};
 use file_storage::FileStorage;
 use image_access::Format;
 use qcow2_image::ImageError;
@@ -232,11 +235,8 @@ fn say(line: &str, output: &mut impl Write) -> u8 {
 
 // Does what the words say. A comparison that fails has a status of its own, since 1 means that the disks differ.
 fn run_words(rt: &HostRuntime, given: &[String], output: &mut impl Write) -> u8 {
-    match read_words(given) {
-        Ok((Command::Compare, settings)) if !settings.flags.wants_help => {
-            run_comparison(rt, &settings, output)
-        }
-        Ok((command, settings)) => run_command(rt, command, &settings, output),
+    match read_words(rt.alloc(), given) {
+        Ok(words) => run_command(rt, &words, output),
         Err(bad) => {
             misused(rt, bad);
             match given.first() {
@@ -257,14 +257,11 @@ fn run_comparison(rt: &HostRuntime, settings: &Settings<'_>, output: &mut impl W
     }
 }
 
-fn run_command(
-    rt: &HostRuntime,
-    command: Command,
-    settings: &Settings<'_>,
-    output: &mut impl Write,
-) -> u8 {
-    match (command, settings.operands) {
+fn run_command(rt: &HostRuntime, words: &Words<'_>, output: &mut impl Write) -> u8 {
+    let settings = &words.settings;
+    match (words.command, settings.operands) {
         _ if settings.flags.wants_help => say(USAGE, output),
+        (Command::Compare, _) => run_comparison(rt, settings, output),
         (Command::Help, (None, None)) => say(USAGE, output),
         (Command::Version, (None, None)) => say("qimg-tools 0.1.0", output),
         (Command::Create, (Some(file), Some(word))) => match size(word) {
@@ -279,10 +276,10 @@ fn run_command(
             None => misused(rt, no_size(word)),
         },
         (Command::Convert, (Some(from), Some(to))) => {
-            convert(rt, settings, Names { from, to }, output)
+            convert(rt, words, Names { from, to }, output)
         }
         (Command::Info | Command::Map | Command::Check | Command::Vet, (Some(file), None)) => {
-            read_image(rt, command, settings, file, output)
+            read_image(rt, words.command, settings, file, output)
         }
         (Command::Create | Command::Convert | Command::Resize, _) => {
             misused(rt, missing("a second word is missing"))
@@ -301,7 +298,7 @@ fn run_command(
 fn no_size(word: &str) -> BadWord<'_> {
     BadWord {
         word,
-        reason: "not a size of 64 bits",
+        reason: "not a size of 64 bits: a whole number of bytes or of units, as 1536M for 1.5G",
     }
 }
 

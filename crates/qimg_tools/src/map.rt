@@ -6,6 +6,7 @@ use crate::plain::print_plain;
 use crate::words::Form;
 use image_access::Storage;
 use qcow2_image::{ImageError, MappingKind, Qcow2};
+use qcow2_metadata::HeaderFields;
 use std::alloc::Global;
 use std::io;
 use std::io::Write;
@@ -41,11 +42,12 @@ impl Run {
     }
 }
 
-/// The form of a map.
+/// How a map is printed, and from which offset on no table of the image says anything of its disk.
 #[derive(Clone, Copy)]
 struct Page<'a> {
     file: &'a str,
     form: Form,
+    reach: u64,
 }
 
 /// Prints the mapping of each run of an image's disk. The image is opened for reading, without its backing disk, and its
@@ -59,16 +61,30 @@ pub fn map<S: Storage, W: Write>(
     form: Form,
     output: &mut W,
 ) -> (S, Result<(), Failure>) {
+    let mut storage = storage;
+    let reach = match HeaderFields::load(alloc, &mut storage) {
+        Ok(header) => reach_of(&header),
+        Err(e) => return (storage, Err(Failure::Refused(ImageError::from(e)))),
+    };
     match Qcow2::<S>::open_image(alloc, storage, false, 1) {
         Ok(mut image) => {
-            let printed = print_whole_map(&mut image, &Page { file, form }, output);
+            let page = Page { file, form, reach };
+            let printed = print_whole_map(&mut image, &page, output);
             (image.into_storage(), printed)
         }
         Err((storage, e)) => (storage, Err(Failure::Refused(e))),
     }
 }
 
-// Prints a map after it has looked up all of it.
+// Where the part of a disk ends that the L1 table has entries for.
+fn reach_of(header: &HeaderFields) -> u64
+    requires { header.now.cluster_bits ≤ 21 }
+{
+    let cluster = 1u64 << header.cluster_bits;
+    (cluster * cluster / 8).saturating_mul(u64::from(header.l1_entries))
+}
+
+// Prints a map once it is known that all of it can be looked up.
 fn print_whole_map<S: Storage, W: Write>(
     image: &mut Qcow2<S>,
     page: &Page<'_>,
@@ -116,7 +132,7 @@ fn print_runs<S: Storage, W: Write>(
         if run.end >= size {
             break;
         }
-        let next = run_at(image, run.end, size)?;
+        let next = run_at(image, run.end, size, page.reach)?;
         if follows(&run, &next) {
             run = Run {
                 start: run.start,
@@ -132,13 +148,27 @@ fn print_runs<S: Storage, W: Write>(
     Ok(())
 }
 
-// The run from an offset on, up to the end of the disk.
-fn run_at<S: Storage>(image: &mut Qcow2<S>, start: u64, size: u64) -> Result<Run, ImageError>
+// The run from an offset on, up to the end of the disk. It is one where no table says anything of the disk.
+fn run_at<S: Storage>(
+    image: &mut Qcow2<S>,
+    start: u64,
+    size: u64,
+    reach: u64,
+) -> Result<Run, ImageError>
     requires { start < size }
     ensures start { IfOk result (λ run. run.start ≡ start) }
     ensures end { IfOk result (λ run. run.end ≤ size) }
+    ensures rest { reach ≤ start → IfOk result (λ run. run.end ≡ size) }
 {
     let is_zero = image.implicit_backing_file().is_none();
+    if start >= reach {
+        let content = Content::Unmapped { is_zero };
+        return Ok(Run {
+            start,
+            end: size,
+            content,
+        });
+    }
     let (mapping, length) = image.get_mapping(start, size - start)?;
     let content = match mapping.kind {
         MappingKind::Raw {

@@ -16,7 +16,7 @@ pub const REFUSED: u8 = 1;
 
 // The message for an image that needs another file.
 const NEEDS_ANOTHER: &str =
-    "it names a backing file or a data file, which isn't opened: qemu-img convert makes one image of both";
+    "it names a backing file or a data file, which isn't opened: qimg-tools convert --backing FILE reads a backing file, qemu-img convert both";
 
 // The advice for an image with compressed data.
 const COMPRESSED: &str =

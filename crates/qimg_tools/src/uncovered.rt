@@ -5,7 +5,8 @@ ghost use Rattle.qcow2_metadata.specs.Header.{IsInRange, IsWithinLimits};
 ghost use Rattle.qimg_tools.specs.Statuses.{IsCovered, IsOfWork, IsStatusOfErrors};
 
 use crate::checking::{begin_object, print_breaches};
-use crate::failures::Failure;
+use crate::failures::{Failure, unless_unprinted};
+use crate::touched::{Touched, touched_by};
 use crate::words::Form;
 use image_access::Storage;
 use program_parts::print_breaches as print_breach_lines;
@@ -54,11 +55,32 @@ pub fn check_partly<S: Storage, W: Write>(
         Ok(errors) => errors,
         Err(e) => return Err(failed(&e)),
     };
-    match form {
-        Form::Text => print_lines(output, header, &errors)?,
-        Form::Json => print_object(output, file, header, &errors)?,
-    }
+    print_in(alloc, storage, header, &errors, file, form, output)?;
     Ok(status_of_errors(breaches, &errors))
+}
+
+// Prints errors, and what isn't covered, in a form.
+fn print_in<S: Storage, W: Write>(
+    alloc: Global,
+    storage: &mut S,
+    header: &HeaderFields,
+    errors: &[Breach],
+    file: &str,
+    form: Form,
+    output: &mut W,
+) -> Result<(), Failure>
+    requires in_range { IsInRange header.now }
+    requires within_limits { IsWithinLimits header.now }
+    ensures fails { IfErr result IsOfWork }
+    ensures reading { ContentsStay (S.view storage.old) (S.view storage.new) }
+{
+    match form {
+        Form::Text => unless_unprinted(print_lines(output, header, errors)),
+        Form::Json => match touched_by(alloc, storage, header, errors) {
+            Ok(touched) => unless_unprinted(print_object(output, file, header, errors, &touched)),
+            Err(e) => Err(failed(&e)),
+        },
+    }
 }
 
 fn status_of_errors(breaches: &[Breach], errors: &[Breach]) -> u8
@@ -71,8 +93,8 @@ fn status_of_errors(breaches: &[Breach], errors: &[Breach]) -> u8
     }
 }
 
-// The tables were readable before, so if they aren't now, the storage failed.
-fn failed(cause: &MetadataError) -> Failure
+/// Why tables can't be read which were read before: where they don't read now the storage failed.
+pub fn failed(cause: &MetadataError) -> Failure
     ensures { IsOfWork result }
 {
     match cause {
@@ -91,6 +113,7 @@ fn errors_of<S: Storage>(
     requires in_range { IsInRange header.now }
     requires within_limits { IsWithinLimits header.now }
     ensures reading { ContentsStay (S.view storage.old) (S.view storage.new) }
+    ensures honest { (S.view storage.old).is_honest → (S.view storage.new).is_honest }
 {
     if header.incompatible == 0 {
         return Ok(chosen(alloc, breaches, None)?);
@@ -155,6 +178,7 @@ fn named_by_tables<S: Storage>(
     requires in_range { IsInRange header.now }
     requires within_limits { IsWithinLimits header.now }
     ensures reading { ContentsStay (S.view storage.old) (S.view storage.new) }
+    ensures honest { (S.view storage.old).is_honest → (S.view storage.new).is_honest }
 {
     let l1 = header.load_l1_entries(alloc, storage)?;
     let reftable = header.load_reftable_entries(alloc, storage)?;
@@ -255,6 +279,7 @@ fn print_object<W: Write>(
     file: &str,
     header: &HeaderFields,
     errors: &[Breach],
+    touched: &Touched,
 ) -> io::Result<()> {
     let snapshots = header.snapshots;
     let has_bitmaps = has_bitmaps(header);
@@ -265,7 +290,7 @@ fn print_object<W: Write>(
     writeln!(output, "        \"bitmaps\": {has_bitmaps},")?;
     writeln!(output, "        \"data-file\": {has_data_file}")?;
     writeln!(output, "    }},")?;
-    print_breaches(output, errors)?;
+    print_breaches(output, errors, touched)?;
     writeln!(output, "    \"leaked-clusters\": null")?;
     writeln!(output, "}}")
 }

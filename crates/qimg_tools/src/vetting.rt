@@ -1,9 +1,9 @@
-//! The subcommand `vet`.
-ghost use Rattle.std.specs.Prelude.{◌≡◌, ◌↔◌, IfOk, IsTrue};
+//! Whether an image that a stranger made may be taken in.
+ghost use Rattle.std.specs.Prelude.{◌≡◌, ◌↔◌, IfErr, IfOk, IsTrue};
 ghost use Rattle.image_access.specs.Moments.{ContentsStay};
 ghost use Rattle.qcow2_metadata.specs.Bytes.{byte_at};
 ghost use Rattle.program_parts.specs.Vetting.{passes};
-ghost use Rattle.qimg_tools.specs.Vetted.{IsVerdictOn};
+ghost use Rattle.qimg_tools.specs.Vetted.{IsReasonForNoVerdict, IsVerdictOn};
 
 use crate::failures::Failure;
 use crate::json::print_text;
@@ -39,6 +39,8 @@ pub fn vet<S: Storage, W: Write>(
 ) -> Result<u8, Failure>
     ensures status { (S.view storage.old).is_honest
         → IfOk result (IsVerdictOn file.now.max_size (byte_at (S.view storage.old).contents)) }
+    ensures cause { (S.view storage.old).is_honest
+        → IfErr result (IsReasonForNoVerdict (byte_at (S.view storage.old).contents)) }
     ensures reading { ContentsStay (S.view storage.old) (S.view storage.new) }
 {
     let found = match vetted(alloc, storage, file.max_size) {

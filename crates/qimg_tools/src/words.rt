@@ -2,6 +2,7 @@
 
 use crate::sizes::size;
 use image_access::PreallocateMode;
+use std::alloc::Global;
 
 // The reason against an option that the command doesn't have.
 const NO_OPTION: &str = "this command has no such option";
@@ -12,7 +13,8 @@ pub const USAGE: &str = "usage: qimg-tools info [-f qcow2] [--output human|json]
        qimg-tools check [-f qcow2] [--output human|json] FILE
        qimg-tools vet [--max-size SIZE] [--output human|json] FILE
        qimg-tools compare [-q] [-f raw|qcow2] [-F raw|qcow2] FILE OTHER
-       qimg-tools convert [-p] [-q] [-f raw|qcow2] [-O raw|qcow2] [-o OPTIONS] [--verify] SOURCE TARGET
+       qimg-tools convert [-p] [-q] [-f raw|qcow2] [-O raw|qcow2] [-o OPTIONS] [--verify]
+                          [--backing FILE].. [-F raw|qcow2] SOURCE TARGET
        qimg-tools create [-q] [-f qcow2] [-o OPTIONS] [-b FILE -F raw|qcow2] FILE [SIZE]
        qimg-tools resize [-q] [-f qcow2] [--shrink] [--preallocation MODE] FILE [+|-]SIZE
        qimg-tools [COMMAND] --help | --version
@@ -21,6 +23,7 @@ OPTIONS are cluster_size=SIZE and refcount_bits=N, and for create preallocation=
 MODE is off, metadata, falloc or full. -b names a backing file, whose size is taken where none is given. Words behind -- are files and sizes. --json is --output json.
 vet tells whether a stranger's image may be taken in: its bytes are consistent and name no other file.
 convert takes a file that begins as a qcow2 image as one, unless -f raw is given; -O raw is the default.
+An image over others is converted with --backing for each file below it, from the top down; -F is the last one's format.
 The status is 0, or 1 if something is refused. check also returns 2 for an image that is not consistent,
 3 for an image that only has leaked clusters, and 63 for a file that is no qcow2 image. vet returns 2 for
 an image that may not be taken in. compare returns 1 for disks that differ, and 2 if it cannot compare them.";
@@ -95,7 +98,7 @@ pub struct Settings<'a> {
     pub form: Form,
     /// The format of the source, or of the first disk; None if it isn't given.
     pub source: Option<DiskFormat>,
-    /// The format of the second disk to compare, or of a backing file; None if it isn't given.
+    /// The format of the second disk that is compared, or of the last backing file; None where nothing is asked for.
     pub other: Option<DiskFormat>,
     /// The backing file of a new image, if it has one.
     pub below: Option<&'a str>,
@@ -115,7 +118,18 @@ pub struct Settings<'a> {
     pub operands: (Option<&'a str>, Option<&'a str>),
 }
 
-/// Options without a value.
+/// What the words after the program's name ask for.
+#[derive(Drop)]
+pub struct Words<'a> {
+    /// What is to be done.
+    pub command: Command,
+    /// What the words beside the command ask for.
+    pub settings: Settings<'a>,
+    /// The files below an image that is converted, from the top down.
+    pub layers: Vec<&'a str>,
+}
+
+/// Options that have no value.
 #[derive(Clone, Copy)]
 pub struct Flags {
     /// `-p`: prints the progress of a conversion.
@@ -137,22 +151,25 @@ enum Setting {
     Source,
     Other,
     Below,
+    Layer,
     Target,
     Layout,
     MaxSize,
     Preallocation,
 }
 
-// The settings in the words so far, the option whose value comes next, and whether all further words are operands.
+// The settings that words ask for, up to one of them, the option whose value comes next, whether all further words are operands, and the
+// file below an image that the last word names.
 #[derive(Clone, Copy)]
 struct Reading<'a> {
     settings: Settings<'a>,
     awaited: Option<(Setting, &'a str)>,
     is_past_options: bool,
+    layer: Option<&'a str>,
 }
 
 /// Reads the words after the program's name. Refused with the word that can't be read.
-pub fn read_words(words: &[String]) -> Result<(Command, Settings<'_>), BadWord<'_>> {
+pub fn read_words<'a>(alloc: Global, words: &'a [String]) -> Result<Words<'a>, BadWord<'a>> {
     let Some((name, words)) = words.split_first() else {
         return bad("", "a command is missing");
     };
@@ -163,24 +180,49 @@ pub fn read_words(words: &[String]) -> Result<(Command, Settings<'_>), BadWord<'
         settings: default_settings(),
         awaited: None,
         is_past_options: false,
+        layer: None,
     };
+    let mut layers = Vec::new(alloc);
     for word in words {
         reading = with_word(command, reading, word.as_str())?;
+        if let Some(file) = reading.layer {
+            if layers.push(file).is_err() {
+                return bad(file, "there is no memory for it");
+            }
+            reading.layer = None;
+        }
     }
     if let Some((_, option)) = reading.awaited {
         return bad(option, "its value is missing");
     }
-    if reading.settings.has_layout && makes_raw_disk(command, &reading.settings) {
+    let settings = reading.settings;
+    require_partners(command, &settings, &layers)?;
+    Ok(Words {
+        command,
+        settings,
+        layers,
+    })
+}
+
+// Refuses options that lack the one which they need.
+fn require_partners<'a>(
+    command: Command,
+    settings: &Settings<'a>,
+    layers: &[&'a str],
+) -> Result<(), BadWord<'a>> {
+    if settings.has_layout && makes_raw_disk(command, settings) {
         return bad("-o", "a raw disk has no layout: -O qcow2 makes an image");
     }
-    if matches!(command, Command::Create) {
-        match (reading.settings.below, reading.settings.other) {
-            (Some(_), None) => return bad("-b", "-F is to say the format of the backing file"),
-            (None, Some(_)) => return bad("-F", "-b is to name a backing file"),
-            _ => {}
+    match (command, settings.below, settings.other) {
+        (Command::Create, Some(_), None) => {
+            bad("-b", "-F is to say the format of the backing file")
         }
+        (Command::Create, None, Some(_)) => bad("-F", "-b is to name a backing file"),
+        (Command::Convert, _, Some(_)) if layers.is_empty() => {
+            bad("-F", "--backing is to name a backing file")
+        }
+        _ => Ok(()),
     }
-    Ok((command, reading.settings))
 }
 
 fn bad<'a, T>(word: &'a str, reason: &'static str) -> Result<T, BadWord<'a>> {
@@ -343,6 +385,7 @@ fn setting_of(word: &str) -> Option<Setting> {
         b"-f" => Some(Setting::Source),
         b"-F" => Some(Setting::Other),
         b"-b" => Some(Setting::Below),
+        b"--backing" => Some(Setting::Layer),
         b"-O" => Some(Setting::Target),
         b"-o" => Some(Setting::Layout),
         b"--max-size" => Some(Setting::MaxSize),
@@ -359,8 +402,12 @@ fn takes(command: Command, setting: Setting) -> bool {
             Command::Info | Command::Map | Command::Check | Command::Vet
         ),
         Setting::Source => !matches!(command, Command::Help | Command::Version),
-        Setting::Other => matches!(command, Command::Compare | Command::Create),
+        Setting::Other => matches!(
+            command,
+            Command::Compare | Command::Create | Command::Convert
+        ),
         Setting::Below => matches!(command, Command::Create),
+        Setting::Layer => matches!(command, Command::Convert),
         Setting::Target => matches!(command, Command::Convert),
         Setting::Layout => matches!(command, Command::Convert | Command::Create),
         Setting::MaxSize => matches!(command, Command::Vet),
@@ -384,6 +431,10 @@ fn with_value<'a>(
             settings,
             awaited: None,
             is_past_options: false,
+            layer: match setting {
+                Setting::Layer => Some(value),
+                _ => None,
+            },
         }),
         None => bad(word, wanted(command, setting)),
     }
@@ -407,6 +458,7 @@ fn value_of<'a>(
             below: Some(value),
             ..settings
         }),
+        Setting::Layer => Some(settings),
         Setting::Target => with_target(settings, value),
         Setting::Layout => with_layout(command, settings, value),
         Setting::MaxSize => Some(Settings {
@@ -425,13 +477,14 @@ fn wanted(command: Command, setting: Setting) -> &'static str {
     match setting {
         Setting::Output => "the form of an answer is human or json",
         Setting::Source if !takes_raw_disks(command) => "the only format here is qcow2",
-        Setting::Below => "a backing file has a name",
+        Setting::Below | Setting::Layer => "a backing file has a name",
         Setting::Source | Setting::Other | Setting::Target =>
             "the format of a disk is raw or qcow2",
         Setting::Layout if matches!(command, Command::Create) =>
             "the options of an image are cluster_size=SIZE, refcount_bits=N and preallocation=off|metadata|falloc|full, with commas",
         Setting::Layout => "a layout is cluster_size=SIZE or refcount_bits=N, or both with a comma",
-        Setting::MaxSize => "not a size of 64 bits",
+        Setting::MaxSize =>
+            "not a size of 64 bits: a whole number of bytes or of units, as 1536M for 1.5G",
         Setting::Preallocation => "a mode is off, metadata, falloc or full",
     }
 }

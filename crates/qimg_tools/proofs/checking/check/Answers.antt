@@ -4,8 +4,7 @@ use Rattle.qcow2_metadata.specs.Bytes.{byte_at}
 use Rattle.qcow2_metadata.specs.Consistent.{IsConsistent}
 use Rattle.qimg_tools.specs.Statuses.{IsCovered, IsReasonForNoStatus, IsStatusOf, IsStatusOfErrors}
 use Rattle.std.specs.Prelude.{IfOk, IsTrue, false}
-use Rattle.qimg_tools.specs.declared.failures.Failure.TheVariants.{Unprinted}
-use Rattle.qimg_tools.proofs.Statuses.{status_says, partly_says, partly_fails}
+use Rattle.qimg_tools.proofs.Statuses.{status_says, partly_says, partly_fails, work_fails}
 use Rattle.qimg_tools.proofs.checking.check.Goals as goal
 
 pub returns-clause-status : goal.returns-clause-status
@@ -25,8 +24,8 @@ returns-then-not-is_covered-clause-status g c = λ honest.
 pub returns-then-not-is_covered-clause-cause : goal.returns-then-not-is_covered-clause-cause
 returns-then-not-is_covered-clause-cause g c = λ honest. partly_fails (byte_at (g.S.Storage.view c.args.storage.now).contents) c.check_partly.result c.check_partly.ensures.fails
 
-pub returns-in_err-print_report-in-Text-clause-cause : goal.returns-in_err-print_report-in-Text-clause-cause
-returns-in_err-print_report-in-Text-clause-cause g c = λ honest. given_err _ (Unprinted c.in_err-print_report-in-Text.field-0.0) (IsReasonForNoStatus (byte_at (g.S.Storage.view c.args.storage.now).contents)) c.from_residual.ensures tt
-
-pub returns-in_err-print_object-in-Json-clause-cause : goal.returns-in_err-print_object-in-Json-clause-cause
-returns-in_err-print_object-in-Json-clause-cause g c = λ honest. given_err _ (Unprinted c.in_err-print_object-in-Json.field-0.0) (IsReasonForNoStatus (byte_at (g.S.Storage.view c.args.storage.now).contents)) c.from_residual-in_err-print_object-in-Json.ensures tt
+pub returns-in_err-print_in-clause-cause : goal.returns-in_err-print_in-clause-cause
+returns-in_err-print_in-clause-cause g c = λ honest.
+    let image = byte_at (g.S.Storage.view c.args.storage.now).contents in
+    let failure = c.in_err-print_in.field-0.0 in
+    given_err _ failure (IsReasonForNoStatus image) c.from_residual.ensures (work_fails image c.print_in.result failure c.in_err-print_in.was c.print_in.ensures.fails)
