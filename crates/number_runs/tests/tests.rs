@@ -122,7 +122,10 @@ fn a_given_number_joins_where_asked(rt: HostRuntime) {
     assert!(rt; runs.give(12, true, false));
     assert_eq!(rt; runs.run_of(10), Some((10, 3)));
     assert_eq!(rt; runs.run_of(13), Some((13, 2)));
-    assert_eq!(rt; [runs.end_from(9), runs.end_from(10), runs.end_from(14)], [9, 15, 15]);
+    assert_eq!(rt;
+        [runs.end_from(9), runs.end_from(10), runs.end_from(14)],
+        [9, 15, 15]
+    );
     assert!(rt; runs.take(12));
     assert!(rt; runs.give(12, true, true));
     assert_eq!(rt; runs.run_of(14), Some((10, 5)));
