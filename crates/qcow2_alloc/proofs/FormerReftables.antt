@@ -4,7 +4,7 @@ use Rattle.std.proofs.lemmas.List.{append-nil}
 use Rattle.qcow2_metadata.specs.EntryTable.{EntryTableView, entry_count, IsRefTable}
 use Rattle.qcow2_alloc.specs.Allocation.{NamesBehindHeader, KeepsRefblocks, KeepsEntries, KeepsNamed}
 use Rattle.qcow2_alloc.specs.ClustersToFree.{metadata_entry}
-use Rattle.qcow2_alloc.specs.FreeList.{SamePlace, IsRunOfTable, FillsClusters, GaveWay, ListsReftables}
+use Rattle.qcow2_alloc.specs.FreeList.{SamePlace, IsRunOfTable, FillsClusters, ReftableReplaced, OldReftablesQueued}
 use Rattle.qcow2_alloc.specs.declared.clusters_to_free.ClustersToFreeEntry.{ClustersToFreeEntry}
 use Rattle.qcow2_alloc.proofs.AllocationSteps.{behind_none, behind_then, ranges_then, entries_then, entries_less}
 
@@ -24,16 +24,16 @@ run_as a b e same run = record {
   run = run.run ∙ ap (λ n. metadata_entry run.cluster ((8 * n + 2 ^ b.cluster_bits - 1) / 2 ^ b.cluster_bits)) same.count ∙ ap (λ n. metadata_entry run.cluster ((8 * entry_count a + 2 ^ n - 1) / 2 ^ n)) same.bits;
 }
 
-gave_as : (a b c : EntryTableView) (es : List ClustersToFreeEntry) → SamePlace a b → GaveWay b es c → GaveWay a es c
+gave_as : (a b c : EntryTableView) (es : List ClustersToFreeEntry) → SamePlace a b → ReftableReplaced b es c → ReftableReplaced a es c
 gave_as a b c [] same gone = place_then a b c same gone
 gave_as a b c (e ∷ es) same gone = (run_as a b e same gone.0, gone.1, subst (λ n. n < entry_count gone.1) same.count gone.2, gone.3 ∙ same.bits, gone.4, gone.5)
 
-gave_then : (a b c : EntryTableView) (es fs : List ClustersToFreeEntry) → GaveWay a es b → GaveWay b fs c → GaveWay a (es ++ fs) c
+gave_then : (a b c : EntryTableView) (es fs : List ClustersToFreeEntry) → ReftableReplaced a es b → ReftableReplaced b fs c → ReftableReplaced a (es ++ fs) c
 gave_then a b c [] fs first then = gave_as a b c fs first then
 gave_then a b c (e ∷ es) fs first then = (first.0, first.1, first.2, first.3, first.4, gave_then first.1 b c es fs first.5 then)
 
 -- it became no shorter
-pub gave_longer : (a b : EntryTableView) (es : List ClustersToFreeEntry) → GaveWay a es b → entry_count a ≤ entry_count b
+pub gave_longer : (a b : EntryTableView) (es : List ClustersToFreeEntry) → ReftableReplaced a es b → entry_count a ≤ entry_count b
 gave_longer a b [] same = let is = same.count in omega (arith, is)
 gave_longer a b (e ∷ es) gone =
     let once = gone.2 in
@@ -41,14 +41,14 @@ gave_longer a b (e ∷ es) gone =
     omega (arith, once, then)
 
 -- nothing is listed
-pub former_same : (a b : EntryTableView) (l m : List ClustersToFreeEntry) → KeepsNamed a b → m ≡ l → ListsReftables a b l m
+pub former_same : (a b : EntryTableView) (l m : List ClustersToFreeEntry) → KeepsNamed a b → m ≡ l → OldReftablesQueued a b l m
 former_same a b l m named is = record { more = []; is = is ∙ sym (append-nil l); gone = place_as _ a b named; behind = named.behind; ranges = named.others }
 
-pub former_none : (a : EntryTableView) (l : List ClustersToFreeEntry) → ListsReftables a a l l
+pub former_none : (a : EntryTableView) (l : List ClustersToFreeEntry) → OldReftablesQueued a a l l
 former_none a l = record { more = []; is = sym (append-nil l); gone = place_none a; behind = behind_none a; ranges = λ k has. refl }
 
 -- one step after another
-pub former_then : (a b c : EntryTableView) (l m n : List ClustersToFreeEntry) → ListsReftables a b l m → ListsReftables b c m n → ListsReftables a c l n
+pub former_then : (a b c : EntryTableView) (l m n : List ClustersToFreeEntry) → OldReftablesQueued a b l m → OldReftablesQueued b c m n → OldReftablesQueued a c l n
 former_then a b c l m n first then = record {
   more = first.more ++ then.more;
   is = then.is ∙ ap (λ (x : List ClustersToFreeEntry). x ++ then.more) first.is ∙ append_assoc l first.more then.more;
@@ -58,11 +58,11 @@ former_then a b c l m n first then = record {
 }
 
 -- after which reftable and list stay
-pub former_still : (a b c : EntryTableView) (l m n : List ClustersToFreeEntry) → ListsReftables a b l m → c ≡ b → n ≡ m → ListsReftables a c l n
-former_still a b c l m n first same_table same_list = subst (λ (t : EntryTableView). ListsReftables a t l n) (sym same_table) (subst (ListsReftables a b l) (sym same_list) first)
+pub former_still : (a b c : EntryTableView) (l m n : List ClustersToFreeEntry) → OldReftablesQueued a b l m → c ≡ b → n ≡ m → OldReftablesQueued a c l n
+former_still a b c l m n first same_table same_list = subst (λ (t : EntryTableView). OldReftablesQueued a t l n) (sym same_table) (subst (OldReftablesQueued a b l) (sym same_list) first)
 
 -- one goes
-pub former_one : (a b : EntryTableView) (e : ClustersToFreeEntry) (l m : List ClustersToFreeEntry) → IsRunOfTable a e → entry_count a < entry_count b → FillsClusters b → NamesBehindHeader a b → KeepsRefblocks a b → m ≡ l ++ e ∷ [] → ListsReftables a b l m
+pub former_one : (a b : EntryTableView) (e : ClustersToFreeEntry) (l m : List ClustersToFreeEntry) → IsRunOfTable a e → entry_count a < entry_count b → FillsClusters b → NamesBehindHeader a b → KeepsRefblocks a b → m ≡ l ++ e ∷ [] → OldReftablesQueued a b l m
 former_one a b e l m run longer fills behind ranges is = record { more = e ∷ []; is = is; gone = (run, b, longer, behind.bits, fills, place_none b); behind = behind; ranges = ranges }
 
 -- a reftable has whole entries

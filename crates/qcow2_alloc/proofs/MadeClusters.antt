@@ -25,13 +25,13 @@ use Rattle.qcow2_laws.proofs.Shares.{shares, in_l1, in_reftable, block_has}
 use Rattle.qcow2_laws.proofs.Sums.{some_term, sum_below-le, sum_below-longer}
 use Rattle.qcow2_laws.proofs.Tops.{l1_names-same}
 use Rattle.qcow2_alloc.specs.Allocation.{run_at, taken_as, is_data, Allocates, KeepsRefblocks, RefusedGrowth, UnseenAllocatorGrowth}
-use Rattle.qcow2_alloc.specs.FreeList.{of_data, of_tables, to_free, pending_then, run_of, ListsTables, ListsReftables, IsRunOfTable}
+use Rattle.qcow2_alloc.specs.FreeList.{of_data, of_tables, to_free, pending_then, run_of, ListsTables, OldReftablesQueued, IsRunOfTable}
 use Rattle.qcow2_alloc.specs.GrownTables.{reftable_at, without_reftable}
 use Rattle.qcow2_alloc.specs.ImageFile.{pending_at, contents_in, known_in, FileInvariant, HasReftable, AllocatorInvariant, UnseenFileGrowth}
 use Rattle.qcow2_alloc.specs.Limits.{IsPastLimits}
 use Rattle.qcow2_alloc.specs.LowestRuns.{IsUsed}
 use Rattle.qcow2_alloc.specs.MetadataCaches.{order_of}
-use Rattle.qcow2_alloc.specs.MadeClusters.{IsOfNewRefblock, IsOfReftable, IsMadeOnTheWay, IsMadeInTurn, IsListedSince, listed_at, run_in, CountsListed, ListsUsed, TakesAlone}
+use Rattle.qcow2_alloc.specs.MadeClusters.{IsOfNewRefblock, IsOfReftable, IsAllocatedMetadata, IsMadeInTurn, IsListedSince, listed_at, run_in, CountsListed, ListsUsed, AllocatesOnly}
 use Rattle.qcow2_alloc.specs.declared.allocation.Allocator.{Allocator}
 use Rattle.qcow2_alloc.specs.declared.clusters_to_free.ClusterKind.{ClusterKind}
 use Rattle.qcow2_alloc.specs.declared.clusters_to_free.ClusterKind.TheVariants.{Data, Metadata}
@@ -243,7 +243,7 @@ module _ {S : Type 0} (view : S → StorageView) (p q : Pending) (old new : Imag
       sound.caches.kept.kept.crash_invariant growth.safe_step.sound growth.unseen.covers growth.l1_table k same
       (blocks_kept h h' (contents_in view old) (contents_in view new) t t' growth.unseen.header has.entries has'.entries has.count has'.count longer ranges k)
 
-  pub made : IsUsed view new k → IsUsed view old k ⊎ IsMadeOnTheWay h t t' k ⊎ (pending_at p k < pending_at q k)
+  pub made : IsUsed view new k → IsUsed view old k ⊎ IsAllocatedMetadata h t t' k ⊎ (pending_at p k < pending_at q k)
   made used = elim (cases_eq (count h (known_in view old) k) 0) [
     | inr was ↦ inl was
     | inl free ↦
@@ -291,12 +291,12 @@ listed_then (x ∷ l) e k = let rest = listed_then l e k in omega (arith, rest)
 
 -- ---- what a call takes into use
 module _ {S : Type 0} (view : S → StorageView) (p : Pending) (old new : ImageFile S) (allocator allocator' : Allocator) (sound : AllocatorInvariant view allocator p old) (lists : ListsTables old.free_list new.free_list)
-    (former : ListsReftables allocator.reftable allocator'.reftable old.free_list new.free_list) where
+    (former : OldReftablesQueued allocator.reftable allocator'.reftable old.free_list new.free_list) where
   abbrev q : Pending
   q = pending_then p old.free_list new.free_list
 
   abbrev Made : ℕ → Type 0
-  Made = IsMadeOnTheWay old.header.fields allocator.reftable allocator'.reftable
+  Made = IsAllocatedMetadata old.header.fields allocator.reftable allocator'.reftable
 
   taken_surplus : (d : Bool) (n : ℕ → ℕ) (k : ℕ) → (taken_as d q n).surplus k ≡ p.surplus k
   taken_surplus true n k = refl
@@ -343,7 +343,7 @@ module _ {S : Type 0} (view : S → StorageView) (p : Pending) (old new : ImageF
 
   -- a run of clusters was taken, or none
   pub made_run : (kind : ClusterKind) (count : ℕ) (result : Result ClustersToFreeEntry ImageError) → Allocates view p old allocator' new q kind count result
-      → TakesAlone view run_of (IsMadeInTurn old.header.fields allocator.reftable allocator'.reftable old.free_list new.free_list) old new result
+      → AllocatesOnly view run_of (IsMadeInTurn old.header.fields allocator.reftable allocator'.reftable old.free_list new.free_list) old new result
   made_run kind count (Ok run) takes = (
     λ k used.
         elim (made_taken (is_data kind) (run_at run.first_cluster count) takes.2 k used) [
@@ -368,7 +368,7 @@ module _ {S : Type 0} (view : S → StorageView) (p : Pending) (old new : ImageF
     ]
 
     -- just this cluster was taken
-    pub made_one : (d : Bool) (n cluster : ℕ) (run : ClustersToFreeEntry) → n ≡ cluster → run.first_cluster ≡ cluster → run.count ≡ 1 → UnseenAllocatorGrowth view p old allocator' new (taken_as d q (one_at n)) → TakesAlone view run_in Made old new (Ok (Some run))
+    pub made_one : (d : Bool) (n cluster : ℕ) (run : ClustersToFreeEntry) → n ≡ cluster → run.first_cluster ≡ cluster → run.count ≡ 1 → UnseenAllocatorGrowth view p old allocator' new (taken_as d q (one_at n)) → AllocatesOnly view run_in Made old new (Ok (Some run))
     made_one d n cluster run same first count growth =
         let taken_run : UnseenAllocatorGrowth view p old allocator' new (taken_as d q (run_at n 1)) = subst (λ (r : Pending). UnseenAllocatorGrowth view p old allocator' new r) (taken_alone d q n) growth in (
           λ k used.
@@ -383,11 +383,11 @@ module _ {S : Type 0} (view : S → StorageView) (p : Pending) (old new : ImageF
         )
 
     -- it was not
-    pub made_untaken : UnseenAllocatorGrowth view p old allocator' new q → TakesAlone view run_in Made old new (Ok None)
+    pub made_untaken : UnseenAllocatorGrowth view p old allocator' new q → AllocatesOnly view run_in Made old new (Ok None)
     made_untaken growth = ((λ k used. elim (made_alone growth k used) [ inl was ↦ inl was | inr anew ↦ inr (inr anew) ]), counts_none growth)
 
     -- that was refused
-    pub made_refused : (e : ImageError) → RefusedGrowth view p old allocator' new q e → TakesAlone view run_in Made old new (Err e)
+    pub made_refused : (e : ImageError) → RefusedGrowth view p old allocator' new q e → AllocatesOnly view run_in Made old new (Err e)
     made_refused e leaves = elim leaves [
       | inl growth ↦ inl (made_alone growth, counts_none growth)
       | inr interrupted ↦ inr (interrupted.fault, interrupted.noted)
@@ -400,7 +400,7 @@ module _ {S : Type 0} (view : S → StorageView) (p : Pending) (old new : ImageF
 -- a longer reftable is entered: where the former one stands was in use
 module _ {S : Type 0} (view : S → StorageView) (p : Pending) (old new : ImageFile S) (allocator allocator' : Allocator) (sound : AllocatorInvariant view allocator p old) where
   pub made_entered : (e : ClustersToFreeEntry) (list : List ClustersToFreeEntry) → IsRunOfTable allocator.reftable e → list ≡ old.free_list ++ e ∷ [] → entry_count allocator.reftable ≤ entry_count allocator'.reftable → KeepsRefblocks allocator.reftable allocator'.reftable
-      → UnseenAllocatorGrowth view p old allocator' new (without_reftable p old.header.fields) → (done : Unit {0}) → TakesAlone view (λ done k. 0) (IsMadeOnTheWay old.header.fields allocator.reftable allocator'.reftable) old (record new { free_list = list }) (Ok done)
+      → UnseenAllocatorGrowth view p old allocator' new (without_reftable p old.header.fields) → (done : Unit {0}) → AllocatesOnly view (λ done k. 0) (IsAllocatedMetadata old.header.fields allocator.reftable allocator'.reftable) old (record new { free_list = list }) (Ok done)
   made_entered e list run is longer ranges growth done = (
     λ k used.
         elim (made view p (without_reftable p old.header.fields) old new allocator.reftable allocator'.reftable sound.sound sound.reftable growth.file_step growth.reftable k refl used) [
@@ -416,7 +416,7 @@ module _ {S : Type 0} (view : S → StorageView) (p : Pending) (old new : ImageF
   )
 
   pub made_unentered : (e : ImageError) → new.free_list ≡ old.free_list → allocator'.reftable ≡ allocator.reftable → RefusedGrowth view p old allocator' new p e
-      → TakesAlone view {A = Unit {0}} (λ done k. 0) (IsMadeOnTheWay old.header.fields allocator.reftable allocator'.reftable) old new (Err e)
+      → AllocatesOnly view {A = Unit {0}} (λ done k. 0) (IsAllocatedMetadata old.header.fields allocator.reftable allocator'.reftable) old new (Err e)
   made_unentered e same kept leaves = elim leaves [
     | inl growth ↦ inl (
       (λ k used.
@@ -447,7 +447,7 @@ module _ {S : Type 0} (view : S → StorageView) (start old : ImageFile S) (rest
       let own : reftable_at old.header.fields k ≡ reftable_at start.header.fields k = ap (λ (f : ImageFile S). reftable_at f.header.fields k) rest in
       omega (arith, is, more, listed, own)
 
-  pub alone_since : {A : Type 0} (taken : A → ℕ → ℕ) (Made : ℕ → Type 0) (new : ImageFile S) (result : Result A ImageError) → TakesAlone view taken Made old new result → TakesAlone view taken Made start new result
+  pub alone_since : {A : Type 0} (taken : A → ℕ → ℕ) (Made : ℕ → Type 0) (new : ImageFile S) (result : Result A ImageError) → AllocatesOnly view taken Made old new result → AllocatesOnly view taken Made start new result
   alone_since taken Made new (Ok answer) alone = ((λ k used. elim (alone.0 k used) [ inl was ↦ inl (uses_since k was) | inr anew ↦ inr anew ]), counts_since new alone.1)
   alone_since taken Made new (Err e) alone = elim alone [
     | inl stays ↦ inl ((λ k used. elim (stays.0 k used) [ inl was ↦ inl (uses_since k was) | inr anew ↦ inr anew ]), counts_since new stays.1)

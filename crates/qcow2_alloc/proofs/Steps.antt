@@ -10,7 +10,7 @@ use Rattle.qcow2_metadata.specs.MetadataError.{storage_result}
 use Rattle.qcow2_metadata.specs.EntryTable.{EntryTableView}
 use Rattle.qcow2_alloc.specs.Faults.{FaultsTold}
 use Rattle.qcow2_alloc.specs.CachePins.{KeepsPinsAndNotes}
-use Rattle.qcow2_alloc.specs.FreeList.{GivesWay, ListsReftables}
+use Rattle.qcow2_alloc.specs.FreeList.{ReplacesReftable, OldReftablesQueued}
 use Rattle.qcow2_alloc.specs.HeaderClusters.{KeepsHeaderCluster}
 use Rattle.qcow2_alloc.specs.ImageFile.{view_in}
 use Rattle.qcow2_alloc.specs.ImageError.{of_storage, of_metadata, IsOfTables}
@@ -177,14 +177,14 @@ module _ {S : Type 0} {view : S → StorageView} where
   pointer_step_to is step = record { header = step.header; list = step.list; marks = step.marks; header_cluster = λ _. step.header_cluster is }
 
   -- the reftable stays, or gives way to a longer one, whose former clusters are listed
-  pub growth_step_on : {t t' : EntryTableView} {a b : ImageFile S} (r : Result (Unit {0}) ImageError) → PointerStep view t a t' b → GivesWay t t' a.free_list b.free_list r → GrowthStep view t a t' b r
+  pub growth_step_on : {t t' : EntryTableView} {a b : ImageFile S} (r : Result (Unit {0}) ImageError) → PointerStep view t a t' b → ReplacesReftable t t' a.free_list b.free_list r → GrowthStep view t a t' b r
   growth_step_on {t} {t'} {a} {b} r step former = record { header = step.header; list = lists_same a.free_list b.free_list step.list; former = former; marks = step.marks; header_cluster = step.header_cluster tt }
 
   pub growth_step_none : {t : EntryTableView} {f : ImageFile S} (r : Result (Unit {0}) ImageError) (e : ImageError) → IsErr r × IsErrAnd r (λ x. x ≡ e) → GrowthStep view t f t f r
-  growth_step_none {t} {f} r e on = growth_step_on r (pointer_step_on table_step_none) (handed_on (GivesWay t t f.free_list f.free_list) r e on (refl, refl))
+  growth_step_none {t} {f} r e on = growth_step_on r (pointer_step_on table_step_none) (handed_on (ReplacesReftable t t f.free_list f.free_list) r e on (refl, refl))
 
   -- with what the reftable says of it, it is one of a file
-  pub step_grown : {t t' : EntryTableView} {a b : ImageFile S} {r : Result (Unit {0}) ImageError} → GrowthStep view t a t' b r → ListsReftables t t' a.free_list b.free_list → FileStep view t a t' b
+  pub step_grown : {t t' : EntryTableView} {a b : ImageFile S} {r : Result (Unit {0}) ImageError} → GrowthStep view t a t' b r → OldReftablesQueued t t' a.free_list b.free_list → FileStep view t a t' b
   step_grown step former = record { header = step.header; list = step.list; former = former; marks = step.marks; header_cluster = step.header_cluster }
 
 -- ---- why a call is refused

@@ -74,19 +74,19 @@ pub record FillsClusters (t : EntryTableView) : Type 0 where
   pub elsewhere : IfSome t.cluster (λ c. 0 < c)
 
 -- The reftable was replaced by a longer one, any number of times. Each one fills whole clusters of the same size. These entries are the clusters of the old ones.
-abbrev pub GaveWay : EntryTableView → List ClustersToFreeEntry → EntryTableView → Type 0
-GaveWay old [] new = SamePlace old new
-GaveWay old (e ∷ es) new = IsRunOfTable old e × (next : EntryTableView) × (entry_count old < entry_count next) × (next.cluster_bits ≡ old.cluster_bits) × FillsClusters next × GaveWay next es new
+abbrev pub ReftableReplaced : EntryTableView → List ClustersToFreeEntry → EntryTableView → Type 0
+ReftableReplaced old [] new = SamePlace old new
+ReftableReplaced old (e ∷ es) new = IsRunOfTable old e × (next : EntryTableView) × (entry_count old < entry_count next) × (next.cluster_bits ≡ old.cluster_bits) × FillsClusters next × ReftableReplaced next es new
 
 -- Only the clusters of old reftables are added to the list, at its end. No refblock moves to cluster 0, and each range that has one keeps it.
-pub record ListsReftables (old new : EntryTableView) (list list' : List ClustersToFreeEntry) : Type 0 where
+pub record OldReftablesQueued (old new : EntryTableView) (list list' : List ClustersToFreeEntry) : Type 0 where
   pub more : List ClustersToFreeEntry
   pub is : list' ≡ list ++ more
-  pub gone : GaveWay old more new
+  pub gone : ReftableReplaced old more new
   pub behind : NamesBehindHeader old new
   pub ranges : KeepsRefblocks old new
 
 -- The reftable is replaced by one that fills whole clusters and keeps its refblocks, and exactly the clusters of the old one are listed. If this is refused, the reftable and the list stay the same.
-abbrev pub GivesWay : EntryTableView → EntryTableView → List ClustersToFreeEntry → List ClustersToFreeEntry → Result (Unit {0}) ImageError → Type 0
-GivesWay old new list list' (Ok _) = (e : ClustersToFreeEntry) × IsRunOfTable old e × (list' ≡ list ++ e ∷ []) × FillsClusters new × NamesBehindHeader old new × KeepsRefblocks old new
-GivesWay old new list list' (Err _) = (new ≡ old) × (list' ≡ list)
+abbrev pub ReplacesReftable : EntryTableView → EntryTableView → List ClustersToFreeEntry → List ClustersToFreeEntry → Result (Unit {0}) ImageError → Type 0
+ReplacesReftable old new list list' (Ok _) = (e : ClustersToFreeEntry) × IsRunOfTable old e × (list' ≡ list ++ e ∷ []) × FillsClusters new × NamesBehindHeader old new × KeepsRefblocks old new
+ReplacesReftable old new list list' (Err _) = (new ≡ old) × (list' ≡ list)

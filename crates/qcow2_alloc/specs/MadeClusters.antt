@@ -28,8 +28,8 @@ pub record IsOfReftable (t : EntryTableView) (cluster : ℕ) : Type 0 where
   pub within : 0 < run_at first ((8 * entry_count t + 2 ^ t.cluster_bits - 1) / 2 ^ t.cluster_bits) cluster
 
 -- The cluster is that of a new refblock, or of the reftable, which did not lie there before.
-abbrev pub IsMadeOnTheWay : HeaderFields → EntryTableView → EntryTableView → ℕ → Type 0
-IsMadeOnTheWay h old new cluster = IsOfNewRefblock h old new cluster ⊎ (IsOfReftable new cluster × ¬ IsOfReftable old cluster)
+abbrev pub IsAllocatedMetadata : HeaderFields → EntryTableView → EntryTableView → ℕ → Type 0
+IsAllocatedMetadata h old new cluster = IsOfNewRefblock h old new cluster ⊎ (IsOfReftable new cluster × ¬ IsOfReftable old cluster)
 
 -- How often the cluster is on the list to be freed.
 abbrev pub listed_at : List ClustersToFreeEntry → ℕ → ℕ
@@ -42,7 +42,7 @@ IsListedSince old new cluster = listed_at old cluster < listed_at new cluster
 
 -- The cluster was allocated for a refblock or a reftable, possibly for a reftable that was replaced again, and is on the list then.
 abbrev pub IsMadeInTurn : HeaderFields → EntryTableView → EntryTableView → List ClustersToFreeEntry → List ClustersToFreeEntry → ℕ → Type 0
-IsMadeInTurn h old new list list' cluster = IsMadeOnTheWay h old new cluster ⊎ IsListedSince list list' cluster
+IsMadeInTurn h old new list list' cluster = IsAllocatedMetadata h old new cluster ⊎ IsListedSince list list' cluster
 
 -- 1 if the cluster is in the run, if there is one; otherwise 0.
 abbrev pub run_in : Option ClustersToFreeEntry → ℕ → ℕ
@@ -59,6 +59,6 @@ module _ {S : Type 0} (view : S → StorageView) where
   CountsListed old new = (k : ℕ) → count old.header.fields (known_in view old) k + listed_at new.free_list k ≤ count new.header.fields (known_in view new) k + listed_at old.free_list k + reftable_at old.header.fields k
 
   -- Every cluster in use was in use before, or is in the call's answer, or was allocated for metadata; and listed clusters are counted. This may fail if a fault interrupted the call.
-  abbrev pub TakesAlone : {A : Type 0} → (A → ℕ → ℕ) → (ℕ → Type 0) → ImageFile S → ImageFile S → Result A ImageError → Type 0
-  TakesAlone taken Made old new (Ok answer) = ((k : ℕ) → IsUsed view new k → IsUsed view old k ⊎ (0 < taken answer k) ⊎ Made k) × CountsListed old new
-  TakesAlone taken Made old new (Err e) = (((k : ℕ) → IsUsed view new k → IsUsed view old k ⊎ Made k) × CountsListed old new) ⊎ BrokeOff new e
+  abbrev pub AllocatesOnly : {A : Type 0} → (A → ℕ → ℕ) → (ℕ → Type 0) → ImageFile S → ImageFile S → Result A ImageError → Type 0
+  AllocatesOnly taken Made old new (Ok answer) = ((k : ℕ) → IsUsed view new k → IsUsed view old k ⊎ (0 < taken answer k) ⊎ Made k) × CountsListed old new
+  AllocatesOnly taken Made old new (Err e) = (((k : ℕ) → IsUsed view new k → IsUsed view old k ⊎ Made k) × CountsListed old new) ⊎ BrokeOff new e

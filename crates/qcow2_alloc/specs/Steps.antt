@@ -9,7 +9,7 @@ use Rattle.qcow2_laws.specs.CrashInvariant.{Pending}
 use Rattle.qcow2_alloc.specs.Allocation.{Allocates, AllocatesAt, GivesBack, GrowsTable, GetsBlock, HasNone, KeepsEntries, KeepsNamed, NamesBlock, NamesLacking, SameLeaks, TakesCluster, TakesOne, TakesRun, UnseenAllocatorGrowth, run_at, taken_as}
 use Rattle.qcow2_alloc.specs.CachePins.{KeepsPinsAndNotes}
 use Rattle.qcow2_alloc.specs.Faults.{faults_of}
-use Rattle.qcow2_alloc.specs.FreeList.{pending_then, run_of, FillsClusters, GivesWay, ListsTables, ListsReftables}
+use Rattle.qcow2_alloc.specs.FreeList.{pending_then, run_of, FillsClusters, ReplacesReftable, ListsTables, OldReftablesQueued}
 use Rattle.qcow2_alloc.specs.GrownTables.{counted_run, EntersReftable, NamesReftable}
 use Rattle.qcow2_alloc.specs.Growing.{IsLeastLength}
 use Rattle.qcow2_alloc.specs.HeaderClusters.{KeepsHeaderCluster}
@@ -18,7 +18,7 @@ use Rattle.qcow2_alloc.specs.KeptMarks.{KeepsMarks}
 use Rattle.qcow2_alloc.specs.KeptNotes.{KeepsNotes}
 use Rattle.qcow2_alloc.specs.Limits.{CantCount, CantCountRun, CantGrow, HasNoPlace, HasNoRoomBelow, HasNoRoomFor, IsLowestRoom, IsPastLimits, LiesLowest, IsFaultOr, nameable_clusters}
 use Rattle.qcow2_alloc.specs.LowestRuns.{IsLowestRun, IsPassed, IsUsed, KeepsNoFreeBelowHint, KeepsUsed, NoFreeBelowHint, StaysUsed}
-use Rattle.qcow2_alloc.specs.MadeClusters.{run_in, IsMadeInTurn, IsMadeOnTheWay, ListsUsed, TakesAlone}
+use Rattle.qcow2_alloc.specs.MadeClusters.{run_in, IsMadeInTurn, IsAllocatedMetadata, ListsUsed, AllocatesOnly}
 use Rattle.qcow2_alloc.specs.MetadataCaches.{rb_at}
 use Rattle.qcow2_alloc.specs.Rooms.{ReachesRoom, TakesRoom}
 use Rattle.qcow2_alloc.specs.SparedHeaders.{AreBehindHeader, KeepBehindHeader, NamesReftableBehind, SparesHeader, SparesHeaderButPointer, StandsBehindHeader}
@@ -99,7 +99,7 @@ module _ {S : Type 0} (view : S → StorageView) where
   pub record FileStepBy (Keeps : ImageFile S → ImageFile S → Type 0) (reftable : EntryTableView) (old : ImageFile S) (reftable' : EntryTableView) (new : ImageFile S) : Type 0 where
     pub header : KeepsHeader old.header new.header
     pub list : ListsTables old.free_list new.free_list
-    pub former : ListsReftables reftable reftable' old.free_list new.free_list
+    pub former : OldReftablesQueued reftable reftable' old.free_list new.free_list
     pub marks : Keeps old new
     pub header_cluster : SparesHeaderButPointer view reftable old reftable' new
 
@@ -127,7 +127,7 @@ module _ {S : Type 0} (view : S → StorageView) where
   pub record GrowthStep (reftable : EntryTableView) (old : ImageFile S) (reftable' : EntryTableView) (new : ImageFile S) (result : Result (Unit {0}) ImageError) : Type 0 where
     pub header : KeepsHeader old.header new.header
     pub list : ListsTables old.free_list new.free_list
-    pub former : GivesWay reftable reftable' old.free_list new.free_list result
+    pub former : ReplacesReftable reftable reftable' old.free_list new.free_list result
     pub marks : KeepsMarks view old new
     pub header_cluster : SparesHeaderButPointer view reftable old reftable' new
 
@@ -224,19 +224,19 @@ module _ {S : Type 0} (view : S → StorageView) where
   pub record AllocatesSoundly (p : Pending) (kind : ClusterKind) (n : ℕ) (allocator : Allocator) (old : ImageFile S) (allocator' : Allocator) (new : ImageFile S) (result : Result ClustersToFreeEntry ImageError) : Type 0 where
     pub found : TakesLowestSoundly (Allocates view p old allocator' new (pending_then p old.free_list new.free_list) kind n result) (λ run. run.first_cluster) n allocator old allocator' new result
     pub leaks : SameLeaks allocator allocator'
-    pub made : TakesAlone view run_of (IsMadeInTurn old.header.fields allocator.reftable allocator'.reftable old.free_list new.free_list) old new result
+    pub made : AllocatesOnly view run_of (IsMadeInTurn old.header.fields allocator.reftable allocator'.reftable old.free_list new.free_list) old new result
 
   -- Exactly the requested cluster is allocated for data, or it cannot be.
   pub record AllocatesAtSoundly (p : Pending) (cluster : ℕ) (allocator : Allocator) (old : ImageFile S) (allocator' : Allocator) (new : ImageFile S) (result : Result (Option ClustersToFreeEntry) ImageError) : Type 0 where
     pub takes : AllocatesAt view p old allocator' new (pending_then p old.free_list new.free_list) cluster result
     pub leaks : SameLeaks allocator allocator'
     pub listed : ListsUsed view old new
-    pub made : TakesAlone view run_in (IsMadeOnTheWay old.header.fields allocator.reftable allocator'.reftable) old new result
+    pub made : AllocatesOnly view run_in (IsAllocatedMetadata old.header.fields allocator.reftable allocator'.reftable) old new result
     pub uses : OnOk result (StaysUsed view old new)
     pub kept : IfErr result (λ e. IsFault e ⊎ StaysUsed view old new)
     pub within : IfErr result (λ e. IsFault e ⊎ (cluster / counts_per_block old.header.fields < 2 ^ 20))
     pub none : NoFreeBelowHint view allocator old → IfOk result (λ run. IsNone run → IsPastLimits old.header.fields cluster
-        ⊎ (IsUsed view new cluster × (IsUsed view old cluster ⊎ IsMadeOnTheWay old.header.fields allocator.reftable allocator'.reftable cluster)))
+        ⊎ (IsUsed view new cluster × (IsUsed view old cluster ⊎ IsAllocatedMetadata old.header.fields allocator.reftable allocator'.reftable cluster)))
     pub hint : NoFreeBelowHint view allocator old → KeepsNoFreeBelowHint view allocator' new result
     pub limit : NoFreeBelowHint view allocator old → IfErr result (IsFaultOr (CantCount (IsUsed view new) new.header.fields (λ k. 0) allocator' cluster))
 
@@ -253,7 +253,7 @@ module _ {S : Type 0} (view : S → StorageView) where
   pub record GrowsSoundly (p : Pending) (index : ℕ) (allocator : Allocator) (old : ImageFile S) (allocator' : Allocator) (new : ImageFile S) (result : Result (Unit {0}) ImageError) : Type 0 where
     pub grows : GrowsTable view p old allocator' new (pending_then p old.free_list new.free_list) result
     pub leaks : SameLeaks allocator allocator'
-    pub made : TakesAlone view (λ done k. 0) (IsMadeOnTheWay old.header.fields allocator.reftable allocator'.reftable) old new result
+    pub made : AllocatesOnly view (λ done k. 0) (IsAllocatedMetadata old.header.fields allocator.reftable allocator'.reftable) old new result
     pub uses : KeepsUsed view old new result
     pub lowest : NoFreeBelowHint view allocator old → OnOk result (LiesLowest (IsUsed view new) new.header.fields allocator.reftable allocator'.reftable)
     pub limit : NoFreeBelowHint view allocator old → IfErr result (IsFaultOr ((allocator'.reftable ≡ allocator.reftable) × CantGrow (IsUsed view new) new.header.fields (λ k. 0) allocator.reftable index))

@@ -266,12 +266,12 @@ impl Allocator {
             if taken == n {
                 return Ok(first);
             }
-            first = self.pass_used(file, first + taken + 1)?;
+            first = self.next_free_from(file, first + taken + 1)?;
         }
         Err(ImageError::Limit)
     }
 
-    // Allocates the n clusters from `first` on, as `take_run` does. If `room_from` finds one that is remembered as in use, none is allocated,
+    // Allocates the n clusters from `first` on, as `allocate_run` does. If `room_from` finds one that is remembered as in use, none is allocated,
     // and the result is how many lie before it.
     fn try_run<S: Storage>(
         &mut self,
@@ -293,11 +293,11 @@ impl Allocator {
         if room < n {
             return Ok(room);
         }
-        self.take_run(file, first, n)
+        self.allocate_run(file, first, n)
     }
 
     // Allocates the n clusters from `first` on. Returns n, or how many lie before one that is in use; those are freed again.
-    fn take_run<S: Storage>(
+    fn allocate_run<S: Storage>(
         &mut self,
         file: &mut ImageFile<S>,
         first: u64,
@@ -346,7 +346,7 @@ impl Allocator {
             → TakesSoundly S.view p is_data self.old file.old self.new file.new cluster result }
         ensures noted { IfOk result (λ taken. IsTrue taken → IsTrue file.new.caches.is_changed) }
     {
-        self.reach_block(file, cluster)?;
+        self.ensure_refblock(file, cluster)?;
         let taken = self.raise(file, cluster)?;
         self.note_used(cluster, taken, file.header.rb_bits());
         if cluster == self.first_free_cluster {

@@ -35,7 +35,7 @@ struct Reach {
 
 impl Allocator {
     // Allocates the first room below an end for this many clusters of a reftable, and forgets the remembered refcounts of its ranges.
-    pub(crate) fn take_room<S: Storage>(
+    pub(crate) fn allocate_room<S: Storage>(
         &mut self,
         file: &mut ImageFile<S>,
         clusters: u64,
@@ -60,7 +60,7 @@ impl Allocator {
         Ok(room)
     }
 
-    // Allocates the first room, as `take_room` does, without forgetting refcounts.
+    // Allocates the first room, as `allocate_room` does, without forgetting refcounts.
     fn find_room<S: Storage>(
         &mut self,
         file: &mut ImageFile<S>,
@@ -80,7 +80,7 @@ impl Allocator {
     {
         let mut first = self.first_free_cluster.max(1);
         'search: while first < end {
-            let reach = self.reach_room(file, first, clusters, end)?;
+            let reach = self.reserve_room(file, first, clusters, end)?;
             if reach.taken == reach.blocks + clusters {
                 return Ok(Room {
                     first,
@@ -89,13 +89,13 @@ impl Allocator {
                 });
             }
             self.leave_run(file, first, reach.taken)?;
-            first = self.behind_used(file, first + reach.taken + 1)?;
+            first = self.next_free_in_range(file, first + reach.taken + 1)?;
         }
         Err(ImageError::Limit)
     }
 
     // Allocates clusters from `first` on until there is room, or one is in use, or the end comes.
-    fn reach_room<S: Storage>(
+    fn reserve_room<S: Storage>(
         &mut self,
         file: &mut ImageFile<S>,
         first: u64,
@@ -118,7 +118,7 @@ impl Allocator {
         let mut blocks = 0;
         'reaching: while taken < blocks + clusters && taken < end - first {
             let cluster = first + taken;
-            if !self.take_if_free(file, cluster, bits)? {
+            if !self.allocate_if_free(file, cluster, bits)? {
                 return Ok(Reach { taken, blocks });
             }
             blocks += u64::from(self.opens_range(first, cluster, bits));
@@ -129,7 +129,7 @@ impl Allocator {
 
     // Allocates a cluster if it is free. False if it is in use or spared. A cluster whose range has no refblock has no
     // refcount to increment.
-    fn take_if_free<S: Storage>(
+    fn allocate_if_free<S: Storage>(
         &mut self,
         file: &mut ImageFile<S>,
         cluster: u64,

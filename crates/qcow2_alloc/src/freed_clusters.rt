@@ -72,7 +72,7 @@ impl Allocator {
             (cluster / counts_per_block file.old.header.fields) → IsOk result × LeaksOne self.old self.new
             × (file.new ≡ file.old) }
     {
-        match self.try_lower(file, cluster) {
+        match self.decrement_refcount(file, cluster) {
             Ok(true) => return Ok(()),
             Ok(false) => {}
             Err(refusal) => {
@@ -254,7 +254,7 @@ impl Allocator {
     }
 
     // Decrements the refcount of a cluster. False if it is 0 or there is no refblock.
-    fn try_lower<S: Storage>(
+    fn decrement_refcount<S: Storage>(
         &mut self,
         file: &mut ImageFile<S>,
         cluster: u64,

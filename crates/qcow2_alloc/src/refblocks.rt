@@ -154,7 +154,7 @@ impl Allocator {
 
     // Makes sure that the range of a cluster has a refblock, and makes the reftable longer if the range lies past its end.
     // A reftable without entries is not made longer.
-    pub(crate) fn reach_block<S: Storage>(
+    pub(crate) fn ensure_refblock<S: Storage>(
         &mut self,
         file: &mut ImageFile<S>,
         cluster: u64,
@@ -208,20 +208,20 @@ impl Allocator {
         if !self.can_name(file.header.cluster_bits(), range as usize, first) {
             return Err(ImageError::Limit);
         }
-        match self.take_lowest_below(file, range << bits) {
+        match self.allocate_lowest_below(file, range << bits) {
             Ok(Some(at)) => self.place_block(file, range, at, false),
-            Ok(None) => self.cover_range(file, range),
+            Ok(None) => self.ensure_self_counting_refblock(file, range),
             Err(refusal) => {
                 if refusal.is_fault() {
                     return Err(refusal);
                 }
-                self.cover_range(file, range)
+                self.ensure_self_counting_refblock(file, range)
             }
         }
     }
 
     // Allocates the lowest free cluster below an end, and makes refblocks that count themselves if they are needed. Cluster 0 is the header's.
-    fn take_lowest_below<S: Storage>(
+    fn allocate_lowest_below<S: Storage>(
         &mut self,
         file: &mut ImageFile<S>,
         end: u64,
@@ -270,19 +270,19 @@ impl Allocator {
         self.first_free_cluster = self.first_free_cluster.max(1);
         'search: while self.first_free_cluster < end {
             let cluster = self.first_free_cluster;
-            self.cover_range(file, cluster >> bits)?;
+            self.ensure_self_counting_refblock(file, cluster >> bits)?;
             let taken = self.raise(file, cluster)?;
             self.first_free_cluster = cluster + 1;
             if taken {
                 return Ok(Some(cluster));
             }
-            self.first_free_cluster = self.behind_used(file, cluster + 1)?;
+            self.first_free_cluster = self.next_free_in_range(file, cluster + 1)?;
         }
         Ok(None)
     }
 
     // Makes sure that a range has a refblock. A new one lies in the range's first cluster and counts itself.
-    fn cover_range<S: Storage>(
+    fn ensure_self_counting_refblock<S: Storage>(
         &mut self,
         file: &mut ImageFile<S>,
         range: u64,

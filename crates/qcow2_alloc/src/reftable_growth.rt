@@ -134,7 +134,7 @@ impl Allocator {
         }
         let named = (table.len() as u64) << file.header.rb_bits();
         let end = named.min((MAX_HOST_OFFSET >> bits) + 1);
-        let room = self.take_room(file, table.cluster_count().value(), end)?;
+        let room = self.allocate_room(file, table.cluster_count().value(), end)?;
         self.write_reftable(file, table, room)
     }
 }

@@ -20,7 +20,7 @@ use qcow2_metadata::HostCluster;
 impl Allocator {
     // Passes over the clusters in use from one on, and moves the first free cluster if the search started there. Which clusters are in use
     // is known from the remembered refcounts, or else from the refblock.
-    pub(crate) fn pass_used<S: Storage>(
+    pub(crate) fn next_free_from<S: Storage>(
         &mut self,
         file: &mut ImageFile<S>,
         cluster: u64,
@@ -65,7 +65,7 @@ impl Allocator {
         if self.is_read(cluster) {
             return Ok(self.behind_kept(cluster));
         }
-        self.behind_used(file, cluster)
+        self.next_free_in_range(file, cluster)
     }
 
     // Remembers the refcounts in the refblock of the cluster's range, unless they are remembered already or there was no room for them.
@@ -285,7 +285,7 @@ impl Allocator {
     }
 
     // The end of the clusters in use from one on, by its refblock, at most the end of its range. Without a refblock none is in use.
-    pub(crate) fn behind_used<S: Storage>(
+    pub(crate) fn next_free_in_range<S: Storage>(
         &self,
         file: &mut ImageFile<S>,
         cluster: u64,

@@ -202,7 +202,7 @@ impl<S: Storage, F: WrappedFormat<S>> Qcow2<S, F> {
         self.begin();
         let cleared = self.clear_between(from, to, how);
         self.mark_failure(cleared)?;
-        self.end_freeing()?;
+        self.process_free_list_at_end()?;
         Ok((from, to.min(offset + length).saturating_sub(from)))
     }
 
@@ -282,7 +282,7 @@ impl<S: Storage, F: WrappedFormat<S>> Qcow2<S, F> {
     {
         match self.clear_in_table(from, to, how) {
             Ok(()) => Ok(()),
-            Err(refusal) => Err(self.free_after(refusal)),
+            Err(refusal) => Err(self.process_free_list_after(refusal)),
         }
     }
 

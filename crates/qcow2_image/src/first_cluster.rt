@@ -324,7 +324,7 @@ impl<S: Storage, F: WrappedFormat<S>> Qcow2<S, F> {
             → HoldsAll S.view F.backing p out
             → Gains S.view F.backing p self.old self.new out offset length overwrite old.now result }
     {
-        let pending = self.take_data()?;
+        let pending = self.allocate_data_cluster()?;
         match self.fill_cluster(pending.cluster(), offset, length, overwrite, old) {
             Ok(()) => Ok(pending),
             Err(refusal) => {
@@ -335,7 +335,7 @@ impl<S: Storage, F: WrappedFormat<S>> Qcow2<S, F> {
     }
 
     // Allocates a cluster for data.
-    fn take_data(&mut self) -> Result<PendingClusters, ImageError>
+    fn allocate_data_cluster(&mut self) -> Result<PendingClusters, ImageError>
         requires writable { IsTrue (is_writable self.old) }
         ensures step { ImageStep S.view self.old self.new }
         ensures fails { ImageFails S.view F.backing self.old self.new result IsMet }

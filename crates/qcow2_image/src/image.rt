@@ -453,14 +453,14 @@ impl<S: Storage, F: WrappedFormat<S>> Qcow2<S, F> {
         ensures quiet { is_writable self.old ≡ false → ReadsQuietly S.view self.old self.new }
         ensures written { IfOk result (λ done. known_in S.view self.new.file ≡ contents_in S.view self.new.file) }
     {
-        self.free_listed()?;
+        self.process_free_list()?;
         self.file.caches.flush_all(&mut self.file.storage)?;
         self.file.storage.flush()?;
         Ok(())
     }
 
     // Frees the clusters on the list. After a refusal, those that were not freed stay on it. Does nothing if the list is empty.
-    pub(crate) fn free_listed(&mut self) -> Result<(), ImageError>
+    pub(crate) fn process_free_list(&mut self) -> Result<(), ImageError>
         ensures step { ImageStep S.view self.old self.new }
         ensures keeps_rest { KeepsRest self.old self.new }
         ensures table { self.new.l1_table ≡ self.old.l1_table }
@@ -487,7 +487,7 @@ impl<S: Storage, F: WrappedFormat<S>> Qcow2<S, F> {
     }
 
     // Frees the clusters on the list, at the end of a call that changed an entry. Does nothing if the list is empty.
-    pub(crate) fn end_freeing(&mut self) -> Result<(), ImageError>
+    pub(crate) fn process_free_list_at_end(&mut self) -> Result<(), ImageError>
         ensures fails { ImageFails S.view F.backing self.old self.new result IsOfTables }
         ensures image { IsSameImage self.old self.new }
         ensures notes { KeepsFileNotes S.view self.old.file self.new.file }
@@ -500,7 +500,7 @@ impl<S: Storage, F: WrappedFormat<S>> Qcow2<S, F> {
         ensures table { self.new.l1_table ≡ self.old.l1_table }
         ensures header { self.new.file.header ≡ self.old.file.header }
     {
-        let freed = self.free_listed();
+        let freed = self.process_free_list();
         self.mark_failure(freed)
     }
 

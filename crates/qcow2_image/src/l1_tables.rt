@@ -56,7 +56,7 @@ impl<S: Storage, F: WrappedFormat<S>> Qcow2<S, F> {
             return Ok(());
         }
         self.grow_l1_table(index)?;
-        self.free_listed()
+        self.process_free_list()
     }
 
     // Replaces the L1 table by one that has an entry of this index, and all old entries. The clusters of the old one wait to be freed.

@@ -58,7 +58,7 @@ impl<S: Storage, F: WrappedFormat<S>> Qcow2<S, F> {
         }
         self.reach_entry(offset)?;
         self.own_l2(offset)?;
-        self.free_listed()?;
+        self.process_free_list()?;
         self.ensure_l2(offset)
     }
 

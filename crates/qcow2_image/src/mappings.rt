@@ -266,7 +266,7 @@ impl<S: Storage, F: WrappedFormat<S>> Qcow2<S, F> {
     {
         match self.prepare_range(offset, length, overwrite) {
             Ok(prepared) => Ok(prepared),
-            Err(refusal) => Err(self.free_after(refusal)),
+            Err(refusal) => Err(self.process_free_list_after(refusal)),
         }
     }
 
@@ -298,7 +298,7 @@ impl<S: Storage, F: WrappedFormat<S>> Qcow2<S, F> {
 
     // Frees the clusters on the list after a refusal, and returns the refusal to report. Nothing is freed after a fault and
     // after 9.
-    pub(crate) fn free_after(&mut self, refusal: ImageError) -> ImageError
+    pub(crate) fn process_free_list_after(&mut self, refusal: ImageError) -> ImageError
         ensures step { ImageStep S.view self.old self.new }
         ensures keeps_rest { KeepsRest self.old self.new }
         ensures table { self.new.l1_table ≡ self.old.l1_table }
@@ -322,7 +322,7 @@ impl<S: Storage, F: WrappedFormat<S>> Qcow2<S, F> {
         if is_last(&refusal) {
             return refusal;
         }
-        match self.free_listed() {
+        match self.process_free_list() {
             Ok(()) => refusal,
             Err(fault) => fault,
         }
@@ -496,7 +496,7 @@ impl<S: Storage, F: WrappedFormat<S>> Qcow2<S, F> {
         }
         self.begin();
         let entered = self.enter_shares(&mut prepared);
-        match self.end_freeing() {
+        match self.process_free_list_at_end() {
             Ok(()) => {
                 self.release_prepared(prepared);
                 Ok(())
@@ -610,12 +610,12 @@ impl<S: Storage, F: WrappedFormat<S>> Qcow2<S, F> {
             table,
             shares,
         } = prepared;
-        self.free_later(shares);
+        self.list_new_clusters(shares);
         self.unpin(table);
     }
 
     // Puts the new clusters of shares on the list of clusters to free.
-    fn free_later(&mut self, shares: Vec<Share>)
+    fn list_new_clusters(&mut self, shares: Vec<Share>)
         ensures { FreesLater (freed_by shares.items) self.old self.new }
     {
         for share in shares {

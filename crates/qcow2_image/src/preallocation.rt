@@ -122,7 +122,7 @@ impl<S: Storage, F: WrappedFormat<S>> Qcow2<S, F> {
     {
         match self.fill_behind(old, size, mode) {
             Ok(()) => Ok(()),
-            Err(refusal) => Err(self.free_after(refusal)),
+            Err(refusal) => Err(self.process_free_list_after(refusal)),
         }
     }
 
@@ -278,7 +278,7 @@ impl<S: Storage, F: WrappedFormat<S>> Qcow2<S, F> {
         }
         let next = to.min(from.saturating_add(self.rest_of_table(from)));
         self.clear_between(from, next, Clearance::KeptZeros)?;
-        self.free_listed()?;
+        self.process_free_list()?;
         Ok(next)
     }
 
@@ -328,10 +328,10 @@ impl<S: Storage, F: WrappedFormat<S>> Qcow2<S, F> {
         let count = prepared.length.min(writes.most());
         if let Err(refusal) = self.put_zeros(prepared.offset, count, writes) {
             self.release_prepared(prepared);
-            return Err(self.free_after(refusal));
+            return Err(self.process_free_list_after(refusal));
         }
         self.commit_filled(prepared);
-        self.free_listed()?;
+        self.process_free_list()?;
         Ok(next)
     }
 

@@ -200,7 +200,7 @@ impl<S: Storage, F: WrappedFormat<S>> Qcow2<S, F> {
             (GainsAt S.view F.backing p self.old self.new out offset length overwrite old.now cluster result) }
         ensures nameable { IfOk result (λ run. IsSome run → IsHostCluster self.old.file.header.fields.cluster_bits cluster) }
     {
-        let Some(pending) = self.take_data_at(cluster)? else {
+        let Some(pending) = self.allocate_data_cluster_at(cluster)? else {
             return Ok(None);
         };
         match self.fill_cluster(cluster, offset, length, overwrite, old) {
@@ -213,7 +213,7 @@ impl<S: Storage, F: WrappedFormat<S>> Qcow2<S, F> {
     }
 
     // Allocates this cluster for data, if it can be.
-    fn take_data_at(&mut self, cluster: HostCluster) -> Result<Option<PendingClusters>, ImageError>
+    fn allocate_data_cluster_at(&mut self, cluster: HostCluster) -> Result<Option<PendingClusters>, ImageError>
         requires writable { IsTrue (is_writable self.old) }
         ensures step { ImageStep S.view self.old self.new }
         ensures fails { ImageFails S.view F.backing self.old self.new result IsMet }

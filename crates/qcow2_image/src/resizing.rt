@@ -188,7 +188,7 @@ impl<S: Storage, F: WrappedFormat<S>> Qcow2<S, F> {
                 if refusal.is_fault() {
                     return Err(refusal);
                 }
-                self.end_freeing()?;
+                self.process_free_list_at_end()?;
                 Err(refusal)
             }
         }
@@ -346,7 +346,7 @@ impl<S: Storage, F: WrappedFormat<S>> Qcow2<S, F> {
     {
         match self.lengthen_l1_table(offset) {
             Ok(()) => Ok(()),
-            Err(refusal) => Err(self.free_after(refusal)),
+            Err(refusal) => Err(self.process_free_list_after(refusal)),
         }
     }
 
@@ -374,7 +374,7 @@ impl<S: Storage, F: WrappedFormat<S>> Qcow2<S, F> {
     {
         let index = GuestOffset::new(offset).l1_index(self.file.header.cluster_bits());
         self.grow_l1_table(index)?;
-        self.free_listed()
+        self.process_free_list()
     }
 
     // A fault refused a call; `before` are the numbers of changes at its begin. Marks the image as failed if

@@ -14,7 +14,7 @@ use Rattle.qcow2_alloc.specs.declared.clusters_to_free.ClustersToFreeEntry.{Clus
 use Rattle.qcow2_alloc.specs.Limits.{IsFaultOr, HasNoPlace}
 use Rattle.qcow2_alloc.proofs.Outcomes.{on_no_ok, if_no_ok, on_ok, why_as}
 use Rattle.qcow2_alloc.proofs.MadeClusters.{alone_none, alone_since, made_run}
-use Rattle.qcow2_alloc.specs.MadeClusters.{IsMadeInTurn, TakesAlone}
+use Rattle.qcow2_alloc.specs.MadeClusters.{IsMadeInTurn, AllocatesOnly}
 use Rattle.qcow2_metadata.specs.Entries.{count}
 use Rattle.qcow2_alloc.specs.TurnedCaches.{IsOfTurning, TurnsAlone}
 use Rattle.image_access.specs.Moments.{StorageView}
@@ -81,7 +81,7 @@ returns-in_err-l2_depends_on_rb-clause-sound g c = λ p sound.
       leaks = refl;
       made = let known = (c.l2_depends_on_rb.ensures.sound.keeps c.args.file.now.header.fields p sound.sound.honest sound.sound.caches).known in
           let alone = alone_none g.S.Storage.view c.args.file.now file refl known in
-          handed_on (TakesAlone g.S.Storage.view run_of (IsMadeInTurn c.args.file.now.header.fields c.args.self.now.reftable c.args.self.now.reftable c.args.file.now.free_list c.args.file.now.free_list) c.args.file.now file) c.from_residual.result c.in_err-l2_depends_on_rb.field-0.0 c.from_residual.ensures (inl ((λ k used. inl (alone.0 k used)), alone.1));
+          handed_on (AllocatesOnly g.S.Storage.view run_of (IsMadeInTurn c.args.file.now.header.fields c.args.self.now.reftable c.args.self.now.reftable c.args.file.now.free_list c.args.file.now.free_list) c.args.file.now file) c.from_residual.result c.in_err-l2_depends_on_rb.field-0.0 c.from_residual.ensures (inl ((λ k used. inl (alone.0 k used)), alone.1));
     }
 
 pub returns-clause-sound : goal.returns-clause-sound

@@ -20,7 +20,7 @@ use Rattle.qcow2_metadata.specs.L2Mapping.{IsHostCluster}
 use Rattle.qcow2_alloc.proofs.Outcomes.{on_no_ok, if_no_ok}
 use Rattle.qcow2_alloc.specs.declared.error.ImageError.TheVariants as I
 use Rattle.qcow2_alloc.proofs.MadeClusters.{alone_none, alone_since, lists_used_none, made_before, made_one, made_refused, made_untaken}
-use Rattle.qcow2_alloc.specs.MadeClusters.{run_in, IsMadeOnTheWay, TakesAlone}
+use Rattle.qcow2_alloc.specs.MadeClusters.{run_in, IsAllocatedMetadata, AllocatesOnly}
 use Rattle.qcow2_alloc.proofs.Steps.{data_then, fails_by, fails_ok, fails_on, fails_since, memory_other, data_cached}
 use Rattle.qcow2_alloc.proofs.allocation.Allocator.allocate_data_at.Goals as goal
 
@@ -181,7 +181,7 @@ returns-in-Ok-false-clause-sound g c = λ p sound.
       takes = allocator_step_on g.S.Storage.view p p (pending_then p c.args.file.now.free_list c.take.new.file.free_list) c.args.file.now file c.take.new.file c.args.self.now c.take.new.self (λ k some. some) (on_of g.S.Storage.view p p c.args.file.now file c.args.self.now one) two;
       leaks = (c.take.ensures.sound p false now tt).leaks;
       listed = λ k since. subst (λ b. count c.args.file.now.header.fields b k ≢ 0) known ((c.take.ensures.sound p false now tt).listed k since);
-      made = alone_since g.S.Storage.view c.args.file.now file refl known run_in (IsMadeOnTheWay c.args.file.now.header.fields c.args.self.now.reftable c.take.new.self.reftable) c.take.new.file (Ok None)
+      made = alone_since g.S.Storage.view c.args.file.now file refl known run_in (IsAllocatedMetadata c.args.file.now.header.fields c.args.self.now.reftable c.take.new.self.reftable) c.take.new.file (Ok None)
           (made_untaken g.S.Storage.view p file c.take.new.file c.args.self.now c.take.new.self now c.take.ensures.step.list c.take.ensures.step.former ((c.take.ensures.sound p false now tt).listed) two);
       uses = λ k used. let h = c.args.file.now.header.fields in
           (c.in-Ok-false.ensures.sound p true now c.in_ok-l2_depends_on_rb.ensures.turns.order).uses k (subst (λ b. count h b k ≢ 0) (sym known) used);
@@ -205,7 +205,7 @@ returns-in_err-l2_depends_on_rb-clause-sound g c = λ p sound.
       listed = lists_used_none g.S.Storage.view c.args.file.now file refl;
       made = let known = (c.l2_depends_on_rb.ensures.sound.keeps c.args.file.now.header.fields p sound.sound.honest sound.sound.caches).known in
           let alone = alone_none g.S.Storage.view c.args.file.now file refl known in
-          handed_on (TakesAlone g.S.Storage.view run_in (IsMadeOnTheWay c.args.file.now.header.fields c.args.self.now.reftable c.args.self.now.reftable) c.args.file.now file) c.from_residual.result c.in_err-l2_depends_on_rb.field-0.0 c.from_residual.ensures (inl ((λ k used. inl (alone.0 k used)), alone.1));
+          handed_on (AllocatesOnly g.S.Storage.view run_in (IsAllocatedMetadata c.args.file.now.header.fields c.args.self.now.reftable c.args.self.now.reftable) c.args.file.now file) c.from_residual.result c.in_err-l2_depends_on_rb.field-0.0 c.from_residual.ensures (inl ((λ k used. inl (alone.0 k used)), alone.1));
       uses = on_no_ok _ c.from_residual.result c.in_err-l2_depends_on_rb.field-0.0 c.from_residual.ensures;
       kept = handed_on (λ (r : Result (Option ClustersToFreeEntry) ImageError). IfErr r (λ e. IsFault e ⊎ StaysUsed g.S.Storage.view c.args.file.now file)) c.from_residual.result c.in_err-l2_depends_on_rb.field-0.0 c.from_residual.ensures
           (inl (c.in_err-l2_depends_on_rb.ensures.faults c.args.file.now.header.fields p sound.sound.honest sound.sound.caches sound.sound.named_blocks));
@@ -246,7 +246,7 @@ returns-in-Err-clause-sound g c = λ p sound.
       takes = leaves_on g.S.Storage.view p p (pending_then p c.args.file.now.free_list c.take.new.file.free_list) c.args.file.now file c.take.new.file c.args.self.now c.take.new.self c.in-Err.refusal (λ k some. some) (on_of g.S.Storage.view p p c.args.file.now file c.args.self.now one) ((c.in-Err.ensures.sound p true now c.in_ok-l2_depends_on_rb.ensures.turns.order).takes);
       leaks = (c.take.ensures.sound p false now tt).leaks;
       listed = λ k since. subst (λ b. count c.args.file.now.header.fields b k ≢ 0) known ((c.take.ensures.sound p false now tt).listed k since);
-      made = alone_since g.S.Storage.view c.args.file.now file refl known run_in (IsMadeOnTheWay c.args.file.now.header.fields c.args.self.now.reftable c.take.new.self.reftable) c.take.new.file (Err c.in-Err.refusal)
+      made = alone_since g.S.Storage.view c.args.file.now file refl known run_in (IsAllocatedMetadata c.args.file.now.header.fields c.args.self.now.reftable c.take.new.self.reftable) c.take.new.file (Err c.in-Err.refusal)
           (made_refused g.S.Storage.view p file c.take.new.file c.args.self.now c.take.new.self now c.take.ensures.step.list c.take.ensures.step.former ((c.take.ensures.sound p false now tt).listed) c.in-Err.refusal ((c.in-Err.ensures.sound p true now c.in_ok-l2_depends_on_rb.ensures.turns.order).takes));
       uses = tt;
       kept = let h = c.args.file.now.header.fields in
@@ -279,7 +279,7 @@ returns-in-Ok-true-clause-sound g c = λ p sound.
       );
       leaks = (c.take.ensures.sound p false now tt).leaks;
       listed = λ k since. subst (λ b. count c.args.file.now.header.fields b k ≢ 0) known ((c.take.ensures.sound p false now tt).listed k since);
-      made = alone_since g.S.Storage.view c.args.file.now file refl known run_in (IsMadeOnTheWay c.args.file.now.header.fields c.args.self.now.reftable c.take.new.self.reftable) c.take.new.file (Ok (Some c.in-Ok.pending))
+      made = alone_since g.S.Storage.view c.args.file.now file refl known run_in (IsAllocatedMetadata c.args.file.now.header.fields c.args.self.now.reftable c.take.new.self.reftable) c.take.new.file (Ok (Some c.in-Ok.pending))
           (made_one g.S.Storage.view p file c.take.new.file c.args.self.now c.take.new.self now c.take.ensures.step.list c.take.ensures.step.former ((c.take.ensures.sound p false now tt).listed) true c.value.result c.args.cluster c.in-Ok.pending c.value.ensures (ap (λ (r : ClustersToFreeEntry). r.first_cluster) (c.in-Ok.ensures ∙ c.data-entry.ensures)) (ap (λ (r : ClustersToFreeEntry). r.count) (c.in-Ok.ensures ∙ c.data-entry.ensures) ∙ c.new.ensures) two);
       uses = λ k used. let h = c.args.file.now.header.fields in
           (c.in-Ok-true.ensures.sound p true now c.in_ok-l2_depends_on_rb.ensures.turns.order).uses k (subst (λ b. count h b k ≢ 0) (sym known) used);

@@ -76,7 +76,7 @@ returns-then-not-can_name-clause-sound g c = λ p sound.
     }
 
 pub returns-then-is_fault-clause-step : goal.returns-then-is_fault-clause-step
-returns-then-is_fault-clause-step g c = table_step_then c.load_block.ensures.step c.take_lowest_below.ensures.step
+returns-then-is_fault-clause-step g c = table_step_then c.load_block.ensures.step c.allocate_lowest_below.ensures.step
 
 pub returns-then-is_fault-clause-fails : goal.returns-then-is_fault-clause-fails
 returns-then-is_fault-clause-fails g c = fails_since c.in_ok-load_block.ensures.fails.told c.in-Err.ensures.fails
@@ -85,7 +85,7 @@ pub returns-then-is_fault-clause-sound : goal.returns-then-is_fault-clause-sound
 returns-then-is_fault-clause-sound g c = λ p sound.
     let one = (c.in_ok-load_block.ensures.sound p sound).0 in
     record {
-      gets = leaves_then g.S.Storage.view p c.args.file.now c.load_block.new.file c.take_lowest_below.new.file c.take_lowest_below.new.self c.in-Err.refusal one.file_step (c.in-Err.ensures.sound p (is_sound_now g.S.Storage.view p p c.args.file.now c.load_block.new.file c.args.self.now one));
+      gets = leaves_then g.S.Storage.view p c.args.file.now c.load_block.new.file c.allocate_lowest_below.new.file c.allocate_lowest_below.new.self c.in-Err.refusal one.file_step (c.in-Err.ensures.sound p (is_sound_now g.S.Storage.view p p c.args.file.now c.load_block.new.file c.args.self.now one));
       hint = λ hint. let now = is_sound_now g.S.Storage.view p p c.args.file.now c.load_block.new.file c.args.self.now one in
           c.in-Err.ensures.hint p now (hint_stays g.S.Storage.view p c.args.file.now c.load_block.new.file c.args.self.now c.args.self.now one (passed_still c.args.self.now) hint);
       fault = λ within near. c.is_fault.ensures.0 c.if-is_fault.true;
@@ -93,18 +93,18 @@ returns-then-is_fault-clause-sound g c = λ p sound.
 
 pub returns-in-Ok-Some-clause-step : goal.returns-in-Ok-Some-clause-step
 returns-in-Ok-Some-clause-step g c = record {
-  header = c.place_block.ensures.step.header ∙ c.take_lowest_below.ensures.step.header ∙ c.load_block.ensures.step.header;
-  list = c.place_block.ensures.step.list ∙ c.take_lowest_below.ensures.step.list ∙ c.load_block.ensures.step.list;
+  header = c.place_block.ensures.step.header ∙ c.allocate_lowest_below.ensures.step.header ∙ c.load_block.ensures.step.header;
+  list = c.place_block.ensures.step.list ∙ c.allocate_lowest_below.ensures.step.list ∙ c.load_block.ensures.step.list;
   named = let range = c.args.cluster / 2 ^ c.rb_bits-bits.result in
       let none = none_named c.args.file.now.header.fields c.args.self.now.reftable range c.in_ok-load_block.field-0 (sym c.is_some.ensures ∙ c.if-is_some.false) c.in_ok-load_block.ensures.finds.names in
       let counts : counts_per_block c.load_block.new.file.header.fields ≡ 2 ^ c.rb_bits-bits.result = ap (λ h. counts_per_block h.fields) c.load_block.ensures.step.header ∙ c.rb_bits-bits.ensures.counts in
       let e = ap (λ n. c.args.cluster / 2 ^ c.rb_bits-bits.result * n) counts in
       let past : c.args.cluster / 2 ^ c.rb_bits-bits.result * 2 ^ c.rb_bits-bits.result % 18446744073709551616 ≤ c.args.cluster / 2 ^ c.rb_bits-bits.result * counts_per_block c.load_block.new.file.header.fields = omega (arith, e) in
-      let still : HasNone c.take_lowest_below.new.self.reftable range = ap block_offset (c.in-Ok-Some.ensures.entries.others range past) ∙ none in
-      named_then c.args.self.now.reftable c.take_lowest_below.new.self.reftable c.place_block.new.self.reftable c.take_lowest_below.ensures.step.named
-      (named_covered c.take_lowest_below.new.self.reftable c.place_block.new.self.reftable range still c.place_block.ensures.step.named);
-  marks = kept_marks_then (kept_marks_then c.load_block.ensures.step.marks c.take_lowest_below.ensures.step.marks) c.place_block.ensures.step.marks;
-  header_cluster = spares_then (spares_then c.load_block.ensures.step.header_cluster c.take_lowest_below.ensures.step.header_cluster) c.place_block.ensures.step.header_cluster;
+      let still : HasNone c.allocate_lowest_below.new.self.reftable range = ap block_offset (c.in-Ok-Some.ensures.entries.others range past) ∙ none in
+      named_then c.args.self.now.reftable c.allocate_lowest_below.new.self.reftable c.place_block.new.self.reftable c.allocate_lowest_below.ensures.step.named
+      (named_covered c.allocate_lowest_below.new.self.reftable c.place_block.new.self.reftable range still c.place_block.ensures.step.named);
+  marks = kept_marks_then (kept_marks_then c.load_block.ensures.step.marks c.allocate_lowest_below.ensures.step.marks) c.place_block.ensures.step.marks;
+  header_cluster = spares_then (spares_then c.load_block.ensures.step.header_cluster c.allocate_lowest_below.ensures.step.header_cluster) c.place_block.ensures.step.header_cluster;
 }
 
 pub returns-in-Ok-Some-clause-fails : goal.returns-in-Ok-Some-clause-fails
@@ -118,75 +118,75 @@ returns-in-Ok-Some-clause-sound g c = λ p sound.
     let counts : counts_per_block c.load_block.new.file.header.fields ≡ 2 ^ c.rb_bits-bits.result = ap (λ h. counts_per_block h.fields) c.load_block.ensures.step.header ∙ c.rb_bits-bits.ensures.counts in
     let e = ap (λ n. c.args.cluster / 2 ^ c.rb_bits-bits.result * n) counts in
     let past : c.args.cluster / 2 ^ c.rb_bits-bits.result * 2 ^ c.rb_bits-bits.result % 18446744073709551616 ≤ c.args.cluster / 2 ^ c.rb_bits-bits.result * counts_per_block c.load_block.new.file.header.fields = omega (arith, e) in
-    let still : HasNone c.take_lowest_below.new.self.reftable (c.args.cluster / 2 ^ c.rb_bits-bits.result) = ap block_offset (c.in-Ok-Some.ensures.entries.others (c.args.cluster / 2 ^ c.rb_bits-bits.result) past) ∙ none in
-    let taken = allocator_step_then g.S.Storage.view p (taken_as false p (one_at c.in-Ok-Some.at)) c.args.file.now c.load_block.new.file c.take_lowest_below.new.file c.args.self.now c.take_lowest_below.new.self l.0 two in
+    let still : HasNone c.allocate_lowest_below.new.self.reftable (c.args.cluster / 2 ^ c.rb_bits-bits.result) = ap block_offset (c.in-Ok-Some.ensures.entries.others (c.args.cluster / 2 ^ c.rb_bits-bits.result) past) ∙ none in
+    let taken = allocator_step_then g.S.Storage.view p (taken_as false p (one_at c.in-Ok-Some.at)) c.args.file.now c.load_block.new.file c.allocate_lowest_below.new.file c.args.self.now c.allocate_lowest_below.new.self l.0 two in
     record {
       gets = let noted = rw c.in-Ok-Some.field-0-is at c.in-Ok-Some.ensures.noted in
-          gets_taken g.S.Storage.view p c.args.file.now c.take_lowest_below.new.file c.place_block.new.file c.take_lowest_below.new.self c.place_block.new.self _ c.in-Ok-Some.at c.place_block.result taken (c.place_block.ensures.step.marks.pins.changes.noted (noted refl))
-          (c.place_block.ensures.sound p (is_sound_now g.S.Storage.view p (taken_as false p (one_at c.in-Ok-Some.at)) c.args.file.now c.take_lowest_below.new.file c.take_lowest_below.new.self taken) (record { none = still; first = tt }));
+          gets_taken g.S.Storage.view p c.args.file.now c.allocate_lowest_below.new.file c.place_block.new.file c.allocate_lowest_below.new.self c.place_block.new.self _ c.in-Ok-Some.at c.place_block.result taken (c.place_block.ensures.step.marks.pins.changes.noted (noted refl))
+          (c.place_block.ensures.sound p (is_sound_now g.S.Storage.view p (taken_as false p (one_at c.in-Ok-Some.at)) c.args.file.now c.allocate_lowest_below.new.file c.allocate_lowest_below.new.self taken) (record { none = still; first = tt }));
       hint = λ hint. let here = hint_stays g.S.Storage.view p c.args.file.now c.load_block.new.file c.args.self.now c.args.self.now l.0 (passed_still c.args.self.now) hint in
-          hint_placed g.S.Storage.view p c.take_lowest_below.new.file c.place_block.new.file c.take_lowest_below.new.self c.place_block.new.self (c.args.cluster / 2 ^ c.rb_bits-bits.result) c.in-Ok-Some.at c.place_block.result (passed_same _ c.place_block.new.self c.place_block.ensures.rest)
-          (c.place_block.ensures.sound p (is_sound_now g.S.Storage.view p (taken_as false p (one_at c.in-Ok-Some.at)) c.args.file.now c.take_lowest_below.new.file c.take_lowest_below.new.self taken) (record { none = still; first = tt }))
+          hint_placed g.S.Storage.view p c.allocate_lowest_below.new.file c.place_block.new.file c.allocate_lowest_below.new.self c.place_block.new.self (c.args.cluster / 2 ^ c.rb_bits-bits.result) c.in-Ok-Some.at c.place_block.result (passed_same _ c.place_block.new.self c.place_block.ensures.rest)
+          (c.place_block.ensures.sound p (is_sound_now g.S.Storage.view p (taken_as false p (one_at c.in-Ok-Some.at)) c.args.file.now c.allocate_lowest_below.new.file c.allocate_lowest_below.new.self taken) (record { none = still; first = tt }))
           (c.in-Ok-Some.ensures.hint p (is_sound_now g.S.Storage.view p p c.args.file.now c.load_block.new.file c.args.self.now l.0) here);
-      fault = λ within near. placed_fault g.S.Storage.view (taken_as false p (one_at c.in-Ok-Some.at)) p c.take_lowest_below.new.file c.place_block.new.file c.place_block.new.self (c.args.cluster / 2 ^ c.rb_bits-bits.result) c.in-Ok-Some.at c.place_block.result
-          (c.place_block.ensures.sound p (is_sound_now g.S.Storage.view p (taken_as false p (one_at c.in-Ok-Some.at)) c.args.file.now c.take_lowest_below.new.file c.take_lowest_below.new.self taken) (record { none = still; first = tt }));
+      fault = λ within near. placed_fault g.S.Storage.view (taken_as false p (one_at c.in-Ok-Some.at)) p c.allocate_lowest_below.new.file c.place_block.new.file c.place_block.new.self (c.args.cluster / 2 ^ c.rb_bits-bits.result) c.in-Ok-Some.at c.place_block.result
+          (c.place_block.ensures.sound p (is_sound_now g.S.Storage.view p (taken_as false p (one_at c.in-Ok-Some.at)) c.args.file.now c.allocate_lowest_below.new.file c.allocate_lowest_below.new.self taken) (record { none = still; first = tt }));
     }
 
 pub returns-in-Ok-None-clause-step : goal.returns-in-Ok-None-clause-step
-returns-in-Ok-None-clause-step g c = table_step_then (table_step_then c.load_block.ensures.step c.take_lowest_below.ensures.step) c.cover_range.ensures.step
+returns-in-Ok-None-clause-step g c = table_step_then (table_step_then c.load_block.ensures.step c.allocate_lowest_below.ensures.step) c.ensure_self_counting_refblock.ensures.step
 
 pub returns-in-Ok-None-clause-fails : goal.returns-in-Ok-None-clause-fails
-returns-in-Ok-None-clause-fails g c = fails_since (c.in-Ok-None.ensures.fails.told ∙ c.in_ok-load_block.ensures.fails.told) c.cover_range.ensures.fails
+returns-in-Ok-None-clause-fails g c = fails_since (c.in-Ok-None.ensures.fails.told ∙ c.in_ok-load_block.ensures.fails.told) c.ensure_self_counting_refblock.ensures.fails
 
 pub returns-in-Ok-None-clause-sound : goal.returns-in-Ok-None-clause-sound
 returns-in-Ok-None-clause-sound g c = λ p sound.
     let one = (c.in_ok-load_block.ensures.sound p sound).0 in
     record {
       gets = let two = rw c.in-Ok-None.field-0-is at (c.in-Ok-None.ensures.sound p (is_sound_now g.S.Storage.view p p c.args.file.now c.load_block.new.file c.args.self.now one)) in
-          let before = allocator_step_then g.S.Storage.view p p c.args.file.now c.load_block.new.file c.take_lowest_below.new.file c.args.self.now c.take_lowest_below.new.self one two in
-          gets_then g.S.Storage.view p c.args.file.now c.take_lowest_below.new.file c.cover_range.new.file c.take_lowest_below.new.self c.cover_range.new.self c.cover_range.result before
-          ((c.cover_range.ensures.sound p (is_sound_now g.S.Storage.view p p c.args.file.now c.take_lowest_below.new.file c.take_lowest_below.new.self before)).gets);
+          let before = allocator_step_then g.S.Storage.view p p c.args.file.now c.load_block.new.file c.allocate_lowest_below.new.file c.args.self.now c.allocate_lowest_below.new.self one two in
+          gets_then g.S.Storage.view p c.args.file.now c.allocate_lowest_below.new.file c.ensure_self_counting_refblock.new.file c.allocate_lowest_below.new.self c.ensure_self_counting_refblock.new.self c.ensure_self_counting_refblock.result before
+          ((c.ensure_self_counting_refblock.ensures.sound p (is_sound_now g.S.Storage.view p p c.args.file.now c.allocate_lowest_below.new.file c.allocate_lowest_below.new.self before)).gets);
       hint = λ hint. let now = is_sound_now g.S.Storage.view p p c.args.file.now c.load_block.new.file c.args.self.now one in
           let two = rw c.in-Ok-None.field-0-is at (c.in-Ok-None.ensures.sound p now) in
           let still = hint_stays g.S.Storage.view p c.args.file.now c.load_block.new.file c.args.self.now c.args.self.now one (passed_still c.args.self.now) hint in
-          hint_got g.S.Storage.view p c.take_lowest_below.new.file c.cover_range.new.file c.take_lowest_below.new.self c.cover_range.new.self c.cover_range.result c.cover_range.ensures.first.passed
-          ((c.cover_range.ensures.sound p (is_sound_now g.S.Storage.view p p c.load_block.new.file c.take_lowest_below.new.file c.take_lowest_below.new.self two)).gets) (c.in-Ok-None.ensures.hint p now still);
+          hint_got g.S.Storage.view p c.allocate_lowest_below.new.file c.ensure_self_counting_refblock.new.file c.allocate_lowest_below.new.self c.ensure_self_counting_refblock.new.self c.ensure_self_counting_refblock.result c.ensure_self_counting_refblock.ensures.first.passed
+          ((c.ensure_self_counting_refblock.ensures.sound p (is_sound_now g.S.Storage.view p p c.load_block.new.file c.allocate_lowest_below.new.file c.allocate_lowest_below.new.self two)).gets) (c.in-Ok-None.ensures.hint p now still);
       fault = λ within near. let two = rw c.in-Ok-None.field-0-is at (c.in-Ok-None.ensures.sound p (is_sound_now g.S.Storage.view p p c.args.file.now c.load_block.new.file c.args.self.now one)) in
           let count = c.in-Ok-None.ensures.entries.count in
-          let same = ap (λ x. x.fields) (c.take_lowest_below.ensures.step.header ∙ c.load_block.ensures.step.header) in
-          let here = range_near c.args.file.now.header.fields c.take_lowest_below.new.file.header.fields c.args.cluster c.rb_bits-bits.result same c.rb_bits-bits.ensures.counts near in
+          let same = ap (λ x. x.fields) (c.allocate_lowest_below.ensures.step.header ∙ c.load_block.ensures.step.header) in
+          let here = range_near c.args.file.now.header.fields c.allocate_lowest_below.new.file.header.fields c.args.cluster c.rb_bits-bits.result same c.rb_bits-bits.ensures.counts near in
           let range = ap (λ n. c.args.cluster / n) c.rb_bits-bits.ensures.counts in
-          (c.cover_range.ensures.sound p (is_sound_now g.S.Storage.view p p c.load_block.new.file c.take_lowest_below.new.file c.take_lowest_below.new.self two)).fault (omega (arith, range, count, within)) here;
+          (c.ensure_self_counting_refblock.ensures.sound p (is_sound_now g.S.Storage.view p p c.load_block.new.file c.allocate_lowest_below.new.file c.allocate_lowest_below.new.self two)).fault (omega (arith, range, count, within)) here;
     }
 
 pub returns-else-is_fault-clause-step : goal.returns-else-is_fault-clause-step
-returns-else-is_fault-clause-step g c = table_step_then (table_step_then c.load_block.ensures.step c.take_lowest_below.ensures.step) c.cover_range-in-Err.ensures.step
+returns-else-is_fault-clause-step g c = table_step_then (table_step_then c.load_block.ensures.step c.allocate_lowest_below.ensures.step) c.ensure_self_counting_refblock-in-Err.ensures.step
 
 pub returns-else-is_fault-clause-fails : goal.returns-else-is_fault-clause-fails
-returns-else-is_fault-clause-fails g c = fails_since (c.in-Err.ensures.fails.told (λ is. not_both c.is_fault.result (c.is_fault.ensures.1 (inl is)) c.if-is_fault.false) ∙ c.in_ok-load_block.ensures.fails.told) c.cover_range-in-Err.ensures.fails
+returns-else-is_fault-clause-fails g c = fails_since (c.in-Err.ensures.fails.told (λ is. not_both c.is_fault.result (c.is_fault.ensures.1 (inl is)) c.if-is_fault.false) ∙ c.in_ok-load_block.ensures.fails.told) c.ensure_self_counting_refblock-in-Err.ensures.fails
 
 pub returns-else-is_fault-clause-sound : goal.returns-else-is_fault-clause-sound
 returns-else-is_fault-clause-sound g c = λ p sound.
     let one = (c.in_ok-load_block.ensures.sound p sound).0 in
     record {
-      gets = let two = still_sound g.S.Storage.view p c.load_block.new.file c.take_lowest_below.new.file c.take_lowest_below.new.self c.in-Err.refusal (λ fault. not_both c.is_fault.result (c.is_fault.ensures.1 fault) c.if-is_fault.false)
+      gets = let two = still_sound g.S.Storage.view p c.load_block.new.file c.allocate_lowest_below.new.file c.allocate_lowest_below.new.self c.in-Err.refusal (λ fault. not_both c.is_fault.result (c.is_fault.ensures.1 fault) c.if-is_fault.false)
           (c.in-Err.ensures.sound p (is_sound_now g.S.Storage.view p p c.args.file.now c.load_block.new.file c.args.self.now one)) in
-          let before = allocator_step_then g.S.Storage.view p p c.args.file.now c.load_block.new.file c.take_lowest_below.new.file c.args.self.now c.take_lowest_below.new.self one two in
-          gets_then g.S.Storage.view p c.args.file.now c.take_lowest_below.new.file c.cover_range-in-Err.new.file c.take_lowest_below.new.self c.cover_range-in-Err.new.self c.cover_range-in-Err.result before
-          ((c.cover_range-in-Err.ensures.sound p (is_sound_now g.S.Storage.view p p c.args.file.now c.take_lowest_below.new.file c.take_lowest_below.new.self before)).gets);
+          let before = allocator_step_then g.S.Storage.view p p c.args.file.now c.load_block.new.file c.allocate_lowest_below.new.file c.args.self.now c.allocate_lowest_below.new.self one two in
+          gets_then g.S.Storage.view p c.args.file.now c.allocate_lowest_below.new.file c.ensure_self_counting_refblock-in-Err.new.file c.allocate_lowest_below.new.self c.ensure_self_counting_refblock-in-Err.new.self c.ensure_self_counting_refblock-in-Err.result before
+          ((c.ensure_self_counting_refblock-in-Err.ensures.sound p (is_sound_now g.S.Storage.view p p c.args.file.now c.allocate_lowest_below.new.file c.allocate_lowest_below.new.self before)).gets);
       hint = λ hint. let now = is_sound_now g.S.Storage.view p p c.args.file.now c.load_block.new.file c.args.self.now one in
           let no_fault : IsFault c.in-Err.refusal → ⊥ = λ fault. not_both c.is_fault.result (c.is_fault.ensures.1 fault) c.if-is_fault.false in
-          let two = still_sound g.S.Storage.view p c.load_block.new.file c.take_lowest_below.new.file c.take_lowest_below.new.self c.in-Err.refusal no_fault (c.in-Err.ensures.sound p now) in
+          let two = still_sound g.S.Storage.view p c.load_block.new.file c.allocate_lowest_below.new.file c.allocate_lowest_below.new.self c.in-Err.refusal no_fault (c.in-Err.ensures.sound p now) in
           let still = hint_stays g.S.Storage.view p c.args.file.now c.load_block.new.file c.args.self.now c.args.self.now one (passed_still c.args.self.now) hint in
-          hint_got g.S.Storage.view p c.take_lowest_below.new.file c.cover_range-in-Err.new.file c.take_lowest_below.new.self c.cover_range-in-Err.new.self c.cover_range-in-Err.result c.cover_range-in-Err.ensures.first.passed
-          ((c.cover_range-in-Err.ensures.sound p (is_sound_now g.S.Storage.view p p c.load_block.new.file c.take_lowest_below.new.file c.take_lowest_below.new.self two)).gets) (not_broken c.take_lowest_below.new.file c.in-Err.refusal no_fault (c.in-Err.ensures.hint p now still));
-      fault = λ within near. let two = still_sound g.S.Storage.view p c.load_block.new.file c.take_lowest_below.new.file c.take_lowest_below.new.self c.in-Err.refusal (λ fault. not_both c.is_fault.result (c.is_fault.ensures.1 fault) c.if-is_fault.false)
+          hint_got g.S.Storage.view p c.allocate_lowest_below.new.file c.ensure_self_counting_refblock-in-Err.new.file c.allocate_lowest_below.new.self c.ensure_self_counting_refblock-in-Err.new.self c.ensure_self_counting_refblock-in-Err.result c.ensure_self_counting_refblock-in-Err.ensures.first.passed
+          ((c.ensure_self_counting_refblock-in-Err.ensures.sound p (is_sound_now g.S.Storage.view p p c.load_block.new.file c.allocate_lowest_below.new.file c.allocate_lowest_below.new.self two)).gets) (not_broken c.allocate_lowest_below.new.file c.in-Err.refusal no_fault (c.in-Err.ensures.hint p now still));
+      fault = λ within near. let two = still_sound g.S.Storage.view p c.load_block.new.file c.allocate_lowest_below.new.file c.allocate_lowest_below.new.self c.in-Err.refusal (λ fault. not_both c.is_fault.result (c.is_fault.ensures.1 fault) c.if-is_fault.false)
           (c.in-Err.ensures.sound p (is_sound_now g.S.Storage.view p p c.args.file.now c.load_block.new.file c.args.self.now one)) in
           let count = c.in-Err.ensures.entries.count in
-          let same = ap (λ x. x.fields) (c.take_lowest_below.ensures.step.header ∙ c.load_block.ensures.step.header) in
-          let here = range_near c.args.file.now.header.fields c.take_lowest_below.new.file.header.fields c.args.cluster c.rb_bits-bits.result same c.rb_bits-bits.ensures.counts near in
+          let same = ap (λ x. x.fields) (c.allocate_lowest_below.ensures.step.header ∙ c.load_block.ensures.step.header) in
+          let here = range_near c.args.file.now.header.fields c.allocate_lowest_below.new.file.header.fields c.args.cluster c.rb_bits-bits.result same c.rb_bits-bits.ensures.counts near in
           let range = ap (λ n. c.args.cluster / n) c.rb_bits-bits.ensures.counts in
-          (c.cover_range-in-Err.ensures.sound p (is_sound_now g.S.Storage.view p p c.load_block.new.file c.take_lowest_below.new.file c.take_lowest_below.new.self two)).fault (omega (arith, range, count, within)) here;
+          (c.ensure_self_counting_refblock-in-Err.ensures.sound p (is_sound_now g.S.Storage.view p p c.load_block.new.file c.allocate_lowest_below.new.file c.allocate_lowest_below.new.self two)).fault (omega (arith, range, count, within)) here;
     }
 
 is_unaligned : (h : HeaderFields) (t : EntryTableView) (cluster counts n : ℕ) → n ≡ counts → IsUnaligned h t (cluster / n) → IsUnaligned h t (cluster / counts)
@@ -202,23 +202,23 @@ begin_small cluster n small = let le = div-mul-le_self cluster n in omega (arith
 below_first : (at end first : ℕ) → at < end → first ≡ end → at ≤ first
 below_first at end first below is = omega (arith, below, is)
 
-pub cover_range-requires : goal.cover_range-requires
-cover_range-requires g c = range_small c.args.cluster (2 ^ c.rb_bits-bits.result) (counts_per_block c.take_lowest_below.new.file.header.fields) (ap (λ h. counts_per_block h.fields) (c.take_lowest_below.ensures.step.header ∙ c.load_block.ensures.step.header) ∙ c.rb_bits-bits.ensures.counts) c.requires
+pub ensure_self_counting_refblock-requires : goal.ensure_self_counting_refblock-requires
+ensure_self_counting_refblock-requires g c = range_small c.args.cluster (2 ^ c.rb_bits-bits.result) (counts_per_block c.allocate_lowest_below.new.file.header.fields) (ap (λ h. counts_per_block h.fields) (c.allocate_lowest_below.ensures.step.header ∙ c.load_block.ensures.step.header) ∙ c.rb_bits-bits.ensures.counts) c.requires
 
-pub cover_range-requires-in-Err : goal.cover_range-requires-in-Err
-cover_range-requires-in-Err g c = range_small c.args.cluster (2 ^ c.rb_bits-bits.result) (counts_per_block c.take_lowest_below.new.file.header.fields) (ap (λ h. counts_per_block h.fields) (c.take_lowest_below.ensures.step.header ∙ c.load_block.ensures.step.header) ∙ c.rb_bits-bits.ensures.counts) c.requires
+pub ensure_self_counting_refblock-requires-in-Err : goal.ensure_self_counting_refblock-requires-in-Err
+ensure_self_counting_refblock-requires-in-Err g c = range_small c.args.cluster (2 ^ c.rb_bits-bits.result) (counts_per_block c.allocate_lowest_below.new.file.header.fields) (ap (λ h. counts_per_block h.fields) (c.allocate_lowest_below.ensures.step.header ∙ c.load_block.ensures.step.header) ∙ c.rb_bits-bits.ensures.counts) c.requires
 
-pub take_lowest_below-requires : goal.take_lowest_below-requires
-take_lowest_below-requires g c = begin_small c.args.cluster (2 ^ c.rb_bits-bits.result) c.requires
+pub allocate_lowest_below-requires : goal.allocate_lowest_below-requires
+allocate_lowest_below-requires g c = begin_small c.args.cluster (2 ^ c.rb_bits-bits.result) c.requires
 
 pub place_block-requires : goal.place_block-requires
 place_block-requires g c = record {
   place = record {
-    within = subst (λ k. c.args.cluster / 2 ^ c.rb_bits-bits.result < k) (sym c.take_lowest_below.ensures.entries.count) (c.can_name.ensures.within c.if-not-can_name.false);
-    placed = subst IsSome (sym c.take_lowest_below.ensures.entries.cluster) (c.can_name.ensures.placed c.if-not-can_name.false);
+    within = subst (λ k. c.args.cluster / 2 ^ c.rb_bits-bits.result < k) (sym c.allocate_lowest_below.ensures.entries.count) (c.can_name.ensures.within c.if-not-can_name.false);
+    placed = subst IsSome (sym c.allocate_lowest_below.ensures.entries.cluster) (c.can_name.ensures.placed c.if-not-can_name.false);
     elsewhere = let is = (rw c.in-Ok-Some.field-0-is at c.in-Ok-Some.ensures.below) in is.0;
-    nameable = subst (λ b. IsHostCluster b c.in-Ok-Some.at) (sym c.take_lowest_below.ensures.entries.bits) (host_below c.args.self.now.reftable.cluster_bits c.in-Ok-Some.at c.new-first.result (let is = (rw c.in-Ok-Some.field-0-is at c.in-Ok-Some.ensures.below) in below_first c.in-Ok-Some.at _ c.new-first.result is.1 c.new-first.ensures) (c.can_name.ensures.nameable c.if-not-can_name.false));
-    nameable_here = subst (λ b. IsHostCluster b c.in-Ok-Some.at) (c.cluster_bits.ensures.value ∙ sym (ap (λ h. h.fields.cluster_bits) c.take_lowest_below.ensures.step.header)) (host_below c.cluster_bits.result c.in-Ok-Some.at c.new-first.result (let is = (rw c.in-Ok-Some.field-0-is at c.in-Ok-Some.ensures.below) in below_first c.in-Ok-Some.at _ c.new-first.result is.1 c.new-first.ensures) (c.can_name.ensures.nameable_here c.if-not-can_name.false));
+    nameable = subst (λ b. IsHostCluster b c.in-Ok-Some.at) (sym c.allocate_lowest_below.ensures.entries.bits) (host_below c.args.self.now.reftable.cluster_bits c.in-Ok-Some.at c.new-first.result (let is = (rw c.in-Ok-Some.field-0-is at c.in-Ok-Some.ensures.below) in below_first c.in-Ok-Some.at _ c.new-first.result is.1 c.new-first.ensures) (c.can_name.ensures.nameable c.if-not-can_name.false));
+    nameable_here = subst (λ b. IsHostCluster b c.in-Ok-Some.at) (c.cluster_bits.ensures.value ∙ sym (ap (λ h. h.fields.cluster_bits) c.allocate_lowest_below.ensures.step.header)) (host_below c.cluster_bits.result c.in-Ok-Some.at c.new-first.result (let is = (rw c.in-Ok-Some.field-0-is at c.in-Ok-Some.ensures.below) in below_first c.in-Ok-Some.at _ c.new-first.result is.1 c.new-first.ensures) (c.can_name.ensures.nameable_here c.if-not-can_name.false));
   };
 }
 
@@ -240,10 +240,10 @@ pub returns-in-Ok-Some-clause-has : goal.returns-in-Ok-Some-clause-has
 returns-in-Ok-Some-clause-has g c = ok_as _ _ c.place_block.result (range_as c.place_block.new.self.reftable c.args.cluster (2 ^ c.rb_bits-bits.result) (counts_per_block c.args.file.now.header.fields) c.rb_bits-bits.ensures.counts) c.place_block.ensures.has
 
 pub returns-in-Ok-None-clause-has : goal.returns-in-Ok-None-clause-has
-returns-in-Ok-None-clause-has g c = ok_as _ _ c.cover_range.result (range_as c.cover_range.new.self.reftable c.args.cluster (2 ^ c.rb_bits-bits.result) (counts_per_block c.args.file.now.header.fields) c.rb_bits-bits.ensures.counts) c.cover_range.ensures.has
+returns-in-Ok-None-clause-has g c = ok_as _ _ c.ensure_self_counting_refblock.result (range_as c.ensure_self_counting_refblock.new.self.reftable c.args.cluster (2 ^ c.rb_bits-bits.result) (counts_per_block c.args.file.now.header.fields) c.rb_bits-bits.ensures.counts) c.ensure_self_counting_refblock.ensures.has
 
 pub returns-else-is_fault-clause-has : goal.returns-else-is_fault-clause-has
-returns-else-is_fault-clause-has g c = ok_as _ _ c.cover_range-in-Err.result (range_as c.cover_range-in-Err.new.self.reftable c.args.cluster (2 ^ c.rb_bits-bits.result) (counts_per_block c.args.file.now.header.fields) c.rb_bits-bits.ensures.counts) c.cover_range-in-Err.ensures.has
+returns-else-is_fault-clause-has g c = ok_as _ _ c.ensure_self_counting_refblock-in-Err.result (range_as c.ensure_self_counting_refblock-in-Err.new.self.reftable c.args.cluster (2 ^ c.rb_bits-bits.result) (counts_per_block c.args.file.now.header.fields) c.rb_bits-bits.ensures.counts) c.ensure_self_counting_refblock-in-Err.ensures.has
 
 -- a cluster of the first range
 range_first : (h : HeaderFields) (cluster n : ℕ) → n ≡ counts_per_block h → cluster < counts_per_block h → cluster / n ≡ 0

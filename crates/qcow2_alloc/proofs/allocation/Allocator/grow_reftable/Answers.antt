@@ -17,7 +17,7 @@ use Rattle.qcow2_alloc.proofs.Limits.{cause_as}
 use Rattle.qcow2_alloc.proofs.ListedAfter.{listed_after_same}
 use Rattle.qcow2_alloc.proofs.GrownReftables.{grown}
 use Rattle.qcow2_alloc.proofs.Outcomes.{on_no_ok}
-use Rattle.qcow2_alloc.specs.MadeClusters.{IsMadeOnTheWay, TakesAlone}
+use Rattle.qcow2_alloc.specs.MadeClusters.{IsAllocatedMetadata, AllocatesOnly}
 use Rattle.qcow2_alloc.proofs.MadeClusters.{made_entered, made_unentered}
 use Rattle.qcow2_alloc.proofs.Steps.{growth_step_none, growth_step_on, fails_by, fails_ok, fails_on}
 use Rattle.qcow2_alloc.proofs.allocation.Allocator.grow_reftable.Goals as goal
@@ -110,7 +110,7 @@ returns-in_err-table-clause-sound g c = λ p sound.
           handed_on (GrowsTable g.S.Storage.view p old c.args.self.now old (pending_then p old.free_list old.free_list)) c.from_residual.result c.in_err-table.field-0.0 c.from_residual.ensures
           (inl (subst (λ (q : Pending). UnseenAllocatorGrowth g.S.Storage.view p old c.args.self.now old q) same (on_none g.S.Storage.view p old c.args.self.now sound)));
       leaks = refl;
-      made = handed_on (TakesAlone g.S.Storage.view (λ done k. 0) (IsMadeOnTheWay c.args.file.now.header.fields c.args.self.now.reftable c.args.self.now.reftable) c.args.file.now c.args.file.now) c.from_residual.result c.in_err-table.field-0.0 c.from_residual.ensures (inl ((λ k used. inl used), λ k. omega arith));
+      made = handed_on (AllocatesOnly g.S.Storage.view (λ done k. 0) (IsAllocatedMetadata c.args.file.now.header.fields c.args.self.now.reftable c.args.self.now.reftable) c.args.file.now c.args.file.now) c.from_residual.result c.in_err-table.field-0.0 c.from_residual.ensures (inl ((λ k used. inl used), λ k. omega arith));
       uses = handed_on (KeepsUsed g.S.Storage.view c.args.file.now c.args.file.now) c.from_residual.result c.in_err-table.field-0.0 c.from_residual.ensures (inl (λ k used. used));
       lowest = λ _. on_no_ok _ c.from_residual.result c.in_err-table.field-0.0 c.from_residual.ensures;
       limit = λ hint. let view = g.S.Storage.view in
@@ -129,7 +129,7 @@ returns-in_err-former-clause-sound g c = λ p sound.
           handed_on (GrowsTable g.S.Storage.view p old c.args.self.now old (pending_then p old.free_list old.free_list)) c.from_residual-in_err-former.result c.in_err-former.field-0.0 c.from_residual-in_err-former.ensures
           (inl (subst (λ (q : Pending). UnseenAllocatorGrowth g.S.Storage.view p old c.args.self.now old q) same (on_none g.S.Storage.view p old c.args.self.now sound)));
       leaks = refl;
-      made = handed_on (TakesAlone g.S.Storage.view (λ done k. 0) (IsMadeOnTheWay c.args.file.now.header.fields c.args.self.now.reftable c.args.self.now.reftable) c.args.file.now c.args.file.now) c.from_residual-in_err-former.result c.in_err-former.field-0.0 c.from_residual-in_err-former.ensures (inl ((λ k used. inl used), λ k. omega arith));
+      made = handed_on (AllocatesOnly g.S.Storage.view (λ done k. 0) (IsAllocatedMetadata c.args.file.now.header.fields c.args.self.now.reftable c.args.self.now.reftable) c.args.file.now c.args.file.now) c.from_residual-in_err-former.result c.in_err-former.field-0.0 c.from_residual-in_err-former.ensures (inl ((λ k used. inl used), λ k. omega arith));
       uses = handed_on (KeepsUsed g.S.Storage.view c.args.file.now c.args.file.now) c.from_residual-in_err-former.result c.in_err-former.field-0.0 c.from_residual-in_err-former.ensures (inl (λ k used. used));
       lowest = λ _. on_no_ok _ c.from_residual-in_err-former.result c.in_err-former.field-0.0 c.from_residual-in_err-former.ensures;
       limit = λ hint. let t = c.args.self.now.reftable in

@@ -18,26 +18,26 @@ covered_entries : (t u v : EntryTableView) (cluster end per counts : ℕ) → cl
 covered_entries t u v cluster end per counts below same first then =
     entries_then (λ k. end ≤ k * counts) t u v first (entries_less (λ k. k ≢ cluster / per) (λ k. end ≤ k * counts) u v (λ k past. other_range cluster end per counts k below same past) then)
 
-pub returns-in_err-cover_range-clause-sound : goal.returns-in_err-cover_range-clause-sound
-returns-in_err-cover_range-clause-sound g c = λ p sound.
+pub returns-in_err-ensure_self_counting_refblock-clause-sound : goal.returns-in_err-ensure_self_counting_refblock-clause-sound
+returns-in_err-ensure_self_counting_refblock-clause-sound g c = λ p sound.
     let before = c.search.invariant.sound p sound in
-    handed_on (TakesLowest g.S.Storage.view p c.args.file.now c.cover_range.new.self c.cover_range.new.file) c.from_residual.result c.in_err-cover_range.field-0.0 c.from_residual.ensures
-    (leaves_then g.S.Storage.view p c.args.file.now c.search.file c.cover_range.new.file c.cover_range.new.self c.in_err-cover_range.field-0.0 before.file_step ((c.in_err-cover_range.ensures.sound p (is_sound_now g.S.Storage.view p p c.args.file.now c.search.file c.search.self before)).gets))
+    handed_on (TakesLowest g.S.Storage.view p c.args.file.now c.ensure_self_counting_refblock.new.self c.ensure_self_counting_refblock.new.file) c.from_residual.result c.in_err-ensure_self_counting_refblock.field-0.0 c.from_residual.ensures
+    (leaves_then g.S.Storage.view p c.args.file.now c.search.file c.ensure_self_counting_refblock.new.file c.ensure_self_counting_refblock.new.self c.in_err-ensure_self_counting_refblock.field-0.0 before.file_step ((c.in_err-ensure_self_counting_refblock.ensures.sound p (is_sound_now g.S.Storage.view p p c.args.file.now c.search.file c.search.self before)).gets))
 
 pub returns-in_err-taken-clause-sound : goal.returns-in_err-taken-clause-sound
 returns-in_err-taken-clause-sound g c = λ p sound.
     let before = c.search.invariant.sound p sound in
-    let covered = allocator_step_then g.S.Storage.view p p c.args.file.now c.search.file c.cover_range.new.file c.search.self c.cover_range.new.self before ((c.in_ok-cover_range.ensures.sound p (is_sound_now g.S.Storage.view p p c.args.file.now c.search.file c.search.self before)).gets) in
+    let covered = allocator_step_then g.S.Storage.view p p c.args.file.now c.search.file c.ensure_self_counting_refblock.new.file c.search.self c.ensure_self_counting_refblock.new.self before ((c.in_ok-ensure_self_counting_refblock.ensures.sound p (is_sound_now g.S.Storage.view p p c.args.file.now c.search.file c.search.self before)).gets) in
     handed_on (TakesLowest g.S.Storage.view p c.args.file.now c.raise.new.self c.raise.new.file) c.from_residual-in_err-taken.result c.in_err-taken.field-0.0 c.from_residual-in_err-taken.ensures
-    (leaves_then g.S.Storage.view p c.args.file.now c.cover_range.new.file c.raise.new.file c.raise.new.self c.in_err-taken.field-0.0 covered.file_step ((c.in_err-taken.ensures.sound p false (is_sound_now g.S.Storage.view p p c.args.file.now c.cover_range.new.file c.cover_range.new.self covered) tt).takes))
+    (leaves_then g.S.Storage.view p c.args.file.now c.ensure_self_counting_refblock.new.file c.raise.new.file c.raise.new.self c.in_err-taken.field-0.0 covered.file_step ((c.in_err-taken.ensures.sound p false (is_sound_now g.S.Storage.view p p c.args.file.now c.ensure_self_counting_refblock.new.file c.ensure_self_counting_refblock.new.self covered) tt).takes))
 
 pub returns-then-taken-clause-sound : goal.returns-then-taken-clause-sound
 returns-then-taken-clause-sound g c = λ p sound.
     let before = c.search.invariant.sound p sound in
-    let covered = allocator_step_then g.S.Storage.view p p c.args.file.now c.search.file c.cover_range.new.file c.search.self c.cover_range.new.self before ((c.in_ok-cover_range.ensures.sound p (is_sound_now g.S.Storage.view p p c.args.file.now c.search.file c.search.self before)).gets) in
-    let taken = rw c.if-taken.true at ((c.in_ok-taken.ensures.sound p false (is_sound_now g.S.Storage.view p p c.args.file.now c.cover_range.new.file c.cover_range.new.self covered) tt).takes) in
+    let covered = allocator_step_then g.S.Storage.view p p c.args.file.now c.search.file c.ensure_self_counting_refblock.new.file c.search.self c.ensure_self_counting_refblock.new.self before ((c.in_ok-ensure_self_counting_refblock.ensures.sound p (is_sound_now g.S.Storage.view p p c.args.file.now c.search.file c.search.self before)).gets) in
+    let taken = rw c.if-taken.true at ((c.in_ok-taken.ensures.sound p false (is_sound_now g.S.Storage.view p p c.args.file.now c.ensure_self_counting_refblock.new.file c.ensure_self_counting_refblock.new.self covered) tt).takes) in
     allocator_step_as g.S.Storage.view p (taken_as false p (one_at c.search.self.first_free_cluster)) c.args.file.now c.raise.new.file c.raise.new.self _ refl
-    (allocator_step_then g.S.Storage.view p (taken_as false p (one_at c.search.self.first_free_cluster)) c.args.file.now c.cover_range.new.file c.raise.new.file c.cover_range.new.self c.raise.new.self covered taken)
+    (allocator_step_then g.S.Storage.view p (taken_as false p (one_at c.search.self.first_free_cluster)) c.args.file.now c.ensure_self_counting_refblock.new.file c.raise.new.file c.ensure_self_counting_refblock.new.self c.raise.new.self covered taken)
 
 pub search-init : goal.search-init
 search-init g c = record {
@@ -52,75 +52,75 @@ search-init g c = record {
 
 pub search-preserved : goal.search-preserved
 search-preserved g c = record {
-  faults = c.in_ok-self.ensures.fails.told ∙ (c.in_ok-taken.ensures.fails.told ∙ (c.in_ok-cover_range.ensures.fails.told ∙ c.search.invariant.faults));
-  step = table_step_then (table_step_then (table_step_then c.search.invariant.step c.cover_range.ensures.step) c.raise.ensures.step) c.behind_used.ensures.step;
+  faults = c.in_ok-self.ensures.fails.told ∙ (c.in_ok-taken.ensures.fails.told ∙ (c.in_ok-ensure_self_counting_refblock.ensures.fails.told ∙ c.search.invariant.faults));
+  step = table_step_then (table_step_then (table_step_then c.search.invariant.step c.ensure_self_counting_refblock.ensures.step) c.raise.ensures.step) c.next_free_in_range.ensures.step;
   entries =
       subst (λ (t : Allocator). KeepsEntries (λ k. c.args.end ≤ k * counts_per_block c.args.file.now.header.fields) c.args.self.now.reftable t.reftable) (sym c.raise.ensures.same)
-      (covered_entries c.args.self.now.reftable c.search.self.reftable c.cover_range.new.self.reftable c.search.self.first_free_cluster c.args.end (2 ^ c.rb_bits-bits.result) (counts_per_block c.args.file.now.header.fields) c.search-test.true c.rb_bits-bits.ensures.counts
-      c.search.invariant.entries c.cover_range.ensures.entries);
+      (covered_entries c.args.self.now.reftable c.search.self.reftable c.ensure_self_counting_refblock.new.self.reftable c.search.self.first_free_cluster c.args.end (2 ^ c.rb_bits-bits.result) (counts_per_block c.args.file.now.header.fields) c.search-test.true c.rb_bits-bits.ensures.counts
+      c.search.invariant.entries c.ensure_self_counting_refblock.ensures.entries);
   above = let behind = c.in_ok-self.ensures.behind in omega (arith, behind);
-  leaks = ap (λ (t : Allocator). t.leaked_clusters) c.raise.ensures.same ∙ c.cover_range.ensures.leaks ∙ c.search.invariant.leaks;
+  leaks = ap (λ (t : Allocator). t.leaked_clusters) c.raise.ensures.same ∙ c.ensure_self_counting_refblock.ensures.leaks ∙ c.search.invariant.leaks;
   sound = λ p sound.
       let before = c.search.invariant.sound p sound in
-      let covered = allocator_step_then g.S.Storage.view p p c.args.file.now c.search.file c.cover_range.new.file c.search.self c.cover_range.new.self before ((c.in_ok-cover_range.ensures.sound p (is_sound_now g.S.Storage.view p p c.args.file.now c.search.file c.search.self before)).gets) in
-      let taken = rw c.if-taken.false at ((c.in_ok-taken.ensures.sound p false (is_sound_now g.S.Storage.view p p c.args.file.now c.cover_range.new.file c.cover_range.new.self covered) tt).takes) in
+      let covered = allocator_step_then g.S.Storage.view p p c.args.file.now c.search.file c.ensure_self_counting_refblock.new.file c.search.self c.ensure_self_counting_refblock.new.self before ((c.in_ok-ensure_self_counting_refblock.ensures.sound p (is_sound_now g.S.Storage.view p p c.args.file.now c.search.file c.search.self before)).gets) in
+      let taken = rw c.if-taken.false at ((c.in_ok-taken.ensures.sound p false (is_sound_now g.S.Storage.view p p c.args.file.now c.ensure_self_counting_refblock.new.file c.ensure_self_counting_refblock.new.self covered) tt).takes) in
       let marked : Allocator = record c.raise.new.self { first_free_cluster = c.search.self.first_free_cluster + 1 } in
-      let mid = allocator_step_as g.S.Storage.view p p c.args.file.now c.raise.new.file c.raise.new.self marked refl (allocator_step_then g.S.Storage.view p p c.args.file.now c.cover_range.new.file c.raise.new.file c.cover_range.new.self c.raise.new.self covered taken) in
+      let mid = allocator_step_as g.S.Storage.view p p c.args.file.now c.raise.new.file c.raise.new.self marked refl (allocator_step_then g.S.Storage.view p p c.args.file.now c.ensure_self_counting_refblock.new.file c.raise.new.file c.ensure_self_counting_refblock.new.self c.raise.new.self covered taken) in
       let there = is_sound_now g.S.Storage.view p p c.args.file.now c.raise.new.file marked mid in
       let passed = c.in_ok-self.ensures.sound p there in
-      allocator_step_as g.S.Storage.view p p c.args.file.now c.behind_used.new.file marked _ refl (allocator_step_then g.S.Storage.view p p c.args.file.now c.raise.new.file c.behind_used.new.file marked marked mid passed.0);
+      allocator_step_as g.S.Storage.view p p c.args.file.now c.next_free_in_range.new.file marked _ refl (allocator_step_then g.S.Storage.view p p c.args.file.now c.raise.new.file c.next_free_in_range.new.file marked marked mid passed.0);
   hint = λ p sound hint.
       let before = c.search.invariant.sound p sound in
-      let covered = allocator_step_then g.S.Storage.view p p c.args.file.now c.search.file c.cover_range.new.file c.search.self c.cover_range.new.self before ((c.in_ok-cover_range.ensures.sound p (is_sound_now g.S.Storage.view p p c.args.file.now c.search.file c.search.self before)).gets) in
-      let taken = rw c.if-taken.false at ((c.in_ok-taken.ensures.sound p false (is_sound_now g.S.Storage.view p p c.args.file.now c.cover_range.new.file c.cover_range.new.self covered) tt).takes) in
+      let covered = allocator_step_then g.S.Storage.view p p c.args.file.now c.search.file c.ensure_self_counting_refblock.new.file c.search.self c.ensure_self_counting_refblock.new.self before ((c.in_ok-ensure_self_counting_refblock.ensures.sound p (is_sound_now g.S.Storage.view p p c.args.file.now c.search.file c.search.self before)).gets) in
+      let taken = rw c.if-taken.false at ((c.in_ok-taken.ensures.sound p false (is_sound_now g.S.Storage.view p p c.args.file.now c.ensure_self_counting_refblock.new.file c.ensure_self_counting_refblock.new.self covered) tt).takes) in
       let marked : Allocator = record c.raise.new.self { first_free_cluster = c.search.self.first_free_cluster + 1 } in
-      let mid = allocator_step_as g.S.Storage.view p p c.args.file.now c.raise.new.file c.raise.new.self marked refl (allocator_step_then g.S.Storage.view p p c.args.file.now c.cover_range.new.file c.raise.new.file c.cover_range.new.self c.raise.new.self covered taken) in
+      let mid = allocator_step_as g.S.Storage.view p p c.args.file.now c.raise.new.file c.raise.new.self marked refl (allocator_step_then g.S.Storage.view p p c.args.file.now c.ensure_self_counting_refblock.new.file c.raise.new.file c.ensure_self_counting_refblock.new.self c.raise.new.self covered taken) in
       let there = is_sound_now g.S.Storage.view p p c.args.file.now c.raise.new.file marked mid in
       let now = is_sound_now g.S.Storage.view p p c.args.file.now c.search.file c.search.self before in
-      let is_covered = is_sound_now g.S.Storage.view p p c.args.file.now c.cover_range.new.file c.cover_range.new.self covered in
-      let one = hint_stays g.S.Storage.view p c.search.file c.cover_range.new.file c.search.self c.cover_range.new.self ((c.in_ok-cover_range.ensures.sound p now).gets) c.cover_range.ensures.first.passed (c.search.invariant.hint p sound hint) in
-      let two = hint_stays g.S.Storage.view p c.cover_range.new.file c.raise.new.file c.cover_range.new.self c.raise.new.self taken (passed_same c.cover_range.new.self c.raise.new.self c.raise.ensures.same) one in
-      let used = (c.in_ok-taken.ensures.sound p false is_covered tt).used one (range_as c.cover_range.new.self.reftable c.search.self.first_free_cluster (2 ^ c.rb_bits-bits.result) (counts_per_block c.cover_range.new.file.header.fields)
-      (ap (λ h. counts_per_block h.fields) (c.cover_range.ensures.step.header ∙ c.search.invariant.step.header) ∙ c.rb_bits-bits.ensures.counts) c.in_ok-cover_range.ensures.has) c.if-taken.false in
-      let three = hint_more g.S.Storage.view c.raise.new.file c.raise.new.self c.search.self.first_free_cluster two (ap (λ (t : Allocator). t.first_free_cluster) c.raise.ensures.same ∙ c.cover_range.ensures.first.first) used in
+      let is_covered = is_sound_now g.S.Storage.view p p c.args.file.now c.ensure_self_counting_refblock.new.file c.ensure_self_counting_refblock.new.self covered in
+      let one = hint_stays g.S.Storage.view p c.search.file c.ensure_self_counting_refblock.new.file c.search.self c.ensure_self_counting_refblock.new.self ((c.in_ok-ensure_self_counting_refblock.ensures.sound p now).gets) c.ensure_self_counting_refblock.ensures.first.passed (c.search.invariant.hint p sound hint) in
+      let two = hint_stays g.S.Storage.view p c.ensure_self_counting_refblock.new.file c.raise.new.file c.ensure_self_counting_refblock.new.self c.raise.new.self taken (passed_same c.ensure_self_counting_refblock.new.self c.raise.new.self c.raise.ensures.same) one in
+      let used = (c.in_ok-taken.ensures.sound p false is_covered tt).used one (range_as c.ensure_self_counting_refblock.new.self.reftable c.search.self.first_free_cluster (2 ^ c.rb_bits-bits.result) (counts_per_block c.ensure_self_counting_refblock.new.file.header.fields)
+      (ap (λ h. counts_per_block h.fields) (c.ensure_self_counting_refblock.ensures.step.header ∙ c.search.invariant.step.header) ∙ c.rb_bits-bits.ensures.counts) c.in_ok-ensure_self_counting_refblock.ensures.has) c.if-taken.false in
+      let three = hint_more g.S.Storage.view c.raise.new.file c.raise.new.self c.search.self.first_free_cluster two (ap (λ (t : Allocator). t.first_free_cluster) c.raise.ensures.same ∙ c.ensure_self_counting_refblock.ensures.first.first) used in
       let passed = c.in_ok-self.ensures.sound p there in
-      hint_passed g.S.Storage.view p c.raise.new.file c.behind_used.new.file marked (c.search.self.first_free_cluster + 1) c.in_ok-self.field-0 passed.0 passed.1 refl three;
+      hint_passed g.S.Storage.view p c.raise.new.file c.next_free_in_range.new.file marked (c.search.self.first_free_cluster + 1) c.in_ok-self.field-0 passed.0 passed.1 refl three;
 }
 
 pub returns-in_err-self-clause-sound : goal.returns-in_err-self-clause-sound
 returns-in_err-self-clause-sound g c = λ p sound.
     let before = c.search.invariant.sound p sound in
-    let covered = allocator_step_then g.S.Storage.view p p c.args.file.now c.search.file c.cover_range.new.file c.search.self c.cover_range.new.self before ((c.in_ok-cover_range.ensures.sound p (is_sound_now g.S.Storage.view p p c.args.file.now c.search.file c.search.self before)).gets) in
-    let taken = rw c.if-taken.false at ((c.in_ok-taken.ensures.sound p false (is_sound_now g.S.Storage.view p p c.args.file.now c.cover_range.new.file c.cover_range.new.self covered) tt).takes) in
+    let covered = allocator_step_then g.S.Storage.view p p c.args.file.now c.search.file c.ensure_self_counting_refblock.new.file c.search.self c.ensure_self_counting_refblock.new.self before ((c.in_ok-ensure_self_counting_refblock.ensures.sound p (is_sound_now g.S.Storage.view p p c.args.file.now c.search.file c.search.self before)).gets) in
+    let taken = rw c.if-taken.false at ((c.in_ok-taken.ensures.sound p false (is_sound_now g.S.Storage.view p p c.args.file.now c.ensure_self_counting_refblock.new.file c.ensure_self_counting_refblock.new.self covered) tt).takes) in
     let marked : Allocator = record c.raise.new.self { first_free_cluster = c.search.self.first_free_cluster + 1 } in
-    let mid = allocator_step_as g.S.Storage.view p p c.args.file.now c.raise.new.file c.raise.new.self marked refl (allocator_step_then g.S.Storage.view p p c.args.file.now c.cover_range.new.file c.raise.new.file c.cover_range.new.self c.raise.new.self covered taken) in
+    let mid = allocator_step_as g.S.Storage.view p p c.args.file.now c.raise.new.file c.raise.new.self marked refl (allocator_step_then g.S.Storage.view p p c.args.file.now c.ensure_self_counting_refblock.new.file c.raise.new.file c.ensure_self_counting_refblock.new.self c.raise.new.self covered taken) in
     let there = is_sound_now g.S.Storage.view p p c.args.file.now c.raise.new.file marked mid in
-    handed_on (TakesLowest g.S.Storage.view p c.args.file.now marked c.behind_used.new.file) c.from_residual-in_err-self.result c.in_err-self.field-0.0 c.from_residual-in_err-self.ensures
-    (leaves_then g.S.Storage.view p c.args.file.now c.raise.new.file c.behind_used.new.file marked c.in_err-self.field-0.0 mid.file_step (c.in_err-self.ensures.sound p there).1)
+    handed_on (TakesLowest g.S.Storage.view p c.args.file.now marked c.next_free_in_range.new.file) c.from_residual-in_err-self.result c.in_err-self.field-0.0 c.from_residual-in_err-self.ensures
+    (leaves_then g.S.Storage.view p c.args.file.now c.raise.new.file c.next_free_in_range.new.file marked c.in_err-self.field-0.0 mid.file_step (c.in_err-self.ensures.sound p there).1)
 
 pub returns-in_err-self-clause-hint : goal.returns-in_err-self-clause-hint
 returns-in_err-self-clause-hint g c = λ p sound hint.
     let before = c.search.invariant.sound p sound in
-    let covered = allocator_step_then g.S.Storage.view p p c.args.file.now c.search.file c.cover_range.new.file c.search.self c.cover_range.new.self before ((c.in_ok-cover_range.ensures.sound p (is_sound_now g.S.Storage.view p p c.args.file.now c.search.file c.search.self before)).gets) in
-    let taken = rw c.if-taken.false at ((c.in_ok-taken.ensures.sound p false (is_sound_now g.S.Storage.view p p c.args.file.now c.cover_range.new.file c.cover_range.new.self covered) tt).takes) in
+    let covered = allocator_step_then g.S.Storage.view p p c.args.file.now c.search.file c.ensure_self_counting_refblock.new.file c.search.self c.ensure_self_counting_refblock.new.self before ((c.in_ok-ensure_self_counting_refblock.ensures.sound p (is_sound_now g.S.Storage.view p p c.args.file.now c.search.file c.search.self before)).gets) in
+    let taken = rw c.if-taken.false at ((c.in_ok-taken.ensures.sound p false (is_sound_now g.S.Storage.view p p c.args.file.now c.ensure_self_counting_refblock.new.file c.ensure_self_counting_refblock.new.self covered) tt).takes) in
     let marked : Allocator = record c.raise.new.self { first_free_cluster = c.search.self.first_free_cluster + 1 } in
-    let mid = allocator_step_as g.S.Storage.view p p c.args.file.now c.raise.new.file c.raise.new.self marked refl (allocator_step_then g.S.Storage.view p p c.args.file.now c.cover_range.new.file c.raise.new.file c.cover_range.new.self c.raise.new.self covered taken) in
+    let mid = allocator_step_as g.S.Storage.view p p c.args.file.now c.raise.new.file c.raise.new.self marked refl (allocator_step_then g.S.Storage.view p p c.args.file.now c.ensure_self_counting_refblock.new.file c.raise.new.file c.ensure_self_counting_refblock.new.self c.raise.new.self covered taken) in
     let there = is_sound_now g.S.Storage.view p p c.args.file.now c.raise.new.file marked mid in
     let now = is_sound_now g.S.Storage.view p p c.args.file.now c.search.file c.search.self before in
-    let is_covered = is_sound_now g.S.Storage.view p p c.args.file.now c.cover_range.new.file c.cover_range.new.self covered in
-    let one = hint_stays g.S.Storage.view p c.search.file c.cover_range.new.file c.search.self c.cover_range.new.self ((c.in_ok-cover_range.ensures.sound p now).gets) c.cover_range.ensures.first.passed (c.search.invariant.hint p sound hint) in
-    let two = hint_stays g.S.Storage.view p c.cover_range.new.file c.raise.new.file c.cover_range.new.self c.raise.new.self taken (passed_same c.cover_range.new.self c.raise.new.self c.raise.ensures.same) one in
-    let used = (c.in_ok-taken.ensures.sound p false is_covered tt).used one (range_as c.cover_range.new.self.reftable c.search.self.first_free_cluster (2 ^ c.rb_bits-bits.result) (counts_per_block c.cover_range.new.file.header.fields)
-    (ap (λ h. counts_per_block h.fields) (c.cover_range.ensures.step.header ∙ c.search.invariant.step.header) ∙ c.rb_bits-bits.ensures.counts) c.in_ok-cover_range.ensures.has) c.if-taken.false in
-    let three = hint_more g.S.Storage.view c.raise.new.file c.raise.new.self c.search.self.first_free_cluster two (ap (λ (t : Allocator). t.first_free_cluster) c.raise.ensures.same ∙ c.cover_range.ensures.first.first) used in
-    handed_on (KeepsNoFreeBelowHint g.S.Storage.view marked c.behind_used.new.file) c.from_residual-in_err-self.result c.in_err-self.field-0.0 c.from_residual-in_err-self.ensures
-    (hint_refused g.S.Storage.view p c.raise.new.file c.behind_used.new.file marked marked c.in_err-self.field-0.0 (passed_still marked) (c.in_err-self.ensures.sound p there).1 three)
+    let is_covered = is_sound_now g.S.Storage.view p p c.args.file.now c.ensure_self_counting_refblock.new.file c.ensure_self_counting_refblock.new.self covered in
+    let one = hint_stays g.S.Storage.view p c.search.file c.ensure_self_counting_refblock.new.file c.search.self c.ensure_self_counting_refblock.new.self ((c.in_ok-ensure_self_counting_refblock.ensures.sound p now).gets) c.ensure_self_counting_refblock.ensures.first.passed (c.search.invariant.hint p sound hint) in
+    let two = hint_stays g.S.Storage.view p c.ensure_self_counting_refblock.new.file c.raise.new.file c.ensure_self_counting_refblock.new.self c.raise.new.self taken (passed_same c.ensure_self_counting_refblock.new.self c.raise.new.self c.raise.ensures.same) one in
+    let used = (c.in_ok-taken.ensures.sound p false is_covered tt).used one (range_as c.ensure_self_counting_refblock.new.self.reftable c.search.self.first_free_cluster (2 ^ c.rb_bits-bits.result) (counts_per_block c.ensure_self_counting_refblock.new.file.header.fields)
+    (ap (λ h. counts_per_block h.fields) (c.ensure_self_counting_refblock.ensures.step.header ∙ c.search.invariant.step.header) ∙ c.rb_bits-bits.ensures.counts) c.in_ok-ensure_self_counting_refblock.ensures.has) c.if-taken.false in
+    let three = hint_more g.S.Storage.view c.raise.new.file c.raise.new.self c.search.self.first_free_cluster two (ap (λ (t : Allocator). t.first_free_cluster) c.raise.ensures.same ∙ c.ensure_self_counting_refblock.ensures.first.first) used in
+    handed_on (KeepsNoFreeBelowHint g.S.Storage.view marked c.next_free_in_range.new.file) c.from_residual-in_err-self.result c.in_err-self.field-0.0 c.from_residual-in_err-self.ensures
+    (hint_refused g.S.Storage.view p c.raise.new.file c.next_free_in_range.new.file marked marked c.in_err-self.field-0.0 (passed_still marked) (c.in_err-self.ensures.sound p there).1 three)
 
 pub returns-in_err-self-clause-step : goal.returns-in_err-self-clause-step
-returns-in_err-self-clause-step g c = table_step_then (table_step_then (table_step_then c.search.invariant.step c.cover_range.ensures.step) c.raise.ensures.step) c.behind_used.ensures.step
+returns-in_err-self-clause-step g c = table_step_then (table_step_then (table_step_then c.search.invariant.step c.ensure_self_counting_refblock.ensures.step) c.raise.ensures.step) c.next_free_in_range.ensures.step
 
 pub returns-in_err-self-clause-fails : goal.returns-in_err-self-clause-fails
-returns-in_err-self-clause-fails g c = fails_on c.from_residual-in_err-self.result c.in_err-self.field-0.0 c.from_residual-in_err-self.ensures (fails_since (c.in_ok-taken.ensures.fails.told ∙ (c.in_ok-cover_range.ensures.fails.told ∙ c.search.invariant.faults)) c.in_err-self.ensures.fails)
+returns-in_err-self-clause-fails g c = fails_on c.from_residual-in_err-self.result c.in_err-self.field-0.0 c.from_residual-in_err-self.ensures (fails_since (c.in_ok-taken.ensures.fails.told ∙ (c.in_ok-ensure_self_counting_refblock.ensures.fails.told ∙ c.search.invariant.faults)) c.in_err-self.ensures.fails)
 
 pub returns-in_err-self-clause-noted : goal.returns-in_err-self-clause-noted
 returns-in_err-self-clause-noted g c = if_no_ok _ c.from_residual-in_err-self.result c.in_err-self.field-0.0 c.from_residual-in_err-self.ensures
@@ -131,55 +131,55 @@ returns-in_err-self-clause-below g c = if_no_ok _ c.from_residual-in_err-self.re
 pub returns-in_err-self-clause-entries : goal.returns-in_err-self-clause-entries
 returns-in_err-self-clause-entries g c =
     subst (λ (t : Allocator). KeepsEntries (λ k. c.args.end ≤ k * counts_per_block c.args.file.now.header.fields) c.args.self.now.reftable t.reftable) (sym c.raise.ensures.same)
-    (covered_entries c.args.self.now.reftable c.search.self.reftable c.cover_range.new.self.reftable c.search.self.first_free_cluster c.args.end (2 ^ c.rb_bits-bits.result) (counts_per_block c.args.file.now.header.fields) c.search-test.true c.rb_bits-bits.ensures.counts
-    c.search.invariant.entries c.cover_range.ensures.entries)
+    (covered_entries c.args.self.now.reftable c.search.self.reftable c.ensure_self_counting_refblock.new.self.reftable c.search.self.first_free_cluster c.args.end (2 ^ c.rb_bits-bits.result) (counts_per_block c.args.file.now.header.fields) c.search-test.true c.rb_bits-bits.ensures.counts
+    c.search.invariant.entries c.ensure_self_counting_refblock.ensures.entries)
 
-pub returns-in_err-cover_range-clause-hint : goal.returns-in_err-cover_range-clause-hint
-returns-in_err-cover_range-clause-hint g c = λ p sound hint.
+pub returns-in_err-ensure_self_counting_refblock-clause-hint : goal.returns-in_err-ensure_self_counting_refblock-clause-hint
+returns-in_err-ensure_self_counting_refblock-clause-hint g c = λ p sound hint.
     let now = is_sound_now g.S.Storage.view p p c.args.file.now c.search.file c.search.self (c.search.invariant.sound p sound) in
-    handed_on (KeepsNoFreeBelowHint g.S.Storage.view c.cover_range.new.self c.cover_range.new.file) c.from_residual.result c.in_err-cover_range.field-0.0 c.from_residual.ensures
-    (hint_refused g.S.Storage.view p c.search.file c.cover_range.new.file c.search.self c.cover_range.new.self c.in_err-cover_range.field-0.0 c.cover_range.ensures.first.passed ((c.in_err-cover_range.ensures.sound p now).gets) (c.search.invariant.hint p sound hint))
+    handed_on (KeepsNoFreeBelowHint g.S.Storage.view c.ensure_self_counting_refblock.new.self c.ensure_self_counting_refblock.new.file) c.from_residual.result c.in_err-ensure_self_counting_refblock.field-0.0 c.from_residual.ensures
+    (hint_refused g.S.Storage.view p c.search.file c.ensure_self_counting_refblock.new.file c.search.self c.ensure_self_counting_refblock.new.self c.in_err-ensure_self_counting_refblock.field-0.0 c.ensure_self_counting_refblock.ensures.first.passed ((c.in_err-ensure_self_counting_refblock.ensures.sound p now).gets) (c.search.invariant.hint p sound hint))
 
 pub returns-in_err-taken-clause-hint : goal.returns-in_err-taken-clause-hint
 returns-in_err-taken-clause-hint g c = λ p sound hint.
     let now = is_sound_now g.S.Storage.view p p c.args.file.now c.search.file c.search.self (c.search.invariant.sound p sound) in
-    let covered = (c.in_ok-cover_range.ensures.sound p now).gets in
-    let one = hint_stays g.S.Storage.view p c.search.file c.cover_range.new.file c.search.self c.cover_range.new.self covered c.cover_range.ensures.first.passed (c.search.invariant.hint p sound hint) in
+    let covered = (c.in_ok-ensure_self_counting_refblock.ensures.sound p now).gets in
+    let one = hint_stays g.S.Storage.view p c.search.file c.ensure_self_counting_refblock.new.file c.search.self c.ensure_self_counting_refblock.new.self covered c.ensure_self_counting_refblock.ensures.first.passed (c.search.invariant.hint p sound hint) in
     handed_on (KeepsNoFreeBelowHint g.S.Storage.view c.raise.new.self c.raise.new.file) c.from_residual-in_err-taken.result c.in_err-taken.field-0.0 c.from_residual-in_err-taken.ensures
-    (hint_refused g.S.Storage.view p c.cover_range.new.file c.raise.new.file c.cover_range.new.self c.raise.new.self c.in_err-taken.field-0.0 (passed_same c.cover_range.new.self c.raise.new.self c.raise.ensures.same)
-    ((c.in_err-taken.ensures.sound p false (is_sound_now g.S.Storage.view p p c.search.file c.cover_range.new.file c.cover_range.new.self covered) tt).takes) one)
+    (hint_refused g.S.Storage.view p c.ensure_self_counting_refblock.new.file c.raise.new.file c.ensure_self_counting_refblock.new.self c.raise.new.self c.in_err-taken.field-0.0 (passed_same c.ensure_self_counting_refblock.new.self c.raise.new.self c.raise.ensures.same)
+    ((c.in_err-taken.ensures.sound p false (is_sound_now g.S.Storage.view p p c.search.file c.ensure_self_counting_refblock.new.file c.ensure_self_counting_refblock.new.self covered) tt).takes) one)
 
 pub returns-then-taken-clause-hint : goal.returns-then-taken-clause-hint
 returns-then-taken-clause-hint g c = λ p sound hint.
     let now = is_sound_now g.S.Storage.view p p c.args.file.now c.search.file c.search.self (c.search.invariant.sound p sound) in
-    let covered = (c.in_ok-cover_range.ensures.sound p now).gets in
-    let one = hint_stays g.S.Storage.view p c.search.file c.cover_range.new.file c.search.self c.cover_range.new.self covered c.cover_range.ensures.first.passed (c.search.invariant.hint p sound hint) in
-    let taken = rw c.if-taken.true at ((c.in_ok-taken.ensures.sound p false (is_sound_now g.S.Storage.view p p c.search.file c.cover_range.new.file c.cover_range.new.self covered) tt).takes) in
+    let covered = (c.in_ok-ensure_self_counting_refblock.ensures.sound p now).gets in
+    let one = hint_stays g.S.Storage.view p c.search.file c.ensure_self_counting_refblock.new.file c.search.self c.ensure_self_counting_refblock.new.self covered c.ensure_self_counting_refblock.ensures.first.passed (c.search.invariant.hint p sound hint) in
+    let taken = rw c.if-taken.true at ((c.in_ok-taken.ensures.sound p false (is_sound_now g.S.Storage.view p p c.search.file c.ensure_self_counting_refblock.new.file c.ensure_self_counting_refblock.new.self covered) tt).takes) in
     let cluster = c.search.self.first_free_cluster in
-    let two = hint_taken g.S.Storage.view p false (one_at cluster) c.cover_range.new.file c.raise.new.file c.cover_range.new.self c.raise.new.self taken (passed_same c.cover_range.new.self c.raise.new.self c.raise.ensures.same) one in
-    hint_more g.S.Storage.view c.raise.new.file c.raise.new.self cluster two (ap (λ (t : Allocator). t.first_free_cluster) c.raise.ensures.same ∙ c.cover_range.ensures.first.first)
-    (taken_used g.S.Storage.view p false (one_at cluster) c.cover_range.new.file c.raise.new.file c.raise.new.self cluster taken (let own = one_here cluster in omega (arith, own)))
+    let two = hint_taken g.S.Storage.view p false (one_at cluster) c.ensure_self_counting_refblock.new.file c.raise.new.file c.ensure_self_counting_refblock.new.self c.raise.new.self taken (passed_same c.ensure_self_counting_refblock.new.self c.raise.new.self c.raise.ensures.same) one in
+    hint_more g.S.Storage.view c.raise.new.file c.raise.new.self cluster two (ap (λ (t : Allocator). t.first_free_cluster) c.raise.ensures.same ∙ c.ensure_self_counting_refblock.ensures.first.first)
+    (taken_used g.S.Storage.view p false (one_at cluster) c.ensure_self_counting_refblock.new.file c.raise.new.file c.raise.new.self cluster taken (let own = one_here cluster in omega (arith, own)))
 
 pub returns-clause-hint : goal.returns-clause-hint
 returns-clause-hint g c = λ p sound hint. c.search.invariant.hint p sound hint
 
-pub returns-in_err-cover_range-clause-step : goal.returns-in_err-cover_range-clause-step
-returns-in_err-cover_range-clause-step g c = table_step_then c.search.invariant.step c.cover_range.ensures.step
+pub returns-in_err-ensure_self_counting_refblock-clause-step : goal.returns-in_err-ensure_self_counting_refblock-clause-step
+returns-in_err-ensure_self_counting_refblock-clause-step g c = table_step_then c.search.invariant.step c.ensure_self_counting_refblock.ensures.step
 
-pub returns-in_err-cover_range-clause-fails : goal.returns-in_err-cover_range-clause-fails
-returns-in_err-cover_range-clause-fails g c = fails_on c.from_residual.result c.in_err-cover_range.field-0.0 c.from_residual.ensures (fails_since c.search.invariant.faults c.in_err-cover_range.ensures.fails)
+pub returns-in_err-ensure_self_counting_refblock-clause-fails : goal.returns-in_err-ensure_self_counting_refblock-clause-fails
+returns-in_err-ensure_self_counting_refblock-clause-fails g c = fails_on c.from_residual.result c.in_err-ensure_self_counting_refblock.field-0.0 c.from_residual.ensures (fails_since c.search.invariant.faults c.in_err-ensure_self_counting_refblock.ensures.fails)
 
-pub returns-in_err-cover_range-clause-noted : goal.returns-in_err-cover_range-clause-noted
-returns-in_err-cover_range-clause-noted g c = if_no_ok _ c.from_residual.result c.in_err-cover_range.field-0.0 c.from_residual.ensures
+pub returns-in_err-ensure_self_counting_refblock-clause-noted : goal.returns-in_err-ensure_self_counting_refblock-clause-noted
+returns-in_err-ensure_self_counting_refblock-clause-noted g c = if_no_ok _ c.from_residual.result c.in_err-ensure_self_counting_refblock.field-0.0 c.from_residual.ensures
 
-pub returns-in_err-cover_range-clause-below : goal.returns-in_err-cover_range-clause-below
-returns-in_err-cover_range-clause-below g c = if_no_ok _ c.from_residual.result c.in_err-cover_range.field-0.0 c.from_residual.ensures
+pub returns-in_err-ensure_self_counting_refblock-clause-below : goal.returns-in_err-ensure_self_counting_refblock-clause-below
+returns-in_err-ensure_self_counting_refblock-clause-below g c = if_no_ok _ c.from_residual.result c.in_err-ensure_self_counting_refblock.field-0.0 c.from_residual.ensures
 
 pub returns-in_err-taken-clause-step : goal.returns-in_err-taken-clause-step
-returns-in_err-taken-clause-step g c = table_step_then (table_step_then c.search.invariant.step c.cover_range.ensures.step) c.raise.ensures.step
+returns-in_err-taken-clause-step g c = table_step_then (table_step_then c.search.invariant.step c.ensure_self_counting_refblock.ensures.step) c.raise.ensures.step
 
 pub returns-in_err-taken-clause-fails : goal.returns-in_err-taken-clause-fails
-returns-in_err-taken-clause-fails g c = fails_on c.from_residual-in_err-taken.result c.in_err-taken.field-0.0 c.from_residual-in_err-taken.ensures (fails_since (c.in_ok-cover_range.ensures.fails.told ∙ c.search.invariant.faults) c.in_err-taken.ensures.fails)
+returns-in_err-taken-clause-fails g c = fails_on c.from_residual-in_err-taken.result c.in_err-taken.field-0.0 c.from_residual-in_err-taken.ensures (fails_since (c.in_ok-ensure_self_counting_refblock.ensures.fails.told ∙ c.search.invariant.faults) c.in_err-taken.ensures.fails)
 
 pub returns-in_err-taken-clause-noted : goal.returns-in_err-taken-clause-noted
 returns-in_err-taken-clause-noted g c = if_no_ok _ c.from_residual-in_err-taken.result c.in_err-taken.field-0.0 c.from_residual-in_err-taken.ensures
@@ -188,10 +188,10 @@ pub returns-in_err-taken-clause-below : goal.returns-in_err-taken-clause-below
 returns-in_err-taken-clause-below g c = if_no_ok _ c.from_residual-in_err-taken.result c.in_err-taken.field-0.0 c.from_residual-in_err-taken.ensures
 
 pub returns-then-taken-clause-step : goal.returns-then-taken-clause-step
-returns-then-taken-clause-step g c = table_step_then (table_step_then c.search.invariant.step c.cover_range.ensures.step) c.raise.ensures.step
+returns-then-taken-clause-step g c = table_step_then (table_step_then c.search.invariant.step c.ensure_self_counting_refblock.ensures.step) c.raise.ensures.step
 
 pub returns-then-taken-clause-fails : goal.returns-then-taken-clause-fails
-returns-then-taken-clause-fails g c = fails_ok (c.in_ok-taken.ensures.fails.told ∙ (c.in_ok-cover_range.ensures.fails.told ∙ c.search.invariant.faults))
+returns-then-taken-clause-fails g c = fails_ok (c.in_ok-taken.ensures.fails.told ∙ (c.in_ok-ensure_self_counting_refblock.ensures.fails.told ∙ c.search.invariant.faults))
 
 pub returns-then-taken-clause-noted : goal.returns-then-taken-clause-noted
 returns-then-taken-clause-noted g c = λ some. c.in_ok-taken.ensures.noted c.if-taken.true
@@ -208,31 +208,31 @@ returns-clause-fails g c = fails_ok c.search.invariant.faults
 pub returns-clause-entries : goal.returns-clause-entries
 returns-clause-entries g c = c.search.invariant.entries
 
-pub returns-in_err-cover_range-clause-entries : goal.returns-in_err-cover_range-clause-entries
-returns-in_err-cover_range-clause-entries g c = covered_entries c.args.self.now.reftable c.search.self.reftable c.cover_range.new.self.reftable c.search.self.first_free_cluster c.args.end (2 ^ c.rb_bits-bits.result) (counts_per_block c.args.file.now.header.fields) c.search-test.true c.rb_bits-bits.ensures.counts
-    c.search.invariant.entries c.cover_range.ensures.entries
+pub returns-in_err-ensure_self_counting_refblock-clause-entries : goal.returns-in_err-ensure_self_counting_refblock-clause-entries
+returns-in_err-ensure_self_counting_refblock-clause-entries g c = covered_entries c.args.self.now.reftable c.search.self.reftable c.ensure_self_counting_refblock.new.self.reftable c.search.self.first_free_cluster c.args.end (2 ^ c.rb_bits-bits.result) (counts_per_block c.args.file.now.header.fields) c.search-test.true c.rb_bits-bits.ensures.counts
+    c.search.invariant.entries c.ensure_self_counting_refblock.ensures.entries
 
 pub returns-in_err-taken-clause-entries : goal.returns-in_err-taken-clause-entries
 returns-in_err-taken-clause-entries g c = subst (λ (t : Allocator). KeepsEntries (λ k. c.args.end ≤ k * counts_per_block c.args.file.now.header.fields) c.args.self.now.reftable t.reftable) (sym c.raise.ensures.same)
-    (covered_entries c.args.self.now.reftable c.search.self.reftable c.cover_range.new.self.reftable c.search.self.first_free_cluster c.args.end (2 ^ c.rb_bits-bits.result) (counts_per_block c.args.file.now.header.fields) c.search-test.true c.rb_bits-bits.ensures.counts
-    c.search.invariant.entries c.cover_range.ensures.entries)
+    (covered_entries c.args.self.now.reftable c.search.self.reftable c.ensure_self_counting_refblock.new.self.reftable c.search.self.first_free_cluster c.args.end (2 ^ c.rb_bits-bits.result) (counts_per_block c.args.file.now.header.fields) c.search-test.true c.rb_bits-bits.ensures.counts
+    c.search.invariant.entries c.ensure_self_counting_refblock.ensures.entries)
 
 pub returns-then-taken-clause-entries : goal.returns-then-taken-clause-entries
 returns-then-taken-clause-entries g c = subst (λ (t : Allocator). KeepsEntries (λ k. c.args.end ≤ k * counts_per_block c.args.file.now.header.fields) c.args.self.now.reftable t.reftable) (sym c.raise.ensures.same)
-    (covered_entries c.args.self.now.reftable c.search.self.reftable c.cover_range.new.self.reftable c.search.self.first_free_cluster c.args.end (2 ^ c.rb_bits-bits.result) (counts_per_block c.args.file.now.header.fields) c.search-test.true c.rb_bits-bits.ensures.counts
-    c.search.invariant.entries c.cover_range.ensures.entries)
+    (covered_entries c.args.self.now.reftable c.search.self.reftable c.ensure_self_counting_refblock.new.self.reftable c.search.self.first_free_cluster c.args.end (2 ^ c.rb_bits-bits.result) (counts_per_block c.args.file.now.header.fields) c.search-test.true c.rb_bits-bits.ensures.counts
+    c.search.invariant.entries c.ensure_self_counting_refblock.ensures.entries)
 
-pub returns-in_err-cover_range-clause-leaks : goal.returns-in_err-cover_range-clause-leaks
-returns-in_err-cover_range-clause-leaks g c = c.cover_range.ensures.leaks ∙ c.search.invariant.leaks
+pub returns-in_err-ensure_self_counting_refblock-clause-leaks : goal.returns-in_err-ensure_self_counting_refblock-clause-leaks
+returns-in_err-ensure_self_counting_refblock-clause-leaks g c = c.ensure_self_counting_refblock.ensures.leaks ∙ c.search.invariant.leaks
 
 pub returns-in_err-taken-clause-leaks : goal.returns-in_err-taken-clause-leaks
-returns-in_err-taken-clause-leaks g c = ap (λ (t : Allocator). t.leaked_clusters) c.raise.ensures.same ∙ c.cover_range.ensures.leaks ∙ c.search.invariant.leaks
+returns-in_err-taken-clause-leaks g c = ap (λ (t : Allocator). t.leaked_clusters) c.raise.ensures.same ∙ c.ensure_self_counting_refblock.ensures.leaks ∙ c.search.invariant.leaks
 
 pub returns-then-taken-clause-leaks : goal.returns-then-taken-clause-leaks
-returns-then-taken-clause-leaks g c = ap (λ (t : Allocator). t.leaked_clusters) c.raise.ensures.same ∙ c.cover_range.ensures.leaks ∙ c.search.invariant.leaks
+returns-then-taken-clause-leaks g c = ap (λ (t : Allocator). t.leaked_clusters) c.raise.ensures.same ∙ c.ensure_self_counting_refblock.ensures.leaks ∙ c.search.invariant.leaks
 
 pub returns-in_err-self-clause-leaks : goal.returns-in_err-self-clause-leaks
-returns-in_err-self-clause-leaks g c = ap (λ (t : Allocator). t.leaked_clusters) c.raise.ensures.same ∙ c.cover_range.ensures.leaks ∙ c.search.invariant.leaks
+returns-in_err-self-clause-leaks g c = ap (λ (t : Allocator). t.leaked_clusters) c.raise.ensures.same ∙ c.ensure_self_counting_refblock.ensures.leaks ∙ c.search.invariant.leaks
 
 pub returns-clause-leaks : goal.returns-clause-leaks
 returns-clause-leaks g c = c.search.invariant.leaks

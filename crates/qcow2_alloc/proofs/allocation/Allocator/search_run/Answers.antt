@@ -52,7 +52,7 @@ search-preserved g c = record {
   above = let behind = c.in_ok-first.ensures.behind in omega (arith, behind);
   behind = let so_far = c.search.invariant.behind in let behind = c.in_ok-first.ensures.behind in omega (arith, so_far, behind);
   faults = c.in_ok-first.ensures.fails.told ∙ (c.in_ok-taken.ensures.fails.told ∙ c.search.invariant.faults);
-  step = step_then (step_then c.search.invariant.step c.try_run.ensures.step) (step_on c.pass_used.ensures.step);
+  step = step_then (step_then c.search.invariant.step c.try_run.ensures.step) (step_on c.next_free_from.ensures.step);
   sound = λ p sound.
       let before = c.search.invariant.sound p sound in
       let q : Pending = pending_then p c.args.file.now.free_list c.search.file.free_list in
@@ -61,13 +61,13 @@ search-preserved g c = record {
       let mid = then_none g.S.Storage.view p c.args.file.now c.search.file c.try_run.new.file c.search.self c.try_run.new.self c.search.invariant.step.list c.try_run.ensures.step.list before (((c.in_ok-taken.ensures.sound q false now tt).takes).1 c.if-taken-n.false) in
       let r : Pending = pending_then p c.args.file.now.free_list c.try_run.new.file.free_list in
       let there = is_sound_on g.S.Storage.view p r c.args.file.now c.try_run.new.file c.try_run.new.self mid in
-      then_none g.S.Storage.view p c.args.file.now c.try_run.new.file c.pass_used.new.file c.try_run.new.self c.pass_used.new.self lists (lists_same c.try_run.new.file.free_list c.pass_used.new.file.free_list c.pass_used.ensures.step.list) mid
-      (subst (λ (s : Pending). UnseenAllocatorGrowth g.S.Storage.view r c.try_run.new.file c.pass_used.new.self c.pass_used.new.file s) (sym (listed_after_same r c.try_run.new.file.free_list c.pass_used.new.file.free_list c.pass_used.ensures.step.list))
-      (on_of g.S.Storage.view r r c.try_run.new.file c.pass_used.new.file c.pass_used.new.self (c.in_ok-first.ensures.sound r there).0));
+      then_none g.S.Storage.view p c.args.file.now c.try_run.new.file c.next_free_from.new.file c.try_run.new.self c.next_free_from.new.self lists (lists_same c.try_run.new.file.free_list c.next_free_from.new.file.free_list c.next_free_from.ensures.step.list) mid
+      (subst (λ (s : Pending). UnseenAllocatorGrowth g.S.Storage.view r c.try_run.new.file c.next_free_from.new.self c.next_free_from.new.file s) (sym (listed_after_same r c.try_run.new.file.free_list c.next_free_from.new.file.free_list c.next_free_from.ensures.step.list))
+      (on_of g.S.Storage.view r r c.try_run.new.file c.next_free_from.new.file c.next_free_from.new.self (c.in_ok-first.ensures.sound r there).0));
   leaks = λ p sound.
       let q : Pending = pending_then p c.args.file.now.free_list c.search.file.free_list in
       let now = is_sound_on g.S.Storage.view p q c.args.file.now c.search.file c.search.self (c.search.invariant.sound p sound) in
-      ap (λ (t : Allocator). t.leaked_clusters) c.pass_used.ensures.moves.rest ∙ (c.try_run.ensures.sound q false now tt).leaks ∙ c.search.invariant.leaks p sound;
+      ap (λ (t : Allocator). t.leaked_clusters) c.next_free_from.ensures.moves.rest ∙ (c.try_run.ensures.sound q false now tt).leaks ∙ c.search.invariant.leaks p sound;
   hint = λ p d sound may hint.
       let before = c.search.invariant.sound p sound in
       let q : Pending = pending_then p c.args.file.now.free_list c.search.file.free_list in
@@ -88,8 +88,8 @@ search-preserved g c = record {
       let there = is_sound_on g.S.Storage.view p r c.args.file.now c.try_run.new.file c.try_run.new.self mid in
       let may_now = may_still d c.args.file.now c.search.file c.search.invariant.step.marks.order may in
       let passed = c.in_ok-first.ensures.sound r there in
-      lowest_passed g.S.Storage.view c.pass_used.new.file (c.search.first + (c.in_ok-taken.taken + 1)) c.in_ok-first.first c.args.n (let behind = c.in_ok-first.ensures.behind in omega (arith, behind)) some (λ k low high. passed.1 ((c.in_ok-taken.ensures.sound q d now may_now).hint (c.search.invariant.hint p d sound may hint)) k (omega (arith, low)) high)
-      (lowest_stays g.S.Storage.view c.try_run.new.file c.pass_used.new.file (c.search.first + (c.in_ok-taken.taken + 1)) c.args.n (λ k used. used_stays g.S.Storage.view r r c.try_run.new.file c.pass_used.new.file c.pass_used.new.self k passed.0 (omega arith) used)
+      lowest_passed g.S.Storage.view c.next_free_from.new.file (c.search.first + (c.in_ok-taken.taken + 1)) c.in_ok-first.first c.args.n (let behind = c.in_ok-first.ensures.behind in omega (arith, behind)) some (λ k low high. passed.1 ((c.in_ok-taken.ensures.sound q d now may_now).hint (c.search.invariant.hint p d sound may hint)) k (omega (arith, low)) high)
+      (lowest_stays g.S.Storage.view c.try_run.new.file c.next_free_from.new.file (c.search.first + (c.in_ok-taken.taken + 1)) c.args.n (λ k used. used_stays g.S.Storage.view r r c.try_run.new.file c.next_free_from.new.file c.next_free_from.new.self k passed.0 (omega arith) used)
       (lowest_behind g.S.Storage.view c.try_run.new.file c.search.first c.args.n c.in_ok-taken.taken c.in_ok-taken.ensures.within c.if-taken-n.false ((c.in_ok-taken.ensures.sound q d now may_now).used (c.search.invariant.hint p d sound may hint) c.if-taken-n.false)
       (lowest_stays g.S.Storage.view c.search.file c.try_run.new.file c.search.first c.args.n ((c.in_ok-taken.ensures.sound q d now may_now).uses) (c.search.invariant.lowest p d sound may hint some))));
   uses = λ p d sound may k used.
@@ -99,12 +99,12 @@ search-preserved g c = record {
       let mid = then_none g.S.Storage.view p c.args.file.now c.search.file c.try_run.new.file c.search.self c.try_run.new.self c.search.invariant.step.list c.try_run.ensures.step.list before (((c.in_ok-taken.ensures.sound q false now tt).takes).1 c.if-taken-n.false) in
       let r : Pending = pending_then p c.args.file.now.free_list c.try_run.new.file.free_list in
       let there = is_sound_on g.S.Storage.view p r c.args.file.now c.try_run.new.file c.try_run.new.self mid in
-      used_stays g.S.Storage.view r r c.try_run.new.file c.pass_used.new.file c.pass_used.new.self k (c.in_ok-first.ensures.sound r there).0 (omega arith)
+      used_stays g.S.Storage.view r r c.try_run.new.file c.next_free_from.new.file c.next_free_from.new.self k (c.in_ok-first.ensures.sound r there).0 (omega arith)
       ((c.in_ok-taken.ensures.sound q d now (may_still d c.args.file.now c.search.file c.search.invariant.step.marks.order may)).uses k (c.search.invariant.uses p d sound may k used));
 }
 
 pub returns-in_err-first-clause-step : goal.returns-in_err-first-clause-step
-returns-in_err-first-clause-step g c = step_then (step_then c.search.invariant.step c.try_run.ensures.step) (step_on c.pass_used.ensures.step)
+returns-in_err-first-clause-step g c = step_then (step_then c.search.invariant.step c.try_run.ensures.step) (step_on c.next_free_from.ensures.step)
 
 pub returns-in_err-first-clause-fails : goal.returns-in_err-first-clause-fails
 returns-in_err-first-clause-fails g c = fails_on c.from_residual-in_err-first.result c.in_err-first.field-0.0 c.from_residual-in_err-first.ensures (fails_since (c.in_ok-taken.ensures.fails.told ∙ c.search.invariant.faults) c.in_err-first.ensures.fails)
@@ -125,16 +125,16 @@ returns-in_err-first-clause-sound g c = λ p d sound may.
     let r : Pending = pending_then p c.args.file.now.free_list c.try_run.new.file.free_list in
     let there = is_sound_on g.S.Storage.view p r c.args.file.now c.try_run.new.file c.try_run.new.self mid in
     record {
-      takes = handed_on (TakesSomeRun g.S.Storage.view p c.args.file.now c.pass_used.new.self c.pass_used.new.file (pending_then p c.args.file.now.free_list c.pass_used.new.file.free_list) d c.args.n) c.from_residual-in_err-first.result c.in_err-first.field-0.0 c.from_residual-in_err-first.ensures
-          (then_leaves g.S.Storage.view p c.args.file.now c.try_run.new.file c.pass_used.new.file c.try_run.new.self c.pass_used.new.self lists (lists_same c.try_run.new.file.free_list c.pass_used.new.file.free_list c.pass_used.ensures.step.list) mid c.in_err-first.field-0.0
-          (subst (λ (s : Pending). RefusedGrowth g.S.Storage.view r c.try_run.new.file c.pass_used.new.self c.pass_used.new.file s c.in_err-first.field-0.0) (sym (listed_after_same r c.try_run.new.file.free_list c.pass_used.new.file.free_list c.pass_used.ensures.step.list))
-          (leaves_as g.S.Storage.view r c.try_run.new.file c.pass_used.new.file c.pass_used.new.self c.in_err-first.field-0.0 (c.in_err-first.ensures.sound r there).1)));
+      takes = handed_on (TakesSomeRun g.S.Storage.view p c.args.file.now c.next_free_from.new.self c.next_free_from.new.file (pending_then p c.args.file.now.free_list c.next_free_from.new.file.free_list) d c.args.n) c.from_residual-in_err-first.result c.in_err-first.field-0.0 c.from_residual-in_err-first.ensures
+          (then_leaves g.S.Storage.view p c.args.file.now c.try_run.new.file c.next_free_from.new.file c.try_run.new.self c.next_free_from.new.self lists (lists_same c.try_run.new.file.free_list c.next_free_from.new.file.free_list c.next_free_from.ensures.step.list) mid c.in_err-first.field-0.0
+          (subst (λ (s : Pending). RefusedGrowth g.S.Storage.view r c.try_run.new.file c.next_free_from.new.self c.next_free_from.new.file s c.in_err-first.field-0.0) (sym (listed_after_same r c.try_run.new.file.free_list c.next_free_from.new.file.free_list c.next_free_from.ensures.step.list))
+          (leaves_as g.S.Storage.view r c.try_run.new.file c.next_free_from.new.file c.next_free_from.new.self c.in_err-first.field-0.0 (c.in_err-first.ensures.sound r there).1)));
       uses = on_no_ok _ c.from_residual-in_err-first.result c.in_err-first.field-0.0 c.from_residual-in_err-first.ensures;
       hint = λ hint. let may_now = may_still d c.args.file.now c.search.file c.search.invariant.step.marks.order may in
-          handed_on (KeepsNoFreeBelowHint g.S.Storage.view c.pass_used.new.self c.pass_used.new.file) c.from_residual-in_err-first.result c.in_err-first.field-0.0 c.from_residual-in_err-first.ensures
+          handed_on (KeepsNoFreeBelowHint g.S.Storage.view c.next_free_from.new.self c.next_free_from.new.file) c.from_residual-in_err-first.result c.in_err-first.field-0.0 c.from_residual-in_err-first.ensures
           (c.in_err-first.ensures.hint r there ((c.in_ok-taken.ensures.sound q d now may_now).hint (c.search.invariant.hint p d sound may hint)));
       lowest = λ _. if_no_ok _ c.from_residual-in_err-first.result c.in_err-first.field-0.0 c.from_residual-in_err-first.ensures;
-      limit = λ hint some. handed_on (λ (x : Result ℕ ImageError). IfErr x (IsFaultOr (HasNoPlace (IsUsed g.S.Storage.view c.pass_used.new.file) c.pass_used.new.file.header.fields c.pass_used.new.self c.args.n))) c.from_residual-in_err-first.result c.in_err-first.field-0.0 c.from_residual-in_err-first.ensures
+      limit = λ hint some. handed_on (λ (x : Result ℕ ImageError). IfErr x (IsFaultOr (HasNoPlace (IsUsed g.S.Storage.view c.next_free_from.new.file) c.next_free_from.new.file.header.fields c.next_free_from.new.self c.args.n))) c.from_residual-in_err-first.result c.in_err-first.field-0.0 c.from_residual-in_err-first.ensures
           (inl (c.in_err-first.ensures.sound r there).0);
     }
 
@@ -245,7 +245,7 @@ pub returns-in_err-first-clause-leaks : goal.returns-in_err-first-clause-leaks
 returns-in_err-first-clause-leaks g c = λ p sound.
     let q : Pending = pending_then p c.args.file.now.free_list c.search.file.free_list in
     let now = is_sound_on g.S.Storage.view p q c.args.file.now c.search.file c.search.self (c.search.invariant.sound p sound) in
-    ap (λ (t : Allocator). t.leaked_clusters) c.pass_used.ensures.moves.rest ∙ (c.try_run.ensures.sound q false now tt).leaks ∙ c.search.invariant.leaks p sound
+    ap (λ (t : Allocator). t.leaked_clusters) c.next_free_from.ensures.moves.rest ∙ (c.try_run.ensures.sound q false now tt).leaks ∙ c.search.invariant.leaks p sound
 
 pub returns-clause-leaks : goal.returns-clause-leaks
 returns-clause-leaks g c = λ p sound. c.search.invariant.leaks p sound

@@ -16,11 +16,11 @@ use Rattle.qcow2_alloc.proofs.ListedAfter.{header_counts}
 use Rattle.qcow2_alloc.proofs.Steps.{fails_ok, fails_on, fails_since, step_as, step_on, step_then}
 use Rattle.qcow2_alloc.proofs.allocation.Allocator.take.Goals as goal
 
-pub returns-in_err-reach_block-clause-step : goal.returns-in_err-reach_block-clause-step
-returns-in_err-reach_block-clause-step g c = record { header = c.reach_block.ensures.step.header; list = c.reach_block.ensures.step.list; former = c.reach_block.ensures.step.former; marks = c.reach_block.ensures.step.marks; header_cluster = c.reach_block.ensures.step.header_cluster }
+pub returns-in_err-ensure_refblock-clause-step : goal.returns-in_err-ensure_refblock-clause-step
+returns-in_err-ensure_refblock-clause-step g c = record { header = c.ensure_refblock.ensures.step.header; list = c.ensure_refblock.ensures.step.list; former = c.ensure_refblock.ensures.step.former; marks = c.ensure_refblock.ensures.step.marks; header_cluster = c.ensure_refblock.ensures.step.header_cluster }
 
 pub returns-in_err-taken-clause-step : goal.returns-in_err-taken-clause-step
-returns-in_err-taken-clause-step g c = step_then (record { header = c.reach_block.ensures.step.header; list = c.reach_block.ensures.step.list; former = c.reach_block.ensures.step.former; marks = c.reach_block.ensures.step.marks; header_cluster = c.reach_block.ensures.step.header_cluster }) (step_on c.raise.ensures.step)
+returns-in_err-taken-clause-step g c = step_then (record { header = c.ensure_refblock.ensures.step.header; list = c.ensure_refblock.ensures.step.list; former = c.ensure_refblock.ensures.step.former; marks = c.ensure_refblock.ensures.step.marks; header_cluster = c.ensure_refblock.ensures.step.header_cluster }) (step_on c.raise.ensures.step)
 
 pub returns-clause-step : goal.returns-clause-step
 returns-clause-step g c =
@@ -29,19 +29,19 @@ returns-clause-step g c =
       | else-cluster-self w ↦ ap (λ (t : Allocator). t.reftable) w.self-is
     ] in
     let same : c.if-cluster-self.self.reftable ≡ c.raise.new.self.reftable = noted ∙ ap (λ (t : Allocator). t.reftable) c.note_used.ensures.kept.rest in
-    step_as same refl (step_then (record { header = c.reach_block.ensures.step.header; list = c.reach_block.ensures.step.list; former = c.reach_block.ensures.step.former; marks = c.reach_block.ensures.step.marks; header_cluster = c.reach_block.ensures.step.header_cluster }) (step_on c.raise.ensures.step))
+    step_as same refl (step_then (record { header = c.ensure_refblock.ensures.step.header; list = c.ensure_refblock.ensures.step.list; former = c.ensure_refblock.ensures.step.former; marks = c.ensure_refblock.ensures.step.marks; header_cluster = c.ensure_refblock.ensures.step.header_cluster }) (step_on c.raise.ensures.step))
 
-pub returns-in_err-reach_block-clause-fails : goal.returns-in_err-reach_block-clause-fails
-returns-in_err-reach_block-clause-fails g c = fails_on c.from_residual.result c.in_err-reach_block.field-0.0 c.from_residual.ensures c.in_err-reach_block.ensures.fails
+pub returns-in_err-ensure_refblock-clause-fails : goal.returns-in_err-ensure_refblock-clause-fails
+returns-in_err-ensure_refblock-clause-fails g c = fails_on c.from_residual.result c.in_err-ensure_refblock.field-0.0 c.from_residual.ensures c.in_err-ensure_refblock.ensures.fails
 
 pub returns-in_err-taken-clause-fails : goal.returns-in_err-taken-clause-fails
-returns-in_err-taken-clause-fails g c = fails_on c.from_residual-in_err-taken.result c.in_err-taken.field-0.0 c.from_residual-in_err-taken.ensures (fails_since c.in_ok-reach_block.ensures.fails.told c.in_err-taken.ensures.fails)
+returns-in_err-taken-clause-fails g c = fails_on c.from_residual-in_err-taken.result c.in_err-taken.field-0.0 c.from_residual-in_err-taken.ensures (fails_since c.in_ok-ensure_refblock.ensures.fails.told c.in_err-taken.ensures.fails)
 
 pub returns-clause-fails : goal.returns-clause-fails
-returns-clause-fails g c = fails_ok (c.in_ok-taken.ensures.fails.told ∙ c.in_ok-reach_block.ensures.fails.told)
+returns-clause-fails g c = fails_ok (c.in_ok-taken.ensures.fails.told ∙ c.in_ok-ensure_refblock.ensures.fails.told)
 
-pub returns-in_err-reach_block-clause-noted : goal.returns-in_err-reach_block-clause-noted
-returns-in_err-reach_block-clause-noted g c = if_no_ok _ c.from_residual.result c.in_err-reach_block.field-0.0 c.from_residual.ensures
+pub returns-in_err-ensure_refblock-clause-noted : goal.returns-in_err-ensure_refblock-clause-noted
+returns-in_err-ensure_refblock-clause-noted g c = if_no_ok _ c.from_residual.result c.in_err-ensure_refblock.field-0.0 c.from_residual.ensures
 
 pub returns-in_err-taken-clause-noted : goal.returns-in_err-taken-clause-noted
 returns-in_err-taken-clause-noted g c = if_no_ok _ c.from_residual-in_err-taken.result c.in_err-taken.field-0.0 c.from_residual-in_err-taken.ensures
@@ -49,10 +49,10 @@ returns-in_err-taken-clause-noted g c = if_no_ok _ c.from_residual-in_err-taken.
 pub returns-clause-noted : goal.returns-clause-noted
 returns-clause-noted g c = c.in_ok-taken.ensures.noted
 
-pub returns-in_err-reach_block-clause-sound : goal.returns-in_err-reach_block-clause-sound
-returns-in_err-reach_block-clause-sound g c = λ p d sound may.
-    let reached = c.in_err-reach_block.ensures.sound p sound in
-    handed_on (TakesSoundly g.S.Storage.view p d c.args.self.now c.args.file.now c.reach_block.new.self c.reach_block.new.file c.args.cluster) c.from_residual.result c.in_err-reach_block.field-0.0 c.from_residual.ensures (record {
+pub returns-in_err-ensure_refblock-clause-sound : goal.returns-in_err-ensure_refblock-clause-sound
+returns-in_err-ensure_refblock-clause-sound g c = λ p d sound may.
+    let reached = c.in_err-ensure_refblock.ensures.sound p sound in
+    handed_on (TakesSoundly g.S.Storage.view p d c.args.self.now c.args.file.now c.ensure_refblock.new.self c.ensure_refblock.new.file c.args.cluster) c.from_residual.result c.in_err-ensure_refblock.field-0.0 c.from_residual.ensures (record {
       takes = reached.reaches;
       leaks = reached.leaks;
       listed = reached.listed;
@@ -67,21 +67,21 @@ pub returns-in_err-taken-clause-sound : goal.returns-in_err-taken-clause-sound
 returns-in_err-taken-clause-sound g c = λ p d sound may.
     let view = g.S.Storage.view in
     let a = c.args.file.now in
-    let b = c.reach_block.new.file in
+    let b = c.ensure_refblock.new.file in
     let q : Pending = pending_then p a.free_list b.free_list in
-    let reached = c.in_ok-reach_block.ensures.sound p sound in
+    let reached = c.in_ok-ensure_refblock.ensures.sound p sound in
     let one = reached.reaches in
-    let two = c.in_err-taken.ensures.sound q d (is_sound_on view p q a b c.reach_block.new.self one) (may_still d a b c.reach_block.ensures.step.marks.order may) in
+    let two = c.in_err-taken.ensures.sound q d (is_sound_on view p q a b c.ensure_refblock.new.self one) (may_still d a b c.ensure_refblock.ensures.step.marks.order may) in
     let e = c.in_err-taken.field-0.0 in
     handed_on (TakesSoundly view p d c.args.self.now a c.raise.new.self c.raise.new.file c.args.cluster) c.from_residual-in_err-taken.result e c.from_residual-in_err-taken.ensures (record {
       takes = subst (λ (r : Pending). RefusedGrowth view p a c.raise.new.self c.raise.new.file r e) (ap (pending_then p a.free_list) (sym c.raise.ensures.step.list))
-          (leaves_on view p q q a b c.raise.new.file c.reach_block.new.self c.raise.new.self e (λ k some. some) one (leaves_as view q b c.raise.new.file c.raise.new.self e two.takes));
+          (leaves_on view p q q a b c.raise.new.file c.ensure_refblock.new.self c.raise.new.self e (λ k some. some) one (leaves_as view q b c.raise.new.file c.raise.new.self e two.takes));
       leaks = ap (λ (t : Allocator). t.leaked_clusters) c.raise.ensures.same ∙ reached.leaks;
       listed = lists_used_still view a b c.raise.new.file (reached.listed) c.raise.ensures.step.list;
       uses = elim (uses_refused view q b c.raise.new.file c.raise.new.self e two.takes) [ inl kept ↦ inl (λ k used. kept k (reached.uses k used)) | inr interruption ↦ inr interruption ];
       used = λ hint. tt;
       free = tt;
-      hint = λ hint. hint_refused view q b c.raise.new.file c.reach_block.new.self c.raise.new.self e (passed_same c.reach_block.new.self c.raise.new.self c.raise.ensures.same) two.takes (reached.hint hint);
+      hint = λ hint. hint_refused view q b c.raise.new.file c.ensure_refblock.new.self c.raise.new.self e (passed_same c.ensure_refblock.new.self c.raise.new.self c.raise.ensures.same) two.takes (reached.hint hint);
       limit = λ hint near. inl two.fault;
     })
 
@@ -89,11 +89,11 @@ pub returns-clause-sound : goal.returns-clause-sound
 returns-clause-sound g c = λ p d sound may.
     let view = g.S.Storage.view in
     let a = c.args.file.now in
-    let b = c.reach_block.new.file in
+    let b = c.ensure_refblock.new.file in
     let q : Pending = pending_then p a.free_list b.free_list in
-    let reached = c.in_ok-reach_block.ensures.sound p sound in
+    let reached = c.in_ok-ensure_refblock.ensures.sound p sound in
     let one = reached.reaches in
-    let two = c.in_ok-taken.ensures.sound q d (is_sound_on view p q a b c.reach_block.new.self one) (may_still d a b c.reach_block.ensures.step.marks.order may) in
+    let two = c.in_ok-taken.ensures.sound q d (is_sound_on view p q a b c.ensure_refblock.new.self one) (may_still d a b c.ensure_refblock.ensures.step.marks.order may) in
     let t = c.raise.new.self in
     let file = c.raise.new.file in
     let noted = c.note_used.new.self in
@@ -108,17 +108,17 @@ returns-clause-sound g c = λ p d sound may.
       | else-cluster-self w ↦ ap (λ (t : Allocator). t.leaked_clusters) w.self-is
     ] in
     let leaks : c.if-cluster-self.self.leaked_clusters ≡ t.leaked_clusters = leaks_noted ∙ ap (λ (t : Allocator). t.leaked_clusters) kept.rest in
-    let used = λ (hint : NoFreeBelowHint view c.args.self.now a). two.used (reached.hint hint) (range_as c.reach_block.new.self.reftable c.args.cluster (counts_per_block a.header.fields) (counts_per_block b.header.fields) (header_counts a.header b.header c.reach_block.ensures.step.header) c.in_ok-reach_block.ensures.has) in
+    let used = λ (hint : NoFreeBelowHint view c.args.self.now a). two.used (reached.hint hint) (range_as c.ensure_refblock.new.self.reftable c.args.cluster (counts_per_block a.header.fields) (counts_per_block b.header.fields) (header_counts a.header b.header c.ensure_refblock.ensures.step.header) c.in_ok-ensure_refblock.ensures.has) in
     record {
       takes = subst (λ (r : Pending). TakesCluster view p a c.if-cluster-self.self file r d c.args.cluster (Ok c.in_ok-taken.taken)) (ap (pending_then p a.free_list) (sym c.raise.ensures.step.list))
-          (takes_on view p q a b file c.reach_block.new.self t c.if-cluster-self.self d c.args.cluster c.in_ok-taken.taken (λ k some. some) same one two.takes);
+          (takes_on view p q a b file c.ensure_refblock.new.self t c.if-cluster-self.self d c.args.cluster c.in_ok-taken.taken (λ k some. some) same one two.takes);
       leaks = leaks ∙ ap (λ (t : Allocator). t.leaked_clusters) c.raise.ensures.same ∙ reached.leaks;
       listed = lists_used_still view a b file (reached.listed) c.raise.ensures.step.list;
       uses = λ k before. uses_raised view q d c.args.cluster b file t c.in_ok-taken.taken two.takes k (reached.uses k before);
       used = used;
       free = λ taken before. two.free taken (reached.uses c.args.cluster before);
       hint = λ hint.
-          let raised = hint_raised view q d c.args.cluster b file c.reach_block.new.self t c.in_ok-taken.taken (passed_same c.reach_block.new.self c.raise.new.self c.raise.ensures.same) two.takes (reached.hint hint) in
+          let raised = hint_raised view q d c.args.cluster b file c.ensure_refblock.new.self t c.in_ok-taken.taken (passed_same c.ensure_refblock.new.self c.raise.new.self c.raise.ensures.same) two.takes (reached.hint hint) in
           let here = raised_used view q d c.args.cluster b file t c.in_ok-taken.taken two.takes (used hint) in
           let known = hint_kept view file t noted (λ k. k ≡ c.args.cluster) kept (λ k same. subst (IsUsed view file) (sym same) here) raised in
           elim c.if-cluster-self.branch [

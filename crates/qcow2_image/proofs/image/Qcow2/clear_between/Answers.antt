@@ -19,20 +19,20 @@ returns-in-Ok-clause-clears g c = λ out sound whole. c.in-Ok.ensures.clears out
 
 pub returns-in-Err-clause-clears : goal.returns-in-Err-clause-clears
 returns-in-Err-clause-clears g c = λ out sound whole.
-    back_then_freed g.S.Storage.view g.F.BackingDisk.backing out c.args.self.now c.clear_in_table.new.self c.free_after.new.self c.in-Err.refusal c.free_after.result (c.in-Err.ensures.clears out sound whole) c.free_after.ensures.fault (c.free_after.ensures.frees out)
+    back_then_freed g.S.Storage.view g.F.BackingDisk.backing out c.args.self.now c.clear_in_table.new.self c.process_free_list_after.new.self c.in-Err.refusal c.process_free_list_after.result (c.in-Err.ensures.clears out sound whole) c.process_free_list_after.ensures.fault (c.process_free_list_after.ensures.frees out)
 
 pub returns-in-Err-clause-lacks : goal.returns-in-Err-clause-lacks
 returns-in-Err-clause-lacks g c = λ out sound whole none.
-    lacking_freed g.S.Storage.view g.F.BackingDisk.backing out c.args.self.now c.clear_in_table.new.self c.free_after.new.self c.in-Err.refusal c.free_after.result (c.in-Err.ensures.clears out sound whole) c.free_after.ensures.fault
-    c.args.from c.free_after.ensures.table c.free_after.ensures.keeps_rest.header (c.free_after.ensures.frees out) (c.in-Err.ensures.lacks out sound whole none)
+    lacking_freed g.S.Storage.view g.F.BackingDisk.backing out c.args.self.now c.clear_in_table.new.self c.process_free_list_after.new.self c.in-Err.refusal c.process_free_list_after.result (c.in-Err.ensures.clears out sound whole) c.process_free_list_after.ensures.fault
+    c.args.from c.process_free_list_after.ensures.table c.process_free_list_after.ensures.keeps_rest.header (c.process_free_list_after.ensures.frees out) (c.in-Err.ensures.lacks out sound whole none)
 
 pub returns-in-Err-clause-freed : goal.returns-in-Err-clause-freed
 returns-in-Err-clause-freed g c = λ out sound whole.
-    refused_freed g.S.Storage.view g.F.BackingDisk.backing out c.args.self.now c.clear_in_table.new.self c.free_after.new.self c.in-Err.refusal c.free_after.result (c.in-Err.ensures.clears out sound whole) c.free_after.ensures.fault
-    (c.free_after.ensures.emptied (subst IsTrue (sym c.clear_in_table.ensures.step.stays.image.writable) c.requires.writable) out)
+    refused_freed g.S.Storage.view g.F.BackingDisk.backing out c.args.self.now c.clear_in_table.new.self c.process_free_list_after.new.self c.in-Err.refusal c.process_free_list_after.result (c.in-Err.ensures.clears out sound whole) c.process_free_list_after.ensures.fault
+    (c.process_free_list_after.ensures.emptied (subst IsTrue (sym c.clear_in_table.ensures.step.stays.image.writable) c.requires.writable) out)
 
 pub returns-in-Err-clause-taken : goal.returns-in-Err-clause-taken
-returns-in-Err-clause-taken g c = λ out sound is. c.in-Err.ensures.taken out sound (c.free_after.ensures.taken c.in-Err.ensures.cause is)
+returns-in-Err-clause-taken g c = λ out sound is. c.in-Err.ensures.taken out sound (c.process_free_list_after.ensures.taken c.in-Err.ensures.cause is)
 
 pub returns-in-Ok-clause-free : goal.returns-in-Ok-clause-free
 returns-in-Ok-clause-free g c = λ out sound. c.in-Ok.ensures.free out sound
@@ -41,18 +41,18 @@ pub returns-in-Ok-clause-pinned : goal.returns-in-Ok-clause-pinned
 returns-in-Ok-clause-pinned g c = λ own. c.in-Ok.ensures.pinned own
 
 pub returns-in-Err-clause-pinned : goal.returns-in-Err-clause-pinned
-returns-in-Err-clause-pinned g c = λ own is. c.in-Err.ensures.pinned own (c.free_after.ensures.taken c.in-Err.ensures.cause is)
+returns-in-Err-clause-pinned g c = λ own is. c.in-Err.ensures.pinned own (c.process_free_list_after.ensures.taken c.in-Err.ensures.cause is)
 
 pub returns-in-Err-clause-limit : goal.returns-in-Err-clause-limit
 returns-in-Err-clause-limit g c = λ out sound whole is.
     c.in-Err.ensures.limit out sound whole
-    (limited_frees g.S.Storage.view g.F.BackingDisk.backing out c.args.self.now c.clear_in_table.new.self c.free_after.new.self c.in-Err.refusal c.free_after.result (c.in-Err.ensures.clears out sound whole) c.free_after.ensures.fault (c.free_after.ensures.told.1 out) is)
+    (limited_frees g.S.Storage.view g.F.BackingDisk.backing out c.args.self.now c.clear_in_table.new.self c.process_free_list_after.new.self c.in-Err.refusal c.process_free_list_after.result (c.in-Err.ensures.clears out sound whole) c.process_free_list_after.ensures.fault (c.process_free_list_after.ensures.told.1 out) is)
 
 pub returns-in-Err-clause-met : goal.returns-in-Err-clause-met
 returns-in-Err-clause-met g c = λ out sound whole.
     let old = c.args.self.now in
-    met_freed g.S.Storage.view g.F.BackingDisk.backing out (IsMetTaking (HasPrepared out) (IsUnderMapping old.file.header.fields c.args.from out) ⊥ (NeedsFarEntry old c.args.from)) (λ e fault. inl (inl (inl fault))) old c.clear_in_table.new.self c.free_after.new.self c.in-Err.refusal c.free_after.result (c.in-Err.ensures.clears out sound whole) c.free_after.ensures.fault
-    (c.free_after.ensures.told.1 out) (c.in-Err.ensures.met out sound whole)
+    met_freed g.S.Storage.view g.F.BackingDisk.backing out (IsMetTaking (HasPrepared out) (IsUnderMapping old.file.header.fields c.args.from out) ⊥ (NeedsFarEntry old c.args.from)) (λ e fault. inl (inl (inl fault))) old c.clear_in_table.new.self c.process_free_list_after.new.self c.in-Err.refusal c.process_free_list_after.result (c.in-Err.ensures.clears out sound whole) c.process_free_list_after.ensures.fault
+    (c.process_free_list_after.ensures.told.1 out) (c.in-Err.ensures.met out sound whole)
 
 pub returns-in-Ok-clause-step : goal.returns-in-Ok-clause-step
 returns-in-Ok-clause-step g c = c.in-Ok.ensures.step
@@ -63,9 +63,9 @@ returns-in-Err-clause-step g c =
     let below = g.F.BackingDisk.backing in
     let old = c.args.self.now in
     record {
-      stays = record { image = same_image_then c.clear_in_table.ensures.step.stays.image c.free_after.ensures.step.stays.image; failed = c.free_after.ensures.step.stays.failed ∙ c.clear_in_table.ensures.step.stays.failed };
-      notes = notes_then c.clear_in_table.ensures.step.notes c.free_after.ensures.step.notes;
-      header_cluster = behind_then c.clear_in_table.ensures.step.header_cluster c.free_after.ensures.step.header_cluster;
-      faults = counted_of view below old c.free_after.new.self c.free_after.result
-          (c.free_after.ensures.faults old (counted_as view below old old c.clear_in_table.new.self c.clear_in_table.result c.in-Err.refusal (untouched view below old old refl refl) c.clear_in_table.ensures.step.faults c.in-Err.is));
+      stays = record { image = same_image_then c.clear_in_table.ensures.step.stays.image c.process_free_list_after.ensures.step.stays.image; failed = c.process_free_list_after.ensures.step.stays.failed ∙ c.clear_in_table.ensures.step.stays.failed };
+      notes = notes_then c.clear_in_table.ensures.step.notes c.process_free_list_after.ensures.step.notes;
+      header_cluster = behind_then c.clear_in_table.ensures.step.header_cluster c.process_free_list_after.ensures.step.header_cluster;
+      faults = counted_of view below old c.process_free_list_after.new.self c.process_free_list_after.result
+          (c.process_free_list_after.ensures.faults old (counted_as view below old old c.clear_in_table.new.self c.clear_in_table.result c.in-Err.refusal (untouched view below old old refl refl) c.clear_in_table.ensures.step.faults c.in-Err.is));
     }

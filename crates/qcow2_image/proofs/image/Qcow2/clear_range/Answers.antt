@@ -158,31 +158,31 @@ returns-in_err-mark_failure-clause-sound g c =
       changed = λ out sound some. tt;
     })
 
-pub returns-in_err-end_freeing-clause-step : goal.returns-in_err-end_freeing-clause-step
-returns-in_err-end_freeing-clause-step g c =
+pub returns-in_err-process_free_list_at_end-clause-step : goal.returns-in_err-process_free_list_at_end-clause-step
+returns-in_err-process_free_list_at_end-clause-step g c =
     let view = g.S.Storage.view in
     let below = g.F.BackingDisk.backing in
     let old = c.args.self.now in
     let begun = c.begin.new.self in
-    let freed = c.end_freeing.new.self in
-    let x = c.in_err-end_freeing.field-0.0 in
+    let freed = c.process_free_list_at_end.new.self in
+    let x = c.in_err-process_free_list_at_end.field-0.0 in
     let done : c.clear_between-cleared.result ≡ Ok c.in_ok-mark_failure.field-0 = sym c.mark_failure.ensures.answer ∙ c.in_ok-mark_failure.was in
     let failed : is_failed c.clear_between-cleared.new.self ≡ is_failed c.args.self.now = c.clear_between-cleared.ensures.step.stays.failed ∙ c.begin.ensures.stays.failed in
     let marks = subst (λ (r : Result _ _). MayMarkBy r (is_failed c.clear_between-cleared.new.self) (is_failed c.mark_failure.new.self)) done (may_mark c.clear_between-cleared.new.self c.mark_failure.new.self c.clear_between-cleared.result c.mark_failure.ensures.marks) in
     let kept = notes_then c.clear_between-cleared.ensures.step.notes (same_kept c.clear_between-cleared.new.self c.mark_failure.new.self (ap (λ (i : Qcow2 _ _). i.file.storage) c.mark_failure.ensures.rest) (ap (λ (i : Qcow2 _ _). i.file.caches) c.mark_failure.ensures.rest)) in
     let cleared = counted_marked view below old c.begin.new.self c.clear_between-cleared.new.self c.mark_failure.new.self c.clear_between-cleared.result c.mark_failure.result c.begin.ensures.faults c.clear_between-cleared.ensures.step.faults c.mark_failure.ensures.answer c.mark_failure.ensures.rest in
     let image = same_image_then (same_image_then c.begin.ensures.stays.image c.clear_between-cleared.ensures.step.stays.image) c.mark_failure.ensures.image in
-    handed_on (λ (r : Result (ℕ × ℕ) ImageError). ClearsStep view below old freed r) c.from_residual-in_err-end_freeing.result x c.from_residual-in_err-end_freeing.ensures (record {
-      image = same_image_then image c.end_freeing.ensures.image;
-      marks = refused_since old c.mark_failure.new.self freed (marks ∙ failed) x c.in_err-end_freeing.ensures.marks;
-      since = notes_since view old begun c.begin.ensures.begun freed (notes_then kept c.end_freeing.ensures.notes);
-      once_written = fails_marked view old begun c.begin.ensures.begun c.mark_failure.new.self freed c.end_freeing.result (notes_then kept c.end_freeing.ensures.notes) (marks ∙ failed) c.end_freeing.ensures.marks (Err x) (λ memory. c.in_err-end_freeing.was ∙ err_as x Memory memory);
-      header_cluster = behind_then (behind_call view c.begin.ensures.begun c.clear_between-cleared.ensures.step.header_cluster c.mark_failure.ensures.rest) c.end_freeing.ensures.header_cluster;
-      faults = counted_as view below old c.mark_failure.new.self freed c.end_freeing.result x (same_of view below old c.mark_failure.new.self c.mark_failure.result _ cleared c.in_ok-mark_failure.was) c.end_freeing.ensures.fails.faults c.in_err-end_freeing.was;
+    handed_on (λ (r : Result (ℕ × ℕ) ImageError). ClearsStep view below old freed r) c.from_residual-in_err-process_free_list_at_end.result x c.from_residual-in_err-process_free_list_at_end.ensures (record {
+      image = same_image_then image c.process_free_list_at_end.ensures.image;
+      marks = refused_since old c.mark_failure.new.self freed (marks ∙ failed) x c.in_err-process_free_list_at_end.ensures.marks;
+      since = notes_since view old begun c.begin.ensures.begun freed (notes_then kept c.process_free_list_at_end.ensures.notes);
+      once_written = fails_marked view old begun c.begin.ensures.begun c.mark_failure.new.self freed c.process_free_list_at_end.result (notes_then kept c.process_free_list_at_end.ensures.notes) (marks ∙ failed) c.process_free_list_at_end.ensures.marks (Err x) (λ memory. c.in_err-process_free_list_at_end.was ∙ err_as x Memory memory);
+      header_cluster = behind_then (behind_call view c.begin.ensures.begun c.clear_between-cleared.ensures.step.header_cluster c.mark_failure.ensures.rest) c.process_free_list_at_end.ensures.header_cluster;
+      faults = counted_as view below old c.mark_failure.new.self freed c.process_free_list_at_end.result x (same_of view below old c.mark_failure.new.self c.mark_failure.result _ cleared c.in_ok-mark_failure.was) c.process_free_list_at_end.ensures.fails.faults c.in_err-process_free_list_at_end.was;
     })
 
-pub returns-in_err-end_freeing-clause-fails : goal.returns-in_err-end_freeing-clause-fails
-returns-in_err-end_freeing-clause-fails g c =
+pub returns-in_err-process_free_list_at_end-clause-fails : goal.returns-in_err-process_free_list_at_end-clause-fails
+returns-in_err-process_free_list_at_end-clause-fails g c =
     let view = g.S.Storage.view in
     let below = g.F.BackingDisk.backing in
     let old = c.args.self.now in
@@ -191,32 +191,32 @@ returns-in_err-end_freeing-clause-fails g c =
     let n = c.args.length in
     let begun = c.begin.new.self in
     let entries = c.clear_between-cleared.new.self in
-    let freed = c.end_freeing.new.self in
-    let x = c.in_err-end_freeing.field-0.0 in
+    let freed = c.process_free_list_at_end.new.self in
+    let x = c.in_err-process_free_list_at_end.field-0.0 in
     let b = begins_clearing view below old how offset n c.check_clear.result c.check_clear.ensures.refusal c.in_ok-from.from c.in_ok-from.to c.in_ok-from.was begun c.begin.ensures.keeps c.begin.ensures.list c.in_ok-from.ensures.version in
     let done : c.clear_between-cleared.result ≡ Ok c.in_ok-mark_failure.field-0 = sym c.mark_failure.ensures.answer ∙ c.in_ok-mark_failure.was in
     let marks = subst (λ (r : Result _ _). MayMarkBy r (is_failed entries) (is_failed c.mark_failure.new.self)) done (may_mark c.clear_between-cleared.new.self c.mark_failure.new.self c.clear_between-cleared.result c.mark_failure.ensures.marks) in
     let same : c.mark_failure.new.self ≡ c.clear_between-cleared.new.self = c.mark_failure.ensures.rest ∙ ap (λ f. record entries { is_failed = f }) marks in
     let parts = parts_cleared view below old how offset n begun c.in_ok-from.from c.in_ok-from.to b entries c.clear_between-cleared.result c.in_ok-mark_failure.field-0 done c.clear_between-cleared.ensures.clears in
-    let ends = subst (λ (image : Qcow2 _ _). (out : _) → ImageInvariant view below (pending_in view below image out) image out → EndsFreeing view below image freed out c.end_freeing.result) same c.end_freeing.ensures.frees in
-    let number = c.end_freeing.ensures.image.number ∙ c.mark_failure.ensures.image.number ∙ c.clear_between-cleared.ensures.step.stays.image.number ∙ c.begin.ensures.stays.image.number in
-    let fault : (out : _) → ImageInvariant view below (pending_in view below old out) old out → IsFault c.in_err-end_freeing.field-0.0 = λ out sound. fault_of x (fault_interruption view below old how offset n b.works begun entries b.quiet parts freed c.end_freeing.result ends number x c.in_err-end_freeing.was out sound) in
-    handed_on (λ (r : Result (ℕ × ℕ) ImageError). FailsToClear view below how old freed offset n r) c.from_residual-in_err-end_freeing.result x c.from_residual-in_err-end_freeing.ensures (record {
+    let ends = subst (λ (image : Qcow2 _ _). (out : _) → ImageInvariant view below (pending_in view below image out) image out → EndsFreeing view below image freed out c.process_free_list_at_end.result) same c.process_free_list_at_end.ensures.frees in
+    let number = c.process_free_list_at_end.ensures.image.number ∙ c.mark_failure.ensures.image.number ∙ c.clear_between-cleared.ensures.step.stays.image.number ∙ c.begin.ensures.stays.image.number in
+    let fault : (out : _) → ImageInvariant view below (pending_in view below old out) old out → IsFault c.in_err-process_free_list_at_end.field-0.0 = λ out sound. fault_of x (fault_interruption view below old how offset n b.works begun entries b.quiet parts freed c.process_free_list_at_end.result ends number x c.in_err-process_free_list_at_end.was out sound) in
+    handed_on (λ (r : Result (ℕ × ℕ) ImageError). FailsToClear view below how old freed offset n r) c.from_residual-in_err-process_free_list_at_end.result x c.from_residual-in_err-process_free_list_at_end.ensures (record {
       early = not_early view below old how offset n c.check_clear.result c.check_clear.ensures.refusal c.in_ok-from.from c.in_ok-from.to c.in_ok-from.was freed (Err x);
-      late = λ none. inl (tables_met x c.in_err-end_freeing.ensures.fails.cause);
+      late = λ none. inl (tables_met x c.in_err-process_free_list_at_end.ensures.fails.cause);
       refused = record {
-        ungiven = ungiven_interruption view below old how offset n b.works begun entries b.quiet parts freed c.end_freeing.result ends number x c.in_err-end_freeing.was;
+        ungiven = ungiven_interruption view below old how offset n b.works begun entries b.quiet parts freed c.process_free_list_at_end.result ends number x c.in_err-process_free_list_at_end.was;
         lacks = λ none out sound unprepared. inl (fault out sound);
         met = λ none out sound. inl (inl (inl (fault out sound)));
       };
-      pinned = λ some none own is. absurd (of_tables_untaken x c.in_err-end_freeing.ensures.fails.cause is);
-      under = λ none some out sound. ((λ is. absurd (of_tables_untaken x c.in_err-end_freeing.ensures.fails.cause is)), tt);
+      pinned = λ some none own is. absurd (of_tables_untaken x c.in_err-process_free_list_at_end.ensures.fails.cause is);
+      under = λ none some out sound. ((λ is. absurd (of_tables_untaken x c.in_err-process_free_list_at_end.ensures.fails.cause is)), tt);
       freed = λ none some out sound. inl (fault out sound);
       limit = λ none some out sound. other_limit _ x (fault_unlimited x (fault out sound));
     })
 
-pub returns-in_err-end_freeing-clause-sound : goal.returns-in_err-end_freeing-clause-sound
-returns-in_err-end_freeing-clause-sound g c =
+pub returns-in_err-process_free_list_at_end-clause-sound : goal.returns-in_err-process_free_list_at_end-clause-sound
+returns-in_err-process_free_list_at_end-clause-sound g c =
     let view = g.S.Storage.view in
     let below = g.F.BackingDisk.backing in
     let old = c.args.self.now in
@@ -225,21 +225,21 @@ returns-in_err-end_freeing-clause-sound g c =
     let n = c.args.length in
     let begun = c.begin.new.self in
     let entries = c.clear_between-cleared.new.self in
-    let freed = c.end_freeing.new.self in
-    let x = c.in_err-end_freeing.field-0.0 in
+    let freed = c.process_free_list_at_end.new.self in
+    let x = c.in_err-process_free_list_at_end.field-0.0 in
     let b = begins_clearing view below old how offset n c.check_clear.result c.check_clear.ensures.refusal c.in_ok-from.from c.in_ok-from.to c.in_ok-from.was begun c.begin.ensures.keeps c.begin.ensures.list c.in_ok-from.ensures.version in
     let done : c.clear_between-cleared.result ≡ Ok c.in_ok-mark_failure.field-0 = sym c.mark_failure.ensures.answer ∙ c.in_ok-mark_failure.was in
     let marks = subst (λ (r : Result _ _). MayMarkBy r (is_failed entries) (is_failed c.mark_failure.new.self)) done (may_mark c.clear_between-cleared.new.self c.mark_failure.new.self c.clear_between-cleared.result c.mark_failure.ensures.marks) in
     let same : c.mark_failure.new.self ≡ c.clear_between-cleared.new.self = c.mark_failure.ensures.rest ∙ ap (λ f. record entries { is_failed = f }) marks in
     let parts = parts_cleared view below old how offset n begun c.in_ok-from.from c.in_ok-from.to b entries c.clear_between-cleared.result c.in_ok-mark_failure.field-0 done c.clear_between-cleared.ensures.clears in
-    let ends = subst (λ (image : Qcow2 _ _). (out : _) → ImageInvariant view below (pending_in view below image out) image out → EndsFreeing view below image freed out c.end_freeing.result) same c.end_freeing.ensures.frees in
-    let number = c.end_freeing.ensures.image.number ∙ c.mark_failure.ensures.image.number ∙ c.clear_between-cleared.ensures.step.stays.image.number ∙ c.begin.ensures.stays.image.number in
+    let ends = subst (λ (image : Qcow2 _ _). (out : _) → ImageInvariant view below (pending_in view below image out) image out → EndsFreeing view below image freed out c.process_free_list_at_end.result) same c.process_free_list_at_end.ensures.frees in
+    let number = c.process_free_list_at_end.ensures.image.number ∙ c.mark_failure.ensures.image.number ∙ c.clear_between-cleared.ensures.step.stays.image.number ∙ c.begin.ensures.stays.image.number in
     let some : from_in c.args.self.now c.args.offset c.args.length < to_in c.args.self.now c.args.offset c.args.length = let is = b.first_is in let at = b.last_is in omega (arith, c.if-to-from.false, is, at) in
-    handed_on (λ (r : Result (ℕ × ℕ) ImageError). ClearsSoundly view below how old freed offset n r) c.from_residual-in_err-end_freeing.result x c.from_residual-in_err-end_freeing.ensures (record {
+    handed_on (λ (r : Result (ℕ × ℕ) ImageError). ClearsSoundly view below how old freed offset n r) c.from_residual-in_err-process_free_list_at_end.result x c.from_residual-in_err-process_free_list_at_end.ensures (record {
       range = tt;
       nothing = λ none least. absurd (omega (arith, some, least));
-      sees = clear_interruption view below old how offset n b.works begun entries b.quiet parts freed c.end_freeing.result ends number x c.in_err-end_freeing.was
-          (is_fault x (is_failed c.mark_failure.new.self) (is_failed freed) (outcome x (is_failed c.mark_failure.new.self) (is_failed freed) (may_mark_refused c.mark_failure.new.self c.end_freeing.new.self x c.in_err-end_freeing.ensures.marks)));
+      sees = clear_interruption view below old how offset n b.works begun entries b.quiet parts freed c.process_free_list_at_end.result ends number x c.in_err-process_free_list_at_end.was
+          (is_fault x (is_failed c.mark_failure.new.self) (is_failed freed) (outcome x (is_failed c.mark_failure.new.self) (is_failed freed) (may_mark_refused c.mark_failure.new.self c.process_free_list_at_end.new.self x c.in_err-process_free_list_at_end.ensures.marks)));
       covers = λ out sound. tt;
       emptied = λ some. tt;
       changed = λ out sound some. tt;
@@ -251,7 +251,7 @@ returns-clause-step g c =
     let below = g.F.BackingDisk.backing in
     let old = c.args.self.now in
     let begun = c.begin.new.self in
-    let freed = c.end_freeing.new.self in
+    let freed = c.process_free_list_at_end.new.self in
     let done : c.clear_between-cleared.result ≡ Ok c.in_ok-mark_failure.field-0 = sym c.mark_failure.ensures.answer ∙ c.in_ok-mark_failure.was in
     let failed : is_failed c.clear_between-cleared.new.self ≡ is_failed c.args.self.now = c.clear_between-cleared.ensures.step.stays.failed ∙ c.begin.ensures.stays.failed in
     let marks = subst (λ (r : Result _ _). MayMarkBy r (is_failed c.clear_between-cleared.new.self) (is_failed c.mark_failure.new.self)) done (may_mark c.clear_between-cleared.new.self c.mark_failure.new.self c.clear_between-cleared.result c.mark_failure.ensures.marks) in
@@ -259,12 +259,12 @@ returns-clause-step g c =
     let cleared = counted_marked view below old c.begin.new.self c.clear_between-cleared.new.self c.mark_failure.new.self c.clear_between-cleared.result c.mark_failure.result c.begin.ensures.faults c.clear_between-cleared.ensures.step.faults c.mark_failure.ensures.answer c.mark_failure.ensures.rest in
     let image = same_image_then (same_image_then c.begin.ensures.stays.image c.clear_between-cleared.ensures.step.stays.image) c.mark_failure.ensures.image in
     record {
-      image = same_image_then image c.end_freeing.ensures.image;
-      marks = c.in_ok-end_freeing.ensures.marks ∙ marks ∙ failed;
-      since = notes_since view old begun c.begin.ensures.begun freed (notes_then kept c.end_freeing.ensures.notes);
-      once_written = answered_counts view old freed _ (counts_begun view old begun c.begin.ensures.begun freed (notes_then kept c.end_freeing.ensures.notes));
-      header_cluster = behind_then (behind_call view c.begin.ensures.begun c.clear_between-cleared.ensures.step.header_cluster c.mark_failure.ensures.rest) c.end_freeing.ensures.header_cluster;
-      faults = counted_ok view below old freed _ (faults_then view below old c.mark_failure.new.self freed (same_of view below old c.mark_failure.new.self c.mark_failure.result _ cleared c.in_ok-mark_failure.was) c.in_ok-end_freeing.ensures.fails.faults.told);
+      image = same_image_then image c.process_free_list_at_end.ensures.image;
+      marks = c.in_ok-process_free_list_at_end.ensures.marks ∙ marks ∙ failed;
+      since = notes_since view old begun c.begin.ensures.begun freed (notes_then kept c.process_free_list_at_end.ensures.notes);
+      once_written = answered_counts view old freed _ (counts_begun view old begun c.begin.ensures.begun freed (notes_then kept c.process_free_list_at_end.ensures.notes));
+      header_cluster = behind_then (behind_call view c.begin.ensures.begun c.clear_between-cleared.ensures.step.header_cluster c.mark_failure.ensures.rest) c.process_free_list_at_end.ensures.header_cluster;
+      faults = counted_ok view below old freed _ (faults_then view below old c.mark_failure.new.self freed (same_of view below old c.mark_failure.new.self c.mark_failure.result _ cleared c.in_ok-mark_failure.was) c.in_ok-process_free_list_at_end.ensures.fails.faults.told);
     }
 
 pub returns-clause-fails : goal.returns-clause-fails
@@ -281,7 +281,7 @@ returns-clause-fails g c =
     let done : c.clear_between-cleared.result ≡ Ok c.in_ok-mark_failure.field-0 = sym c.mark_failure.ensures.answer ∙ c.in_ok-mark_failure.was in
     let good : Result (Unit {0}) ImageError = Ok c.in_ok-mark_failure.field-0 in
     record {
-      early = not_early view below old how offset n c.check_clear.result c.check_clear.ensures.refusal c.in_ok-from.from c.in_ok-from.to c.in_ok-from.was c.end_freeing.new.self (Ok (c.in_ok-from.from, c.saturating_sub.result));
+      early = not_early view below old how offset n c.check_clear.result c.check_clear.ensures.refusal c.in_ok-from.from c.in_ok-from.to c.in_ok-from.was c.process_free_list_at_end.new.self (Ok (c.in_ok-from.from, c.saturating_sub.result));
       late = λ none. tt;
       refused = tt;
       pinned = λ some none own. heeds_begun old begun first good c.begin.ensures.begun (subst (λ k. HeedsPins begun k good) b.first_is
@@ -306,29 +306,29 @@ returns-clause-sound g c =
     let entries = c.clear_between-cleared.new.self in
     let first = from_in c.args.self.now c.args.offset c.args.length in
     let last = to_in c.args.self.now c.args.offset c.args.length in
-    let freed = c.end_freeing.new.self in
+    let freed = c.process_free_list_at_end.new.self in
     let b = begins_clearing view below old how offset n c.check_clear.result c.check_clear.ensures.refusal c.in_ok-from.from c.in_ok-from.to c.in_ok-from.was begun c.begin.ensures.keeps c.begin.ensures.list c.in_ok-from.ensures.version in
     let done : c.clear_between-cleared.result ≡ Ok c.in_ok-mark_failure.field-0 = sym c.mark_failure.ensures.answer ∙ c.in_ok-mark_failure.was in
     let marks = subst (λ (r : Result _ _). MayMarkBy r (is_failed entries) (is_failed c.mark_failure.new.self)) done (may_mark c.clear_between-cleared.new.self c.mark_failure.new.self c.clear_between-cleared.result c.mark_failure.ensures.marks) in
     let same : c.mark_failure.new.self ≡ c.clear_between-cleared.new.self = c.mark_failure.ensures.rest ∙ ap (λ f. record entries { is_failed = f }) marks in
     let parts = parts_cleared view below old how offset n begun c.in_ok-from.from c.in_ok-from.to b entries c.clear_between-cleared.result c.in_ok-mark_failure.field-0 done c.clear_between-cleared.ensures.clears in
-    let ends = subst (λ (image : Qcow2 _ _). (out : _) → ImageInvariant view below (pending_in view below image out) image out → EndsFreeing view below image freed out c.end_freeing.result) same c.end_freeing.ensures.frees in
-    let number = c.end_freeing.ensures.image.number ∙ c.mark_failure.ensures.image.number ∙ c.clear_between-cleared.ensures.step.stays.image.number ∙ c.begin.ensures.stays.image.number in
+    let ends = subst (λ (image : Qcow2 _ _). (out : _) → ImageInvariant view below (pending_in view below image out) image out → EndsFreeing view below image freed out c.process_free_list_at_end.result) same c.process_free_list_at_end.ensures.frees in
+    let number = c.process_free_list_at_end.ensures.image.number ∙ c.mark_failure.ensures.image.number ∙ c.clear_between-cleared.ensures.step.stays.image.number ∙ c.begin.ensures.stays.image.number in
     let kept = notes_then c.clear_between-cleared.ensures.step.notes (same_kept c.clear_between-cleared.new.self c.mark_failure.new.self (ap (λ (i : Qcow2 _ _). i.file.storage) c.mark_failure.ensures.rest) (ap (λ (i : Qcow2 _ _). i.file.caches) c.mark_failure.ensures.rest)) in
     let some : from_in c.args.self.now c.args.offset c.args.length < to_in c.args.self.now c.args.offset c.args.length = let is = b.first_is in let at = b.last_is in omega (arith, c.if-to-from.false, is, at) in
     let many : c.saturating_sub.result ≡ min (to_in c.args.self.now c.args.offset c.args.length) (c.args.offset + c.args.length) - from_in c.args.self.now c.args.offset c.args.length =
     c.saturating_sub.ensures ∙ ap (λ k. k - c.in_ok-from.from) c.min.ensures ∙ ap (λ k. min k (offset + n) - c.in_ok-from.from) b.last_is ∙ ap (λ k. min (to_in old offset n) (offset + n) - k) b.first_is in
-    let all = notes_then kept c.end_freeing.ensures.notes in
+    let all = notes_then kept c.process_free_list_at_end.ensures.notes in
     let writable = subst IsTrue (sym (c.mark_failure.ensures.image.writable ∙ c.clear_between-cleared.ensures.step.stays.image.writable ∙ c.begin.ensures.stays.image.writable)) c.in_ok-from.ensures.writable in
     record {
       range = some_answered first last offset n c.in_ok-from.from c.saturating_sub.result b.first_is some many;
       nothing = λ none least. absurd (omega (arith, some, least));
       sees = subst (λ k. Clears view below how old freed offset n (Ok (k, c.saturating_sub.result))) (sym b.first_is) (subst (λ k. Clears view below how old freed offset n (Ok (from_in old offset n, k))) (sym many)
-          (clear_done view below old how offset n b.works begun entries b.quiet parts freed c.end_freeing.result ends number c.in_ok-end_freeing.was some));
-      covers = λ out sound. clear_covers view below old how offset n b.works begun entries b.quiet parts freed c.end_freeing.result ends number c.in_ok-end_freeing.was out sound;
-      emptied = λ some. c.in_ok-end_freeing.ensures.emptied writable;
+          (clear_done view below old how offset n b.works begun entries b.quiet parts freed c.process_free_list_at_end.result ends number c.in_ok-process_free_list_at_end.was some));
+      covers = λ out sound. clear_covers view below old how offset n b.works begun entries b.quiet parts freed c.process_free_list_at_end.result ends number c.in_ok-process_free_list_at_end.was out sound;
+      emptied = λ some. c.in_ok-process_free_list_at_end.ensures.emptied writable;
       changed = λ out sound some.
           let part = parts out (b.seen out sound) in
-          let noted = kept_noted view c.mark_failure.new.self freed c.end_freeing.ensures.notes (subst (λ (i : Qcow2 _ _). IsTrue (has_noted_change i)) (sym same) (or_right (is_changed_of entries.file.storage) entries.file.caches.is_changed part.noted)) in
+          let noted = kept_noted view c.mark_failure.new.self freed c.process_free_list_at_end.ensures.notes (subst (λ (i : Qcow2 _ _). IsTrue (has_noted_change i)) (sym same) (or_right (is_changed_of entries.file.storage) entries.file.caches.is_changed part.noted)) in
           (notes_begun view old begun c.begin.ensures.begun freed (notes_part view begun freed all)).why noted;
     }

@@ -37,14 +37,14 @@ returns-then-is_none-clause-sees g c = λ out k placed.
 pub returns-in-Ok-clause-sees : goal.returns-in-Ok-clause-sees
 returns-in-Ok-clause-sees g c = λ out k placed.
     let some : IsSome c.args.prepared.table = search rules in
-    commit_done g.S.Storage.view g.F.BackingDisk.backing c.args.self.now c.args.prepared c.begin.new.self c.enter_shares-entered.new.self c.end_freeing.new.self c.enter_shares-entered.new.prepared c.enter_shares-entered.result c.if-self.false some c.end_freeing.result
-    (λ out sound. record { keeps = c.begin.ensures.keeps (pending_in g.S.Storage.view g.F.BackingDisk.backing c.args.self.now out) out sound; list = c.begin.ensures.list }) c.enter_shares-entered.ensures.enters c.end_freeing.ensures.frees out k placed c.in-Ok.is c.release_prepared-in-Ok.new.self c.release_prepared-in-Ok.ensures.sees
-    (c.release_prepared-in-Ok.ensures.step.stays.image.number ∙ c.end_freeing.ensures.image.number ∙ c.enter_shares-entered.ensures.step.stays.image.number ∙ c.begin.ensures.stays.image.number)
+    commit_done g.S.Storage.view g.F.BackingDisk.backing c.args.self.now c.args.prepared c.begin.new.self c.enter_shares-entered.new.self c.process_free_list_at_end.new.self c.enter_shares-entered.new.prepared c.enter_shares-entered.result c.if-self.false some c.process_free_list_at_end.result
+    (λ out sound. record { keeps = c.begin.ensures.keeps (pending_in g.S.Storage.view g.F.BackingDisk.backing c.args.self.now out) out sound; list = c.begin.ensures.list }) c.enter_shares-entered.ensures.enters c.process_free_list_at_end.ensures.frees out k placed c.in-Ok.is c.release_prepared-in-Ok.new.self c.release_prepared-in-Ok.ensures.sees
+    (c.release_prepared-in-Ok.ensures.step.stays.image.number ∙ c.process_free_list_at_end.ensures.image.number ∙ c.enter_shares-entered.ensures.step.stays.image.number ∙ c.begin.ensures.stays.image.number)
 
 pub returns-in-Ok-clause-emptied : goal.returns-in-Ok-clause-emptied
 returns-in-Ok-clause-emptied g c = λ own some writable.
-    let freed : c.end_freeing.new.self.file.free_list ≡ [] = c.in-Ok.ensures.emptied (c.enter_shares-entered.ensures.step.stays.image.writable ∙ c.begin.ensures.stays.image.writable ∙ writable) in
-    c.release_prepared-in-Ok.ensures.list ∙ ap (λ l. c.end_freeing.new.self.file.free_list ++ l) c.enter_shares-entered.ensures.left ∙ ap (λ l. l ++ []) freed
+    let freed : c.process_free_list_at_end.new.self.file.free_list ≡ [] = c.in-Ok.ensures.emptied (c.enter_shares-entered.ensures.step.stays.image.writable ∙ c.begin.ensures.stays.image.writable ∙ writable) in
+    c.release_prepared-in-Ok.ensures.list ∙ ap (λ l. c.process_free_list_at_end.new.self.file.free_list ++ l) c.enter_shares-entered.ensures.left ∙ ap (λ l. l ++ []) freed
 
 pub returns-after-entered-clause-sees : goal.returns-after-entered-clause-sees
 returns-after-entered-clause-sees g c =
@@ -54,28 +54,28 @@ returns-after-entered-clause-sees g c =
     let p = c.args.prepared in
     let begun = c.begin.new.self in
     let entered = c.enter_shares-entered.new.self in
-    let freed = c.end_freeing.new.self in
+    let freed = c.process_free_list_at_end.new.self in
     let q = c.enter_shares-entered.new.prepared in
     let x = c.in-Err.refusal in
     let some : IsSome c.args.prepared.table = search rules in
-    let number = c.end_freeing.ensures.image.number ∙ c.enter_shares-entered.ensures.step.stays.image.number ∙ c.begin.ensures.stays.image.number in
-    let marked : refusal_of c.in-Err.refusal ≡ storage → IsTrue (is_failed c.end_freeing.new.self) =
+    let number = c.process_free_list_at_end.ensures.image.number ∙ c.enter_shares-entered.ensures.step.stays.image.number ∙ c.begin.ensures.stays.image.number in
+    let marked : refusal_of c.in-Err.refusal ≡ storage → IsTrue (is_failed c.process_free_list_at_end.new.self) =
     is_fault x (is_failed entered) (is_failed freed) (outcome x (is_failed entered) (is_failed freed) (may_mark_refused entered freed x c.in-Err.ensures.marks)) in
     elim c.if-entered.branch [
       | then-entered w ↦
           subst (λ (r : CommitRefused). Commits view below old freed p (Err r)) (sym (c.refused_commit.ensures.failed (w.refused_commit-is ∙ w.if-entered.true)))
-          (λ out k placed. commit_break_off view below old p begun entered freed q c.enter_shares-entered.result c.if-self.false some c.end_freeing.result
-          (λ out sound. record { keeps = c.begin.ensures.keeps (pending_in view below old out) out sound; list = c.begin.ensures.list }) c.enter_shares-entered.ensures.enters c.end_freeing.ensures.frees out k placed number x c.in-Err.is marked w.if-entered.true)
+          (λ out k placed. commit_break_off view below old p begun entered freed q c.enter_shares-entered.result c.if-self.false some c.process_free_list_at_end.result
+          (λ out sound. record { keeps = c.begin.ensures.keeps (pending_in view below old out) out sound; list = c.begin.ensures.list }) c.enter_shares-entered.ensures.enters c.process_free_list_at_end.ensures.frees out k placed number x c.in-Err.is marked w.if-entered.true)
       | else-entered w ↦ elim (true_or_false (is_failed freed)) [
         | inl failed ↦
             subst (λ (r : CommitRefused). Commits view below old freed p (Err r)) (sym (c.refused_commit.ensures.failed (w.refused_commit-is ∙ failed)))
-            (λ out k placed. commit_interruption view below old p begun entered freed q c.enter_shares-entered.result c.if-self.false some c.end_freeing.result
-            (λ out sound. record { keeps = c.begin.ensures.keeps (pending_in view below old out) out sound; list = c.begin.ensures.list }) c.enter_shares-entered.ensures.enters c.end_freeing.ensures.frees out k placed number x c.in-Err.is marked (λ _. failed))
+            (λ out k placed. commit_interruption view below old p begun entered freed q c.enter_shares-entered.result c.if-self.false some c.process_free_list_at_end.result
+            (λ out sound. record { keeps = c.begin.ensures.keeps (pending_in view below old out) out sound; list = c.begin.ensures.list }) c.enter_shares-entered.ensures.enters c.process_free_list_at_end.ensures.frees out k placed number x c.in-Err.is marked (λ _. failed))
         | inr works ↦
             let same = c.enter_shares-entered.ensures.none w.if-entered.false in
             subst (λ (r : CommitRefused). Commits view below old freed p (Err r)) (sym (c.refused_commit.ensures.kept (w.refused_commit-is ∙ works) ∙ ap (Kept x) same.1))
-            (λ out k placed. commit_kept view below old p begun entered freed q c.enter_shares-entered.result c.if-self.false some c.end_freeing.result
-            (λ out sound. record { keeps = c.begin.ensures.keeps (pending_in view below old out) out sound; list = c.begin.ensures.list }) c.enter_shares-entered.ensures.enters c.end_freeing.ensures.frees out k placed number x c.in-Err.is marked same)
+            (λ out k placed. commit_kept view below old p begun entered freed q c.enter_shares-entered.result c.if-self.false some c.process_free_list_at_end.result
+            (λ out sound. record { keeps = c.begin.ensures.keeps (pending_in view below old out) out sound; list = c.begin.ensures.list }) c.enter_shares-entered.ensures.enters c.process_free_list_at_end.ensures.frees out k placed number x c.in-Err.is marked same)
       ]
     ]
 
@@ -85,12 +85,12 @@ returns-then-is_none-clause-quiet g c = λ nothing none. ap (λ (image : Qcow2 _
 pub returns-in-Ok-clause-quiet : goal.returns-in-Ok-clause-quiet
 returns-in-Ok-clause-quiet g c = λ nothing none.
     ap (λ (image : Qcow2 _ _). storage_of image.file.storage) c.release_prepared-in-Ok.ensures.rest.rest
-    ∙ ap (λ (image : Qcow2 _ _). storage_of image.file.storage) (c.end_freeing.ensures.idle (c.enter_shares-entered.ensures.quiet none ∙ c.begin.ensures.list ∙ nothing)).1
+    ∙ ap (λ (image : Qcow2 _ _). storage_of image.file.storage) (c.process_free_list_at_end.ensures.idle (c.enter_shares-entered.ensures.quiet none ∙ c.begin.ensures.list ∙ nothing)).1
     ∙ ap (λ (image : Qcow2 _ _). storage_of image.file.storage) c.enter_shares-entered.ensures.rest ∙ c.begin.ensures.storage
 
 pub returns-after-entered-clause-quiet : goal.returns-after-entered-clause-quiet
 returns-after-entered-clause-quiet g c = λ nothing none.
-    ap (λ (image : Qcow2 _ _). storage_of image.file.storage) (c.end_freeing.ensures.idle (c.enter_shares-entered.ensures.quiet none ∙ c.begin.ensures.list ∙ nothing)).1
+    ap (λ (image : Qcow2 _ _). storage_of image.file.storage) (c.process_free_list_at_end.ensures.idle (c.enter_shares-entered.ensures.quiet none ∙ c.begin.ensures.list ∙ nothing)).1
     ∙ ap (λ (image : Qcow2 _ _). storage_of image.file.storage) c.enter_shares-entered.ensures.rest ∙ c.begin.ensures.storage
 
 pub returns-in-Ok-clause-faults : goal.returns-in-Ok-clause-faults
@@ -99,7 +99,7 @@ returns-in-Ok-clause-faults g c =
     let below = g.F.BackingDisk.backing in
     let old = c.args.self.now in
     let entered = c.enter_shares-entered.new.self in
-    let freed = c.end_freeing.new.self in
+    let freed = c.process_free_list_at_end.new.self in
     let first = faults_then view below old c.begin.new.self entered c.begin.ensures.faults c.enter_shares-entered.ensures.faults in
     let all = faults_then view below old freed c.release_prepared-in-Ok.new.self (faults_then view below old entered freed first c.in-Ok.ensures.fails.faults.told) c.release_prepared-in-Ok.ensures.faults in
     (fewer_of view below old c.release_prepared-in-Ok.new.self all, tt, all)
@@ -111,7 +111,7 @@ returns-after-entered-clause-faults g c =
     let old = c.args.self.now in
     let entered = c.enter_shares-entered.new.self in
     let first = faults_then view below old c.begin.new.self entered c.begin.ensures.faults c.enter_shares-entered.ensures.faults in
-    let told : CountsImageFaults view below {T = Unit {0}} old c.end_freeing.new.self (Err c.in-Err.refusal) = counted_as view below old entered c.end_freeing.new.self c.end_freeing.result c.in-Err.refusal first c.end_freeing.ensures.fails.faults c.in-Err.is in
+    let told : CountsImageFaults view below {T = Unit {0}} old c.process_free_list_at_end.new.self (Err c.in-Err.refusal) = counted_as view below old entered c.process_free_list_at_end.new.self c.process_free_list_at_end.result c.in-Err.refusal first c.process_free_list_at_end.ensures.fails.faults c.in-Err.is in
     (told.no_fewer, λ is. told.rose (sym c.refused_commit.ensures.reason ∙ is), λ other. told.told (λ is. other (c.refused_commit.ensures.reason ∙ is)))
 
 pub returns-then-prepared-self-clause-once_written : goal.returns-then-prepared-self-clause-once_written
@@ -126,26 +126,26 @@ returns-then-is_none-clause-once_written g c = record { counts = counts_released
 pub returns-in-Ok-clause-once_written : goal.returns-in-Ok-clause-once_written
 returns-in-Ok-clause-once_written g c =
     let view = g.S.Storage.view in
-    let freed = c.end_freeing.new.self in
+    let freed = c.process_free_list_at_end.new.self in
     let new = c.release_prepared-in-Ok.new.self in
-    let first = counts_begun view c.args.self.now c.begin.new.self c.begin.ensures.begun freed (notes_then c.enter_shares-entered.ensures.step.notes c.end_freeing.ensures.notes) in
+    let first = counts_begun view c.args.self.now c.begin.new.self c.begin.ensures.begun freed (notes_then c.enter_shares-entered.ensures.step.notes c.process_free_list_at_end.ensures.notes) in
     record { counts = counts_on view c.args.self.now freed new first (counts_released view freed new c.release_prepared-in-Ok.ensures.rest); memory = tt }
 
 pub returns-after-entered-clause-once_written : goal.returns-after-entered-clause-once_written
 returns-after-entered-clause-once_written g c = record {
-  counts = counts_begun g.S.Storage.view c.args.self.now c.begin.new.self c.begin.ensures.begun c.end_freeing.new.self (notes_then c.enter_shares-entered.ensures.step.notes c.end_freeing.ensures.notes);
-  memory = λ memory. once_marked g.S.Storage.view c.args.self.now c.begin.new.self c.begin.ensures.begun c.enter_shares-entered.new.self c.end_freeing.new.self c.end_freeing.result (notes_then c.enter_shares-entered.ensures.step.notes c.end_freeing.ensures.notes)
-      (c.enter_shares-entered.ensures.step.stays.failed ∙ c.begin.ensures.stays.failed) c.end_freeing.ensures.marks (c.in-Err.is ∙ ap Err (sym c.refused_commit.ensures.reason ∙ memory));
+  counts = counts_begun g.S.Storage.view c.args.self.now c.begin.new.self c.begin.ensures.begun c.process_free_list_at_end.new.self (notes_then c.enter_shares-entered.ensures.step.notes c.process_free_list_at_end.ensures.notes);
+  memory = λ memory. once_marked g.S.Storage.view c.args.self.now c.begin.new.self c.begin.ensures.begun c.enter_shares-entered.new.self c.process_free_list_at_end.new.self c.process_free_list_at_end.result (notes_then c.enter_shares-entered.ensures.step.notes c.process_free_list_at_end.ensures.notes)
+      (c.enter_shares-entered.ensures.step.stays.failed ∙ c.begin.ensures.stays.failed) c.process_free_list_at_end.ensures.marks (c.in-Err.is ∙ ap Err (sym c.refused_commit.ensures.reason ∙ memory));
 }
 
 pub returns-then-is_none-clause-header_cluster : goal.returns-then-is_none-clause-header_cluster
 returns-then-is_none-clause-header_cluster g c = c.release_prepared.ensures.step.header_cluster
 
 pub returns-in-Ok-clause-header_cluster : goal.returns-in-Ok-clause-header_cluster
-returns-in-Ok-clause-header_cluster g c = behind_then (behind_then (behind_then (behind_begun g.S.Storage.view c.begin.ensures.begun) c.enter_shares-entered.ensures.step.header_cluster) c.end_freeing.ensures.header_cluster) c.release_prepared-in-Ok.ensures.step.header_cluster
+returns-in-Ok-clause-header_cluster g c = behind_then (behind_then (behind_then (behind_begun g.S.Storage.view c.begin.ensures.begun) c.enter_shares-entered.ensures.step.header_cluster) c.process_free_list_at_end.ensures.header_cluster) c.release_prepared-in-Ok.ensures.step.header_cluster
 
 pub returns-after-entered-clause-header_cluster : goal.returns-after-entered-clause-header_cluster
-returns-after-entered-clause-header_cluster g c = behind_then (behind_then (behind_begun g.S.Storage.view c.begin.ensures.begun) c.enter_shares-entered.ensures.step.header_cluster) c.end_freeing.ensures.header_cluster
+returns-after-entered-clause-header_cluster g c = behind_then (behind_then (behind_begun g.S.Storage.view c.begin.ensures.begun) c.enter_shares-entered.ensures.step.header_cluster) c.process_free_list_at_end.ensures.header_cluster
 
 pub returns-then-is_none-clause-copied : goal.returns-then-is_none-clause-copied
 returns-then-is_none-clause-copied g c = λ out k placed sound some.
@@ -154,8 +154,8 @@ returns-then-is_none-clause-copied g c = λ out k placed sound some.
 
 pub returns-in-Ok-clause-copied : goal.returns-in-Ok-clause-copied
 returns-in-Ok-clause-copied g c = λ out k placed sound some.
-    stands_copied g.S.Storage.view g.F.BackingDisk.backing c.args.self.now c.begin.new.self c.enter_shares-entered.new.self c.end_freeing.new.self c.release_prepared-in-Ok.new.self c.args.prepared c.enter_shares-entered.new.prepared c.enter_shares-entered.result some c.end_freeing.result
-    (λ out sound. record { keeps = c.begin.ensures.keeps (pending_in g.S.Storage.view g.F.BackingDisk.backing c.args.self.now out) out sound; list = c.begin.ensures.list }) c.enter_shares-entered.ensures.enters c.enter_shares-entered.ensures.in_place c.end_freeing.ensures.frees c.in-Ok.is
+    stands_copied g.S.Storage.view g.F.BackingDisk.backing c.args.self.now c.begin.new.self c.enter_shares-entered.new.self c.process_free_list_at_end.new.self c.release_prepared-in-Ok.new.self c.args.prepared c.enter_shares-entered.new.prepared c.enter_shares-entered.result some c.process_free_list_at_end.result
+    (λ out sound. record { keeps = c.begin.ensures.keeps (pending_in g.S.Storage.view g.F.BackingDisk.backing c.args.self.now out) out sound; list = c.begin.ensures.list }) c.enter_shares-entered.ensures.enters c.enter_shares-entered.ensures.in_place c.process_free_list_at_end.ensures.frees c.in-Ok.is
     c.release_prepared-in-Ok.ensures.rest out k placed sound
 
 pub returns-then-is_none-clause-freeing : goal.returns-then-is_none-clause-freeing

@@ -25,10 +25,10 @@ use Rattle.qcow2_image.specs.Backings.{HasPrepared}
 
 pub returns-clause-emptied : goal.returns-clause-emptied
 returns-clause-emptied g c = λ none.
-    c.in_ok-free_listed.ensures.emptied (subst IsTrue (sym (c.commit_filled.ensures.step.stays.image.writable ∙ c.put_zeros.ensures.step.stays.image.writable ∙ c.prepare.ensures.step.stays.image.writable)) c.requires.writable)
+    c.in_ok-process_free_list.ensures.emptied (subst IsTrue (sym (c.commit_filled.ensures.step.stays.image.writable ∙ c.put_zeros.ensures.step.stays.image.writable ∙ c.prepare.ensures.step.stays.image.writable)) c.requires.writable)
 
 pub returns-in-Err-clause-step : goal.returns-in-Err-clause-step
-returns-in-Err-clause-step g c = step_then (step_then (step_then c.prepare.ensures.step c.put_zeros.ensures.step) c.release_prepared.ensures.step) c.free_after.ensures.step
+returns-in-Err-clause-step g c = step_then (step_then (step_then c.prepare.ensures.step c.put_zeros.ensures.step) c.release_prepared.ensures.step) c.process_free_list_after.ensures.step
 
 pub returns-in-Err-clause-fails : goal.returns-in-Err-clause-fails
 returns-in-Err-clause-fails g c = record {
@@ -38,17 +38,17 @@ returns-in-Err-clause-fails g c = record {
       let old = c.args.self.now in
       let e = c.in-Err.refusal in
       let told : CountsImageFaults view below {T = Unit {0}} old c.put_zeros.new.self (Err c.in-Err.refusal) = counted_as view below old c.prepare.new.self c.put_zeros.new.self c.put_zeros.result e c.in_ok-prepared.ensures.fails.faults.told c.put_zeros.ensures.fails.faults c.in-Err.is in
-      counted_of view below old c.free_after.new.self c.free_after.result (c.free_after.ensures.faults old (counted_still view below old c.put_zeros.new.self c.release_prepared.new.self (Err e) told c.release_prepared.ensures.faults));
+      counted_of view below old c.process_free_list_after.new.self c.process_free_list_after.result (c.process_free_list_after.ensures.faults old (counted_still view below old c.put_zeros.new.self c.release_prepared.new.self (Err e) told c.release_prepared.ensures.faults));
 }
 
 pub returns-in_err-prepared-clause-step : goal.returns-in_err-prepared-clause-step
 returns-in_err-prepared-clause-step g c = c.prepare.ensures.step
 
-pub returns-in_err-free_listed-clause-step : goal.returns-in_err-free_listed-clause-step
-returns-in_err-free_listed-clause-step g c = step_then (step_then (step_then c.prepare.ensures.step c.put_zeros.ensures.step) c.commit_filled.ensures.step) c.free_listed.ensures.step
+pub returns-in_err-process_free_list-clause-step : goal.returns-in_err-process_free_list-clause-step
+returns-in_err-process_free_list-clause-step g c = step_then (step_then (step_then c.prepare.ensures.step c.put_zeros.ensures.step) c.commit_filled.ensures.step) c.process_free_list.ensures.step
 
 pub returns-clause-step : goal.returns-clause-step
-returns-clause-step g c = step_then (step_then (step_then c.prepare.ensures.step c.put_zeros.ensures.step) c.commit_filled.ensures.step) c.free_listed.ensures.step
+returns-clause-step g c = step_then (step_then (step_then c.prepare.ensures.step c.put_zeros.ensures.step) c.commit_filled.ensures.step) c.process_free_list.ensures.step
 
 pub returns-in_err-prepared-clause-sound : goal.returns-in_err-prepared-clause-sound
 returns-in_err-prepared-clause-sound g c = λ out sound.
@@ -90,39 +90,39 @@ returns-in-Err-clause-sound g c = λ out sound.
     let some : 0 < c.min.result = omega (arith, asked, few, lt) in
     let e = c.in-Err.refusal in
     let counted = c.min-count.ensures ∙ ap (min p.length) (c.most-2.ensures ∙ sym c.most.ensures) in
-    let e' = c.free_after.result in
+    let e' = c.process_free_list_after.result in
     let ready = (c.in_ok-prepared.ensures.sound some (None ∷ out) ((free_places view below).free old [] out sound)).readies 0 refl in
     let answered = (c.in_ok-prepared.ensures.sound some out sound).answers in
     record {
       fills = λ whole. let fits = all_fits view below out old mid p from to c.most.result n c.min-count.result sound ready answered lt whole few asked counted in
           let within = all_within view below out old mid p from to c.most.result n c.min-count.result sound ready answered lt whole few asked counted in
           let put = all_put view below out old mid p from to c.most.result n c.min-count.result sound ready answered lt whole few asked counted c.put_zeros.new.self _ c.in-Err.ensures.written in
-          refused_after view below out old old c.free_after.new.self to from to from from from (from + p.length) (omega arith) (omega (arith, lt)) (omega arith) within (fills_none view below out old to from sound (works_none (abstract_of view below old out) sound)) (goes_step step_none) e'
+          refused_after view below out old old c.process_free_list_after.new.self to from to from from from (from + p.length) (omega arith) (omega (arith, lt)) (omega arith) within (fills_none view below out old to from sound (works_none (abstract_of view below old out) sound)) (goes_step step_none) e'
           (record {
-            left = piece_gone view below out old mid p from n sound ready answered fits c.put_zeros.new.self c.release_prepared.new.self c.free_after.new.self to e e' within put c.release_prepared.ensures.sees c.free_after.ensures.fault (λ still. c.free_after.ensures.frees out still);
-            taken = λ is. met_taken e c.in-Err.ensures.fails.cause (c.free_after.ensures.taken (inl c.in-Err.ensures.fails.cause) is);
+            left = piece_gone view below out old mid p from n sound ready answered fits c.put_zeros.new.self c.release_prepared.new.self c.process_free_list_after.new.self to e e' within put c.release_prepared.ensures.sees c.process_free_list_after.ensures.fault (λ still. c.process_free_list_after.ensures.frees out still);
+            taken = λ is. met_taken e c.in-Err.ensures.fails.cause (c.process_free_list_after.ensures.taken (inl c.in-Err.ensures.fails.cause) is);
             limit = λ is.
-                let gone = sound_now view below out old mid p from n sound ready answered fits c.put_zeros.new.self c.release_prepared.new.self c.free_after.new.self to e e' within put c.release_prepared.ensures.sees c.free_after.ensures.fault in
-                elim (c.free_after.ensures.told.1 out gone) [ inl same ↦ other_limit _ e c.in-Err.ensures.fails.limited (sym same ∙ is) | inr fault ↦ other_limit _ e' (fault_unlimited e' fault) is ];
+                let gone = sound_now view below out old mid p from n sound ready answered fits c.put_zeros.new.self c.release_prepared.new.self c.process_free_list_after.new.self to e e' within put c.release_prepared.ensures.sees c.process_free_list_after.ensures.fault in
+                elim (c.process_free_list_after.ensures.told.1 out gone) [ inl same ↦ other_limit _ e c.in-Err.ensures.fails.limited (sym same ∙ is) | inr fault ↦ other_limit _ e' (fault_unlimited e' fault) is ];
           });
       met = λ whole near. let fault = c.in-Err.ensures.fault (all_behind view below out old c.prepare.new.self p c.args.from c.args.to c.most.result c.min.result c.min-count.result sound ready answered lt whole few asked counted (c.in_ok-prepared.ensures.some some).some) in
-          inl (inl (inl (subst (λ (x : ImageError). IsFault x) (sym (c.free_after.ensures.fault fault).0) fault)));
+          inl (inl (inl (subst (λ (x : ImageError). IsFault x) (sym (c.process_free_list_after.ensures.fault fault).0) fault)));
     }
 
-pub returns-in_err-free_listed-clause-sound : goal.returns-in_err-free_listed-clause-sound
-returns-in_err-free_listed-clause-sound g c = λ out sound.
+pub returns-in_err-process_free_list-clause-sound : goal.returns-in_err-process_free_list-clause-sound
+returns-in_err-process_free_list-clause-sound g c = λ out sound.
     let view = g.S.Storage.view in
     let below = g.F.BackingDisk.backing in
     let old = c.args.self.now in
     let mid = c.prepare.new.self in
     let done = c.commit_filled.new.self in
-    let new = c.free_listed.new.self in
+    let new = c.process_free_list.new.self in
     let p = c.in_ok-prepared.prepared in
     let from = c.args.from in
     let to = c.args.to in
     let n = c.min.result in
     let lt = c.requires.some in
-    let e = c.in_err-free_listed.field-0.0 in
+    let e = c.in_err-process_free_list.field-0.0 in
     let few = subst (λ m. 2 ^ 21 ≤ m) (sym c.most.ensures) c.requires.few in
     let asked = c.min.ensures in
     let some : 0 < c.min.result = omega (arith, asked, few, lt) in
@@ -133,13 +133,13 @@ returns-in_err-free_listed-clause-sound g c = λ out sound.
       fills = λ whole. let within = all_within view below out old mid p from to c.most.result n c.min-count.result sound ready answered lt whole few asked counted in
           let part = all_filled view below out old mid p from to c.most.result n c.min-count.result sound ready answered lt whole few asked counted (c.in_ok-prepared.ensures.some some).some c.put_zeros.new.self done c.in_default.ensures.written c.commit_filled.ensures.commits c.commit_filled.ensures.header c.in_ok-prepared.ensures.l1_place in
           let listed = subst (λ (x : Pending). ImageInvariant view below x done out) (all_listed view below done out) part.sound in
-          handed_on (λ r. FillsFirst view below to from to old new out r) c.from_residual-in_err-free_listed.result e c.from_residual-in_err-free_listed.ensures
-          (fills_refused view below out old done new to from (from + p.length) part to e within (tables_met e c.in_err-free_listed.ensures.cause) (fault_unlimited e (c.in_err-free_listed.ensures.faults (beside view below done out) out listed))
-          (freed_refused view below done out new e part.sound (c.in_err-free_listed.ensures.frees (beside view below done out) out listed)) c.free_listed.ensures.keeps_rest.header);
+          handed_on (λ r. FillsFirst view below to from to old new out r) c.from_residual-in_err-process_free_list.result e c.from_residual-in_err-process_free_list.ensures
+          (fills_refused view below out old done new to from (from + p.length) part to e within (tables_met e c.in_err-process_free_list.ensures.cause) (fault_unlimited e (c.in_err-process_free_list.ensures.faults (beside view below done out) out listed))
+          (freed_refused view below done out new e part.sound (c.in_err-process_free_list.ensures.frees (beside view below done out) out listed)) c.process_free_list.ensures.keeps_rest.header);
       met = λ whole near. let part = all_filled view below out old mid p from to c.most.result n c.min-count.result sound ready answered lt whole few asked counted (c.in_ok-prepared.ensures.some some).some c.put_zeros.new.self done c.in_default.ensures.written c.commit_filled.ensures.commits c.commit_filled.ensures.header c.in_ok-prepared.ensures.l1_place in
           let listed = subst (λ (x : Pending). ImageInvariant view below x done out) (all_listed view below done out) part.sound in
-          hands_met (IsMetTaking (HasPrepared out) (HasPrepared out) (HasCompressedIn from to old.file.header.fields (known_in view old.file)) ⊥) c.from_residual-in_err-free_listed.result c.in_err-free_listed.field-0.0 c.from_residual-in_err-free_listed.ensures
-          (inl (inl (inl (c.in_err-free_listed.ensures.faults (beside view below done out) out listed))));
+          hands_met (IsMetTaking (HasPrepared out) (HasPrepared out) (HasCompressedIn from to old.file.header.fields (known_in view old.file)) ⊥) c.from_residual-in_err-process_free_list.result c.in_err-process_free_list.field-0.0 c.from_residual-in_err-process_free_list.ensures
+          (inl (inl (inl (c.in_err-process_free_list.ensures.faults (beside view below done out) out listed))));
     }
 
 pub returns-clause-sound : goal.returns-clause-sound
@@ -149,7 +149,7 @@ returns-clause-sound g c = λ out sound.
     let old = c.args.self.now in
     let mid = c.prepare.new.self in
     let done = c.commit_filled.new.self in
-    let new = c.free_listed.new.self in
+    let new = c.process_free_list.new.self in
     let p = c.in_ok-prepared.prepared in
     let from = c.args.from in
     let to = c.args.to in
@@ -169,5 +169,5 @@ returns-clause-sound g c = λ out sound.
           let part = all_filled view below out old mid p from to c.most.result n c.min-count.result sound ready answered lt whole few asked counted (c.in_ok-prepared.ensures.some some).some c.put_zeros.new.self done c.in_default.ensures.written c.commit_filled.ensures.commits c.commit_filled.ensures.header c.in_ok-prepared.ensures.l1_place in
           let listed = subst (λ (x : Pending). ImageInvariant view below x done out) (all_listed view below done out) part.sound in
           subst (λ k. FillsPart view below to from k old new out) (sym next)
-          (fills_stays view below out old done new to from (from + p.length) part (tidy_stays view below done out new part.sound (c.in_ok-free_listed.ensures.frees (beside view below done out) out listed)) c.free_listed.ensures.keeps_rest.header);
+          (fills_stays view below out old done new to from (from + p.length) part (tidy_stays view below done out new part.sound (c.in_ok-process_free_list.ensures.frees (beside view below done out) out listed)) c.process_free_list.ensures.keeps_rest.header);
     }

@@ -21,7 +21,7 @@ returns-in-Ok-clause-version g c = λ none zero low. absurd (let no : Ok tt ≡ 
 pub returns-in-Err-clause-version : goal.returns-in-Err-clause-version
 returns-in-Err-clause-version g c = λ none zero low.
     let refused = c.fill_behind.ensures.version zero low in
-    let kept = c.free_after.ensures.idle (ap (λ (i : Qcow2 _ _). i.file.free_list) refused.1 ∙ none) in
+    let kept = c.process_free_list_after.ensures.idle (ap (λ (i : Qcow2 _ _). i.file.free_list) refused.1 ∙ none) in
     (ap Err (kept.0 ∙ same_refusal c.fill_behind.result c.in-Err.refusal Version c.in-Err.is refused.0), kept.1 ∙ refused.1)
 
 pub returns-in-Ok-clause-fills : goal.returns-in-Ok-clause-fills
@@ -33,23 +33,23 @@ returns-in-Err-clause-fills g c = λ out sound.
     let below = g.F.BackingDisk.backing in
     let old = c.args.self.now in
     let mid = c.fill_behind.new.self in
-    let new = c.free_after.new.self in
+    let new = c.process_free_list_after.new.self in
     let size = c.args.size in
     let refused = c.in-Err.ensures.fills out sound in
     record {
-      left = grown_freed view below out old mid new size c.args.mode c.in-Err.refusal c.free_after.result refused.left c.free_after.ensures.fault (c.free_after.ensures.frees out);
-      taken = λ is. refused.taken (c.free_after.ensures.taken c.in-Err.ensures.fails.cause is);
-      limit = λ is. elim (grown_told view below out old mid new size c.args.mode c.in-Err.refusal c.free_after.result refused.left c.free_after.ensures.fault (c.free_after.ensures.told.1 out)) [
+      left = grown_freed view below out old mid new size c.args.mode c.in-Err.refusal c.process_free_list_after.result refused.left c.process_free_list_after.ensures.fault (c.process_free_list_after.ensures.frees out);
+      taken = λ is. refused.taken (c.process_free_list_after.ensures.taken c.in-Err.ensures.fails.cause is);
+      limit = λ is. elim (grown_told view below out old mid new size c.args.mode c.in-Err.refusal c.process_free_list_after.result refused.left c.process_free_list_after.ensures.fault (c.process_free_list_after.ensures.told.1 out)) [
         | inl same ↦ refused.limit (sym same ∙ is)
-        | inr fault ↦ other_limit _ c.free_after.result (fault_unlimited c.free_after.result fault) is
+        | inr fault ↦ other_limit _ c.process_free_list_after.result (fault_unlimited c.process_free_list_after.result fault) is
       ];
     }
 
 pub returns-in-Err-clause-freed : goal.returns-in-Err-clause-freed
 returns-in-Err-clause-freed g c = λ out sound.
     let refused = c.in-Err.ensures.fills out sound in
-    grown_left g.S.Storage.view g.F.BackingDisk.backing out c.args.self.now c.fill_behind.new.self c.free_after.new.self c.args.size c.args.mode c.in-Err.refusal c.free_after.result refused.left c.free_after.ensures.fault
-    (c.free_after.ensures.emptied (subst IsTrue (sym c.fill_behind.ensures.step.stays.image.writable) c.requires.writable) out)
+    grown_left g.S.Storage.view g.F.BackingDisk.backing out c.args.self.now c.fill_behind.new.self c.process_free_list_after.new.self c.args.size c.args.mode c.in-Err.refusal c.process_free_list_after.result refused.left c.process_free_list_after.ensures.fault
+    (c.process_free_list_after.ensures.emptied (subst IsTrue (sym c.fill_behind.ensures.step.stays.image.writable) c.requires.writable) out)
 
 pub returns-in-Err-clause-unfilled : goal.returns-in-Err-clause-unfilled
 returns-in-Err-clause-unfilled g c = λ none. absurd (let no : Ok tt ≡ Err c.in-Err.refusal = sym (c.fill_behind.ensures.unfilled none).0 ∙ c.in-Err.is in cc)
@@ -63,11 +63,11 @@ returns-in-Err-clause-met g c = λ out sound near.
     let old = c.args.self.now in
     let h = old.file.header.fields in
     let refused = c.in-Err.ensures.fills out sound in
-    met_filling_freed out c.args.mode c.args.old (rounded_up (cluster_size h) c.args.size) h (known_in view old.file) c.in-Err.refusal c.free_after.result
-    (grown_told view g.F.BackingDisk.backing out old c.fill_behind.new.self c.free_after.new.self c.args.size c.args.mode c.in-Err.refusal c.free_after.result refused.left c.free_after.ensures.fault (c.free_after.ensures.told.1 out)) (c.in-Err.ensures.met out sound near)
+    met_filling_freed out c.args.mode c.args.old (rounded_up (cluster_size h) c.args.size) h (known_in view old.file) c.in-Err.refusal c.process_free_list_after.result
+    (grown_told view g.F.BackingDisk.backing out old c.fill_behind.new.self c.process_free_list_after.new.self c.args.size c.args.mode c.in-Err.refusal c.process_free_list_after.result refused.left c.process_free_list_after.ensures.fault (c.process_free_list_after.ensures.told.1 out)) (c.in-Err.ensures.met out sound near)
 
 pub returns-in-Err-clause-step : goal.returns-in-Err-clause-step
-returns-in-Err-clause-step g c = step_then c.fill_behind.ensures.step c.free_after.ensures.step
+returns-in-Err-clause-step g c = step_then c.fill_behind.ensures.step c.process_free_list_after.ensures.step
 
 pub returns-in-Err-clause-fails : goal.returns-in-Err-clause-fails
 returns-in-Err-clause-fails g c = record {
@@ -75,8 +75,8 @@ returns-in-Err-clause-fails g c = record {
   faults = let view = g.S.Storage.view in
       let below = g.F.BackingDisk.backing in
       let old = c.args.self.now in
-      counted_of view below old c.free_after.new.self c.free_after.result
-      (c.free_after.ensures.faults old (counted_as view below old old c.fill_behind.new.self c.fill_behind.result c.in-Err.refusal (untouched view below old old refl refl) c.fill_behind.ensures.fails.faults c.in-Err.is));
+      counted_of view below old c.process_free_list_after.new.self c.process_free_list_after.result
+      (c.process_free_list_after.ensures.faults old (counted_as view below old old c.fill_behind.new.self c.fill_behind.result c.in-Err.refusal (untouched view below old old refl refl) c.fill_behind.ensures.fails.faults c.in-Err.is));
 }
 
 pub returns-in-Ok-clause-step : goal.returns-in-Ok-clause-step

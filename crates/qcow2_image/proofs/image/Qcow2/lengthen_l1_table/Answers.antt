@@ -32,24 +32,24 @@ returns-clause-makes g c = λ out sound.
     let mid = c.grow_l1_table.new.self in
     let first = stays_moved view below out old mid sound (c.in_ok-grow_l1_table.ensures.lengthens (pending_in view below old out) out sound) in
     let listed = subst (λ (x : Pending). ImageInvariant view below x mid out) (all_listed view below mid out) first.sound in
-    freed_then view below out old mid c.free_listed.new.self first c.free_listed.result (c.free_listed.ensures.frees (beside view below mid out) out listed)
+    freed_then view below out old mid c.process_free_list.new.self first c.process_free_list.result (c.process_free_list.ensures.frees (beside view below mid out) out listed)
 
 pub returns-clause-length : goal.returns-clause-length
 returns-clause-length g c =
     let old = c.args.self.now in
     let idx : c.l1_index-index.result ≡ l1_index_of old.file.header.fields c.args.offset =
     c.l1_index-index.ensures ∙ ap (λ n. n / 2 ^ c.cluster_bits.result / (2 ^ c.cluster_bits.result / 8)) c.new.ensures ∙ ap (λ b. c.args.offset / 2 ^ b / (2 ^ b / 8)) c.cluster_bits.ensures.value in
-    always_ok c.free_listed.result
-    (ap entry_count c.free_listed.ensures.table ∙ c.in_ok-grow_l1_table.ensures.length ∙ ap (λ i. max (entry_count old.l1_table) (i + 1)) idx)
+    always_ok c.process_free_list.result
+    (ap entry_count c.process_free_list.ensures.table ∙ c.in_ok-grow_l1_table.ensures.length ∙ ap (λ i. max (entry_count old.l1_table) (i + 1)) idx)
 
 pub returns-clause-emptied : goal.returns-clause-emptied
-returns-clause-emptied g c = c.free_listed.ensures.emptied (subst IsTrue (sym c.grow_l1_table.ensures.step.stays.image.writable) c.requires.writable)
+returns-clause-emptied g c = c.process_free_list.ensures.emptied (subst IsTrue (sym c.grow_l1_table.ensures.step.stays.image.writable) c.requires.writable)
 
 pub returns-in_err-grow_l1_table-clause-noted : goal.returns-in_err-grow_l1_table-clause-noted
 returns-in_err-grow_l1_table-clause-noted g c = on_no_ok _ c.from_residual.result c.in_err-grow_l1_table.field-0.0 c.from_residual.ensures
 
 pub returns-clause-noted : goal.returns-clause-noted
-returns-clause-noted g c = on_ok _ c.free_listed.result (c.free_listed.ensures.step.notes.tables.noted c.in_ok-grow_l1_table.ensures.noted)
+returns-clause-noted g c = on_ok _ c.process_free_list.result (c.process_free_list.ensures.step.notes.tables.noted c.in_ok-grow_l1_table.ensures.noted)
 
 pub returns-in_err-grow_l1_table-clause-limit : goal.returns-in_err-grow_l1_table-clause-limit
 returns-in_err-grow_l1_table-clause-limit g c = λ out sound.
@@ -66,7 +66,7 @@ returns-clause-limit g c = λ out sound.
     let mid = c.grow_l1_table.new.self in
     let first = stays_moved view below out old mid sound (c.in_ok-grow_l1_table.ensures.lengthens (pending_in view below old out) out sound) in
     let listed = subst (λ (x : Pending). ImageInvariant view below x mid out) (all_listed view below mid out) first.sound in
-    unlimited_all c.free_listed.result _ (faults_unlimited c.free_listed.result (c.free_listed.ensures.faults (beside view below mid out) out listed))
+    unlimited_all c.process_free_list.result _ (faults_unlimited c.process_free_list.result (c.process_free_list.ensures.faults (beside view below mid out) out listed))
 
 pub returns-in_err-grow_l1_table-clause-fault : goal.returns-in_err-grow_l1_table-clause-fault
 returns-in_err-grow_l1_table-clause-fault g c = λ out sound.
@@ -80,16 +80,16 @@ returns-clause-fault g c = λ out sound.
     let mid = c.grow_l1_table.new.self in
     let first = stays_moved view below out c.args.self.now mid sound (c.in_ok-grow_l1_table.ensures.lengthens (pending_in view below c.args.self.now out) out sound) in
     let listed = subst (λ (x : Pending). ImageInvariant view below x mid out) (all_listed view below mid out) first.sound in
-    faults_or_limit c.free_listed.result (c.free_listed.ensures.faults (beside view below mid out) out listed)
+    faults_or_limit c.process_free_list.result (c.process_free_list.ensures.faults (beside view below mid out) out listed)
 
 pub returns-in_err-grow_l1_table-clause-placed : goal.returns-in_err-grow_l1_table-clause-placed
 returns-in_err-grow_l1_table-clause-placed g c = λ bits. on_no_ok _ c.from_residual.result c.in_err-grow_l1_table.field-0.0 c.from_residual.ensures
 
 pub returns-clause-placed : goal.returns-clause-placed
-returns-clause-placed g c = λ bits. on_ok _ c.free_listed.result (subst IsPlacedNear (sym c.free_listed.ensures.table) (c.in_ok-grow_l1_table.ensures.placed bits))
+returns-clause-placed g c = λ bits. on_ok _ c.process_free_list.result (subst IsPlacedNear (sym c.process_free_list.ensures.table) (c.in_ok-grow_l1_table.ensures.placed bits))
 
 pub returns-in_err-grow_l1_table-clause-step : goal.returns-in_err-grow_l1_table-clause-step
 returns-in_err-grow_l1_table-clause-step g c = c.grow_l1_table.ensures.step
 
 pub returns-clause-step : goal.returns-clause-step
-returns-clause-step g c = step_then c.grow_l1_table.ensures.step c.free_listed.ensures.step
+returns-clause-step g c = step_then c.grow_l1_table.ensures.step c.process_free_list.ensures.step

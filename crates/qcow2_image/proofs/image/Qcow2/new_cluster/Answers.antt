@@ -25,7 +25,7 @@ returns-in-Ok-clause-gains g c = λ p out sound holds.
     let view = g.S.Storage.view in
     let below = g.F.BackingDisk.backing in
     let old = c.args.self.now in
-    let mid = c.take_data.new.self in
+    let mid = c.allocate_data_cluster.new.self in
     let new = c.fill_cluster.new.self in
     let n = c.in_ok-pending.pending in
     let took = c.in_ok-pending.ensures.takes p out sound holds in
@@ -53,7 +53,7 @@ returns-in-Err-clause-gains g c = λ p out sound holds.
     let view = g.S.Storage.view in
     let below = g.F.BackingDisk.backing in
     let old = c.args.self.now in
-    let mid = c.take_data.new.self in
+    let mid = c.allocate_data_cluster.new.self in
     let new = c.fill_cluster.new.self in
     let n = c.in_ok-pending.pending in
     let took = c.in_ok-pending.ensures.takes p out sound holds in
@@ -81,7 +81,7 @@ returns-in-Err-clause-met g c = λ p out sound holds.
     let view = g.S.Storage.view in
     let below = g.F.BackingDisk.backing in
     let old = c.args.self.now in
-    let mid = c.take_data.new.self in
+    let mid = c.allocate_data_cluster.new.self in
     let n = c.in_ok-pending.pending in
     let took = c.in_ok-pending.ensures.takes p out sound holds in
     let new_data = with_new_data (pending_with_listed p old mid) (run_of n) in
@@ -95,14 +95,14 @@ returns-in-Err-clause-met g c = λ p out sound holds.
     (c.in-Err.ensures.met (new_behind view below out new_data mid took.2.sound c.cluster.result some))
 
 pub returns-in_err-pending-clause-step : goal.returns-in_err-pending-clause-step
-returns-in_err-pending-clause-step g c = c.take_data.ensures.step
+returns-in_err-pending-clause-step g c = c.allocate_data_cluster.ensures.step
 
 pub returns-in-Ok-clause-step : goal.returns-in-Ok-clause-step
-returns-in-Ok-clause-step g c = step_then c.take_data.ensures.step c.fill_cluster.ensures.step
+returns-in-Ok-clause-step g c = step_then c.allocate_data_cluster.ensures.step c.fill_cluster.ensures.step
 
 pub returns-in-Err-clause-step : goal.returns-in-Err-clause-step
 returns-in-Err-clause-step g c = record {
   stays = search rules;
-  notes = notes_then (notes_then c.take_data.ensures.step.notes c.fill_cluster.ensures.step.notes) (same_kept c.fill_cluster.new.self c.hand_back.new.self (ap (λ (i : Qcow2 _ _). i.file.storage) c.hand_back.ensures) (ap (λ (i : Qcow2 _ _). i.file.caches) c.hand_back.ensures));
-  header_cluster = behind_then (behind_then c.take_data.ensures.step.header_cluster c.fill_cluster.ensures.step.header_cluster) (behind_by g.S.Storage.view c.hand_back.ensures behind_none);
+  notes = notes_then (notes_then c.allocate_data_cluster.ensures.step.notes c.fill_cluster.ensures.step.notes) (same_kept c.fill_cluster.new.self c.hand_back.new.self (ap (λ (i : Qcow2 _ _). i.file.storage) c.hand_back.ensures) (ap (λ (i : Qcow2 _ _). i.file.caches) c.hand_back.ensures));
+  header_cluster = behind_then (behind_then c.allocate_data_cluster.ensures.step.header_cluster c.fill_cluster.ensures.step.header_cluster) (behind_by g.S.Storage.view c.hand_back.ensures behind_none);
 }

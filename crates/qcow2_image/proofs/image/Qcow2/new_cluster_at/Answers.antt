@@ -24,16 +24,16 @@ use Rattle.qcow2_image.proofs.Call.ImageSteps.{step_then}
 use Rattle.qcow2_image.proofs.image.Qcow2.new_cluster_at.Goals as goal
 
 pub returns-in_default-clause-step : goal.returns-in_default-clause-step
-returns-in_default-clause-step g c = c.take_data_at.ensures.step
+returns-in_default-clause-step g c = c.allocate_data_cluster_at.ensures.step
 
 pub returns-in-Ok-clause-step : goal.returns-in-Ok-clause-step
-returns-in-Ok-clause-step g c = step_then c.take_data_at.ensures.step c.fill_cluster.ensures.step
+returns-in-Ok-clause-step g c = step_then c.allocate_data_cluster_at.ensures.step c.fill_cluster.ensures.step
 
 pub returns-in-Err-clause-step : goal.returns-in-Err-clause-step
 returns-in-Err-clause-step g c = record {
   stays = search rules;
-  notes = notes_then (notes_then c.take_data_at.ensures.step.notes c.fill_cluster.ensures.step.notes) (same_kept c.fill_cluster.new.self c.hand_back.new.self (ap (λ (i : Qcow2 _ _). i.file.storage) c.hand_back.ensures) (ap (λ (i : Qcow2 _ _). i.file.caches) c.hand_back.ensures));
-  header_cluster = behind_then (behind_then c.take_data_at.ensures.step.header_cluster c.fill_cluster.ensures.step.header_cluster) (behind_by g.S.Storage.view c.hand_back.ensures behind_none);
+  notes = notes_then (notes_then c.allocate_data_cluster_at.ensures.step.notes c.fill_cluster.ensures.step.notes) (same_kept c.fill_cluster.new.self c.hand_back.new.self (ap (λ (i : Qcow2 _ _). i.file.storage) c.hand_back.ensures) (ap (λ (i : Qcow2 _ _). i.file.caches) c.hand_back.ensures));
+  header_cluster = behind_then (behind_then c.allocate_data_cluster_at.ensures.step.header_cluster c.fill_cluster.ensures.step.header_cluster) (behind_by g.S.Storage.view c.hand_back.ensures behind_none);
 }
 
 pub returns-in_default-clause-sound : goal.returns-in_default-clause-sound
@@ -41,7 +41,7 @@ returns-in_default-clause-sound g c = λ p out sound holds.
     record {
       met = search rules;
       limit = search rules;
-      does = subst (λ v. TakesDataAt g.S.Storage.view g.F.BackingDisk.backing p c.args.self.now c.take_data_at.new.self out c.args.cluster (Ok v)) c.in_default.is (c.in_ok-pending.ensures.takes p out sound holds);
+      does = subst (λ v. TakesDataAt g.S.Storage.view g.F.BackingDisk.backing p c.args.self.now c.allocate_data_cluster_at.new.self out c.args.cluster (Ok v)) c.in_default.is (c.in_ok-pending.ensures.takes p out sound holds);
     }
 
 pub returns-in-Ok-clause-sound : goal.returns-in-Ok-clause-sound
@@ -49,7 +49,7 @@ returns-in-Ok-clause-sound g c = λ p out sound holds.
     let view = g.S.Storage.view in
     let below = g.F.BackingDisk.backing in
     let old = c.args.self.now in
-    let mid = c.take_data_at.new.self in
+    let mid = c.allocate_data_cluster_at.new.self in
     let new = c.fill_cluster.new.self in
     let n = c.in-Some.pending in
     let took = subst (λ v. TakesDataAt view below p old mid out c.args.cluster (Ok v)) c.in-Some.is (c.in_ok-pending.ensures.takes p out sound holds) in
@@ -81,7 +81,7 @@ returns-in-Err-clause-sound g c = λ p out sound holds.
     let view = g.S.Storage.view in
     let below = g.F.BackingDisk.backing in
     let old = c.args.self.now in
-    let mid = c.take_data_at.new.self in
+    let mid = c.allocate_data_cluster_at.new.self in
     let new = c.fill_cluster.new.self in
     let n = c.in-Some.pending in
     let took = subst (λ v. TakesDataAt view below p old mid out c.args.cluster (Ok v)) c.in-Some.is (c.in_ok-pending.ensures.takes p out sound holds) in

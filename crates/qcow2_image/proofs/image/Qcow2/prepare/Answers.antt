@@ -15,21 +15,21 @@ use Rattle.qcow2_image.specs.Preparing.{IsTaken}
 
 pub returns-in-Err-clause-freed : goal.returns-in-Err-clause-freed
 returns-in-Err-clause-freed g c = λ some out sound. ⊎_elim
-    (λ unseen. c.free_after.ensures.emptied (subst IsTrue (sym c.prepare_range.ensures.step.stays.image.writable) c.requires.writable) out unseen.sound)
-    (λ interruption. inl (subst IsFault (sym (c.free_after.ensures.fault interruption.fault).0) interruption.fault))
+    (λ unseen. c.process_free_list_after.ensures.emptied (subst IsTrue (sym c.prepare_range.ensures.step.stays.image.writable) c.requires.writable) out unseen.sound)
+    (λ interruption. inl (subst IsFault (sym (c.process_free_list_after.ensures.fault interruption.fault).0) interruption.fault))
     ((c.in-Err.ensures.sound some out sound).readies)
 
 pub returns-in-Ok-clause-pinned : goal.returns-in-Ok-clause-pinned
 returns-in-Ok-clause-pinned g c = c.in-Ok.ensures.pinned
 
 pub returns-in-Err-clause-pinned : goal.returns-in-Err-clause-pinned
-returns-in-Err-clause-pinned g c = λ own is. c.in-Err.ensures.pinned own (c.free_after.ensures.taken c.in-Err.ensures.fails.cause is)
+returns-in-Err-clause-pinned g c = λ own is. c.in-Err.ensures.pinned own (c.process_free_list_after.ensures.taken c.in-Err.ensures.fails.cause is)
 
 pub returns-in-Ok-clause-l1_place : goal.returns-in-Ok-clause-l1_place
 returns-in-Ok-clause-l1_place g c = c.in-Ok.ensures.l1_place
 
 pub returns-in-Err-clause-step : goal.returns-in-Err-clause-step
-returns-in-Err-clause-step g c = step_then c.prepare_range.ensures.step c.free_after.ensures.step
+returns-in-Err-clause-step g c = step_then c.prepare_range.ensures.step c.process_free_list_after.ensures.step
 
 pub returns-in-Err-clause-fails : goal.returns-in-Err-clause-fails
 returns-in-Err-clause-fails g c = record {
@@ -37,8 +37,8 @@ returns-in-Err-clause-fails g c = record {
   faults = let view = g.S.Storage.view in
       let below = g.F.BackingDisk.backing in
       let old = c.args.self.now in
-      counted_of view below old c.free_after.new.self c.free_after.result
-      (c.free_after.ensures.faults old (counted_as view below old old c.prepare_range.new.self c.prepare_range.result c.in-Err.refusal (untouched view below old old refl refl) c.prepare_range.ensures.fails.faults c.in-Err.is));
+      counted_of view below old c.process_free_list_after.new.self c.process_free_list_after.result
+      (c.process_free_list_after.ensures.faults old (counted_as view below old old c.prepare_range.new.self c.prepare_range.result c.in-Err.refusal (untouched view below old old refl refl) c.prepare_range.ensures.fails.faults c.in-Err.is));
 }
 
 pub returns-in-Ok-clause-step : goal.returns-in-Ok-clause-step
@@ -62,14 +62,14 @@ returns-in-Err-clause-sound g c = λ some out sound.
     let h = old.file.header.fields in
     let known = known_in g.S.Storage.view old.file in
     let mid = c.prepare_range.new.self in
-    let new = c.free_after.new.self in
+    let new = c.process_free_list_after.new.self in
     record {
       answers = tt;
       freeing = tt;
-      readies = back_then_freed g.S.Storage.view g.F.BackingDisk.backing out c.args.self.now c.prepare_range.new.self c.free_after.new.self c.in-Err.refusal c.free_after.result ((c.in-Err.ensures.sound some out sound).readies) c.free_after.ensures.fault (c.free_after.ensures.frees out);
-      met = met_freed g.S.Storage.view g.F.BackingDisk.backing out (IsMetTaking (HasPrepared out) (IsTaken h known c.args.offset c.args.length out) (CopiesCompressed c.args.offset c.args.length c.args.overwrite h known) (NeedsFarEntry old c.args.offset)) (λ e fault. inl (inl (inl fault))) old c.prepare_range.new.self c.free_after.new.self c.in-Err.refusal c.free_after.result
-          ((c.in-Err.ensures.sound some out sound).readies) c.free_after.ensures.fault (c.free_after.ensures.told.1 out) ((c.in-Err.ensures.sound some out sound).met);
-      taken = λ is. (c.in-Err.ensures.sound some out sound).taken (c.free_after.ensures.taken c.in-Err.ensures.fails.cause is);
+      readies = back_then_freed g.S.Storage.view g.F.BackingDisk.backing out c.args.self.now c.prepare_range.new.self c.process_free_list_after.new.self c.in-Err.refusal c.process_free_list_after.result ((c.in-Err.ensures.sound some out sound).readies) c.process_free_list_after.ensures.fault (c.process_free_list_after.ensures.frees out);
+      met = met_freed g.S.Storage.view g.F.BackingDisk.backing out (IsMetTaking (HasPrepared out) (IsTaken h known c.args.offset c.args.length out) (CopiesCompressed c.args.offset c.args.length c.args.overwrite h known) (NeedsFarEntry old c.args.offset)) (λ e fault. inl (inl (inl fault))) old c.prepare_range.new.self c.process_free_list_after.new.self c.in-Err.refusal c.process_free_list_after.result
+          ((c.in-Err.ensures.sound some out sound).readies) c.process_free_list_after.ensures.fault (c.process_free_list_after.ensures.told.1 out) ((c.in-Err.ensures.sound some out sound).met);
+      taken = λ is. (c.in-Err.ensures.sound some out sound).taken (c.process_free_list_after.ensures.taken c.in-Err.ensures.fails.cause is);
       limit = λ is. (c.in-Err.ensures.sound some out sound).limit
-          (limited_frees view g.F.BackingDisk.backing out old mid new c.in-Err.refusal c.free_after.result ((c.in-Err.ensures.sound some out sound).readies) c.free_after.ensures.fault (c.free_after.ensures.told.1 out) is);
+          (limited_frees view g.F.BackingDisk.backing out old mid new c.in-Err.refusal c.process_free_list_after.result ((c.in-Err.ensures.sound some out sound).readies) c.process_free_list_after.ensures.fault (c.process_free_list_after.ensures.told.1 out) is);
     }

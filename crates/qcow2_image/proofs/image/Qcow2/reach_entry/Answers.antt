@@ -28,8 +28,8 @@ returns-clause-length g c =
     let old = c.args.self.now in
     let idx : c.l1_index-index.result ≡ l1_index_of old.file.header.fields c.args.offset =
     c.l1_index-index.ensures ∙ ap (λ n. n / 2 ^ c.cluster_bits.result / (2 ^ c.cluster_bits.result / 8)) c.new.ensures ∙ ap (λ b. c.args.offset / 2 ^ b / (2 ^ b / 8)) c.cluster_bits.ensures.value in
-    always_ok c.free_listed.result
-    (ap entry_count c.free_listed.ensures.table ∙ c.in_ok-grow_l1_table.ensures.length ∙ ap (λ i. max (entry_count old.l1_table) (i + 1)) idx)
+    always_ok c.process_free_list.result
+    (ap entry_count c.process_free_list.ensures.table ∙ c.in_ok-grow_l1_table.ensures.length ∙ ap (λ i. max (entry_count old.l1_table) (i + 1)) idx)
 
 pub returns-then-in_bounds-clause-placed : goal.returns-then-in_bounds-clause-placed
 returns-then-in_bounds-clause-placed g c = λ past bits.
@@ -38,7 +38,7 @@ returns-then-in_bounds-clause-placed g c = λ past bits.
     absurd (let lt = c.in_bounds.ensures.0 c.if-in_bounds.true in omega (arith, lt, idx, past))
 
 pub returns-clause-placed : goal.returns-clause-placed
-returns-clause-placed g c = λ past bits. always_ok c.free_listed.result (subst IsPlacedNear (sym c.free_listed.ensures.table) (c.in_ok-grow_l1_table.ensures.placed bits))
+returns-clause-placed g c = λ past bits. always_ok c.process_free_list.result (subst IsPlacedNear (sym c.process_free_list.ensures.table) (c.in_ok-grow_l1_table.ensures.placed bits))
 
 pub returns-then-in_bounds-clause-step : goal.returns-then-in_bounds-clause-step
 returns-then-in_bounds-clause-step g c = step_none
@@ -47,7 +47,7 @@ pub returns-in_err-grow_l1_table-clause-step : goal.returns-in_err-grow_l1_table
 returns-in_err-grow_l1_table-clause-step g c = c.grow_l1_table.ensures.step
 
 pub returns-clause-step : goal.returns-clause-step
-returns-clause-step g c = step_then c.grow_l1_table.ensures.step c.free_listed.ensures.step
+returns-clause-step g c = step_then c.grow_l1_table.ensures.step c.process_free_list.ensures.step
 
 pub returns-then-in_bounds-clause-sound : goal.returns-then-in_bounds-clause-sound
 returns-then-in_bounds-clause-sound g c = λ out sound.
@@ -89,9 +89,9 @@ returns-clause-sound g c = λ out sound.
     let first = stays_moved view below out old mid sound (c.in_ok-grow_l1_table.ensures.lengthens (pending_in view below old out) out sound) in
     let listed = subst (λ (x : Pending). ImageInvariant view below x mid out) (all_listed view below mid out) first.sound in
     record {
-      makes = freed_then view below out old mid c.free_listed.new.self first c.free_listed.result (c.free_listed.ensures.frees (beside view below mid out) out listed);
-      fault = faults_or_limit c.free_listed.result (c.free_listed.ensures.faults (beside view below mid out) out listed);
-      limit = unlimited_all c.free_listed.result _
-          (faults_unlimited c.free_listed.result (c.free_listed.ensures.faults (beside view below mid out) out listed));
-      lacks = fault_or_lacking view below out c.free_listed.new.self c.args.offset c.free_listed.result (c.free_listed.ensures.faults (beside view below mid out) out listed);
+      makes = freed_then view below out old mid c.process_free_list.new.self first c.process_free_list.result (c.process_free_list.ensures.frees (beside view below mid out) out listed);
+      fault = faults_or_limit c.process_free_list.result (c.process_free_list.ensures.faults (beside view below mid out) out listed);
+      limit = unlimited_all c.process_free_list.result _
+          (faults_unlimited c.process_free_list.result (c.process_free_list.ensures.faults (beside view below mid out) out listed));
+      lacks = fault_or_lacking view below out c.process_free_list.new.self c.args.offset c.process_free_list.result (c.process_free_list.ensures.faults (beside view below mid out) out listed);
     }

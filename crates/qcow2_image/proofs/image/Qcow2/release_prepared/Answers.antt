@@ -19,7 +19,7 @@ returns-clause-sees g c =
     let old = c.args.self.now in
     let p = c.args.prepared in
     let caches = c.unpin.new.self.file.caches in
-    let freed = c.free_later.ensures in
+    let freed = c.list_new_clusters.ensures in
     let un = c.unpin.ensures in
     let same = un.rest ∙ ap (λ (m : Qcow2 _ _). record m { file = record m.file { caches = caches } }) freed in
     let tables : SameTables old.file.caches caches = subst (λ (m : Qcow2 _ _). SameTables m.file.caches caches) freed un.tables in
@@ -31,7 +31,7 @@ returns-clause-rest g c =
     let view = g.S.Storage.view in
     let old = c.args.self.now in
     let caches = c.unpin.new.self.file.caches in
-    let freed = c.free_later.ensures in
+    let freed = c.list_new_clusters.ensures in
     let un = c.unpin.ensures in
     let same = un.rest ∙ ap (λ (m : Qcow2 _ _). record m { file = record m.file { caches = caches } }) freed in
     let tables : SameTables old.file.caches caches = subst (λ (m : Qcow2 _ _). SameTables m.file.caches caches) freed un.tables in
@@ -42,13 +42,13 @@ returns-clause-rest g c =
 pub returns-clause-faults : goal.returns-clause-faults
 returns-clause-faults g c =
     untouched g.S.Storage.view g.F.BackingDisk.backing c.args.self.now c.unpin.new.self
-    (ap (λ (m : Qcow2 _ _). m.file.storage) c.unpin.ensures.rest ∙ ap (λ (m : Qcow2 _ _). m.file.storage) c.free_later.ensures)
-    (ap (λ (m : Qcow2 _ _). m.backing) c.unpin.ensures.rest ∙ ap (λ (m : Qcow2 _ _). m.backing) c.free_later.ensures)
+    (ap (λ (m : Qcow2 _ _). m.file.storage) c.unpin.ensures.rest ∙ ap (λ (m : Qcow2 _ _). m.file.storage) c.list_new_clusters.ensures)
+    (ap (λ (m : Qcow2 _ _). m.backing) c.unpin.ensures.rest ∙ ap (λ (m : Qcow2 _ _). m.backing) c.list_new_clusters.ensures)
 
 pub returns-clause-step : goal.returns-clause-step
 returns-clause-step g c = record {
   stays = search rules;
-  notes = pins_kept c.args.self.now c.unpin.new.self (ap (λ (m : Qcow2 _ _). m.file.storage) c.unpin.ensures.rest ∙ ap (λ (m : Qcow2 _ _). m.file.storage) c.free_later.ensures)
-      (c.unpin.ensures.changed ∙ ap (λ (m : Qcow2 _ _). m.file.caches.is_changed) c.free_later.ensures) (c.unpin.ensures.counted ∙ ap (λ (m : Qcow2 _ _). m.file.caches.changes) c.free_later.ensures);
-  header_cluster = behind_then (behind_by g.S.Storage.view c.free_later.ensures behind_none) (behind_by g.S.Storage.view c.unpin.ensures.rest (behind_tables c.unpin.ensures.tables.behind));
+  notes = pins_kept c.args.self.now c.unpin.new.self (ap (λ (m : Qcow2 _ _). m.file.storage) c.unpin.ensures.rest ∙ ap (λ (m : Qcow2 _ _). m.file.storage) c.list_new_clusters.ensures)
+      (c.unpin.ensures.changed ∙ ap (λ (m : Qcow2 _ _). m.file.caches.is_changed) c.list_new_clusters.ensures) (c.unpin.ensures.counted ∙ ap (λ (m : Qcow2 _ _). m.file.caches.changes) c.list_new_clusters.ensures);
+  header_cluster = behind_then (behind_by g.S.Storage.view c.list_new_clusters.ensures behind_none) (behind_by g.S.Storage.view c.unpin.ensures.rest (behind_tables c.unpin.ensures.tables.behind));
 }

@@ -46,8 +46,8 @@ returns-in_err-reach_entry-clause-own g c = λ own. absurd (let no : false ≡ t
 pub returns-in_err-own_l2-clause-own : goal.returns-in_err-own_l2-clause-own
 returns-in_err-own_l2-clause-own g c = λ own. absurd (let no : false ≡ true = sym c.if-has_own_l2.false ∙ c.has_own_l2.ensures.1 own in cc)
 
-pub returns-in_err-free_listed-clause-own : goal.returns-in_err-free_listed-clause-own
-returns-in_err-free_listed-clause-own g c = λ own. absurd (let no : false ≡ true = sym c.if-has_own_l2.false ∙ c.has_own_l2.ensures.1 own in cc)
+pub returns-in_err-process_free_list-clause-own : goal.returns-in_err-process_free_list-clause-own
+returns-in_err-process_free_list-clause-own g c = λ own. absurd (let no : false ≡ true = sym c.if-has_own_l2.false ∙ c.has_own_l2.ensures.1 own in cc)
 
 pub returns-clause-own : goal.returns-clause-own
 returns-clause-own g c = λ own. absurd (let no : false ≡ true = sym c.if-has_own_l2.false ∙ c.has_own_l2.ensures.1 own in cc)
@@ -74,23 +74,23 @@ returns-in_err-own_l2-clause-fails g c = record {
       counted_on view below old c.reach_entry.new.self c.own_l2.new.self c.own_l2.result c.in_err-own_l2.field-0.0 c.from_residual-in_err-own_l2.result reached c.own_l2.ensures.fails.faults c.in_err-own_l2.was c.from_residual-in_err-own_l2.ensures;
 }
 
-pub returns-in_err-free_listed-clause-step : goal.returns-in_err-free_listed-clause-step
-returns-in_err-free_listed-clause-step g c = step_then (step_then c.reach_entry.ensures.step c.own_l2.ensures.step) c.free_listed.ensures.step
+pub returns-in_err-process_free_list-clause-step : goal.returns-in_err-process_free_list-clause-step
+returns-in_err-process_free_list-clause-step g c = step_then (step_then c.reach_entry.ensures.step c.own_l2.ensures.step) c.process_free_list.ensures.step
 
-pub returns-in_err-free_listed-clause-fails : goal.returns-in_err-free_listed-clause-fails
-returns-in_err-free_listed-clause-fails g c = record {
+pub returns-in_err-process_free_list-clause-fails : goal.returns-in_err-process_free_list-clause-fails
+returns-in_err-process_free_list-clause-fails g c = record {
   cause = search rules;
   faults = let view = g.S.Storage.view in
       let below = g.F.BackingDisk.backing in
       let old = c.args.self.now in
       let reached = same_of view below old c.reach_entry.new.self c.reach_entry.result c.in_ok-reach_entry.field-0 c.reach_entry.ensures.fails.faults c.in_ok-reach_entry.was in
       let owned = same_of view below c.reach_entry.new.self c.own_l2.new.self c.own_l2.result c.in_ok-own_l2.field-0 c.own_l2.ensures.fails.faults c.in_ok-own_l2.was in
-      counted_on view below old c.own_l2.new.self c.free_listed.new.self c.free_listed.result c.in_err-free_listed.field-0.0 c.from_residual-in_err-free_listed.result (faults_then view below old c.reach_entry.new.self c.own_l2.new.self reached owned) c.free_listed.ensures.counts c.in_err-free_listed.was
-      c.from_residual-in_err-free_listed.ensures;
+      counted_on view below old c.own_l2.new.self c.process_free_list.new.self c.process_free_list.result c.in_err-process_free_list.field-0.0 c.from_residual-in_err-process_free_list.result (faults_then view below old c.reach_entry.new.self c.own_l2.new.self reached owned) c.process_free_list.ensures.counts c.in_err-process_free_list.was
+      c.from_residual-in_err-process_free_list.ensures;
 }
 
 pub returns-clause-step : goal.returns-clause-step
-returns-clause-step g c = step_then (step_then (step_then c.reach_entry.ensures.step c.own_l2.ensures.step) c.free_listed.ensures.step) c.ensure_l2-2.ensures.step
+returns-clause-step g c = step_then (step_then (step_then c.reach_entry.ensures.step c.own_l2.ensures.step) c.process_free_list.ensures.step) c.ensure_l2-2.ensures.step
 
 pub returns-clause-fails : goal.returns-clause-fails
 returns-clause-fails g c = record {
@@ -100,10 +100,10 @@ returns-clause-fails g c = record {
       let old = c.args.self.now in
       let reached = same_of view below old c.reach_entry.new.self c.reach_entry.result c.in_ok-reach_entry.field-0 c.reach_entry.ensures.fails.faults c.in_ok-reach_entry.was in
       let owned = same_of view below c.reach_entry.new.self c.own_l2.new.self c.own_l2.result c.in_ok-own_l2.field-0 c.own_l2.ensures.fails.faults c.in_ok-own_l2.was in
-      let freed = same_of view below c.own_l2.new.self c.free_listed.new.self c.free_listed.result c.in_ok-free_listed.field-0 c.free_listed.ensures.counts c.in_ok-free_listed.was in
+      let freed = same_of view below c.own_l2.new.self c.process_free_list.new.self c.process_free_list.result c.in_ok-process_free_list.field-0 c.process_free_list.ensures.counts c.in_ok-process_free_list.was in
       counted_since view below old c.reach_entry.new.self c.ensure_l2-2.new.self c.ensure_l2-2.result reached
       (counted_since view below c.reach_entry.new.self c.own_l2.new.self c.ensure_l2-2.new.self c.ensure_l2-2.result owned
-      (counted_since view below c.own_l2.new.self c.free_listed.new.self c.ensure_l2-2.new.self c.ensure_l2-2.result freed c.ensure_l2-2.ensures.fails.faults));
+      (counted_since view below c.own_l2.new.self c.process_free_list.new.self c.ensure_l2-2.new.self c.ensure_l2-2.result freed c.ensure_l2-2.ensures.fails.faults));
 }
 
 pub returns-then-has_own_l2-clause-sound : goal.returns-then-has_own_l2-clause-sound
@@ -169,30 +169,30 @@ returns-in_err-own_l2-clause-sound g c = λ out sound.
           ((c.in_err-own_l2.ensures.sound (pending_in view below long out) out ((c.in_ok-reach_entry.ensures.sound out sound).makes).sound).lacks);
     }
 
-pub returns-in_err-free_listed-clause-sound : goal.returns-in_err-free_listed-clause-sound
-returns-in_err-free_listed-clause-sound g c = λ out sound.
+pub returns-in_err-process_free_list-clause-sound : goal.returns-in_err-process_free_list-clause-sound
+returns-in_err-process_free_list-clause-sound g c = λ out sound.
     let view = g.S.Storage.view in
     let below = g.F.BackingDisk.backing in
     let old = c.args.self.now in
     let long = c.reach_entry.new.self in
     let mid = c.own_l2.new.self in
-    let e = c.in_err-free_listed.field-0.0 in
+    let e = c.in_err-process_free_list.field-0.0 in
     let reached = (c.in_ok-reach_entry.ensures.sound out sound).makes in
-    let new = c.free_listed.new.self in
+    let new = c.process_free_list.new.self in
     let first = stays_kept view below out long mid reached.sound ((c.in_ok-own_l2.ensures.sound (pending_in view below long out) out reached.sound).does).0 in
     let listed = subst (λ (x : Pending). ImageInvariant view below x mid out) (all_listed view below mid out) first.sound in
     record {
-      freeing = handed_on (λ r. OnOk r (ListsNoMore old new)) c.from_residual-in_err-free_listed.result e c.from_residual-in_err-free_listed.ensures tt;
-      finds = handed_on (FindsTable view below old new out c.args.offset) c.from_residual-in_err-free_listed.result e c.from_residual-in_err-free_listed.ensures
+      freeing = handed_on (λ r. OnOk r (ListsNoMore old new)) c.from_residual-in_err-process_free_list.result e c.from_residual-in_err-process_free_list.ensures tt;
+      finds = handed_on (FindsTable view below old new out c.args.offset) c.from_residual-in_err-process_free_list.result e c.from_residual-in_err-process_free_list.ensures
           (finds_after view below out old long new reached c.args.offset (Err e)
-          (finds_after view below out long mid new first c.args.offset (Err e) (freed_refused view below mid out new e first.sound (c.in_err-free_listed.ensures.frees (beside view below mid out) out listed))));
+          (finds_after view below out long mid new first c.args.offset (Err e) (freed_refused view below mid out new e first.sound (c.in_err-process_free_list.ensures.frees (beside view below mid out) out listed))));
       met = let first = stays_kept view below out long mid reached.sound ((c.in_ok-own_l2.ensures.sound (pending_in view below long out) out reached.sound).does).0 in
-          hands_met (IsMetTaking (HasPrepared out) ⊥ ⊥ (NeedsFarEntry old c.args.offset)) c.from_residual-in_err-free_listed.result c.in_err-free_listed.field-0.0 c.from_residual-in_err-free_listed.ensures
-          (inl (inl (inl (c.in_err-free_listed.ensures.faults (beside view below mid out) out listed))));
-      limit = hands_limit c.from_residual-in_err-free_listed.result e c.from_residual-in_err-free_listed.ensures
-          (other_limit _ e (fault_unlimited e (c.in_err-free_listed.ensures.faults (beside view below mid out) out listed)));
-      lacks = λ none. handed_on (λ r. IfErr r (IsFaultOrLacksTable view c.free_listed.new.self c.args.offset)) c.from_residual-in_err-free_listed.result c.in_err-free_listed.field-0.0 c.from_residual-in_err-free_listed.ensures
-          (inl (c.in_err-free_listed.ensures.faults (beside view below mid out) out listed));
+          hands_met (IsMetTaking (HasPrepared out) ⊥ ⊥ (NeedsFarEntry old c.args.offset)) c.from_residual-in_err-process_free_list.result c.in_err-process_free_list.field-0.0 c.from_residual-in_err-process_free_list.ensures
+          (inl (inl (inl (c.in_err-process_free_list.ensures.faults (beside view below mid out) out listed))));
+      limit = hands_limit c.from_residual-in_err-process_free_list.result e c.from_residual-in_err-process_free_list.ensures
+          (other_limit _ e (fault_unlimited e (c.in_err-process_free_list.ensures.faults (beside view below mid out) out listed)));
+      lacks = λ none. handed_on (λ r. IfErr r (IsFaultOrLacksTable view c.process_free_list.new.self c.args.offset)) c.from_residual-in_err-process_free_list.result c.in_err-process_free_list.field-0.0 c.from_residual-in_err-process_free_list.ensures
+          (inl (c.in_err-process_free_list.ensures.faults (beside view below mid out) out listed));
     }
 
 pub returns-clause-sound : goal.returns-clause-sound
@@ -202,15 +202,15 @@ returns-clause-sound g c = λ out sound.
     let old = c.args.self.now in
     let long = c.reach_entry.new.self in
     let mid = c.own_l2.new.self in
-    let freed = c.free_listed.new.self in
+    let freed = c.process_free_list.new.self in
     let reached = (c.in_ok-reach_entry.ensures.sound out sound).makes in
     let new = c.ensure_l2-2.new.self in
     let owned = (c.in_ok-own_l2.ensures.sound (pending_in view below long out) out reached.sound).does in
     let first = stays_kept view below out long mid reached.sound ((c.in_ok-own_l2.ensures.sound (pending_in view below long out) out reached.sound).does).0 in
     let listed = subst (λ (x : Pending). ImageInvariant view below x mid out) (all_listed view below mid out) first.sound in
-    let second = tidy_stays view below mid out freed first.sound (c.in_ok-free_listed.ensures.frees (beside view below mid out) out listed) in
+    let second = tidy_stays view below mid out freed first.sound (c.in_ok-process_free_list.ensures.frees (beside view below mid out) out listed) in
     let at = ap (λ (v : HeaderView). l1_index_of v.fields c.args.offset) c.own_l2.ensures.keeps_rest.header in
-    let own = own_after view below out (pending_with_listed (pending_in view below long out) long mid) mid freed owned.0.sound c.args.offset (l1_index_of long.file.header.fields c.args.offset) at owned.1.own c.free_listed.ensures.table c.free_listed.ensures.keeps_rest.header in
+    let own = own_after view below out (pending_with_listed (pending_in view below long out) long mid) mid freed owned.0.sound c.args.offset (l1_index_of long.file.header.fields c.args.offset) at owned.1.own c.process_free_list.ensures.table c.process_free_list.ensures.keeps_rest.header in
     let writable = subst IsTrue (sym (c.own_l2.ensures.step.stays.image.writable ∙ c.reach_entry.ensures.step.stays.image.writable)) c.requires.writable in
     record {
       finds = finds_after view below out old long new reached c.args.offset c.ensure_l2-2.result
@@ -220,8 +220,8 @@ returns-clause-sound g c = λ out sound.
       met = let first = stays_kept view below out long mid reached.sound owned.0 in
           met_as (IsMetTaking (HasPrepared out) ⊥ ⊥ ⊥) (IsMetTaking (HasPrepared out) ⊥ ⊥ (NeedsFarEntry old c.args.offset)) c.ensure_l2-2.result (taking_as (λ held. held) (λ no. no) (λ no. no) (λ no. absurd no)) ((c.ensure_l2-2.ensures.sound (pending_in view below freed out) out second.sound).met (inl own));
       limit = limits_as c.ensure_l2-2.result
-          (λ met. limited_since (omega arith) (goes_step (step_then (step_then c.reach_entry.ensures.step c.own_l2.ensures.step) c.free_listed.ensures.step)) (stays_then view below out old long freed reached (stays_then view below out long mid freed first second)) (limited_more (limited_unseen second.sound met)))
+          (λ met. limited_since (omega arith) (goes_step (step_then (step_then c.reach_entry.ensures.step c.own_l2.ensures.step) c.process_free_list.ensures.step)) (stays_then view below out old long freed reached (stays_then view below out long mid freed first second)) (limited_more (limited_unseen second.sound met)))
           ((c.ensure_l2-2.ensures.sound (pending_in view below freed out) out second.sound).limit (inl own));
       lacks = λ none. (c.ensure_l2-2.ensures.sound (pending_in view below freed out) out second.sound).lacks none;
-      freeing = always_ok c.ensure_l2-2.result (inr ((c.ensure_l2-2.ensures.quiet own).list ∙ c.in_ok-free_listed.ensures.emptied writable));
+      freeing = always_ok c.ensure_l2-2.result (inr ((c.ensure_l2-2.ensures.quiet own).list ∙ c.in_ok-process_free_list.ensures.emptied writable));
     }

@@ -38,7 +38,7 @@ returns-clause-whole g c = λ out sound whole.
     next_whole h sizes.some sizes.entries from to c.min-next.result whole.1 is high
 
 pub returns-clause-emptied : goal.returns-clause-emptied
-returns-clause-emptied g c = λ none. c.in_ok-free_listed.ensures.emptied (subst IsTrue (sym c.clear_between.ensures.step.stays.image.writable) c.requires.writable)
+returns-clause-emptied g c = λ none. c.in_ok-process_free_list.ensures.emptied (subst IsTrue (sym c.clear_between.ensures.step.stays.image.writable) c.requires.writable)
 
 pub returns-then-to-from-clause-step : goal.returns-then-to-from-clause-step
 returns-then-to-from-clause-step g c = step_none
@@ -46,11 +46,11 @@ returns-then-to-from-clause-step g c = step_none
 pub returns-in_err-clear_between-clause-step : goal.returns-in_err-clear_between-clause-step
 returns-in_err-clear_between-clause-step g c = (step_of_part c.clear_between.ensures.step)
 
-pub returns-in_err-free_listed-clause-step : goal.returns-in_err-free_listed-clause-step
-returns-in_err-free_listed-clause-step g c = step_then (step_of_part c.clear_between.ensures.step) c.free_listed.ensures.step
+pub returns-in_err-process_free_list-clause-step : goal.returns-in_err-process_free_list-clause-step
+returns-in_err-process_free_list-clause-step g c = step_then (step_of_part c.clear_between.ensures.step) c.process_free_list.ensures.step
 
 pub returns-clause-step : goal.returns-clause-step
-returns-clause-step g c = step_then (step_of_part c.clear_between.ensures.step) c.free_listed.ensures.step
+returns-clause-step g c = step_then (step_of_part c.clear_between.ensures.step) c.process_free_list.ensures.step
 
 pub returns-then-to-from-clause-sound : goal.returns-then-to-from-clause-sound
 returns-then-to-from-clause-sound g c = λ out sound order whole third.
@@ -99,19 +99,19 @@ returns-in_err-clear_between-clause-sound g c = λ out sound order whole third.
           (taking_as (λ held. held) (under_prepared h from out) (λ no. no) (never_far view below out (pending_in view below old out) old sound from to c.if-to-from.false near) e (c.in_err-clear_between.ensures.met out sound can));
     }
 
-pub returns-in_err-free_listed-clause-sound : goal.returns-in_err-free_listed-clause-sound
-returns-in_err-free_listed-clause-sound g c = λ out sound order whole third.
+pub returns-in_err-process_free_list-clause-sound : goal.returns-in_err-process_free_list-clause-sound
+returns-in_err-process_free_list-clause-sound g c = λ out sound order whole third.
     let view = g.S.Storage.view in
     let below = g.F.BackingDisk.backing in
     let old = c.args.self.now in
     let mid = c.clear_between.new.self in
-    let new = c.free_listed.new.self in
+    let new = c.process_free_list.new.self in
     let h = old.file.header.fields in
     let from = c.args.from in
     let to = c.args.to in
     let next = c.min-next.result in
     let sizes = Sizes-from h (contents_in view old.file) sound.file.caches.kept.kept.crash_invariant.top.header_reads in
-    let e = c.in_err-free_listed.field-0.0 in
+    let e = c.in_err-process_free_list.field-0.0 in
     let rest = c.rest_of_table.ensures.value in
     let is : c.min-next.result ≡ min c.args.to (min (c.args.from + rest_of_table c.args.self.now.file.header.fields c.args.from) (2 ^ 64 - 1)) = c.min-next.ensures ∙ ap (min to) (c.saturating_add.ensures ∙ ap (λ n. min (from + n) (2 ^ 64 - 1)) rest) in
     let high : c.args.to < 2 ^ 64 = search rules in
@@ -126,9 +126,9 @@ returns-in_err-free_listed-clause-sound g c = λ out sound order whole third.
           (c.in_ok-clear_between.ensures.clears out sound can)
           (untaken_cleared h (known_in view old.file) sizes out from next (next_within h sizes.some sizes.entries from to next whole.1 is high) (c.in_ok-clear_between.ensures.free out sound)) in
           let listed = subst (λ (x : Pending). ImageInvariant view below x mid out) (all_listed view below mid out) part.sound in
-          handed_on (λ r. FillsFirst view below 0 from to old new out r) c.from_residual-in_err-free_listed.result e c.from_residual-in_err-free_listed.ensures
-          (fills_refused view below out old mid new 0 from next part to e (omega (arith, is)) (tables_met e c.in_err-free_listed.ensures.cause) (fault_unlimited e (c.in_err-free_listed.ensures.faults (beside view below mid out) out listed))
-          (freed_refused view below mid out new e part.sound (c.in_err-free_listed.ensures.frees (beside view below mid out) out listed)) c.free_listed.ensures.keeps_rest.header);
+          handed_on (λ r. FillsFirst view below 0 from to old new out r) c.from_residual-in_err-process_free_list.result e c.from_residual-in_err-process_free_list.ensures
+          (fills_refused view below out old mid new 0 from next part to e (omega (arith, is)) (tables_met e c.in_err-process_free_list.ensures.cause) (fault_unlimited e (c.in_err-process_free_list.ensures.faults (beside view below mid out) out listed))
+          (freed_refused view below mid out new e part.sound (c.in_err-process_free_list.ensures.frees (beside view below mid out) out listed)) c.process_free_list.ensures.keeps_rest.header);
       met = λ near. let part = c.in_ok-clear_between.ensures.clears out sound (record {
         begins = whole.0;
         ends = next_whole h sizes.some sizes.entries from to next whole.1 is high;
@@ -136,8 +136,8 @@ returns-in_err-free_listed-clause-sound g c = λ out sound order whole third.
         version = λ _. third;
       }) in
           let listed = subst (λ (x : Pending). ImageInvariant view below x mid out) (all_listed view below mid out) part.sound in
-          hands_met (IsMetTaking (HasPrepared out) (HasPrepared out) ⊥ ⊥) c.from_residual-in_err-free_listed.result c.in_err-free_listed.field-0.0 c.from_residual-in_err-free_listed.ensures
-          (inl (inl (inl (c.in_err-free_listed.ensures.faults (beside view below mid out) out listed))));
+          hands_met (IsMetTaking (HasPrepared out) (HasPrepared out) ⊥ ⊥) c.from_residual-in_err-process_free_list.result c.in_err-process_free_list.field-0.0 c.from_residual-in_err-process_free_list.ensures
+          (inl (inl (inl (c.in_err-process_free_list.ensures.faults (beside view below mid out) out listed))));
     }
 
 pub returns-clause-sound : goal.returns-clause-sound
@@ -146,7 +146,7 @@ returns-clause-sound g c = λ out sound order whole third.
     let below = g.F.BackingDisk.backing in
     let old = c.args.self.now in
     let mid = c.clear_between.new.self in
-    let new = c.free_listed.new.self in
+    let new = c.process_free_list.new.self in
     let h = old.file.header.fields in
     let from = c.args.from in
     let to = c.args.to in
@@ -167,5 +167,5 @@ returns-clause-sound g c = λ out sound order whole third.
           (c.in_ok-clear_between.ensures.clears out sound can)
           (untaken_cleared h (known_in view old.file) sizes out from next (next_within h sizes.some sizes.entries from to next whole.1 is high) (c.in_ok-clear_between.ensures.free out sound)) in
           let listed = subst (λ (x : Pending). ImageInvariant view below x mid out) (all_listed view below mid out) part.sound in
-          fills_stays view below out old mid new 0 from next part (tidy_stays view below mid out new part.sound (c.in_ok-free_listed.ensures.frees (beside view below mid out) out listed)) c.free_listed.ensures.keeps_rest.header;
+          fills_stays view below out old mid new 0 from next part (tidy_stays view below mid out new part.sound (c.in_ok-process_free_list.ensures.frees (beside view below mid out) out listed)) c.process_free_list.ensures.keeps_rest.header;
     }

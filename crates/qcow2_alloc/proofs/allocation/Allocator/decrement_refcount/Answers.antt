@@ -1,0 +1,95 @@
+use Rattle.qcow2_metadata.specs.Entries.{count}
+use Rattle.std.proofs.Common.{◌/◌, ◌%◌, ◌^◌, true, Ok, refl, ap, ◌∙◌, sym}
+use Rattle.qcow2_laws.specs.Changes.{one_at}
+use Rattle.qcow2_alloc.specs.Allocation.{owed_as, LowersOne}
+use Rattle.qcow2_alloc.specs.LowestRuns.{KeepsNoFreeBelowHint}
+use Rattle.qcow2_alloc.specs.ImageFile.{contents_in, known_in}
+use Rattle.qcow2_alloc.proofs.Hints.{hint_lowered, is_zero, lowered_so, passed_still, stands_still, hint_refused}
+use Rattle.qcow2_alloc.proofs.AllocationSteps.{handed_on, of_equal, allocator_step_as, may_lower_still, counted_at, given_one, owed_counted, owed_has_block}
+use Rattle.qcow2_metadata.specs.Header.{counts_per_block}
+use Rattle.qcow2_alloc.proofs.Leaks.{tried}
+use Rattle.qcow2_alloc.proofs.KeptMarks.{marks_of_caches}
+use Rattle.qcow2_alloc.specs.declared.error.ImageError.TheVariants as I
+use Rattle.qcow2_alloc.proofs.AlignedBlocks.{unaligned_as}
+use Rattle.qcow2_alloc.proofs.Outcomes.{handed_unaligned, ok_no_err}
+use Rattle.qcow2_alloc.proofs.Steps.{fails_ok, fails_on, table_step_as, table_step_tables, table_step_then}
+use Rattle.qcow2_alloc.proofs.allocation.Allocator.decrement_refcount.Goals as goal
+
+pub returns-in_err-block-clause-sound : goal.returns-in_err-block-clause-sound
+returns-in_err-block-clause-sound g c = λ p owed sound may.
+    handed_on (LowersOne g.S.Storage.view (owed_as owed p (one_at c.args.cluster)) c.args.file.now c.args.self.now c.load_block.new.file p)
+    c.from_residual.result c.in_err-block.field-0.0 c.from_residual.ensures (c.in_err-block.ensures.sound (owed_as owed p (one_at c.args.cluster)) sound)
+
+pub returns-in_default-clause-sound : goal.returns-in_default-clause-sound
+returns-in_default-clause-sound g c = λ p owed sound may.
+    let l = rw c.in_default.is at (c.in_ok-block.ensures.sound (owed_as owed p (one_at c.args.cluster)) sound) in
+    owed_has_block g.S.Storage.view owed p c.args.cluster _ c.rb_bits-bits.result (owed_as owed p (one_at c.args.cluster)) c.load_block.new.file c.args.file.now.header.fields (ap (λ x. x.fields) c.load_block.ensures.step.header) refl l.0.file_step.sound
+    c.rb_bits-bits.ensures.counts refl l.1
+
+pub returns-clause-sound : goal.returns-clause-sound
+returns-clause-sound g c = λ p owed sound may.
+    let l = rw c.in-Some.is at (c.in_ok-block.ensures.sound (owed_as owed p (one_at c.args.cluster)) sound) in
+    let at = counted_at g.S.Storage.view c.load_block.new.file c.args.file.now.header.fields (ap (λ x. x.fields) c.load_block.ensures.step.header) c.args.cluster _ c.in-Some.block c.rb_index-index.result c.rb_bits-bits.result l.1 c.rb_bits-bits.ensures.counts refl (c.rb_index-index.ensures.value ∙ ap (λ n. n % 2 ^ c.rb_bits-bits.result) c.new.ensures) in
+    let some = owed_counted g.S.Storage.view owed p c.args.cluster (owed_as owed p (one_at c.args.cluster)) c.load_block.new.file refl l.0.file_step.sound in
+    let lowered = c.rb_decrement-lowered.ensures.sound.made c.load_block.new.file.header.fields (owed_as owed p (one_at c.args.cluster)) (contents_in g.S.Storage.view c.load_block.new.file) c.args.cluster l.0.file_step.sound.caches at l.1.2 some in
+    of_equal (λ f r. LowersOne g.S.Storage.view (owed_as owed p (one_at c.args.cluster)) c.args.file.now c.note_lowered.new.self f p (Ok r)) (record c.load_block.new.file { caches = c.rb_decrement-lowered.new.self }) (record c.load_block.new.file { caches = c.rb_decrement-lowered.new.self }) c.rb_decrement-lowered.result true refl lowered
+    (allocator_step_as g.S.Storage.view (owed_as owed p (one_at c.args.cluster)) p c.args.file.now (record c.load_block.new.file { caches = c.rb_decrement-lowered.new.self }) c.args.self.now c.note_lowered.new.self c.note_lowered.ensures.reftable
+    (given_one g.S.Storage.view (owed_as owed p (one_at c.args.cluster)) c.args.file.now c.load_block.new.file c.args.self.now l.0 c.args.cluster c.in-Some.block c.rb_index-index.result at c.rb_decrement-lowered.new.self c.rb_decrement-lowered.ensures.step.order c.rb_decrement-lowered.ensures.step.marks
+    owed p (may_lower_still owed c.args.file.now c.load_block.new.file c.load_block.ensures.step.marks.order may) refl (c.rb_decrement-lowered.ensures.sound.counted lowered)))
+
+pub returns-in_err-block-clause-hint : goal.returns-in_err-block-clause-hint
+returns-in_err-block-clause-hint g c = λ p owed sound may hint.
+    handed_on (KeepsNoFreeBelowHint g.S.Storage.view c.args.self.now c.load_block.new.file) c.from_residual.result c.in_err-block.field-0.0 c.from_residual.ensures
+    (hint_refused g.S.Storage.view (owed_as owed p (one_at c.args.cluster)) c.args.file.now c.load_block.new.file c.args.self.now c.args.self.now c.in_err-block.field-0.0 (passed_still c.args.self.now) (c.in_err-block.ensures.sound (owed_as owed p (one_at c.args.cluster)) sound).1 hint)
+
+pub returns-in_default-clause-hint : goal.returns-in_default-clause-hint
+returns-in_default-clause-hint g c = λ p owed sound may hint. absurd (returns-in_default-clause-sound g c p owed sound may)
+
+pub returns-clause-hint : goal.returns-clause-hint
+returns-clause-hint g c = λ p owed sound may hint.
+    let l = rw c.in-Some.is at (c.in_ok-block.ensures.sound (owed_as owed p (one_at c.args.cluster)) sound) in
+    let at = counted_at g.S.Storage.view c.load_block.new.file c.args.file.now.header.fields (ap (λ x. x.fields) c.load_block.ensures.step.header) c.args.cluster _ c.in-Some.block c.rb_index-index.result c.rb_bits-bits.result l.1 c.rb_bits-bits.ensures.counts refl (c.rb_index-index.ensures.value ∙ ap (λ n. n % 2 ^ c.rb_bits-bits.result) c.new.ensures) in
+    let some = owed_counted g.S.Storage.view owed p c.args.cluster (owed_as owed p (one_at c.args.cluster)) c.load_block.new.file refl l.0.file_step.sound in
+    let lowered = c.rb_decrement-lowered.ensures.sound.made c.load_block.new.file.header.fields (owed_as owed p (one_at c.args.cluster)) (contents_in g.S.Storage.view c.load_block.new.file) c.args.cluster l.0.file_step.sound.caches at l.1.2 some in
+    let file = record c.load_block.new.file { caches = c.rb_decrement-lowered.new.self } in
+    let now = lowered_so g.S.Storage.view (owed_as owed p (one_at c.args.cluster)) p c.args.file.now file c.note_lowered.new.self c.rb_decrement-lowered.result lowered (returns-clause-sound g c p owed sound may) in
+    let stands = stands_still g.S.Storage.view (owed_as owed p (one_at c.args.cluster)) p c.load_block.new.file c.rb_decrement-lowered.new.self (c.args.cluster / 2 ^ c.rb_bits-bits.result) c.in-Some.block l.0.file_step.sound now.file_step.sound (c.rb_decrement-lowered.ensures.cached lowered) l.1 in
+    let at_now = counted_at g.S.Storage.view file c.args.file.now.header.fields (ap (λ x. x.fields) c.load_block.ensures.step.header) c.args.cluster _ c.in-Some.block c.rb_index-index.result c.rb_bits-bits.result stands c.rb_bits-bits.ensures.counts refl (c.rb_index-index.ensures.value ∙ ap (λ n. n % 2 ^ c.rb_bits-bits.result) c.new.ensures) in
+    hint_lowered g.S.Storage.view owed p c.args.cluster c.args.file.now file c.args.self.now c.note_lowered.new.self now c.note_lowered.ensures.passed
+    (λ zero. c.note_lowered.ensures.free (c.rb_is_zero.ensures file.header.fields p (contents_in g.S.Storage.view file) c.args.cluster now.file_step.sound.caches at_now (c.rb_decrement-lowered.ensures.cached lowered) ∙ is_zero (count file.header.fields (known_in g.S.Storage.view file) c.args.cluster) zero)) hint
+
+pub returns-clause-tries : goal.returns-clause-tries
+returns-clause-tries g c =
+    let counts = ap (λ h. counts_per_block h.fields) c.load_block.ensures.step.header ∙ c.rb_bits-bits.ensures.counts in
+    let index = c.rb_index-index.ensures.value ∙ ap (λ n. n % 2 ^ c.rb_bits-bits.result) c.new.ensures ∙ sym (ap (λ n. c.args.cluster % n) counts) in
+    tried c.load_block.new.file.caches (record c.load_block.new.file { caches = c.rb_decrement-lowered.new.self }) c.in-Some.block c.rb_index-index.result c.args.cluster index c.rb_decrement-lowered.result
+    c.rb_decrement-lowered.ensures.counts c.rb_decrement-lowered.ensures.missing
+
+pub returns-in_err-block-clause-step : goal.returns-in_err-block-clause-step
+returns-in_err-block-clause-step g c = c.load_block.ensures.step
+
+pub returns-in_err-block-clause-fails : goal.returns-in_err-block-clause-fails
+returns-in_err-block-clause-fails g c = fails_on c.from_residual.result c.in_err-block.field-0.0 c.from_residual.ensures c.in_err-block.ensures.fails
+
+pub returns-in_default-clause-step : goal.returns-in_default-clause-step
+returns-in_default-clause-step g c = c.load_block.ensures.step
+
+pub returns-in_default-clause-fails : goal.returns-in_default-clause-fails
+returns-in_default-clause-fails g c = fails_ok c.in_ok-block.ensures.fails.told
+
+pub returns-clause-step : goal.returns-clause-step
+returns-clause-step g c = table_step_as c.note_lowered.ensures.reftable refl (table_step_then c.load_block.ensures.step (table_step_tables (marks_of_caches c.rb_decrement-lowered.ensures.step.marks c.rb_decrement-lowered.ensures.step.order) c.rb_decrement-lowered.ensures.step.header_cluster))
+
+pub returns-clause-fails : goal.returns-clause-fails
+returns-clause-fails g c = fails_ok c.in_ok-block.ensures.fails.told
+
+pub returns-in_err-block-clause-unaligned : goal.returns-in_err-block-clause-unaligned
+returns-in_err-block-clause-unaligned g c = λ u.
+    let refused = c.in_err-block.ensures.unaligned (unaligned_as c.args.file.now.header.fields c.args.self.now.reftable c.args.cluster _ c.rb_bits-bits.ensures.counts u) in
+    (handed_unaligned c.from_residual.result c.in_err-block.field-0.0 c.from_residual.ensures refused.0, refused.1)
+
+pub returns-in_default-clause-unaligned : goal.returns-in_default-clause-unaligned
+returns-in_default-clause-unaligned g c = λ u. ok_no_err _ I.UnalignedTable (c.in_ok-block.ensures.unaligned (unaligned_as c.args.file.now.header.fields c.args.self.now.reftable c.args.cluster _ c.rb_bits-bits.ensures.counts u)).0
+
+pub returns-clause-unaligned : goal.returns-clause-unaligned
+returns-clause-unaligned g c = λ u. ok_no_err _ I.UnalignedTable (c.in_ok-block.ensures.unaligned (unaligned_as c.args.file.now.header.fields c.args.self.now.reftable c.args.cluster _ c.rb_bits-bits.ensures.counts u)).0

@@ -1,6 +1,0 @@
-use Rattle.qcow2_image.specs.UnseenSteps.{FreesLater, freed_by}
-use Rattle.qcow2_image.proofs.image.Qcow2.free_later.Given as goal
-
--- the new clusters of the shares so far are listed
-abbrev pub invariant-loop-share : goal.invariant-loop-share
-invariant-loop-share g l = FreesLater (freed_by l.yielded) l.fn.self l.self
