@@ -14,7 +14,7 @@ use Rattle.qcow2_image.specs.Clearing.{Clears, ClearsImageCovers, ClearsOrRefuse
 use Rattle.qcow2_image.specs.Faults.{CountsImageFaults}
 use Rattle.qcow2_image.specs.Image.{HasNothingToFree, ImageStays, IsSameImage, size_of}
 use Rattle.qcow2_image.specs.ImageInvariant.{ImageInvariant, abstract_of, pending_in}
-use Rattle.qcow2_image.specs.L1Entries.{HasOwnTable, NeedsFarEntry}
+use Rattle.qcow2_image.specs.L1Entries.{HasOwnTable, NeedsOverflowingL1Entry}
 use Rattle.qcow2_image.specs.Limits.{IfLimit, IsLimited}
 use Rattle.qcow2_image.specs.MetAlone.{IsMetTaking}
 use Rattle.qcow2_image.specs.NewTables.{IsFaultOrLacksTable}
@@ -85,7 +85,7 @@ module _ {S F : Type 0} (view : S → StorageView) (backing : F → BackingView)
 
     -- The causes of a refusal.
     abbrev pub MeetsBetween : Type 0
-    MeetsBetween = OfWhole (λ out. IfErr result (IsMetTaking (HasPrepared out) (IsUnderMapping old.file.header.fields from out) ⊥ (NeedsFarEntry old from)))
+    MeetsBetween = OfWhole (λ out. IfErr result (IsMetTaking (HasPrepared out) (IsUnderMapping old.file.header.fields from out) ⊥ (NeedsOverflowingL1Entry old from)))
 
     -- If no mapping is pinned, a refusal is a fault, or the first offset has no L2 table of its own.
     abbrev pub LacksBetween : Type 0

@@ -39,10 +39,10 @@ module _ {S F : Type 0} where
   HasOwnTable image offset = NamesOwn (entry_at image.l1_table.bytes (l1_index_of image.file.header.fields offset))
 
   -- The L1 table has an entry for the offset, but the entry's own offset does not fit into 64 bits.
-  pub record HasFarEntry (image : Qcow2 S F) (offset : ℕ) : Type 0 where
+  pub record L1EntryOverflows (image : Qcow2 S F) (offset : ℕ) : Type 0 where
     pub within : l1_index_of image.file.header.fields offset < entry_count image.l1_table
     pub far : ¬ HasRoomIfPlaced image.l1_table.cluster_bits (8 * l1_index_of image.file.header.fields offset) image.l1_table.cluster
 
   -- Such an entry past 64 bits would have to be written for the offset.
-  abbrev pub NeedsFarEntry : Qcow2 S F → ℕ → Type 0
-  NeedsFarEntry image offset = HasFarEntry image offset × ¬ HasOwnTable image offset
+  abbrev pub NeedsOverflowingL1Entry : Qcow2 S F → ℕ → Type 0
+  NeedsOverflowingL1Entry image offset = L1EntryOverflows image offset × ¬ HasOwnTable image offset

@@ -13,7 +13,7 @@ use Rattle.qcow2_alloc.specs.declared.error.ImageError.TheVariants.{TablePrepare
 use Rattle.qcow2_image.specs.Backings.{HasPrepared}
 use Rattle.qcow2_image.specs.CallParts.{FindsTable, PreparesRange}
 use Rattle.qcow2_image.specs.Image.{size_of}
-use Rattle.qcow2_image.specs.L1Entries.{HasNearEntry, HasOwnTable, NeedsFarEntry}
+use Rattle.qcow2_image.specs.L1Entries.{HasNearEntry, HasOwnTable, NeedsOverflowingL1Entry}
 use Rattle.qcow2_image.specs.Limits.{GoesTo, IfLimit, IsLimited, IsLimitedAmong, IsLimitedTaking, IsLimitedUnseen}
 use Rattle.qcow2_image.specs.ListedClusters.{ListsNoMore}
 use Rattle.qcow2_image.specs.MetAlone.{CopiesCompressed, IsCopiedCompressed, IsMetAlone, IsMetGrowing, IsMetTaking}
@@ -37,7 +37,7 @@ module _ {S F : Type 0} (view : S → StorageView) (backing : F → BackingView)
   -- The L2 table of an offset is found, made or copied. Each refusal has its cause in the image before the part; a limit (13) was passed at some state within it. If no mapping is prepared, a refusal is a fault, or the offset has no table of its own.
   pub record TableSoundly (offset : ℕ) (old new : Qcow2 S F) (out : List (Option Prepared)) (result : Result ℕ ImageError) : Type 0 where
     pub finds : FindsTable view backing old new out offset result
-    pub met : IfErr result (IsMetTaking (HasPrepared out) ⊥ ⊥ (NeedsFarEntry old offset))
+    pub met : IfErr result (IsMetTaking (HasPrepared out) ⊥ ⊥ (NeedsOverflowingL1Entry old offset))
     pub limit : IfLimit result (IsLimited view backing [] (offset + 1) old out)
     pub lacks : (HasPrepared out → ⊥) → IfErr result (IsFaultOrLacksTable view new offset)
     pub freeing : OnOk result (ListsNoMore old new)
@@ -78,7 +78,7 @@ module _ {S F : Type 0} (view : S → StorageView) (backing : F → BackingView)
   -- A range of at least one byte is prepared. Each refusal has its cause in the image before the part; a limit (13) was passed at some state within it. The mapping matches the mappings of its clusters, and an existing one leaves no more clusters to free.
   pub record PreparesSoundly (offset length : ℕ) (overwrite : Bool) (old new : Qcow2 S F) (out : List (Option Prepared)) (result : Result Prepared ImageError) : Type 0 where
     pub readies : PreparesRange view backing old new out offset length overwrite result
-    pub met : IfErr result (IsMetTaking (HasPrepared out) (IsTaken old.file.header.fields (known_in view old.file) offset length out) (CopiesCompressed offset length overwrite old.file.header.fields (known_in view old.file)) (NeedsFarEntry old offset))
+    pub met : IfErr result (IsMetTaking (HasPrepared out) (IsTaken old.file.header.fields (known_in view old.file) offset length out) (CopiesCompressed offset length overwrite old.file.header.fields (known_in view old.file)) (NeedsOverflowingL1Entry old offset))
     pub taken : IfErr result (λ e. e ≡ TablePrepared → IsTaken old.file.header.fields (known_in view old.file) offset length out)
     pub answers : IfOk result (λ q. IsAnswered old.file.header.fields (known_in view old.file) offset length new.file.header.fields (known_in view new.file) q (meaning view backing new q))
     pub freeing : IfOk result (λ p. IsNone (table_of p) → ListsNoMore old new)

@@ -305,7 +305,7 @@ impl<S: Storage, F: WrappedFormat<S>> Qcow2<S, F> {
         ensures free { AnsweredBeside S.view F.backing from self.old result }
         ensures pinned { HasOwnTable self.old from → HeedsPins self.old from result }
     {
-        let table = self.table_for(from)?;
+        let table = self.writable_l2_table(from)?;
         if self.file.caches.l2_is_pinned(table) {
             return Err(ImageError::TablePrepared);
         }

@@ -34,7 +34,7 @@ use qcow2_metadata::{GuestOffset, HostCluster, L1Table, MAX_L1_ENTRIES};
 impl<S: Storage, F: WrappedFormat<S>> Qcow2<S, F> {
     // Makes sure that there is an L1 entry for an offset. An L1 table that is too short is replaced by a longer one, and
     // then the clusters on the list are freed.
-    pub(crate) fn reach_entry(&mut self, offset: u64) -> Result<(), ImageError>
+    pub(crate) fn ensure_l1_entry(&mut self, offset: u64) -> Result<(), ImageError>
         requires writable { IsTrue (is_writable self.old) }
         ensures step { ImageStep S.view self.old self.new }
         ensures fails { ImageFails S.view F.backing self.old self.new result IsMet }

@@ -17,7 +17,7 @@ ghost use Rattle.qcow2_image.specs.declared.prepared.Prepared.{Prepared};
 ghost use Rattle.qcow2_image.specs.Found.{l1_index_of};
 ghost use Rattle.qcow2_image.specs.UnseenSteps.{Ensures};
 ghost use Rattle.qcow2_image.specs.ImageInvariant.{ImageInvariant, pending_in};
-ghost use Rattle.qcow2_image.specs.L1Entries.{HasFarEntry, HasOwnTable, HasNearEntry};
+ghost use Rattle.qcow2_image.specs.L1Entries.{L1EntryOverflows, HasOwnTable, HasNearEntry};
 ghost use Rattle.qcow2_image.specs.ListedClusters.{KeepsList};
 ghost use Rattle.qcow2_image.specs.NewTables.{IsFaultOrKeepsL1Table, SaysKnown, IsStored, StandsReady, MayName};
 ghost use Rattle.qcow2_image.specs.NewTables.{NamesShared, PlacesNewTable, Stores, NamesNew, WritesNew, EntersTable};
@@ -37,7 +37,7 @@ use qcow2_metadata::{ClusterCount, GuestOffset, HostCluster, L2Table};
 impl<S: Storage, F: WrappedFormat<S>> Qcow2<S, F> {
     // The L2 table of an offset, cached and marked copied. If one is made, the clusters on the list are freed then.
     // An L1 entry whose own offset would pass 64 bits is not written.
-    pub(crate) fn table_for(&mut self, offset: u64) -> Result<HostCluster, ImageError>
+    pub(crate) fn writable_l2_table(&mut self, offset: u64) -> Result<HostCluster, ImageError>
         requires writable { IsTrue (is_writable self.old) }
         ensures step { ImageStep S.view self.old self.new }
         ensures fails { ImageFails S.view F.backing self.old self.new result IsMet }
@@ -51,15 +51,15 @@ impl<S: Storage, F: WrappedFormat<S>> Qcow2<S, F> {
         ensures own { HasOwnTable self.old offset → FindsOwn self.old self.new offset result }
     {
         if self.has_own_l2(offset) {
-            return self.ensure_l2(offset);
+            return self.ensure_cached_l2(offset);
         }
-        if self.has_far_entry(offset) {
+        if self.l1_entry_overflows(offset) {
             return Err(ImageError::Overflow);
         }
-        self.reach_entry(offset)?;
-        self.own_l2(offset)?;
+        self.ensure_l1_entry(offset)?;
+        self.writable_l2_cluster(offset)?;
         self.process_free_list()?;
-        self.ensure_l2(offset)
+        self.ensure_cached_l2(offset)
     }
 
     // Whether there is an L2 table for an offset that is marked copied.
@@ -74,15 +74,15 @@ impl<S: Storage, F: WrappedFormat<S>> Qcow2<S, F> {
     }
 
     // Whether there is an L1 entry for an offset whose own offset does not fit into 64 bits.
-    fn has_far_entry(&self, offset: u64) -> bool
-        ensures { IsTrue result ↔ HasFarEntry self.now offset }
+    fn l1_entry_overflows(&self, offset: u64) -> bool
+        ensures { IsTrue result ↔ L1EntryOverflows self.now offset }
     {
         let index = GuestOffset::new(offset).l1_index(self.file.header.cluster_bits());
         self.l1_table.in_bounds(index) && !self.l1_table.has_entry_room(index)
     }
 
     // The L2 table of an offset, cached and marked copied. It is made if there is none, and copied if it isn't marked copied.
-    pub(crate) fn ensure_l2(&mut self, offset: u64) -> Result<HostCluster, ImageError>
+    pub(crate) fn ensure_cached_l2(&mut self, offset: u64) -> Result<HostCluster, ImageError>
         requires writable { IsTrue (is_writable self.old) }
         ensures step { ImageStep S.view self.old self.new }
         ensures fails { ImageFails S.view F.backing self.old self.new result IsMet }
@@ -103,7 +103,7 @@ impl<S: Storage, F: WrappedFormat<S>> Qcow2<S, F> {
             } }
         ensures own { HasOwnTable self.old offset → FindsOwn self.old self.new offset result }
     {
-        let cluster = self.own_l2(offset)?;
+        let cluster = self.writable_l2_cluster(offset)?;
         self.file
             .caches
             .l2_get_or_insert(&mut self.file.storage, cluster)?;
@@ -111,7 +111,7 @@ impl<S: Storage, F: WrappedFormat<S>> Qcow2<S, F> {
     }
 
     // The cluster of the L2 table of an offset, which is marked copied then.
-    fn own_l2(&mut self, offset: u64) -> Result<HostCluster, ImageError>
+    fn writable_l2_cluster(&mut self, offset: u64) -> Result<HostCluster, ImageError>
         requires writable { IsTrue (is_writable self.old) }
         ensures step { ImageStep S.view self.old self.new }
         ensures fails { ImageFails S.view F.backing self.old self.new result IsMet }
@@ -130,7 +130,7 @@ impl<S: Storage, F: WrappedFormat<S>> Qcow2<S, F> {
         }
         let Some(entry) = self.l1_table.get(index) else {
             let table = L2Table::new_cleared(self.file.alloc, &self.file.header)?;
-            return self.enter_l2(index, table);
+            return self.allocate_l2(index, table);
         };
         let Some(cluster) = entry.offset.checked_cluster(bits) else {
             return Err(ImageError::UnalignedTable);
@@ -184,7 +184,7 @@ impl<S: Storage, F: WrappedFormat<S>> Qcow2<S, F> {
     {
         let entry = ClustersToFreeEntry::metadata(old, ClusterCount::new(1));
         let dropped = ClustersToFreeList::pending_guard(self.file.alloc, entry)?;
-        match self.enter_l2(index, table) {
+        match self.allocate_l2(index, table) {
             Ok(cluster) => {
                 dropped.hand_back(&mut self.file.free_list);
                 Ok(cluster)
@@ -197,7 +197,7 @@ impl<S: Storage, F: WrappedFormat<S>> Qcow2<S, F> {
     }
 
     // Allocates a cluster for a table, writes it there, and then its L1 entry.
-    fn enter_l2(&mut self, index: usize, table: L2Table) -> Result<HostCluster, ImageError>
+    fn allocate_l2(&mut self, index: usize, table: L2Table) -> Result<HostCluster, ImageError>
         requires writable { IsTrue (is_writable self.old) }
         ensures step { ImageStep S.view self.old self.new }
         ensures fails { ImageFails S.view F.backing self.old self.new result IsMet }
@@ -255,8 +255,8 @@ impl<S: Storage, F: WrappedFormat<S>> Qcow2<S, F> {
             return Err(ImageError::Limit);
         }
         self.store_first()?;
-        self.place_l2(cluster, table)?;
-        self.name_l2(index, cluster)
+        self.write_l2_bytes(cluster, table)?;
+        self.link_l2(index, cluster)
     }
 
     // Writes what must be on the storage before an L1 entry names a new table: refblocks, and before them L2 tables if the order of
@@ -282,7 +282,7 @@ impl<S: Storage, F: WrappedFormat<S>> Qcow2<S, F> {
 
     // Writes a table's bytes to a cluster, and puts the table into the cache. A table with another cluster size than the image's, which
     // no cache holds, is refused 19 (metadata).
-    fn place_l2(&mut self, cluster: HostCluster, mut table: L2Table) -> Result<(), ImageError>
+    fn write_l2_bytes(&mut self, cluster: HostCluster, mut table: L2Table) -> Result<(), ImageError>
         ensures step { ImageStepWhere S.view (0 < cluster) self.old self.new }
         ensures fails { ImageFails S.view F.backing self.old self.new result IsMet }
         ensures keeps_rest { KeepsRest self.old self.new }
@@ -315,7 +315,7 @@ impl<S: Storage, F: WrappedFormat<S>> Qcow2<S, F> {
     }
 
     // Writes the L1 entry of the table in a cluster.
-    fn name_l2(&mut self, index: usize, cluster: HostCluster) -> Result<(), ImageError>
+    fn link_l2(&mut self, index: usize, cluster: HostCluster) -> Result<(), ImageError>
         requires within { index < entry_count self.old.l1_table }
         requires placed { IsSome self.old.l1_table.cluster }
         requires room { HasRoomIfPlaced self.old.l1_table.cluster_bits (8 * index) self.old.l1_table.cluster }

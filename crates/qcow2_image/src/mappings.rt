@@ -22,7 +22,7 @@ ghost use Rattle.qcow2_laws.specs.CrashInvariant.{Pending};
 ghost use Rattle.qcow2_alloc.specs.MetadataCaches.{IsEntryAt, l2_at};
 ghost use Rattle.qcow2_image.specs.Noted.{CommitFailsOnceWritten};
 ghost use Rattle.qcow2_alloc.specs.ImageFile.{known_in, FileInvariant, KeepsHeader};
-ghost use Rattle.qcow2_image.specs.L1Entries.{HasOwnTable, NeedsFarEntry};
+ghost use Rattle.qcow2_image.specs.L1Entries.{HasOwnTable, NeedsOverflowingL1Entry};
 ghost use Rattle.qcow2_image.specs.ListedClusters.{ListStays, ListsNoMore};
 ghost use Rattle.qcow2_image.specs.PinnedTables.{PreparesUnpinned};
 ghost use Rattle.qcow2_alloc.specs.ImageStorage.{storage_of};
@@ -172,7 +172,7 @@ impl<S: Storage, F: WrappedFormat<S>> Qcow2<S, F> {
             → IfErr result (IsMetTaking (HasPrepared out)
             (IsTaken self.old.file.header.fields (known_in S.view self.old.file) offset length out)
             (CopiesCompressed offset length overwrite self.old.file.header.fields (known_in S.view self.old.file))
-            (NeedsFarEntry self.old offset)) }
+            (NeedsOverflowingL1Entry self.old offset)) }
         ensures limit { refuses_to_prepare self.old offset length ≡ None → 0 < length → (out : List (Option Prepared))
             → (abstract_of S.view F.backing self.old out).is_sound
             → IfLimit result (IsLimited S.view F.backing [] (offset + 1) self.old out) }
@@ -289,7 +289,7 @@ impl<S: Storage, F: WrappedFormat<S>> Qcow2<S, F> {
         ensures some { IfOk result (λ p. 0 < length → HasBytesBehind self.new.file.header.fields p) }
         ensures pinned { HasOwnTable self.old offset → PreparesUnpinned self.old offset result }
     {
-        let table = self.table_for(offset)?;
+        let table = self.writable_l2_table(offset)?;
         match self.existing_host(table, offset, length)? {
             Some(host) => Ok(self.existing_at(offset, host, length)),
             None => self.prepare_in(table, offset, length, overwrite),

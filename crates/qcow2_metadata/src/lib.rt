@@ -12,7 +12,7 @@ mod limits;
 mod numbers;
 mod ref_block;
 mod ref_table;
-mod standing;
+mod raw_tables;
 mod table_bytes;
 
 pub use error::MetadataError;

@@ -30,7 +30,7 @@ use Rattle.qcow2_image.specs.Refusals.{IsMet, IsMetPreparing, passes, refuse_if,
 use Rattle.qcow2_session.specs.Causes.{HasNothingToDo, MeetsOnSound, IsRightlyRefused, IsUntouchedUnder, MayMeet, TellsMisuse, first_cause, MeetsClearing, MeetsTaking}
 use Rattle.qcow2_session.specs.Commands.{reply_of_clearing}
 use Rattle.qcow2_session.specs.CountedFaults.{refusal_in}
-use Rattle.qcow2_session.specs.Sessions.{HeedsMappings, IsOfReading, NeedsFarToWrite}
+use Rattle.qcow2_session.specs.Sessions.{HeedsMappings, IsOfReading, NeedsOverflowingToWrite}
 use Rattle.qcow2_disk.specs.Mappings.{given_of}
 use Rattle.qcow2_image.specs.Limits.{IsLimited}
 use Rattle.qcow2_session.specs.declared.session.Command.{Command}
@@ -168,7 +168,7 @@ module _ {S F : Type 0} (view : S → StorageView) (backing : F → BackingView)
 
   pub write_refused_for : (offset : ℕ) (bytes : Vec ℕ Global) (e : ImageError) (n : ℕ) → IfSome (refuses_to_prepare old offset (length bytes.items)) (λ x. (◌≡◌ {A = Result (Unit {0}) (ImageError × ℕ)} (Err (e, n)) (Err (x, 0))) × (new ≡ old))
       → (refuses_to_prepare old offset (length bytes.items) ≡ None → IsMetPreparing e × (0 < length bytes.items))
-      → (refuses_to_prepare old offset (length bytes.items) ≡ None → (abstract_of view backing old before).is_sound → IsMetTaking (HasPrepared before) (IsUnderMappingIn old.file.header.fields offset (offset + length bytes.items) before) (CopiesCompressed offset (length bytes.items) true new.file.header.fields (known_in view new.file)) (NeedsFarToWrite view backing old offset bytes.items n) e)
+      → (refuses_to_prepare old offset (length bytes.items) ≡ None → (abstract_of view backing old before).is_sound → IsMetTaking (HasPrepared before) (IsUnderMappingIn old.file.header.fields offset (offset + length bytes.items) before) (CopiesCompressed offset (length bytes.items) true new.file.header.fields (known_in view new.file)) (NeedsOverflowingToWrite view backing old offset bytes.items n) e)
       → (refuses_to_prepare old offset (length bytes.items) ≡ None → (abstract_of view backing old before).is_sound → e ≡ I.TablePrepared → IsUnderMappingIn old.file.header.fields offset (offset + length bytes.items) before)
       → (refuses_to_prepare old offset (length bytes.items) ≡ None → (abstract_of view backing old before).is_sound → e ≡ I.Limit → IsLimited view backing (given_of offset bytes.items ∷ []) (offset + length bytes.items) old before)
       → (refuses_to_prepare old offset (length bytes.items) ≡ None → (abstract_of view backing old before).is_sound → HeedsMappings view backing old before offset bytes.items (Err (e, n)))

@@ -18,7 +18,7 @@ use Rattle.qcow2_image.specs.Found.{IsFoundWhole, further_by}
 use Rattle.qcow2_image.specs.Image.{is_failed, is_writable, size_of}
 use Rattle.qcow2_image.specs.ImageInvariant.{abstract_of}
 use Rattle.qcow2_image.specs.Invalidated.{IsOfPrepared, IsStillInUse}
-use Rattle.qcow2_image.specs.L1Entries.{NeedsFarEntry}
+use Rattle.qcow2_image.specs.L1Entries.{NeedsOverflowingL1Entry}
 use Rattle.qcow2_image.specs.MetAlone.{CopiesCompressed, IsCacheHeld, IsMetLooking, IsMetMapped, IsMetPutting, IsMetReadingRange, IsMetSpecial, IsMetGrowing, IsMetTaking}
 use Rattle.qcow2_image.specs.Preallocation.{IsUnderMappingIn}
 use Rattle.qcow2_image.specs.Prepared.{length_of, table_of}
@@ -33,7 +33,7 @@ use Rattle.qcow2_image.specs.declared.prepared.Prepared.{Prepared}
 use Rattle.qcow2_session.specs.CountedFaults.{refusal_in}
 use Rattle.qcow2_disk.specs.Mappings.{given_of}
 use Rattle.qcow2_image.specs.Limits.{IsLimited}
-use Rattle.qcow2_session.specs.Sessions.{HeedsMappings, NeedsFarToWrite}
+use Rattle.qcow2_session.specs.Sessions.{HeedsMappings, NeedsOverflowingToWrite}
 use Rattle.qcow2_session.specs.declared.session.Command.{Command}
 use Rattle.qcow2_session.specs.declared.session.Reply.{Reply}
 
@@ -110,14 +110,14 @@ MayMeet command e = IsMet e
 module _ {S F : Type 0} (view : S → StorageView) (old new : Qcow2 S F) (before : List (Option Prepared)) where
   -- Why clearing a range of a sound image is refused: a fault; a limit; 20; 8, if a mapping is pinned; or 9, if one is pinned in the L2 table of the first offset.
   abbrev pub MeetsClearing : (offset n : ℕ) → ImageError → Type 0
-  MeetsClearing offset n e = IsMetTaking (HasPrepared before) (IsUnderMapping old.file.header.fields (from_in old offset n) before) ⊥ (NeedsFarEntry old (from_in old offset n)) e
+  MeetsClearing offset n e = IsMetTaking (HasPrepared before) (IsUnderMapping old.file.header.fields (from_in old offset n) before) ⊥ (NeedsOverflowingL1Entry old (from_in old offset n)) e
 
   -- Why a command that allocates clusters of a sound image is refused during the work. For a write, a compressed cluster is one at the moment of the refusal.
   abbrev pub MeetsTaking : Command → ImageError → Type 0
   MeetsTaking (C.Write offset bytes) e =
       IsMetTaking (HasPrepared before) (IsUnderMappingIn old.file.header.fields offset (offset + length bytes.items) before) (CopiesCompressed offset (length bytes.items) true new.file.header.fields (known_in view new.file)) (Unit {0}) e
   MeetsTaking (C.PrepareDataMapping slot offset n overwrite) e =
-      IsMetTaking (HasPrepared before) (IsTaken old.file.header.fields (known_in view old.file) offset n before) (CopiesCompressed offset n overwrite old.file.header.fields (known_in view old.file)) (NeedsFarEntry old offset) e
+      IsMetTaking (HasPrepared before) (IsTaken old.file.header.fields (known_in view old.file) offset n before) (CopiesCompressed offset n overwrite old.file.header.fields (known_in view old.file)) (NeedsOverflowingL1Entry old offset) e
   MeetsTaking (C.EnsureZeroMapping offset n) e = MeetsClearing offset n e
   MeetsTaking (C.DiscardToZero offset n) e = MeetsClearing offset n e
   MeetsTaking (C.DiscardToAny offset n) e = MeetsClearing offset n e
@@ -178,7 +178,7 @@ module _ {S F : Type 0} (view : S → StorageView) (backing : F → BackingView)
 
   -- A write is refused 13 only if it passed a limit, and 20 only if the rest of its range, behind the bytes that were written, has that cause. Each of its parts respects the prepared mappings.
   abbrev pub StopsRightly : (offset : ℕ) → List ℕ → Reply → Type 0
-  StopsRightly offset bytes (R.WriteRefused e n) = (e ≡ I.Limit → IsLimited view backing (given_of offset bytes ∷ []) (offset + length bytes) old before) × HeedsMappings view backing old before offset bytes (Err (e, n)) × (e ≡ I.Overflow → NeedsFarToWrite view backing old offset bytes n)
+  StopsRightly offset bytes (R.WriteRefused e n) = (e ≡ I.Limit → IsLimited view backing (given_of offset bytes ∷ []) (offset + length bytes) old before) × HeedsMappings view backing old before offset bytes (Err (e, n)) × (e ≡ I.Overflow → NeedsOverflowingToWrite view backing old offset bytes n)
   StopsRightly offset bytes R.Done = HeedsMappings view backing old before offset bytes (Ok tt)
   StopsRightly offset bytes reply = Unit {0}
 

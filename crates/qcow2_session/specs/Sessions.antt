@@ -24,7 +24,7 @@ use Rattle.qcow2_image.specs.Calls.{AnswersCall, Prepares, refusal_of}
 use Rattle.qcow2_image.specs.CallParts.{AreCopied}
 use Rattle.qcow2_image.specs.Found.{l1_index_of}
 use Rattle.qcow2_image.specs.Image.{size_of}
-use Rattle.qcow2_image.specs.L1Entries.{NeedsFarEntry}
+use Rattle.qcow2_image.specs.L1Entries.{NeedsOverflowingL1Entry}
 use Rattle.qcow2_image.specs.Prepared.{length_of, offset_of}
 use Rattle.qcow2_image.specs.Preparing.{IsTaken}
 use Rattle.qcow2_image.specs.Refusals.{passes, IsMet}
@@ -124,8 +124,8 @@ module _ {S F : Type 0} (view : S → StorageView) (backing : F → BackingView)
     pub refused : cause (offset + done) (length bytes - done) before
 
   -- Why a write is refused 20: an L1 entry past 64 bits would have to be written for the first byte of the rest.
-  abbrev pub NeedsFarToWrite : (offset : ℕ) → List ℕ → (done : ℕ) → Type 0
-  NeedsFarToWrite = StopsFor (λ at n before. NeedsFarEntry before at)
+  abbrev pub NeedsOverflowingToWrite : (offset : ℕ) → List ℕ → (done : ℕ) → Type 0
+  NeedsOverflowingToWrite = StopsFor (λ at n before. NeedsOverflowingL1Entry before at)
 
   -- Why a write is refused 9: a mapping is pinned in the L2 table of the rest, which cannot all be written in place.
   abbrev pub IsTakenToWrite : List (Option Prepared) → (offset : ℕ) → List ℕ → (done : ℕ) → Type 0

@@ -29,7 +29,7 @@ ghost use Rattle.qcow2_session.specs.Causes.{IsRightlyRefused};
 ghost use Rattle.qcow2_session.specs.CountedFaults.{CommandCounts, RunCounts, refusal_in};
 ghost use Rattle.qcow2_session.specs.Marks.{MarksBy, MarksInParts};
 ghost use Rattle.qcow2_session.specs.Sessions.{IsRightlyBeyond, IsOfReading, IsOfWriting};
-ghost use Rattle.qcow2_session.specs.Sessions.{LeavesCopied, NeedsFarToWrite, EndsCluster, Reads, ReadsInto};
+ghost use Rattle.qcow2_session.specs.Sessions.{LeavesCopied, NeedsOverflowingToWrite, EndsCluster, Reads, ReadsInto};
 ghost use Rattle.qcow2_session.specs.Sessions.{ReadsFirst, Writes, WritesFirst, CommandSteps, Finds, ReleasesMappings};
 ghost use Rattle.qcow2_session.specs.Sessions.{RunsThrough, RunRefinesDisk, LookupsFindContents, mappings_in};
 ghost use Rattle.qcow2_session.specs.Sessions.{HeedsMappings};
@@ -307,7 +307,7 @@ pub fn write<S: Storage, F: WrappedFormat<S>>(
         → IfErr result (λ (e, n). IsMetTaking (HasPrepared out)
         (IsUnderMappingIn image.old.file.header.fields offset (offset + length bytes.now) out)
         (CopiesCompressed offset (length bytes.now) true image.new.file.header.fields (known_in S.view image.new.file))
-        (NeedsFarToWrite S.view F.backing image.old offset bytes.now n) e) }
+        (NeedsOverflowingToWrite S.view F.backing image.old offset bytes.now n) e) }
     ensures taken { refuses_to_prepare image.old offset (length bytes.now) ≡ None → (out : List (Option Prepared))
         → (abstract_of S.view F.backing image.old out).is_sound
         → IfErr result (λ (e, n). e ≡ TablePrepared

@@ -28,7 +28,7 @@ use Rattle.qcow2_image.specs.CallParts.{UnseenCall}
 use Rattle.qcow2_image.specs.Clearing.{IsUnderMapping}
 use Rattle.qcow2_image.specs.Found.{l1_index_of}
 use Rattle.qcow2_image.specs.ImageInvariant.{ImageInvariant}
-use Rattle.qcow2_image.specs.L1Entries.{NeedsFarEntry, ReachesOffset, IsPlacedNear}
+use Rattle.qcow2_image.specs.L1Entries.{NeedsOverflowingL1Entry, ReachesOffset, IsPlacedNear}
 use Rattle.qcow2_image.specs.MetAlone.{copied_end, CopiesCompressed, HasCompressedIn, HasNearEntries, IsMetGrowing, IsMetTaking, KeepsL1Place}
 use Rattle.qcow2_image.specs.MovedTables.{MovesTables}
 use Rattle.qcow2_image.specs.Preallocation.{FillsPart}
@@ -142,7 +142,7 @@ module _ {S F : Type 0} (view : S → StorageView) (backing : F → BackingView)
         omega (arith, rising, reaches, count)
 
     -- and none past 64 bits would have to be written for it
-    pub never_far : NeedsFarEntry image from → ⊥
+    pub never_far : NeedsOverflowingL1Entry image from → ⊥
     never_far needs =
         let within = entry_reached in
         let count = sound.l1_table.count in
@@ -151,7 +151,7 @@ module _ {S F : Type 0} (view : S → StorageView) (backing : F → BackingView)
         needs.0.far (room_near h image.l1_table.cluster_bits image.l1_table.cluster (l1_index_of h from) sound.l1_table.bits (sound.l1_table.cluster (omega (arith, inside))) inside near.near)
 
     -- what preparing the first bytes of a range meets
-    pub met_piece : (n : ℕ) → from + n ≤ to → (overwrite : Bool) (e : ImageError) → IsMetTaking (HasPrepared out) (IsTaken image.file.header.fields (known_in view image.file) from n out) (CopiesCompressed from n overwrite image.file.header.fields (known_in view image.file)) (NeedsFarEntry image from) e
+    pub met_piece : (n : ℕ) → from + n ≤ to → (overwrite : Bool) (e : ImageError) → IsMetTaking (HasPrepared out) (IsTaken image.file.header.fields (known_in view image.file) from n out) (CopiesCompressed from n overwrite image.file.header.fields (known_in view image.file)) (NeedsOverflowingL1Entry image from) e
         → IsMetTaking (HasPrepared out) (HasPrepared out) (HasCompressedIn from to image.file.header.fields (known_in view image.file)) ⊥ e
     met_piece n within overwrite e met =
         let h = image.file.header.fields in

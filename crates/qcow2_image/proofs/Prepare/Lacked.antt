@@ -33,7 +33,7 @@ use Rattle.qcow2_image.specs.declared.prepared.Prepared.{Prepared}
 use Rattle.qcow2_image.specs.ImageInvariant.{ImageInvariant, abstract_of, image_abstraction, pending_in}
 use Rattle.qcow2_image.specs.LongerTables.{IsLongerL1, clusters_of}
 use Rattle.qcow2_image.specs.Found.{l1_index_of}
-use Rattle.qcow2_image.specs.L1Entries.{HasFarEntry, EndsBefore, HasNearEntry, IsPlacedNear}
+use Rattle.qcow2_image.specs.L1Entries.{L1EntryOverflows, EndsBefore, HasNearEntry, IsPlacedNear}
 use Rattle.qcow2_image.specs.Refusals.{IsFaultOrLimit, IsUnlimited}
 use Rattle.qcow2_image.proofs.Call.Unlimited.{fault_unlimited}
 use Rattle.qcow2_image.proofs.Free.{free_places}
@@ -255,7 +255,7 @@ near_in t index placed within =
     subst (λ (o : Option ℕ). HasRoomIfPlaced t.cluster_bits (8 * index) o) (sym placed.is) (omega (arith, few, near, within))
 
 module _ {S F : Type 0} where
-  pub near_within : (image : Qcow2 S F) (offset : ℕ) → l1_index_of image.file.header.fields offset < entry_count image.l1_table → (HasFarEntry image offset → ⊥) → HasNearEntry image (l1_index_of image.file.header.fields offset)
+  pub near_within : (image : Qcow2 S F) (offset : ℕ) → l1_index_of image.file.header.fields offset < entry_count image.l1_table → (L1EntryOverflows image offset → ⊥) → HasNearEntry image (l1_index_of image.file.header.fields offset)
   near_within image offset within not = record { within = within; room = room_or_not image.l1_table.cluster_bits (8 * l1_index_of image.file.header.fields offset) image.l1_table.cluster (λ far. not (record { within = within; far = far })) }
 
   pub near_longer : (image : Qcow2 S F) (index : ℕ) → IsPlacedNear image.l1_table → index < entry_count image.l1_table → HasNearEntry image index
@@ -264,7 +264,7 @@ module _ {S F : Type 0} where
 -- ---- once the L1 table was made longer
 module _ {S F : Type 0} where
   -- the entry is near, whether the table stayed or not
-  pub near_reached : (old long : Qcow2 S F) (offset : ℕ) → old.l1_table.cluster_bits ≡ old.file.header.fields.cluster_bits → (HasFarEntry old offset → ⊥) → (l1_index_of old.file.header.fields offset < entry_count old.l1_table → long ≡ old)
+  pub near_reached : (old long : Qcow2 S F) (offset : ℕ) → old.l1_table.cluster_bits ≡ old.file.header.fields.cluster_bits → (L1EntryOverflows old offset → ⊥) → (l1_index_of old.file.header.fields offset < entry_count old.l1_table → long ≡ old)
       → (EndsBefore offset old → old.l1_table.cluster_bits ≡ old.file.header.fields.cluster_bits → IsPlacedNear long.l1_table) → entry_count long.l1_table ≡ max (entry_count old.l1_table) (l1_index_of old.file.header.fields offset + 1)
       → l1_index_of long.file.header.fields offset ≡ l1_index_of old.file.header.fields offset → HasNearEntry long (l1_index_of long.file.header.fields offset)
   near_reached old long offset bits not none placed many index = elim (cases_lt (l1_index_of old.file.header.fields offset) (entry_count old.l1_table)) [

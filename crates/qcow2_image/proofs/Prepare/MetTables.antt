@@ -25,7 +25,7 @@ use Rattle.qcow2_image.specs.declared.image.Qcow2.{Qcow2}
 use Rattle.qcow2_image.specs.declared.prepared.Prepared.{Prepared}
 use Rattle.qcow2_image.specs.Found.{l1_index_of}
 use Rattle.qcow2_image.specs.ImageInvariant.{ImageInvariant, pending_in}
-use Rattle.qcow2_image.specs.L1Entries.{NeedsFarEntry}
+use Rattle.qcow2_image.specs.L1Entries.{NeedsOverflowingL1Entry}
 use Rattle.qcow2_image.specs.MetAlone.{IsMetAlone, IsMetLooking}
 use Rattle.qcow2_image.specs.NewTables.{IsStored}
 use Rattle.qcow2_image.specs.UnseenSteps.{HoldsTable}
@@ -80,7 +80,7 @@ module _ {S F : Type 0} (view : S → StorageView) (backing : F → BackingView)
       (subst (λ k. k % entries_per_cluster h + n ≤ entries_per_cluster h) (sym at) (subst (λ k. from / cluster_size h % entries_per_cluster h + k ≤ entries_per_cluster h) (sym many) (fits_table view backing out old mid how from to found whole some))) held.new_data
 
 -- a call that has begun needs an entry past 64 bits only where that was so before
-pub far_before : {S F : Type 0} (old begun : Qcow2 S F) (offset : ℕ) → begun ≡ record old { file = record old.file { storage = begun.file.storage; caches = begun.file.caches } } → NeedsFarEntry begun offset → NeedsFarEntry old offset
+pub far_before : {S F : Type 0} (old begun : Qcow2 S F) (offset : ℕ) → begun ≡ record old { file = record old.file { storage = begun.file.storage; caches = begun.file.caches } } → NeedsOverflowingL1Entry begun offset → NeedsOverflowingL1Entry old offset
 far_before {S} {F} old begun offset rest needs =
-    let is = subst (λ (i : Qcow2 S F). NeedsFarEntry i offset) rest needs in
+    let is = subst (λ (i : Qcow2 S F). NeedsOverflowingL1Entry i offset) rest needs in
     (record { within = is.0.within; far = is.0.far }, is.1)

@@ -15,7 +15,7 @@ use Rattle.qcow2_session.proofs.Writing.{ends_on, write_refused}
 use Rattle.qcow2_session.proofs.Heeding.{heeded_first, heeded_more}
 use Rattle.qcow2_session.proofs.WrittenParts.{first_given, never_first, no_more_then, stops_behind, stops_first, writes_on}
 use Rattle.qcow2_session.specs.Sessions.{LeavesCopied, Writes, cluster_size_of}
-use Rattle.qcow2_image.specs.L1Entries.{NeedsFarEntry}
+use Rattle.qcow2_image.specs.L1Entries.{NeedsOverflowingL1Entry}
 use Rattle.qcow2_image.proofs.Prepare.Lacked.{limited_from, limited_giving}
 use Rattle.qcow2_image.specs.Preparing.{IsTaken}
 use Rattle.qcow2_session.proofs.Beyond.{part_refused}
@@ -157,7 +157,7 @@ returns-clause-copied g c = λ some out sound.
 
 pub returns-in-Err-clause-met : goal.returns-in-Err-clause-met
 returns-in-Err-clause-met g c = λ none out sound.
-    taking_kept (λ is. is) (λ far. stops_first g.S.Storage.view g.F.BackingDisk.backing c.args.image.now (λ at n before. NeedsFarEntry before at) c.args.offset c.args.bytes.now far) c.in-Err.refusal (returns-in-Err-clause-taken g c none out sound) ((c.in-Err.ensures.sound none out sound).met)
+    taking_kept (λ is. is) (λ far. stops_first g.S.Storage.view g.F.BackingDisk.backing c.args.image.now (λ at n before. NeedsOverflowingL1Entry before at) c.args.offset c.args.bytes.now far) c.in-Err.refusal (returns-in-Err-clause-taken g c none out sound) ((c.in-Err.ensures.sound none out sound).met)
 
 pub returns-in_default-clause-met : goal.returns-in_default-clause-met
 returns-in_default-clause-met g c = λ none out sound. absurd (c.in_default.ensures (omega (arith, c.loop-done.invariant.end, c.loop-done-test.true)))
@@ -183,7 +183,7 @@ returns-in-Err-write_some-clause-met g c =
     let same : cluster_size_of new ≡ cluster_size_of old = ap (λ (x : Setting). x.cluster_size) ((part.acts.works still).setting ∙ (so_far.acts.works sound).setting) in
     let begins : c.in-Some.at % cluster_size_of new ≡ 0 = ap (λ size. c.in-Some.at % size) same ∙ ap (λ o. o % cluster_size_of old) c.in-Some.ensures.1 ∙ c.loop-done.invariant.ends out sound c.loop-done-test.true in
     taking_kept (compressed_in_part new.file.header.fields (known_in view new.file) c.args.offset n done c.in-Some.at rest c.in-Some.ensures.1 long begins)
-    (λ far. stops_behind view g.F.BackingDisk.backing old (λ at k before. NeedsFarEntry before at) c.args.offset c.args.bytes.now done c.in-Some.at mid c.in-Some.ensures.1 c.loop-done.invariant.written (never_first c.loop-done.done (c.loop-done.invariant.some_done some)) far) c.in-Err-write_some.refusal (returns-in-Err-write_some-clause-taken g c none out sound)
+    (λ far. stops_behind view g.F.BackingDisk.backing old (λ at k before. NeedsOverflowingL1Entry before at) c.args.offset c.args.bytes.now done c.in-Some.at mid c.in-Some.ensures.1 c.loop-done.invariant.written (never_first c.loop-done.done (c.loop-done.invariant.some_done some)) far) c.in-Err-write_some.refusal (returns-in-Err-write_some-clause-taken g c none out sound)
     (((rw (take_rest c.args.bytes.now done) at c.in-Err-write_some.ensures.sound)
     (part_prepares old mid c.loop-done.invariant.image c.args.offset n c.in-Some.at rest from upto still.works some none) out still).met)
 

@@ -13,7 +13,7 @@ use Rattle.qcow2_image.specs.Clearing.{Clears, ClearsOrRefuses, IsUnderMapping, 
 use Rattle.qcow2_image.specs.declared.image.Qcow2.{Qcow2}
 use Rattle.qcow2_image.specs.Image.{is_failed, has_noted_change}
 use Rattle.qcow2_image.specs.ImageInvariant.{ImageInvariant, pending_in}
-use Rattle.qcow2_image.specs.L1Entries.{NeedsFarEntry, HasOwnTable}
+use Rattle.qcow2_image.specs.L1Entries.{NeedsOverflowingL1Entry, HasOwnTable}
 use Rattle.qcow2_image.specs.Refusals.{IsMetPreparing, MarksFailed, FreesRefused}
 use Rattle.qcow2_image.proofs.Call.Marked.{refused_since, MayMarkBy, marks_memory, may_mark, may_mark_refused}
 use Rattle.qcow2_image.proofs.Call.CallOutcomes.{is_fault, outcome}
@@ -113,8 +113,8 @@ returns-in_err-mark_failure-clause-fails g c =
             let call = b.seen out sound in
             let h = begun.file.header.fields in
             taking_as (λ held. held) (under_before old.file.header.fields h first out call.header) (λ no. no) (far_before old begun first c.begin.ensures.rest) e
-            (subst (λ k. IsMetTaking (HasPrepared out) (IsUnderMapping h k out) ⊥ (NeedsFarEntry begun k) e) b.first_is
-            (subst (λ (r : Result _ _). IfErr r (IsMetTaking (HasPrepared out) (IsUnderMapping h c.in_ok-from.from out) ⊥ (NeedsFarEntry begun c.in_ok-from.from))) done (c.clear_between-cleared.ensures.met out call.sound (b.whole out call))));
+            (subst (λ k. IsMetTaking (HasPrepared out) (IsUnderMapping h k out) ⊥ (NeedsOverflowingL1Entry begun k) e) b.first_is
+            (subst (λ (r : Result _ _). IfErr r (IsMetTaking (HasPrepared out) (IsUnderMapping h c.in_ok-from.from out) ⊥ (NeedsOverflowingL1Entry begun c.in_ok-from.from))) done (c.clear_between-cleared.ensures.met out call.sound (b.whole out call))));
       });
       pinned = λ some none own. heeds_begun old begun first bad c.begin.ensures.begun (subst (λ k. HeedsPins begun k bad) b.first_is
           (subst (λ (r : Result (Unit {0}) ImageError). HeedsPins begun c.in_ok-from.from r) done (c.clear_between-cleared.ensures.pinned (subst (λ k. HasOwnTable begun k) (sym b.first_is) (begun_own old begun first c.begin.ensures.begun own)))));

@@ -19,7 +19,7 @@ use Rattle.qcow2_image.proofs.Prepare.Pinned.{found_pins, met_untaken, prepared_
 use Rattle.qcow2_image.proofs.Prepare.Lacked.{hands_limit, other_limit, goes_step, limited_since, limits_as}
 use Rattle.qcow2_metadata.specs.Header.{cluster_size}
 use Rattle.qcow2_metadata.specs.declared.header.HeaderFields.{HeaderFields}
-use Rattle.qcow2_image.specs.L1Entries.{NeedsFarEntry}
+use Rattle.qcow2_image.specs.L1Entries.{NeedsOverflowingL1Entry}
 use Rattle.qcow2_image.specs.MetAlone.{CopiesCompressed, IsMetTaking}
 use Rattle.qcow2_image.proofs.Prepare.MetRanges.{place_kept, place_then}
 use Rattle.qcow2_image.proofs.Prepare.Unannounced.{compressed_as}
@@ -29,7 +29,7 @@ use Rattle.qcow2_image.proofs.Prepare.MetTaking.{if_err_both, taking_as, taking_
 
 pub returns-in-Some-clause-some : goal.returns-in-Some-clause-some
 returns-in-Some-clause-some g c = λ some.
-    let h = c.table_for.new.self.file.header.fields in
+    let h = c.writable_l2_table.new.self.file.header.fields in
     let behind = subst (λ (x : Option ℕ). IfSome x (λ host. cluster_size h ≤ host)) c.in-Some.is c.in_ok-host.ensures.behind in
     record { some = subst (λ n. 0 < n) (sym c.existing_at.ensures.length) some; behind = subst (λ n. cluster_size h ≤ n) (sym c.existing_at.ensures.offset) behind }
 
@@ -47,7 +47,7 @@ returns-in-Some-clause-pinned g c = λ own some. absurd (let no : false ≡ true
 
 pub returns-in-None-clause-pinned : goal.returns-in-None-clause-pinned
 returns-in-None-clause-pinned g c = λ own.
-    prepared_unpinned c.args.self.now c.args.offset _ c.prepare_in.result (found_pins c.args.self.now c.table_for.new.self c.args.offset c.in_ok-table.table (c.in_ok-table.ensures.own own)) c.prepare_in.ensures.taken c.prepare_in.ensures.unpinned
+    prepared_unpinned c.args.self.now c.args.offset _ c.prepare_in.result (found_pins c.args.self.now c.writable_l2_table.new.self c.args.offset c.in_ok-table.table (c.in_ok-table.ensures.own own)) c.prepare_in.ensures.taken c.prepare_in.ensures.unpinned
 
 pub returns-in-Some-clause-l1_place : goal.returns-in-Some-clause-l1_place
 returns-in-Some-clause-l1_place g c = c.in_ok-table.ensures.l1_place
@@ -55,22 +55,22 @@ returns-in-Some-clause-l1_place g c = c.in_ok-table.ensures.l1_place
 pub returns-in-None-clause-l1_place : goal.returns-in-None-clause-l1_place
 returns-in-None-clause-l1_place g c = λ within.
     on_ok _ c.prepare_in.result
-    (place_then c.args.self.now.file.header.fields c.table_for.new.self.file.header.fields c.prepare_in.new.self.file.header.fields (c.in_ok-table.ensures.l1_place within) (place_kept c.table_for.new.self.file.header c.prepare_in.new.self.file.header c.prepare_in.ensures.header))
+    (place_then c.args.self.now.file.header.fields c.writable_l2_table.new.self.file.header.fields c.prepare_in.new.self.file.header.fields (c.in_ok-table.ensures.l1_place within) (place_kept c.writable_l2_table.new.self.file.header c.prepare_in.new.self.file.header c.prepare_in.ensures.header))
 
 pub returns-in_err-table-clause-step : goal.returns-in_err-table-clause-step
-returns-in_err-table-clause-step g c = c.table_for.ensures.step
+returns-in_err-table-clause-step g c = c.writable_l2_table.ensures.step
 
 pub returns-in_err-host-clause-step : goal.returns-in_err-host-clause-step
-returns-in_err-host-clause-step g c = c.table_for.ensures.step
+returns-in_err-host-clause-step g c = c.writable_l2_table.ensures.step
 
 pub returns-in-Some-clause-step : goal.returns-in-Some-clause-step
-returns-in-Some-clause-step g c = c.table_for.ensures.step
+returns-in-Some-clause-step g c = c.writable_l2_table.ensures.step
 
 pub returns-in-None-clause-step : goal.returns-in-None-clause-step
 returns-in-None-clause-step g c = record {
   stays = search rules;
-  notes = notes_then c.table_for.ensures.step.notes c.prepare_in.ensures.step.notes;
-  header_cluster = behind_then c.table_for.ensures.step.header_cluster (c.prepare_in.ensures.step.header_cluster c.in_ok-table.ensures.elsewhere);
+  notes = notes_then c.writable_l2_table.ensures.step.notes c.prepare_in.ensures.step.notes;
+  header_cluster = behind_then c.writable_l2_table.ensures.step.header_cluster (c.prepare_in.ensures.step.header_cluster c.in_ok-table.ensures.elsewhere);
 }
 
 pub returns-in_err-table-clause-sound : goal.returns-in_err-table-clause-sound
@@ -82,22 +82,22 @@ returns-in_err-table-clause-sound g c = λ some out sound.
       taken = search rules;
       answers = search rules;
       freeing = search rules;
-      readies = handed_on (λ r. PreparesRange g.S.Storage.view g.F.BackingDisk.backing c.args.self.now c.table_for.new.self out c.args.offset c.args.length c.args.overwrite r) c.from_residual.result c.in_err-table.field-0.0 c.from_residual.ensures
+      readies = handed_on (λ r. PreparesRange g.S.Storage.view g.F.BackingDisk.backing c.args.self.now c.writable_l2_table.new.self out c.args.offset c.args.length c.args.overwrite r) c.from_residual.result c.in_err-table.field-0.0 c.from_residual.ensures
           ((c.in_err-table.ensures.sound out sound).finds);
-      met = hands_met (IsMetTaking (HasPrepared out) (IsTaken h known c.args.offset c.args.length out) (CopiesCompressed c.args.offset c.args.length c.args.overwrite h known) (NeedsFarEntry old c.args.offset)) c.from_residual.result c.in_err-table.field-0.0 c.from_residual.ensures
+      met = hands_met (IsMetTaking (HasPrepared out) (IsTaken h known c.args.offset c.args.length out) (CopiesCompressed c.args.offset c.args.length c.args.overwrite h known) (NeedsOverflowingL1Entry old c.args.offset)) c.from_residual.result c.in_err-table.field-0.0 c.from_residual.ensures
           (taking_as (λ held. held) (λ no. absurd no) (λ no. absurd no) (λ far. far) c.in_err-table.field-0.0 ((c.in_err-table.ensures.sound out sound).met));
       limit = hands_limit c.from_residual.result c.in_err-table.field-0.0 c.from_residual.ensures ((c.in_err-table.ensures.sound out sound).limit);
     }
 
 pub returns-in_err-host-clause-sound : goal.returns-in_err-host-clause-sound
 returns-in_err-host-clause-sound g c = λ some out sound.
-    let mid = c.table_for.new.self in
+    let mid = c.writable_l2_table.new.self in
     let found = (c.in_ok-table.ensures.sound out sound).finds in
     record {
       taken = search rules;
       answers = search rules;
       freeing = search rules;
-      readies = handed_on (λ r. PreparesRange g.S.Storage.view g.F.BackingDisk.backing c.args.self.now c.table_for.new.self out c.args.offset c.args.length c.args.overwrite r) c.from_residual-in_err-host.result c.in_err-host.field-0.0 c.from_residual-in_err-host.ensures
+      readies = handed_on (λ r. PreparesRange g.S.Storage.view g.F.BackingDisk.backing c.args.self.now c.writable_l2_table.new.self out c.args.offset c.args.length c.args.overwrite r) c.from_residual-in_err-host.result c.in_err-host.field-0.0 c.from_residual-in_err-host.ensures
           (inl ((c.in_ok-table.ensures.sound out sound).finds).0);
       met = absurd (let no : false ≡ true = c.in_err-host.ensures.reads (pending_in g.S.Storage.view g.F.BackingDisk.backing mid out) found.0.sound.file found.1.entry in cc);
       limit = hands_limit c.from_residual-in_err-host.result c.in_err-host.field-0.0 c.from_residual-in_err-host.ensures (other_limit _ c.in_err-host.field-0.0 c.in_err-host.ensures.limited);
@@ -108,7 +108,7 @@ returns-in-Some-clause-sound g c = λ some out sound.
     let view = g.S.Storage.view in
     let below = g.F.BackingDisk.backing in
     let found = (c.in_ok-table.ensures.sound out sound).finds in
-    let mid = c.table_for.new.self in
+    let mid = c.writable_l2_table.new.self in
     let h = mid.file.header.fields in
     let known = known_in view mid.file in
     let q = c.existing_at.result in
@@ -118,8 +118,8 @@ returns-in-Some-clause-sound g c = λ some out sound.
       met = search rules;
       taken = search rules;
       limit = search rules;
-      readies = λ k free. readied_after view below out c.args.self.now c.table_for.new.self c.table_for.new.self found.0 k c.args.offset c.args.length c.args.overwrite c.existing_at.result
-          (readied_existing view below out c.table_for.new.self found.0.sound c.existing_at.result c.args.offset c.args.length c.existing_at.ensures.existing k free c.args.overwrite);
+      readies = λ k free. readied_after view below out c.args.self.now c.writable_l2_table.new.self c.writable_l2_table.new.self found.0 k c.args.offset c.args.length c.args.overwrite c.existing_at.result
+          (readied_existing view below out c.writable_l2_table.new.self found.0.sound c.existing_at.result c.args.offset c.args.length c.existing_at.ensures.existing k free c.args.overwrite);
       answers = answered_before view c.args.self.now mid c.args.offset c.args.length found.0.header found.0.covers mid.file.header.fields known q (meaning view below mid q)
           (answered_existing view below mid known c.args.offset c.args.length q mid.number some c.existing_at.ensures.existing (subst (IsWritableAt h known c.args.offset c.args.length) (sym c.existing_at.ensures.offset) place));
       freeing = λ none. (c.in_ok-table.ensures.sound out sound).freeing;
@@ -131,7 +131,7 @@ returns-in-None-clause-sound g c = λ some out sound.
     let view = g.S.Storage.view in
     let old = c.args.self.now in
     let below = g.F.BackingDisk.backing in
-    let mid = c.table_for.new.self in
+    let mid = c.writable_l2_table.new.self in
     let new = c.prepare_in.new.self in
     let size : cluster_size mid.file.header.fields ≡ cluster_size old.file.header.fields = ap (λ (x : HeaderFields). cluster_size x) found.0.header in
     let p = pending_in view g.F.BackingDisk.backing mid out in
@@ -152,7 +152,7 @@ returns-in-None-clause-sound g c = λ some out sound.
     (answered_range view below mid new (None ∷ out) 0 c.args.offset c.args.length c.args.overwrite refl place c.prepare_in.result
     ((c.prepare_in.ensures.sound (None ∷ out) placed found.1).readies) (c.prepare_in.ensures.reaches (None ∷ out) 0 refl placed found.1)) in
     record {
-      readies = prepares_after g.S.Storage.view g.F.BackingDisk.backing out c.args.self.now c.table_for.new.self c.prepare_in.new.self found.0 c.args.offset c.args.length c.args.overwrite c.prepare_in.result
+      readies = prepares_after g.S.Storage.view g.F.BackingDisk.backing out c.args.self.now c.writable_l2_table.new.self c.prepare_in.new.self found.0 c.args.offset c.args.length c.args.overwrite c.prepare_in.result
           ((c.prepare_in.ensures.sound out found.0.sound found.1).readies);
       met = if_err_both
           (λ e. taking_kept (compressed_as old.file.header.fields mid.file.header.fields (known_in view old.file) (known_in view mid.file) c.args.offset c.args.length c.args.overwrite size found.0.covers) (λ no. absurd no) e)
@@ -161,5 +161,5 @@ returns-in-None-clause-sound g c = λ some out sound.
       answers = answers;
       freeing = if_ok c.prepare_in.result
           (λ q is none. let place = is.existing.0 none in absurd ((nowhere_before view old mid c.args.offset c.args.length found.0.header found.0.covers nowhere) place.0 place.1)) answers;
-      limit = limits_as c.prepare_in.result (limited_since (omega arith) (goes_step c.table_for.ensures.step) found.0) ((c.prepare_in.ensures.sound out found.0.sound found.1).limit c.in_ok-table.ensures.elsewhere);
+      limit = limits_as c.prepare_in.result (limited_since (omega arith) (goes_step c.writable_l2_table.ensures.step) found.0) ((c.prepare_in.ensures.sound out found.0.sound found.1).limit c.in_ok-table.ensures.elsewhere);
     }

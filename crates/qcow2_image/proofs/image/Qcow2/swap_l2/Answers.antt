@@ -15,7 +15,7 @@ returns-in-Ok-clause-sound g c = λ p out sound shared says.
     record {
       met = search rules;
       limit = search rules;
-      does = swapped_owns g.S.Storage.view g.F.BackingDisk.backing out p c.args.self.now sound c.args.index c.args.old shared c.enter_l2.new.self c.in-Ok.cluster c.in_ok-dropped.dropped c.hand_back.new.list (c.in_ok-dropped.ensures ∙ c.metadata-entry.ensures ∙ ap (metadata_entry c.args.old) c.new.ensures) c.hand_back.ensures
+      does = swapped_owns g.S.Storage.view g.F.BackingDisk.backing out p c.args.self.now sound c.args.index c.args.old shared c.allocate_l2.new.self c.in-Ok.cluster c.in_ok-dropped.dropped c.hand_back.new.list (c.in_ok-dropped.ensures ∙ c.metadata-entry.ensures ∙ ap (metadata_entry c.args.old) c.new.ensures) c.hand_back.ensures
           ((c.in-Ok.ensures.sound p out sound shared.may says).does);
     }
 
@@ -34,7 +34,7 @@ pub returns-in_err-dropped-clause-step : goal.returns-in_err-dropped-clause-step
 returns-in_err-dropped-clause-step g c = step_none
 
 pub returns-in-Ok-clause-step : goal.returns-in-Ok-clause-step
-returns-in-Ok-clause-step g c = record { stays = search rules; notes = c.enter_l2.ensures.step.notes; header_cluster = c.enter_l2.ensures.step.header_cluster }
+returns-in-Ok-clause-step g c = record { stays = search rules; notes = c.allocate_l2.ensures.step.notes; header_cluster = c.allocate_l2.ensures.step.header_cluster }
 
 pub returns-in-Err-clause-step : goal.returns-in-Err-clause-step
-returns-in-Err-clause-step g c = c.enter_l2.ensures.step
+returns-in-Err-clause-step g c = c.allocate_l2.ensures.step

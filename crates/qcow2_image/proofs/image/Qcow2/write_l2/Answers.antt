@@ -23,8 +23,8 @@ returns-in_err-store_first-clause-writes g c = λ p out sound may noted says.
     c.from_residual.result c.in_err-store_first.field-0.0 c.from_residual.ensures
     (inl (c.in_err-store_first.ensures.stores (with_new_tables p (one_at c.args.cluster)) out sound))
 
-pub returns-in_err-place_l2-clause-writes : goal.returns-in_err-place_l2-clause-writes
-returns-in_err-place_l2-clause-writes g c = λ p out sound may noted says.
+pub returns-in_err-write_l2_bytes-clause-writes : goal.returns-in_err-write_l2_bytes-clause-writes
+returns-in_err-write_l2_bytes-clause-writes g c = λ p out sound may noted says.
     let view = g.S.Storage.view in
     let below = g.F.BackingDisk.backing in
     let old = c.args.self.now in
@@ -33,9 +33,9 @@ returns-in_err-place_l2-clause-writes g c = λ p out sound may noted says.
     let own = one_here c.args.cluster in
     let stored = c.in_ok-store_first.ensures.stores q out sound in
     let format = (says_still view below out q q old mid c.args.index c.args.table stored.0 says).format in
-    handed_on (WritesNew view below p old c.place_l2.new.self out c.args.index c.args.cluster)
-    c.from_residual-in_err-place_l2.result c.in_err-place_l2.field-0.0 c.from_residual-in_err-place_l2.ensures
-    (inl (keeps_then view below out old mid c.place_l2.new.self q q q (λ k h. h) stored.0 (c.in_err-place_l2.ensures.places q out stored.0.sound (omega (arith, own)) format stored.1)))
+    handed_on (WritesNew view below p old c.write_l2_bytes.new.self out c.args.index c.args.cluster)
+    c.from_residual-in_err-write_l2_bytes.result c.in_err-write_l2_bytes.field-0.0 c.from_residual-in_err-write_l2_bytes.ensures
+    (inl (keeps_then view below out old mid c.write_l2_bytes.new.self q q q (λ k h. h) stored.0 (c.in_err-write_l2_bytes.ensures.places q out stored.0.sound (omega (arith, own)) format stored.1)))
 
 pub returns-clause-writes : goal.returns-clause-writes
 returns-clause-writes g c = λ p out sound may noted says.
@@ -43,39 +43,39 @@ returns-clause-writes g c = λ p out sound may noted says.
     let below = g.F.BackingDisk.backing in
     let old = c.args.self.now in
     let first = c.store_first.new.self in
-    let mid = c.place_l2.new.self in
+    let mid = c.write_l2_bytes.new.self in
     let q = with_new_tables p (one_at c.args.cluster) in
     let own = one_here c.args.cluster in
-    let same = ap (λ (x : Qcow2 _ _). x.l1_table) c.place_l2.ensures.rest ∙ ap (λ (x : Qcow2 _ _). x.l1_table) c.store_first.ensures.rest in
+    let same = ap (λ (x : Qcow2 _ _). x.l1_table) c.write_l2_bytes.ensures.rest ∙ ap (λ (x : Qcow2 _ _). x.l1_table) c.store_first.ensures.rest in
     let stored = c.in_ok-store_first.ensures.stores q out sound in
     let format = (says_still view below out q q old first c.args.index c.args.table stored.0 says).format in
-    let placed = c.in_ok-place_l2.ensures.places q out stored.0.sound (omega (arith, own)) format stored.1 in
+    let placed = c.in_ok-write_l2_bytes.ensures.places q out stored.0.sound (omega (arith, own)) format stored.1 in
     let kept = keeps_then view below out old first mid q q q (λ k h. h) stored.0 placed.0 in
-    written_so view below out p old mid c.name_l2.new.self c.args.index c.args.cluster c.name_l2.result sound same kept
-    (c.name_l2.ensures.names p out c.args.table kept.sound (may_still view below out q q old mid sound kept.sound same c.args.index may) (c.in_ok-place_l2.ensures.noted (c.in_ok-store_first.ensures.noted noted))
-    (says_still view below out q q old mid c.args.index c.args.table kept says) c.in_ok-place_l2.ensures.long placed.1)
+    written_so view below out p old mid c.link_l2.new.self c.args.index c.args.cluster c.link_l2.result sound same kept
+    (c.link_l2.ensures.names p out c.args.table kept.sound (may_still view below out q q old mid sound kept.sound same c.args.index may) (c.in_ok-write_l2_bytes.ensures.noted (c.in_ok-store_first.ensures.noted noted))
+    (says_still view below out q q old mid c.args.index c.args.table kept says) c.in_ok-write_l2_bytes.ensures.long placed.1)
 
 pub returns-in_err-store_first-clause-allocator : goal.returns-in_err-store_first-clause-allocator
 returns-in_err-store_first-clause-allocator g c = ap (λ (i : Qcow2 _ _). i.allocator) c.store_first.ensures.rest
 
-pub returns-in_err-place_l2-clause-allocator : goal.returns-in_err-place_l2-clause-allocator
-returns-in_err-place_l2-clause-allocator g c = ap (λ (i : Qcow2 _ _). i.allocator) c.place_l2.ensures.rest ∙ ap (λ (i : Qcow2 _ _). i.allocator) c.store_first.ensures.rest
+pub returns-in_err-write_l2_bytes-clause-allocator : goal.returns-in_err-write_l2_bytes-clause-allocator
+returns-in_err-write_l2_bytes-clause-allocator g c = ap (λ (i : Qcow2 _ _). i.allocator) c.write_l2_bytes.ensures.rest ∙ ap (λ (i : Qcow2 _ _). i.allocator) c.store_first.ensures.rest
 
 pub returns-clause-allocator : goal.returns-clause-allocator
-returns-clause-allocator g c = c.name_l2.ensures.allocator ∙ ap (λ (i : Qcow2 _ _). i.allocator) c.place_l2.ensures.rest ∙ ap (λ (i : Qcow2 _ _). i.allocator) c.store_first.ensures.rest
+returns-clause-allocator g c = c.link_l2.ensures.allocator ∙ ap (λ (i : Qcow2 _ _). i.allocator) c.write_l2_bytes.ensures.rest ∙ ap (λ (i : Qcow2 _ _). i.allocator) c.store_first.ensures.rest
 
 pub returns-in_err-store_first-clause-met : goal.returns-in_err-store_first-clause-met
 returns-in_err-store_first-clause-met g c = λ p out sound says near host.
     hands_met (IsMetLooking (HasPrepared out)) c.from_residual.result c.in_err-store_first.field-0.0 c.from_residual.ensures (inl (c.in_err-store_first.ensures.fault (with_new_tables p (one_at c.args.cluster)) out sound))
 
-pub returns-in_err-place_l2-clause-met : goal.returns-in_err-place_l2-clause-met
-returns-in_err-place_l2-clause-met g c = λ p out sound says near host.
+pub returns-in_err-write_l2_bytes-clause-met : goal.returns-in_err-write_l2_bytes-clause-met
+returns-in_err-write_l2_bytes-clause-met g c = λ p out sound says near host.
     let q = with_new_tables p (one_at c.args.cluster) in
     let own = one_here c.args.cluster in
     let stored = c.in_ok-store_first.ensures.stores q out sound in
     let format = (says_still g.S.Storage.view g.F.BackingDisk.backing out q q c.args.self.now c.store_first.new.self c.args.index c.args.table stored.0 says).format in
-    hands_met (IsMetLooking (HasPrepared out)) c.from_residual-in_err-place_l2.result c.in_err-place_l2.field-0.0 c.from_residual-in_err-place_l2.ensures
-    (c.in_err-place_l2.ensures.met q out stored.0.sound (omega (arith, own)) format stored.1 (subst (λ n. IsHostCluster n c.args.cluster) (sym says.format.bits) host))
+    hands_met (IsMetLooking (HasPrepared out)) c.from_residual-in_err-write_l2_bytes.result c.in_err-write_l2_bytes.field-0.0 c.from_residual-in_err-write_l2_bytes.ensures
+    (c.in_err-write_l2_bytes.ensures.met q out stored.0.sound (omega (arith, own)) format stored.1 (subst (λ n. IsHostCluster n c.args.cluster) (sym says.format.bits) host))
 
 pub returns-then-not-can_enter-clause-met : goal.returns-then-not-can_enter-clause-met
 returns-then-not-can_enter-clause-met g c = λ p out sound says near host.
@@ -84,7 +84,7 @@ returns-then-not-can_enter-clause-met g c = λ p out sound says near host.
     c.if-not-can_enter.true
 
 pub returns-clause-met : goal.returns-clause-met
-returns-clause-met g c = λ p out sound says near host. met_as IsFault (IsMetLooking (HasPrepared out)) c.name_l2.result (λ e fault. inl fault) c.name_l2.ensures.fault
+returns-clause-met g c = λ p out sound says near host. met_as IsFault (IsMetLooking (HasPrepared out)) c.link_l2.result (λ e fault. inl fault) c.link_l2.ensures.fault
 
 pub returns-then-not-can_enter-clause-step : goal.returns-then-not-can_enter-clause-step
 returns-then-not-can_enter-clause-step g c = record { stays = search rules; notes = notes_none; header_cluster = λ some. behind_none }
@@ -92,16 +92,16 @@ returns-then-not-can_enter-clause-step g c = record { stays = search rules; note
 pub returns-in_err-store_first-clause-step : goal.returns-in_err-store_first-clause-step
 returns-in_err-store_first-clause-step g c = record { stays = search rules; notes = c.store_first.ensures.step.notes; header_cluster = λ some. c.store_first.ensures.step.header_cluster }
 
-pub returns-in_err-place_l2-clause-step : goal.returns-in_err-place_l2-clause-step
-returns-in_err-place_l2-clause-step g c = record {
+pub returns-in_err-write_l2_bytes-clause-step : goal.returns-in_err-write_l2_bytes-clause-step
+returns-in_err-write_l2_bytes-clause-step g c = record {
   stays = search rules;
-  notes = notes_then c.store_first.ensures.step.notes c.place_l2.ensures.step.notes;
-  header_cluster = λ some. behind_then c.store_first.ensures.step.header_cluster (c.place_l2.ensures.step.header_cluster some);
+  notes = notes_then c.store_first.ensures.step.notes c.write_l2_bytes.ensures.step.notes;
+  header_cluster = λ some. behind_then c.store_first.ensures.step.header_cluster (c.write_l2_bytes.ensures.step.header_cluster some);
 }
 
 pub returns-clause-step : goal.returns-clause-step
 returns-clause-step g c = record {
   stays = search rules;
-  notes = notes_then (notes_then c.store_first.ensures.step.notes c.place_l2.ensures.step.notes) c.name_l2.ensures.step.notes;
-  header_cluster = λ some. behind_then (behind_then c.store_first.ensures.step.header_cluster (c.place_l2.ensures.step.header_cluster some)) c.name_l2.ensures.step.header_cluster;
+  notes = notes_then (notes_then c.store_first.ensures.step.notes c.write_l2_bytes.ensures.step.notes) c.link_l2.ensures.step.notes;
+  header_cluster = λ some. behind_then (behind_then c.store_first.ensures.step.header_cluster (c.write_l2_bytes.ensures.step.header_cluster some)) c.link_l2.ensures.step.header_cluster;
 }

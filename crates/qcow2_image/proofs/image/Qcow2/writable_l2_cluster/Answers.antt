@@ -1,6 +1,6 @@
 use Rattle.qcow2_image.specs.L1Entries.{HasNearEntry, HasOwnTable}
 use Rattle.qcow2_image.proofs.Call.ImageSteps.{step_none}
-use Rattle.qcow2_image.proofs.image.Qcow2.own_l2.Goals as goal
+use Rattle.qcow2_image.proofs.image.Qcow2.writable_l2_cluster.Goals as goal
 use Rattle.std.proofs.Common.{◌≡◌, ◌⊎◌, ◌*◌, ◌/◌, ◌^◌, Ok, arith, sym, ap, ◌∙◌, subst, ◌≤◌, inr, inl, rules}
 use Rattle.qcow2_metadata.specs.Entries.{host_offset, is_copied}
 use Rattle.qcow2_image.specs.Found.{l1_index_of}
@@ -31,7 +31,7 @@ pub returns-then-entry-clause-elsewhere : goal.returns-then-entry-clause-elsewhe
 returns-then-entry-clause-elsewhere g c = behind_first c.cluster_bits-bits.result c.in-Some-checked_cluster.cluster c.in-Some.entry.offset c.in-Some-checked_cluster.ensures.cluster c.in-Some.ensures.some
 
 pub returns-in_default-clause-elsewhere : goal.returns-in_default-clause-elsewhere
-returns-in_default-clause-elsewhere g c = c.enter_l2.ensures.elsewhere
+returns-in_default-clause-elsewhere g c = c.allocate_l2.ensures.elsewhere
 
 pub returns-clause-elsewhere : goal.returns-clause-elsewhere
 returns-clause-elsewhere g c = c.replace_l2.ensures.elsewhere
@@ -68,7 +68,7 @@ pub returns-then-entry-clause-step : goal.returns-then-entry-clause-step
 returns-then-entry-clause-step g c = step_none
 
 pub returns-in_default-clause-step : goal.returns-in_default-clause-step
-returns-in_default-clause-step g c = c.enter_l2.ensures.step
+returns-in_default-clause-step g c = c.allocate_l2.ensures.step
 
 pub returns-clause-step : goal.returns-clause-step
 returns-clause-step g c = record {
@@ -112,8 +112,8 @@ returns-in_default-clause-sound g c = λ p out sound.
     c.l1_index-index.ensures ∙ ap (λ n. n / 2 ^ c.cluster_bits-bits.result / (2 ^ c.cluster_bits-bits.result / 8)) c.new.ensures ∙ ap (λ b. c.args.offset / 2 ^ b / (2 ^ b / 8)) c.cluster_bits-bits.ensures.value in
     let empty = ap host_offset (sym (sound.l1_table.entries c.l1_index-index.result)) ∙ c.in_default.ensures.none in
     let may = may_none view below out p old sound c.l1_index-index.result empty in
-    let entered = c.enter_l2.ensures.sound p out sound may (says_none view below out p old sound c.l1_index-index.result empty c.in_ok-table.table _ c.in_ok-table.ensures.table c.in_ok-table.ensures.zeros) in
-    let owns = subst (λ i. OwnsTable view below p old c.enter_l2.new.self out i c.enter_l2.result) idx (entered_owns view below out p old sound c.l1_index-index.result empty c.enter_l2.new.self c.enter_l2.result entered.does) in
+    let entered = c.allocate_l2.ensures.sound p out sound may (says_none view below out p old sound c.l1_index-index.result empty c.in_ok-table.table _ c.in_ok-table.ensures.table c.in_ok-table.ensures.zeros) in
+    let owns = subst (λ i. OwnsTable view below p old c.allocate_l2.new.self out i c.allocate_l2.result) idx (entered_owns view below out p old sound c.l1_index-index.result empty c.allocate_l2.new.self c.allocate_l2.result entered.does) in
     let near : HasOwnTable old c.args.offset ⊎ HasNearEntry old (l1_index_of old.file.header.fields c.args.offset) → HasNearEntry old c.l1_index-index.result = λ cause. elim cause [
       | inl own ↦ absurd (own.0 (ap (λ i. host_offset (entry_at old.l1_table.bytes i)) (sym idx) ∙ c.in_default.ensures.none))
       | inr near ↦ subst (HasNearEntry old) (sym idx) near
@@ -122,7 +122,7 @@ returns-in_default-clause-sound g c = λ p out sound.
       does = owns;
       met = λ cause. entered.met (near cause);
       limit = λ cause. entered.limit (near cause);
-      lacks = owns_or_lacks view below out p old c.enter_l2.new.self sound c.args.offset (subst (MayName view old) idx may) c.enter_l2.result owns c.enter_l2.ensures.l1_table;
+      lacks = owns_or_lacks view below out p old c.allocate_l2.new.self sound c.args.offset (subst (MayName view old) idx may) c.allocate_l2.result owns c.allocate_l2.ensures.l1_table;
     }
 
 pub returns-then-entry-clause-sound : goal.returns-then-entry-clause-sound

@@ -1,5 +1,5 @@
 use Rattle.qcow2_image.proofs.Prepare.Lacked.{other_limit, hands_limit}
-use Rattle.qcow2_image.proofs.image.Qcow2.ensure_l2.Goals as goal
+use Rattle.qcow2_image.proofs.image.Qcow2.ensure_cached_l2.Goals as goal
 use Rattle.std.proofs.Common.{ap, inl, ◌∙◌, sym, rules}
 use Rattle.qcow2_alloc.proofs.AllocationSteps.{handed_on}
 use Rattle.qcow2_image.specs.declared.image.Qcow2.{Qcow2}
@@ -22,73 +22,73 @@ use Rattle.qcow2_image.proofs.Prepare.Met.{hands_met}
 use Rattle.qcow2_image.proofs.Prepare.MetTaking.{looking_taking}
 
 pub returns-in_err-cluster-clause-quiet : goal.returns-in_err-cluster-clause-quiet
-returns-in_err-cluster-clause-quiet g c = λ own. let same = c.own_l2.ensures.quiet own in record { allocator = ap (λ (i : Qcow2 _ _). i.allocator) same; list = ap (λ (i : Qcow2 _ _). i.file.free_list) same }
+returns-in_err-cluster-clause-quiet g c = λ own. let same = c.writable_l2_cluster.ensures.quiet own in record { allocator = ap (λ (i : Qcow2 _ _). i.allocator) same; list = ap (λ (i : Qcow2 _ _). i.file.free_list) same }
 
 pub returns-in_err-l2_get_or_insert-clause-quiet : goal.returns-in_err-l2_get_or_insert-clause-quiet
-returns-in_err-l2_get_or_insert-clause-quiet g c = λ own. let same = c.own_l2.ensures.quiet own in record { allocator = ap (λ (i : Qcow2 _ _). i.allocator) same; list = ap (λ (i : Qcow2 _ _). i.file.free_list) same }
+returns-in_err-l2_get_or_insert-clause-quiet g c = λ own. let same = c.writable_l2_cluster.ensures.quiet own in record { allocator = ap (λ (i : Qcow2 _ _). i.allocator) same; list = ap (λ (i : Qcow2 _ _). i.file.free_list) same }
 
 pub returns-clause-quiet : goal.returns-clause-quiet
-returns-clause-quiet g c = λ own. let same = c.own_l2.ensures.quiet own in record { allocator = ap (λ (i : Qcow2 _ _). i.allocator) same; list = ap (λ (i : Qcow2 _ _). i.file.free_list) same }
+returns-clause-quiet g c = λ own. let same = c.writable_l2_cluster.ensures.quiet own in record { allocator = ap (λ (i : Qcow2 _ _). i.allocator) same; list = ap (λ (i : Qcow2 _ _). i.file.free_list) same }
 
 pub returns-clause-elsewhere : goal.returns-clause-elsewhere
 returns-clause-elsewhere g c = c.in_ok-cluster.ensures.elsewhere
 
 pub returns-in_err-cluster-clause-own : goal.returns-in_err-cluster-clause-own
 returns-in_err-cluster-clause-own g c = λ own.
-    handed_on (λ r. FindsOwn c.args.self.now c.own_l2.new.self c.args.offset r) c.from_residual.result c.in_err-cluster.field-0.0 c.from_residual.ensures
-    (record { table = tt; pins = λ t. ap (λ (i : Qcow2 _ _). l2_pins i.file.caches t) (c.own_l2.ensures.quiet own) })
+    handed_on (λ r. FindsOwn c.args.self.now c.writable_l2_cluster.new.self c.args.offset r) c.from_residual.result c.in_err-cluster.field-0.0 c.from_residual.ensures
+    (record { table = tt; pins = λ t. ap (λ (i : Qcow2 _ _). l2_pins i.file.caches t) (c.writable_l2_cluster.ensures.quiet own) })
 
 pub returns-in_err-l2_get_or_insert-clause-own : goal.returns-in_err-l2_get_or_insert-clause-own
 returns-in_err-l2_get_or_insert-clause-own g c = λ own.
-    let mid = c.own_l2.new.self in
+    let mid = c.writable_l2_cluster.new.self in
     handed_on (λ r. FindsOwn c.args.self.now (record mid { file = record mid.file { storage = c.l2_get_or_insert.new.storage; caches = c.l2_get_or_insert.new.self } }) c.args.offset r) c.from_residual-in_err-l2_get_or_insert.result c.in_err-l2_get_or_insert.field-0.0 c.from_residual-in_err-l2_get_or_insert.ensures
-    (record { table = tt; pins = λ t. c.l2_get_or_insert.ensures.step.marks.pins.pins t ∙ ap (λ (i : Qcow2 _ _). l2_pins i.file.caches t) (c.own_l2.ensures.quiet own) })
+    (record { table = tt; pins = λ t. c.l2_get_or_insert.ensures.step.marks.pins.pins t ∙ ap (λ (i : Qcow2 _ _). l2_pins i.file.caches t) (c.writable_l2_cluster.ensures.quiet own) })
 
 pub returns-clause-own : goal.returns-clause-own
 returns-clause-own g c = λ own.
-    record { table = c.in_ok-cluster.ensures.own own; pins = λ t. c.l2_get_or_insert.ensures.step.marks.pins.pins t ∙ ap (λ (i : Qcow2 _ _). l2_pins i.file.caches t) (c.own_l2.ensures.quiet own) }
+    record { table = c.in_ok-cluster.ensures.own own; pins = λ t. c.l2_get_or_insert.ensures.step.marks.pins.pins t ∙ ap (λ (i : Qcow2 _ _). l2_pins i.file.caches t) (c.writable_l2_cluster.ensures.quiet own) }
 
 pub returns-in_err-cluster-clause-rest : goal.returns-in_err-cluster-clause-rest
-returns-in_err-cluster-clause-rest g c = λ own. c.own_l2.ensures.quiet own ∙ ap (λ (i : Qcow2 _ _). record c.args.self.now { file = record c.args.self.now.file { storage = i.file.storage; caches = i.file.caches } }) (sym (c.own_l2.ensures.quiet own))
+returns-in_err-cluster-clause-rest g c = λ own. c.writable_l2_cluster.ensures.quiet own ∙ ap (λ (i : Qcow2 _ _). record c.args.self.now { file = record c.args.self.now.file { storage = i.file.storage; caches = i.file.caches } }) (sym (c.writable_l2_cluster.ensures.quiet own))
 
 pub returns-in_err-l2_get_or_insert-clause-rest : goal.returns-in_err-l2_get_or_insert-clause-rest
-returns-in_err-l2_get_or_insert-clause-rest g c = λ own. ap (λ (i : Qcow2 _ _). record i { file = record i.file { storage = c.l2_get_or_insert.new.storage; caches = c.l2_get_or_insert.new.self } }) (c.own_l2.ensures.quiet own)
+returns-in_err-l2_get_or_insert-clause-rest g c = λ own. ap (λ (i : Qcow2 _ _). record i { file = record i.file { storage = c.l2_get_or_insert.new.storage; caches = c.l2_get_or_insert.new.self } }) (c.writable_l2_cluster.ensures.quiet own)
 
 pub returns-clause-rest : goal.returns-clause-rest
-returns-clause-rest g c = λ own. ap (λ (i : Qcow2 _ _). record i { file = record i.file { storage = c.l2_get_or_insert.new.storage; caches = c.l2_get_or_insert.new.self } }) (c.own_l2.ensures.quiet own)
+returns-clause-rest g c = λ own. ap (λ (i : Qcow2 _ _). record i { file = record i.file { storage = c.l2_get_or_insert.new.storage; caches = c.l2_get_or_insert.new.self } }) (c.writable_l2_cluster.ensures.quiet own)
 
 pub returns-in_err-cluster-clause-step : goal.returns-in_err-cluster-clause-step
-returns-in_err-cluster-clause-step g c = c.own_l2.ensures.step
+returns-in_err-cluster-clause-step g c = c.writable_l2_cluster.ensures.step
 
 pub returns-in_err-l2_get_or_insert-clause-step : goal.returns-in_err-l2_get_or_insert-clause-step
 returns-in_err-l2_get_or_insert-clause-step g c = record {
   stays = search rules;
-  notes = notes_then c.own_l2.ensures.step.notes (notes_of_both c.l2_get_or_insert.ensures.step.marks.pins c.l2_get_or_insert.ensures.step.marks.notes);
-  header_cluster = behind_then c.own_l2.ensures.step.header_cluster (behind_caches (c.l2_get_or_insert.ensures.step.header_cluster c.in_ok-cluster.ensures.elsewhere));
+  notes = notes_then c.writable_l2_cluster.ensures.step.notes (notes_of_both c.l2_get_or_insert.ensures.step.marks.pins c.l2_get_or_insert.ensures.step.marks.notes);
+  header_cluster = behind_then c.writable_l2_cluster.ensures.step.header_cluster (behind_caches (c.l2_get_or_insert.ensures.step.header_cluster c.in_ok-cluster.ensures.elsewhere));
 }
 
 pub returns-clause-step : goal.returns-clause-step
 returns-clause-step g c = record {
   stays = search rules;
-  notes = notes_then c.own_l2.ensures.step.notes (notes_of_both c.l2_get_or_insert.ensures.step.marks.pins c.l2_get_or_insert.ensures.step.marks.notes);
-  header_cluster = behind_then c.own_l2.ensures.step.header_cluster (behind_caches (c.l2_get_or_insert.ensures.step.header_cluster c.in_ok-cluster.ensures.elsewhere));
+  notes = notes_then c.writable_l2_cluster.ensures.step.notes (notes_of_both c.l2_get_or_insert.ensures.step.marks.pins c.l2_get_or_insert.ensures.step.marks.notes);
+  header_cluster = behind_then c.writable_l2_cluster.ensures.step.header_cluster (behind_caches (c.l2_get_or_insert.ensures.step.header_cluster c.in_ok-cluster.ensures.elsewhere));
 }
 
 pub returns-in_err-cluster-clause-sound : goal.returns-in_err-cluster-clause-sound
 returns-in_err-cluster-clause-sound g c = λ p out sound.
     record {
-      ready = handed_on (Ensures g.S.Storage.view g.F.BackingDisk.backing p c.args.self.now c.own_l2.new.self out c.args.offset) c.from_residual.result c.in_err-cluster.field-0.0 c.from_residual.ensures
+      ready = handed_on (Ensures g.S.Storage.view g.F.BackingDisk.backing p c.args.self.now c.writable_l2_cluster.new.self out c.args.offset) c.from_residual.result c.in_err-cluster.field-0.0 c.from_residual.ensures
           ((c.in_err-cluster.ensures.sound p out sound).does);
       met = λ cause. hands_met (IsMetTaking (HasPrepared out) ⊥ ⊥ ⊥) c.from_residual.result c.in_err-cluster.field-0.0 c.from_residual.ensures ((c.in_err-cluster.ensures.sound p out sound).met cause);
       limit = λ cause. hands_limit c.from_residual.result c.in_err-cluster.field-0.0 c.from_residual.ensures ((c.in_err-cluster.ensures.sound p out sound).limit cause);
-      lacks = λ none. handed_on (λ r. IfErr r (IsFaultOrLacksTable g.S.Storage.view c.own_l2.new.self c.args.offset)) c.from_residual.result c.in_err-cluster.field-0.0 c.from_residual.ensures ((c.in_err-cluster.ensures.sound p out sound).lacks);
+      lacks = λ none. handed_on (λ r. IfErr r (IsFaultOrLacksTable g.S.Storage.view c.writable_l2_cluster.new.self c.args.offset)) c.from_residual.result c.in_err-cluster.field-0.0 c.from_residual.ensures ((c.in_err-cluster.ensures.sound p out sound).lacks);
     }
 
 pub returns-in_err-l2_get_or_insert-clause-sound : goal.returns-in_err-l2_get_or_insert-clause-sound
 returns-in_err-l2_get_or_insert-clause-sound g c = λ p out sound.
     let old = c.args.self.now in
     let view = g.S.Storage.view in
-    let mid = c.own_l2.new.self in
+    let mid = c.writable_l2_cluster.new.self in
     let below = g.F.BackingDisk.backing in
     let owned = (c.in_ok-cluster.ensures.sound p out sound).does in
     let loaded = with_caches g.S.Storage.view g.F.BackingDisk.backing mid out (pending_with_listed p old mid) owned.0.sound c.l2_get_or_insert.new.storage c.l2_get_or_insert.new.self in
@@ -114,7 +114,7 @@ returns-in_err-l2_get_or_insert-clause-sound g c = λ p out sound.
 pub returns-clause-sound : goal.returns-clause-sound
 returns-clause-sound g c = λ p out sound.
     let old = c.args.self.now in
-    let mid = c.own_l2.new.self in
+    let mid = c.writable_l2_cluster.new.self in
     let owned = (c.in_ok-cluster.ensures.sound p out sound).does in
     record {
       met = search rules;

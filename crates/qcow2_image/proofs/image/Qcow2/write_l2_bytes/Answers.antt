@@ -1,4 +1,4 @@
-use Rattle.qcow2_image.proofs.image.Qcow2.place_l2.Goals as goal
+use Rattle.qcow2_image.proofs.image.Qcow2.write_l2_bytes.Goals as goal
 use Rattle.std.proofs.Common.{inl, arith, ◌≡◌, ◌^◌, false, length, refl, ap, ◌∙◌, subst, sym, IsSome, ◌<◌, ◌*◌, rules}
 use Rattle.std.specs.Prelude.{Some, IfSome, OnOk}
 use Rattle.qcow2_metadata.specs.L2Table.{L2TableView}

@@ -1,6 +1,6 @@
 use Rattle.qcow2_image.specs.L1Entries.{IsPlacedNear}
 use Rattle.qcow2_image.proofs.Call.ImageSteps.{step_none, step_then}
-use Rattle.qcow2_image.proofs.image.Qcow2.reach_entry.Goals as goal
+use Rattle.qcow2_image.proofs.image.Qcow2.ensure_l1_entry.Goals as goal
 use Rattle.std.proofs.Common.{◌≡◌, ◌+◌, ◌/◌, ◌^◌, max, sym, ap, ◌∙◌, subst, ◌≤◌, arith, rules}
 use Rattle.qcow2_metadata.specs.EntryTable.{entry_count}
 use Rattle.qcow2_laws.specs.CrashInvariant.{Pending}

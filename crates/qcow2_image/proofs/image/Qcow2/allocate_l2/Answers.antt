@@ -1,6 +1,6 @@
 use Rattle.qcow2_image.proofs.Call.Unlimited.{looking_unlimited}
 use Rattle.qcow2_alloc.proofs.Steps.{told_of}
-use Rattle.qcow2_image.proofs.image.Qcow2.enter_l2.Goals as goal
+use Rattle.qcow2_image.proofs.image.Qcow2.allocate_l2.Goals as goal
 use Rattle.std.proofs.Common.{refl, sym, ◌∙◌, subst, ◌<◌, inl, inr, ap, arith, rules}
 use Rattle.std.specs.Prelude.{Err, IfSome, Some, false}
 use Rattle.qcow2_alloc.specs.Allocation.{run_at, taken_as, UnseenAllocatorGrowth}

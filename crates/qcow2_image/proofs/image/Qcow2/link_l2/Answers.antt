@@ -1,4 +1,4 @@
-use Rattle.qcow2_image.proofs.image.Qcow2.name_l2.Goals as goal
+use Rattle.qcow2_image.proofs.image.Qcow2.link_l2.Goals as goal
 use Rattle.std.proofs.lemmas.Bool.{or_right}
 use Rattle.qcow2_alloc.specs.ImageError.{of_storage}
 use Rattle.qcow2_alloc.specs.ImageStorage.{storage_of, is_changed_of}
