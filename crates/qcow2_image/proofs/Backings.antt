@@ -12,7 +12,7 @@ use Rattle.qcow2_image.specs.declared.prepared.Prepared.{Prepared}
 use Rattle.qcow2_image.specs.Prepared.{table_of}
 use Rattle.qcow2_image.specs.ImageInvariant.{pins_by, pins_of, over_all, abstract_of}
 use Rattle.qcow2_image.specs.PinnedTables.{HasPinnedTable}
-use Rattle.qcow2_image.specs.Backings.{HasPrepared}
+use Rattle.qcow2_image.specs.Backings.{HasPinnedMapping}
 
 -- ---- pins
 
@@ -32,7 +32,7 @@ some_table None t lt = absurd (omega arith)
 some_table (Some s) t lt = refl
 
 -- a table that is pinned is pinned by one of them
-pub pinned_by : (out : List (Option Prepared)) (t : ℕ) → 0 < over_all pins_by out t → HasPrepared out
+pub pinned_by : (out : List (Option Prepared)) (t : ℕ) → 0 < over_all pins_by out t → HasPinnedMapping out
 pinned_by [] t lt = absurd (omega arith)
 pinned_by (None ∷ out) t lt = let rest = pinned_by out t (omega arith) in record { place = suc rest.place; mapping = rest.mapping; there = rest.there; pins = rest.pins }
 pinned_by (Some p ∷ out) t lt = elim (cases_lt 0 (pins_by p t)) [
@@ -46,7 +46,7 @@ table_is (Some t) some = (t, refl)
 
 module _ {S F : Type 0} (view : S → StorageView) (backing : F → BackingView) (image : Qcow2 S F) (out : List (Option Prepared)) (sound : (abstract_of view backing image out).is_sound) where
   -- without a pin there is none
-  pub none_prepared : ((t : ℕ) → l2_pins image.file.caches t ≡ 0) → HasPrepared out → ⊥
+  pub none_prepared : ((t : ℕ) → l2_pins image.file.caches t ≡ 0) → HasPinnedMapping out → ⊥
   none_prepared none has =
       let t = table_is (table_of has.mapping) has.pins in
       let some = pins_all out has.place has.mapping t.0 has.there t.1 in
@@ -54,11 +54,11 @@ module _ {S F : Type 0} (view : S → StorageView) (backing : F → BackingView)
       let no = none t.0 in
       omega arith
 
-  pub some_prepared : (t : ℕ) → 0 < l2_pins image.file.caches t → HasPrepared out
+  pub some_prepared : (t : ℕ) → 0 < l2_pins image.file.caches t → HasPinnedMapping out
   some_prepared t some = pinned_by out t (subst (λ n. 0 < n) (sound.pinned t) some)
 
   -- a mapping that isn't existing keeps a table
-  pub table_prepared : HasPrepared out → HasPinnedTable image
+  pub table_prepared : HasPinnedMapping out → HasPinnedTable image
   table_prepared has =
       let t = table_is (table_of has.mapping) has.pins in
       let some = pins_all out has.place has.mapping t.0 has.there t.1 in

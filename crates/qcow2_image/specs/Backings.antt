@@ -12,7 +12,7 @@ use Rattle.qcow2_image.specs.Prepared.{table_of}
 use Rattle.qcow2_image.specs.ImageInvariant.{abstract_of, backing_bytes}
 
 -- Some prepared mapping is pinned: it isn't existing, so its L2 table must stay as it is until the commit.
-pub record HasPrepared (out : List (Option Prepared)) : Type 0 where
+pub record HasPinnedMapping (out : List (Option Prepared)) : Type 0 where
   pub place : ℕ
   pub mapping : Prepared
   pub there : slice_get out place ≡ Some (Some mapping)

@@ -32,11 +32,11 @@ use Rattle.qcow2_alloc.specs.declared.clusters_to_free.ClustersToFreeEntry.{Clus
 use Rattle.qcow2_alloc.specs.declared.error.ImageError.{ImageError}
 use Rattle.qcow2_alloc.specs.ImageFile.{FileInvariant, contents_in, known_in, state_in}
 use Rattle.qcow2_alloc.specs.MetadataCaches.{CacheInvariant, IsEntryAt, MadeEntry, NotesHeld, known_of, l2_at, order_of}
-use Rattle.qcow2_image.specs.Backings.{HasPrepared}
+use Rattle.qcow2_image.specs.Backings.{HasPinnedMapping}
 use Rattle.qcow2_image.specs.CallParts.{RefusedCall}
 use Rattle.qcow2_image.specs.Calls.{AnswersCall, refusal_of}
-use Rattle.qcow2_image.specs.declared.discarding.Clearance.{Clearance}
-use Rattle.qcow2_image.specs.declared.discarding.Clearance.TheVariants.{Uncovered, Zeros, KeptZeros}
+use Rattle.qcow2_image.specs.declared.discarding.ClearMode.{ClearMode}
+use Rattle.qcow2_image.specs.declared.discarding.ClearMode.TheVariants.{Uncovered, Zeros, KeptZeros}
 use Rattle.qcow2_image.specs.declared.image.Qcow2.{Qcow2}
 use Rattle.qcow2_image.specs.declared.prepared.Prepared.{Prepared}
 use Rattle.qcow2_image.specs.Found.{l1_index_of}
@@ -50,22 +50,22 @@ use Rattle.qcow2_image.specs.Prepared.{table_of}
 use Rattle.qcow2_image.specs.Refusals.{passes, refuse_if, unusable}
 
 -- How a mode clears clusters, in terms of the disk.
-abbrev pub shown_by : Clearance → Clearing
+abbrev pub shown_by : ClearMode → Clearing
 shown_by Uncovered = to_backing
 shown_by Zeros = to_zero
 shown_by KeptZeros = to_kept_zero
 
 -- The mapping of a cleared guest cluster, by its old one.
-abbrev pub cover_once_cleared : Clearance → L2Mapping → L2Mapping
+abbrev pub cover_once_cleared : ClearMode → L2Mapping → L2Mapping
 cover_once_cleared how old = cover_by (shown_by how) old
 
-abbrev pub cleared_entry : Clearance → L2Mapping → ℕ
+abbrev pub cleared_entry : ClearMode → L2Mapping → ℕ
 cleared_entry Uncovered old = 0
 cleared_entry Zeros old = zero_entry None
 cleared_entry KeptZeros old = zero_entry (copied_host old)
 
 -- Only L2 entries of version 3 and later can mark clusters as zeros.
-abbrev pub needs_zero_entries : Clearance → Bool
+abbrev pub needs_zero_entries : ClearMode → Bool
 needs_zero_entries how = zeros_for (shown_by how)
 
 -- The range that a call touches.
@@ -82,7 +82,7 @@ module _ {S F : Type 0} (image : Qcow2 S F) (offset n : ℕ) where
       option_or (unusable image) (option_or (refuse_if (not (is_writable image)) I.ReadOnly) (option_or (refuse_if (passes (size_of image) offset n) I.BeyondSize)
       (option_or (refuse_if (zeros_for how && nat_lt image.file.header.fields.version 3) I.Version) (refuse_if (rounds_past (cluster_size image.file.header.fields) (size_of image) offset n) I.Overflow))))
 
-  abbrev pub refuses_to_clear : Clearance → Option ImageError
+  abbrev pub refuses_to_clear : ClearMode → Option ImageError
   refuses_to_clear how = refuses_clearing (shown_by how)
 
 -- A pinned mapping is in the L2 table of this offset. (Pinned: prepared, and not existing.)
@@ -94,14 +94,14 @@ pub record IsUnderMapping (h : HeaderFields) (offset : ℕ) (out : List (Option 
   pub same_table : l1_index_of h other.guest ≡ l1_index_of h offset
 
 -- The offsets are cluster boundaries within one L2 table, and the image has zero clusters if they are needed.
-pub record IsClearable (h : HeaderFields) (how : Clearance) (from to : ℕ) : Type 0 where
+pub record IsClearable (h : HeaderFields) (how : ClearMode) (from to : ℕ) : Type 0 where
   pub begins : from % cluster_size h ≡ 0
   pub ends : to % cluster_size h ≡ 0
   pub within : to ≤ from + rest_of_table h from
   pub version : IsTrue (needs_zero_entries how) → 3 ≤ h.version
 
 -- Each guest cluster between two offsets is cleared, and all other mappings are the same.
-abbrev pub ClearsImageCovers : Clearance → (from to : ℕ) → HeaderFields → Bytes → HeaderFields → Bytes → Type 0
+abbrev pub ClearsImageCovers : ClearMode → (from to : ℕ) → HeaderFields → Bytes → HeaderFields → Bytes → Type 0
 ClearsImageCovers how from to h known h' known' = ClearsBy (shown_by how) from to h known h' known'
 
 module _ {S F : Type 0} (view : S → StorageView) (backing : F → BackingView) where
@@ -110,11 +110,11 @@ module _ {S F : Type 0} (view : S → StorageView) (backing : F → BackingView)
   setting_of image = (abstract_of view backing image []).setting
 
   -- What clearing a range gives.
-  abbrev pub all_given_by_clear : Qcow2 S F → Clearance → ℕ → ℕ → List GivenBytes
+  abbrev pub all_given_by_clear : Qcow2 S F → ClearMode → ℕ → ℕ → List GivenBytes
   all_given_by_clear image how offset n = given_by_clear (setting_of image) (disk_of view backing image) (shown_by how) offset n ∷ []
 
   -- The whole clusters of a range are cleared, and the cleared range is returned; or the call was refused.
-  abbrev pub Clears : Clearance → Qcow2 S F → Qcow2 S F → ℕ → ℕ → Result (ℕ × ℕ) ImageError → Type 0
+  abbrev pub Clears : ClearMode → Qcow2 S F → Qcow2 S F → ℕ → ℕ → Result (ℕ × ℕ) ImageError → Type 0
   Clears how old new offset n result =
       AnswersCall view backing old new (all_given_by_clear old how offset n)
       (λ range was is. (range ≡ answered (setting_of old).cluster_size was.disk.size offset n) × (is ≡ with_disk was (cleared_at (setting_of old) was.disk (shown_by how) offset n))) result
@@ -125,19 +125,19 @@ module _ {S F : Type 0} (view : S → StorageView) (backing : F → BackingView)
 
   -- A refusal other than a fault gives nothing. If the range was not refused at once, the refusal is a limit; or 20, if an L1 entry past 64 bits would have to be written for the first offset;
   -- or 8, if a mapping is pinned; or 9, if one is pinned in the L2 table of the first offset. If no mapping is pinned, the offset has no L2 table of its own then.
-  pub record RefusesClearing (how : Clearance) (old new : Qcow2 S F) (offset n : ℕ) (e : ImageError) : Type 0 where
+  pub record RefusesClearing (how : ClearMode) (old new : Qcow2 S F) (offset n : ℕ) (e : ImageError) : Type 0 where
     pub ungiven : RefusesUngiven old new e
-    pub lacks : refuses_to_clear old offset n how ≡ None → (out : List (Option Prepared)) → (abstract_of view backing old out).is_sound → (HasPrepared out → ⊥) → IsFaultOrLacksTable view new (from_in old offset n) e
-    pub met : refuses_to_clear old offset n how ≡ None → (out : List (Option Prepared)) → (abstract_of view backing old out).is_sound → IsMetTaking (HasPrepared out) (IsUnderMapping old.file.header.fields (from_in old offset n) out) ⊥ (NeedsOverflowingL1Entry old (from_in old offset n)) e
+    pub lacks : refuses_to_clear old offset n how ≡ None → (out : List (Option Prepared)) → (abstract_of view backing old out).is_sound → (HasPinnedMapping out → ⊥) → IsFaultOrLacksTable view new (from_in old offset n) e
+    pub met : refuses_to_clear old offset n how ≡ None → (out : List (Option Prepared)) → (abstract_of view backing old out).is_sound → IsMetTaking (HasPinnedMapping out) (IsUnderMapping old.file.header.fields (from_in old offset n) out) ⊥ (NeedsOverflowingL1Entry old (from_in old offset n)) e
 
   -- ---- parts of the work
 
   -- What clearing gives between two offsets.
-  abbrev pub given_bytes_between : Qcow2 S F → Clearance → (from to : ℕ) → List GivenBytes
+  abbrev pub given_bytes_between : Qcow2 S F → ClearMode → (from to : ℕ) → List GivenBytes
   given_bytes_between image how from to = given_shown (cleared (setting_of image) (disk_of view backing image) (shown_by how) from to) from to ∷ []
 
   -- The clusters between two offsets are cleared, and the host clusters that lost a reference wait to be freed.
-  pub record ClearsPart (how : Clearance) (from to : ℕ) (old new : Qcow2 S F) (out : List (Option Prepared)) : Type 0 where
+  pub record ClearsPart (how : ClearMode) (from to : ℕ) (old new : Qcow2 S F) (out : List (Option Prepared)) : Type 0 where
     pub works : EffectOnSound (abstract_of view backing old out) (abstract_of view backing new out) (given_bytes_between old how from to) []
     pub sound : ImageInvariant view backing (pending_in view backing new out) new out
     pub shows : guest_of (abstract_of view backing new out) ≡ with_disk (guest_of (abstract_of view backing old out)) (cleared (setting_of old) (disk_of view backing old) (shown_by how) from to)
@@ -145,17 +145,17 @@ module _ {S F : Type 0} (view : S → StorageView) (backing : F → BackingView)
     pub covers : ClearsImageCovers how from to old.file.header.fields (known_in view old.file) new.file.header.fields (known_in view new.file)
     pub noted : IsTrue new.file.caches.is_changed
 
-  abbrev pub ClearsOrRefuses : Clearance → (from to : ℕ) → Qcow2 S F → Qcow2 S F → List (Option Prepared) → Result (Unit {0}) ImageError → Type 0
+  abbrev pub ClearsOrRefuses : ClearMode → (from to : ℕ) → Qcow2 S F → Qcow2 S F → List (Option Prepared) → Result (Unit {0}) ImageError → Type 0
   ClearsOrRefuses how from to old new out (Ok _) = ClearsPart how from to old new out
   ClearsOrRefuses how from to old new out (Err e) = RefusedCall view backing old new out e
 
 -- The host clusters that lose a reference when n guest clusters, from `first` on, are cleared.
-abbrev pub listed_by : Clearance → HeaderFields → Bytes → (first n : ℕ) → List ClustersToFreeEntry
+abbrev pub listed_by : ClearMode → HeaderFields → Bytes → (first n : ℕ) → List ClustersToFreeEntry
 listed_by how h known first zero = []
 listed_by how h known first (suc n) = listed_by how h known first n ++ listed_run (old_data_run h.cluster_bits (cover h known (first + n)) (cover_once_cleared how (cover h known (first + n))))
 
 -- An entry of a cached L2 table is cleared, and nothing else changes.
-pub record ClearsEntry {S F : Type 0} (how : Clearance) (table index : ℕ) (old new : Qcow2 S F) : Type 0 where
+pub record ClearsEntry {S F : Type 0} (how : ClearMode) (table index : ℕ) (old new : Qcow2 S F) : Type 0 where
   pub rest : new ≡ record old { file = record old.file { caches = new.file.caches } }
   pub order : order_of new.file.caches ≡ order_of old.file.caches
   pub marks : KeepsPinsAndNotes old.file.caches new.file.caches
@@ -167,7 +167,7 @@ pub record ClearsEntry {S F : Type 0} (how : Clearance) (table index : ℕ) (old
   pub behind : KeepBehindHeader old.file.caches new.file.caches
 
 -- A cleared mapping, as the laws describe it.
-abbrev pub is_cleared : Clearance → L2Mapping → Type 0
+abbrev pub is_cleared : ClearMode → L2Mapping → Type 0
 is_cleared Uncovered v = v ≡ M.Uncovered
 is_cleared Zeros v = IsZeros v
 is_cleared KeptZeros v = IsZeros v
@@ -177,7 +177,7 @@ with_caches a caches = record a { file = record a.file { caches = caches } }
 
 module _ {S F : Type 0} (view : S → StorageView) (backing : F → BackingView) where
   -- When n entries of a cached L2 table, from `column` on, may be cleared.
-  pub record MayClear (how : Clearance) (t row column n : ℕ) (a : Qcow2 S F) (out : List (Option Prepared)) (p : Pending) : Type 0 where
+  pub record MayClear (how : ClearMode) (t row column n : ℕ) (a : Qcow2 S F) (out : List (Option Prepared)) (p : Pending) : Type 0 where
     pub sound : ImageInvariant view backing p a out
     pub real : table_at a.file.header.fields (known_in view a.file) row ≢ 0
     pub place : table_at a.file.header.fields (known_in view a.file) row ≡ t * cluster_size a.file.header.fields
@@ -189,7 +189,7 @@ module _ {S F : Type 0} (view : S → StorageView) (backing : F → BackingView)
     pub reach : (i : ℕ) → i < n → IsInReach (cover a.file.header.fields (known_in view a.file) (guest_at a.file.header.fields row column + i))
 
   -- The n entries are cleared.
-  pub record AreCleared (how : Clearance) (row column n : ℕ) (a : Qcow2 S F) (caches : MetadataCaches S) (out : List (Option Prepared)) (p : Pending) : Type 0 where
+  pub record AreCleared (how : ClearMode) (row column n : ℕ) (a : Qcow2 S F) (caches : MetadataCaches S) (out : List (Option Prepared)) (p : Pending) : Type 0 where
     pub now : Pending
     pub sound_now : ImageInvariant view backing now (with_caches a caches) out
     pub turn : MapsInTurn (is_cleared how) (guest_at a.file.header.fields row column) n (state_in view a.file p) (state_in view (with_caches a caches).file now)
@@ -204,7 +204,7 @@ module _ {S F : Type 0} (view : S → StorageView) (backing : F → BackingView)
     pub old_data : (k : ℕ) → now.old_data k ≡ p.old_data k + to_free of_data (listed_by how a.file.header.fields (known_in view a.file) (guest_at a.file.header.fields row column) n) k
 
   -- In the cached L2 table, n entries from `column` on are cleared.
-  pub record ClearsTable (how : Clearance) (t column n : ℕ) (a b : Qcow2 S F) : Type 0 where
+  pub record ClearsTable (how : ClearMode) (t column n : ℕ) (a b : Qcow2 S F) : Type 0 where
     pub rest : b ≡ with_caches a b.file.caches
     pub marks : KeepsPinsAndNotes a.file.caches b.file.caches
     pub new_data : IsSome (l2_at a.file.caches t) → IsSome (l2_at b.file.caches t)
@@ -214,7 +214,7 @@ module _ {S F : Type 0} (view : S → StorageView) (backing : F → BackingView)
 
   -- ---- what is read before the first entry changes
   -- The host clusters that the entry of a guest cluster will lose are appended to a list. An entry can hold their offsets.
-  abbrev pub ReadsDropped : Clearance → (table cluster : ℕ) → Qcow2 S F → List ClustersToFreeEntry → List ClustersToFreeEntry → Type 0
+  abbrev pub ReadsDropped : ClearMode → (table cluster : ℕ) → Qcow2 S F → List ClustersToFreeEntry → List ClustersToFreeEntry → Type 0
   ReadsDropped how table cluster image old new =
       let h = image.file.header.fields in
       let known = known_in view image.file in
@@ -222,7 +222,7 @@ module _ {S F : Type 0} (view : S → StorageView) (backing : F → BackingView)
       → (new ≡ old ++ listed_run (old_data_run h.cluster_bits (cover h known cluster) (cover_once_cleared how (cover h known cluster)))) × IsInReach (cover h known cluster)
 
   -- The host clusters that n entries, from `first` on, will lose are appended to a list.
-  abbrev pub ReadsAll : Clearance → (table first n : ℕ) → Qcow2 S F → List ClustersToFreeEntry → Type 0
+  abbrev pub ReadsAll : ClearMode → (table first n : ℕ) → Qcow2 S F → List ClustersToFreeEntry → Type 0
   ReadsAll how table first n image list =
       let h = image.file.header.fields in
       let known = known_in view image.file in

@@ -9,7 +9,7 @@ use Rattle.qcow2_alloc.specs.KeptMarks.{KeepsFileNotes}
 use Rattle.qcow2_alloc.specs.declared.error.ImageError.{ImageError}
 use Rattle.qcow2_alloc.specs.declared.error.ImageError.TheVariants.{TablePrepared}
 use Rattle.qcow2_image.specs.BehindHeader.{StaysBehindHeader}
-use Rattle.qcow2_image.specs.Backings.{HasPrepared}
+use Rattle.qcow2_image.specs.Backings.{HasPinnedMapping}
 use Rattle.qcow2_image.specs.Clearing.{Clears, ClearsImageCovers, ClearsOrRefuses, IsClearable, IsUnderMapping, RefusesClearing, from_in, refuses_to_clear, to_in}
 use Rattle.qcow2_image.specs.Faults.{CountsImageFaults}
 use Rattle.qcow2_image.specs.Image.{HasNothingToFree, ImageStays, IsSameImage, size_of}
@@ -21,7 +21,7 @@ use Rattle.qcow2_image.specs.NewTables.{IsFaultOrLacksTable}
 use Rattle.qcow2_image.specs.Noted.{ChangesRose, FailsOnceWritten, NotesPart}
 use Rattle.qcow2_image.specs.PinnedTables.{HeedsPins}
 use Rattle.qcow2_image.specs.Refusals.{FreesRefused, IsMetPreparing, MarksFailed}
-use Rattle.qcow2_image.specs.declared.discarding.Clearance.{Clearance}
+use Rattle.qcow2_image.specs.declared.discarding.ClearMode.{ClearMode}
 use Rattle.qcow2_image.specs.declared.image.Qcow2.{Qcow2}
 use Rattle.qcow2_image.specs.declared.prepared.Prepared.{Prepared}
 
@@ -42,7 +42,7 @@ module _ {S F : Type 0} (view : S → StorageView) (backing : F → BackingView)
     pub header_cluster : StaysBehindHeader view old new
     pub faults : CountsImageFaults view backing old new result
 
-  module _ (how : Clearance) (old new : Qcow2 S F) (offset n : ℕ) (result : Result (ℕ × ℕ) ImageError) where
+  module _ (how : ClearMode) (old new : Qcow2 S F) (offset n : ℕ) (result : Result (ℕ × ℕ) ImageError) where
     abbrev pub may_clear : Type 0
     may_clear = refuses_to_clear old offset n how ≡ None
 
@@ -74,7 +74,7 @@ module _ {S F : Type 0} (view : S → StorageView) (backing : F → BackingView)
       pub changed : (out : List (Option Prepared)) → (abstract_of view backing old out).is_sound → touches_some → OnOk result (ChangesRose old new)
 
   -- ---- the clusters between two offsets within one L2 table
-  module _ (how : Clearance) (from to : ℕ) (old new : Qcow2 S F) (result : Result (Unit {0}) ImageError) where
+  module _ (how : ClearMode) (from to : ℕ) (old new : Qcow2 S F) (result : Result (Unit {0}) ImageError) where
     -- P holds for a sound image, if the offsets are cluster boundaries within one L2 table.
     abbrev pub OfWhole : (List (Option Prepared) → Type 0) → Type 0
     OfWhole P = (out : List (Option Prepared)) → ImageInvariant view backing (pending_in view backing old out) old out → IsClearable old.file.header.fields how from to → P out
@@ -85,11 +85,11 @@ module _ {S F : Type 0} (view : S → StorageView) (backing : F → BackingView)
 
     -- The causes of a refusal.
     abbrev pub MeetsBetween : Type 0
-    MeetsBetween = OfWhole (λ out. IfErr result (IsMetTaking (HasPrepared out) (IsUnderMapping old.file.header.fields from out) ⊥ (NeedsOverflowingL1Entry old from)))
+    MeetsBetween = OfWhole (λ out. IfErr result (IsMetTaking (HasPinnedMapping out) (IsUnderMapping old.file.header.fields from out) ⊥ (NeedsOverflowingL1Entry old from)))
 
     -- If no mapping is pinned, a refusal is a fault, or the first offset has no L2 table of its own.
     abbrev pub LacksBetween : Type 0
-    LacksBetween = OfWhole (λ out. (HasPrepared out → ⊥) → IfErr result (IsFaultOrLacksTable view new from))
+    LacksBetween = OfWhole (λ out. (HasPinnedMapping out → ⊥) → IfErr result (IsFaultOrLacksTable view new from))
 
     -- A refusal leaves no cluster waiting to be freed, except after a fault and after 9.
     abbrev pub FreesBetween : Type 0

@@ -13,7 +13,7 @@ use Rattle.qcow2_alloc.specs.ImageFile.{contents_in, known_in, view_in, HasRefta
 use Rattle.qcow2_alloc.specs.MetadataCaches.{l2_at, rb_at}
 use Rattle.qcow2_alloc.specs.declared.error.ImageError.{ImageError}
 use Rattle.qcow2_alloc.specs.declared.error.ImageError.TheVariants as I
-use Rattle.qcow2_image.specs.Backings.{HasPrepared}
+use Rattle.qcow2_image.specs.Backings.{HasPinnedMapping}
 use Rattle.qcow2_image.specs.BehindHeader.{NamesTablesBehind, StaysBehindHeader}
 use Rattle.qcow2_image.specs.Calls.{AnswersCall}
 use Rattle.qcow2_image.specs.Faults.{CountsImageFaults}
@@ -171,6 +171,6 @@ module _ {S F : Type 0} where
         -- A sound image with nothing to free or to write looks the same after the call. While a mapping that isn't existing is prepared, the call is refused 21 or 14. Otherwise it is refused only for a fault.
         pub record InvalidatesSoundly : Type 0 where
           pub same : IsAtRest old → AnswersCall view backing old new [] (λ done was is. is ≡ was) result
-          pub fault : (out : List (Option Prepared)) → (abstract_of view backing old out).is_sound → ¬ HasPrepared out → IfErr result IsFault
-          pub prepared : (out : List (Option Prepared)) → (abstract_of view backing old out).is_sound → HasPrepared out → IsErrAnd result IsOfPrepared
-          pub in_use : (out : List (Option Prepared)) → (abstract_of view backing old out).is_sound → IfErr result (λ e. IsStillInUse e → HasPrepared out)
+          pub fault : (out : List (Option Prepared)) → (abstract_of view backing old out).is_sound → ¬ HasPinnedMapping out → IfErr result IsFault
+          pub prepared : (out : List (Option Prepared)) → (abstract_of view backing old out).is_sound → HasPinnedMapping out → IsErrAnd result IsOfPrepared
+          pub in_use : (out : List (Option Prepared)) → (abstract_of view backing old out).is_sound → IfErr result (λ e. IsStillInUse e → HasPinnedMapping out)

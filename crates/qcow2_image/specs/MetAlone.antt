@@ -13,7 +13,7 @@ use Rattle.qcow2_alloc.specs.CachePins.{AreAllPinned}
 use Rattle.qcow2_alloc.specs.ImageError.{IsFault}
 use Rattle.qcow2_alloc.specs.declared.error.ImageError.{ImageError}
 use Rattle.qcow2_alloc.specs.declared.error.ImageError.TheVariants as I
-use Rattle.qcow2_image.specs.Backings.{HasPrepared}
+use Rattle.qcow2_image.specs.Backings.{HasPinnedMapping}
 use Rattle.qcow2_image.specs.declared.image.Qcow2.{Qcow2}
 use Rattle.qcow2_image.specs.declared.mapping.MappingKind.{MappingKind}
 use Rattle.qcow2_image.specs.declared.mapping.MappingKind.TheVariants as Kind
@@ -84,7 +84,7 @@ IsMetReading kind e = IsFault e ⊎ (((e ≡ I.Compressed) × IsSpecial kind) �
 
 -- The cache is full of L2 tables that prepared mappings pin.
 abbrev pub IsCacheHeld : {S F : Type 0} → Qcow2 S F → List (Option Prepared) → Type 0
-IsCacheHeld image out = AreAllPinned image.file.caches × HasPrepared out
+IsCacheHeld image out = AreAllPinned image.file.caches × HasPinnedMapping out
 
 -- Why a lookup is refused: a fault; or 8, if the cache is full of pinned tables.
 abbrev pub IsMetLooking : (held : Type 0) → ImageError → Type 0
@@ -104,7 +104,7 @@ IsMetSpecial held offset e = IsMetLooking held e ⊎ ((e ≡ I.Compressed) ⊎ (
 
 -- Why a read is refused: as a lookup; or 7, if some guest cluster that the range touches is compressed. It is refused 8 only if a mapping is pinned.
 abbrev pub IsMetReadingRange : List (Option Prepared) → (from to : ℕ) → HeaderFields → Bytes → ImageError → Type 0
-IsMetReadingRange out from to h known e = IsMetLooking (HasPrepared out) e ⊎ ((e ≡ I.Compressed) × HasCompressedIn from to h known)
+IsMetReadingRange out from to h known e = IsMetLooking (HasPinnedMapping out) e ⊎ ((e ≡ I.Compressed) × HasCompressedIn from to h known)
 
 -- Why a put is refused: a fault. A put into an existing mapping can also be refused as a range that was looked up before, and with 20 if its host offset passes 64 bits.
 abbrev pub IsMetPutting : (held : Type 0) → Prepared → (at : ℕ) → ImageError → Type 0
@@ -119,4 +119,4 @@ IsMetTaking held kept compressed far e = IsMetAlone compressed far e ⊎ (((e �
 -- Why filling the range behind the end of a disk is refused: as a call that allocates, with 7 only if bytes of a compressed cluster would have to be copied, and 8 and 9 only if a mapping is pinned. Zero clusters are also refused below version 3 (3).
 abbrev pub IsMetGrowing : List (Option Prepared) → PreallocateMode → (from to : ℕ) → HeaderFields → Bytes → ImageError → Type 0
 IsMetGrowing out mode from to h known e =
-    IsMetTaking (HasPrepared out) (HasPrepared out) (HasCompressedIn from (copied_end (cluster_size h) from to mode) h known) ⊥ e ⊎ ((e ≡ I.Version) × ((mode ≡ Mode.Zero) × (h.version < 3)))
+    IsMetTaking (HasPinnedMapping out) (HasPinnedMapping out) (HasCompressedIn from (copied_end (cluster_size h) from to mode) h known) ⊥ e ⊎ ((e ≡ I.Version) × ((mode ≡ Mode.Zero) × (h.version < 3)))

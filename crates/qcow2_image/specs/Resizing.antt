@@ -17,11 +17,11 @@ use Rattle.qcow2_alloc.specs.ImageFile.{known_in, view_in}
 use Rattle.qcow2_alloc.specs.Limits.{IsFaultOr}
 use Rattle.qcow2_alloc.specs.declared.error.ImageError.{ImageError}
 use Rattle.qcow2_alloc.specs.declared.error.ImageError.TheVariants as I
-use Rattle.qcow2_image.specs.Backings.{HasPrepared}
+use Rattle.qcow2_image.specs.Backings.{HasPinnedMapping}
 use Rattle.qcow2_image.specs.CallParts.{UnseenCall}
 use Rattle.qcow2_image.specs.Calls.{refusal_of}
 use Rattle.qcow2_image.specs.Clearing.{ClearsImageCovers, RefusesUngiven, given_bytes_between, setting_of}
-use Rattle.qcow2_image.specs.declared.discarding.Clearance.TheVariants.{Uncovered}
+use Rattle.qcow2_image.specs.declared.discarding.ClearMode.TheVariants.{Uncovered}
 use Rattle.qcow2_image.specs.declared.image.Qcow2.{Qcow2}
 use Rattle.qcow2_image.specs.declared.prepared.Prepared.{Prepared}
 use Rattle.qcow2_image.specs.Growing.{ReachesSize, SameFormat}
@@ -74,7 +74,7 @@ FreesTurn old new at (Err e) = IsFaultOfTables e ⊎ HasNothingToFree new
 pub record IsMetShrinking {S F : Type 0} (view : S → StorageView) (backing : F → BackingView) (old new : Qcow2 S F) (e : ImageError) : Type 0 where
   pub cause : IsFaultOfTables e ⊎ (e ≡ I.MappingPrepared)
   pub same : e ≡ I.MappingPrepared → new ≡ old
-  pub prepared : e ≡ I.MappingPrepared → (out : List (Option Prepared)) → (abstract_of view backing old out).is_sound → HasPrepared out
+  pub prepared : e ≡ I.MappingPrepared → (out : List (Option Prepared)) → (abstract_of view backing old out).is_sound → HasPinnedMapping out
 
 -- Where a step of a shrink ends: at the end of the disk, or at an earlier cluster boundary, with at least one whole cluster in between.
 pub record IsTurnEnd (cluster_size end at next : ℕ) : Type 0 where

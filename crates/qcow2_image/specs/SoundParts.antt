@@ -10,7 +10,7 @@ use Rattle.qcow2_metadata.specs.declared.l2_mapping.L2Mapping.{L2Mapping}
 use Rattle.qcow2_alloc.specs.ImageFile.{known_in}
 use Rattle.qcow2_alloc.specs.declared.error.ImageError.{ImageError}
 use Rattle.qcow2_alloc.specs.declared.error.ImageError.TheVariants.{TablePrepared}
-use Rattle.qcow2_image.specs.Backings.{HasPrepared}
+use Rattle.qcow2_image.specs.Backings.{HasPinnedMapping}
 use Rattle.qcow2_image.specs.CallParts.{FindsTable, PreparesRange}
 use Rattle.qcow2_image.specs.Image.{size_of}
 use Rattle.qcow2_image.specs.L1Entries.{HasNearEntry, HasOwnTable, NeedsOverflowingL1Entry}
@@ -37,29 +37,29 @@ module _ {S F : Type 0} (view : S → StorageView) (backing : F → BackingView)
   -- The L2 table of an offset is found, made or copied. Each refusal has its cause in the image before the part; a limit (13) was passed at some state within it. If no mapping is prepared, a refusal is a fault, or the offset has no table of its own.
   pub record TableSoundly (offset : ℕ) (old new : Qcow2 S F) (out : List (Option Prepared)) (result : Result ℕ ImageError) : Type 0 where
     pub finds : FindsTable view backing old new out offset result
-    pub met : IfErr result (IsMetTaking (HasPrepared out) ⊥ ⊥ (NeedsOverflowingL1Entry old offset))
+    pub met : IfErr result (IsMetTaking (HasPinnedMapping out) ⊥ ⊥ (NeedsOverflowingL1Entry old offset))
     pub limit : IfLimit result (IsLimited view backing [] (offset + 1) old out)
-    pub lacks : (HasPrepared out → ⊥) → IfErr result (IsFaultOrLacksTable view new offset)
+    pub lacks : (HasPinnedMapping out → ⊥) → IfErr result (IsFaultOrLacksTable view new offset)
     pub freeing : OnOk result (ListsNoMore old new)
 
   -- The image's own L2 table of an L1 entry is found, made or copied, as `Does` says. A refusal has a cause, if the entry is there already or may be written.
   pub record OwnsSoundly (p : Pending) (offset : ℕ) (old new : Qcow2 S F) (out : List (Option Prepared)) (result : Result ℕ ImageError) (Does : Type 0) : Type 0 where
     pub does : Does
-    pub met : (HasOwnTable old offset ⊎ HasNearEntry old (l1_index_of old.file.header.fields offset)) → IfErr result (IsMetTaking (HasPrepared out) ⊥ ⊥ ⊥)
+    pub met : (HasOwnTable old offset ⊎ HasNearEntry old (l1_index_of old.file.header.fields offset)) → IfErr result (IsMetTaking (HasPinnedMapping out) ⊥ ⊥ ⊥)
     pub limit : (HasOwnTable old offset ⊎ HasNearEntry old (l1_index_of old.file.header.fields offset)) → IfLimit result (IsLimitedUnseen view backing p 1 old out)
     pub lacks : IfErr result (IsFaultOrLacksTable view new offset)
 
   -- The L2 table is loaded into the cache, as `Does` says. If no mapping is prepared, a refusal is a fault, or the offset has no table of its own.
   pub record EnsuresSoundly (p : Pending) (offset : ℕ) (old new : Qcow2 S F) (out : List (Option Prepared)) (result : Result ℕ ImageError) (Does : Type 0) : Type 0 where
     pub ready : Does
-    pub met : (HasOwnTable old offset ⊎ HasNearEntry old (l1_index_of old.file.header.fields offset)) → IfErr result (IsMetTaking (HasPrepared out) ⊥ ⊥ ⊥)
+    pub met : (HasOwnTable old offset ⊎ HasNearEntry old (l1_index_of old.file.header.fields offset)) → IfErr result (IsMetTaking (HasPinnedMapping out) ⊥ ⊥ ⊥)
     pub limit : (HasOwnTable old offset ⊎ HasNearEntry old (l1_index_of old.file.header.fields offset)) → IfLimit result (IsLimitedUnseen view backing p 1 old out)
-    pub lacks : (HasPrepared out → ⊥) → IfErr result (IsFaultOrLacksTable view new offset)
+    pub lacks : (HasPinnedMapping out → ⊥) → IfErr result (IsFaultOrLacksTable view new offset)
 
   -- An L1 entry that may be written gets an L2 table, as `Does` says. A refusal has a cause.
   pub record EntersSoundly (p : Pending) (index : ℕ) (old : Qcow2 S F) (out : List (Option Prepared)) (result : Result ℕ ImageError) (Does : Type 0) : Type 0 where
     pub does : Does
-    pub met : HasNearEntry old index → IfErr result (IsMetTaking (HasPrepared out) ⊥ ⊥ ⊥)
+    pub met : HasNearEntry old index → IfErr result (IsMetTaking (HasPinnedMapping out) ⊥ ⊥ ⊥)
     pub limit : HasNearEntry old index → IfLimit result (IsLimitedUnseen view backing p 1 old out)
 
   -- The L1 table is extended to cover an offset, as `Does` says. A refusal is a fault or a limit.
@@ -78,7 +78,7 @@ module _ {S F : Type 0} (view : S → StorageView) (backing : F → BackingView)
   -- A range of at least one byte is prepared. Each refusal has its cause in the image before the part; a limit (13) was passed at some state within it. The mapping matches the mappings of its clusters, and an existing one leaves no more clusters to free.
   pub record PreparesSoundly (offset length : ℕ) (overwrite : Bool) (old new : Qcow2 S F) (out : List (Option Prepared)) (result : Result Prepared ImageError) : Type 0 where
     pub readies : PreparesRange view backing old new out offset length overwrite result
-    pub met : IfErr result (IsMetTaking (HasPrepared out) (IsTaken old.file.header.fields (known_in view old.file) offset length out) (CopiesCompressed offset length overwrite old.file.header.fields (known_in view old.file)) (NeedsOverflowingL1Entry old offset))
+    pub met : IfErr result (IsMetTaking (HasPinnedMapping out) (IsTaken old.file.header.fields (known_in view old.file) offset length out) (CopiesCompressed offset length overwrite old.file.header.fields (known_in view old.file)) (NeedsOverflowingL1Entry old offset))
     pub taken : IfErr result (λ e. e ≡ TablePrepared → IsTaken old.file.header.fields (known_in view old.file) offset length out)
     pub answers : IfOk result (λ q. IsAnswered old.file.header.fields (known_in view old.file) offset length new.file.header.fields (known_in view new.file) q (meaning view backing new q))
     pub freeing : IfOk result (λ p. IsNone (table_of p) → ListsNoMore old new)
@@ -87,13 +87,13 @@ module _ {S F : Type 0} (view : S → StorageView) (backing : F → BackingView)
   -- A range is prepared in a cached L2 table. A mapping that would have to pin the table is refused if it is pinned already.
   pub record InTableSoundly (table offset length : ℕ) (overwrite : Bool) (old new : Qcow2 S F) (out : List (Option Prepared)) (result : Result Prepared ImageError) : Type 0 where
     pub readies : PreparesRange view backing old new out offset length overwrite result
-    pub met : 0 < length → IfErr result (IsMetTaking (HasPrepared out) (0 < l2_pins old.file.caches table) (CopiesCompressed offset length overwrite old.file.header.fields (known_in view old.file)) ⊥)
+    pub met : 0 < length → IfErr result (IsMetTaking (HasPinnedMapping out) (0 < l2_pins old.file.caches table) (CopiesCompressed offset length overwrite old.file.header.fields (known_in view old.file)) ⊥)
     pub limit : 0 < table → IfLimit result (IsLimited view backing [] 1 old out)
 
   -- A mapping gets its first cluster, as `Does` says. It is refused for a compressed cluster that would have to be copied, for lack of room, or by a fault.
   pub record BeginsSoundly (covered : L2Mapping) (offset length : ℕ) (overwrite : Bool) (old new : Qcow2 S F) (out : List (Option Prepared)) (result : Result Prepared ImageError) (Does : Type 0) : Type 0 where
     pub readies : Does
-    pub met : IfErr result (IsMetTaking (HasPrepared out) ⊥ (IsCopiedCompressed old.file.header.fields covered offset length overwrite) ⊥)
+    pub met : IfErr result (IsMetTaking (HasPinnedMapping out) ⊥ (IsCopiedCompressed old.file.header.fields covered offset length overwrite) ⊥)
     pub limit : IfLimit result (IsLimited view backing [] 1 old out)
 
   -- A mapping is extended by the next cluster, as `Does` says. It is refused for a compressed cluster that would have to be copied, for lack of room, or by a fault.

@@ -2,7 +2,7 @@
 ghost use Rattle.std.specs.Prelude.{◌≡◌, ◌↔◌, IsTrue, IsErr, IfErr, OnOk, List, Option, Err, false};
 ghost use Rattle.qcow2_alloc.specs.declared.error.ImageError.TheVariants.{Failed, MappingPrepared};
 ghost use Rattle.qcow2_image.specs.declared.prepared.Prepared.{Prepared};
-ghost use Rattle.qcow2_image.specs.Backings.{HasPrepared, IsOver};
+ghost use Rattle.qcow2_image.specs.Backings.{HasPinnedMapping, IsOver};
 ghost use Rattle.qcow2_image.specs.Image.{IsSameImage, is_failed};
 ghost use Rattle.qcow2_image.specs.ImageInvariant.{IsHonestBacking, abstract_of};
 ghost use Rattle.qcow2_image.specs.PinnedTables.{HasPinnedTable};
@@ -18,7 +18,7 @@ impl<S: Storage, F: WrappedFormat<S>> Qcow2<S, F> {
         ensures refused { is_failed self.old ≡ false
             → IfErr result (λ refused. (refused ≡ (backing, MappingPrepared)) × (self.new ≡ self.old)) }
         ensures prepared { is_failed self.old ≡ false → (out : List (Option Prepared))
-            → (abstract_of S.view F.backing self.old out).is_sound → IsErr result ↔ HasPrepared out }
+            → (abstract_of S.view F.backing self.old out).is_sound → IsErr result ↔ HasPinnedMapping out }
         ensures pinned { is_failed self.old ≡ false → IsErr result ↔ HasPinnedTable self.old }
         ensures image { IsSameImage self.old self.new }
         ensures done { OnOk result (self.new ≡ record self.old { backing = backing }) }

@@ -36,7 +36,7 @@ use std::alloc::Global;
 
 // The new state of a cleared cluster.
 #[derive(Clone, Copy, Debug, PartialEq, Eq)]
-pub(crate) enum Clearance {
+pub(crate) enum ClearMode {
     // Unmapped: the backing disk shows.
     Uncovered,
     // A zero entry without a host cluster.
@@ -45,14 +45,14 @@ pub(crate) enum Clearance {
     KeptZeros,
 }
 
-impl Clearance {
+impl ClearMode {
     // Whether this needs zero entries.
     fn needs_zeros(self) -> bool
         ensures { result ≡ needs_zero_entries self }
     {
         match self {
-            Clearance::Uncovered => false,
-            Clearance::Zeros | Clearance::KeptZeros => true,
+            ClearMode::Uncovered => false,
+            ClearMode::Zeros | ClearMode::KeptZeros => true,
         }
     }
 
@@ -63,8 +63,8 @@ impl Clearance {
         ensures { result ≡ old_data_run bits old (cover_once_cleared self old) }
     {
         match self {
-            Clearance::Uncovered | Clearance::Zeros => old.host_clusters(bits),
-            Clearance::KeptZeros => {
+            ClearMode::Uncovered | ClearMode::Zeros => old.host_clusters(bits),
+            ClearMode::KeptZeros => {
                 if old.is_marked_copied() {
                     None
                 } else {
@@ -121,10 +121,10 @@ impl<S: Storage, F: WrappedFormat<S>> Qcow2<S, F> {
         length: u64,
     ) -> Result<(u64, u64), ImageError>
         ensures step { ClearsStep S.view F.backing self.old self.new result }
-        ensures fails { FailsToClear S.view F.backing Clearance.Uncovered self.old self.new offset length result }
-        ensures sound { ClearsSoundly S.view F.backing Clearance.Uncovered self.old self.new offset length result }
+        ensures fails { FailsToClear S.view F.backing ClearMode.Uncovered self.old self.new offset length result }
+        ensures sound { ClearsSoundly S.view F.backing ClearMode.Uncovered self.old self.new offset length result }
     {
-        self.clear_range(offset, length, Clearance::Uncovered)
+        self.clear_range(offset, length, ClearMode::Uncovered)
     }
 
     /// Discards the whole clusters of a range, in bytes, so that they read as zeros. Returns where the first whole cluster begins, and how
@@ -140,10 +140,10 @@ impl<S: Storage, F: WrappedFormat<S>> Qcow2<S, F> {
         length: u64,
     ) -> Result<(u64, u64), ImageError>
         ensures step { ClearsStep S.view F.backing self.old self.new result }
-        ensures fails { FailsToClear S.view F.backing Clearance.Zeros self.old self.new offset length result }
-        ensures sound { ClearsSoundly S.view F.backing Clearance.Zeros self.old self.new offset length result }
+        ensures fails { FailsToClear S.view F.backing ClearMode.Zeros self.old self.new offset length result }
+        ensures sound { ClearsSoundly S.view F.backing ClearMode.Zeros self.old self.new offset length result }
     {
-        self.clear_range(offset, length, Clearance::Zeros)
+        self.clear_range(offset, length, ClearMode::Zeros)
     }
 
     /// Discards the whole clusters of a range, in bytes, whatever they read as then: zeros, today. Returns where the first whole cluster
@@ -159,8 +159,8 @@ impl<S: Storage, F: WrappedFormat<S>> Qcow2<S, F> {
         length: u64,
     ) -> Result<(u64, u64), ImageError>
         ensures step { ClearsStep S.view F.backing self.old self.new result }
-        ensures fails { FailsToClear S.view F.backing Clearance.Zeros self.old self.new offset length result }
-        ensures sound { ClearsSoundly S.view F.backing Clearance.Zeros self.old self.new offset length result }
+        ensures fails { FailsToClear S.view F.backing ClearMode.Zeros self.old self.new offset length result }
+        ensures sound { ClearsSoundly S.view F.backing ClearMode.Zeros self.old self.new offset length result }
     {
         self.discard_to_zero_unsafe(offset, length)
     }
@@ -178,10 +178,10 @@ impl<S: Storage, F: WrappedFormat<S>> Qcow2<S, F> {
         length: u64,
     ) -> Result<(u64, u64), ImageError>
         ensures step { ClearsStep S.view F.backing self.old self.new result }
-        ensures fails { FailsToClear S.view F.backing Clearance.KeptZeros self.old self.new offset length result }
-        ensures sound { ClearsSoundly S.view F.backing Clearance.KeptZeros self.old self.new offset length result }
+        ensures fails { FailsToClear S.view F.backing ClearMode.KeptZeros self.old self.new offset length result }
+        ensures sound { ClearsSoundly S.view F.backing ClearMode.KeptZeros self.old self.new offset length result }
     {
-        self.clear_range(offset, length, Clearance::KeptZeros)
+        self.clear_range(offset, length, ClearMode::KeptZeros)
     }
 
     // Clears the whole clusters of a range.
@@ -189,7 +189,7 @@ impl<S: Storage, F: WrappedFormat<S>> Qcow2<S, F> {
         &mut self,
         offset: u64,
         length: u64,
-        how: Clearance,
+        how: ClearMode,
     ) -> Result<(u64, u64), ImageError>
         ensures step { ClearsStep S.view F.backing self.old self.new result }
         ensures fails { FailsToClear S.view F.backing how self.old self.new offset length result }
@@ -211,7 +211,7 @@ impl<S: Storage, F: WrappedFormat<S>> Qcow2<S, F> {
         &self,
         offset: u64,
         length: u64,
-        how: Clearance,
+        how: ClearMode,
     ) -> Result<(u64, u64), ImageError>
         ensures refusal { MatchOption (refuses_to_clear self.now offset length how)
             (result ≡ Ok (from_in self.now offset length, to_in self.now offset length)) (λ e. result ≡ Err e) }
@@ -260,7 +260,7 @@ impl<S: Storage, F: WrappedFormat<S>> Qcow2<S, F> {
         &mut self,
         from: u64,
         to: u64,
-        how: Clearance,
+        how: ClearMode,
     ) -> Result<(), ImageError>
         requires writable { IsTrue (is_writable self.old) }
         requires some { from < to }
@@ -287,7 +287,7 @@ impl<S: Storage, F: WrappedFormat<S>> Qcow2<S, F> {
     }
 
     // Clears the clusters between two offsets within one L2 table. Everything that may be refused comes before the first entry changes.
-    fn clear_in_table(&mut self, from: u64, to: u64, how: Clearance) -> Result<(), ImageError>
+    fn clear_in_table(&mut self, from: u64, to: u64, how: ClearMode) -> Result<(), ImageError>
         requires writable { IsTrue (is_writable self.old) }
         requires some { from < to }
         ensures step { PartStep S.view F.backing self.old self.new result }
@@ -324,7 +324,7 @@ impl<S: Storage, F: WrappedFormat<S>> Qcow2<S, F> {
         table: HostCluster,
         first: GuestCluster,
         count: u64,
-        how: Clearance,
+        how: ClearMode,
     ) -> Result<ClustersToFreeList, ImageError>
         requires near { first + count < 2 ^ 64 }
         ensures cause { IfErr result IsMet }
@@ -352,7 +352,7 @@ impl<S: Storage, F: WrappedFormat<S>> Qcow2<S, F> {
         list: &mut ClustersToFreeList,
         table: HostCluster,
         cluster: GuestCluster,
-        how: Clearance,
+        how: ClearMode,
     ) -> Result<(), ImageError>
         ensures cause { IfErr result IsMet }
         ensures only_faults { (p : Pending) (i : ℕ) → FileInvariant S.view p self.now.file
@@ -370,7 +370,7 @@ impl<S: Storage, F: WrappedFormat<S>> Qcow2<S, F> {
     }
 
     // Clears `count` entries of a cached L2 table.
-    fn clear_entries(&mut self, table: HostCluster, index: usize, count: usize, how: Clearance)
+    fn clear_entries(&mut self, table: HostCluster, index: usize, count: usize, how: ClearMode)
         ensures stays { ImageStays self.old self.new }
         ensures clears { ClearsTable S.view F.backing how table index count self.old self.new }
     {
@@ -380,14 +380,14 @@ impl<S: Storage, F: WrappedFormat<S>> Qcow2<S, F> {
     }
 
     // Clears an entry of a cached L2 table.
-    fn clear_entry(&mut self, table: HostCluster, index: usize, how: Clearance)
+    fn clear_entry(&mut self, table: HostCluster, index: usize, how: ClearMode)
         ensures { ClearsEntry how table index self.old self.new }
     {
         let caches = &mut self.file.caches;
         let _old_data = match how {
-            Clearance::Uncovered => caches.l2_discard_cluster(table, index),
-            Clearance::Zeros => caches.l2_zero_cluster(table, index, false),
-            Clearance::KeptZeros => caches.l2_zero_cluster(table, index, true),
+            ClearMode::Uncovered => caches.l2_discard_cluster(table, index),
+            ClearMode::Zeros => caches.l2_zero_cluster(table, index, false),
+            ClearMode::KeptZeros => caches.l2_zero_cluster(table, index, true),
         };
     }
 }

@@ -6,7 +6,7 @@ ghost use Rattle.qcow2_metadata.specs.TableBytes.{HasPlace};
 ghost use Rattle.qcow2_image.specs.PreparedPlaces.{MarkedIsBehind};
 ghost use Rattle.std.specs.Prelude.{List, Option, ◌≡◌, ◌+◌, ◌-◌, ◌/◌, ◌%◌, ◌^◌, ◌<◌, ◌≤◌, true, false, Some, [], ◌∷◌};
 ghost use Rattle.std.specs.Prelude.{vec_capacity, IfOk, IfErr, IsSome, IsTrue, OnOk};
-ghost use Rattle.qcow2_image.specs.Backings.{HasPrepared};
+ghost use Rattle.qcow2_image.specs.Backings.{HasPinnedMapping};
 ghost use Rattle.qcow2_alloc.specs.ImageError.{IsFault};
 ghost use Rattle.qcow2_image.specs.MetAlone.{IsCopiedCompressed, IsMetAlone, IsMetLooking, IsMetTaking};
 ghost use Rattle.qcow2_metadata.specs.L2Mapping.{IsHostCluster, IsInReach, greatest_offset};
@@ -30,7 +30,7 @@ ghost use Rattle.qcow2_image.specs.Ranges.{BeginsInKept, HasRoomForRange, IsFirs
 ghost use Rattle.qcow2_image.specs.UnseenSteps.{Gains, HoldsAll, HoldsTable, ListGrows, Pins, SameHeld, TakesData};
 ghost use Rattle.qcow2_image.specs.UnseenSteps.{UnseenStep};
 
-use crate::mappings::{copied_place, kept_place};
+use crate::mappings::{copied_offset, preallocated_offset};
 use crate::prepared::Share;
 use crate::{Place, Prepared, Qcow2};
 use image_access::{Storage, WrappedFormat};
@@ -65,7 +65,7 @@ impl<S: Storage, F: WrappedFormat<S>> Qcow2<S, F> {
         ensures met { (out : List (Option Prepared))
             → ImageInvariant S.view F.backing (pending_in S.view F.backing self.old out) self.old out
             → HoldsTable S.view F.backing self.old offset table
-            → IfErr result (IsMetTaking (HasPrepared out) (0 < l2_pins self.old.file.caches table)
+            → IfErr result (IsMetTaking (HasPinnedMapping out) (0 < l2_pins self.old.file.caches table)
             (IsCopiedCompressed self.old.file.header.fields
             (cover self.old.file.header.fields (known_in S.view self.old.file)
             (offset / cluster_size self.old.file.header.fields)) offset length overwrite) ⊥) }
@@ -94,7 +94,7 @@ impl<S: Storage, F: WrappedFormat<S>> Qcow2<S, F> {
         let room = Vec::with_capacity(self.file.alloc, self.clusters_in(offset, length))?;
         let cluster = GuestOffset::new(offset).cluster(self.file.header.cluster_bits());
         let old = self.cover_in(table, cluster)?;
-        match copied_place(&old) {
+        match copied_offset(&old) {
             Some(host) => Ok(self.prepare_at(table, offset, host, Share::InPlace, room)),
             None => self.prepare_private(table, offset, length, overwrite, &old, room),
         }
@@ -123,7 +123,7 @@ impl<S: Storage, F: WrappedFormat<S>> Qcow2<S, F> {
             → HoldsTable S.view F.backing self.old offset table
             → cover self.old.file.header.fields (known_in S.view self.old.file)
             (offset / cluster_size self.old.file.header.fields) ≡ old.now
-            → IfErr result (IsMetTaking (HasPrepared out) ⊥
+            → IfErr result (IsMetTaking (HasPinnedMapping out) ⊥
             (IsCopiedCompressed self.old.file.header.fields old.now offset length overwrite) ⊥) }
         ensures limit { (out : List (Option Prepared))
             → ImageInvariant S.view F.backing (pending_in S.view F.backing self.old out) self.old out
@@ -142,7 +142,7 @@ impl<S: Storage, F: WrappedFormat<S>> Qcow2<S, F> {
             → Readies S.view F.backing self.old self.new out offset length overwrite result }
         ensures header { KeepsHeader self.old.file.header self.new.file.header }
     {
-        match kept_place(old) {
+        match preallocated_offset(old) {
             Some(host) => self.prepare_kept(table, offset, length, overwrite, host, room),
             None => self.prepare_new(table, offset, length, overwrite, old, room),
         }
@@ -242,7 +242,8 @@ impl<S: Storage, F: WrappedFormat<S>> Qcow2<S, F> {
         ensures fails { ImageFails S.view F.backing self.old self.new result IsMet }
         ensures header { self.new.file.header ≡ self.old.file.header }
         ensures met { (p : Pending) (out : List (Option Prepared)) → ImageInvariant S.view F.backing p self.old out
-            → HasPlace self.old.file.header.fields.cluster_bits table → IfErr result (IsMetLooking (HasPrepared out)) }
+            → HasPlace self.old.file.header.fields.cluster_bits table
+            → IfErr result (IsMetLooking (HasPinnedMapping out)) }
         ensures allocator { self.new.allocator ≡ self.old.allocator }
         ensures table { self.new.l1_table ≡ self.old.l1_table }
         ensures list { self.new.file.free_list ≡ self.old.file.free_list }

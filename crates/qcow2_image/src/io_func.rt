@@ -285,12 +285,12 @@ impl<S: Storage, F: WrappedFormat<S>> Qcow2<S, F> {
             return Ok(None);
         }
         self.begin();
-        let plain = self.plain_at(offset, bytes.len() as u64);
+        let plain = self.check_not_compressed(offset, bytes.len() as u64);
         self.mark_failure(plain)
     }
 
     // The offset, if the range does not begin in a compressed cluster.
-    fn plain_at(&mut self, offset: u64, length: u64) -> Result<Option<u64>, ImageError>
+    fn check_not_compressed(&mut self, offset: u64, length: u64) -> Result<Option<u64>, ImageError>
         ensures step { ReadingStep S.view self.old self.new }
         ensures fails { ImageFails S.view F.backing self.old self.new result IsMet }
         ensures met { (p : Pending) (out : List (Option Prepared)) → ImageInvariant S.view F.backing p self.old out

@@ -7,7 +7,7 @@ ghost use Rattle.qcow2_image.specs.MetAlone.{KeepsL1Place, IsMetLooking};
 ghost use Rattle.qcow2_metadata.specs.L2Mapping.{IsHostCluster};
 ghost use Rattle.qcow2_metadata.specs.EntryTable.{entry_count, HasRoomIfPlaced};
 ghost use Rattle.qcow2_alloc.specs.ImageError.{IsFault};
-ghost use Rattle.qcow2_image.specs.Backings.{HasPrepared};
+ghost use Rattle.qcow2_image.specs.Backings.{HasPinnedMapping};
 ghost use Rattle.qcow2_image.specs.Image.{KeepsRest, KeepsRestOn, is_writable};
 ghost use Rattle.qcow2_laws.specs.CrashInvariant.{Pending};
 ghost use Rattle.qcow2_alloc.specs.ImageFile.{known_in};
@@ -241,7 +241,7 @@ impl<S: Storage, F: WrappedFormat<S>> Qcow2<S, F> {
             → ImageInvariant S.view F.backing (with_new_tables p (one_at cluster)) self.old out
             → SaysKnown self.old.file.header.fields (known_in S.view self.old.file) index table
             → HasNearEntry self.old index → IsHostCluster self.old.file.header.fields.cluster_bits cluster
-            → IfErr result (IsMetLooking (HasPrepared out)) }
+            → IfErr result (IsMetLooking (HasPinnedMapping out)) }
         ensures allocator { self.new.allocator ≡ self.old.allocator }
         ensures l1_table { IfErr result (IsFaultOrKeepsL1Table self.old self.new) }
         ensures list { self.new.file.free_list ≡ self.old.file.free_list }
@@ -288,7 +288,7 @@ impl<S: Storage, F: WrappedFormat<S>> Qcow2<S, F> {
         ensures keeps_rest { KeepsRest self.old self.new }
         ensures met { (p : Pending) (out : List (Option Prepared)) → ImageInvariant S.view F.backing p self.old out
             → 0 < p.new_tables cluster → IsTableOf self.old.file.header.fields table → IsStored S.view self.old
-            → IsHostCluster table.cluster_bits cluster → IfErr result (IsMetLooking (HasPrepared out)) }
+            → IsHostCluster table.cluster_bits cluster → IfErr result (IsMetLooking (HasPinnedMapping out)) }
         ensures rest { self.new ≡ record self.old {
           file = record self.old.file {
             storage = self.new.file.storage;

@@ -9,7 +9,7 @@ ghost use Rattle.std.specs.Prelude.{◌↔◌, ℕ, List, Option, ◌≡◌, ◌
 ghost use Rattle.std.specs.Prelude.{◌≤◌, [], ◌∷◌, ◌++◌, length, slice_get, IfOk, IfErr, IfSome, OnOk, IsOk, IsNone};
 ghost use Rattle.std.specs.Prelude.{IsSome, IsTrue, IsFalse, MatchOption, MatchResult, Ok, Err, None, false};
 ghost use Rattle.qcow2_metadata.specs.EntryTable.{entry_count};
-ghost use Rattle.qcow2_image.specs.Backings.{HasPrepared};
+ghost use Rattle.qcow2_image.specs.Backings.{HasPinnedMapping};
 ghost use Rattle.qcow2_image.specs.MetAlone.{CopiesCompressed, KeepsL1Place, IsMetTaking};
 ghost use Rattle.qcow2_metadata.specs.L2Mapping.{IsInReach, greatest_offset, named_run};
 ghost use Rattle.qcow2_disk.specs.Mappings.{is_copied_data};
@@ -91,7 +91,7 @@ fn is_last(refusal: &ImageError) -> bool
 }
 
 // The host offset of copied data.
-pub(crate) fn copied_place(mapping: &L2Mapping) -> Option<u64>
+pub(crate) fn copied_offset(mapping: &L2Mapping) -> Option<u64>
     requires { IsInReach mapping.now }
     ensures place { IfSome result (λ host. (mapping.now ≡ L2Mapping.Data host true) × (host < 2 ^ 57)) }
     ensures none { IsNone result → is_copied_data mapping.now ≡ false }
@@ -103,7 +103,7 @@ pub(crate) fn copied_place(mapping: &L2Mapping) -> Option<u64>
 }
 
 // The host offset that a zero entry keeps, marked copied.
-pub(crate) fn kept_place(mapping: &L2Mapping) -> Option<u64>
+pub(crate) fn preallocated_offset(mapping: &L2Mapping) -> Option<u64>
     requires { IsInReach mapping.now }
     ensures place { IfSome result (λ host. (mapping.now ≡ L2Mapping.Zero (Some (host, true))) × (host ≤ greatest_offset)) }
     ensures none { IsNone result → (host : ℕ) → mapping.now ≢ L2Mapping.Zero (Some (host, true)) }
@@ -146,7 +146,7 @@ pub(crate) fn keeps(mapping: &L2Mapping, place: u64) -> bool
     ensures answer { IsTrue result ↔ (mapping.now ≡ L2Mapping.Zero (Some (place, true))) }
     ensures reach { IsTrue result → place ≤ greatest_offset }
 {
-    kept_place(mapping) == Some(place)
+    preallocated_offset(mapping) == Some(place)
 }
 
 #[tactic(auto, using(crate::proofs::Call::MetErrors::tables_met, crate::proofs::Call::MetErrors::storage_met, crate::proofs::Call::MetErrors::metadata_met, crate::proofs::Call::MetErrors::metadata_of_tables))]
@@ -169,7 +169,7 @@ impl<S: Storage, F: WrappedFormat<S>> Qcow2<S, F> {
         ensures late { refuses_to_prepare self.old offset length ≡ None → IfErr result IsMetPreparing }
         ensures met { refuses_to_prepare self.old offset length ≡ None → 0 < length → (out : List (Option Prepared))
             → (abstract_of S.view F.backing self.old out).is_sound
-            → IfErr result (IsMetTaking (HasPrepared out)
+            → IfErr result (IsMetTaking (HasPinnedMapping out)
             (IsTaken self.old.file.header.fields (known_in S.view self.old.file) offset length out)
             (CopiesCompressed offset length overwrite self.old.file.header.fields (known_in S.view self.old.file))
             (NeedsOverflowingL1Entry self.old offset)) }

@@ -4,7 +4,7 @@ ghost use Rattle.qcow2_image.specs.ImageSteps.{FailsUnlimited, ImageFails, Image
 ghost use Rattle.std.specs.Prelude.{ℕ, List, Option, ◌≡◌, ◌%◌, ◌^◌, ◌<◌, ◌≤◌, Err, IfOk, IfErr, IsTrue, OnOk, max};
 ghost use Rattle.std.specs.Prelude.{replicate, slice_get, slice_set, None, Ok, Some};
 ghost use Rattle.qcow2_alloc.specs.ImageFile.{known_in};
-ghost use Rattle.qcow2_image.specs.Backings.{HasPrepared};
+ghost use Rattle.qcow2_image.specs.Backings.{HasPinnedMapping};
 ghost use Rattle.qcow2_alloc.specs.ImageError.{IsFault};
 ghost use Rattle.qcow2_image.specs.MetAlone.{HasCompressedIn, HasNearEntries, IsMetGrowing, IsMetTaking};
 ghost use Rattle.image_access.specs.declared.storage.PreallocateMode.TheVariants.{None as PreallocateNone, Zero};
@@ -23,7 +23,7 @@ ghost use Rattle.qcow2_image.specs.Preallocation.{FillsOrRefuses, IsWholeRange, 
 ghost use Rattle.qcow2_image.specs.Refusals.{FreesRefused, IsMet, IsMetPreparing};
 ghost use Rattle.qcow2_image.specs.Faults.{IsNotOfStorage, SameFaults};
 
-use crate::discarding::{Clearance, rounded_up};
+use crate::discarding::{ClearMode, rounded_up};
 use crate::{Prepared, Qcow2};
 use image_access::{PreallocateMode, Storage, StorageError, WrappedFormat};
 use qcow2_alloc::{ImageError, ImageStorage, WriteKind};
@@ -167,7 +167,7 @@ impl<S: Storage, F: WrappedFormat<S>> Qcow2<S, F> {
         ensures met { (out : List (Option Prepared))
             → ImageInvariant S.view F.backing (pending_in S.view F.backing self.old out) self.old out → old ≤ size
             → HasNearEntries (rounded_up_to (cluster_size self.old.file.header.fields) size) self.old.file.header.fields
-            → IfErr result (IsMetTaking (HasPrepared out) (HasPrepared out)
+            → IfErr result (IsMetTaking (HasPinnedMapping out) (HasPinnedMapping out)
             (HasCompressedIn old (rounded_up_to
             (cluster_size self.old.file.header.fields) size) self.old.file.header.fields
             (known_in S.view self.old.file)) ⊥) }
@@ -192,7 +192,7 @@ impl<S: Storage, F: WrappedFormat<S>> Qcow2<S, F> {
             → ImageInvariant S.view F.backing (pending_in S.view F.backing self.old out) self.old out → old ≤ size
             → 3 ≤ self.old.file.header.fields.version
             → HasNearEntries (rounded_up_to (cluster_size self.old.file.header.fields) size) self.old.file.header.fields
-            → IfErr result (IsMetTaking (HasPrepared out) (HasPrepared out)
+            → IfErr result (IsMetTaking (HasPinnedMapping out) (HasPinnedMapping out)
             (HasCompressedIn old (rounded_up_to
             (cluster_size self.old.file.header.fields) old) self.old.file.header.fields
             (known_in S.view self.old.file)) ⊥) }
@@ -226,7 +226,7 @@ impl<S: Storage, F: WrappedFormat<S>> Qcow2<S, F> {
             → from ≤ end → IsWholeRange self.old.file.header.fields from end → 3 ≤ self.old.file.header.fields.version
             → FillsPart (FillsOrRefuses S.view F.backing from old end self.old self.new out result)
             (HasNearEntries end self.old.file.header.fields
-            → IfErr result (IsMetTaking (HasPrepared out) (HasPrepared out)
+            → IfErr result (IsMetTaking (HasPinnedMapping out) (HasPinnedMapping out)
             (HasCompressedIn old from self.old.file.header.fields (known_in S.view self.old.file)) ⊥)) }
         ensures emptied { HasNothingToFree self.old → OnOk result (HasNothingToFree self.new) }
     {
@@ -245,7 +245,7 @@ impl<S: Storage, F: WrappedFormat<S>> Qcow2<S, F> {
             → IsWholeRange self.old.file.header.fields from to → 3 ≤ self.old.file.header.fields.version
             → FillsPart (FillsOrRefuses S.view F.backing 0 from to self.old self.new out result)
             (HasNearEntries to self.old.file.header.fields
-            → IfErr result (IsMetTaking (HasPrepared out) (HasPrepared out) ⊥ ⊥)) }
+            → IfErr result (IsMetTaking (HasPinnedMapping out) (HasPinnedMapping out) ⊥ ⊥)) }
         ensures emptied { HasNothingToFree self.old → OnOk result (HasNothingToFree self.new) }
     {
         let mut at = from;
@@ -265,7 +265,7 @@ impl<S: Storage, F: WrappedFormat<S>> Qcow2<S, F> {
             → IsWholeRange self.old.file.header.fields from to → 3 ≤ self.old.file.header.fields.version
             → FillsPart (FillsFirst S.view F.backing 0 from to self.old self.new out result)
             (HasNearEntries to self.old.file.header.fields
-            → IfErr result (IsMetTaking (HasPrepared out) (HasPrepared out) ⊥ ⊥)) }
+            → IfErr result (IsMetTaking (HasPinnedMapping out) (HasPinnedMapping out) ⊥ ⊥)) }
         ensures emptied { HasNothingToFree self.old → OnOk result (HasNothingToFree self.new) }
         ensures next { IfOk result (λ next. (from ≤ next) × (from < to → from < next) × (next ≤ max from to)) }
         ensures whole { (out : List (Option Prepared))
@@ -277,7 +277,7 @@ impl<S: Storage, F: WrappedFormat<S>> Qcow2<S, F> {
             return Ok(from);
         }
         let next = to.min(from.saturating_add(self.rest_of_table(from)));
-        self.clear_between(from, next, Clearance::KeptZeros)?;
+        self.clear_between(from, next, ClearMode::KeptZeros)?;
         self.process_free_list()?;
         Ok(next)
     }
@@ -294,7 +294,7 @@ impl<S: Storage, F: WrappedFormat<S>> Qcow2<S, F> {
             → to % cluster_size self.old.file.header.fields ≡ 0
             → FillsPart (FillsOrRefuses S.view F.backing to from to self.old self.new out result)
             (HasNearEntries to self.old.file.header.fields
-            → IfErr result (IsMetTaking (HasPrepared out) (HasPrepared out)
+            → IfErr result (IsMetTaking (HasPinnedMapping out) (HasPinnedMapping out)
             (HasCompressedIn from to self.old.file.header.fields (known_in S.view self.old.file)) ⊥)) }
         ensures emptied { HasNothingToFree self.old → OnOk result (HasNothingToFree self.new) }
     {
@@ -318,7 +318,7 @@ impl<S: Storage, F: WrappedFormat<S>> Qcow2<S, F> {
             → FillsPart (to % cluster_size self.old.file.header.fields ≡ 0
             → FillsFirst S.view F.backing to from to self.old self.new out result)
             (to % cluster_size self.old.file.header.fields ≡ 0 → HasNearEntries to self.old.file.header.fields
-            → IfErr result (IsMetTaking (HasPrepared out) (HasPrepared out)
+            → IfErr result (IsMetTaking (HasPinnedMapping out) (HasPinnedMapping out)
             (HasCompressedIn from to self.old.file.header.fields (known_in S.view self.old.file)) ⊥)) }
         ensures emptied { HasNothingToFree self.old → OnOk result (HasNothingToFree self.new) }
         ensures next { IfOk result (λ next. (from < next) × (next ≤ to)) }

@@ -20,7 +20,7 @@ ghost use Rattle.qcow2_image.specs.UnseenSteps.{HoldsAll, ListGrows};
 ghost use Rattle.qcow2_image.specs.Ranges.{FindsBehind, GainsAt, GoesNext, GoesOn, HasRoomForRange, IsLongerMapping};
 ghost use Rattle.qcow2_image.specs.Ranges.{IsNext, EndsWithCluster, MayGoOn, SharesAt, TakesDataAt};
 
-use crate::mappings::{copied_place, keeps};
+use crate::mappings::{copied_offset, keeps};
 use crate::prepared::Share;
 use crate::{Prepared, Qcow2};
 use image_access::{Storage, WrappedFormat};
@@ -131,7 +131,7 @@ impl<S: Storage, F: WrappedFormat<S>> Qcow2<S, F> {
         let cluster = GuestOffset::new(next).cluster(self.file.header.cluster_bits());
         let old = self.cover_in(table, cluster)?;
         let left = length.saturating_sub(prepared.length);
-        match copied_place(&old) {
+        match copied_offset(&old) {
             Some(place) if place == host => Ok(Some(Share::InPlace)),
             Some(_) => Ok(None),
             None if keeps(&old, host) => {

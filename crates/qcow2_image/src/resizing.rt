@@ -18,7 +18,7 @@ ghost use Rattle.qcow2_alloc.specs.declared.error.ImageError.TheVariants.{Mappin
 ghost use Rattle.qcow2_alloc.specs.ImageError.{IsFault};
 ghost use Rattle.qcow2_alloc.specs.ImageFile.{view_in, known_in};
 ghost use Rattle.qcow2_alloc.specs.ImageStorage.{is_changed_of};
-ghost use Rattle.qcow2_image.specs.Backings.{HasPrepared};
+ghost use Rattle.qcow2_image.specs.Backings.{HasPinnedMapping};
 ghost use Rattle.qcow2_image.specs.declared.prepared.Prepared.{Prepared};
 ghost use Rattle.qcow2_image.specs.Growing.{Resizes};
 ghost use Rattle.qcow2_image.specs.Image.{HasNothingToFree, IsSameImage, has_noted_change, is_failed, is_writable};
@@ -36,7 +36,7 @@ ghost use Rattle.qcow2_image.specs.Resizing.{takes_over};
 ghost use Rattle.qcow2_image.specs.Faults.{CountsImageFaults, NoFewerFaults, TellsEachIn, TellsFault};
 
 use crate::Qcow2;
-use crate::discarding::Clearance;
+use crate::discarding::ClearMode;
 use image_access::{PreallocateMode, Storage, WrappedFormat};
 use qcow2_alloc::{ImageError, WriteKind};
 use qcow2_metadata::GuestOffset;
@@ -54,7 +54,8 @@ impl<S: Storage, F: WrappedFormat<S>> Qcow2<S, F> {
         ensures no_smaller { refuses_to_resize self.old ≡ None → size_of self.old ≤ size
             → (result ≡ Ok (size_of self.old)) × (self.new ≡ self.old) }
         ensures prepared { refuses_to_resize self.old ≡ None → size < size_of self.old → (out : List (Option Prepared))
-            → (abstract_of S.view F.backing self.old out).is_sound → HasPrepared out → (result ≡ Err MappingPrepared)
+            → (abstract_of S.view F.backing self.old out).is_sound → HasPinnedMapping out
+            → (result ≡ Err MappingPrepared)
             × (self.new ≡ self.old) }
         ensures pinned { refuses_to_resize self.old ≡ None → size < size_of self.old
             → (result ≡ Err MappingPrepared) ↔ HasPinnedTable self.old }
@@ -100,13 +101,13 @@ impl<S: Storage, F: WrappedFormat<S>> Qcow2<S, F> {
         ensures covers { (out : List (Option Prepared)) → (abstract_of S.view F.backing self.old out).is_sound
             → IfOk result (λ answer. UncoversClusters S.view size answer self.old self.new) }
         ensures stops { refuses_to_resize self.old ≡ None → (out : List (Option Prepared))
-            → (abstract_of S.view F.backing self.old out).is_sound → (HasPrepared out → ⊥)
+            → (abstract_of S.view F.backing self.old out).is_sound → (HasPinnedMapping out → ⊥)
             → IfOk result (EndsTail S.view F.backing out self.old self.new size) }
         ensures last { (out : List (Option Prepared)) → (abstract_of S.view F.backing self.old out).is_sound
             → WritesSizeLast S.view F.backing self.old self.new }
     {
         let before = self.file.changes();
-        let (end, stopped) = self.uncover_tail(size);
+        let (end, stopped) = self.discard_tail(size);
         if let Some(refusal) = stopped {
             self.mark_refused(&refusal, before);
             return Err(refusal);
@@ -119,7 +120,7 @@ impl<S: Storage, F: WrappedFormat<S>> Qcow2<S, F> {
     }
 
     // Unmaps the whole clusters behind a size, step by step. Returns where it ended, and the refusal if that ends the call. Any other refusal only ends the steps.
-    fn uncover_tail(&mut self, size: u64) -> (u64, Option<ImageError>)
+    fn discard_tail(&mut self, size: u64) -> (u64, Option<ImageError>)
         requires usable { is_failed self.old ≡ false }
         requires smaller { size < size_of self.old }
         ensures image { IsSameImage self.old self.new }
@@ -129,7 +130,7 @@ impl<S: Storage, F: WrappedFormat<S>> Qcow2<S, F> {
             → ImageInvariant S.view F.backing (pending_in S.view F.backing self.old out) self.old out
             → UncoversTail S.view F.backing self.old self.new size result.0 result.1 out }
         ensures stops { refuses_to_resize self.old ≡ None → (out : List (Option Prepared))
-            → (abstract_of S.view F.backing self.old out).is_sound → (HasPrepared out → ⊥) → result.1 ≡ None
+            → (abstract_of S.view F.backing self.old out).is_sound → (HasPinnedMapping out → ⊥) → result.1 ≡ None
             → result.0 < size_of self.old → CantUncover S.view (size_of self.old) self.new result.0 }
         ensures emptied { IsTrue (is_writable self.old) → (out : List (Option Prepared))
             → ImageInvariant S.view F.backing (pending_in S.view F.backing self.old out) self.old out → result.1 ≡ None
@@ -147,7 +148,7 @@ impl<S: Storage, F: WrappedFormat<S>> Qcow2<S, F> {
         let end = self.file.header.size();
         let mut at = size;
         while at < end {
-            match self.uncover_from(at) {
+            match self.discard_in_table(at) {
                 Ok(next) => at = next,
                 Err(refusal) => {
                     if refusal.is_fault() {
@@ -162,7 +163,7 @@ impl<S: Storage, F: WrappedFormat<S>> Qcow2<S, F> {
 
     // Unmaps the whole clusters from an offset on, within one L2 table. Returns where the next step begins. After a refusal, the
     // clusters on the list are freed, except after a fault.
-    fn uncover_from(&mut self, at: u64) -> Result<u64, ImageError>
+    fn discard_in_table(&mut self, at: u64) -> Result<u64, ImageError>
         requires usable { is_failed self.old ≡ false }
         requires inside { at < size_of self.old }
         ensures on { IfOk result (λ next. (at < next) × (next ≤ size_of self.old)) }
@@ -170,7 +171,7 @@ impl<S: Storage, F: WrappedFormat<S>> Qcow2<S, F> {
         ensures marks { MarksFailed self.old self.new result }
         ensures uncovers { UncoversNext S.view F.backing self.old self.new at result }
         ensures stops { refuses_to_resize self.old ≡ None → (out : List (Option Prepared))
-            → (abstract_of S.view F.backing self.old out).is_sound → (HasPrepared out → ⊥)
+            → (abstract_of S.view F.backing self.old out).is_sound → (HasPinnedMapping out → ⊥)
             → IfErr result (IsFaultOrCantUncover S.view (size_of self.old) self.new at) }
         ensures emptied { IsTrue (is_writable self.old) → (out : List (Option Prepared))
             → ImageInvariant S.view F.backing (pending_in S.view F.backing self.old out) self.old out
@@ -182,7 +183,7 @@ impl<S: Storage, F: WrappedFormat<S>> Qcow2<S, F> {
         ensures header_cluster { StaysBehindHeader S.view self.old self.new }
         ensures faults { CountsImageFaults S.view F.backing self.old self.new result }
     {
-        match self.uncover_next(at) {
+        match self.discard_next(at) {
             Ok(next) => Ok(next),
             Err(refusal) => {
                 if refusal.is_fault() {
@@ -195,14 +196,14 @@ impl<S: Storage, F: WrappedFormat<S>> Qcow2<S, F> {
     }
 
     // Unmaps the whole clusters from an offset on, within one L2 table. Returns where the next step begins.
-    fn uncover_next(&mut self, at: u64) -> Result<u64, ImageError>
+    fn discard_next(&mut self, at: u64) -> Result<u64, ImageError>
         requires inside { at < size_of self.old }
         ensures on { IfOk result (λ next. (at < next) × (next ≤ size_of self.old)) }
         ensures image { IsSameImage self.old self.new }
         ensures marks { MarksFailed self.old self.new result }
         ensures uncovers { UncoversNext S.view F.backing self.old self.new at result }
         ensures stops { refuses_to_resize self.old ≡ None → (out : List (Option Prepared))
-            → (abstract_of S.view F.backing self.old out).is_sound → (HasPrepared out → ⊥)
+            → (abstract_of S.view F.backing self.old out).is_sound → (HasPinnedMapping out → ⊥)
             → IfErr result (IsFaultOrCantUncover S.view (size_of self.old) self.new at) }
         ensures emptied { (out : List (Option Prepared))
             → ImageInvariant S.view F.backing (pending_in S.view F.backing self.old out) self.old out
@@ -216,7 +217,7 @@ impl<S: Storage, F: WrappedFormat<S>> Qcow2<S, F> {
         ensures faults { CountsImageFaults S.view F.backing self.old self.new result }
     {
         let end = self.file.header.size();
-        let (from, count) = self.clear_range(at, end - at, Clearance::Uncovered)?;
+        let (from, count) = self.clear_range(at, end - at, ClearMode::Uncovered)?;
         let next = from.saturating_add(count);
         if at < next && next < end {
             Ok(next)

@@ -17,7 +17,7 @@ use Rattle.qcow2_image.specs.Clearing.{IsUnderMapping, from_in, refuses_clearing
 use Rattle.qcow2_image.specs.Image.{is_external, is_failed, number_of}
 use Rattle.qcow2_image.specs.ImageInvariant.{abstract_of}
 use Rattle.qcow2_image.proofs.Prepare.MetTaking.{taking_as}
-use Rattle.qcow2_image.specs.Backings.{HasPrepared}
+use Rattle.qcow2_image.specs.Backings.{HasPinnedMapping}
 use Rattle.qcow2_image.specs.MetAlone.{CopiesCompressed, IsMetAlone, IsMetReadingRange, IsMetTaking}
 use Rattle.qcow2_image.specs.declared.image.Qcow2.{Qcow2}
 use Rattle.qcow2_image.specs.declared.mapping.Mapping.{Mapping}
@@ -168,7 +168,7 @@ module _ {S F : Type 0} (view : S → StorageView) (backing : F → BackingView)
 
   pub write_refused_for : (offset : ℕ) (bytes : Vec ℕ Global) (e : ImageError) (n : ℕ) → IfSome (refuses_to_prepare old offset (length bytes.items)) (λ x. (◌≡◌ {A = Result (Unit {0}) (ImageError × ℕ)} (Err (e, n)) (Err (x, 0))) × (new ≡ old))
       → (refuses_to_prepare old offset (length bytes.items) ≡ None → IsMetPreparing e × (0 < length bytes.items))
-      → (refuses_to_prepare old offset (length bytes.items) ≡ None → (abstract_of view backing old before).is_sound → IsMetTaking (HasPrepared before) (IsUnderMappingIn old.file.header.fields offset (offset + length bytes.items) before) (CopiesCompressed offset (length bytes.items) true new.file.header.fields (known_in view new.file)) (NeedsOverflowingToWrite view backing old offset bytes.items n) e)
+      → (refuses_to_prepare old offset (length bytes.items) ≡ None → (abstract_of view backing old before).is_sound → IsMetTaking (HasPinnedMapping before) (IsUnderMappingIn old.file.header.fields offset (offset + length bytes.items) before) (CopiesCompressed offset (length bytes.items) true new.file.header.fields (known_in view new.file)) (NeedsOverflowingToWrite view backing old offset bytes.items n) e)
       → (refuses_to_prepare old offset (length bytes.items) ≡ None → (abstract_of view backing old before).is_sound → e ≡ I.TablePrepared → IsUnderMappingIn old.file.header.fields offset (offset + length bytes.items) before)
       → (refuses_to_prepare old offset (length bytes.items) ≡ None → (abstract_of view backing old before).is_sound → e ≡ I.Limit → IsLimited view backing (given_of offset bytes.items ∷ []) (offset + length bytes.items) old before)
       → (refuses_to_prepare old offset (length bytes.items) ≡ None → (abstract_of view backing old before).is_sound → HeedsMappings view backing old before offset bytes.items (Err (e, n)))

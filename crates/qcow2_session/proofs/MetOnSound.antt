@@ -24,7 +24,7 @@ use Rattle.qcow2_image.proofs.HiddenBytes.{header_is}
 use Rattle.qcow2_image.proofs.Map.Looked.{compressed_there, data_found, found_upto, product_le}
 use Rattle.qcow2_image.proofs.Prepare.NearPlaces.{IsNearData, cover_near}
 use Rattle.qcow2_image.proofs.Shares.{never_private}
-use Rattle.qcow2_image.specs.Backings.{HasPrepared}
+use Rattle.qcow2_image.specs.Backings.{HasPinnedMapping}
 use Rattle.qcow2_image.specs.Found.{IsFoundWhole, found_kind, further_by}
 use Rattle.qcow2_image.specs.Image.{size_of}
 use Rattle.qcow2_image.specs.ImageInvariant.{ImageInvariant, IsReadyWith, abstract_of, meaning, pending_in}
@@ -40,11 +40,11 @@ use Rattle.qcow2_image.specs.declared.prepared.Prepared.{Prepared}
 use Rattle.qcow2_session.proofs.Copied.{kept_cover, same_size}
 
 -- where the cache is full of tables that are held, a mapping is prepared
-pub looking_prepared : {S F : Type 0} (image : Qcow2 S F) (out : List (Option Prepared)) (e : ImageError) → IsMetLooking (IsCacheHeld image out) e → IsMetLooking (HasPrepared out) e
+pub looking_prepared : {S F : Type 0} (image : Qcow2 S F) (out : List (Option Prepared)) (e : ImageError) → IsMetLooking (IsCacheHeld image out) e → IsMetLooking (HasPinnedMapping out) e
 looking_prepared image out e (inl fault) = inl fault
 looking_prepared image out e (inr used) = inr (used.0, prepared used.1)
   where
-    prepared : IsCacheHeld image out → HasPrepared out
+    prepared : IsCacheHeld image out → HasPinnedMapping out
     prepared held = held.1
 
 -- want of memory is a fault
@@ -196,16 +196,16 @@ compressed_in_part h known offset n done at m there upto begins c =
 -- ---- a put into a mapping that was just prepared
 
 -- what is prepared beside an existing one was prepared before
-prepared_beside : (out : List (Option Prepared)) (p : Prepared) → table_of p ≡ None → HasPrepared (Some p ∷ out) → HasPrepared out
+prepared_beside : (out : List (Option Prepared)) (p : Prepared) → table_of p ≡ None → HasPinnedMapping (Some p ∷ out) → HasPinnedMapping out
 prepared_beside out p existing has = at has.place has.mapping has.there has.pins
   where
-    at : (k : ℕ) (q : Prepared) → slice_get (Some p ∷ out) k ≡ Some (Some q) → IsSome (table_of q) → HasPrepared out
+    at : (k : ℕ) (q : Prepared) → slice_get (Some p ∷ out) k ≡ Some (Some q) → IsSome (table_of q) → HasPinnedMapping out
     at zero q there pins = let same : p ≡ q = cc in absurd (let no : false ≡ true = subst (λ t. IsSome t) (ap table_of (sym same) ∙ existing) pins in cc)
     at (suc k) q there pins = record { place = k; mapping = q; there = there; pins = pins }
 
 -- so bytes are put but for a fault, and where tables are held, where an existing one is found as it was prepared
-pub put_looking : (held : Type 0) (out : List (Option Prepared)) (p : Prepared) (e : ImageError) → (held → HasPrepared (Some p ∷ out)) → (table_of p ≡ None → offset_of p < 2 ^ 64) → (table_of p ≡ None → e ≡ I.OutdatedMapping → ⊥)
-    → IsMetPutting held p 0 e → IsMetLooking (HasPrepared out) e
+pub put_looking : (held : Type 0) (out : List (Option Prepared)) (p : Prepared) (e : ImageError) → (held → HasPinnedMapping (Some p ∷ out)) → (table_of p ≡ None → offset_of p < 2 ^ 64) → (table_of p ≡ None → e ≡ I.OutdatedMapping → ⊥)
+    → IsMetPutting held p 0 e → IsMetLooking (HasPinnedMapping out) e
 put_looking held out p e prepared near found (inl fault) = inl fault
 put_looking held out p e prepared near found (inr again) = elim (again.1) [
   | inl again' ↦ elim again' [

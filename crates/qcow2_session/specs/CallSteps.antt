@@ -4,7 +4,7 @@ use Rattle.image_access.specs.Backing.{BackingView}
 use Rattle.image_access.specs.Moments.{StorageView}
 use Rattle.qcow2_alloc.specs.ImageFile.{known_in}
 use Rattle.qcow2_alloc.specs.declared.error.ImageError.{ImageError}
-use Rattle.qcow2_image.specs.Backings.{HasPrepared}
+use Rattle.qcow2_image.specs.Backings.{HasPinnedMapping}
 use Rattle.qcow2_image.specs.BehindHeader.{StaysBehindHeader}
 use Rattle.qcow2_image.specs.Clearing.{IsUnderMapping}
 use Rattle.qcow2_image.specs.Faults.{CountsImageFaults, SameFaults}
@@ -47,7 +47,7 @@ module _ {S F : Type 0} (view : S → StorageView) (backing : F → BackingView)
 
   -- The first bytes of a range are written to a sound image. A refusal has its cause. It is refused 9, and succeeds, only as the prepared mappings allow, and refused 13 only if a limit was passed.
   pub record WritesSoundly (offset n : ℕ) (out : List (Option Prepared)) (result : Result ℕ ImageError) : Type 0 where
-    pub met : IfErr result (IsMetTaking (HasPrepared out) (IsUnderMapping old.file.header.fields offset out) (CopiesCompressed offset n true new.file.header.fields (known_in view new.file)) (NeedsOverflowingL1Entry old offset))
+    pub met : IfErr result (IsMetTaking (HasPinnedMapping out) (IsUnderMapping old.file.header.fields offset out) (CopiesCompressed offset n true new.file.header.fields (known_in view new.file)) (NeedsOverflowingL1Entry old offset))
     pub taken : HeedsFirst view backing old out offset n result
     pub limit : IfLimit result (IsLimited view backing [] (offset + n) old out)
 

@@ -12,7 +12,7 @@ use Rattle.qcow2_disk.specs.Calls.{shows_old, to_backing, to_kept_zero, to_zero}
 use Rattle.qcow2_alloc.specs.ImageError.{IsFault, IsOfTables}
 use Rattle.qcow2_alloc.specs.ImageFile.{known_in}
 use Rattle.qcow2_alloc.specs.declared.error.ImageError.{ImageError}
-use Rattle.qcow2_image.specs.Backings.{HasPrepared}
+use Rattle.qcow2_image.specs.Backings.{HasPinnedMapping}
 use Rattle.qcow2_image.specs.Clearing.{IsUnderMapping, from_in, refuses_clearing, to_in}
 use Rattle.qcow2_image.specs.Found.{IsFoundWhole, further_by}
 use Rattle.qcow2_image.specs.Image.{is_failed, is_writable, size_of}
@@ -110,14 +110,14 @@ MayMeet command e = IsMet e
 module _ {S F : Type 0} (view : S → StorageView) (old new : Qcow2 S F) (before : List (Option Prepared)) where
   -- Why clearing a range of a sound image is refused: a fault; a limit; 20; 8, if a mapping is pinned; or 9, if one is pinned in the L2 table of the first offset.
   abbrev pub MeetsClearing : (offset n : ℕ) → ImageError → Type 0
-  MeetsClearing offset n e = IsMetTaking (HasPrepared before) (IsUnderMapping old.file.header.fields (from_in old offset n) before) ⊥ (NeedsOverflowingL1Entry old (from_in old offset n)) e
+  MeetsClearing offset n e = IsMetTaking (HasPinnedMapping before) (IsUnderMapping old.file.header.fields (from_in old offset n) before) ⊥ (NeedsOverflowingL1Entry old (from_in old offset n)) e
 
   -- Why a command that allocates clusters of a sound image is refused during the work. For a write, a compressed cluster is one at the moment of the refusal.
   abbrev pub MeetsTaking : Command → ImageError → Type 0
   MeetsTaking (C.Write offset bytes) e =
-      IsMetTaking (HasPrepared before) (IsUnderMappingIn old.file.header.fields offset (offset + length bytes.items) before) (CopiesCompressed offset (length bytes.items) true new.file.header.fields (known_in view new.file)) (Unit {0}) e
+      IsMetTaking (HasPinnedMapping before) (IsUnderMappingIn old.file.header.fields offset (offset + length bytes.items) before) (CopiesCompressed offset (length bytes.items) true new.file.header.fields (known_in view new.file)) (Unit {0}) e
   MeetsTaking (C.PrepareDataMapping slot offset n overwrite) e =
-      IsMetTaking (HasPrepared before) (IsTaken old.file.header.fields (known_in view old.file) offset n before) (CopiesCompressed offset n overwrite old.file.header.fields (known_in view old.file)) (NeedsOverflowingL1Entry old offset) e
+      IsMetTaking (HasPinnedMapping before) (IsTaken old.file.header.fields (known_in view old.file) offset n before) (CopiesCompressed offset n overwrite old.file.header.fields (known_in view old.file)) (NeedsOverflowingL1Entry old offset) e
   MeetsTaking (C.EnsureZeroMapping offset n) e = MeetsClearing offset n e
   MeetsTaking (C.DiscardToZero offset n) e = MeetsClearing offset n e
   MeetsTaking (C.DiscardToAny offset n) e = MeetsClearing offset n e
@@ -184,9 +184,9 @@ module _ {S F : Type 0} (view : S → StorageView) (backing : F → BackingView)
 
   -- While a mapping that isn't existing is prepared, an invalidation is refused 21, or 14 if there is no memory for the list of pinned tables. Otherwise it is refused only for a fault.
   pub record HeedsInUse (reply : Reply) : Type 0 where
-    pub some : HasPrepared before → IsSomeAnd (refusal_in reply) IsOfPrepared
-    pub none : ¬ HasPrepared before → IfSome (refusal_in reply) IsFault
-    pub told : IfSome (refusal_in reply) (λ e. IsStillInUse e → HasPrepared before)
+    pub some : HasPinnedMapping before → IsSomeAnd (refusal_in reply) IsOfPrepared
+    pub none : ¬ HasPinnedMapping before → IfSome (refusal_in reply) IsFault
+    pub told : IfSome (refusal_in reply) (λ e. IsStillInUse e → HasPinnedMapping before)
 
   -- What prepared mappings refuse: ranges of a pinned L2 table (9), a shrink (17) and an invalidation (21), and nothing else. Putting, and reading what was looked up, is refused 10 only if the mapping is outdated. Commits and flushes are refused only by a fault.
   -- Reads, lookups and puts are refused by a fault, or for a cause in the image or in its prepared mappings.
@@ -207,7 +207,7 @@ module _ {S F : Type 0} (view : S → StorageView) (backing : F → BackingView)
   MeetsOnSound found (C.ReadvSpecial offset n) reply = IfSome (refusal_in reply) (IsMetSpecial (IsCacheHeld old before) offset)
   MeetsOnSound found (C.TryReadvSpecial offset n) reply = IfSome (refusal_in reply) (λ e. IsMetLooking (IsCacheHeld old before) e ⊎ (e ≡ I.Compressed))
   MeetsOnSound found (C.ResizeGrow size mode) reply = size_of old < size → refusal_in reply ≡ Some I.TablePrepared → (shows_old mode ≡ false) × IsUnderMappingIn old.file.header.fields (size_of old) (boundary_in old size) before
-  MeetsOnSound found (C.ResizeShrink size) reply = size < size_of old → (refusal_in reply ≡ Some I.MappingPrepared) ↔ HasPrepared before
+  MeetsOnSound found (C.ResizeShrink size) reply = size < size_of old → (refusal_in reply ≡ Some I.MappingPrepared) ↔ HasPinnedMapping before
   MeetsOnSound found command reply = Unit {0}
 
   -- ---- one command

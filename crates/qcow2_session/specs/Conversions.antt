@@ -14,7 +14,7 @@ use Rattle.qcow2_alloc.specs.declared.error.ImageError.{ImageError}
 use Rattle.qcow2_alloc.specs.declared.error.ImageError.TheVariants.{Compressed, InUse, InvalidOption, Limit, Memory, Overflow, ReadOnly, Storage, TablePrepared}
 use Rattle.qcow2_image.specs.declared.image.Qcow2.{Qcow2}
 use Rattle.qcow2_image.specs.declared.prepared.Prepared.{Prepared}
-use Rattle.qcow2_image.specs.Backings.{HasPrepared}
+use Rattle.qcow2_image.specs.Backings.{HasPinnedMapping}
 use Rattle.qcow2_image.specs.Calls.{refusal_of}
 use Rattle.qcow2_image.specs.Image.{is_writable, size_of}
 use Rattle.qcow2_image.specs.Limits.{IsLimited}
@@ -46,7 +46,7 @@ IsOfImporting e = IsOfWriting e ⊎ (e ≡ InvalidOption)
 abbrev pub IsMetImporting : {S F : Type 0} → (S → StorageView) → (from to : ℕ) → Qcow2 S F → List (Option Prepared) → ImageError → Type 0
 IsMetImporting view from to new out e =
     IsFaultOrLimit e
-    ⊎ (((e ≡ ReadOnly) × (is_writable new ≡ false)) ⊎ ((e ≡ Overflow) ⊎ (((e ≡ Compressed) × HasCompressedIn from to new.file.header.fields (known_in view new.file)) ⊎ (((e ≡ InUse) ⊎ (e ≡ TablePrepared)) × HasPrepared out))))
+    ⊎ (((e ≡ ReadOnly) × (is_writable new ≡ false)) ⊎ ((e ≡ Overflow) ⊎ (((e ≡ Compressed) × HasCompressedIn from to new.file.header.fields (known_in view new.file)) ⊎ (((e ≡ InUse) ⊎ (e ≡ TablePrepared)) × HasPinnedMapping out))))
 
 -- The refusal is 1 or 9: the range may not be written.
 abbrev pub IsKeptFromWriting : ImageError → Type 0

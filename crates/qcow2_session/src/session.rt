@@ -9,7 +9,7 @@ ghost use Rattle.std.specs.Prelude.{map, IfErr, IfOk, IsTrue, MatchResult, OnOk,
 ghost use Rattle.qcow2_alloc.specs.declared.error.ImageError.TheVariants.{Limit, Memory, OutdatedMapping};
 ghost use Rattle.qcow2_alloc.specs.declared.error.ImageError.TheVariants.{TablePrepared};
 ghost use Rattle.qcow2_alloc.specs.ImageFile.{known_in};
-ghost use Rattle.qcow2_image.specs.Backings.{HasPrepared};
+ghost use Rattle.qcow2_image.specs.Backings.{HasPinnedMapping};
 ghost use Rattle.qcow2_image.specs.BehindHeader.{StaysBehindHeader};
 ghost use Rattle.qcow2_image.specs.Found.{IsFoundWhole, further_by};
 ghost use Rattle.qcow2_disk.specs.Mappings.{given_of};
@@ -304,7 +304,7 @@ pub fn write<S: Storage, F: WrappedFormat<S>>(
         → IfErr result (λ (e, n). IsMetPreparing e × (0 < length bytes.now)) }
     ensures met { refuses_to_prepare image.old offset (length bytes.now) ≡ None → (out : List (Option Prepared))
         → (abstract_of S.view F.backing image.old out).is_sound
-        → IfErr result (λ (e, n). IsMetTaking (HasPrepared out)
+        → IfErr result (λ (e, n). IsMetTaking (HasPinnedMapping out)
         (IsUnderMappingIn image.old.file.header.fields offset (offset + length bytes.now) out)
         (CopiesCompressed offset (length bytes.now) true image.new.file.header.fields (known_in S.view image.new.file))
         (NeedsOverflowingToWrite S.view F.backing image.old offset bytes.now n) e) }

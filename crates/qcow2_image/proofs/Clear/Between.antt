@@ -26,7 +26,7 @@ use Rattle.qcow2_alloc.specs.MetadataCaches.{IsEntryAt}
 use Rattle.qcow2_alloc.proofs.KeptTables.Standing.{own_cluster}
 use Rattle.qcow2_image.specs.CallParts.{UnseenCall}
 use Rattle.qcow2_image.specs.Clearing.{ClearsImageCovers, ClearsPart, ClearsTable, IsUnderMapping, IsClearable, MayClear, ReadsAll, ReadsDropped, cover_once_cleared, given_bytes_between, is_between, listed_by, setting_of, shown_by, AreCleared}
-use Rattle.qcow2_image.specs.declared.discarding.Clearance.{Clearance}
+use Rattle.qcow2_image.specs.declared.discarding.ClearMode.{ClearMode}
 use Rattle.qcow2_image.specs.declared.image.Qcow2.{Qcow2}
 use Rattle.qcow2_image.specs.declared.prepared.Prepared.{Prepared}
 use Rattle.qcow2_image.specs.Found.{l1_index_of, l2_index_of}
@@ -147,7 +147,7 @@ on_ok (Err e) follows is = tt
 -- ---- entries are read one after another
 
 module _ {S F : Type 0} (view : S → StorageView) (backing : F → BackingView) where
-  pub reads_next : (how : Clearance) (table first n : ℕ) (image : Qcow2 S F) (list list' : List ClustersToFreeEntry) → ReadsAll view backing how table first n image list → ReadsDropped view backing how table (first + n) image list list'
+  pub reads_next : (how : ClearMode) (table first n : ℕ) (image : Qcow2 S F) (list list' : List ClustersToFreeEntry) → ReadsAll view backing how table first n image list → ReadsDropped view backing how table (first + n) image list list'
       → ReadsAll view backing how table first (suc n) image list'
   reads_next how table first n image list list' before next p i sound at here fits =
       let h = image.file.header.fields in
@@ -178,13 +178,13 @@ entry_behind h known table first n k i at here fits lt =
 
 -- ---- a part before
 module _ {S F : Type 0} (view : S → StorageView) (backing : F → BackingView) (out : List (Option Prepared)) where
-  pub covers_before : (how : Clearance) (from to : ℕ) (h h' h'' : HeaderFields) (known known' known'' : Bytes) → MovesTables h h' → CoversStay h known h' known' → ClearsImageCovers how from to h' known' h'' known'' → ClearsImageCovers how from to h known h'' known''
+  pub covers_before : (how : ClearMode) (from to : ℕ) (h h' h'' : HeaderFields) (known known' known'' : Bytes) → MovesTables h h' → CoversStay h known h' known' → ClearsImageCovers how from to h' known' h'' known'' → ClearsImageCovers how from to h known h'' known''
   covers_before how from to h h' h'' known known' known'' format same covers g =
       let there : cover h' known' g ≡ cover h known g = sym (same g) in
       covers g ∙ ap (λ v. cond (is_between h' from to g) (cover_once_cleared how v) v) there
       ∙ ap (λ (x : HeaderFields). cond (is_between x from to g) (cover_once_cleared how (cover h known g)) (cover h known g)) format
 
-  module _ (old mid new : Qcow2 S F) (how : Clearance) (from to : ℕ) (first : UnseenCall view backing old mid out) where
+  module _ (old mid new : Qcow2 S F) (how : ClearMode) (from to : ℕ) (first : UnseenCall view backing old mid out) where
     same_setting : setting_of view backing mid ≡ setting_of view backing old
     same_setting = first.works.setting
 
@@ -209,18 +209,18 @@ module _ {S F : Type 0} (view : S → StorageView) (backing : F → BackingView)
           noted = part.noted;
         }
 
-  pub whole_format : (h h' : HeaderFields) (how : Clearance) (from to : ℕ) → MovesTables h h' → IsClearable h how from to → IsClearable h' how from to
+  pub whole_format : (h h' : HeaderFields) (how : ClearMode) (from to : ℕ) → MovesTables h h' → IsClearable h how from to → IsClearable h' how from to
   whole_format h h' how from to format whole = subst (λ (x : HeaderFields). IsClearable x how from to) (sym format) (record { begins = whole.begins; ends = whole.ends; within = whole.within; version = whole.version })
 
   -- the entries of whole clusters stand in one table
-  pub fits_table : (old mid : Qcow2 S F) (how : Clearance) (from to : ℕ) → UnseenCall view backing old mid out → IsClearable old.file.header.fields how from to → from < to
+  pub fits_table : (old mid : Qcow2 S F) (how : ClearMode) (from to : ℕ) → UnseenCall view backing old mid out → IsClearable old.file.header.fields how from to → from < to
       → from / cluster_size mid.file.header.fields % entries_per_cluster mid.file.header.fields + (to - from) / cluster_size mid.file.header.fields ≤ entries_per_cluster mid.file.header.fields
   fits_table old mid how from to found whole_old lt =
       let h = mid.file.header.fields in
       let whole = whole_format old.file.header.fields h how from to found.header whole_old in
       row_within (cluster_size h) (entries_per_cluster h) (pow_pos h.cluster_bits) from to whole.begins whole.ends lt (Sizes-from h (contents_in view mid.file) found.sound.file.caches.kept.kept.crash_invariant.top.header_reads).entries whole.within
 
-  module _ (old mid b new : Qcow2 S F) (how : Clearance) (from to table : ℕ) (found : UnseenCall view backing old mid out) (holds : HoldsTable view backing mid from table) (whole_old : IsClearable old.file.header.fields how from to) (lt : from < to)
+  module _ (old mid b new : Qcow2 S F) (how : ClearMode) (from to table : ℕ) (found : UnseenCall view backing old mid out) (holds : HoldsTable view backing mid from table) (whole_old : IsClearable old.file.header.fields how from to) (lt : from < to)
       (unpinned : l2_pins mid.file.caches table ≡ 0) (list : List ClustersToFreeEntry)
       (reads : ReadsAll view backing how table (from / cluster_size mid.file.header.fields) ((to - from) / cluster_size mid.file.header.fields) mid list)
       (clears : ClearsTable view backing how table (l2_index_of mid.file.header.fields from) ((to - from) / cluster_size mid.file.header.fields) mid b)

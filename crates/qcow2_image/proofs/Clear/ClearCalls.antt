@@ -26,7 +26,7 @@ use Rattle.qcow2_alloc.specs.ImageFile.{contents_in, known_in}
 use Rattle.qcow2_image.specs.CallParts.{EndsFreeing, RefusedCall, UnseenCall}
 use Rattle.qcow2_image.specs.Calls.{refusal_of}
 use Rattle.qcow2_image.specs.Clearing.{Clears, ClearsImageCovers, ClearsPart, IsUnderMapping, IsClearable, RefusesUngiven, from_in, given_bytes_between, all_given_by_clear, needs_zero_entries, refuses_to_clear, rounds_past, setting_of, shown_by, to_in}
-use Rattle.qcow2_image.specs.declared.discarding.Clearance.{Clearance}
+use Rattle.qcow2_image.specs.declared.discarding.ClearMode.{ClearMode}
 use Rattle.qcow2_image.specs.declared.image.Qcow2.{Qcow2}
 use Rattle.qcow2_image.specs.declared.prepared.Prepared.{Prepared}
 use Rattle.qcow2_image.specs.Image.{number_of, is_external, is_failed, is_writable, size_of, has_noted_change}
@@ -74,7 +74,7 @@ pub works_if : (a : Bool) (more rest : Option ImageError) → option_or (option_
 works_if false more rest is = refl
 works_if true more rest is = absurd cc
 
-pub clear_works : {S F : Type 0} (image : Qcow2 S F) (offset n : ℕ) (how : Clearance) → refuses_to_clear image offset n how ≡ None → is_failed image ≡ false
+pub clear_works : {S F : Type 0} (image : Qcow2 S F) (offset n : ℕ) (how : ClearMode) → refuses_to_clear image offset n how ≡ None → is_failed image ≡ false
 clear_works image offset n how is = works_if (is_failed image) (refuse_if (is_external image) I.Dependency) _ is
 
 -- of nothing, nothing is cleared
@@ -101,7 +101,7 @@ refuses_more v w gs e still r = record {
 }
 
 -- it was refused before anything was done
-pub clears_early : {S F : Type 0} (view : S → StorageView) (backing : F → BackingView) (old : Qcow2 S F) (how : Clearance) (offset n : ℕ) (x : ImageError) → refuses_to_clear old offset n how ≡ Some x → Clears view backing how old old offset n (Err x)
+pub clears_early : {S F : Type 0} (view : S → StorageView) (backing : F → BackingView) (old : Qcow2 S F) (how : ClearMode) (offset n : ℕ) (x : ImageError) → refuses_to_clear old offset n how ≡ Some x → Clears view backing how old old offset n (Err x)
 clears_early view backing old how offset n x is = λ out.
     let v = abstract_of view backing old out in
     refuses_more v v (all_given_by_clear view backing old how offset n) (refusal_of x) _
@@ -120,10 +120,10 @@ pub under_after : (h h' : HeaderFields) (offset : ℕ) (out : List (Option Prepa
 under_after h h' offset out format u =
     subst (λ (x : HeaderFields). IsUnderMapping x offset out) (sym format) (record { place = u.place; other = u.other; is_out = u.is_out; keeps_table = u.keeps_table; same_table = u.same_table })
 
-pub covers_after : (how : Clearance) (from to : ℕ) (h h' h'' : HeaderFields) (known known' known'' : Bytes) → ClearsImageCovers how from to h known h' known' → CoversStay h' known' h'' known'' → ClearsImageCovers how from to h known h'' known''
+pub covers_after : (how : ClearMode) (from to : ℕ) (h h' h'' : HeaderFields) (known known' known'' : Bytes) → ClearsImageCovers how from to h known h' known' → CoversStay h' known' h'' known'' → ClearsImageCovers how from to h known h'' known''
 covers_after how from to h h' h'' known known' known'' covers same g = sym (same g) ∙ covers g
 
-module _ {S F : Type 0} (view : S → StorageView) (backing : F → BackingView) (old : Qcow2 S F) (how : Clearance) (offset n : ℕ) (usable : is_failed old ≡ false) where
+module _ {S F : Type 0} (view : S → StorageView) (backing : F → BackingView) (old : Qcow2 S F) (how : ClearMode) (offset n : ℕ) (usable : is_failed old ≡ false) where
   abbrev from : ℕ
   from = from_in old offset n
 

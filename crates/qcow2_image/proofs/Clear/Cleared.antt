@@ -29,8 +29,8 @@ use Rattle.qcow2_alloc.specs.declared.clusters_to_free.ClustersToFreeEntry.{Clus
 use Rattle.qcow2_alloc.specs.ImageFile.{state_in, view_in, contents_in, known_in}
 use Rattle.qcow2_alloc.specs.MetadataCaches.{IsEntryAt, l2_at}
 use Rattle.qcow2_image.specs.Clearing.{AreCleared, ClearsImageCovers, ClearsEntry, ClearsPart, ClearsTable, MayClear, cover_once_cleared, given_bytes_between, is_between, is_cleared, listed_by, setting_of, shown_by, with_caches}
-use Rattle.qcow2_image.specs.declared.discarding.Clearance.{Clearance}
-use Rattle.qcow2_image.specs.declared.discarding.Clearance.TheVariants.{Uncovered, Zeros, KeptZeros}
+use Rattle.qcow2_image.specs.declared.discarding.ClearMode.{ClearMode}
+use Rattle.qcow2_image.specs.declared.discarding.ClearMode.TheVariants.{Uncovered, Zeros, KeptZeros}
 use Rattle.qcow2_image.specs.declared.image.Qcow2.{Qcow2}
 use Rattle.qcow2_image.specs.declared.prepared.Prepared.{Prepared}
 use Rattle.qcow2_image.specs.ImageInvariant.{ImageInvariant, abstract_of, backing_bytes, disk_of, listed_run, of_data, of_tables, pending_in, to_free}
@@ -45,7 +45,7 @@ use Rattle.qcow2_disk.specs.UngivenCovers.{IsUngiven}
 use Rattle.qcow2_alloc.proofs.FileInvariants.{file_invariant_of}
 
 -- what is listed is no table
-pub listed_no_table : (how : Clearance) (h : HeaderFields) (known : Bytes) (first n k : ℕ) → to_free of_tables (listed_by how h known first n) k ≡ 0
+pub listed_no_table : (how : ClearMode) (h : HeaderFields) (known : Bytes) (first n k : ℕ) → to_free of_tables (listed_by how h known first n) k ≡ 0
 listed_no_table how h known first zero k = refl
 listed_no_table how h known first (suc n) k =
     let run = old_data_run h.cluster_bits (cover h known (first + n)) (cover_once_cleared how (cover h known (first + n))) in
@@ -56,7 +56,7 @@ listed_no_table how h known first (suc n) k =
 
 module _ {S F : Type 0} (view : S → StorageView) (backing : F → BackingView) where
   -- none is yet
-  none_cleared : (how : Clearance) (row column : ℕ) (a : Qcow2 S F) (out : List (Option Prepared)) (p : Pending) → ImageInvariant view backing p a out → AreCleared view backing how row column 0 a a.file.caches out p
+  none_cleared : (how : ClearMode) (row column : ℕ) (a : Qcow2 S F) (out : List (Option Prepared)) (p : Pending) → ImageInvariant view backing p a out → AreCleared view backing how row column 0 a a.file.caches out p
   none_cleared how row column a out p sound = record {
     now = p;
     sound_now = sound;
@@ -73,7 +73,7 @@ module _ {S F : Type 0} (view : S → StorageView) (backing : F → BackingView)
   }
 
   -- one more is
-  module _ (how : Clearance) (t row column n : ℕ) (a : Qcow2 S F) (caches : MetadataCaches S) (out : List (Option Prepared)) (p : Pending) (may : MayClear view backing how t row column (suc n) a out p)
+  module _ (how : ClearMode) (t row column n : ℕ) (a : Qcow2 S F) (caches : MetadataCaches S) (out : List (Option Prepared)) (p : Pending) (may : MayClear view backing how t row column (suc n) a out p)
       (so_far : AreCleared view backing how row column n a caches out p) (found : IsSome (l2_at caches t)) (marks : KeepsPinsAndNotes a.file.caches caches) (c : Qcow2 S F) (clears : ClearsEntry how t (column + n) (with_caches a caches) c) where
     abbrev h : HeaderFields
     h = a.file.header.fields
@@ -135,7 +135,7 @@ module _ {S F : Type 0} (view : S → StorageView) (backing : F → BackingView)
           omega (arith, before, last, run, more);
     }
 
-  pub first_none : (how : Clearance) (t column : ℕ) (a : Qcow2 S F) → ClearsTable view backing how t column 0 a a
+  pub first_none : (how : ClearMode) (t column : ℕ) (a : Qcow2 S F) → ClearsTable view backing how t column 0 a a
   first_none how t column a = record {
     rest = refl;
     marks = marks_none a.file.caches;
@@ -145,7 +145,7 @@ module _ {S F : Type 0} (view : S → StorageView) (backing : F → BackingView)
     behind = λ bits are. are;
   }
 
-  module _ (how : Clearance) (t column n : ℕ) (a b c : Qcow2 S F) (first : ClearsTable view backing how t column n a b) (clears : ClearsEntry how t (min (column + n) (2 ^ 64 - 1)) b c) where
+  module _ (how : ClearMode) (t column n : ℕ) (a b c : Qcow2 S F) (first : ClearsTable view backing how t column n a b) (clears : ClearsEntry how t (min (column + n) (2 ^ 64 - 1)) b c) where
     abbrev here : Qcow2 S F
     here = with_caches a b.file.caches
 
@@ -189,7 +189,7 @@ module _ {S F : Type 0} (view : S → StorageView) (backing : F → BackingView)
     }
 
   -- ---- all are, and what they named is to be freed
-  module _ (how : Clearance) (row column n : ℕ) (a : Qcow2 S F) (caches : MetadataCaches S) (out : List (Option Prepared)) (sound : ImageInvariant view backing (pending_in view backing a out) a out)
+  module _ (how : ClearMode) (row column n : ℕ) (a : Qcow2 S F) (caches : MetadataCaches S) (out : List (Option Prepared)) (sound : ImageInvariant view backing (pending_in view backing a out) a out)
       (all : AreCleared view backing how row column n a caches out (pending_in view backing a out)) (noted : IsTrue caches.is_changed) where
     abbrev g : ℕ
     g = guest_at a.file.header.fields row column
@@ -216,12 +216,12 @@ module _ {S F : Type 0} (view : S → StorageView) (backing : F → BackingView)
     to = (g + n) * cluster_size h'
 
     -- what the disk shows then, over any disk below
-    abbrev shown_over : Clearance → Bytes → Disk → ℕ → ℕ → Disk
+    abbrev shown_over : ClearMode → Bytes → Disk → ℕ → ℕ → Disk
     shown_over Uncovered below d from to = uncovered d below from to
     shown_over Zeros below d from to = zeroed_between d from to
     shown_over KeptZeros below d from to = zeroed_between d from to
 
-    ranged : (x : Clearance) → MapsInTurn (is_cleared x) g n s s' → ClearsRange g n s s' (shown_over x)
+    ranged : (x : ClearMode) → MapsInTurn (is_cleared x) g n s s' → ClearsRange g n s s' (shown_over x)
     ranged Uncovered turn = clusters_in_turn_are_a_range.uncovered s s' g n sound.file.caches.kept.kept.crash_invariant sound.inside turn
     ranged Zeros turn = clusters_in_turn_are_a_range.zeroed s s' g n sound.file.caches.kept.kept.crash_invariant sound.inside turn
     ranged KeptZeros turn = clusters_in_turn_are_a_range.zeroed s s' g n sound.file.caches.kept.kept.crash_invariant sound.inside turn
@@ -229,7 +229,7 @@ module _ {S F : Type 0} (view : S → StorageView) (backing : F → BackingView)
     range : ClearsRange g n s s' (shown_over how)
     range = ranged how all.turn
 
-    shown_is : (x : Clearance) (y : Setting) (d : Disk) (i j : ℕ) → shown_over x y.backing d i j ≡ cleared y d (shown_by x) i j
+    shown_is : (x : ClearMode) (y : Setting) (d : Disk) (i j : ℕ) → shown_over x y.backing d i j ≡ cleared y d (shown_by x) i j
     shown_is Uncovered y d i j = refl
     shown_is Zeros y d i j = refl
     shown_is KeptZeros y d i j = refl

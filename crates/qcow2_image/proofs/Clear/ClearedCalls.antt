@@ -22,7 +22,7 @@ use Rattle.qcow2_image.specs.Image.{IsSameImage, has_noted_change, is_external, 
 use Rattle.qcow2_image.specs.ImageInvariant.{ImageInvariant, pending_in}
 use Rattle.qcow2_image.specs.Refusals.{failed_after, passes, refuse_if}
 use Rattle.qcow2_image.specs.UnseenSteps.{UnseenStep}
-use Rattle.qcow2_image.specs.declared.discarding.Clearance.{Clearance}
+use Rattle.qcow2_image.specs.declared.discarding.ClearMode.{ClearMode}
 use Rattle.qcow2_image.specs.declared.image.Qcow2.{Qcow2}
 use Rattle.qcow2_image.specs.declared.prepared.Prepared.{Prepared}
 use Rattle.qcow2_image.proofs.Call.BehindHeader.{behind_none}
@@ -59,14 +59,14 @@ none_between h from to g least = elim (cases_lt (g * cluster_size h) from) [
   | inr low ↦ and_right (nat_le from (g * cluster_size h)) (nat_lt (g * cluster_size h) to) (le-ltb (g * cluster_size h) to (omega (arith, low, least)))
 ]
 
-covers_none : (how : Clearance) (from to : ℕ) (h : HeaderFields) (known : Bytes) → to ≤ from → ClearsImageCovers how from to h known h known
+covers_none : (how : ClearMode) (from to : ℕ) (h : HeaderFields) (known : Bytes) → to ≤ from → ClearsImageCovers how from to h known h known
 covers_none how from to h known least g = sym (cond-false (is_between h from to g) (cover_once_cleared how (cover h known g)) (cover h known g) (none_between h from to g least))
 
 -- a refusal of a call that counted no fault
 pub counted_other : {T S F : Type 0} (view : S → StorageView) (backing : F → BackingView) (old new : Qcow2 S F) (e : ImageError) → IsNotOfStorage e → SameFaults view backing old new → CountsImageFaults view backing {T = T} old new (Err e)
 counted_other view backing old new e other same = record { no_fewer = fewer_of view backing old new same; rose = λ is. absurd (other is); told = λ _. same }
 
-module _ {S F : Type 0} (view : S → StorageView) (backing : F → BackingView) (old : Qcow2 S F) (how : Clearance) (offset n : ℕ) (checked : Result (ℕ × ℕ) ImageError)
+module _ {S F : Type 0} (view : S → StorageView) (backing : F → BackingView) (old : Qcow2 S F) (how : ClearMode) (offset n : ℕ) (checked : Result (ℕ × ℕ) ImageError)
     (check : MatchOption (refuses_to_clear old offset n how) (checked ≡ Ok (from_in old offset n, to_in old offset n)) (λ e. checked ≡ Err e)) where
   -- ---- it is refused at once
   module _ (e : ImageError) (was : checked ≡ Err e) where
@@ -176,7 +176,7 @@ module _ {S F : Type 0} (view : S → StorageView) (backing : F → BackingView)
       idle_sound = subst (λ k. ClearsSoundly view backing how old old offset n (Ok (k, 0))) (sym first_so) sound_idle
 
 -- a call begins that clears the clusters between two offsets
-pub record BeginsClearing {S F : Type 0} (view : S → StorageView) (backing : F → BackingView) (old : Qcow2 S F) (how : Clearance) (offset n : ℕ) (begun : Qcow2 S F) (first last : ℕ) : Type 0 where
+pub record BeginsClearing {S F : Type 0} (view : S → StorageView) (backing : F → BackingView) (old : Qcow2 S F) (how : ClearMode) (offset n : ℕ) (begun : Qcow2 S F) (first last : ℕ) : Type 0 where
   pub first_is : first ≡ from_in old offset n
   pub last_is : last ≡ to_in old offset n
   pub works : is_failed old ≡ false
@@ -184,7 +184,7 @@ pub record BeginsClearing {S F : Type 0} (view : S → StorageView) (backing : F
   pub seen : (out : List (Option Prepared)) → ImageInvariant view backing (pending_in view backing old out) old out → UnseenCall view backing old begun out
   pub whole : (out : List (Option Prepared)) → UnseenCall view backing old begun out → IsClearable begun.file.header.fields how first last
 
-module _ {S F : Type 0} (view : S → StorageView) (backing : F → BackingView) (old : Qcow2 S F) (how : Clearance) (offset n : ℕ) (checked : Result (ℕ × ℕ) ImageError)
+module _ {S F : Type 0} (view : S → StorageView) (backing : F → BackingView) (old : Qcow2 S F) (how : ClearMode) (offset n : ℕ) (checked : Result (ℕ × ℕ) ImageError)
     (check : MatchOption (refuses_to_clear old offset n how) (checked ≡ Ok (from_in old offset n, to_in old offset n)) (λ e. checked ≡ Err e)) (first last : ℕ) (was : checked ≡ Ok (first, last)) (begun : Qcow2 S F) where
   pub begins_clearing : ((p : Pending) (out : List (Option Prepared)) → ImageInvariant view backing p old out → UnseenStep view backing p p old begun out) → begun.file.free_list ≡ old.file.free_list
       → (IsTrue (needs_zero_entries how) → 3 ≤ old.file.header.fields.version) → BeginsClearing view backing old how offset n begun first last
@@ -206,7 +206,7 @@ module _ {S F : Type 0} (view : S → StorageView) (backing : F → BackingView)
       }
 
 -- it cleared them
-pub parts_cleared : {S F : Type 0} (view : S → StorageView) (backing : F → BackingView) (old : Qcow2 S F) (how : Clearance) (offset n : ℕ) (begun : Qcow2 S F) (first last : ℕ) → BeginsClearing view backing old how offset n begun first last
+pub parts_cleared : {S F : Type 0} (view : S → StorageView) (backing : F → BackingView) (old : Qcow2 S F) (how : ClearMode) (offset n : ℕ) (begun : Qcow2 S F) (first last : ℕ) → BeginsClearing view backing old how offset n begun first last
     → (entries : Qcow2 S F) (r : Result (Unit {0}) ImageError) (x : Unit {0}) → r ≡ Ok x
     → ((out : List (Option Prepared)) → ImageInvariant view backing (pending_in view backing begun out) begun out → IsClearable begun.file.header.fields how first last → ClearsOrRefuses view backing how first last begun entries out r)
     → (out : List (Option Prepared)) → UnseenCall view backing old begun out → ClearsPart view backing how (from_in old offset n) (to_in old offset n) begun entries out

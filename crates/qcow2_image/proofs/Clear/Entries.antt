@@ -36,8 +36,8 @@ use Rattle.qcow2_alloc.specs.MetadataCaches.{IsEntryAt, MadeEntry, known_of, l2_
 use Rattle.qcow2_alloc.proofs.KeptTables.Standing.{own_cluster}
 use Rattle.qcow2_alloc.proofs.FileInvariants.{file_invariant_of}
 use Rattle.qcow2_image.specs.Clearing.{ClearsEntry, cover_once_cleared, cleared_entry, is_cleared, needs_zero_entries}
-use Rattle.qcow2_image.specs.declared.discarding.Clearance.{Clearance}
-use Rattle.qcow2_image.specs.declared.discarding.Clearance.TheVariants.{Uncovered, Zeros, KeptZeros}
+use Rattle.qcow2_image.specs.declared.discarding.ClearMode.{ClearMode}
+use Rattle.qcow2_image.specs.declared.discarding.ClearMode.TheVariants.{Uncovered, Zeros, KeptZeros}
 use Rattle.qcow2_image.specs.declared.image.Qcow2.{Qcow2}
 use Rattle.qcow2_image.specs.declared.prepared.Prepared.{Prepared}
 use Rattle.qcow2_image.specs.ImageInvariant.{ImageInvariant, IsPending, IsReadyWith, cluster_of, listed_run, of_data, pins_by, to_free}
@@ -52,7 +52,7 @@ zeros_are : (kept : Option ℕ) → IsZeros (zero_cover kept)
 zeros_are None = tt
 zeros_are (Some host) = tt
 
-pub cleared_is : (how : Clearance) (v : L2Mapping) → is_cleared how (cover_once_cleared how v)
+pub cleared_is : (how : ClearMode) (v : L2Mapping) → is_cleared how (cover_once_cleared how v)
 cleared_is Uncovered v = refl
 cleared_is Zeros v = tt
 cleared_is KeptZeros v = zeros_are (copied_host v)
@@ -103,13 +103,13 @@ module _ (h : HeaderFields) (c : ℕ) where
   kept_zeros M.Uncovered reach = gone M.Uncovered (Zero None) reach refl refl
 
   -- what was named is named still, or is dropped
-  pub names_cleared : (how : Clearance) (v : L2Mapping) → IsInReach v → named_by_cover h c v ≡ named_by_cover h c (cover_once_cleared how v) + run_has (old_data_run h.cluster_bits v (cover_once_cleared how v)) c
+  pub names_cleared : (how : ClearMode) (v : L2Mapping) → IsInReach v → named_by_cover h c v ≡ named_by_cover h c (cover_once_cleared how v) + run_has (old_data_run h.cluster_bits v (cover_once_cleared how v)) c
   names_cleared Uncovered v reach = gone v M.Uncovered reach refl refl
   names_cleared Zeros v reach = gone v (Zero None) reach refl refl
   names_cleared KeptZeros v reach = kept_zeros v reach
 
 -- ---- what a cleared entry says
-entry_says : (how : Clearance) (bits : ℕ) (has_zero external : Bool) (e : ℕ) → (IsTrue (needs_zero_entries how) → has_zero ≡ true)
+entry_says : (how : ClearMode) (bits : ℕ) (has_zero external : Bool) (e : ℕ) → (IsTrue (needs_zero_entries how) → has_zero ≡ true)
     → cover_of bits has_zero external (cleared_entry how (cover_of bits has_zero external e)) ≡ cover_once_cleared how (cover_of bits has_zero external e)
 entry_says Uncovered bits has_zero external e zeros = cover_of-0 bits has_zero external
 entry_says Zeros bits has_zero external e zeros = ap (λ z. cover_of bits z external 1) (zeros refl) ∙ cover_of-zero_entry bits external None tt
@@ -133,7 +133,7 @@ takes_kept : (h : HeaderFields) (new_data : ℕ → ℕ) (v : L2Mapping) (kept :
 takes_kept h new_data v None is aligned = (takes_nothing h new_data v).1
 takes_kept h new_data v (Some host) is aligned = (takes_own h new_data v host (kept_aligned h v host aligned is) is).1
 
-takes_cleared : (how : Clearance) (h : HeaderFields) (new_data : ℕ → ℕ) (v : L2Mapping) → CoverIsAligned h v → Takes h new_data v (cover_once_cleared how v)
+takes_cleared : (how : ClearMode) (h : HeaderFields) (new_data : ℕ → ℕ) (v : L2Mapping) → CoverIsAligned h v → Takes h new_data v (cover_once_cleared how v)
 takes_cleared Uncovered h new_data v aligned = (takes_nothing h new_data v).0
 takes_cleared Zeros h new_data v aligned = (takes_nothing h new_data v).1
 takes_cleared KeptZeros h new_data v aligned = takes_kept h new_data v (copied_host v) refl aligned
@@ -141,7 +141,7 @@ takes_cleared KeptZeros h new_data v aligned = takes_kept h new_data v (copied_h
 -- ---- one entry of a sound image
 
 -- one guest cluster is cleared: how it is mapped then, that no other is mapped else, and what is pending
-pub record OneCleared {S F : Type 0} (view : S → StorageView) (backing : F → BackingView) (how : Clearance) (row column : ℕ) (a c : Qcow2 S F) (out : List (Option Prepared)) (p : Pending) : Type 0 where
+pub record OneCleared {S F : Type 0} (view : S → StorageView) (backing : F → BackingView) (how : ClearMode) (row column : ℕ) (a c : Qcow2 S F) (out : List (Option Prepared)) (p : Pending) : Type 0 where
   pub now : Pending
   pub sound_now : ImageInvariant view backing now c out
   pub turn : MapsEntry (is_cleared how) (guest_at a.file.header.fields row column) (state_in view a.file p) (state_in view c.file now)
@@ -156,7 +156,7 @@ pub record OneCleared {S F : Type 0} (view : S → StorageView) (backing : F →
   pub old_data : IsInReach (cover a.file.header.fields (known_in view a.file) (guest_at a.file.header.fields row column)) → (k : ℕ) → now.old_data k ≡ p.old_data k
       + to_free of_data (listed_run (old_data_run a.file.header.fields.cluster_bits (cover a.file.header.fields (known_in view a.file) (guest_at a.file.header.fields row column)) (cover_once_cleared how (cover a.file.header.fields (known_in view a.file) (guest_at a.file.header.fields row column))))) k
 
-module _ {S F : Type 0} (view : S → StorageView) (backing : F → BackingView) (a : Qcow2 S F) (out : List (Option Prepared)) (p : Pending) (sound : ImageInvariant view backing p a out) (how : Clearance) (t row column : ℕ)
+module _ {S F : Type 0} (view : S → StorageView) (backing : F → BackingView) (a : Qcow2 S F) (out : List (Option Prepared)) (p : Pending) (sound : ImageInvariant view backing p a out) (how : ClearMode) (t row column : ℕ)
     (at : IsEntryAt a.file.header.fields (known_in view a.file) row t column) (copied : is_copied (l1_entry a.file.header.fields (contents_in view a.file) row) ≡ true) (found : IsSome (l2_at a.file.caches t)) (unpinned : l2_pins a.file.caches t ≡ 0)
     (version : IsTrue (needs_zero_entries how) → 3 ≤ a.file.header.fields.version) (b : Qcow2 S F) (clears : ClearsEntry how t column a b) where
   abbrev h : HeaderFields
@@ -225,7 +225,7 @@ module _ {S F : Type 0} (view : S → StorageView) (backing : F → BackingView)
   zeros_mapped (Compressed host sectors) is zeros = absurd zeros
   zeros_mapped M.Uncovered is zeros = absurd zeros
 
-  mapped_as : (x : Clearance) → is_cleared x (cover h known guest) → Mapped
+  mapped_as : (x : ClearMode) → is_cleared x (cover h known guest) → Mapped
   mapped_as Uncovered is = let m = entry_uncovered s known row column crash_invariant changes sound.inside is in record { sound_then = m.safe_step.sound; covers = m.unseen.covers }
   mapped_as Zeros is = zeros_mapped (cover h known guest) refl is
   mapped_as KeptZeros is = zeros_mapped (cover h known guest) refl is

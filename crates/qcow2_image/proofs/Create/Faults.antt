@@ -22,7 +22,7 @@ use Rattle.qcow2_alloc.specs.ImageError.{IsFault, of_metadata}
 use Rattle.qcow2_alloc.specs.ImageFile.{known_in, view_in}
 use Rattle.qcow2_alloc.specs.declared.error.ImageError.{ImageError}
 use Rattle.qcow2_alloc.specs.declared.error.ImageError.TheVariants as I
-use Rattle.qcow2_image.specs.Backings.{HasPrepared}
+use Rattle.qcow2_image.specs.Backings.{HasPinnedMapping}
 use Rattle.qcow2_image.specs.Created.{IsUnmapped, IsUnwritten}
 use Rattle.qcow2_image.specs.Growing.{SameFormat}
 use Rattle.qcow2_image.specs.Image.{size_of}
@@ -71,7 +71,7 @@ takes_none image Mode.FullAllocate alone takes = absurd (let bad : false ≡ tru
 takes_none image Mode.WriteData alone takes = absurd (let bad : false ≡ true = sym alone ∙ takes in cc)
 
 -- none is prepared
-pub none_prepared : HasPrepared [] → ⊥
+pub none_prepared : HasPinnedMapping [] → ⊥
 none_prepared some = absurd (let none = some.there in cc)
 
 module _ {S F : Type 0} (view : S → StorageView) (old : Qcow2 S F) (unmapped : IsUnmapped view old) where

@@ -15,7 +15,7 @@ use Rattle.qcow2_alloc.specs.CachePins.{AreAllPinned, IsInUseOrFault}
 use Rattle.qcow2_alloc.specs.ImageFile.{contents_in, known_in}
 use Rattle.qcow2_alloc.specs.MetadataCaches.{IsEntryAt}
 use Rattle.qcow2_alloc.specs.declared.error.ImageError.{ImageError}
-use Rattle.qcow2_image.specs.Backings.{HasPrepared}
+use Rattle.qcow2_image.specs.Backings.{HasPinnedMapping}
 use Rattle.qcow2_image.specs.Found.{NamesL2Table, l1_index_of, l2_index_of}
 use Rattle.qcow2_image.specs.ImageInvariant.{ImageInvariant}
 use Rattle.qcow2_image.specs.Image.{IsBegun}
@@ -31,7 +31,7 @@ answers_met C (Err e) is = absurd (let no : false ≡ true = is in cc)
 
 -- what is held as a call has begun was held before
 pub held_since : {S F : Type 0} (old new : Qcow2 S F) (out : List (Option Prepared)) → IsBegun old new → (C : Type 0 → Type 0) → C (IsCacheHeld new out) → C (IsCacheHeld old out)
-held_since old new out begun C is = subst (λ caches. C (AreAllPinned caches × HasPrepared out)) begun.caches is
+held_since old new out begun C is = subst (λ caches. C (AreAllPinned caches × HasPinnedMapping out)) begun.caches is
 
 module _ {S F : Type 0} (view : S → StorageView) (backing : F → BackingView) (out : List (Option Prepared)) (p : Pending) (image : Qcow2 S F) (sound : ImageInvariant view backing p image out) where
   abbrev h : HeaderFields

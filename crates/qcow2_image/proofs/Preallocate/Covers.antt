@@ -10,7 +10,7 @@ use Rattle.qcow2_metadata.specs.Header.{cluster_size}
 use Rattle.qcow2_metadata.specs.L2Table.{copied_host, zero_cover}
 use Rattle.qcow2_disk.specs.Mappings.{is_copied_data}
 use Rattle.qcow2_image.specs.Clearing.{ClearsImageCovers, cover_once_cleared, is_between}
-use Rattle.qcow2_image.specs.declared.discarding.Clearance.TheVariants.{KeptZeros}
+use Rattle.qcow2_image.specs.declared.discarding.ClearMode.TheVariants.{KeptZeros}
 use Rattle.qcow2_image.specs.MovedTables.{CoversStay}
 use Rattle.qcow2_image.specs.Preallocation.{FilledCovers, Touches}
 

@@ -20,7 +20,7 @@ use Rattle.qcow2_alloc.specs.declared.error.ImageError.TheVariants as I
 use Rattle.qcow2_image.specs.Image.{has_noted_change}
 use Rattle.qcow2_image.specs.CallParts.{RefusedCall, UnseenCall}
 use Rattle.qcow2_image.specs.Clearing.{ClearsPart, IsUnderMapping}
-use Rattle.qcow2_image.specs.declared.discarding.Clearance.TheVariants.{KeptZeros}
+use Rattle.qcow2_image.specs.declared.discarding.ClearMode.TheVariants.{KeptZeros}
 use Rattle.qcow2_image.specs.declared.image.Qcow2.{Qcow2}
 use Rattle.qcow2_image.specs.declared.prepared.Prepared.{Prepared}
 use Rattle.qcow2_image.specs.ImageInvariant.{ImageInvariant, abstract_of, disk_of, pending_in}

@@ -23,7 +23,7 @@ use Rattle.qcow2_alloc.specs.ImageError.{IsFault}
 use Rattle.qcow2_alloc.specs.ImageFile.{known_in}
 use Rattle.qcow2_alloc.specs.declared.error.ImageError.{ImageError}
 use Rattle.qcow2_alloc.proofs.AllocationSteps.{handed_on}
-use Rattle.qcow2_image.specs.Backings.{HasPrepared}
+use Rattle.qcow2_image.specs.Backings.{HasPinnedMapping}
 use Rattle.qcow2_image.specs.CallParts.{UnseenCall}
 use Rattle.qcow2_image.specs.Clearing.{IsUnderMapping}
 use Rattle.qcow2_image.specs.Found.{l1_index_of}
@@ -53,10 +53,10 @@ pub met_filling_freed : (out : List (Option Prepared)) (mode : PreallocateMode) 
 met_filling_freed out mode from to h known e e' told met = elim told [ inl same ↦ subst (IsMetGrowing out mode from to h known) (sym same) met | inr fault ↦ inl (inl (inl (inl fault))) ]
 
 -- a mapping for which a table is kept is prepared
-pub taken_prepared : (h : HeaderFields) (known : Bytes) (offset n : ℕ) (out : List (Option Prepared)) → IsTaken h known offset n out → HasPrepared out
+pub taken_prepared : (h : HeaderFields) (known : Bytes) (offset n : ℕ) (out : List (Option Prepared)) → IsTaken h known offset n out → HasPinnedMapping out
 taken_prepared h known offset n out taken = record { place = taken.place; mapping = taken.other; there = taken.is_out; pins = taken.keeps_table }
 
-pub under_prepared : (h : HeaderFields) (offset : ℕ) (out : List (Option Prepared)) → IsUnderMapping h offset out → HasPrepared out
+pub under_prepared : (h : HeaderFields) (offset : ℕ) (out : List (Option Prepared)) → IsUnderMapping h offset out → HasPinnedMapping out
 under_prepared h offset out under = record { place = under.place; mapping = under.other; there = under.is_out; pins = under.keeps_table }
 
 -- ---- what is compressed
@@ -151,8 +151,8 @@ module _ {S F : Type 0} (view : S → StorageView) (backing : F → BackingView)
         needs.0.far (room_near h image.l1_table.cluster_bits image.l1_table.cluster (l1_index_of h from) sound.l1_table.bits (sound.l1_table.cluster (omega (arith, inside))) inside near.near)
 
     -- what preparing the first bytes of a range meets
-    pub met_piece : (n : ℕ) → from + n ≤ to → (overwrite : Bool) (e : ImageError) → IsMetTaking (HasPrepared out) (IsTaken image.file.header.fields (known_in view image.file) from n out) (CopiesCompressed from n overwrite image.file.header.fields (known_in view image.file)) (NeedsOverflowingL1Entry image from) e
-        → IsMetTaking (HasPrepared out) (HasPrepared out) (HasCompressedIn from to image.file.header.fields (known_in view image.file)) ⊥ e
+    pub met_piece : (n : ℕ) → from + n ≤ to → (overwrite : Bool) (e : ImageError) → IsMetTaking (HasPinnedMapping out) (IsTaken image.file.header.fields (known_in view image.file) from n out) (CopiesCompressed from n overwrite image.file.header.fields (known_in view image.file)) (NeedsOverflowingL1Entry image from) e
+        → IsMetTaking (HasPinnedMapping out) (HasPinnedMapping out) (HasCompressedIn from to image.file.header.fields (known_in view image.file)) ⊥ e
     met_piece n within overwrite e met =
         let h = image.file.header.fields in
         let known = known_in view image.file in
@@ -177,8 +177,8 @@ module _ {S F : Type 0} (view : S → StorageView) (backing : F → BackingView)
         compressed_wider h (known_in view old.file) x y from' to' low high
         (compressed_moved h h' (known_in view old.file) (known_in view now.file) from' to' part.header (still_compressed (cluster_size h) (pow_pos h.cluster_bits) first from at h (known_in view old.file) h' (known_in view now.file) part.covers) has)
 
-    pub met_before : (from' to' x y : ℕ) → x ≤ from' → to' ≤ y → (e : ImageError) → IsMetTaking (HasPrepared out) (HasPrepared out) (HasCompressedIn from' to' now.file.header.fields (known_in view now.file)) ⊥ e
-        → IsMetTaking (HasPrepared out) (HasPrepared out) (HasCompressedIn x y old.file.header.fields (known_in view old.file)) ⊥ e
+    pub met_before : (from' to' x y : ℕ) → x ≤ from' → to' ≤ y → (e : ImageError) → IsMetTaking (HasPinnedMapping out) (HasPinnedMapping out) (HasCompressedIn from' to' now.file.header.fields (known_in view now.file)) ⊥ e
+        → IsMetTaking (HasPinnedMapping out) (HasPinnedMapping out) (HasCompressedIn x y old.file.header.fields (known_in view old.file)) ⊥ e
     met_before from' to' x y low high e met = taking_as (λ held. held) (λ kept. kept) (compressed_before from' to' x y low high) (λ never. never) e met
 
     -- the entries that they reach are near still: the L1 table stays where it is

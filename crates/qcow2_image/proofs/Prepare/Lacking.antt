@@ -23,7 +23,7 @@ use Rattle.qcow2_alloc.specs.declared.async_lru_cache.slot.Slot.{Slot}
 use Rattle.qcow2_alloc.specs.declared.error.ImageError.{ImageError}
 use Rattle.qcow2_alloc.specs.ImageError.{IsFault}
 use Rattle.qcow2_alloc.specs.ImageFile.{contents_in}
-use Rattle.qcow2_image.specs.Backings.{HasPrepared}
+use Rattle.qcow2_image.specs.Backings.{HasPinnedMapping}
 use Rattle.qcow2_image.specs.declared.image.Qcow2.{Qcow2}
 use Rattle.qcow2_image.specs.declared.prepared.Prepared.{Prepared}
 use Rattle.qcow2_image.specs.Found.{l1_index_of}
@@ -72,17 +72,17 @@ module _ {S F : Type 0} (view : S → StorageView) (backing : F → BackingView)
   -- ---- refusals of a cache
   module _ (p : Pending) (image : Qcow2 S F) (sound : ImageInvariant view backing p image out) where
     -- where no table may leave the cache of L2 tables, a mapping is prepared
-    pub pinned_prepared : AreAllPinned image.file.caches → HasPrepared out
+    pub pinned_prepared : AreAllPinned image.file.caches → HasPinnedMapping out
     pinned_prepared all =
         let one = some_pinned image.file.caches.l2.size image.file.caches.l2.entries sound.file.room.tables all.0 all.1 in
         pinned_by out one.0 (subst (λ n. 0 < n) (sound.pinned one.0) one.1)
 
     -- a table is loaded but for a fault, or where a mapping is prepared
-    pub loads_looking : (e : ImageError) → IsInUseOrFault image.file.caches e → IsMetLooking (HasPrepared out) e
+    pub loads_looking : (e : ImageError) → IsInUseOrFault image.file.caches e → IsMetLooking (HasPinnedMapping out) e
     loads_looking e cause = elim cause [ inl used ↦ inr (used.0, pinned_prepared used.1) | inr fault ↦ inl fault ]
 
     -- without a prepared mapping it has a place
-    pub fault_alone : (HasPrepared out → ⊥) → (e : ImageError) → IsInUseOrFault image.file.caches e → IsFault e
+    pub fault_alone : (HasPinnedMapping out → ⊥) → (e : ImageError) → IsInUseOrFault image.file.caches e → IsFault e
     fault_alone none e cause = elim cause [ inl used ↦ absurd (none (pinned_prepared used.1)) | inr fault ↦ fault ]
 
   -- a refusal that is a fault

@@ -17,10 +17,10 @@ use Rattle.qcow2_alloc.specs.TableCaches.{IsTableOf}
 use Rattle.qcow2_alloc.specs.declared.error.ImageError.{ImageError}
 use Rattle.qcow2_alloc.specs.declared.image_storage.ImageStorage.{ImageStorage}
 use Rattle.qcow2_alloc.proofs.AllocationSteps.{handed_on}
-use Rattle.qcow2_image.specs.Backings.{HasPrepared}
+use Rattle.qcow2_image.specs.Backings.{HasPinnedMapping}
 use Rattle.qcow2_image.specs.CallParts.{RefusedCall, UnseenCall}
 use Rattle.qcow2_image.specs.Clearing.{IsClearable}
-use Rattle.qcow2_image.specs.declared.discarding.Clearance.{Clearance}
+use Rattle.qcow2_image.specs.declared.discarding.ClearMode.{ClearMode}
 use Rattle.qcow2_image.specs.declared.image.Qcow2.{Qcow2}
 use Rattle.qcow2_image.specs.declared.prepared.Prepared.{Prepared}
 use Rattle.qcow2_image.specs.Found.{l1_index_of}
@@ -40,7 +40,7 @@ module _ {A : Type 0} (compressed far : Type 0) where
 
 module _ {S F : Type 0} (view : S → StorageView) (backing : F → BackingView) (out : List (Option Prepared)) where
   -- a table is loaded but for a fault, or where a mapping is prepared
-  pub faults_looking : {A : Type 0} (p : Pending) (image : Qcow2 S F) → ImageInvariant view backing p image out → (r : Result A ImageError) → IfErr r (IsInUseOrFault image.file.caches) → IfErr r (IsMetLooking (HasPrepared out))
+  pub faults_looking : {A : Type 0} (p : Pending) (image : Qcow2 S F) → ImageInvariant view backing p image out → (r : Result A ImageError) → IfErr r (IsInUseOrFault image.file.caches) → IfErr r (IsMetLooking (HasPinnedMapping out))
   faults_looking p image sound (Ok x) cause = tt
   faults_looking p image sound (Err e) cause = loads_looking view backing out p image sound e cause
 
@@ -69,7 +69,7 @@ module _ {S F : Type 0} (view : S → StorageView) (backing : F → BackingView)
       subst (λ (v : L2TableView). PutRefusesBy (IsInUseOrFault old.file.caches) view storage old.file.caches (λ h. IsTableOf h v) v.cluster v.bytes v.is_modified r) put refuses h p placed.sound.file.honest placed.sound.file.caches placed.sound.file.named_blocks
       (record { bits = format.bits; zero_bit = format.zero_bit; external = format.external }) refl (holds view backing mid out p placed.sound still at some t.bytes (whole ∙ ap (λ n. 2 ^ n) format.bits) there)
 
-module _ {S F : Type 0} (view : S → StorageView) (backing : F → BackingView) (out : List (Option Prepared)) (old mid : Qcow2 S F) (how : Clearance) (from to table : ℕ) (found : UnseenCall view backing old mid out) (held : HoldsTable view backing mid from table) where
+module _ {S F : Type 0} (view : S → StorageView) (backing : F → BackingView) (out : List (Option Prepared)) (old mid : Qcow2 S F) (how : ClearMode) (from to table : ℕ) (found : UnseenCall view backing old mid out) (held : HoldsTable view backing mid from table) where
   -- the entries of a range that is clearable stand in the held table, and reading them is refused for a fault alone
   pub reading_fault : IsClearable old.file.header.fields how from to → from < to → (first n : ℕ) (e : ImageError) → first ≡ from / cluster_size mid.file.header.fields → n ≡ (to - from) / cluster_size mid.file.header.fields
       → ((q : Pending) (i : ℕ) → FileInvariant view q mid.file → mid.file.header.fields.incompatible ≡ 0 → IsEntryAt mid.file.header.fields (known_in view mid.file) i table (first % entries_per_cluster mid.file.header.fields) → first / entries_per_cluster mid.file.header.fields ≡ i

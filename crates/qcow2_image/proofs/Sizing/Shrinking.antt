@@ -20,7 +20,7 @@ use Rattle.qcow2_alloc.specs.declared.error.ImageError.{ImageError}
 use Rattle.qcow2_alloc.specs.declared.error.ImageError.TheVariants as I
 use Rattle.qcow2_alloc.specs.ImageError.{IsFault as IsFaultOfTables}
 use Rattle.qcow2_alloc.specs.ImageFile.{state_in, view_in}
-use Rattle.qcow2_image.specs.Backings.{HasPrepared}
+use Rattle.qcow2_image.specs.Backings.{HasPinnedMapping}
 use Rattle.qcow2_image.specs.CallParts.{UnseenCall}
 use Rattle.qcow2_image.specs.Calls.{refusal_of}
 use Rattle.qcow2_image.specs.Clearing.{setting_of}
@@ -413,8 +413,8 @@ resizes_still a b image failed none =
 
 module _ {S F : Type 0} (view : S → StorageView) (backing : F → BackingView) (out : List (Option Prepared)) where
   pub tail_stops : (old now new : Qcow2 S F) (size at end : ℕ) → IsUncoveredSoFar view backing old now size at end → (e : ImageError)
-      → (refuses_to_resize now ≡ None → ImageInvariant view backing (pending_in view backing now out) now out → (HasPrepared out → ⊥) → IsFaultOrCantUncover view (size_of now) new at e)
-      → refuses_to_resize old ≡ None → ImageInvariant view backing (pending_in view backing old out) old out → (HasPrepared out → ⊥) → (IsFaultOfTables e → ⊥) → CantUncover view (size_of old) new at
+      → (refuses_to_resize now ≡ None → ImageInvariant view backing (pending_in view backing now out) now out → (HasPinnedMapping out → ⊥) → IsFaultOrCantUncover view (size_of now) new at e)
+      → refuses_to_resize old ≡ None → ImageInvariant view backing (pending_in view backing old out) old out → (HasPinnedMapping out → ⊥) → (IsFaultOfTables e → ⊥) → CantUncover view (size_of old) new at
   tail_stops old now new size at end so e stops none sound unprepared no_fault =
       elim (stops (resizes_still old now so.image so.failed none) (so.so_far out sound).0.sound unprepared) [
         | inl fault ↦ absurd (no_fault fault)

@@ -24,7 +24,7 @@ use Rattle.qcow2_image.specs.CallParts.{UnseenCall}
 use Rattle.qcow2_image.specs.declared.image.Qcow2.{Qcow2}
 use Rattle.qcow2_image.specs.declared.prepared.Prepared.{Prepared}
 use Rattle.qcow2_image.specs.Clearing.{ClearsImageCovers, setting_of}
-use Rattle.qcow2_image.specs.declared.discarding.Clearance.TheVariants.{Uncovered}
+use Rattle.qcow2_image.specs.declared.discarding.ClearMode.TheVariants.{Uncovered}
 use Rattle.qcow2_image.specs.ImageInvariant.{ImageInvariant, abstract_of, disk_of, pending_in}
 use Rattle.qcow2_image.specs.Resizing.{IsTurnEnd, UncoversPart, boundary_in}
 use Rattle.qcow2_image.proofs.Clear.ClearCalls.{covers_after}

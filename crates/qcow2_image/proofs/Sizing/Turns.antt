@@ -19,10 +19,10 @@ use Rattle.qcow2_laws.proofs.Places.{Sizes-from}
 use Rattle.qcow2_alloc.specs.declared.error.ImageError.{ImageError}
 use Rattle.qcow2_alloc.specs.declared.error.ImageError.TheVariants as I
 use Rattle.qcow2_alloc.specs.ImageFile.{contents_in, known_in}
-use Rattle.qcow2_image.specs.Backings.{HasPrepared}
+use Rattle.qcow2_image.specs.Backings.{HasPinnedMapping}
 use Rattle.qcow2_image.specs.Calls.{refusal_of}
 use Rattle.qcow2_image.specs.Clearing.{Clears, ClearsImageCovers, RefusesClearing, RefusesUngiven, rounds_past, setting_of}
-use Rattle.qcow2_image.specs.declared.discarding.Clearance.TheVariants.{Uncovered}
+use Rattle.qcow2_image.specs.declared.discarding.ClearMode.TheVariants.{Uncovered}
 use Rattle.qcow2_image.specs.declared.image.Qcow2.{Qcow2}
 use Rattle.qcow2_image.specs.declared.prepared.Prepared.{Prepared}
 use Rattle.qcow2_image.specs.Image.{HasNothingToFree, is_external, is_failed, is_writable, size_of}
@@ -135,7 +135,7 @@ module _ {S F : Type 0} (view : S → StorageView) (backing : F → BackingView)
 
   -- why a turn is refused, where nothing refuses a resize and no mapping is prepared
   pub turn_stops : (e : ImageError) → end ≡ size_of old → at < size_of old → refuses_to_resize old ≡ None → Clears view backing Uncovered old new at (end - at) (Err e) → RefusesClearing view backing Uncovered old new at (end - at) e
-      → (out : List (Option Prepared)) → ImageInvariant view backing (pending_in view backing old out) old out → (HasPrepared out → ⊥) → IsFaultOrCantUncover view (size_of old) new at e
+      → (out : List (Option Prepared)) → ImageInvariant view backing (pending_in view backing old out) old out → (HasPinnedMapping out → ⊥) → IsFaultOrCantUncover view (size_of old) new at e
   turn_stops e is lt none clears refused out sound unprepared = by_case (rounds_past (cluster_size old.file.header.fields) (size_of old) at (end - at)) refl
     where
       whole : at + (end - at) ≡ size_of old

@@ -8,7 +8,7 @@ use Rattle.qcow2_metadata.specs.declared.header.HeaderFields.{HeaderFields}
 use Rattle.qcow2_metadata.specs.declared.l2_mapping.L2Mapping.TheVariants as M
 use Rattle.qcow2_metadata.specs.Header.{cluster_size}
 use Rattle.qcow2_image.specs.Clearing.{ClearsImageCovers, is_between}
-use Rattle.qcow2_image.specs.declared.discarding.Clearance.TheVariants.{Uncovered}
+use Rattle.qcow2_image.specs.declared.discarding.ClearMode.TheVariants.{Uncovered}
 use Rattle.qcow2_image.specs.MovedTables.{CoversStay}
 
 module _ (from to : ℕ) (h h' : HeaderFields) (known known' : Bytes) where

@@ -49,7 +49,7 @@ use Rattle.qcow2_image.specs.L1Entries.{NeedsOverflowingL1Entry}
 use Rattle.qcow2_image.specs.Limits.{IfLimit, IsLimited}
 use Rattle.qcow2_image.specs.MetAlone.{CopiesCompressed, IsCacheHeld, IsMetTaking}
 use Rattle.qcow2_session.proofs.MetOnSound.{existing_found, existing_long, existing_near, put_unlimited, compressed_behind, put_looking}
-use Rattle.qcow2_image.specs.Backings.{HasPrepared}
+use Rattle.qcow2_image.specs.Backings.{HasPinnedMapping}
 use Rattle.qcow2_image.proofs.Prepare.MetTaking.{taking_as}
 
 -- what refused a call that begins another one before any work refused that one
@@ -387,7 +387,7 @@ returns-in_err-prepared-clause-sound g c = λ none out sound.
     let e = c.in_err-prepared.field-0.0 in
     let call = c.in_err-prepared.ensures.sees out in
     record {
-      met = subst (λ r. IfErr r (IsMetTaking (HasPrepared out) (IsUnderMapping old.file.header.fields c.args.offset out) (CopiesCompressed c.args.offset n true new.file.header.fields (known_in view new.file)) (NeedsOverflowingL1Entry old c.args.offset))) (sym (refused_is _ e c.from_residual.ensures))
+      met = subst (λ r. IfErr r (IsMetTaking (HasPinnedMapping out) (IsUnderMapping old.file.header.fields c.args.offset out) (CopiesCompressed c.args.offset n true new.file.header.fields (known_in view new.file)) (NeedsOverflowingL1Entry old c.args.offset))) (sym (refused_is _ e c.from_residual.ensures))
           (⊎_elim (λ still. taking_as (λ held. held) (λ taken. under_taken taken) (compressed_behind view g.F.BackingDisk.backing out old new sound still.0 (call.acts.works sound) c.args.offset n) (λ far. far) e (c.in_err-prepared.ensures.met none some out sound)) (λ failed. inl (inl (inl (fault_of e failed.0)))) (call.answer sound));
       taken = subst (λ r. HeedsFirst g.S.Storage.view g.F.BackingDisk.backing old out c.args.offset n r) (sym (refused_is _ c.in_err-prepared.field-0.0 c.from_residual.ensures))
           (λ is. (

@@ -6,7 +6,7 @@ use Rattle.qcow2_image.proofs.Call.OnceWritten.{answered_counts, counts_begun, f
 use Rattle.std.proofs.Common.{◌≡◌, ◌<◌, ◌+◌, ◌-◌, [], ℕ, min, sym, ap, ◌∙◌, subst, arith, inl, refl}
 use Rattle.std.specs.Prelude.{Ok, Err, IfErr, IfOk, IsTrue, Result}
 use Rattle.qcow2_alloc.specs.declared.error.ImageError.TheVariants.{Memory, TablePrepared}
-use Rattle.qcow2_image.specs.Backings.{HasPrepared}
+use Rattle.qcow2_image.specs.Backings.{HasPinnedMapping}
 use Rattle.qcow2_image.specs.NewTables.{IsFaultOrLacksTable}
 use Rattle.qcow2_image.specs.CallParts.{RefusedCall, EndsFreeing, UnseenCall}
 use Rattle.qcow2_image.specs.Clearing.{Clears, ClearsOrRefuses, IsUnderMapping, RefusesClearing, from_in, to_in}
@@ -113,8 +113,8 @@ returns-in_err-mark_failure-clause-fails g c =
             let call = b.seen out sound in
             let h = begun.file.header.fields in
             taking_as (λ held. held) (under_before old.file.header.fields h first out call.header) (λ no. no) (far_before old begun first c.begin.ensures.rest) e
-            (subst (λ k. IsMetTaking (HasPrepared out) (IsUnderMapping h k out) ⊥ (NeedsOverflowingL1Entry begun k) e) b.first_is
-            (subst (λ (r : Result _ _). IfErr r (IsMetTaking (HasPrepared out) (IsUnderMapping h c.in_ok-from.from out) ⊥ (NeedsOverflowingL1Entry begun c.in_ok-from.from))) done (c.clear_between-cleared.ensures.met out call.sound (b.whole out call))));
+            (subst (λ k. IsMetTaking (HasPinnedMapping out) (IsUnderMapping h k out) ⊥ (NeedsOverflowingL1Entry begun k) e) b.first_is
+            (subst (λ (r : Result _ _). IfErr r (IsMetTaking (HasPinnedMapping out) (IsUnderMapping h c.in_ok-from.from out) ⊥ (NeedsOverflowingL1Entry begun c.in_ok-from.from))) done (c.clear_between-cleared.ensures.met out call.sound (b.whole out call))));
       });
       pinned = λ some none own. heeds_begun old begun first bad c.begin.ensures.begun (subst (λ k. HeedsPins begun k bad) b.first_is
           (subst (λ (r : Result (Unit {0}) ImageError). HeedsPins begun c.in_ok-from.from r) done (c.clear_between-cleared.ensures.pinned (subst (λ k. HasOwnTable begun k) (sym b.first_is) (begun_own old begun first c.begin.ensures.begun own)))));

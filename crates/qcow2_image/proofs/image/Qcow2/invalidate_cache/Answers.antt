@@ -10,7 +10,7 @@ use Rattle.qcow2_image.specs.ImageInvariant.{pending_in}
 use Rattle.qcow2_image.specs.Invalidated.{HeedsPrepared, IsOfPrepared, IsReasonAgainstReading, IsStillInUse, KeepsTables, reftable_in}
 use Rattle.qcow2_image.specs.Refusals.{IsMet}
 use Rattle.qcow2_image.specs.declared.image.Qcow2.{Qcow2}
-use Rattle.qcow2_image.specs.Backings.{HasPrepared}
+use Rattle.qcow2_image.specs.Backings.{HasPinnedMapping}
 use Rattle.qcow2_image.proofs.Backings.{some_prepared, table_prepared}
 use Rattle.qcow2_image.proofs.Call.Called.{keeps_then, told_answers, tells_quietly}
 use Rattle.qcow2_image.proofs.Call.Marked.{may_mark}
@@ -84,8 +84,8 @@ returns-clause-sound g c =
       in_use =
           λ out sound.
           let first = c.begin.ensures.keeps (pending_in view below old out) out sound in
-          subst (λ (x : Result _ _). IfErr x (λ e. IsStillInUse e → HasPrepared out)) answer
-          (IfErr-weaker r (IsReasonAgainstReading view begun read) (λ e. IsStillInUse e → HasPrepared out)
-          (λ e why. told_in_use old view new (HasPrepared out) (λ has. some_prepared view below old out sound has.cluster has.pins) sound.file.room e (why_begun view old begun c.begin.ensures.begun read new same e why))
+          subst (λ (x : Result _ _). IfErr x (λ e. IsStillInUse e → HasPinnedMapping out)) answer
+          (IfErr-weaker r (IsReasonAgainstReading view begun read) (λ e. IsStillInUse e → HasPinnedMapping out)
+          (λ e why. told_in_use old view new (HasPinnedMapping out) (λ has. some_prepared view below old out sound has.cluster has.pins) sound.file.room e (why_begun view old begun c.begin.ensures.begun read new same e why))
           (c.drop_and_read-done.ensures.why first.sound.file.honest));
     }

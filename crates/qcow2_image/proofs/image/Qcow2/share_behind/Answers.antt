@@ -23,8 +23,8 @@ use Rattle.qcow2_image.proofs.Prepare.MetRanges.{alone_as, guest_fits, next_read
 use Rattle.qcow2_image.proofs.Call.ImageSteps.{step_none}
 use Rattle.qcow2_image.proofs.image.Qcow2.share_behind.Goals as goal
 
-pub returns-in-Some-copied_place-clause-step : goal.returns-in-Some-copied_place-clause-step
-returns-in-Some-copied_place-clause-step g c = step_none
+pub returns-in-Some-copied_offset-clause-step : goal.returns-in-Some-copied_offset-clause-step
+returns-in-Some-copied_offset-clause-step g c = step_none
 
 pub returns-in-Some-2-clause-step : goal.returns-in-Some-2-clause-step
 returns-in-Some-2-clause-step g c = step_none
@@ -38,8 +38,8 @@ returns-in_ok-fill_kept-in-None-clause-step g c = c.fill_kept.ensures.step
 pub returns-in-None-2-clause-step : goal.returns-in-None-2-clause-step
 returns-in-None-2-clause-step g c = c.share_at.ensures.step
 
-pub returns-in-Some-copied_place-clause-sound : goal.returns-in-Some-copied_place-clause-sound
-returns-in-Some-copied_place-clause-sound g c = λ out k at may sound.
+pub returns-in-Some-copied_offset-clause-sound : goal.returns-in-Some-copied_offset-clause-sound
+returns-in-Some-copied_offset-clause-sound g c = λ out k at may sound.
     let view = g.S.Storage.view in
     let below = g.F.BackingDisk.backing in
     let old = c.args.self.now in
@@ -51,7 +51,7 @@ returns-in-Some-copied_place-clause-sound g c = λ out k at may sound.
       met = search rules;
       limit = search rules;
       does = behind_in_place view below old out k p at c.args.length c.args.table c.args.overwrite may sound
-          (covered ∙ c.in-Some-copied_place.ensures.place.0 ∙ ap (λ b. Data b true) (c.if-place-host.true ∙ c.in-Some-checked_add.ensures.1));
+          (covered ∙ c.in-Some-copied_offset.ensures.place.0 ∙ ap (λ b. Data b true) (c.if-place-host.true ∙ c.in-Some-checked_add.ensures.1));
     }
 
 pub returns-in-Some-2-clause-sound : goal.returns-in-Some-2-clause-sound
@@ -66,7 +66,7 @@ returns-in-Some-2-clause-sound g c = λ out k at may sound.
     record {
       met = search rules;
       limit = search rules;
-      does = ends_elsewhere view below old out k p at c.args.length c.args.table c.args.overwrite may sound c.in-Some-copied_place.place (covered ∙ c.in-Some-copied_place.ensures.place.0) (λ is. c.if-place-host.false (is ∙ sym c.in-Some-checked_add.ensures.1));
+      does = ends_elsewhere view below old out k p at c.args.length c.args.table c.args.overwrite may sound c.in-Some-copied_offset.place (covered ∙ c.in-Some-copied_offset.ensures.place.0) (λ is. c.if-place-host.false (is ∙ sym c.in-Some-checked_add.ensures.1));
     }
 
 pub returns-in_err-fill_kept-in-None-clause-sound : goal.returns-in_err-fill_kept-in-None-clause-sound

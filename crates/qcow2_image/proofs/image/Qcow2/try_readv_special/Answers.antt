@@ -28,26 +28,26 @@ returns-clause-sees g c =
     let view = g.S.Storage.view in
     let below = g.F.BackingDisk.backing in
     let old = c.args.self.now in
-    let new = c.plain_at-plain.new.self in
+    let new = c.check_not_compressed-plain.new.self in
     subst (λ (image : Qcow2 _ _). AnswersCall view below old image [] (λ at was is. is ≡ was) c.mark_failure.result) (sym c.mark_failure.ensures.rest)
     (subst (λ (r : Result _ _). AnswersCall view below old (record new { is_failed = is_failed c.mark_failure.new.self }) [] (λ at was is. is ≡ was) r) (sym c.mark_failure.ensures.answer)
-    (told_answers view below old (record new { is_failed = is_failed c.mark_failure.new.self }) (λ at was is. is ≡ was) c.plain_at-plain.result
-    (tells_quietly view below old new (λ out. quietly_then view below out old c.begin.new.self new c.begin.ensures.keeps c.begin.ensures.list c.plain_at-plain.ensures.keeps c.plain_at-plain.ensures.step.list)
-    (is_failed c.mark_failure.new.self) (λ at v w. IsSame v w) c.plain_at-plain.result (may_mark c.plain_at-plain.new.self c.mark_failure.new.self c.plain_at-plain.result c.mark_failure.ensures.marks) (c.plain_at-plain.ensures.step.part.stays.image.number ∙ c.begin.ensures.stays.image.number)
+    (told_answers view below old (record new { is_failed = is_failed c.mark_failure.new.self }) (λ at was is. is ≡ was) c.check_not_compressed-plain.result
+    (tells_quietly view below old new (λ out. quietly_then view below out old c.begin.new.self new c.begin.ensures.keeps c.begin.ensures.list c.check_not_compressed-plain.ensures.keeps c.check_not_compressed-plain.ensures.step.list)
+    (is_failed c.mark_failure.new.self) (λ at v w. IsSame v w) c.check_not_compressed-plain.result (may_mark c.check_not_compressed-plain.new.self c.mark_failure.new.self c.check_not_compressed-plain.result c.mark_failure.ensures.marks) (c.check_not_compressed-plain.ensures.step.part.stays.image.number ∙ c.begin.ensures.stays.image.number)
     (usable_works old c.check_usable.result c.in_ok-check_usable.was c.check_usable.ensures)
-    (λ out sound same. if_ok c.plain_at-plain.result (λ at is. same) c.plain_at-plain.ensures.answer))))
+    (λ out sound same. if_ok c.check_not_compressed-plain.result (λ at is. same) c.check_not_compressed-plain.ensures.answer))))
 
 pub returns-clause-tells : goal.returns-clause-tells
 returns-clause-tells g c = λ some out sound.
     let view = g.S.Storage.view in
     let p = pending_in view g.F.BackingDisk.backing c.args.self.now out in
     subst (λ r. TellsWhether (known_in view c.args.self.now.file) c.args.offset r) (sym c.mark_failure.ensures.answer)
-    (subst (λ k. TellsWhether k c.args.offset c.plain_at-plain.result) (c.begin.ensures.known p out sound) (c.plain_at-plain.ensures.tells p out (c.begin.ensures.keeps p out sound).sound))
+    (subst (λ k. TellsWhether k c.args.offset c.check_not_compressed-plain.result) (c.begin.ensures.known p out sound) (c.check_not_compressed-plain.ensures.tells p out (c.begin.ensures.keeps p out sound).sound))
 
 pub returns-clause-met : goal.returns-clause-met
 returns-clause-met g c = λ out sound.
     let p = pending_in g.S.Storage.view g.F.BackingDisk.backing c.args.self.now out in
-    subst (λ (r : Result _ _). IfErr r (λ e. IsMetLooking (IsCacheHeld c.args.self.now out) e ⊎ (e ≡ Compressed))) (sym c.mark_failure.ensures.answer) (held_since c.args.self.now c.begin.new.self out c.begin.ensures.begun (λ held. IfErr c.plain_at-plain.result (λ e. IsMetLooking held e ⊎ (e ≡ Compressed))) (c.plain_at-plain.ensures.met p out (c.begin.ensures.keeps p out sound).sound))
+    subst (λ (r : Result _ _). IfErr r (λ e. IsMetLooking (IsCacheHeld c.args.self.now out) e ⊎ (e ≡ Compressed))) (sym c.mark_failure.ensures.answer) (held_since c.args.self.now c.begin.new.self out c.begin.ensures.begun (λ held. IfErr c.check_not_compressed-plain.result (λ e. IsMetLooking held e ⊎ (e ≡ Compressed))) (c.check_not_compressed-plain.ensures.met p out (c.begin.ensures.keeps p out sound).sound))
 
 pub returns-in_err-check_usable-clause-met : goal.returns-in_err-check_usable-clause-met
 returns-in_err-check_usable-clause-met g c = λ out sound.
@@ -60,10 +60,10 @@ returns-clause-step g c = record {
   image = search rules;
   header = search rules;
   marks = search rules;
-  once_written = fails_once g.S.Storage.view c.args.self.now c.begin.new.self c.begin.ensures.begun c.plain_at-plain.new.self c.mark_failure.new.self c.plain_at-plain.result c.plain_at-plain.ensures.step.part.notes (c.plain_at-plain.ensures.step.part.stays.failed ∙ c.begin.ensures.stays.failed) c.mark_failure.ensures.marks c.mark_failure.ensures.rest c.mark_failure.result (λ memory. sym c.mark_failure.ensures.answer ∙ memory);
-  header_cluster = behind_call g.S.Storage.view c.begin.ensures.begun c.plain_at-plain.ensures.step.part.header_cluster c.mark_failure.ensures.rest;
-  faults = counted_marked g.S.Storage.view g.F.BackingDisk.backing c.args.self.now c.begin.new.self c.plain_at-plain.new.self c.mark_failure.new.self c.plain_at-plain.result c.mark_failure.result c.begin.ensures.faults c.plain_at-plain.ensures.fails.faults c.mark_failure.ensures.answer c.mark_failure.ensures.rest;
-  quiet = reads_call g.S.Storage.view c.args.self.now c.begin.new.self c.plain_at-plain.new.self c.mark_failure.new.self _ c.begin.ensures.begun c.plain_at-plain.ensures.step.quiet c.mark_failure.ensures.rest;
+  once_written = fails_once g.S.Storage.view c.args.self.now c.begin.new.self c.begin.ensures.begun c.check_not_compressed-plain.new.self c.mark_failure.new.self c.check_not_compressed-plain.result c.check_not_compressed-plain.ensures.step.part.notes (c.check_not_compressed-plain.ensures.step.part.stays.failed ∙ c.begin.ensures.stays.failed) c.mark_failure.ensures.marks c.mark_failure.ensures.rest c.mark_failure.result (λ memory. sym c.mark_failure.ensures.answer ∙ memory);
+  header_cluster = behind_call g.S.Storage.view c.begin.ensures.begun c.check_not_compressed-plain.ensures.step.part.header_cluster c.mark_failure.ensures.rest;
+  faults = counted_marked g.S.Storage.view g.F.BackingDisk.backing c.args.self.now c.begin.new.self c.check_not_compressed-plain.new.self c.mark_failure.new.self c.check_not_compressed-plain.result c.mark_failure.result c.begin.ensures.faults c.check_not_compressed-plain.ensures.fails.faults c.mark_failure.ensures.answer c.mark_failure.ensures.rest;
+  quiet = reads_call g.S.Storage.view c.args.self.now c.begin.new.self c.check_not_compressed-plain.new.self c.mark_failure.new.self _ c.begin.ensures.begun c.check_not_compressed-plain.ensures.step.quiet c.mark_failure.ensures.rest;
 }
 
 pub returns-in_err-check_usable-clause-step : goal.returns-in_err-check_usable-clause-step

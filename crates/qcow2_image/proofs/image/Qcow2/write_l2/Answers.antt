@@ -12,7 +12,7 @@ use Rattle.qcow2_image.proofs.Call.BehindHeader.{behind_none, behind_then}
 use Rattle.qcow2_image.proofs.Prepare.Lacked.{near_placed}
 use Rattle.qcow2_alloc.proofs.Outcomes.{not_both}
 use Rattle.qcow2_metadata.specs.L2Mapping.{IsHostCluster}
-use Rattle.qcow2_image.specs.Backings.{HasPrepared}
+use Rattle.qcow2_image.specs.Backings.{HasPinnedMapping}
 use Rattle.qcow2_image.specs.MetAlone.{IsMetLooking}
 use Rattle.qcow2_alloc.specs.ImageError.{IsFault}
 use Rattle.qcow2_image.proofs.Prepare.Met.{hands_met, met_as}
@@ -66,7 +66,7 @@ returns-clause-allocator g c = c.link_l2.ensures.allocator ∙ ap (λ (i : Qcow2
 
 pub returns-in_err-store_first-clause-met : goal.returns-in_err-store_first-clause-met
 returns-in_err-store_first-clause-met g c = λ p out sound says near host.
-    hands_met (IsMetLooking (HasPrepared out)) c.from_residual.result c.in_err-store_first.field-0.0 c.from_residual.ensures (inl (c.in_err-store_first.ensures.fault (with_new_tables p (one_at c.args.cluster)) out sound))
+    hands_met (IsMetLooking (HasPinnedMapping out)) c.from_residual.result c.in_err-store_first.field-0.0 c.from_residual.ensures (inl (c.in_err-store_first.ensures.fault (with_new_tables p (one_at c.args.cluster)) out sound))
 
 pub returns-in_err-write_l2_bytes-clause-met : goal.returns-in_err-write_l2_bytes-clause-met
 returns-in_err-write_l2_bytes-clause-met g c = λ p out sound says near host.
@@ -74,7 +74,7 @@ returns-in_err-write_l2_bytes-clause-met g c = λ p out sound says near host.
     let own = one_here c.args.cluster in
     let stored = c.in_ok-store_first.ensures.stores q out sound in
     let format = (says_still g.S.Storage.view g.F.BackingDisk.backing out q q c.args.self.now c.store_first.new.self c.args.index c.args.table stored.0 says).format in
-    hands_met (IsMetLooking (HasPrepared out)) c.from_residual-in_err-write_l2_bytes.result c.in_err-write_l2_bytes.field-0.0 c.from_residual-in_err-write_l2_bytes.ensures
+    hands_met (IsMetLooking (HasPinnedMapping out)) c.from_residual-in_err-write_l2_bytes.result c.in_err-write_l2_bytes.field-0.0 c.from_residual-in_err-write_l2_bytes.ensures
     (c.in_err-write_l2_bytes.ensures.met q out stored.0.sound (omega (arith, own)) format stored.1 (subst (λ n. IsHostCluster n c.args.cluster) (sym says.format.bits) host))
 
 pub returns-then-not-can_enter-clause-met : goal.returns-then-not-can_enter-clause-met
@@ -84,7 +84,7 @@ returns-then-not-can_enter-clause-met g c = λ p out sound says near host.
     c.if-not-can_enter.true
 
 pub returns-clause-met : goal.returns-clause-met
-returns-clause-met g c = λ p out sound says near host. met_as IsFault (IsMetLooking (HasPrepared out)) c.link_l2.result (λ e fault. inl fault) c.link_l2.ensures.fault
+returns-clause-met g c = λ p out sound says near host. met_as IsFault (IsMetLooking (HasPinnedMapping out)) c.link_l2.result (λ e fault. inl fault) c.link_l2.ensures.fault
 
 pub returns-then-not-can_enter-clause-step : goal.returns-then-not-can_enter-clause-step
 returns-then-not-can_enter-clause-step g c = record { stays = search rules; notes = notes_none; header_cluster = λ some. behind_none }

@@ -18,7 +18,7 @@ use Rattle.qcow2_image.proofs.Call.Unlimited.{storage_fault}
 use Rattle.qcow2_alloc.proofs.Outcomes.{not_both}
 use Rattle.qcow2_metadata.specs.L2Mapping.{IsHostCluster}
 use Rattle.qcow2_image.proofs.Prepare.MetTables.{faults_looking, put_refused}
-use Rattle.qcow2_image.specs.Backings.{HasPrepared}
+use Rattle.qcow2_image.specs.Backings.{HasPinnedMapping}
 use Rattle.qcow2_image.specs.MetAlone.{IsMetLooking}
 use Rattle.qcow2_image.proofs.Prepare.Met.{hands_met}
 
@@ -71,7 +71,7 @@ pub returns-then-not-is_nameable-clause-met : goal.returns-then-not-is_nameable-
 returns-then-not-is_nameable-clause-met g c = λ p out sound some format stored near. not_both c.is_nameable.result (c.is_nameable.ensures.1 (subst (λ n. IsHostCluster n c.args.cluster) (sym c.cluster_bits.ensures.value) near)) c.if-not-is_nameable.true
 
 pub returns-in_err-write_new_l2_table-clause-met : goal.returns-in_err-write_new_l2_table-clause-met
-returns-in_err-write_new_l2_table-clause-met g c = λ p out sound some format stored near. hands_met (IsMetLooking (HasPrepared out)) c.from_residual.result (of_storage c.in_err-write_new_l2_table.field-0.0) c.from_residual.ensures (inl (storage_fault c.in_err-write_new_l2_table.field-0.0))
+returns-in_err-write_new_l2_table-clause-met g c = λ p out sound some format stored near. hands_met (IsMetLooking (HasPinnedMapping out)) c.from_residual.result (of_storage c.in_err-write_new_l2_table.field-0.0) c.from_residual.ensures (inl (storage_fault c.in_err-write_new_l2_table.field-0.0))
 
 pub returns-then-not-is_nameable-clause-step : goal.returns-then-not-is_nameable-clause-step
 returns-then-not-is_nameable-clause-step g c = record { stays = search rules; notes = notes_none; header_cluster = λ some. behind_none }

@@ -7,7 +7,7 @@ use Rattle.qcow2_image.proofs.Map.Special.{found_special, found_plain}
 use Rattle.qcow2_alloc.specs.declared.error.ImageError.TheVariants.{Compressed}
 use Rattle.qcow2_image.specs.MetAlone.{IsCacheHeld, IsMetLooking}
 use Rattle.qcow2_image.proofs.Prepare.Met.{hands_met}
-use Rattle.qcow2_image.proofs.image.Qcow2.plain_at.Goals as goal
+use Rattle.qcow2_image.proofs.image.Qcow2.check_not_compressed.Goals as goal
 
 pub returns-then-is_special-clause-tells : goal.returns-then-is_special-clause-tells
 returns-then-is_special-clause-tells g c = λ p out sound is.

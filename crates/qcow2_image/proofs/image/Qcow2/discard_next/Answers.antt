@@ -8,9 +8,9 @@ use Rattle.qcow2_image.proofs.Call.FaultCounts.{counted_on, untouched}
 use Rattle.qcow2_image.proofs.Clear.ClearCalls.{err_is}
 use Rattle.qcow2_image.proofs.Sizing.Turns.{none_early, turn_answered, turn_frees, turn_refused, turn_stops, turn_touches}
 use Rattle.qcow2_image.specs.Clearing.{refuses_to_clear}
-use Rattle.qcow2_image.specs.declared.discarding.Clearance.TheVariants.{Uncovered}
-use Rattle.qcow2_image.proofs.image.Qcow2.uncover_next.Goals as goal
-use Rattle.qcow2_image.proofs.image.Qcow2.uncover_next.Goals.{else-at-next-via-then-at-next+else-next-end, else-at-next-via-else-at-next}
+use Rattle.qcow2_image.specs.declared.discarding.ClearMode.TheVariants.{Uncovered}
+use Rattle.qcow2_image.proofs.image.Qcow2.discard_next.Goals as goal
+use Rattle.qcow2_image.proofs.image.Qcow2.discard_next.Goals.{else-at-next-via-then-at-next+else-next-end, else-at-next-via-else-at-next}
 
 pub returns-in_err-from-clause-uncovers : goal.returns-in_err-from-clause-uncovers
 returns-in_err-from-clause-uncovers g c =

@@ -8,7 +8,7 @@ use Rattle.qcow2_image.specs.Resizing.{boundary_in}
 use Rattle.qcow2_image.specs.Noted.{ChangesRose, NotesChanges}
 use Rattle.qcow2_image.specs.Faults.{SameFaults}
 use Rattle.qcow2_image.proofs.Sizing.Shrinking.{IsUncoveredSoFar}
-use Rattle.qcow2_image.proofs.image.Qcow2.uncover_tail.Given as goal
+use Rattle.qcow2_image.proofs.image.Qcow2.discard_tail.Given as goal
 
 -- the tail is uncovered up to where the next turn begins, and nothing is to be freed behind the first one; a change was counted where turns passed a boundary
 abbrev pub invariant-loop-at : goal.invariant-loop-at

@@ -13,7 +13,7 @@ use Rattle.qcow2_image.proofs.Clear.ClearCalls.{err_is}
 use Rattle.qcow2_image.proofs.Sizing.RefusedTurns.{failed_other, not_marked, turn_ended, turn_still}
 use Rattle.qcow2_image.proofs.Sizing.Shrinking.{fault_of, written_stops}
 use Rattle.qcow2_image.proofs.Call.BehindHeader.{behind_then}
-use Rattle.qcow2_image.proofs.image.Qcow2.uncover_from.Goals as goal
+use Rattle.qcow2_image.proofs.image.Qcow2.discard_in_table.Goals as goal
 
 pub returns-in-Ok-clause-uncovers : goal.returns-in-Ok-clause-uncovers
 returns-in-Ok-clause-uncovers g c = c.in-Ok.ensures.uncovers
@@ -26,14 +26,14 @@ returns-in_err-process_free_list_at_end-in-Err-clause-uncovers g c =
     let view = g.S.Storage.view in
     let below = g.F.BackingDisk.backing in
     let old = c.args.self.now in
-    let mid = c.uncover_next.new.self in
+    let mid = c.discard_next.new.self in
     let new = c.process_free_list_at_end.new.self in
     let e = c.in-Err.refusal in
     let none : IsFault c.in-Err.refusal → ⊥ = λ fault. not_both c.is_fault.result (c.is_fault.ensures.1 fault) c.if-is_fault.false in
     let failed = not_marked view below old mid new e none c.in-Err.ensures.marks in
     let f = c.in_err-process_free_list_at_end-in-Err.field-0.0 in
     subst (λ (r : Result _ _). UncoversNext view below old new c.args.at r) (sym (err_is c.from_residual.result c.from_residual.ensures))
-    (turn_ended view below old mid new e none c.args.at c.requires.usable (c.process_free_list_at_end.ensures.image.number ∙ c.uncover_next.ensures.image.number) c.in-Err.ensures.uncovers f (refused_since old mid new failed f c.in_err-process_free_list_at_end-in-Err.ensures.marks)
+    (turn_ended view below old mid new e none c.args.at c.requires.usable (c.process_free_list_at_end.ensures.image.number ∙ c.discard_next.ensures.image.number) c.in-Err.ensures.uncovers f (refused_since old mid new failed f c.in_err-process_free_list_at_end-in-Err.ensures.marks)
     (λ out sound. inr (c.in_err-process_free_list_at_end-in-Err.ensures.frees out sound).0))
 
 pub returns-in_ok-process_free_list_at_end-in-Err-clause-uncovers : goal.returns-in_ok-process_free_list_at_end-in-Err-clause-uncovers
@@ -41,18 +41,18 @@ returns-in_ok-process_free_list_at_end-in-Err-clause-uncovers g c =
     let view = g.S.Storage.view in
     let below = g.F.BackingDisk.backing in
     let old = c.args.self.now in
-    let mid = c.uncover_next.new.self in
+    let mid = c.discard_next.new.self in
     let new = c.process_free_list_at_end.new.self in
     let e = c.in-Err.refusal in
     let none : IsFault c.in-Err.refusal → ⊥ = λ fault. not_both c.is_fault.result (c.is_fault.ensures.1 fault) c.if-is_fault.false in
     let failed = not_marked view below old mid new e none c.in-Err.ensures.marks in
-    turn_ended view below old mid new e none c.args.at c.requires.usable (c.process_free_list_at_end.ensures.image.number ∙ c.uncover_next.ensures.image.number) c.in-Err.ensures.uncovers e
+    turn_ended view below old mid new e none c.args.at c.requires.usable (c.process_free_list_at_end.ensures.image.number ∙ c.discard_next.ensures.image.number) c.in-Err.ensures.uncovers e
     (failed_other e (is_failed old) (has_noted_change new) (is_failed new) none (c.in_ok-process_free_list_at_end-in-Err.ensures.marks ∙ failed)) (λ out sound. inl (c.in_ok-process_free_list_at_end-in-Err.ensures.frees out sound))
 
 pub returns-in_err-process_free_list_at_end-in-Err-clause-marks : goal.returns-in_err-process_free_list_at_end-in-Err-clause-marks
 returns-in_err-process_free_list_at_end-in-Err-clause-marks g c =
     let old = c.args.self.now in
-    let mid = c.uncover_next.new.self in
+    let mid = c.discard_next.new.self in
     let new = c.process_free_list_at_end.new.self in
     let none : IsFault c.in-Err.refusal → ⊥ = λ fault. not_both c.is_fault.result (c.is_fault.ensures.1 fault) c.if-is_fault.false in
     let failed = not_marked g.S.Storage.view g.F.BackingDisk.backing old mid new c.in-Err.refusal none c.in-Err.ensures.marks in
@@ -64,7 +64,7 @@ returns-in_ok-process_free_list_at_end-in-Err-clause-marks g c =
     let new = c.process_free_list_at_end.new.self in
     let e = c.in-Err.refusal in
     let none : IsFault c.in-Err.refusal → ⊥ = λ fault. not_both c.is_fault.result (c.is_fault.ensures.1 fault) c.if-is_fault.false in
-    let failed = not_marked g.S.Storage.view g.F.BackingDisk.backing old c.uncover_next.new.self new e none c.in-Err.ensures.marks in
+    let failed = not_marked g.S.Storage.view g.F.BackingDisk.backing old c.discard_next.new.self new e none c.in-Err.ensures.marks in
     failed_other e (is_failed old) (has_noted_change new) (is_failed new) none (c.in_ok-process_free_list_at_end-in-Err.ensures.marks ∙ failed)
 
 pub returns-then-is_fault-clause-stops : goal.returns-then-is_fault-clause-stops
@@ -74,9 +74,9 @@ pub returns-in_err-process_free_list_at_end-in-Err-clause-stops : goal.returns-i
 returns-in_err-process_free_list_at_end-in-Err-clause-stops g c = λ usable out sound unprepared.
     let view = g.S.Storage.view in
     let old = c.args.self.now in
-    let mid = c.uncover_next.new.self in
+    let mid = c.discard_next.new.self in
     let none : IsFault c.in-Err.refusal → ⊥ = λ fault. not_both c.is_fault.result (c.is_fault.ensures.1 fault) c.if-is_fault.false in
-    let still = turn_still view g.F.BackingDisk.backing old mid mid c.in-Err.refusal none c.args.at c.requires.usable c.uncover_next.ensures.image.number c.in-Err.ensures.uncovers out sound in
+    let still = turn_still view g.F.BackingDisk.backing old mid mid c.in-Err.refusal none c.args.at c.requires.usable c.discard_next.ensures.image.number c.in-Err.ensures.uncovers out sound in
     handed_on (λ r. IfErr r (IsFaultOrCantUncover view (size_of old) c.process_free_list_at_end.new.self c.args.at)) c.from_residual.result c.in_err-process_free_list_at_end-in-Err.field-0.0 c.from_residual.ensures
     (inl (fault_of c.in_err-process_free_list_at_end-in-Err.field-0.0 (c.in_err-process_free_list_at_end-in-Err.ensures.frees out still.0).1))
 
@@ -85,9 +85,9 @@ returns-in_ok-process_free_list_at_end-in-Err-clause-stops g c = λ usable out s
     let view = g.S.Storage.view in
     let below = g.F.BackingDisk.backing in
     let old = c.args.self.now in
-    let mid = c.uncover_next.new.self in
+    let mid = c.discard_next.new.self in
     let none : IsFault c.in-Err.refusal → ⊥ = λ fault. not_both c.is_fault.result (c.is_fault.ensures.1 fault) c.if-is_fault.false in
-    let still = turn_still view below old mid mid c.in-Err.refusal none c.args.at c.requires.usable c.uncover_next.ensures.image.number c.in-Err.ensures.uncovers out sound in
+    let still = turn_still view below old mid mid c.in-Err.refusal none c.args.at c.requires.usable c.discard_next.ensures.image.number c.in-Err.ensures.uncovers out sound in
     elim (c.in-Err.ensures.stops usable out sound unprepared) [
       | inl fault ↦ absurd (none fault)
       | inr cant ↦ inr (written_stops view below out (size_of old) c.args.at (size_of mid) mid c.process_free_list_at_end.new.self still.0 (c.in_ok-process_free_list_at_end-in-Err.ensures.frees out still.0).sound c.process_free_list_at_end.ensures.table c.process_free_list_at_end.ensures.header cant)
@@ -102,18 +102,18 @@ returns-then-is_fault-clause-emptied g c = λ writable out sound. inl (c.is_faul
 pub returns-in_err-process_free_list_at_end-in-Err-clause-emptied : goal.returns-in_err-process_free_list_at_end-in-Err-clause-emptied
 returns-in_err-process_free_list_at_end-in-Err-clause-emptied g c = λ writable out sound.
     let old = c.args.self.now in
-    let mid = c.uncover_next.new.self in
+    let mid = c.discard_next.new.self in
     let none : IsFault c.in-Err.refusal → ⊥ = λ fault. not_both c.is_fault.result (c.is_fault.ensures.1 fault) c.if-is_fault.false in
-    let still = turn_still g.S.Storage.view g.F.BackingDisk.backing old mid mid c.in-Err.refusal none c.args.at c.requires.usable c.uncover_next.ensures.image.number c.in-Err.ensures.uncovers out sound in
+    let still = turn_still g.S.Storage.view g.F.BackingDisk.backing old mid mid c.in-Err.refusal none c.args.at c.requires.usable c.discard_next.ensures.image.number c.in-Err.ensures.uncovers out sound in
     handed_on (FreesTurn old c.process_free_list_at_end.new.self c.args.at) c.from_residual.result c.in_err-process_free_list_at_end-in-Err.field-0.0 c.from_residual.ensures
     (inl (fault_of c.in_err-process_free_list_at_end-in-Err.field-0.0 (c.in_err-process_free_list_at_end-in-Err.ensures.frees out still.0).1))
 
 pub returns-in_ok-process_free_list_at_end-in-Err-clause-emptied : goal.returns-in_ok-process_free_list_at_end-in-Err-clause-emptied
-returns-in_ok-process_free_list_at_end-in-Err-clause-emptied g c = λ writable out sound. inr (c.in_ok-process_free_list_at_end-in-Err.ensures.emptied (subst IsTrue (sym c.uncover_next.ensures.image.writable) writable))
+returns-in_ok-process_free_list_at_end-in-Err-clause-emptied g c = λ writable out sound. inr (c.in_ok-process_free_list_at_end-in-Err.ensures.emptied (subst IsTrue (sym c.discard_next.ensures.image.writable) writable))
 
 pub returns-in_err-process_free_list_at_end-in-Err-clause-faults : goal.returns-in_err-process_free_list_at_end-in-Err-clause-faults
 returns-in_err-process_free_list_at_end-in-Err-clause-faults g c =
-    counted_on g.S.Storage.view g.F.BackingDisk.backing c.args.self.now c.uncover_next.new.self c.process_free_list_at_end.new.self c.process_free_list_at_end.result c.in_err-process_free_list_at_end-in-Err.field-0.0 c.from_residual.result (c.in-Err.ensures.faults.told (λ is. not_both c.is_fault.result (c.is_fault.ensures.1 (inl is)) c.if-is_fault.false)) c.process_free_list_at_end.ensures.fails.faults c.in_err-process_free_list_at_end-in-Err.was c.from_residual.ensures
+    counted_on g.S.Storage.view g.F.BackingDisk.backing c.args.self.now c.discard_next.new.self c.process_free_list_at_end.new.self c.process_free_list_at_end.result c.in_err-process_free_list_at_end-in-Err.field-0.0 c.from_residual.result (c.in-Err.ensures.faults.told (λ is. not_both c.is_fault.result (c.is_fault.ensures.1 (inl is)) c.if-is_fault.false)) c.process_free_list_at_end.ensures.fails.faults c.in_err-process_free_list_at_end-in-Err.was c.from_residual.ensures
 
 pub returns-in_ok-process_free_list_at_end-in-Err-clause-faults : goal.returns-in_ok-process_free_list_at_end-in-Err-clause-faults
 returns-in_ok-process_free_list_at_end-in-Err-clause-faults g c =
@@ -121,31 +121,31 @@ returns-in_ok-process_free_list_at_end-in-Err-clause-faults g c =
     let below = g.F.BackingDisk.backing in
     let old = c.args.self.now in
     let e = c.in-Err.refusal in
-    counted_still view below old c.uncover_next.new.self c.process_free_list_at_end.new.self (Err e) (counted_as view below old old c.uncover_next.new.self c.uncover_next.result e (untouched view below old old refl refl) c.uncover_next.ensures.faults c.in-Err.is) c.in_ok-process_free_list_at_end-in-Err.ensures.fails.faults.told
+    counted_still view below old c.discard_next.new.self c.process_free_list_at_end.new.self (Err e) (counted_as view below old old c.discard_next.new.self c.discard_next.result e (untouched view below old old refl refl) c.discard_next.ensures.faults c.in-Err.is) c.in_ok-process_free_list_at_end-in-Err.ensures.fails.faults.told
 
 pub returns-in-Ok-clause-since : goal.returns-in-Ok-clause-since
-returns-in-Ok-clause-since g c = c.uncover_next.ensures.since
+returns-in-Ok-clause-since g c = c.discard_next.ensures.since
 
 pub returns-then-is_fault-clause-since : goal.returns-then-is_fault-clause-since
-returns-then-is_fault-clause-since g c = c.uncover_next.ensures.since
+returns-then-is_fault-clause-since g c = c.discard_next.ensures.since
 
 pub returns-in_err-process_free_list_at_end-in-Err-clause-since : goal.returns-in_err-process_free_list_at_end-in-Err-clause-since
-returns-in_err-process_free_list_at_end-in-Err-clause-since g c = parts_then g.S.Storage.view c.args.self.now c.uncover_next.new.self c.process_free_list_at_end.new.self c.uncover_next.ensures.since (notes_part g.S.Storage.view c.uncover_next.new.self c.process_free_list_at_end.new.self c.process_free_list_at_end.ensures.notes)
+returns-in_err-process_free_list_at_end-in-Err-clause-since g c = parts_then g.S.Storage.view c.args.self.now c.discard_next.new.self c.process_free_list_at_end.new.self c.discard_next.ensures.since (notes_part g.S.Storage.view c.discard_next.new.self c.process_free_list_at_end.new.self c.process_free_list_at_end.ensures.notes)
 
 pub returns-in_ok-process_free_list_at_end-in-Err-clause-since : goal.returns-in_ok-process_free_list_at_end-in-Err-clause-since
-returns-in_ok-process_free_list_at_end-in-Err-clause-since g c = parts_then g.S.Storage.view c.args.self.now c.uncover_next.new.self c.process_free_list_at_end.new.self c.uncover_next.ensures.since (notes_part g.S.Storage.view c.uncover_next.new.self c.process_free_list_at_end.new.self c.process_free_list_at_end.ensures.notes)
+returns-in_ok-process_free_list_at_end-in-Err-clause-since g c = parts_then g.S.Storage.view c.args.self.now c.discard_next.new.self c.process_free_list_at_end.new.self c.discard_next.ensures.since (notes_part g.S.Storage.view c.discard_next.new.self c.process_free_list_at_end.new.self c.process_free_list_at_end.ensures.notes)
 
 pub returns-in-Ok-clause-header_cluster : goal.returns-in-Ok-clause-header_cluster
-returns-in-Ok-clause-header_cluster g c = c.uncover_next.ensures.header_cluster
+returns-in-Ok-clause-header_cluster g c = c.discard_next.ensures.header_cluster
 
 pub returns-then-is_fault-clause-header_cluster : goal.returns-then-is_fault-clause-header_cluster
-returns-then-is_fault-clause-header_cluster g c = c.uncover_next.ensures.header_cluster
+returns-then-is_fault-clause-header_cluster g c = c.discard_next.ensures.header_cluster
 
 pub returns-in_err-process_free_list_at_end-in-Err-clause-header_cluster : goal.returns-in_err-process_free_list_at_end-in-Err-clause-header_cluster
-returns-in_err-process_free_list_at_end-in-Err-clause-header_cluster g c = behind_then c.uncover_next.ensures.header_cluster c.process_free_list_at_end.ensures.header_cluster
+returns-in_err-process_free_list_at_end-in-Err-clause-header_cluster g c = behind_then c.discard_next.ensures.header_cluster c.process_free_list_at_end.ensures.header_cluster
 
 pub returns-in_ok-process_free_list_at_end-in-Err-clause-header_cluster : goal.returns-in_ok-process_free_list_at_end-in-Err-clause-header_cluster
-returns-in_ok-process_free_list_at_end-in-Err-clause-header_cluster g c = behind_then c.uncover_next.ensures.header_cluster c.process_free_list_at_end.ensures.header_cluster
+returns-in_ok-process_free_list_at_end-in-Err-clause-header_cluster g c = behind_then c.discard_next.ensures.header_cluster c.process_free_list_at_end.ensures.header_cluster
 
 pub returns-in-Ok-clause-changed : goal.returns-in-Ok-clause-changed
 returns-in-Ok-clause-changed g c = λ out sound. c.in-Ok.ensures.changed out sound
