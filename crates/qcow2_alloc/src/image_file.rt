@@ -54,7 +54,7 @@ impl<S: Storage> ImageFile<S> {
     }
 
     /// Records whether there was a change since these numbers of changes. If there was none, nothing is recorded.
-    pub fn note_since(&mut self, changes: (u64, u64))
+    pub fn record_change_since(&mut self, changes: (u64, u64))
         ensures { NotesSince changes self.old self.new }
     {
         let (storage, tables) = changes;

@@ -2,7 +2,7 @@ ghost use Rattle.std.specs.Prelude.{◌≡◌, true};
 ghost use Rattle.qcow2_alloc.specs.CountedChanges.{IsOneChange};
 
 mod table_loads;
-mod told_writes;
+mod typed_writes;
 
 use crate::ImageError;
 use image_access::{Storage, StorageError, StoragePreallocate};
@@ -81,7 +81,7 @@ impl<S: Storage> ImageStorage<S> {
     }
 
     /// Sets the kind of the writes from now on.
-    pub fn will_write(&mut self, kind: WriteKind)
+    pub fn set_write_kind(&mut self, kind: WriteKind)
         ensures kind { kind_of self.new ≡ kind }
         ensures storage { storage_of self.new ≡ storage_of self.old }
         ensures changed { SameNotes self.old self.new }

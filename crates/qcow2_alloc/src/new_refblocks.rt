@@ -77,7 +77,7 @@ fn write_new_block<S: Storage>(
     ensures fails { Fails S.view file.old.storage file.new.storage result IsOfTables }
 {
     file.caches.rb_remove(cluster);
-    file.storage.will_write(WriteKind::Other);
+    file.storage.set_write_kind(WriteKind::Other);
     file.storage.place_refblock(block)?;
     Ok(())
 }
@@ -105,7 +105,7 @@ pub(crate) fn place_table<S: Storage>(
     ensures fails { Fails S.view file.old.storage file.new.storage result IsOfTables }
 {
     table.set_cluster(cluster);
-    file.storage.will_write(WriteKind::Other);
+    file.storage.set_write_kind(WriteKind::Other);
     file.storage.place_reftable(table)?;
     Ok(())
 }

@@ -70,7 +70,7 @@ fn write_block<S: Storage>(file: &mut ImageFile<S>, mut block: RefBlock) -> Resu
     ensures first { OnOk result (BlocksMayGo (order_of file.new.caches) (l2_tables file.new.caches)) }
 {
     file.caches.flush_rb(&mut file.storage)?;
-    file.storage.will_write(WriteKind::Other);
+    file.storage.set_write_kind(WriteKind::Other);
     file.storage.place_refblock(&block)?;
     block.clear_modified();
     file.caches.rb_insert(&mut file.storage, block)
@@ -331,7 +331,7 @@ impl Allocator {
         let block = new_block(file.alloc, &file.header, cluster, counts_itself)?;
         write_block(file, block)?;
         self.reftable.enter_refblock(range as usize, cluster);
-        file.storage.will_write(WriteKind::Other);
+        file.storage.set_write_kind(WriteKind::Other);
         file.storage
             .write_reftable_entry(&self.reftable, range as usize)?;
         Ok(())

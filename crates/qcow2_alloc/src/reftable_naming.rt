@@ -38,7 +38,7 @@ impl Allocator {
         let offset = cluster.offset(table.cluster_bits());
         let clusters = table.cluster_count().value() as u32;
         file.header.set_reftable(offset, clusters)?;
-        file.storage.will_write(WriteKind::Other);
+        file.storage.set_write_kind(WriteKind::Other);
         file.storage.write_reftable_pointer(&file.header)?;
         self.reftable = table;
         Ok(())

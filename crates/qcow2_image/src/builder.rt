@@ -305,7 +305,7 @@ fn clear<S: Storage>(storage: &mut ImageStorage<S>) -> Result<(), ImageError>
     if storage.size()? == 0 {
         return Ok(());
     }
-    storage.will_write(WriteKind::Other);
+    storage.set_write_kind(WriteKind::Other);
     storage.clear()?;
     Ok(())
 }
@@ -356,11 +356,11 @@ fn write_three<S: Storage>(
     ensures fault { IfErr result IsFault }
     ensures faults { CountsFaults S.view storage.old storage.new result }
 {
-    storage.will_write(WriteKind::Other);
+    storage.set_write_kind(WriteKind::Other);
     storage.write_new_refblock(block)?;
-    storage.will_write(WriteKind::Other);
+    storage.set_write_kind(WriteKind::Other);
     storage.write_reftable(reftable)?;
-    storage.will_write(WriteKind::Other);
+    storage.set_write_kind(WriteKind::Other);
     storage.write_new_header(alloc, header)?;
     Ok(())
 }

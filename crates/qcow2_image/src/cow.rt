@@ -155,7 +155,7 @@ impl<S: Storage, F: WrappedFormat<S>> Qcow2<S, F> {
         if at < self.file.header.cluster_size() {
             return Err(ImageError::Metadata);
         }
-        self.file.storage.will_write(WriteKind::Data);
+        self.file.storage.set_write_kind(WriteKind::Data);
         self.file.storage.write_zero_data(at, length)?;
         Ok(())
     }

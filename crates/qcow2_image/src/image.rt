@@ -269,7 +269,7 @@ impl<S: Storage, F: WrappedFormat<S>> Qcow2<S, F> {
         ensures leaks { IfOk result (λ allocator. leaked_by (Some allocator) ≡ 0) }
     {
         let allocator = Allocator::new(file)?;
-        file.storage.will_write(WriteKind::Other);
+        file.storage.set_write_kind(WriteKind::Other);
         file.storage.clear_autoclear(&mut file.header)?;
         Ok(allocator)
     }

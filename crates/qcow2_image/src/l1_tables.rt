@@ -220,7 +220,7 @@ impl<S: Storage, F: WrappedFormat<S>> Qcow2<S, F> {
         }
         table.set_cluster(cluster);
         self.file.caches.flush_rb(&mut self.file.storage)?;
-        self.file.storage.will_write(WriteKind::Other);
+        self.file.storage.set_write_kind(WriteKind::Other);
         self.file.storage.write_l1_table(table)?;
         Ok(())
     }
@@ -244,7 +244,7 @@ impl<S: Storage, F: WrappedFormat<S>> Qcow2<S, F> {
     {
         let offset = cluster.offset(self.file.header.cluster_bits());
         self.file.header.set_l1_table(offset, table.len() as u32)?;
-        self.file.storage.will_write(WriteKind::Other);
+        self.file.storage.set_write_kind(WriteKind::Other);
         self.file.storage.write_l1_table_pointer(&self.file.header)?;
         self.l1_table = table;
         Ok(())

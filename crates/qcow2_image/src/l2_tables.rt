@@ -308,7 +308,7 @@ impl<S: Storage, F: WrappedFormat<S>> Qcow2<S, F> {
             return Err(ImageError::Metadata);
         }
         table.set_cluster(cluster);
-        self.file.storage.will_write(WriteKind::Other);
+        self.file.storage.set_write_kind(WriteKind::Other);
         self.file.storage.write_new_l2_table(&table)?;
         table.clear_modified();
         self.file.caches.l2_insert(&mut self.file.storage, table)
@@ -333,7 +333,7 @@ impl<S: Storage, F: WrappedFormat<S>> Qcow2<S, F> {
             → length table.bytes ≡ 2 ^ table.cluster_bits → StandsReady S.view self.old cluster table.bytes
             → NamesNew S.view F.backing p self.old self.new out index cluster result }
     {
-        self.file.storage.will_write(WriteKind::Other);
+        self.file.storage.set_write_kind(WriteKind::Other);
         self.l1_table.enter_l2_table(index, cluster);
         self.file.storage.write_l1_entry(&self.l1_table, index)?;
         Ok(())

@@ -347,7 +347,7 @@ impl<S: Storage, F: WrappedFormat<S>> Qcow2<S, F> {
         if host < self.file.header.cluster_size() {
             return Err(ImageError::Metadata);
         }
-        self.file.storage.will_write(WriteKind::Data);
+        self.file.storage.set_write_kind(WriteKind::Data);
         writes.write(&mut self.file.storage, host, count)?;
         Ok(())
     }

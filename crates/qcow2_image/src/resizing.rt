@@ -389,7 +389,7 @@ impl<S: Storage, F: WrappedFormat<S>> Qcow2<S, F> {
         ensures changed { HaveRisen before self.old.file → IsTrue (has_noted_change self.new) }
         ensures why { IsTrue (has_noted_change self.new) → IsTrue (has_noted_change self.old) ⊎ HaveRisen before self.old.file }
     {
-        self.file.note_since(before);
+        self.file.record_change_since(before);
         self.note(refusal);
     }
 
@@ -417,7 +417,7 @@ impl<S: Storage, F: WrappedFormat<S>> Qcow2<S, F> {
     {
         let old = self.file.header.size();
         self.file.header.set_size(size);
-        self.file.storage.will_write(WriteKind::Other);
+        self.file.storage.set_write_kind(WriteKind::Other);
         match self.file.storage.write_size(&self.file.header) {
             Ok(()) => Ok(()),
             Err(refusal) => {

@@ -81,7 +81,7 @@ impl<S: Storage> AsyncLruCacheBackend for L2CacheBackend<S> {
         if key.checked_offset(value.cluster_bits()).is_none() {
             return Err(MetadataError::Limit);
         }
-        store.will_write(WriteKind::L2Table);
+        store.set_write_kind(WriteKind::L2Table);
         match store.write_l2_table(value, key) {
             Ok(()) => Ok(()),
             Err(e) => Err(MetadataError::Storage(e)),
@@ -202,7 +202,7 @@ impl<S: Storage> AsyncLruCacheBackend for RefBlockCacheBackend<S> {
         if key.checked_offset(value.cluster_bits()).is_none() {
             return Err(MetadataError::Limit);
         }
-        store.will_write(WriteKind::RefBlock);
+        store.set_write_kind(WriteKind::RefBlock);
         match store.write_refblock(value, key) {
             Ok(()) => Ok(()),
             Err(e) => Err(MetadataError::Storage(e)),

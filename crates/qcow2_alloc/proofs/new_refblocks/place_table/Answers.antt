@@ -18,35 +18,35 @@ pub returns-in_err-place_reftable-clause-sound : goal.returns-in_err-place_refta
 returns-in_err-place_reftable-clause-sound g c = λ p first n clusters a sound may low high t_bits long.
     let view = g.S.Storage.view in
     let old = c.args.file.now in
-    let asked = storage_of c.will_write.new.self in
+    let asked = storage_of c.set_write_kind.new.self in
     let written = subst (λ (x : EntryTableView). IfSome x.cluster (λ k. Changes (view asked) (view (storage_of c.place_reftable.new.self)) c.place_reftable.result (λ b. overwritten b (k * 2 ^ x.cluster_bits) x.bytes))) c.set_cluster.ensures c.place_reftable.ensures.written in
     handed_on (WritesTable view (with_run p old.header.fields a.reftable first n) old a (record old { storage = c.place_reftable.new.self }) c.args.cluster clusters c.args.table.now.bytes) c.from_residual.result (of_storage c.in_err-place_reftable.field-0.0) c.from_residual.ensures
-    (table_refused view p first n old a sound may c.args.cluster clusters low high c.args.table.now t_bits long asked c.place_reftable.new.self c.place_reftable.result c.will_write.ensures.storage written c.place_reftable.ensures.calls c.in_err-place_reftable.field-0.0)
+    (table_refused view p first n old a sound may c.args.cluster clusters low high c.args.table.now t_bits long asked c.place_reftable.new.self c.place_reftable.result c.set_write_kind.ensures.storage written c.place_reftable.ensures.calls c.in_err-place_reftable.field-0.0)
 
 pub returns-clause-sound : goal.returns-clause-sound
 returns-clause-sound g c = λ p first n clusters a sound may low high t_bits long.
     let view = g.S.Storage.view in
-    let asked = storage_of c.will_write.new.self in
+    let asked = storage_of c.set_write_kind.new.self in
     let written = subst (λ (x : EntryTableView). IfSome x.cluster (λ k. Changes (view asked) (view (storage_of c.place_reftable.new.self)) c.place_reftable.result (λ b. overwritten b (k * 2 ^ x.cluster_bits) x.bytes))) c.set_cluster.ensures c.place_reftable.ensures.written in
-    table_stands view p first n c.args.file.now a sound may c.args.cluster clusters low high c.args.table.now t_bits long asked c.place_reftable.new.self c.place_reftable.result c.will_write.ensures.storage written c.place_reftable.ensures.calls c.in_ok-place_reftable.field-0 c.in_ok-place_reftable.was
+    table_stands view p first n c.args.file.now a sound may c.args.cluster clusters low high c.args.table.now t_bits long asked c.place_reftable.new.self c.place_reftable.result c.set_write_kind.ensures.storage written c.place_reftable.ensures.calls c.in_ok-place_reftable.field-0 c.in_ok-place_reftable.was
 
 pub returns-clause-noted : goal.returns-clause-noted
 returns-clause-noted g c = c.in_ok-place_reftable.ensures.noted.0
 
 pub returns-in_err-place_reftable-clause-fails : goal.returns-in_err-place_reftable-clause-fails
-returns-in_err-place_reftable-clause-fails g c = fails_since (same_faults g.S.Storage.view c.will_write.ensures.storage) (fails_storage c.from_residual.result c.in_err-place_reftable.field-0.0 c.from_residual.ensures c.in_err-place_reftable.ensures.calls.cause)
+returns-in_err-place_reftable-clause-fails g c = fails_since (same_faults g.S.Storage.view c.set_write_kind.ensures.storage) (fails_storage c.from_residual.result c.in_err-place_reftable.field-0.0 c.from_residual.ensures c.in_err-place_reftable.ensures.calls.cause)
 
 pub returns-clause-fails : goal.returns-clause-fails
-returns-clause-fails g c = fails_ok (c.in_ok-place_reftable.ensures.calls.cause.told ∙ same_faults g.S.Storage.view c.will_write.ensures.storage)
+returns-clause-fails g c = fails_ok (c.in_ok-place_reftable.ensures.calls.cause.told ∙ same_faults g.S.Storage.view c.set_write_kind.ensures.storage)
 
 pub returns-in_err-place_reftable-clause-step : goal.returns-in_err-place_reftable-clause-step
 returns-in_err-place_reftable-clause-step g c = record {
   header = refl;
   list = refl;
-  marks = marks_of_storage refl (placed_kept c.args.file.now.storage c.will_write.new.self c.place_reftable.new.self c.place_reftable.result c.will_write.ensures.storage c.will_write.ensures.changed c.set_cluster.new.self.cluster _
+  marks = marks_of_storage refl (placed_kept c.args.file.now.storage c.set_write_kind.new.self c.place_reftable.new.self c.place_reftable.result c.set_write_kind.ensures.storage c.set_write_kind.ensures.changed c.set_cluster.new.self.cluster _
       (subst (λ (x : EntryTableView). IsSome x.cluster) (sym c.set_cluster.ensures) refl) c.place_reftable.ensures.written c.place_reftable.ensures.calls c.place_reftable.ensures.noted);
-  header_cluster = subst (λ s. KeepsHeaderCluster c.args.table.now.cluster_bits (g.S.Storage.view s) (g.S.Storage.view (storage_of c.place_reftable.new.self))) c.will_write.ensures.storage
-      (subst (λ (x : EntryTableView). KeepsHeaderCluster x.cluster_bits (g.S.Storage.view (storage_of c.will_write.new.self)) (g.S.Storage.view (storage_of c.place_reftable.new.self))) c.set_cluster.ensures c.place_reftable.ensures.header_cluster);
+  header_cluster = subst (λ s. KeepsHeaderCluster c.args.table.now.cluster_bits (g.S.Storage.view s) (g.S.Storage.view (storage_of c.place_reftable.new.self))) c.set_write_kind.ensures.storage
+      (subst (λ (x : EntryTableView). KeepsHeaderCluster x.cluster_bits (g.S.Storage.view (storage_of c.set_write_kind.new.self)) (g.S.Storage.view (storage_of c.place_reftable.new.self))) c.set_cluster.ensures c.place_reftable.ensures.header_cluster);
   behind = λ n are. are;
 }
 
@@ -54,9 +54,9 @@ pub returns-clause-step : goal.returns-clause-step
 returns-clause-step g c = record {
   header = refl;
   list = refl;
-  marks = marks_of_storage refl (placed_kept c.args.file.now.storage c.will_write.new.self c.place_reftable.new.self c.place_reftable.result c.will_write.ensures.storage c.will_write.ensures.changed c.set_cluster.new.self.cluster _
+  marks = marks_of_storage refl (placed_kept c.args.file.now.storage c.set_write_kind.new.self c.place_reftable.new.self c.place_reftable.result c.set_write_kind.ensures.storage c.set_write_kind.ensures.changed c.set_cluster.new.self.cluster _
       (subst (λ (x : EntryTableView). IsSome x.cluster) (sym c.set_cluster.ensures) refl) c.place_reftable.ensures.written c.place_reftable.ensures.calls c.place_reftable.ensures.noted);
-  header_cluster = subst (λ s. KeepsHeaderCluster c.args.table.now.cluster_bits (g.S.Storage.view s) (g.S.Storage.view (storage_of c.place_reftable.new.self))) c.will_write.ensures.storage
-      (subst (λ (x : EntryTableView). KeepsHeaderCluster x.cluster_bits (g.S.Storage.view (storage_of c.will_write.new.self)) (g.S.Storage.view (storage_of c.place_reftable.new.self))) c.set_cluster.ensures c.place_reftable.ensures.header_cluster);
+  header_cluster = subst (λ s. KeepsHeaderCluster c.args.table.now.cluster_bits (g.S.Storage.view s) (g.S.Storage.view (storage_of c.place_reftable.new.self))) c.set_write_kind.ensures.storage
+      (subst (λ (x : EntryTableView). KeepsHeaderCluster x.cluster_bits (g.S.Storage.view (storage_of c.set_write_kind.new.self)) (g.S.Storage.view (storage_of c.place_reftable.new.self))) c.set_cluster.ensures c.place_reftable.ensures.header_cluster);
   behind = λ n are. are;
 }

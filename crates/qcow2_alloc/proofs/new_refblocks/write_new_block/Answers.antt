@@ -22,7 +22,7 @@ returns-in_err-place_refblock-clause-sound g c = λ p first n a sound may some f
     let q = with_run p old.header.fields a.reftable first n in
     handed_on (WritesTo view q old a (record old { storage = c.place_refblock.new.self; caches = c.rb_remove.new.self }) c.args.cluster c.args.block.now.bytes) c.from_residual.result (of_storage c.in_err-place_refblock.field-0.0) c.from_residual.ensures
     (block_refused view p first n old a c.rb_remove.new.self c.args.cluster c.rb_remove.result sound may some c.rb_remove.ensures.step.order c.rb_remove.ensures.tables c.rb_remove.ensures.step.marks c.rb_remove.ensures.same c.rb_remove.ensures.removes.taken
-    (storage_of c.will_write.new.self) c.place_refblock.new.self c.args.block.now c.place_refblock.result fits c.requires.place c.requires.whole.whole c.will_write.ensures.storage c.place_refblock.ensures.written c.place_refblock.ensures.calls c.in_err-place_refblock.field-0.0)
+    (storage_of c.set_write_kind.new.self) c.place_refblock.new.self c.args.block.now c.place_refblock.result fits c.requires.place c.requires.whole.whole c.set_write_kind.ensures.storage c.place_refblock.ensures.written c.place_refblock.ensures.calls c.in_err-place_refblock.field-0.0)
 
 pub returns-clause-sound : goal.returns-clause-sound
 returns-clause-sound g c = λ p first n a sound may some fits.
@@ -30,23 +30,23 @@ returns-clause-sound g c = λ p first n a sound may some fits.
     let old = c.args.file.now in
     let q = with_run p old.header.fields a.reftable first n in
     block_stands view p first n old a c.rb_remove.new.self c.args.cluster c.rb_remove.result sound may some c.rb_remove.ensures.step.order c.rb_remove.ensures.tables c.rb_remove.ensures.step.marks c.rb_remove.ensures.same c.rb_remove.ensures.removes.taken
-    (storage_of c.will_write.new.self) c.place_refblock.new.self c.args.block.now c.place_refblock.result fits c.requires.place c.requires.whole.whole c.will_write.ensures.storage c.place_refblock.ensures.written c.place_refblock.ensures.calls c.in_ok-place_refblock.field-0 c.in_ok-place_refblock.was
+    (storage_of c.set_write_kind.new.self) c.place_refblock.new.self c.args.block.now c.place_refblock.result fits c.requires.place c.requires.whole.whole c.set_write_kind.ensures.storage c.place_refblock.ensures.written c.place_refblock.ensures.calls c.in_ok-place_refblock.field-0 c.in_ok-place_refblock.was
     (c.rb_remove.ensures.removes.gone old.header.fields q (contents_in view old) sound.sound.caches sound.sound.room)
 
 pub returns-in_err-place_refblock-clause-fails : goal.returns-in_err-place_refblock-clause-fails
-returns-in_err-place_refblock-clause-fails g c = fails_since (same_faults g.S.Storage.view c.will_write.ensures.storage) (fails_storage c.from_residual.result c.in_err-place_refblock.field-0.0 c.from_residual.ensures c.in_err-place_refblock.ensures.calls.cause)
+returns-in_err-place_refblock-clause-fails g c = fails_since (same_faults g.S.Storage.view c.set_write_kind.ensures.storage) (fails_storage c.from_residual.result c.in_err-place_refblock.field-0.0 c.from_residual.ensures c.in_err-place_refblock.ensures.calls.cause)
 
 pub returns-clause-fails : goal.returns-clause-fails
-returns-clause-fails g c = fails_ok (c.in_ok-place_refblock.ensures.calls.cause.told ∙ same_faults g.S.Storage.view c.will_write.ensures.storage)
+returns-clause-fails g c = fails_ok (c.in_ok-place_refblock.ensures.calls.cause.told ∙ same_faults g.S.Storage.view c.set_write_kind.ensures.storage)
 
 pub returns-in_err-place_refblock-clause-step : goal.returns-in_err-place_refblock-clause-step
 returns-in_err-place_refblock-clause-step g c = record {
   header = refl;
   list = refl;
   marks = kept_marks_then (marks_of_caches c.rb_remove.ensures.step.marks c.rb_remove.ensures.step.order)
-      (marks_of_storage refl (placed_kept c.args.file.now.storage c.will_write.new.self c.place_refblock.new.self c.place_refblock.result c.will_write.ensures.storage c.will_write.ensures.changed c.args.block.now.cluster _ (subst (λ (o : Option ℕ). IsSome o) (sym c.requires.place) refl)
+      (marks_of_storage refl (placed_kept c.args.file.now.storage c.set_write_kind.new.self c.place_refblock.new.self c.place_refblock.result c.set_write_kind.ensures.storage c.set_write_kind.ensures.changed c.args.block.now.cluster _ (subst (λ (o : Option ℕ). IsSome o) (sym c.requires.place) refl)
       c.place_refblock.ensures.written c.place_refblock.ensures.calls c.place_refblock.ensures.noted));
-  header_cluster = subst (λ s. KeepsHeaderCluster c.args.block.now.cluster_bits (g.S.Storage.view s) (g.S.Storage.view (storage_of c.place_refblock.new.self))) c.will_write.ensures.storage c.place_refblock.ensures.header_cluster;
+  header_cluster = subst (λ s. KeepsHeaderCluster c.args.block.now.cluster_bits (g.S.Storage.view s) (g.S.Storage.view (storage_of c.place_refblock.new.self))) c.set_write_kind.ensures.storage c.place_refblock.ensures.header_cluster;
   behind = c.rb_remove.ensures.step.header_cluster;
 }
 
@@ -55,8 +55,8 @@ returns-clause-step g c = record {
   header = refl;
   list = refl;
   marks = kept_marks_then (marks_of_caches c.rb_remove.ensures.step.marks c.rb_remove.ensures.step.order)
-      (marks_of_storage refl (placed_kept c.args.file.now.storage c.will_write.new.self c.place_refblock.new.self c.place_refblock.result c.will_write.ensures.storage c.will_write.ensures.changed c.args.block.now.cluster _ (subst (λ (o : Option ℕ). IsSome o) (sym c.requires.place) refl)
+      (marks_of_storage refl (placed_kept c.args.file.now.storage c.set_write_kind.new.self c.place_refblock.new.self c.place_refblock.result c.set_write_kind.ensures.storage c.set_write_kind.ensures.changed c.args.block.now.cluster _ (subst (λ (o : Option ℕ). IsSome o) (sym c.requires.place) refl)
       c.place_refblock.ensures.written c.place_refblock.ensures.calls c.place_refblock.ensures.noted));
-  header_cluster = subst (λ s. KeepsHeaderCluster c.args.block.now.cluster_bits (g.S.Storage.view s) (g.S.Storage.view (storage_of c.place_refblock.new.self))) c.will_write.ensures.storage c.place_refblock.ensures.header_cluster;
+  header_cluster = subst (λ s. KeepsHeaderCluster c.args.block.now.cluster_bits (g.S.Storage.view s) (g.S.Storage.view (storage_of c.place_refblock.new.self))) c.set_write_kind.ensures.storage c.place_refblock.ensures.header_cluster;
   behind = c.rb_remove.ensures.step.header_cluster;
 }

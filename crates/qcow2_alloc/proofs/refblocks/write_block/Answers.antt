@@ -98,8 +98,8 @@ returns-in_err-flush_rb-clause-sound g c = λ p d t range at sound place fits is
 pub returns-in_err-place_refblock-clause-sound : goal.returns-in_err-place_refblock-clause-sound
 returns-in_err-place_refblock-clause-sound g c = λ p d t range at sound place fits is.
     let whole = subst (λ (b : RefBlockView). length b.bytes ≡ 2 ^ b.cluster_bits) c.block.view_is c.block.invariant.whole.whole in
-    let two = still g.S.Storage.view d p range at c.args.file.now t c.flush_rb.new.storage c.flush_rb.new.self sound c.flush_rb.ensures.sound.keeps c.flush_rb.ensures.step.marks.pins (storage_of c.will_write.new.self) c.place_refblock.new.self
-    c.args.block c.place_refblock.result c.in_ok-flush_rb.ensures.flushes.first place fits is whole c.will_write.ensures.storage c.place_refblock.ensures.written c.place_refblock.ensures.calls in
+    let two = still g.S.Storage.view d p range at c.args.file.now t c.flush_rb.new.storage c.flush_rb.new.self sound c.flush_rb.ensures.sound.keeps c.flush_rb.ensures.step.marks.pins (storage_of c.set_write_kind.new.self) c.place_refblock.new.self
+    c.args.block c.place_refblock.result c.in_ok-flush_rb.ensures.flushes.first place fits is whole c.set_write_kind.ensures.storage c.place_refblock.ensures.written c.place_refblock.ensures.calls in
     handed_on (WritesBlock g.S.Storage.view (placing d p at) c.args.file.now t (record c.args.file.now { storage = c.place_refblock.new.self; caches = c.flush_rb.new.self }) c.args.block at)
     c.from_residual-in_err-place_refblock.result (of_storage c.in_err-place_refblock.field-0.0) c.from_residual-in_err-place_refblock.ensures (fault_of_storage c.in_err-place_refblock.field-0.0, inl (two.file_step, two.reftable))
 
@@ -109,10 +109,10 @@ returns-clause-sound g c = λ p d t range at sound place fits is.
     let whole = subst (λ (b : RefBlockView). length b.bytes ≡ 2 ^ b.cluster_bits) c.block.view_is c.block.invariant.whole.whole in
     let long = whole ∙ ap (λ n. 2 ^ n) fits.bits in
     let f2 : ImageFile g.row.S.Denot = record c.args.file.now { storage = c.place_refblock.new.self; caches = c.flush_rb.new.self } in
-    let two = still g.S.Storage.view d p range at c.args.file.now t c.flush_rb.new.storage c.flush_rb.new.self sound c.flush_rb.ensures.sound.keeps c.flush_rb.ensures.step.marks.pins (storage_of c.will_write.new.self) c.place_refblock.new.self
-    c.args.block c.place_refblock.result c.in_ok-flush_rb.ensures.flushes.first place fits is whole c.will_write.ensures.storage c.place_refblock.ensures.written c.place_refblock.ensures.calls in
-    let stands = stand_there g.S.Storage.view d p range at c.args.file.now t c.flush_rb.new.storage c.flush_rb.new.self sound c.flush_rb.ensures.sound.keeps c.flush_rb.ensures.step.marks.pins (storage_of c.will_write.new.self) c.place_refblock.new.self
-    c.args.block c.place_refblock.result c.in_ok-flush_rb.ensures.flushes.first place fits is whole c.will_write.ensures.storage c.place_refblock.ensures.written c.place_refblock.ensures.calls c.in_ok-place_refblock.field-0 c.in_ok-place_refblock.was in
+    let two = still g.S.Storage.view d p range at c.args.file.now t c.flush_rb.new.storage c.flush_rb.new.self sound c.flush_rb.ensures.sound.keeps c.flush_rb.ensures.step.marks.pins (storage_of c.set_write_kind.new.self) c.place_refblock.new.self
+    c.args.block c.place_refblock.result c.in_ok-flush_rb.ensures.flushes.first place fits is whole c.set_write_kind.ensures.storage c.place_refblock.ensures.written c.place_refblock.ensures.calls in
+    let stands = stand_there g.S.Storage.view d p range at c.args.file.now t c.flush_rb.new.storage c.flush_rb.new.self sound c.flush_rb.ensures.sound.keeps c.flush_rb.ensures.step.marks.pins (storage_of c.set_write_kind.new.self) c.place_refblock.new.self
+    c.args.block c.place_refblock.result c.in_ok-flush_rb.ensures.flushes.first place fits is whole c.set_write_kind.ensures.storage c.place_refblock.ensures.written c.place_refblock.ensures.calls c.in_ok-place_refblock.field-0 c.in_ok-place_refblock.was in
     let room : HasPlaceFor d h t.reftable range at = record { none = place.none; first = place.first } in
     let cleared : IsBlockOf h (cleared_rb c.args.block) = record { bits = fits.bits; order = fits.order } in
     let known = holds_known g.S.Storage.view d p range at f2 t.reftable two.file_step.sound two.reftable c.in_ok-flush_rb.ensures.flushes.first room c.args.block fits long stands in
@@ -140,21 +140,21 @@ pub returns-in_err-place_refblock-clause-step : goal.returns-in_err-place_refblo
 returns-in_err-place_refblock-clause-step g c = record {
   header = refl;
   list = refl;
-  marks = kept_marks_then c.flush_rb.ensures.step.marks (marks_of_storage refl (placed_kept c.flush_rb.new.storage c.will_write.new.self c.place_refblock.new.self c.place_refblock.result c.will_write.ensures.storage c.will_write.ensures.changed c.args.block.cluster _ c.requires.placed c.place_refblock.ensures.written c.place_refblock.ensures.calls c.place_refblock.ensures.noted));
-  header_cluster = λ r bits. spares_then (spares_cached r c.args.file.now c.flush_rb.new.storage c.flush_rb.new.self c.flush_rb.ensures.step.header_cluster) (spares_written r (record c.args.file.now { storage = c.flush_rb.new.storage; caches = c.flush_rb.new.self }) c.args.block.cluster_bits c.place_refblock.new.self bits (subst (λ s. KeepsHeaderCluster c.args.block.cluster_bits (g.S.Storage.view s) (g.S.Storage.view (storage_of c.place_refblock.new.self))) c.will_write.ensures.storage c.place_refblock.ensures.header_cluster));
+  marks = kept_marks_then c.flush_rb.ensures.step.marks (marks_of_storage refl (placed_kept c.flush_rb.new.storage c.set_write_kind.new.self c.place_refblock.new.self c.place_refblock.result c.set_write_kind.ensures.storage c.set_write_kind.ensures.changed c.args.block.cluster _ c.requires.placed c.place_refblock.ensures.written c.place_refblock.ensures.calls c.place_refblock.ensures.noted));
+  header_cluster = λ r bits. spares_then (spares_cached r c.args.file.now c.flush_rb.new.storage c.flush_rb.new.self c.flush_rb.ensures.step.header_cluster) (spares_written r (record c.args.file.now { storage = c.flush_rb.new.storage; caches = c.flush_rb.new.self }) c.args.block.cluster_bits c.place_refblock.new.self bits (subst (λ s. KeepsHeaderCluster c.args.block.cluster_bits (g.S.Storage.view s) (g.S.Storage.view (storage_of c.place_refblock.new.self))) c.set_write_kind.ensures.storage c.place_refblock.ensures.header_cluster));
 }
 
 pub returns-clause-step : goal.returns-clause-step
 returns-clause-step g c = record {
   header = refl;
   list = refl;
-  marks = kept_marks_then (kept_marks_then c.flush_rb.ensures.step.marks (marks_of_storage refl (placed_kept c.flush_rb.new.storage c.will_write.new.self c.place_refblock.new.self c.place_refblock.result c.will_write.ensures.storage c.will_write.ensures.changed c.args.block.cluster _ c.requires.placed c.place_refblock.ensures.written c.place_refblock.ensures.calls c.place_refblock.ensures.noted)))
+  marks = kept_marks_then (kept_marks_then c.flush_rb.ensures.step.marks (marks_of_storage refl (placed_kept c.flush_rb.new.storage c.set_write_kind.new.self c.place_refblock.new.self c.place_refblock.result c.set_write_kind.ensures.storage c.set_write_kind.ensures.changed c.args.block.cluster _ c.requires.placed c.place_refblock.ensures.written c.place_refblock.ensures.calls c.place_refblock.ensures.noted)))
       c.rb_insert.ensures.step.marks;
   header_cluster = λ r bits.
       let f2 : ImageFile g.row.S.Denot = record c.args.file.now { storage = c.place_refblock.new.self; caches = c.flush_rb.new.self } in
       let put_in = at_place c.args.block.cluster c.requires.placed c.requires.elsewhere
       (subst (λ (b : RefBlockView). IfSome b.cluster (λ k. 0 < k → CachesSpareHeader g.S.Storage.view c.place_refblock.new.self c.flush_rb.new.self c.rb_insert.new.storage c.rb_insert.new.self)) c.clear_modified.ensures c.rb_insert.ensures.step.header_cluster) in
-      spares_then (spares_then (spares_cached r c.args.file.now c.flush_rb.new.storage c.flush_rb.new.self c.flush_rb.ensures.step.header_cluster) (spares_written r (record c.args.file.now { storage = c.flush_rb.new.storage; caches = c.flush_rb.new.self }) c.args.block.cluster_bits c.place_refblock.new.self bits (subst (λ s. KeepsHeaderCluster c.args.block.cluster_bits (g.S.Storage.view s) (g.S.Storage.view (storage_of c.place_refblock.new.self))) c.will_write.ensures.storage c.place_refblock.ensures.header_cluster))) (spares_cached r f2 c.rb_insert.new.storage c.rb_insert.new.self put_in);
+      spares_then (spares_then (spares_cached r c.args.file.now c.flush_rb.new.storage c.flush_rb.new.self c.flush_rb.ensures.step.header_cluster) (spares_written r (record c.args.file.now { storage = c.flush_rb.new.storage; caches = c.flush_rb.new.self }) c.args.block.cluster_bits c.place_refblock.new.self bits (subst (λ s. KeepsHeaderCluster c.args.block.cluster_bits (g.S.Storage.view s) (g.S.Storage.view (storage_of c.place_refblock.new.self))) c.set_write_kind.ensures.storage c.place_refblock.ensures.header_cluster))) (spares_cached r f2 c.rb_insert.new.storage c.rb_insert.new.self put_in);
 }
 
 pub returns-clause-noted : goal.returns-clause-noted
@@ -165,7 +165,7 @@ returns-in_err-flush_rb-clause-fails g c = fails_on c.from_residual.result c.in_
 
 pub returns-in_err-place_refblock-clause-fails : goal.returns-in_err-place_refblock-clause-fails
 returns-in_err-place_refblock-clause-fails g c =
-    fails_since (same_faults g.S.Storage.view c.will_write.ensures.storage ∙ c.in_ok-flush_rb.ensures.fails.told) (fails_storage c.from_residual-in_err-place_refblock.result c.in_err-place_refblock.field-0.0 c.from_residual-in_err-place_refblock.ensures c.in_err-place_refblock.ensures.calls.cause)
+    fails_since (same_faults g.S.Storage.view c.set_write_kind.ensures.storage ∙ c.in_ok-flush_rb.ensures.fails.told) (fails_storage c.from_residual-in_err-place_refblock.result c.in_err-place_refblock.field-0.0 c.from_residual-in_err-place_refblock.ensures c.in_err-place_refblock.ensures.calls.cause)
 
 pub returns-clause-fails : goal.returns-clause-fails
-returns-clause-fails g c = fails_since (c.in_ok-place_refblock.ensures.calls.cause.told ∙ (same_faults g.S.Storage.view c.will_write.ensures.storage ∙ c.in_ok-flush_rb.ensures.fails.told)) c.rb_insert.ensures.fails
+returns-clause-fails g c = fails_since (c.in_ok-place_refblock.ensures.calls.cause.told ∙ (same_faults g.S.Storage.view c.set_write_kind.ensures.storage ∙ c.in_ok-flush_rb.ensures.fails.told)) c.rb_insert.ensures.fails

@@ -107,21 +107,21 @@ returns-in_err-write_reftable_entry-clause-sound g c = λ p sound place.
     let three = c.in_ok-write_block.ensures.sound p c.args.counts_itself c.args.self.now c.args.range c.args.at sound place c.in_ok-block.ensures.format is in
     handed_on (PlacesBlock g.S.Storage.view (placing c.args.counts_itself p c.args.at) c.args.file.now (record c.args.self.now { reftable = c.enter_refblock.new.self }) (record c.write_block.new.file { storage = c.write_reftable_entry.new.self }) p c.args.range c.args.at)
     c.from_residual-in_err-write_reftable_entry.result (of_storage c.in_err-write_reftable_entry.field-0.0) c.from_residual-in_err-write_reftable_entry.ensures
-    (not_placed g.S.Storage.view c.args.counts_itself p c.args.range c.args.at c.args.file.now c.write_block.new.file c.args.self.now c.enter_refblock.new.self c.write_reftable_entry.new.self (storage_of c.will_write.new.self) c.in_ok-block.block c.write_reftable_entry.result
+    (not_placed g.S.Storage.view c.args.counts_itself p c.args.range c.args.at c.args.file.now c.write_block.new.file c.args.self.now c.enter_refblock.new.self c.write_reftable_entry.new.self (storage_of c.set_write_kind.new.self) c.in_ok-block.block c.write_reftable_entry.result
     three c.in_ok-write_block.ensures.counted c.in_ok-write_block.ensures.first (subst (λ h. HasPlaceFor c.args.counts_itself h c.args.self.now.reftable c.args.range c.args.at) (sym (ap (λ x. x.fields) c.write_block.ensures.step.header)) place)
     c.requires.place.within c.enter_refblock.ensures.rest (subst (λ k. ChangesEntry c.args.self.now.reftable.bytes c.enter_refblock.new.self.bytes c.args.range (k * 2 ^ c.args.self.now.reftable.cluster_bits)) c.new-cluster.ensures c.enter_refblock.ensures.entry)
     (c.enter_refblock.ensures.offset ∙ ap (λ k. k * 2 ^ c.args.self.now.reftable.cluster_bits) c.new-cluster.ensures) c.write_reftable_entry.ensures.fits c.in_ok-block.ensures.whole (subst (λ h. IsBlockOf h c.in_ok-block.block) (sym (ap (λ x. x.fields) c.write_block.ensures.step.header)) c.in_ok-block.ensures.format)
-    c.in_ok-block.ensures.counts c.will_write.ensures.storage c.write_reftable_entry.ensures.written c.write_reftable_entry.ensures.calls (note_kept c.will_write.new.self c.write_reftable_entry.new.self c.write_reftable_entry.result c.write_reftable_entry.ensures.noted (c.will_write.ensures.changed.note ∙ c.in_ok-write_block.ensures.noted)) (of_storage c.in_err-write_reftable_entry.field-0.0) (fault_of_storage c.in_err-write_reftable_entry.field-0.0))
+    c.in_ok-block.ensures.counts c.set_write_kind.ensures.storage c.write_reftable_entry.ensures.written c.write_reftable_entry.ensures.calls (note_kept c.set_write_kind.new.self c.write_reftable_entry.new.self c.write_reftable_entry.result c.write_reftable_entry.ensures.noted (c.set_write_kind.ensures.changed.note ∙ c.in_ok-write_block.ensures.noted)) (of_storage c.in_err-write_reftable_entry.field-0.0) (fault_of_storage c.in_err-write_reftable_entry.field-0.0))
 
 pub returns-clause-sound : goal.returns-clause-sound
 returns-clause-sound g c = λ p sound place.
     let is = c.in_ok-block.ensures.cluster ∙ ap Some c.new-cluster.ensures in
     let three = c.in_ok-write_block.ensures.sound p c.args.counts_itself c.args.self.now c.args.range c.args.at sound place c.in_ok-block.ensures.format is in
-    is_placed g.S.Storage.view c.args.counts_itself p c.args.range c.args.at c.args.file.now c.write_block.new.file c.args.self.now c.enter_refblock.new.self c.write_reftable_entry.new.self (storage_of c.will_write.new.self) c.in_ok-block.block c.write_reftable_entry.result
+    is_placed g.S.Storage.view c.args.counts_itself p c.args.range c.args.at c.args.file.now c.write_block.new.file c.args.self.now c.enter_refblock.new.self c.write_reftable_entry.new.self (storage_of c.set_write_kind.new.self) c.in_ok-block.block c.write_reftable_entry.result
     three c.in_ok-write_block.ensures.counted c.in_ok-write_block.ensures.first (subst (λ h. HasPlaceFor c.args.counts_itself h c.args.self.now.reftable c.args.range c.args.at) (sym (ap (λ x. x.fields) c.write_block.ensures.step.header)) place)
     c.requires.place.within c.enter_refblock.ensures.rest (subst (λ k. ChangesEntry c.args.self.now.reftable.bytes c.enter_refblock.new.self.bytes c.args.range (k * 2 ^ c.args.self.now.reftable.cluster_bits)) c.new-cluster.ensures c.enter_refblock.ensures.entry)
     (c.enter_refblock.ensures.offset ∙ ap (λ k. k * 2 ^ c.args.self.now.reftable.cluster_bits) c.new-cluster.ensures) c.write_reftable_entry.ensures.fits c.in_ok-block.ensures.whole (subst (λ h. IsBlockOf h c.in_ok-block.block) (sym (ap (λ x. x.fields) c.write_block.ensures.step.header)) c.in_ok-block.ensures.format)
-    c.in_ok-block.ensures.counts c.will_write.ensures.storage c.write_reftable_entry.ensures.written c.write_reftable_entry.ensures.calls c.in_ok-write_reftable_entry.field-0 c.in_ok-write_reftable_entry.was
+    c.in_ok-block.ensures.counts c.set_write_kind.ensures.storage c.write_reftable_entry.ensures.written c.write_reftable_entry.ensures.calls c.in_ok-write_reftable_entry.field-0 c.in_ok-write_reftable_entry.was
 
 pub returns-in_err-write_block-clause-step : goal.returns-in_err-write_block-clause-step
 returns-in_err-write_block-clause-step g c = record {
@@ -144,9 +144,9 @@ returns-in_err-write_reftable_entry-clause-step g c = record {
   list = c.write_block.ensures.step.list;
   named = entries_entered c.args.self.now.reftable c.enter_refblock.new.self c.args.range c.new-cluster.result (subst (λ n. 0 < n) (sym c.new-cluster.ensures) c.requires.place.elsewhere) c.enter_refblock.ensures.rest c.enter_refblock.ensures.entry c.enter_refblock.ensures.offset;
   marks = kept_marks_then c.write_block.ensures.step.marks
-      (marks_of_storage refl (placed_kept c.write_block.new.file.storage c.will_write.new.self c.write_reftable_entry.new.self c.write_reftable_entry.result c.will_write.ensures.storage c.will_write.ensures.changed c.enter_refblock.new.self.cluster _
+      (marks_of_storage refl (placed_kept c.write_block.new.file.storage c.set_write_kind.new.self c.write_reftable_entry.new.self c.write_reftable_entry.result c.set_write_kind.ensures.storage c.set_write_kind.ensures.changed c.enter_refblock.new.self.cluster _
       (subst (λ (x : EntryTableView). IsSome x.cluster) (sym c.enter_refblock.ensures.rest) c.requires.place.placed) c.write_reftable_entry.ensures.written c.write_reftable_entry.ensures.calls c.write_reftable_entry.ensures.noted));
-  header_cluster = spares_then (c.write_block.ensures.step.header_cluster c.args.self.now.reftable c.in_ok-block.ensures.format.bits) (spares_entry g.S.Storage.view c.args.self.now.reftable c.enter_refblock.new.self c.write_block.new.file c.write_block.new.file.caches (storage_of c.will_write.new.self) c.write_reftable_entry.new.self _ _ c.write_reftable_entry.result (λ bits are. are) (ap (λ (t : EntryTableView). t.cluster_bits) c.enter_refblock.ensures.rest) (ap (λ (t : EntryTableView). t.cluster) c.enter_refblock.ensures.rest) c.will_write.ensures.storage c.write_reftable_entry.ensures.written c.write_reftable_entry.ensures.calls (let within = c.requires.place.within in omega (arith, within)) (subst (λ (t : EntryTableView). IsSome t.cluster) (sym c.enter_refblock.ensures.rest) c.requires.place.placed));
+  header_cluster = spares_then (c.write_block.ensures.step.header_cluster c.args.self.now.reftable c.in_ok-block.ensures.format.bits) (spares_entry g.S.Storage.view c.args.self.now.reftable c.enter_refblock.new.self c.write_block.new.file c.write_block.new.file.caches (storage_of c.set_write_kind.new.self) c.write_reftable_entry.new.self _ _ c.write_reftable_entry.result (λ bits are. are) (ap (λ (t : EntryTableView). t.cluster_bits) c.enter_refblock.ensures.rest) (ap (λ (t : EntryTableView). t.cluster) c.enter_refblock.ensures.rest) c.set_write_kind.ensures.storage c.write_reftable_entry.ensures.written c.write_reftable_entry.ensures.calls (let within = c.requires.place.within in omega (arith, within)) (subst (λ (t : EntryTableView). IsSome t.cluster) (sym c.enter_refblock.ensures.rest) c.requires.place.placed));
 }
 
 pub returns-clause-step : goal.returns-clause-step
@@ -155,9 +155,9 @@ returns-clause-step g c = record {
   list = c.write_block.ensures.step.list;
   named = entries_entered c.args.self.now.reftable c.enter_refblock.new.self c.args.range c.new-cluster.result (subst (λ n. 0 < n) (sym c.new-cluster.ensures) c.requires.place.elsewhere) c.enter_refblock.ensures.rest c.enter_refblock.ensures.entry c.enter_refblock.ensures.offset;
   marks = kept_marks_then c.write_block.ensures.step.marks
-      (marks_of_storage refl (placed_kept c.write_block.new.file.storage c.will_write.new.self c.write_reftable_entry.new.self c.write_reftable_entry.result c.will_write.ensures.storage c.will_write.ensures.changed c.enter_refblock.new.self.cluster _
+      (marks_of_storage refl (placed_kept c.write_block.new.file.storage c.set_write_kind.new.self c.write_reftable_entry.new.self c.write_reftable_entry.result c.set_write_kind.ensures.storage c.set_write_kind.ensures.changed c.enter_refblock.new.self.cluster _
       (subst (λ (x : EntryTableView). IsSome x.cluster) (sym c.enter_refblock.ensures.rest) c.requires.place.placed) c.write_reftable_entry.ensures.written c.write_reftable_entry.ensures.calls c.write_reftable_entry.ensures.noted));
-  header_cluster = spares_then (c.write_block.ensures.step.header_cluster c.args.self.now.reftable c.in_ok-block.ensures.format.bits) (spares_entry g.S.Storage.view c.args.self.now.reftable c.enter_refblock.new.self c.write_block.new.file c.write_block.new.file.caches (storage_of c.will_write.new.self) c.write_reftable_entry.new.self _ _ c.write_reftable_entry.result (λ bits are. are) (ap (λ (t : EntryTableView). t.cluster_bits) c.enter_refblock.ensures.rest) (ap (λ (t : EntryTableView). t.cluster) c.enter_refblock.ensures.rest) c.will_write.ensures.storage c.write_reftable_entry.ensures.written c.write_reftable_entry.ensures.calls (let within = c.requires.place.within in omega (arith, within)) (subst (λ (t : EntryTableView). IsSome t.cluster) (sym c.enter_refblock.ensures.rest) c.requires.place.placed));
+  header_cluster = spares_then (c.write_block.ensures.step.header_cluster c.args.self.now.reftable c.in_ok-block.ensures.format.bits) (spares_entry g.S.Storage.view c.args.self.now.reftable c.enter_refblock.new.self c.write_block.new.file c.write_block.new.file.caches (storage_of c.set_write_kind.new.self) c.write_reftable_entry.new.self _ _ c.write_reftable_entry.result (λ bits are. are) (ap (λ (t : EntryTableView). t.cluster_bits) c.enter_refblock.ensures.rest) (ap (λ (t : EntryTableView). t.cluster) c.enter_refblock.ensures.rest) c.set_write_kind.ensures.storage c.write_reftable_entry.ensures.written c.write_reftable_entry.ensures.calls (let within = c.requires.place.within in omega (arith, within)) (subst (λ (t : EntryTableView). IsSome t.cluster) (sym c.enter_refblock.ensures.rest) c.requires.place.placed));
 }
 
 pub returns-in_err-write_reftable_entry-clause-noted : goal.returns-in_err-write_reftable_entry-clause-noted
@@ -173,17 +173,17 @@ pub returns-clause-has : goal.returns-clause-has
 returns-clause-has g c = entered_has c.enter_refblock.new.self c.args.range c.new-cluster.result c.args.self.now.reftable.cluster_bits (subst (λ n. 0 < n) (sym c.new-cluster.ensures) c.requires.place.elsewhere) c.enter_refblock.ensures.offset
 
 pub returns-clause-noted : goal.returns-clause-noted
-returns-clause-noted g c = or_left (is_changed_of c.write_reftable_entry.new.self) c.write_block.new.file.caches.is_changed (note_kept c.will_write.new.self c.write_reftable_entry.new.self c.write_reftable_entry.result c.write_reftable_entry.ensures.noted (c.will_write.ensures.changed.note ∙ c.in_ok-write_block.ensures.noted))
+returns-clause-noted g c = or_left (is_changed_of c.write_reftable_entry.new.self) c.write_block.new.file.caches.is_changed (note_kept c.set_write_kind.new.self c.write_reftable_entry.new.self c.write_reftable_entry.result c.write_reftable_entry.ensures.noted (c.set_write_kind.ensures.changed.note ∙ c.in_ok-write_block.ensures.noted))
 
 pub returns-in_err-block-clause-fails : goal.returns-in_err-block-clause-fails
 returns-in_err-block-clause-fails g c = fails_on c.from_residual.result c.in_err-block.field-0.0 c.from_residual.ensures (fails_by c.in_err-block.field-0.0 (other_as c.in_err-block.ensures.memory memory_other) refl c.in_err-block.ensures.cause)
 
 pub returns-in_err-write_reftable_entry-clause-fails : goal.returns-in_err-write_reftable_entry-clause-fails
 returns-in_err-write_reftable_entry-clause-fails g c =
-    fails_since (same_faults g.S.Storage.view c.will_write.ensures.storage ∙ c.in_ok-write_block.ensures.fails.told) (fails_storage c.from_residual-in_err-write_reftable_entry.result c.in_err-write_reftable_entry.field-0.0 c.from_residual-in_err-write_reftable_entry.ensures c.in_err-write_reftable_entry.ensures.calls.cause)
+    fails_since (same_faults g.S.Storage.view c.set_write_kind.ensures.storage ∙ c.in_ok-write_block.ensures.fails.told) (fails_storage c.from_residual-in_err-write_reftable_entry.result c.in_err-write_reftable_entry.field-0.0 c.from_residual-in_err-write_reftable_entry.ensures c.in_err-write_reftable_entry.ensures.calls.cause)
 
 pub returns-clause-fails : goal.returns-clause-fails
-returns-clause-fails g c = fails_ok (c.in_ok-write_reftable_entry.ensures.calls.cause.told ∙ (same_faults g.S.Storage.view c.will_write.ensures.storage ∙ c.in_ok-write_block.ensures.fails.told))
+returns-clause-fails g c = fails_ok (c.in_ok-write_reftable_entry.ensures.calls.cause.told ∙ (same_faults g.S.Storage.view c.set_write_kind.ensures.storage ∙ c.in_ok-write_block.ensures.fails.told))
 
 pub returns-in_err-block-clause-step : goal.returns-in_err-block-clause-step
 returns-in_err-block-clause-step g c = record { header = refl; list = refl; named = entries_none _ c.args.self.now.reftable; marks = kept_marks_none; header_cluster = spares_none }

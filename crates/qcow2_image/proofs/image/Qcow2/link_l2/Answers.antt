@@ -19,7 +19,7 @@ returns-in_err-write_l1_entry-clause-names g c = λ p out table sound may noted 
         fault = fault_of_storage c.in_err-write_l1_entry.field-0.0;
         noted = λ is. or_right (is_changed_of c.write_l1_entry.new.self) old.file.caches.is_changed noted;
         since = safe_throughout_named g.S.Storage.view g.F.BackingDisk.backing old out p c.args.index c.args.cluster c.enter_l2_table.new.self table sound may says whole ready c.requires.within c.requires.nameable c.enter_l2_table.ensures.rest
-            c.enter_l2_table.ensures.entry c.enter_l2_table.ensures.offset c.enter_l2_table.ensures.copied c.write_l1_entry.ensures.fits c.write_l1_entry.new.self (storage_of c.will_write.new.self) c.write_l1_entry.result c.will_write.ensures.storage
+            c.enter_l2_table.ensures.entry c.enter_l2_table.ensures.offset c.enter_l2_table.ensures.copied c.write_l1_entry.ensures.fits c.write_l1_entry.new.self (storage_of c.set_write_kind.new.self) c.write_l1_entry.result c.set_write_kind.ensures.storage
             c.write_l1_entry.ensures.written c.write_l1_entry.ensures.calls;
       };
       leaks = refl;
@@ -28,15 +28,15 @@ returns-in_err-write_l1_entry-clause-names g c = λ p out table sound may noted 
 pub returns-clause-names : goal.returns-clause-names
 returns-clause-names g c = λ p out table sound may noted says whole ready.
     named_so g.S.Storage.view g.F.BackingDisk.backing c.args.self.now out p c.args.index c.args.cluster c.enter_l2_table.new.self table sound may says whole ready c.requires.within c.requires.nameable c.enter_l2_table.ensures.rest
-    c.enter_l2_table.ensures.entry c.enter_l2_table.ensures.offset c.enter_l2_table.ensures.copied c.write_l1_entry.ensures.fits c.write_l1_entry.new.self (storage_of c.will_write.new.self) c.write_l1_entry.result c.will_write.ensures.storage
+    c.enter_l2_table.ensures.entry c.enter_l2_table.ensures.offset c.enter_l2_table.ensures.copied c.write_l1_entry.ensures.fits c.write_l1_entry.new.self (storage_of c.set_write_kind.new.self) c.write_l1_entry.result c.set_write_kind.ensures.storage
     c.write_l1_entry.ensures.written c.write_l1_entry.ensures.calls c.in_ok-write_l1_entry.field-0 c.in_ok-write_l1_entry.was
 
 pub returns-in_err-write_l1_entry-clause-step : goal.returns-in_err-write_l1_entry-clause-step
 returns-in_err-write_l1_entry-clause-step g c = record {
   stays = search rules;
-  notes = notes_of_storage (placed_kept c.args.self.now.file.storage c.will_write.new.self c.write_l1_entry.new.self c.write_l1_entry.result c.will_write.ensures.storage c.will_write.ensures.changed c.enter_l2_table.new.self.cluster _ (subst (λ (x : EntryTableView). IsSome x.cluster) (sym c.enter_l2_table.ensures.rest) c.requires.placed) c.write_l1_entry.ensures.written c.write_l1_entry.ensures.calls c.write_l1_entry.ensures.noted);
+  notes = notes_of_storage (placed_kept c.args.self.now.file.storage c.set_write_kind.new.self c.write_l1_entry.new.self c.write_l1_entry.result c.set_write_kind.ensures.storage c.set_write_kind.ensures.changed c.enter_l2_table.new.self.cluster _ (subst (λ (x : EntryTableView). IsSome x.cluster) (sym c.enter_l2_table.ensures.rest) c.requires.placed) c.write_l1_entry.ensures.written c.write_l1_entry.ensures.calls c.write_l1_entry.ensures.noted);
   header_cluster = behind_then
-      (behind_placed c.write_l1_entry.result c.enter_l2_table.new.self.cluster (λ k. k * 2 ^ c.enter_l2_table.new.self.cluster_bits + 8 * c.args.index) _ (ap g.S.Storage.view c.will_write.ensures.storage) (subst (λ (x : EntryTableView). IsSome x.cluster) (sym c.enter_l2_table.ensures.rest) c.requires.placed)
+      (behind_placed c.write_l1_entry.result c.enter_l2_table.new.self.cluster (λ k. k * 2 ^ c.enter_l2_table.new.self.cluster_bits + 8 * c.args.index) _ (ap g.S.Storage.view c.set_write_kind.ensures.storage) (subst (λ (x : EntryTableView). IsSome x.cluster) (sym c.enter_l2_table.ensures.rest) c.requires.placed)
       (λ bits lies. entry_behind c.args.self.now.l1_table c.enter_l2_table.new.self c.args.index c.enter_l2_table.ensures.rest bits lies.l1) c.write_l1_entry.ensures.written c.write_l1_entry.ensures.calls)
       (behind_l1 (l1_entered c.args.self.now.l1_table c.enter_l2_table.new.self c.enter_l2_table.ensures.rest));
 }
@@ -44,9 +44,9 @@ returns-in_err-write_l1_entry-clause-step g c = record {
 pub returns-clause-step : goal.returns-clause-step
 returns-clause-step g c = record {
   stays = search rules;
-  notes = notes_of_storage (placed_kept c.args.self.now.file.storage c.will_write.new.self c.write_l1_entry.new.self c.write_l1_entry.result c.will_write.ensures.storage c.will_write.ensures.changed c.enter_l2_table.new.self.cluster _ (subst (λ (x : EntryTableView). IsSome x.cluster) (sym c.enter_l2_table.ensures.rest) c.requires.placed) c.write_l1_entry.ensures.written c.write_l1_entry.ensures.calls c.write_l1_entry.ensures.noted);
+  notes = notes_of_storage (placed_kept c.args.self.now.file.storage c.set_write_kind.new.self c.write_l1_entry.new.self c.write_l1_entry.result c.set_write_kind.ensures.storage c.set_write_kind.ensures.changed c.enter_l2_table.new.self.cluster _ (subst (λ (x : EntryTableView). IsSome x.cluster) (sym c.enter_l2_table.ensures.rest) c.requires.placed) c.write_l1_entry.ensures.written c.write_l1_entry.ensures.calls c.write_l1_entry.ensures.noted);
   header_cluster = behind_then
-      (behind_placed c.write_l1_entry.result c.enter_l2_table.new.self.cluster (λ k. k * 2 ^ c.enter_l2_table.new.self.cluster_bits + 8 * c.args.index) _ (ap g.S.Storage.view c.will_write.ensures.storage) (subst (λ (x : EntryTableView). IsSome x.cluster) (sym c.enter_l2_table.ensures.rest) c.requires.placed)
+      (behind_placed c.write_l1_entry.result c.enter_l2_table.new.self.cluster (λ k. k * 2 ^ c.enter_l2_table.new.self.cluster_bits + 8 * c.args.index) _ (ap g.S.Storage.view c.set_write_kind.ensures.storage) (subst (λ (x : EntryTableView). IsSome x.cluster) (sym c.enter_l2_table.ensures.rest) c.requires.placed)
       (λ bits lies. entry_behind c.args.self.now.l1_table c.enter_l2_table.new.self c.args.index c.enter_l2_table.ensures.rest bits lies.l1) c.write_l1_entry.ensures.written c.write_l1_entry.ensures.calls)
       (behind_l1 (l1_entered c.args.self.now.l1_table c.enter_l2_table.new.self c.enter_l2_table.ensures.rest));
 }

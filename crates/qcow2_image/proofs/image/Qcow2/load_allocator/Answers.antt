@@ -23,12 +23,12 @@ returns-clause-loaded g c = λ p new_tables.
     let below = g.F.BackingDisk.backing in
     let old = c.args.file.now in
     let file = c.new.new.file in
-    let told = record file { storage = c.will_write.new.self } in
+    let told = record file { storage = c.set_write_kind.new.self } in
     let new = record file { storage = c.clear_autoclear.new.self; header = c.clear_autoclear.new.header } in
     let cleared = c.in_ok-clear_autoclear.ensures in
     let read = new_tables_then view below p old file new_tables c.new.ensures.step.rest c.new.ensures.step.honest c.new.ensures.step.same in
-    let same = c.will_write.ensures.storage in
-    let first = new_tables_read view below p file c.will_write.new.self read.new_tables (subst (λ s. (view s).is_honest) (sym same) read.new_tables.sound.honest) (ap (λ s. (view s).contents) same) in
+    let same = c.set_write_kind.ensures.storage in
+    let first = new_tables_read view below p file c.set_write_kind.new.self read.new_tables (subst (λ s. (view s).is_honest) (sym same) read.new_tables.sound.honest) (ap (λ s. (view s).contents) same) in
     let then = stays_then view below p file told new first
     (stays_after view below p told first.new_tables c.clear_autoclear.new.self c.clear_autoclear.new.header cleared.ok cleared.calls.honest cleared.written (λ none. (cleared.idle none).1) (autoclear_after _) (autoclear_still _ _)) in (
       stays_then view below p old file new read then,
@@ -45,9 +45,9 @@ returns-clause-since g c = λ p new_tables.
     let old = c.args.file.now in
     let file = c.new.new.file in
     let cleared = c.clear_autoclear.ensures in
-    let told = told_new_tables view below p old file c.will_write.new.self new_tables c.new.ensures.step.rest c.new.ensures.step.honest c.new.ensures.step.same c.new.ensures.step.time c.will_write.ensures.storage in
-    kept_then (view old.storage.storage) (view c.will_write.new.self.storage) (view c.clear_autoclear.new.self.storage) told.1
-    (kept_after view below p (record file { storage = c.will_write.new.self }) told.0 c.clear_autoclear.result c.clear_autoclear.new.self cleared.written (λ none. (cleared.idle none).1) cleared.calls (autoclear_after _) (autoclear_still _ _))
+    let told = told_new_tables view below p old file c.set_write_kind.new.self new_tables c.new.ensures.step.rest c.new.ensures.step.honest c.new.ensures.step.same c.new.ensures.step.time c.set_write_kind.ensures.storage in
+    kept_then (view old.storage.storage) (view c.set_write_kind.new.self.storage) (view c.clear_autoclear.new.self.storage) told.1
+    (kept_after view below p (record file { storage = c.set_write_kind.new.self }) told.0 c.clear_autoclear.result c.clear_autoclear.new.self cleared.written (λ none. (cleared.idle none).1) cleared.calls (autoclear_after _) (autoclear_still _ _))
 
 pub returns-in_err-clear_autoclear-clause-since : goal.returns-in_err-clear_autoclear-clause-since
 returns-in_err-clear_autoclear-clause-since g c = λ p new_tables.
@@ -56,9 +56,9 @@ returns-in_err-clear_autoclear-clause-since g c = λ p new_tables.
     let old = c.args.file.now in
     let file = c.new.new.file in
     let cleared = c.clear_autoclear.ensures in
-    let told = told_new_tables view below p old file c.will_write.new.self new_tables c.new.ensures.step.rest c.new.ensures.step.honest c.new.ensures.step.same c.new.ensures.step.time c.will_write.ensures.storage in
-    kept_then (view old.storage.storage) (view c.will_write.new.self.storage) (view c.clear_autoclear.new.self.storage) told.1
-    (kept_after view below p (record file { storage = c.will_write.new.self }) told.0 c.clear_autoclear.result c.clear_autoclear.new.self cleared.written (λ none. (cleared.idle none).1) cleared.calls (autoclear_after _) (autoclear_still _ _))
+    let told = told_new_tables view below p old file c.set_write_kind.new.self new_tables c.new.ensures.step.rest c.new.ensures.step.honest c.new.ensures.step.same c.new.ensures.step.time c.set_write_kind.ensures.storage in
+    kept_then (view old.storage.storage) (view c.set_write_kind.new.self.storage) (view c.clear_autoclear.new.self.storage) told.1
+    (kept_after view below p (record file { storage = c.set_write_kind.new.self }) told.0 c.clear_autoclear.result c.clear_autoclear.new.self cleared.written (λ none. (cleared.idle none).1) cleared.calls (autoclear_after _) (autoclear_still _ _))
 
 pub returns-in_err-clear_autoclear-clause-why : goal.returns-in_err-clear_autoclear-clause-why
 returns-in_err-clear_autoclear-clause-why g c = λ honest.
@@ -91,7 +91,7 @@ returns-in_err-clear_autoclear-clause-storage g c =
     let new = record file { storage = c.clear_autoclear.new.self; header = c.clear_autoclear.new.header } in
     handed_on (λ (r : Result _ ImageError). LeavesFile view true old new r) c.from_residual-in_err-clear_autoclear.result (of_storage e) c.from_residual-in_err-clear_autoclear.ensures
     (file_then_refused view true old file read.step.rest read.step.honest read.step.same read.step.time {T = Unit {0}} new (of_storage e) read.fails.no_fewer
-    (file_not_cleared view file c.will_write.new.self c.clear_autoclear.new.self c.will_write.ensures.storage c.clear_autoclear.result cleared.calls cleared.written cleared.idle c.clear_autoclear.new.header e c.in_err-clear_autoclear.was))
+    (file_not_cleared view file c.set_write_kind.new.self c.clear_autoclear.new.self c.set_write_kind.ensures.storage c.clear_autoclear.result cleared.calls cleared.written cleared.idle c.clear_autoclear.new.header e c.in_err-clear_autoclear.was))
 
 pub returns-clause-storage : goal.returns-clause-storage
 returns-clause-storage g c =
@@ -102,7 +102,7 @@ returns-clause-storage g c =
     let new = record file { storage = c.clear_autoclear.new.self; header = c.clear_autoclear.new.header } in
     let x = c.in_ok-allocator.allocator in
     file_then view true c.args.file.now file read.step.rest read.step.honest read.step.same read.step.time new x x
-    (file_cleared view file c.will_write.new.self c.clear_autoclear.new.self c.will_write.ensures.storage c.clear_autoclear.result cleared.calls cleared.written cleared.idle c.clear_autoclear.new.header c.in_ok-clear_autoclear.ensures.ok x _ c.in_ok-clear_autoclear.was)
+    (file_cleared view file c.set_write_kind.new.self c.clear_autoclear.new.self c.set_write_kind.ensures.storage c.clear_autoclear.result cleared.calls cleared.written cleared.idle c.clear_autoclear.new.header c.in_ok-clear_autoclear.ensures.ok x _ c.in_ok-clear_autoclear.was)
 
 pub returns-clause-header_cluster : goal.returns-clause-header_cluster
 returns-clause-header_cluster g c = λ are names.

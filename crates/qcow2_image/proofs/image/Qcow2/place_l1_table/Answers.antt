@@ -41,8 +41,8 @@ returns-in_err-write_l1_table-clause-places g c = λ p out sound longer.
     let new = record image { file = record image.file { storage = c.write_l1_table.new.self } } in
     handed_on (PlacesTable view below q old new out c.set_cluster.new.self c.args.cluster) c.from_residual-in_err-write_l1_table.result (of_storage c.in_err-write_l1_table.field-0.0) c.from_residual-in_err-write_l1_table.ensures
     (keeps_then view below out old image new q q q (λ k some. some) kept
-    (keeps_placed view below out p image t c.args.cluster kept.sound there c.in_ok-flush_rb.ensures.flushes.written c.in_ok-flush_rb.ensures.flushes.first (storage_of c.will_write.new.self) (storage_of c.write_l1_table.new.self) c.write_l1_table.result c.will_write.ensures.storage
-    (table_write_as view t c.args.cluster old.file.header.fields.cluster_bits c.set_cluster.new.self c.write_l1_table.result (storage_of c.will_write.new.self) (storage_of c.write_l1_table.new.self) c.set_cluster.ensures longer.bits c.write_l1_table.ensures.written)
+    (keeps_placed view below out p image t c.args.cluster kept.sound there c.in_ok-flush_rb.ensures.flushes.written c.in_ok-flush_rb.ensures.flushes.first (storage_of c.set_write_kind.new.self) (storage_of c.write_l1_table.new.self) c.write_l1_table.result c.set_write_kind.ensures.storage
+    (table_write_as view t c.args.cluster old.file.header.fields.cluster_bits c.set_cluster.new.self c.write_l1_table.result (storage_of c.set_write_kind.new.self) (storage_of c.write_l1_table.new.self) c.set_cluster.ensures longer.bits c.write_l1_table.ensures.written)
     c.write_l1_table.ensures.calls c.write_l1_table.new.self refl))
 
 pub returns-clause-places : goal.returns-clause-places
@@ -57,11 +57,11 @@ returns-clause-places g c = λ p out sound longer.
     let image = with_caches view below old out q sound c.flush_rb.new.storage c.flush_rb.new.self in
     let there : IsLongerL1 image t = record { bits = longer.bits; whole = longer.whole; longer = longer.longer; entries = longer.entries } in
     let new = record image { file = record image.file { storage = c.write_l1_table.new.self } } in
-    let wrote = table_write_as view t c.args.cluster old.file.header.fields.cluster_bits c.set_cluster.new.self c.write_l1_table.result (storage_of c.will_write.new.self) (storage_of c.write_l1_table.new.self) c.set_cluster.ensures longer.bits c.write_l1_table.ensures.written in (
+    let wrote = table_write_as view t c.args.cluster old.file.header.fields.cluster_bits c.set_cluster.new.self c.write_l1_table.result (storage_of c.set_write_kind.new.self) (storage_of c.write_l1_table.new.self) c.set_cluster.ensures longer.bits c.write_l1_table.ensures.written in (
       keeps_then view below out old image new q q q (λ k some. some) kept
-          (keeps_placed view below out p image t c.args.cluster kept.sound there c.in_ok-flush_rb.ensures.flushes.written c.in_ok-flush_rb.ensures.flushes.first (storage_of c.will_write.new.self) (storage_of c.write_l1_table.new.self) c.write_l1_table.result c.will_write.ensures.storage wrote
+          (keeps_placed view below out p image t c.args.cluster kept.sound there c.in_ok-flush_rb.ensures.flushes.written c.in_ok-flush_rb.ensures.flushes.first (storage_of c.set_write_kind.new.self) (storage_of c.write_l1_table.new.self) c.write_l1_table.result c.set_write_kind.ensures.storage wrote
           c.write_l1_table.ensures.calls c.write_l1_table.new.self refl),
-      stands_whole view below out p image t c.args.cluster kept.sound there c.in_ok-flush_rb.ensures.flushes.written c.in_ok-flush_rb.ensures.flushes.first (storage_of c.will_write.new.self) (storage_of c.write_l1_table.new.self) c.write_l1_table.result c.will_write.ensures.storage wrote
+      stands_whole view below out p image t c.args.cluster kept.sound there c.in_ok-flush_rb.ensures.flushes.written c.in_ok-flush_rb.ensures.flushes.first (storage_of c.set_write_kind.new.self) (storage_of c.write_l1_table.new.self) c.write_l1_table.result c.set_write_kind.ensures.storage wrote
           c.write_l1_table.ensures.calls c.write_l1_table.new.self refl c.set_cluster.new.self c.set_cluster.ensures c.in_ok-write_l1_table.field-0 c.in_ok-write_l1_table.was,
     )
 
@@ -75,10 +75,10 @@ pub returns-in_err-flush_rb-clause-notes : goal.returns-in_err-flush_rb-clause-n
 returns-in_err-flush_rb-clause-notes g c = (notes_of_both c.flush_rb.ensures.step.marks.pins c.flush_rb.ensures.step.marks.notes)
 
 pub returns-in_err-write_l1_table-clause-notes : goal.returns-in_err-write_l1_table-clause-notes
-returns-in_err-write_l1_table-clause-notes g c = notes_then (notes_of_both c.flush_rb.ensures.step.marks.pins c.flush_rb.ensures.step.marks.notes) (notes_of_storage (placed_kept c.flush_rb.new.storage c.will_write.new.self c.write_l1_table.new.self c.write_l1_table.result c.will_write.ensures.storage c.will_write.ensures.changed c.set_cluster.new.self.cluster _ (subst (λ (x : EntryTableView). IsSome x.cluster) (sym c.set_cluster.ensures) refl) c.write_l1_table.ensures.written c.write_l1_table.ensures.calls c.write_l1_table.ensures.noted))
+returns-in_err-write_l1_table-clause-notes g c = notes_then (notes_of_both c.flush_rb.ensures.step.marks.pins c.flush_rb.ensures.step.marks.notes) (notes_of_storage (placed_kept c.flush_rb.new.storage c.set_write_kind.new.self c.write_l1_table.new.self c.write_l1_table.result c.set_write_kind.ensures.storage c.set_write_kind.ensures.changed c.set_cluster.new.self.cluster _ (subst (λ (x : EntryTableView). IsSome x.cluster) (sym c.set_cluster.ensures) refl) c.write_l1_table.ensures.written c.write_l1_table.ensures.calls c.write_l1_table.ensures.noted))
 
 pub returns-clause-notes : goal.returns-clause-notes
-returns-clause-notes g c = notes_then (notes_of_both c.flush_rb.ensures.step.marks.pins c.flush_rb.ensures.step.marks.notes) (notes_of_storage (placed_kept c.flush_rb.new.storage c.will_write.new.self c.write_l1_table.new.self c.write_l1_table.result c.will_write.ensures.storage c.will_write.ensures.changed c.set_cluster.new.self.cluster _ (subst (λ (x : EntryTableView). IsSome x.cluster) (sym c.set_cluster.ensures) refl) c.write_l1_table.ensures.written c.write_l1_table.ensures.calls c.write_l1_table.ensures.noted))
+returns-clause-notes g c = notes_then (notes_of_both c.flush_rb.ensures.step.marks.pins c.flush_rb.ensures.step.marks.notes) (notes_of_storage (placed_kept c.flush_rb.new.storage c.set_write_kind.new.self c.write_l1_table.new.self c.write_l1_table.result c.set_write_kind.ensures.storage c.set_write_kind.ensures.changed c.set_cluster.new.self.cluster _ (subst (λ (x : EntryTableView). IsSome x.cluster) (sym c.set_cluster.ensures) refl) c.write_l1_table.ensures.written c.write_l1_table.ensures.calls c.write_l1_table.ensures.noted))
 
 pub returns-then-not-is_nameable-clause-header_cluster : goal.returns-then-not-is_nameable-clause-header_cluster
 returns-then-not-is_nameable-clause-header_cluster g c = λ as_wide some. behind_none
@@ -89,13 +89,13 @@ returns-in_err-flush_rb-clause-header_cluster g c = λ as_wide some. behind_cach
 pub returns-in_err-write_l1_table-clause-header_cluster : goal.returns-in_err-write_l1_table-clause-header_cluster
 returns-in_err-write_l1_table-clause-header_cluster g c = λ as_wide some.
     behind_then (behind_caches c.flush_rb.ensures.step.header_cluster)
-    (behind_placed c.write_l1_table.result c.set_cluster.new.self.cluster (λ k. k * 2 ^ c.set_cluster.new.self.cluster_bits) _ (ap g.S.Storage.view c.will_write.ensures.storage) (subst (λ (x : EntryTableView). IsSome x.cluster) (sym c.set_cluster.ensures) refl)
+    (behind_placed c.write_l1_table.result c.set_cluster.new.self.cluster (λ k. k * 2 ^ c.set_cluster.new.self.cluster_bits) _ (ap g.S.Storage.view c.set_write_kind.ensures.storage) (subst (λ (x : EntryTableView). IsSome x.cluster) (sym c.set_cluster.ensures) refl)
     (λ bits lies. begins_behind c.set_cluster.new.self bits (l1_placed c.args.self.now.l1_table c.args.self.now.l1_table c.args.table.now c.set_cluster.new.self c.args.cluster refl c.set_cluster.ensures as_wide some bits lies.l1)) c.write_l1_table.ensures.written c.write_l1_table.ensures.calls)
 
 pub returns-clause-header_cluster : goal.returns-clause-header_cluster
 returns-clause-header_cluster g c = λ as_wide some.
     behind_then (behind_caches c.flush_rb.ensures.step.header_cluster)
-    (behind_placed c.write_l1_table.result c.set_cluster.new.self.cluster (λ k. k * 2 ^ c.set_cluster.new.self.cluster_bits) _ (ap g.S.Storage.view c.will_write.ensures.storage) (subst (λ (x : EntryTableView). IsSome x.cluster) (sym c.set_cluster.ensures) refl)
+    (behind_placed c.write_l1_table.result c.set_cluster.new.self.cluster (λ k. k * 2 ^ c.set_cluster.new.self.cluster_bits) _ (ap g.S.Storage.view c.set_write_kind.ensures.storage) (subst (λ (x : EntryTableView). IsSome x.cluster) (sym c.set_cluster.ensures) refl)
     (λ bits lies. begins_behind c.set_cluster.new.self bits (l1_placed c.args.self.now.l1_table c.args.self.now.l1_table c.args.table.now c.set_cluster.new.self c.args.cluster refl c.set_cluster.ensures as_wide some bits lies.l1)) c.write_l1_table.ensures.written c.write_l1_table.ensures.calls)
 
 pub returns-then-not-is_nameable-clause-fault : goal.returns-then-not-is_nameable-clause-fault

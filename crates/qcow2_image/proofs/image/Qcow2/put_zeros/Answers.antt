@@ -13,8 +13,8 @@ returns-in_err-write-clause-fault g c = λ behind. hands_fault c.from_residual.r
 pub returns-in_err-write-clause-step : goal.returns-in_err-write-clause-step
 returns-in_err-write-clause-step g c = record {
   stays = search rules;
-  notes = notes_of_storage (told_kept c.args.self.now.file.storage c.will_write.new.self c.write.new.storage c.write.result c.will_write.ensures.storage c.will_write.ensures.changed _ c.write.ensures.written c.write.ensures.calls c.write.ensures.noted);
-  header_cluster = behind_wrote c.write.result c.args.host (replicate c.args.count 0) (ap g.S.Storage.view c.will_write.ensures.storage) (λ bits lies. behind_guard bits _ c.cluster_size.result c.args.host lies.header c.cluster_size.ensures.value c.if-host-cluster_size.false) c.write.ensures.written c.write.ensures.calls;
+  notes = notes_of_storage (told_kept c.args.self.now.file.storage c.set_write_kind.new.self c.write.new.storage c.write.result c.set_write_kind.ensures.storage c.set_write_kind.ensures.changed _ c.write.ensures.written c.write.ensures.calls c.write.ensures.noted);
+  header_cluster = behind_wrote c.write.result c.args.host (replicate c.args.count 0) (ap g.S.Storage.view c.set_write_kind.ensures.storage) (λ bits lies. behind_guard bits _ c.cluster_size.result c.args.host lies.header c.cluster_size.ensures.value c.if-host-cluster_size.false) c.write.ensures.written c.write.ensures.calls;
 }
 
 pub returns-in_err-write-clause-fails : goal.returns-in_err-write-clause-fails
@@ -26,6 +26,6 @@ returns-then-host-cluster_size-clause-step g c = step_none
 pub returns-clause-step : goal.returns-clause-step
 returns-clause-step g c = record {
   stays = search rules;
-  notes = notes_of_storage (told_kept c.args.self.now.file.storage c.will_write.new.self c.write.new.storage c.write.result c.will_write.ensures.storage c.will_write.ensures.changed _ c.write.ensures.written c.write.ensures.calls c.write.ensures.noted);
-  header_cluster = behind_wrote c.write.result c.args.host (replicate c.args.count 0) (ap g.S.Storage.view c.will_write.ensures.storage) (λ bits lies. behind_guard bits _ c.cluster_size.result c.args.host lies.header c.cluster_size.ensures.value c.if-host-cluster_size.false) c.write.ensures.written c.write.ensures.calls;
+  notes = notes_of_storage (told_kept c.args.self.now.file.storage c.set_write_kind.new.self c.write.new.storage c.write.result c.set_write_kind.ensures.storage c.set_write_kind.ensures.changed _ c.write.ensures.written c.write.ensures.calls c.write.ensures.noted);
+  header_cluster = behind_wrote c.write.result c.args.host (replicate c.args.count 0) (ap g.S.Storage.view c.set_write_kind.ensures.storage) (λ bits lies. behind_guard bits _ c.cluster_size.result c.args.host lies.header c.cluster_size.ensures.value c.if-host-cluster_size.false) c.write.ensures.written c.write.ensures.calls;
 }
