@@ -45,7 +45,7 @@ IsModifiedOrCurrent h cluster bytes is_modified on_storage = (is_modified ≡ tr
 
 module _ {S : Type 0} where
   -- The caches have this cluster size, and no cluster has a modified table in both.
-  pub record AreApartCaches (h : HeaderFields) (caches : MetadataCaches S) : Type 0 where
+  pub record NoClusterDirtyInBoth (h : HeaderFields) (caches : MetadataCaches S) : Type 0 where
     pub l2_bits : caches.l2.backend.header.fields.cluster_bits ≡ h.cluster_bits
     pub rb_bits : caches.rb.backend.header.fields.cluster_bits ≡ h.cluster_bits
     pub apart : (c : ℕ) → IsFreeOf (cluster_size h) (l2_tables caches) c ⊎ IsFreeOf (cluster_size h) (refblocks caches) c
@@ -58,7 +58,7 @@ module _ {S : Type 0} where
   -- The known contents are the same, and no table is modified that was not.
   pub record KnownStays (h : HeaderFields) (old : StorageView) (caches : MetadataCaches S) (new : StorageView) (caches' : MetadataCaches S) : Type 0 where
     pub honest : new.is_honest
-    pub apart : AreApartCaches h caches'
+    pub apart : NoClusterDirtyInBoth h caches'
     pub known : known_of h caches' (byte_at new.contents) ≡ known_of h caches (byte_at old.contents)
     pub tables : AreNoMore (cluster_size h) (l2_tables caches) (l2_tables caches')
     pub blocks : AreNoMore (cluster_size h) (refblocks caches) (refblocks caches')
@@ -69,32 +69,32 @@ module _ {S : Type 0} where
     pub honest : new.is_honest
     pub l2_bits : caches'.l2.backend.header.fields.cluster_bits ≡ h.cluster_bits
     pub rb_bits : caches'.rb.backend.header.fields.cluster_bits ≡ h.cluster_bits
-    pub known : AreApartCaches h caches' → known_of h caches' (byte_at new.contents) ≡ known (cluster_size h) (t ∷ []) (known_of h caches (byte_at old.contents))
+    pub known : NoClusterDirtyInBoth h caches' → known_of h caches' (byte_at new.contents) ≡ known (cluster_size h) (t ∷ []) (known_of h caches (byte_at old.contents))
     pub tables : AreNoMore (cluster_size h) l2s (l2_tables caches')
     pub blocks : AreNoMore (cluster_size h) rbs (refblocks caches')
     pub since : AreFlushedSince h old caches new
 
   -- What loading, flushing and switching leave of such caches over an honest storage.
   pub record KeepsKnownApart (view : S → StorageView) (old : ImageStorage S) (caches : MetadataCaches S) (new : ImageStorage S) (caches' : MetadataCaches S) : Type 0 where
-    pub stays : (h : HeaderFields) → (view (storage_of old)).is_honest → AreApartCaches h caches → KnownStays h (view (storage_of old)) caches (view (storage_of new)) caches'
+    pub stays : (h : HeaderFields) → (view (storage_of old)).is_honest → NoClusterDirtyInBoth h caches → KnownStays h (view (storage_of old)) caches (view (storage_of new)) caches'
 
   -- An L2 table that is inserted is laid over the known contents.
   abbrev pub LaysTableApart : (S → StorageView) → ImageStorage S → MetadataCaches S → ImageStorage S → MetadataCaches S → L2TableView → Type 0
   LaysTableApart view old caches new caches' t =
-      (h : HeaderFields) → (view (storage_of old)).is_honest → AreApartCaches h caches
+      (h : HeaderFields) → (view (storage_of old)).is_honest → NoClusterDirtyInBoth h caches
       → IfSome t.cluster (λ cluster. KnownUnder h (view (storage_of old)) caches (view (storage_of new)) caches' (table_put h cluster t.bytes t.is_modified) (table_put h cluster t.bytes t.is_modified ∷ l2_tables caches) (refblocks caches))
 
   -- A refblock that is inserted is laid over the known contents.
   abbrev pub LaysBlockApart : (S → StorageView) → ImageStorage S → MetadataCaches S → ImageStorage S → MetadataCaches S → RefBlockView → Type 0
   LaysBlockApart view old caches new caches' b =
-      (h : HeaderFields) → (view (storage_of old)).is_honest → AreApartCaches h caches
+      (h : HeaderFields) → (view (storage_of old)).is_honest → NoClusterDirtyInBoth h caches
       → IfSome b.cluster (λ cluster. KnownUnder h (view (storage_of old)) caches (view (storage_of new)) caches' (table_put h cluster b.bytes b.is_modified) (l2_tables caches) (table_put h cluster b.bytes b.is_modified ∷ refblocks caches))
 
   -- ---- tables that are dropped without being written
 
   -- Each cluster has its known bytes or those on the storage, and the known ones if no dropped table was modified. No table is modified that was not.
   pub record KnownWithout (Unmodified : Type 0) (h : HeaderFields) (caches caches' : MetadataCaches S) (on_storage : Bytes) : Type 0 where
-    pub apart : AreApartCaches h caches'
+    pub apart : NoClusterDirtyInBoth h caches'
     pub known : IsPartly (cluster_size h) on_storage (known_of h caches on_storage) (known_of h caches' on_storage)
     pub same : Unmodified → known_of h caches' on_storage ≡ known_of h caches on_storage
     pub tables : AreNoMore (cluster_size h) (l2_tables caches) (l2_tables caches')
@@ -102,7 +102,7 @@ module _ {S : Type 0} where
 
   -- What dropping tables does to such caches.
   abbrev pub TakesOffApart : Type 0 → MetadataCaches S → MetadataCaches S → Type 0
-  TakesOffApart Unmodified caches caches' = (h : HeaderFields) (on_storage : Bytes) → AreApartCaches h caches → KnownWithout Unmodified h caches caches' on_storage
+  TakesOffApart Unmodified caches caches' = (h : HeaderFields) (on_storage : Bytes) → NoClusterDirtyInBoth h caches → KnownWithout Unmodified h caches caches' on_storage
 
   -- The refblock of a cluster is dropped. The known contents are the same outside of its cluster. In it they are those on the storage, if the refblock was modified.
   pub record KnownWithoutBlock (h : HeaderFields) (caches caches' : MetadataCaches S) (on_storage : Bytes) (cluster : ℕ) : Type 0 where
@@ -111,7 +111,7 @@ module _ {S : Type 0} where
     pub stands : IfSome (rb_at caches cluster) (λ b. b.is_modified ≡ true → SameIn (cluster_size h) cluster (known_of h caches' on_storage) on_storage)
 
   abbrev pub TakesBlockApart : MetadataCaches S → MetadataCaches S → ℕ → Type 0
-  TakesBlockApart caches caches' cluster = (h : HeaderFields) (on_storage : Bytes) → AreApartCaches h caches → KnownWithoutBlock h caches caches' on_storage cluster
+  TakesBlockApart caches caches' cluster = (h : HeaderFields) (on_storage : Bytes) → NoClusterDirtyInBoth h caches → KnownWithoutBlock h caches caches' on_storage cluster
 
   -- ---- a cached table that is changed
 
@@ -124,7 +124,7 @@ module _ {S : Type 0} where
   -- The cached table of a cluster is changed and modified, and no cluster has a modified table in both caches before or after.
   abbrev pub ChangesHeldApart : {V : Type 0} → (V → List ℕ) → (V → Bool) → Option V → Option V → MetadataCaches S → MetadataCaches S → ℕ → Type 0
   ChangesHeldApart bytes is_modified held held' caches caches' cluster =
-      IfSome held (λ t. IfSome held' (λ t'. is_modified t' ≡ true → (h : HeaderFields) (on_storage : Bytes) → AreApartCaches h caches → AreApartCaches h caches'
+      IfSome held (λ t. IfSome held' (λ t'. is_modified t' ≡ true → (h : HeaderFields) (on_storage : Bytes) → NoClusterDirtyInBoth h caches → NoClusterDirtyInBoth h caches'
       → IsModifiedOrCurrent h cluster (bytes t) (is_modified t) on_storage → KnownChanges h caches caches' on_storage cluster (bytes t) (bytes t')))
 
   abbrev pub ChangesTableApart : MetadataCaches S → MetadataCaches S → ℕ → Type 0

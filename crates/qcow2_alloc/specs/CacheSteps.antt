@@ -14,7 +14,7 @@ use Rattle.qcow2_alloc.specs.ApartCaches.{KeepsKnownApart, ChangesBlockApart, La
 use Rattle.qcow2_alloc.specs.CachePins.{l2_pins, CachesHaveRoom, KeepsPinsAndNotes}
 use Rattle.qcow2_alloc.specs.KeptMarks.{KeepMarks}
 use Rattle.qcow2_alloc.specs.KeptNotes.{KeepsNotes}
-use Rattle.qcow2_alloc.specs.MetadataCaches.{order_of, l2_at, rb_at, l2_tables, refblocks, known_of, AreAllWritten, CacheInvariant, KeepSound, LaysBlock, LaysTable, LowersCount, LowersSome, PutRefusesBy, PutSound, RaisesCount, RaisesZero, RefusesBy, TakesBlock, WritesInOrder}
+use Rattle.qcow2_alloc.specs.MetadataCaches.{order_of, l2_at, rb_at, l2_tables, refblocks, known_of, AreAllWritten, CacheInvariant, KeepSound, LaysBlock, LaysTable, LowersCount, LowersSome, PutRefusesBy, InsertKeeps, RaisesCount, RaisesZero, RefusesBy, TakesBlock, WritesInOrder}
 use Rattle.qcow2_alloc.specs.Quiet.{KeepAllWritten, OthersStayHeld, WritesNothing, GetsBlockQuietly, GetsTableQuietly, PutsBlockQuietly, PutsTableQuietly}
 use Rattle.qcow2_alloc.specs.SparedHeaders.{AreBehindHeader, CachesSpareHeader, KeepBehindHeader}
 use Rattle.qcow2_alloc.specs.TableCaches.{IsBlockOf, IsTableOf}
@@ -144,7 +144,7 @@ module _ {S : Type 0} (view : S → StorageView) where
 
   -- Inserting a table into sound caches, or into caches without a common modified cluster, over an honest storage. An unmodified table keeps the known contents, and a modified one is laid over them. A refused insertion keeps them.
   pub record PutsSoundly (IsFit : HeaderFields → Type 0) (place : Option ℕ) (bytes : List ℕ) (is_modified : Bool) (Lays LaysApart : Type 0) (old : ImageStorage S) (caches : MetadataCaches S) (new : ImageStorage S) (caches' : MetadataCaches S) (result : Result (Unit {0}) ImageError) : Type 0 where
-    pub keeps : PutSound view old caches new caches' IsFit place bytes is_modified
+    pub keeps : InsertKeeps view old caches new caches' IsFit place bytes is_modified
     pub laid : OnOk result Lays
     pub laid_apart : OnOk result LaysApart
     pub refused : OnErr result (KeepSound view old caches new caches')

@@ -114,8 +114,8 @@ module _ {S : Type 0} where
   HoldsKnown h caches on_storage bytes cluster = (i : ℕ) → i < cluster_size h → byte_at bytes i ≡ known_of h caches on_storage (cluster * cluster_size h + i)
 
   -- What inserting an unmodified table with the known contents of its cluster does to sound caches over an honest storage.
-  abbrev pub PutSound : (S → StorageView) → ImageStorage S → MetadataCaches S → ImageStorage S → MetadataCaches S → (HeaderFields → Type 0) → Option ℕ → List ℕ → Bool → Type 0
-  PutSound view old caches new caches' IsFitFor cluster bytes is_modified =
+  abbrev pub InsertKeeps : (S → StorageView) → ImageStorage S → MetadataCaches S → ImageStorage S → MetadataCaches S → (HeaderFields → Type 0) → Option ℕ → List ℕ → Bool → Type 0
+  InsertKeeps view old caches new caches' IsFitFor cluster bytes is_modified =
       (h : HeaderFields) (p : Pending) → (view (storage_of old)).is_honest → CacheInvariant h p caches (byte_at (view (storage_of old)).contents)
       → IsFitFor h → is_modified ≡ false → IfSome cluster (HoldsKnown h caches (byte_at (view (storage_of old)).contents) bytes)
       → UnseenCacheStep h p (view (storage_of old)) caches (view (storage_of new)) caches'
@@ -139,7 +139,7 @@ module _ {S : Type 0} where
   RefusesBy IsCause view old caches h result =
       (p : Pending) → (view (storage_of old)).is_honest → CacheInvariant h p caches (byte_at (view (storage_of old)).contents) → AreNamedBlocks h (refblocks caches) (byte_at (view (storage_of old)).contents) → IfErr result IsCause
 
-  -- Inserting a table as in `PutSound` is refused only for such a cause.
+  -- Inserting a table as in `InsertKeeps` is refused only for such a cause.
   abbrev pub PutRefusesBy : (ImageError → Type 0) → (S → StorageView) → ImageStorage S → MetadataCaches S → (HeaderFields → Type 0) → Option ℕ → List ℕ → Bool → Result (Unit {0}) ImageError → Type 0
   PutRefusesBy IsCause view old caches IsFitFor cluster bytes is_modified result =
       (h : HeaderFields) (p : Pending) → (view (storage_of old)).is_honest → CacheInvariant h p caches (byte_at (view (storage_of old)).contents) → AreNamedBlocks h (refblocks caches) (byte_at (view (storage_of old)).contents)
@@ -231,7 +231,7 @@ module _ {S : Type 0} where
 
   -- Each cluster has its known bytes or those on the storage, and the known ones if no dropped table was modified. No refblock is new that was not. The caches are sound again,
   -- with any pending clusters that keep the order of writes.
-  pub record TakenOff (Unmodified : Type 0) (h : HeaderFields) (caches caches' : MetadataCaches S) (on_storage : Bytes) : Type 0 where
+  pub record Evict (Unmodified : Type 0) (h : HeaderFields) (caches caches' : MetadataCaches S) (on_storage : Bytes) : Type 0 where
     pub known : IsPartly (cluster_size h) on_storage (known_of h caches on_storage) (known_of h caches' on_storage)
     pub same : Unmodified → known_of h caches' on_storage ≡ known_of h caches on_storage
     pub named_blocks : AreNamedBlocks h (refblocks caches) on_storage → AreNamedBlocks h (refblocks caches') on_storage
@@ -239,11 +239,11 @@ module _ {S : Type 0} where
 
   -- What dropping tables does to sound caches.
   abbrev pub TakesOff : Type 0 → MetadataCaches S → MetadataCaches S → Type 0
-  TakesOff Unmodified caches caches' = (h : HeaderFields) (p : Pending) (on_storage : Bytes) → CacheInvariant h p caches on_storage → TakenOff Unmodified h caches caches' on_storage
+  TakesOff Unmodified caches caches' = (h : HeaderFields) (p : Pending) (on_storage : Bytes) → CacheInvariant h p caches on_storage → Evict Unmodified h caches caches' on_storage
 
   -- The refblock of a cluster is dropped: it is not cached any more, and the known contents outside of its cluster are the same.
   pub record TakenFrom (h : HeaderFields) (caches caches' : MetadataCaches S) (on_storage : Bytes) (cluster : ℕ) : Type 0 where
-    pub off : TakenOff (IfSome (rb_at caches cluster) (λ b. b.is_modified ≡ false)) h caches caches' on_storage
+    pub off : Evict (IfSome (rb_at caches cluster) (λ b. b.is_modified ≡ false)) h caches caches' on_storage
     pub outside : IsSameOutside (cluster_size h) cluster (known_of h caches on_storage) (known_of h caches' on_storage)
     pub gone : rb_at caches' cluster ≡ None
 
@@ -254,7 +254,7 @@ module _ {S : Type 0} where
 
   -- The table is laid over the known contents, and nothing else changes. At every moment a stop is as safe as before. If `Stands` holds and the order of writes is kept, the caches are
   -- sound again, with any pending clusters. If `IsNamed` holds, no refblock is new that was not.
-  pub record LaidOver (Stands : Bytes → Bytes → Type 0) (IsNamed : Bytes → Type 0) (h : HeaderFields) (old : StorageView) (caches : MetadataCaches S) (new : StorageView) (caches' : MetadataCaches S) (t : CachedTable) : Type 0 where
+  pub record Overlay (Stands : Bytes → Bytes → Type 0) (IsNamed : Bytes → Type 0) (h : HeaderFields) (old : StorageView) (caches : MetadataCaches S) (new : StorageView) (caches' : MetadataCaches S) (t : CachedTable) : Type 0 where
     pub honest : new.is_honest
     pub known : known_of h caches' (byte_at new.contents) ≡ known (cluster_size h) (t ∷ []) (known_of h caches (byte_at old.contents))
     pub since : IsSafeSince old new (known_of h caches (byte_at old.contents))
@@ -266,11 +266,11 @@ module _ {S : Type 0} where
   abbrev pub LaysTable : (S → StorageView) → ImageStorage S → MetadataCaches S → ImageStorage S → MetadataCaches S → L2TableView → Type 0
   LaysTable view old caches new caches' t =
       (h : HeaderFields) (p : Pending) → (view (storage_of old)).is_honest → CacheInvariant h p caches (byte_at (view (storage_of old)).contents) → IsTableOf h t → t.is_modified ≡ true
-      → IfSome t.cluster (λ cluster. LaidOver (λ on_storage known. AreNamedBlocks h (refblocks caches') on_storage × HasOwnL2 h on_storage cluster) (λ on_storage. Unit {0}) h (view (storage_of old)) caches (view (storage_of new)) caches' (laid_at h cluster t.bytes))
+      → IfSome t.cluster (λ cluster. Overlay (λ on_storage known. AreNamedBlocks h (refblocks caches') on_storage × HasOwnL2 h on_storage cluster) (λ on_storage. Unit {0}) h (view (storage_of old)) caches (view (storage_of new)) caches' (laid_at h cluster t.bytes))
 
   -- A refblock is inserted. The reftable names it, or nothing names its cluster, and no modified L2 table lies there.
   abbrev pub LaysBlock : (S → StorageView) → ImageStorage S → MetadataCaches S → ImageStorage S → MetadataCaches S → RefBlockView → Type 0
   LaysBlock view old caches new caches' b =
       (h : HeaderFields) (p : Pending) → (view (storage_of old)).is_honest → CacheInvariant h p caches (byte_at (view (storage_of old)).contents) → IsBlockOf h b → b.is_modified ≡ true
       → IfSome b.cluster (λ cluster. IsFreeOf (cluster_size h) (l2_tables caches) cluster
-      → LaidOver (λ on_storage known. HasBlock h on_storage cluster ⊎ IsUnnamed h on_storage known cluster) (λ on_storage. HasBlock h on_storage cluster) h (view (storage_of old)) caches (view (storage_of new)) caches' (laid_at h cluster b.bytes))
+      → Overlay (λ on_storage known. HasBlock h on_storage cluster ⊎ IsUnnamed h on_storage known cluster) (λ on_storage. HasBlock h on_storage cluster) h (view (storage_of old)) caches (view (storage_of new)) caches' (laid_at h cluster b.bytes))

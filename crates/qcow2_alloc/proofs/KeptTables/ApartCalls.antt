@@ -32,7 +32,7 @@ use Rattle.qcow2_alloc.specs.ImageStorage.{storage_of}
 use Rattle.qcow2_alloc.specs.TableCaches.{l2_steps, rb_steps, cleared_l2, cleared_rb, IsTableOf, IsBlockOf}
 use Rattle.qcow2_alloc.specs.KeptTables.{cached_table, cached_tables, AreElsewhere}
 use Rattle.qcow2_alloc.specs.MetadataCaches.{order_of, l2_tables, refblocks, known_of}
-use Rattle.qcow2_alloc.specs.ApartCaches.{StandAsIn, IsFlushedSo, IsPartlyFlushed, AreNoMore, table_put, AreApartCaches, AreFlushedSince, KnownStays, KnownUnder, KeepsKnownApart}
+use Rattle.qcow2_alloc.specs.ApartCaches.{StandAsIn, IsFlushedSo, IsPartlyFlushed, AreNoMore, table_put, NoClusterDirtyInBoth, AreFlushedSince, KnownStays, KnownUnder, KeepsKnownApart}
 use Rattle.qcow2_alloc.proofs.KeptTables.Writing.{no_safety, Flushed, Puts, WritesOne, flushed_all, nothing_new, made_ready}
 use Rattle.qcow2_alloc.proofs.KeptTables.Entries.{AreDistinct}
 use Rattle.qcow2_alloc.proofs.KeptTables.Getting.{HoldsWhatStands, hit_done, get_done, insert_put, replace_put}
@@ -104,7 +104,7 @@ module _ {S : Type 0} (h : HeaderFields) where
     contents = record { partly = λ c. inl (λ o in_c. refl); ordered = unwritten (cluster_size h) (l2_tables c) (refblocks c) (byte_at v.contents) (known_of h c (byte_at v.contents)) (order_of c) };
   }
 
-  since_then : (old mid new : StorageView) (a b : MetadataCaches S) → AreApartCaches h a → order_of b ≡ order_of a → KnownStays h old a mid b → AreFlushedSince h mid b new → AreFlushedSince h old a new
+  since_then : (old mid new : StorageView) (a b : MetadataCaches S) → NoClusterDirtyInBoth h a → order_of b ≡ order_of a → KnownStays h old a mid b → AreFlushedSince h mid b new → AreFlushedSince h old a new
   since_then old mid new a b are same first second =
       let then : (l : List ℕ) → IsPartlyFlushed (cluster_size h) (order_of b) (l2_tables b) (refblocks b) (byte_at mid.contents) (known_of h b (byte_at mid.contents)) (byte_at l)
       → IsPartlyFlushed (cluster_size h) (order_of a) (l2_tables a) (refblocks a) (byte_at old.contents) (known_of h a (byte_at old.contents)) (byte_at l) =
@@ -113,10 +113,10 @@ module _ {S : Type 0} (h : HeaderFields) where
       (subst (λ (d : Direction). IsPartlyFlushed (cluster_size h) d (l2_tables b) (refblocks b) (byte_at mid.contents) (known_of h b (byte_at mid.contents)) (byte_at l)) same now)) in
       record { moments = passes_on _ first.since.moments second.moments then; contents = then new.contents second.contents }
 
-  stays_none : (v : StorageView) (c : MetadataCaches S) → v.is_honest → AreApartCaches h c → KnownStays h v c v c
+  stays_none : (v : StorageView) (c : MetadataCaches S) → v.is_honest → NoClusterDirtyInBoth h c → KnownStays h v c v c
   stays_none v c honest are = record { honest = honest; apart = are; known = refl; tables = λ c none. none; blocks = λ c none. none; since = since_none v c }
 
-  pub stays_then : (old mid new : StorageView) (a b c : MetadataCaches S) → AreApartCaches h a → order_of b ≡ order_of a → KnownStays h old a mid b → KnownStays h mid b new c → KnownStays h old a new c
+  pub stays_then : (old mid new : StorageView) (a b c : MetadataCaches S) → NoClusterDirtyInBoth h a → order_of b ≡ order_of a → KnownStays h old a mid b → KnownStays h mid b new c → KnownStays h old a new c
   stays_then old mid new a b c are same first second = record {
     honest = second.honest;
     apart = second.apart;
@@ -127,7 +127,7 @@ module _ {S : Type 0} (h : HeaderFields) where
   }
 
   -- nothing new, and then a table is put in
-  pub under_then : (old mid new : StorageView) (a b c : MetadataCaches S) (t : CachedTable) (ts us ts' us' : List CachedTable) → AreApartCaches h a → order_of b ≡ order_of a → AreNoMore (cluster_size h) ts ts' → AreNoMore (cluster_size h) us us'
+  pub under_then : (old mid new : StorageView) (a b c : MetadataCaches S) (t : CachedTable) (ts us ts' us' : List CachedTable) → NoClusterDirtyInBoth h a → order_of b ≡ order_of a → AreNoMore (cluster_size h) ts ts' → AreNoMore (cluster_size h) us us'
       → KnownStays h old a mid b → KnownUnder h mid b new c t ts' us' → KnownUnder h old a new c t ts us
   under_then old mid new a b c t ts us ts' us' are same fewer fewer' first second = record {
     honest = second.honest;
@@ -169,14 +169,14 @@ module _ {S : Type 0} (view : S → StorageView) (r s t : ImageStorage S) (a b c
   abbrev put : HeaderFields → CachedTable
   put h = table_put h key bytes is_modified
 
-  pub tables_under_then : ((h : HeaderFields) → (view (storage_of s)).is_honest → AreApartCaches h b → KnownUnder h (view (storage_of s)) b (view (storage_of t)) c (put h) (put h ∷ l2_tables b) (refblocks b))
-      → (h : HeaderFields) → (view (storage_of r)).is_honest → AreApartCaches h a → KnownUnder h (view (storage_of r)) a (view (storage_of t)) c (put h) (put h ∷ l2_tables a) (refblocks a)
+  pub tables_under_then : ((h : HeaderFields) → (view (storage_of s)).is_honest → NoClusterDirtyInBoth h b → KnownUnder h (view (storage_of s)) b (view (storage_of t)) c (put h) (put h ∷ l2_tables b) (refblocks b))
+      → (h : HeaderFields) → (view (storage_of r)).is_honest → NoClusterDirtyInBoth h a → KnownUnder h (view (storage_of r)) a (view (storage_of t)) c (put h) (put h ∷ l2_tables a) (refblocks a)
   tables_under_then second h honest are =
       let one = first.stays h honest are in
       under_then h (view (storage_of r)) (view (storage_of s)) (view (storage_of t)) a b c (put h) (put h ∷ l2_tables a) (refblocks a) (put h ∷ l2_tables b) (refblocks b) are same (one_more h (put h) (l2_tables a) (l2_tables b) one.tables) one.blocks one (second h one.honest one.apart)
 
-  pub blocks_under_then : ((h : HeaderFields) → (view (storage_of s)).is_honest → AreApartCaches h b → KnownUnder h (view (storage_of s)) b (view (storage_of t)) c (put h) (l2_tables b) (put h ∷ refblocks b))
-      → (h : HeaderFields) → (view (storage_of r)).is_honest → AreApartCaches h a → KnownUnder h (view (storage_of r)) a (view (storage_of t)) c (put h) (l2_tables a) (put h ∷ refblocks a)
+  pub blocks_under_then : ((h : HeaderFields) → (view (storage_of s)).is_honest → NoClusterDirtyInBoth h b → KnownUnder h (view (storage_of s)) b (view (storage_of t)) c (put h) (l2_tables b) (put h ∷ refblocks b))
+      → (h : HeaderFields) → (view (storage_of r)).is_honest → NoClusterDirtyInBoth h a → KnownUnder h (view (storage_of r)) a (view (storage_of t)) c (put h) (l2_tables a) (put h ∷ refblocks a)
   blocks_under_then second h honest are =
       let one = first.stays h honest are in
       under_then h (view (storage_of r)) (view (storage_of s)) (view (storage_of t)) a b c (put h) (l2_tables a) (put h ∷ refblocks a) (l2_tables b) (put h ∷ refblocks b) are same one.tables (one_more h (put h) (refblocks a) (refblocks b) one.blocks) one (second h one.honest one.apart)
@@ -300,7 +300,7 @@ module _ {S : Type 0} (view : S → StorageView) (old new : ImageStorage S) (cac
     abbrev tables_of : List (ℕ × Slot L2TableView) → List CachedTable
     tables_of = cached_tables caches.l2.backend.header.fields.cluster_bits (λ (t : L2TableView). t.bytes) (λ t. t.is_modified)
 
-    module _ (h : HeaderFields) (honest : (seen old).is_honest) (are : AreApartCaches h caches) where
+    module _ (h : HeaderFields) (honest : (seen old).is_honest) (are : NoClusterDirtyInBoth h caches) where
       abbrev with_tables : List CachedTable → Bytes → Bytes
       with_tables ts b = known_bytes (cluster_size h) ts (refblocks caches) b
 
@@ -381,7 +381,7 @@ module _ {S : Type 0} (view : S → StorageView) (old new : ImageStorage S) (cac
               (put_leaves seen caches.l2.backend.header.fields.cluster_bits (λ (t : L2TableView). t.bytes) (λ t. t.is_modified) cleared_l2 (IsTableOf caches.l2.backend.header.fields) (λ v. refl) (λ v. refl) (cluster_size h) (ap (λ n. 2 ^ n) are.l2_bits) old new caches.l2.entries distinct honest (refblocks caches) are.apart (with_tables h honest are) (tables_past (cluster_size h) (refblocks caches)) (tables_free (cluster_size h) (refblocks caches)) (λ ts us b same. same (known (cluster_size h) (refblocks caches) b)) (TablesOrdered h honest are) (tables_yet h honest are) caches.l2.size may_flush (λ flush. tables_may h honest are (may flush)) key l2.entries answer v value left is there missing isnt);
         }
 
-        pub table_put_apart : answer ≡ Ok true → (h : HeaderFields) → (seen old).is_honest → AreApartCaches h caches
+        pub table_put_apart : answer ≡ Ok true → (h : HeaderFields) → (seen old).is_honest → NoClusterDirtyInBoth h caches
             → KnownUnder h (seen old) caches (seen new) (record caches { l2 = l2 }) (table_put h key v.bytes v.is_modified) (table_put h key v.bytes v.is_modified ∷ l2_tables caches) (refblocks caches)
         table_put_apart went h honest are =
             tables_under h honest are key v
@@ -392,7 +392,7 @@ module _ {S : Type 0} (view : S → StorageView) (old new : ImageStorage S) (cac
     abbrev blocks_of : List (ℕ × Slot RefBlockView) → List CachedTable
     blocks_of = cached_tables caches.rb.backend.header.fields.cluster_bits (λ (b : RefBlockView). b.bytes) (λ b. b.is_modified)
 
-    module _ (h : HeaderFields) (honest : (seen old).is_honest) (are : AreApartCaches h caches) where
+    module _ (h : HeaderFields) (honest : (seen old).is_honest) (are : NoClusterDirtyInBoth h caches) where
       abbrev with_blocks : List CachedTable → Bytes → Bytes
       with_blocks ts b = known_bytes (cluster_size h) (l2_tables caches) ts b
 
@@ -480,7 +480,7 @@ module _ {S : Type 0} (view : S → StorageView) (old new : ImageStorage S) (cac
               (put_leaves seen caches.rb.backend.header.fields.cluster_bits (λ (b : RefBlockView). b.bytes) (λ b. b.is_modified) cleared_rb (IsBlockOf caches.rb.backend.header.fields) (λ v. refl) (λ v. refl) (cluster_size h) (ap (λ n. 2 ^ n) are.rb_bits) old new caches.rb.entries distinct honest (l2_tables caches) (blocks_apart h honest are) (with_blocks h honest are) (blocks_past (cluster_size h) (l2_tables caches)) (blocks_free (cluster_size h) (l2_tables caches)) (λ ts us b same. ap (known (cluster_size h) (l2_tables caches)) (same b)) (BlocksOrdered h honest are) (blocks_yet h honest are) caches.rb.size may_flush (λ flush. blocks_may h honest are (may flush)) key rb.entries answer v value left is there missing isnt);
         }
 
-        pub block_put_apart : answer ≡ Ok true → (h : HeaderFields) → (seen old).is_honest → AreApartCaches h caches
+        pub block_put_apart : answer ≡ Ok true → (h : HeaderFields) → (seen old).is_honest → NoClusterDirtyInBoth h caches
             → KnownUnder h (seen old) caches (seen new) (record caches { rb = rb }) (table_put h key v.bytes v.is_modified) (l2_tables caches) (table_put h key v.bytes v.is_modified ∷ refblocks caches)
         block_put_apart went h honest are =
             blocks_under h honest are key v

@@ -22,7 +22,7 @@ use Rattle.qcow2_alloc.specs.AsyncLruCache.{Cache, can_remove, with_entries}
 use Rattle.qcow2_alloc.specs.TableLaws.{same_number}
 use Rattle.qcow2_alloc.specs.KeptTables.{cached_table, cached_tables}
 use Rattle.qcow2_alloc.specs.MetadataCaches.{rb_at, l2_tables, refblocks}
-use Rattle.qcow2_alloc.specs.ApartCaches.{AreNoMore, AreApartCaches, KnownWithout, TakesOffApart, KnownWithoutBlock, TakesBlockApart}
+use Rattle.qcow2_alloc.specs.ApartCaches.{AreNoMore, NoClusterDirtyInBoth, KnownWithout, TakesOffApart, KnownWithoutBlock, TakesBlockApart}
 use Rattle.qcow2_alloc.proofs.CachedEntries.Lists.{lookup-from_entry}
 use Rattle.qcow2_alloc.proofs.KeptTables.Loaded.{loaded_without}
 use Rattle.qcow2_alloc.proofs.KeptTables.Listing.{loaded_distinct, free_elsewhere, free_of}
@@ -81,7 +81,7 @@ module _ {S : Type 0} (caches : MetadataCaches S) where
       })
 
   -- ---- of the refblocks
-  module _ (h : HeaderFields) (on_storage : Bytes) (are : AreApartCaches h caches) (distinct : IsDistinct eqb (keys_of caches.rb.entries)) where
+  module _ (h : HeaderFields) (on_storage : Bytes) (are : NoClusterDirtyInBoth h caches) (distinct : IsDistinct eqb (keys_of caches.rb.entries)) where
     abbrev bits : ℕ
     bits = caches.rb.backend.header.fields.cluster_bits
 

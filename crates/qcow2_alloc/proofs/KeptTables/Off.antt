@@ -43,7 +43,7 @@ use Rattle.qcow2_alloc.specs.CachePins.{CachesHaveRoom, KeepsPinsAndNotes, Leave
 use Rattle.qcow2_alloc.specs.TableLaws.{same_number}
 use Rattle.qcow2_alloc.specs.TableCaches.{IsTableOf, IsBlockOf}
 use Rattle.qcow2_alloc.specs.KeptTables.{cached_table, cached_tables, AreElsewhere, AreLoaded, AreKept, AllValuesFit}
-use Rattle.qcow2_alloc.specs.MetadataCaches.{order_of, l2_tables, refblocks, rb_at, CacheInvariant, TakenOff, TakesOff, TakenFrom, TakesBlock}
+use Rattle.qcow2_alloc.specs.MetadataCaches.{order_of, l2_tables, refblocks, rb_at, CacheInvariant, Evict, TakesOff, TakenFrom, TakesBlock}
 use Rattle.qcow2_alloc.proofs.CachedEntries.Knowing.{removed_apart}
 use Rattle.qcow2_alloc.proofs.CachedEntries.Lists.{lookup-from_entry}
 use Rattle.qcow2_alloc.proofs.CachedEntries.Pins.{removed_free}
@@ -233,7 +233,7 @@ module _ (h : HeaderFields) (d : Direction) (p : Pending) (l2s rbs l2s' rbs' : L
 -- ---- the caches
 module _ {S : Type 0} (h : HeaderFields) (p : Pending) (on_storage : Bytes) (caches : MetadataCaches S) (sound : CacheInvariant h p caches on_storage) where
   -- some of the L2 tables stay
-  pub tables_off : (es : List (ℕ × Slot L2TableView)) → SomeOf caches.l2.entries es → TakenOff (AreClean (l2_tables caches)) h caches (record caches { l2 = with_entries caches.l2 es }) on_storage
+  pub tables_off : (es : List (ℕ × Slot L2TableView)) → SomeOf caches.l2.entries es → Evict (AreClean (l2_tables caches)) h caches (record caches { l2 = with_entries caches.l2 es }) on_storage
   tables_off es some =
       let tables : List (ℕ × Slot L2TableView) → List CachedTable = cached_tables caches.l2.backend.header.fields.cluster_bits (λ (t : L2TableView). t.bytes) (λ t. t.is_modified) in
       let fewer : SomeOf (l2_tables caches) (tables es) = some_map (cached_table caches.l2.backend.header.fields.cluster_bits (λ (t : L2TableView). t.bytes) (λ t. t.is_modified)) caches.l2.entries es some in
@@ -256,7 +256,7 @@ module _ {S : Type 0} (h : HeaderFields) (p : Pending) (on_storage : Bytes) (cac
   -- some of the refblocks stay
   pub blocks_off : (Unmodified : Type 0) (es : List (ℕ × Slot RefBlockView)) → SomeOf caches.rb.entries es
       → (Unmodified → known (cluster_size h) (refblocks (record caches { rb = with_entries caches.rb es })) on_storage ≡ known (cluster_size h) (refblocks caches) on_storage)
-      → TakenOff Unmodified h caches (record caches { rb = with_entries caches.rb es }) on_storage
+      → Evict Unmodified h caches (record caches { rb = with_entries caches.rb es }) on_storage
   blocks_off Unmodified es some same =
       let blocks : List (ℕ × Slot RefBlockView) → List CachedTable = cached_tables caches.rb.backend.header.fields.cluster_bits (λ (b : RefBlockView). b.bytes) (λ b. b.is_modified) in
       let fewer : SomeOf (refblocks caches) (blocks es) = some_map (cached_table caches.rb.backend.header.fields.cluster_bits (λ (b : RefBlockView). b.bytes) (λ b. b.is_modified)) caches.rb.entries es some in
@@ -274,7 +274,7 @@ module _ {S : Type 0} (h : HeaderFields) (p : Pending) (on_storage : Bytes) (cac
         };
       }
 
-  pub blocks_off_clean : (es : List (ℕ × Slot RefBlockView)) → SomeOf caches.rb.entries es → TakenOff (AreClean (refblocks caches)) h caches (record caches { rb = with_entries caches.rb es }) on_storage
+  pub blocks_off_clean : (es : List (ℕ × Slot RefBlockView)) → SomeOf caches.rb.entries es → Evict (AreClean (refblocks caches)) h caches (record caches { rb = with_entries caches.rb es }) on_storage
   blocks_off_clean es some =
       let blocks : List (ℕ × Slot RefBlockView) → List CachedTable = cached_tables caches.rb.backend.header.fields.cluster_bits (λ (b : RefBlockView). b.bytes) (λ b. b.is_modified) in
       let fewer : SomeOf (refblocks caches) (blocks es) = some_map (cached_table caches.rb.backend.header.fields.cluster_bits (λ (b : RefBlockView). b.bytes) (λ b. b.is_modified)) caches.rb.entries es some in
@@ -399,12 +399,12 @@ module _ {S : Type 0} (caches : MetadataCaches S) where
   -- of the L2 tables
   pub tables_taken : (l2 : Cache (L2CacheBackend S) ℕ L2TableView) → l2 ≡ with_entries caches.l2 l2.entries → SomeOf caches.l2.entries l2.entries → TakesOff (AreClean (l2_tables caches)) caches (record caches { l2 = l2 })
   tables_taken l2 others some h p on_storage sound =
-      subst (λ (c : Cache (L2CacheBackend S) ℕ L2TableView). TakenOff (AreClean (l2_tables caches)) h caches (record caches { l2 = c }) on_storage) (sym others) (tables_off h p on_storage caches sound l2.entries some)
+      subst (λ (c : Cache (L2CacheBackend S) ℕ L2TableView). Evict (AreClean (l2_tables caches)) h caches (record caches { l2 = c }) on_storage) (sym others) (tables_off h p on_storage caches sound l2.entries some)
 
   -- of the refblocks
   pub blocks_taken : (rb : Cache (RefBlockCacheBackend S) ℕ RefBlockView) → rb ≡ with_entries caches.rb rb.entries → SomeOf caches.rb.entries rb.entries → TakesOff (AreClean (refblocks caches)) caches (record caches { rb = rb })
   blocks_taken rb others some h p on_storage sound =
-      subst (λ (c : Cache (RefBlockCacheBackend S) ℕ RefBlockView). TakenOff (AreClean (refblocks caches)) h caches (record caches { rb = c }) on_storage) (sym others) (blocks_off_clean h p on_storage caches sound rb.entries some)
+      subst (λ (c : Cache (RefBlockCacheBackend S) ℕ RefBlockView). Evict (AreClean (refblocks caches)) h caches (record caches { rb = c }) on_storage) (sym others) (blocks_off_clean h p on_storage caches sound rb.entries some)
 
 -- an entry without a pin can be removed, so one that can't isn't there
 pub none_unremoved : {V : Type 0} (test : ℕ → Bool) (es : List (ℕ × Slot V)) → pinned es ≡ [] → can_remove test es ≡ false → value_at test es ≡ None

@@ -22,7 +22,7 @@ use Rattle.qcow2_alloc.specs.CacheAnswers.{InsertsNew, Replaces}
 use Rattle.qcow2_alloc.specs.ImageStorage.{storage_of}
 use Rattle.qcow2_alloc.specs.TableCaches.{l2_steps, cleared_l2, IsTableOf}
 use Rattle.qcow2_alloc.specs.KeptTables.{cached_table, cached_tables, AllValuesFit, AreElsewhere, AreKept}
-use Rattle.qcow2_alloc.specs.MetadataCaches.{laid_at, order_of, l2_tables, refblocks, CacheInvariant, UnseenCacheStep, LaidOver}
+use Rattle.qcow2_alloc.specs.MetadataCaches.{laid_at, order_of, l2_tables, refblocks, CacheInvariant, UnseenCacheStep, Overlay}
 use Rattle.qcow2_alloc.proofs.KeptTables.BlocksNamed.{named_blocks_beside}
 use Rattle.qcow2_alloc.proofs.KeptTables.Standing.{own_cluster}
 use Rattle.qcow2_alloc.proofs.KeptTables.Writing.{crash_safety, Ready, Puts, nothing_new, made_ready}
@@ -46,7 +46,7 @@ put_at_last key v fs answer left false is taken = let e = taken.done is in absur
 
 -- ---- nothing new, and then a table is laid over
 module _ {S : Type 0} (view : S → StorageView) (h : HeaderFields) (p : Pending) (r s t : ImageStorage S) (a b c : MetadataCaches S) (table : CachedTable) (Stands : Bytes → Bytes → Type 0) (IsNamed : Bytes → Type 0) where
-  pub laid_then : UnseenCacheStep h p (view (storage_of r)) a (view (storage_of s)) b → LaidOver Stands IsNamed h (view (storage_of s)) b (view (storage_of t)) c table → LaidOver Stands IsNamed h (view (storage_of r)) a (view (storage_of t)) c table
+  pub laid_then : UnseenCacheStep h p (view (storage_of r)) a (view (storage_of s)) b → Overlay Stands IsNamed h (view (storage_of s)) b (view (storage_of t)) c table → Overlay Stands IsNamed h (view (storage_of r)) a (view (storage_of t)) c table
   laid_then first second = record {
     honest = second.honest;
     known = second.known ∙ ap (known (cluster_size h) (table ∷ [])) first.known;
@@ -134,11 +134,11 @@ module _ {S : Type 0} (view : S → StorageView) (old new : ImageStorage S) (cac
       away : AreElsewhere (key * cluster_size h) (tables ready.rest)
       away = subst (λ n. AreElsewhere (key * 2 ^ n) (tables ready.rest)) sound.l2_format.bits ready.away
 
-      pub table_laid : LaidOver (λ on_storage known. AreNamedBlocks h (refblocks caches) on_storage × HasOwnL2 h on_storage key) (λ on_storage. Unit {0}) h (seen old) caches (seen new) (record caches { l2 = l2 }) (laid_at h key v.bytes)
+      pub table_laid : Overlay (λ on_storage known. AreNamedBlocks h (refblocks caches) on_storage × HasOwnL2 h on_storage key) (λ on_storage. Unit {0}) h (seen old) caches (seen new) (record caches { l2 = l2 }) (laid_at h key v.bytes)
       table_laid =
           let whole : l2 ≡ with_entries caches.l2 entries = others ∙ ap (with_entries caches.l2) ready.is in
           let on_storage' = byte_at (seen new).contents in
-          subst (λ (c : Cache (L2CacheBackend S) ℕ L2TableView). LaidOver (λ on_storage known. AreNamedBlocks h (refblocks caches) on_storage × HasOwnL2 h on_storage key) (λ on_storage. Unit {0}) h (seen old) caches (seen new) (record caches { l2 = c }) (laid_at h key v.bytes)) (sym whole)
+          subst (λ (c : Cache (L2CacheBackend S) ℕ L2TableView). Overlay (λ on_storage known. AreNamedBlocks h (refblocks caches) on_storage × HasOwnL2 h on_storage key) (λ on_storage. Unit {0}) h (seen old) caches (seen new) (record caches { l2 = c }) (laid_at h key v.bytes)) (sym whole)
           (record {
             honest = ready.done.honest;
             known = ap (λ ts. known_bytes (cluster_size h) ts (refblocks caches) on_storage') list_is ∙ laid_first (cluster_size h) (laid_at h key v.bytes) (tables ready.rest) (known (cluster_size h) (refblocks caches) on_storage')

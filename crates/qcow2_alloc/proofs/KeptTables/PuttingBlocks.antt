@@ -27,7 +27,7 @@ use Rattle.qcow2_alloc.specs.ImageStorage.{storage_of}
 use Rattle.qcow2_alloc.specs.TableLaws.{same_number}
 use Rattle.qcow2_alloc.specs.TableCaches.{rb_steps, cleared_rb, IsBlockOf}
 use Rattle.qcow2_alloc.specs.KeptTables.{cached_table, cached_tables, AllValuesFit, AreElsewhere, AreKept}
-use Rattle.qcow2_alloc.specs.MetadataCaches.{laid_at, order_of, l2_tables, refblocks, CacheInvariant, UnseenCacheStep, LaidOver}
+use Rattle.qcow2_alloc.specs.MetadataCaches.{laid_at, order_of, l2_tables, refblocks, CacheInvariant, UnseenCacheStep, Overlay}
 use Rattle.qcow2_alloc.proofs.KeptTables.BlocksNamed.{top_still, named_blocks_anew, blocks_stand, block_place}
 use Rattle.qcow2_alloc.proofs.KeptTables.Standing.{IsStanding, AreStanding, own_cluster, insert_stands, replace_stands}
 use Rattle.qcow2_alloc.proofs.KeptTables.Writing.{crash_safety, block_named, Ready, Puts, nothing_new, made_ready}
@@ -146,12 +146,12 @@ module _ {S : Type 0} (view : S → StorageView) (old new : ImageStorage S) (cac
           key has
 
       pub block_laid : IsFreeOf (cluster_size h) (l2_tables caches) key
-          → LaidOver (λ on_storage known. HasBlock h on_storage key ⊎ IsUnnamed h on_storage known key) (λ on_storage. HasBlock h on_storage key) h (seen old) caches (seen new) (record caches { rb = rb }) (laid_at h key v.bytes)
+          → Overlay (λ on_storage known. HasBlock h on_storage key ⊎ IsUnnamed h on_storage known key) (λ on_storage. HasBlock h on_storage key) h (seen old) caches (seen new) (record caches { rb = rb }) (laid_at h key v.bytes)
       block_laid free =
           let whole : rb ≡ with_entries caches.rb entries = others ∙ ap (with_entries caches.rb) ready.is in
           let on_storage' = byte_at (seen new).contents in
           let own : key * cluster_size h / cluster_size h ≡ key = own_cluster h.cluster_bits key in
-          subst (λ (c : Cache (RefBlockCacheBackend S) ℕ RefBlockView). LaidOver (λ on_storage known. HasBlock h on_storage key ⊎ IsUnnamed h on_storage known key) (λ on_storage. HasBlock h on_storage key) h (seen old) caches (seen new) (record caches { rb = c }) (laid_at h key v.bytes)) (sym whole)
+          subst (λ (c : Cache (RefBlockCacheBackend S) ℕ RefBlockView). Overlay (λ on_storage known. HasBlock h on_storage key ⊎ IsUnnamed h on_storage known key) (λ on_storage. HasBlock h on_storage key) h (seen old) caches (seen new) (record caches { rb = c }) (laid_at h key v.bytes)) (sym whole)
           (record {
             honest = ready.done.honest;
             known = ap (λ ts. known_bytes (cluster_size h) (l2_tables caches) ts on_storage') list_is

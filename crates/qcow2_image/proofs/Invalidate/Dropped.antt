@@ -18,7 +18,7 @@ use Rattle.qcow2_alloc.specs.CachePins.{l2_pins, CachesHaveRoom, LeavesPinned}
 use Rattle.qcow2_alloc.specs.BehindHeader.{KeepBehindHeader}
 use Rattle.qcow2_alloc.specs.ImageFile.{contents_in, known_in, view_in}
 use Rattle.qcow2_alloc.specs.KeptTables.{cached_tables}
-use Rattle.qcow2_alloc.specs.MetadataCaches.{known_of, l2_tables, order_of, refblocks, AreAllWritten, CacheInvariant, TakenOff, TakesOff, UnseenCacheStep}
+use Rattle.qcow2_alloc.specs.MetadataCaches.{known_of, l2_tables, order_of, refblocks, AreAllWritten, CacheInvariant, Evict, TakesOff, UnseenCacheStep}
 use Rattle.qcow2_alloc.specs.declared.async_lru_cache.slot.Slot.{Slot}
 use Rattle.qcow2_alloc.specs.declared.clusters_to_free.ClustersToFreeEntry.{ClustersToFreeEntry}
 use Rattle.qcow2_alloc.specs.declared.error.ImageError.{ImageError}
@@ -49,7 +49,7 @@ use Rattle.qcow2_image.specs.declared.image.Qcow2.{Qcow2}
 use Rattle.qcow2_image.specs.declared.prepared.Prepared.{Prepared}
 
 module _ {S : Type 0} (h : HeaderFields) (p : Pending) (v : StorageView) (caches caches' : MetadataCaches S) (sound : CacheInvariant h p caches (byte_at v.contents))
-    (rest : known_of h caches (byte_at v.contents) ≡ byte_at v.contents) {U : Type 0} (off : TakenOff U h caches caches' (byte_at v.contents)) where
+    (rest : known_of h caches (byte_at v.contents) ≡ byte_at v.contents) {U : Type 0} (off : Evict U h caches caches' (byte_at v.contents)) where
   -- what is known is what stands there still
   pub rests_still : known_of h caches' (byte_at v.contents) ≡ byte_at v.contents
   rests_still = fun_ext (λ o. elim (off.known (o / cluster_size h)) [
@@ -96,7 +96,7 @@ module _ {S F : Type 0} (view : S → StorageView) (backing : F → BackingView)
 module _ {S F : Type 0} (view : S → StorageView) (backing : F → BackingView) (image : Qcow2 S F) (caches' : MetadataCaches S) (list' : List ClustersToFreeEntry) (none : list' ≡ []) {U : Type 0} (taken : TakesOff U image.file.caches caches')
     (order : order_of caches' ≡ order_of image.file.caches) (room : CachesHaveRoom image.file.caches → CachesHaveRoom caches') (pins : (table : ℕ) → l2_pins caches' table ≡ l2_pins image.file.caches table)
     (rest : IsAtRest view image) (p : Pending) (out : List (Option Prepared)) (sound : ImageInvariant view backing p image out) where
-  off : TakenOff U image.file.header.fields image.file.caches caches' (contents_in view image.file)
+  off : Evict U image.file.header.fields image.file.caches caches' (contents_in view image.file)
   off = taken image.file.header.fields p (contents_in view image.file) sound.file.caches
 
   abbrev pub dropped : Qcow2 S F

@@ -22,7 +22,7 @@ use Rattle.qcow2_alloc.specs.declared.image_file.ImageFile.{ImageFile}
 use Rattle.qcow2_alloc.specs.ImageFile.{contents_in, AllocatorInvariant}
 use Rattle.qcow2_alloc.proofs.FileSteps.{file_step_then}
 use Rattle.qcow2_alloc.specs.ImageStorage.{storage_of}
-use Rattle.qcow2_alloc.specs.MetadataCaches.{order_of, l2_tables, rb_at, KeepSound, PutSound, PutRefusesBy}
+use Rattle.qcow2_alloc.specs.MetadataCaches.{order_of, l2_tables, rb_at, KeepSound, InsertKeeps, PutRefusesBy}
 use Rattle.qcow2_alloc.specs.TableCaches.{IsBlockOf, cleared_rb}
 use Rattle.qcow2_alloc.proofs.AllocationSteps.{handed_on, fault_of_storage, allocator_step_then, allocator_step_cached, is_sound_now}
 use Rattle.qcow2_alloc.proofs.PlacedBlocks.{IsFree, is_free, file_step_rewritten, reftable_rewritten, write_as, holds_known, still_stands}
@@ -116,7 +116,7 @@ returns-clause-sound g c = λ p d t range at sound place fits is.
     let room : HasPlaceFor d h t.reftable range at = record { none = place.none; first = place.first } in
     let cleared : IsBlockOf h (cleared_rb c.args.block) = record { bits = fits.bits; order = fits.order } in
     let known = holds_known g.S.Storage.view d p range at f2 t.reftable two.file_step.sound two.reftable c.in_ok-flush_rb.ensures.flushes.first room c.args.block fits long stands in
-    let keeps = subst (λ (b : RefBlockView). PutSound g.S.Storage.view c.place_refblock.new.self c.flush_rb.new.self c.rb_insert.new.storage c.rb_insert.new.self (λ h. IsBlockOf h b) b.cluster b.bytes b.is_modified) c.clear_modified.ensures c.rb_insert.ensures.sound.keeps in
+    let keeps = subst (λ (b : RefBlockView). InsertKeeps g.S.Storage.view c.place_refblock.new.self c.flush_rb.new.self c.rb_insert.new.storage c.rb_insert.new.self (λ h. IsBlockOf h b) b.cluster b.bytes b.is_modified) c.clear_modified.ensures c.rb_insert.ensures.sound.keeps in
     let faults = subst (λ (b : RefBlockView). PutRefusesBy IsFault g.S.Storage.view c.place_refblock.new.self c.flush_rb.new.self (λ h. IsBlockOf h b) b.cluster b.bytes b.is_modified c.rb_insert.result) c.clear_modified.ensures (c.rb_insert.ensures.faults two.file_step.sound.room) in
     let stays = keeps h (placing d p at) two.file_step.sound.honest two.file_step.sound.caches cleared refl (rw is known) in
     let three = allocator_step_cached g.S.Storage.view (placing d p at) f2 t c.rb_insert.new.storage c.rb_insert.new.self (is_sound_now g.S.Storage.view (placing d p at) (placing d p at) c.args.file.now f2 t two) stays c.rb_insert.ensures.step.marks.pins in

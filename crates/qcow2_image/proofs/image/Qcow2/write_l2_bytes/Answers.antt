@@ -4,7 +4,7 @@ use Rattle.std.specs.Prelude.{Some, IfSome, OnOk}
 use Rattle.qcow2_metadata.specs.L2Table.{L2TableView}
 use Rattle.qcow2_alloc.specs.ImageError.{of_storage}
 use Rattle.qcow2_alloc.specs.ImageStorage.{storage_of}
-use Rattle.qcow2_alloc.specs.MetadataCaches.{l2_at, PutSound}
+use Rattle.qcow2_alloc.specs.MetadataCaches.{l2_at, InsertKeeps}
 use Rattle.qcow2_alloc.specs.TableCaches.{IsTableOf}
 use Rattle.qcow2_alloc.proofs.AllocationSteps.{handed_on}
 use Rattle.qcow2_image.specs.NewTables.{PlacesNewTable}
@@ -50,7 +50,7 @@ returns-clause-places g c = λ p out sound some format stored.
     let there = stands_there view below old out p sound stored at some c.write_new_l2_table.new.self (storage_of c.set_write_kind.new.self) c.args.table c.set_cluster.new.self c.write_new_l2_table.result c.set_write_kind.ensures.storage c.set_cluster.ensures format.bits whole
     c.write_new_l2_table.ensures.written c.write_new_l2_table.ensures.calls c.in_ok-write_new_l2_table.field-0 c.in_ok-write_new_l2_table.was in
     let is : c.clear_modified.new.self ≡ record c.args.table { cluster = Some at; is_modified = false } = c.clear_modified.ensures ∙ ap (λ (t : L2TableView). record t { is_modified = false }) c.set_cluster.ensures in
-    let puts = subst (λ (t : L2TableView). PutSound view c.write_new_l2_table.new.self old.file.caches c.l2_insert.new.storage c.l2_insert.new.self (λ h. IsTableOf h t) t.cluster t.bytes t.is_modified) is c.l2_insert.ensures.sound.keeps in
+    let puts = subst (λ (t : L2TableView). InsertKeeps view c.write_new_l2_table.new.self old.file.caches c.l2_insert.new.storage c.l2_insert.new.self (λ h. IsTableOf h t) t.cluster t.bytes t.is_modified) is c.l2_insert.ensures.sound.keeps in
     let new_data = subst (λ (t : L2TableView). OnOk c.l2_insert.result (IfSome t.cluster (λ k. l2_at c.l2_insert.new.self k ≡ Some t))) is c.l2_insert.ensures.puts.cached in
     let unmodified = ap (λ (t : L2TableView). t.is_modified) is in
     let stays = puts h p wrote.sound.file.honest wrote.sound.file.caches (record { bits = format.bits; zero_bit = format.zero_bit; external = format.external }) refl (holds view below mid out p wrote.sound still at some c.args.table.bytes long there) in
