@@ -11,7 +11,7 @@ use Rattle.qcow2_metadata.specs.EntryTable.{EntryTableView, entry_count}
 use Rattle.qcow2_metadata.specs.Header.{HeaderView, with_fields, with_reftable}
 use Rattle.qcow2_metadata.specs.HeaderWrite.{bytes_of_numbers, reftable_pointer_written}
 use Rattle.qcow2_alloc.specs.HeaderClusters.{IsInHeaderCluster, IsBesidePointer, BytesStay, KeepsHeaderCluster}
-use Rattle.qcow2_alloc.specs.SparedHeaders.{KeepBehindHeader, StandsBehindHeader, CachesSpareHeader, SparesBytes, SparesHeader, SparesHeaderButPointer}
+use Rattle.qcow2_alloc.specs.SparedHeaders.{KeepBehindHeader, StandsBehindHeader, CachesSpareHeader, SparesBytes, SparesHeader, PreservesHeaderButPointer}
 use Rattle.qcow2_alloc.specs.ImageFile.{view_in}
 use Rattle.qcow2_alloc.specs.ImageStorage.{storage_of}
 use Rattle.qcow2_alloc.specs.declared.cache.MetadataCaches.{MetadataCaches}
@@ -60,7 +60,7 @@ module _ {S : Type 0} {view : S → StorageView} where
     behind = λ bits stands. then.behind bits (first.behind bits stands);
   }
 
-  pub spares_less : {r r' : EntryTableView} {a b : ImageFile S} → SparesHeader view r a r' b → SparesHeaderButPointer view r a r' b
+  pub spares_less : {r r' : EntryTableView} {a b : ImageFile S} → SparesHeader view r a r' b → PreservesHeaderButPointer view r a r' b
   spares_less {r} {r'} {a} {b} spares = record {
     bytes = λ bits stands honest. fewer_stay (IsInHeaderCluster bits) (IsBesidePointer bits) (view_in view a) (view_in view b) (λ o kept. kept.0) (spares.bytes bits stands honest);
     behind = spares.behind;
@@ -133,7 +133,7 @@ module _ {S : Type 0} (view : S → StorageView) where
         (λ o kept. beside o kept.1 (view (storage_of s)).contents (whole_or_nothing result (view asked).contents (reftable_pointer_written header.fields (view asked).contents) (view (storage_of s)).contents (written honest)))
 
     -- the allocator's reftable is the former one still, or the new one
-    pub spares_pointer : (r' : EntryTableView) → ((bits : ℕ) → StandsBehindHeader bits r f → (r'.cluster_bits ≡ bits) × (0 < entry_count r' → ¬ (r'.cluster ≡ Some 0))) → SparesHeaderButPointer view r f r' (record f { storage = s; header = header; caches = caches })
+    pub spares_pointer : (r' : EntryTableView) → ((bits : ℕ) → StandsBehindHeader bits r f → (r'.cluster_bits ≡ bits) × (0 < entry_count r' → ¬ (r'.cluster ≡ Some 0))) → PreservesHeaderButPointer view r f r' (record f { storage = s; header = header; caches = caches })
     spares_pointer r' stand = record {
       bytes = λ bits stands. subst (λ (x : S). (view x).is_honest → BytesStay (IsBesidePointer bits) (view x) (view (storage_of s))) same (pointer_stays bits);
       behind = λ bits stands. let now = stand bits stands in record { header = ap (λ (h : HeaderView). h.fields.cluster_bits) header_is ∙ stands.header; caches = keep bits stands.caches; reftable_bits = now.0; elsewhere = now.1 };

@@ -1,7 +1,7 @@
 -- An allocator whose reftable was just loaded again.
 use Rattle.std.specs.Prelude.{◌≡◌, ℕ}
 use Rattle.image_access.specs.Moments.{StorageView}
-use Rattle.qcow2_alloc.specs.BehindHeader.{AreBehindHeader}
+use Rattle.qcow2_alloc.specs.BehindHeader.{LeaveHeaderCluster}
 use Rattle.qcow2_alloc.specs.SparedHeaders.{NamesReftableBehind, StandsBehindHeader}
 use Rattle.qcow2_alloc.specs.ImageFile.{view_in, HasReftable}
 use Rattle.qcow2_alloc.specs.LowestRuns.{IsPassed}
@@ -13,5 +13,5 @@ pub record BeginsAnew {S : Type 0} (view : S → StorageView) (old new : ImageFi
   pub first : allocator.first_free_cluster ≡ 0
   pub passed : (k : ℕ) → ¬ IsPassed allocator k
   pub reftable : (view_in view old).is_honest → HasReftable view new allocator.reftable
-  pub header_cluster : NamesReftableBehind old.header.fields → AreBehindHeader old.header.fields.cluster_bits old.caches
+  pub header_cluster : NamesReftableBehind old.header.fields → LeaveHeaderCluster old.header.fields.cluster_bits old.caches
       → StandsBehindHeader old.header.fields.cluster_bits allocator.reftable new

@@ -16,7 +16,7 @@ use Rattle.qcow2_alloc.specs.KeptMarks.{KeepMarks}
 use Rattle.qcow2_alloc.specs.KeptNotes.{KeepsNotes}
 use Rattle.qcow2_alloc.specs.MetadataCaches.{order_of, l2_at, rb_at, l2_tables, refblocks, known_of, AreAllWritten, CacheInvariant, KeepSound, LaysBlock, LaysTable, LowersCount, LowersSome, PutRefusesBy, InsertKeeps, RaisesCount, RaisesZero, RefusesBy, TakesBlock, WritesInOrder}
 use Rattle.qcow2_alloc.specs.Quiet.{KeepAllWritten, OthersStayHeld, WritesNothing, GetsBlockQuietly, GetsTableQuietly, PutsBlockQuietly, PutsTableQuietly}
-use Rattle.qcow2_alloc.specs.SparedHeaders.{AreBehindHeader, CachesSpareHeader, KeepBehindHeader}
+use Rattle.qcow2_alloc.specs.SparedHeaders.{LeaveHeaderCluster, CachesSpareHeader, KeepBehindHeader}
 use Rattle.qcow2_alloc.specs.TableCaches.{IsBlockOf, IsTableOf}
 use Rattle.qcow2_alloc.specs.declared.cache.MetadataCaches.{MetadataCaches}
 use Rattle.qcow2_alloc.specs.declared.error.ImageError.{ImageError}
@@ -241,4 +241,4 @@ module _ {S : Type 0} where
     pub pins : (cluster : ℕ) → l2_pins caches cluster ≡ 0
     pub unchanged : IsFalse caches.is_changed
     pub all_written : AreAllWritten caches
-    pub header_cluster : AreBehindHeader h.cluster_bits caches
+    pub header_cluster : LeaveHeaderCluster h.cluster_bits caches

@@ -3,7 +3,7 @@ use Rattle.std.specs.Prelude.{ℕ, ◌<◌, ◌≡◌, ◌⊎◌, Some}
 use Rattle.image_access.specs.Moments.{StorageView}
 use Rattle.qcow2_metadata.specs.EntryTable.{EntryTableView, entry_count}
 use Rattle.qcow2_metadata.specs.declared.header.HeaderFields.{HeaderFields}
-pub use Rattle.qcow2_alloc.specs.BehindHeader.{AreBehindHeader, KeepBehindHeader}
+pub use Rattle.qcow2_alloc.specs.BehindHeader.{LeaveHeaderCluster, KeepBehindHeader}
 use Rattle.qcow2_alloc.specs.HeaderClusters.{IsInHeaderCluster, IsBesidePointer, BytesStay, KeepsHeaderCluster}
 use Rattle.qcow2_alloc.specs.ImageFile.{view_in}
 use Rattle.qcow2_alloc.specs.ImageStorage.{storage_of}
@@ -19,14 +19,14 @@ module _ {S : Type 0} where
   -- No cached table lies in cluster 0, and neither does a reftable with entries.
   pub record StandsBehindHeader (bits : ℕ) (reftable : EntryTableView) (file : ImageFile S) : Type 0 where
     pub header : file.header.fields.cluster_bits ≡ bits
-    pub caches : AreBehindHeader bits file.caches
+    pub caches : LeaveHeaderCluster bits file.caches
     pub reftable_bits : reftable.cluster_bits ≡ bits
     pub elsewhere : 0 < entry_count reftable → ¬ (reftable.cluster ≡ Some 0)
 
   module _ (view : S → StorageView) where
     -- If no cached table lies in cluster 0 before, none does after, and the bytes of cluster 0 are the same.
     pub record CachesSpareHeader (old : ImageStorage S) (caches : MetadataCaches S) (new : ImageStorage S) (caches' : MetadataCaches S) : Type 0 where
-      pub bytes : (bits : ℕ) → AreBehindHeader bits caches → KeepsHeaderCluster bits (view (storage_of old)) (view (storage_of new))
+      pub bytes : (bits : ℕ) → LeaveHeaderCluster bits caches → KeepsHeaderCluster bits (view (storage_of old)) (view (storage_of new))
       pub behind : KeepBehindHeader caches caches'
 
     -- If neither a cached table nor the reftable lies in cluster 0 before, none does after. On an honest storage these bytes then stay the same at every moment.
@@ -39,5 +39,5 @@ module _ {S : Type 0} where
     SparesHeader = SparesBytes IsInHeaderCluster
 
     -- All bytes of cluster 0 stay the same, except the header's pointer to the reftable.
-    abbrev pub SparesHeaderButPointer : EntryTableView → ImageFile S → EntryTableView → ImageFile S → Type 0
-    SparesHeaderButPointer = SparesBytes IsBesidePointer
+    abbrev pub PreservesHeaderButPointer : EntryTableView → ImageFile S → EntryTableView → ImageFile S → Type 0
+    PreservesHeaderButPointer = SparesBytes IsBesidePointer

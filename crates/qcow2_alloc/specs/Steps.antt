@@ -21,7 +21,7 @@ use Rattle.qcow2_alloc.specs.LowestRuns.{IsLowestRun, IsPassed, IsUsed, KeepsNoF
 use Rattle.qcow2_alloc.specs.MadeClusters.{run_in, IsMadeInTurn, IsAllocatedMetadata, ListsUsed, AllocatesOnly}
 use Rattle.qcow2_alloc.specs.MetadataCaches.{rb_at}
 use Rattle.qcow2_alloc.specs.Rooms.{ReachesRoom, TakesRoom}
-use Rattle.qcow2_alloc.specs.SparedHeaders.{AreBehindHeader, KeepBehindHeader, NamesReftableBehind, SparesHeader, SparesHeaderButPointer, StandsBehindHeader}
+use Rattle.qcow2_alloc.specs.SparedHeaders.{LeaveHeaderCluster, KeepBehindHeader, NamesReftableBehind, SparesHeader, PreservesHeaderButPointer, StandsBehindHeader}
 use Rattle.qcow2_alloc.specs.declared.allocation.Allocator.{Allocator}
 use Rattle.qcow2_alloc.specs.declared.cache.MetadataCaches.{MetadataCaches}
 use Rattle.qcow2_alloc.specs.declared.clusters_to_free.ClusterKind.{ClusterKind}
@@ -101,7 +101,7 @@ module _ {S : Type 0} (view : S → StorageView) where
     pub list : ListsTables old.free_list new.free_list
     pub former : OldReftablesQueued reftable reftable' old.free_list new.free_list
     pub marks : Keeps old new
-    pub header_cluster : SparesHeaderButPointer view reftable old reftable' new
+    pub header_cluster : PreservesHeaderButPointer view reftable old reftable' new
 
   -- A step of a file that keeps the order of writes.
   abbrev pub FileStep : EntryTableView → ImageFile S → EntryTableView → ImageFile S → Type 0
@@ -116,7 +116,7 @@ module _ {S : Type 0} (view : S → StorageView) where
     pub header : KeepsHeader old.header new.header
     pub list : new.free_list ≡ old.free_list
     pub marks : KeepsMarks view old new
-    pub header_cluster : IsToName → SparesHeaderButPointer view reftable old reftable' new
+    pub header_cluster : IsToName → PreservesHeaderButPointer view reftable old reftable' new
 
   -- The pointer to the reftable may change, without a condition.
   abbrev pub PointerStep : EntryTableView → ImageFile S → EntryTableView → ImageFile S → Type 0
@@ -129,7 +129,7 @@ module _ {S : Type 0} (view : S → StorageView) where
     pub list : ListsTables old.free_list new.free_list
     pub former : ReplacesReftable reftable reftable' old.free_list new.free_list result
     pub marks : KeepsMarks view old new
-    pub header_cluster : SparesHeaderButPointer view reftable old reftable' new
+    pub header_cluster : PreservesHeaderButPointer view reftable old reftable' new
 
   -- Marks are kept, the header and the reftable stay the same, and so does cluster 0. The list to be freed may change.
   pub record FreeStepBy (Keeps : ImageFile S → ImageFile S → Type 0) (table : EntryTableView) (old : ImageFile S) (table' : EntryTableView) (new : ImageFile S) : Type 0 where
@@ -161,7 +161,7 @@ module _ {S : Type 0} (view : S → StorageView) where
     pub passed : (k : ℕ) → ¬ IsPassed allocator k
     pub leaks : allocator.leaked_clusters ≡ 0
     pub reftable : (view_in view old).is_honest → HasReftable view new allocator.reftable
-    pub header_cluster : NamesReftableBehind old.header.fields → AreBehindHeader old.header.fields.cluster_bits old.caches
+    pub header_cluster : NamesReftableBehind old.header.fields → LeaveHeaderCluster old.header.fields.cluster_bits old.caches
         → StandsBehindHeader old.header.fields.cluster_bits allocator.reftable new
 
   -- ---- on a sound image

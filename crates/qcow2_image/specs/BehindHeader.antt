@@ -3,7 +3,7 @@ use Rattle.std.specs.Prelude.{ℕ, ◌<◌, ◌≤◌, ◌≡◌, ◌⊎◌, Opt
 use Rattle.image_access.specs.Moments.{StorageView}
 use Rattle.qcow2_metadata.specs.EntryTable.{EntryTableView, entry_count}
 use Rattle.qcow2_metadata.specs.declared.header.HeaderFields.{HeaderFields}
-use Rattle.qcow2_alloc.specs.BehindHeader.{AreBehindHeader}
+use Rattle.qcow2_alloc.specs.BehindHeader.{LeaveHeaderCluster}
 use Rattle.qcow2_alloc.specs.HeaderClusters.{IsInHeaderCluster, BytesStay}
 use Rattle.qcow2_alloc.specs.ImageFile.{view_in}
 use Rattle.qcow2_alloc.specs.SparedHeaders.{NamesReftableBehind}
@@ -34,7 +34,7 @@ module _ {S : Type 0} where
   pub record TablesBehindHeader (bits own : ℕ) (l1_table : EntryTableView) (cached : MetadataCaches S) (allocator : Option Allocator) : Type 0 where
     pub header : own ≡ bits
     pub l1 : IsL1TableBehind bits l1_table
-    pub caches : AreBehindHeader bits cached
+    pub caches : LeaveHeaderCluster bits cached
     pub reftable : IfSome allocator (λ a. (a.reftable.cluster_bits ≡ bits) × (0 < entry_count a.reftable → ¬ (a.reftable.cluster ≡ Some 0)))
 
   -- If no table lies at cluster 0 before, none does after. On an honest storage the bytes of cluster 0 then stay the same at every moment, except the size and the pointers.
@@ -50,6 +50,6 @@ module _ {S F : Type 0} where
 
   -- Every call keeps tables out of cluster 0, whatever the image contains: if neither the L1 table, nor a cached table, nor a reftable with entries lay there before, none does after.
   -- On an honest storage the bytes of cluster 0 then stay the same at every moment, except the size and the pointers to the L1 table and the reftable.
-  abbrev pub StaysBehindHeader : (S → StorageView) → Qcow2 S F → Qcow2 S F → Type 0
-  StaysBehindHeader view old new = KeepsTablesBehind old.file.header.fields.cluster_bits old.l1_table (view_in view old.file) old.file.caches old.allocator
+  abbrev pub PreservesHeaderCluster : (S → StorageView) → Qcow2 S F → Qcow2 S F → Type 0
+  PreservesHeaderCluster view old new = KeepsTablesBehind old.file.header.fields.cluster_bits old.l1_table (view_in view old.file) old.file.caches old.allocator
       new.file.header.fields.cluster_bits new.l1_table (view_in view new.file) new.file.caches new.allocator

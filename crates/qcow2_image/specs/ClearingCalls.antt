@@ -8,7 +8,7 @@ use Rattle.qcow2_alloc.specs.ImageFile.{known_in}
 use Rattle.qcow2_alloc.specs.KeptMarks.{KeepsFileNotes}
 use Rattle.qcow2_alloc.specs.declared.error.ImageError.{ImageError}
 use Rattle.qcow2_alloc.specs.declared.error.ImageError.TheVariants.{TablePrepared}
-use Rattle.qcow2_image.specs.BehindHeader.{StaysBehindHeader}
+use Rattle.qcow2_image.specs.BehindHeader.{PreservesHeaderCluster}
 use Rattle.qcow2_image.specs.Backings.{HasPinnedMapping}
 use Rattle.qcow2_image.specs.Clearing.{Clears, ClearsImageCovers, ClearsOrRefuses, IsClearable, IsUnderMapping, RefusesClearing, from_in, refuses_to_clear, to_in}
 use Rattle.qcow2_image.specs.Faults.{CountsImageFaults}
@@ -30,7 +30,7 @@ module _ {S F : Type 0} (view : S → StorageView) (backing : F → BackingView)
   pub record PartStep (old new : Qcow2 S F) (result : Result (Unit {0}) ImageError) : Type 0 where
     pub stays : ImageStays old new
     pub notes : KeepsFileNotes view old.file new.file
-    pub header_cluster : StaysBehindHeader view old new
+    pub header_cluster : PreservesHeaderCluster view old new
     pub faults : CountsImageFaults view backing old new result
 
   -- A clearing call, whatever the image contains: it is the same image, marked as failed by the rule. Its changes are recorded and counted, the header's cluster stays the same, and each fault is reported.
@@ -39,7 +39,7 @@ module _ {S F : Type 0} (view : S → StorageView) (backing : F → BackingView)
     pub marks : MarksFailed old new result
     pub since : NotesPart view old new
     pub once_written : FailsOnceWritten view old new result
-    pub header_cluster : StaysBehindHeader view old new
+    pub header_cluster : PreservesHeaderCluster view old new
     pub faults : CountsImageFaults view backing old new result
 
   module _ (how : ClearMode) (old new : Qcow2 S F) (offset n : ℕ) (result : Result (ℕ × ℕ) ImageError) where

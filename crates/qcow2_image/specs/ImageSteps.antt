@@ -4,7 +4,7 @@ use Rattle.image_access.specs.Backing.{BackingView}
 use Rattle.image_access.specs.Moments.{StorageView}
 use Rattle.qcow2_alloc.specs.KeptMarks.{KeepsFileNotes}
 use Rattle.qcow2_alloc.specs.declared.error.ImageError.{ImageError}
-use Rattle.qcow2_image.specs.BehindHeader.{StaysBehindHeader}
+use Rattle.qcow2_image.specs.BehindHeader.{PreservesHeaderCluster}
 use Rattle.qcow2_image.specs.Faults.{CountsImageFaults}
 use Rattle.qcow2_image.specs.Image.{ImageStays, IsSameImage, KeepsWholeHeader}
 use Rattle.qcow2_image.specs.Noted.{FailsOnceWritten}
@@ -17,13 +17,13 @@ module _ {S F : Type 0} (view : S → StorageView) where
   pub record ImageStep (old new : Qcow2 S F) : Type 0 where
     pub stays : ImageStays old new
     pub notes : KeepsFileNotes view old.file new.file
-    pub header_cluster : StaysBehindHeader view old new
+    pub header_cluster : PreservesHeaderCluster view old new
 
   -- A part of a call that leaves the header's cluster the same under a condition.
   pub record ImageStepWhere (premise : Type 0) (old new : Qcow2 S F) : Type 0 where
     pub stays : ImageStays old new
     pub notes : KeepsFileNotes view old.file new.file
-    pub header_cluster : premise → StaysBehindHeader view old new
+    pub header_cluster : premise → PreservesHeaderCluster view old new
 
   -- A part that only reads: it also leaves the header and the list of clusters to free the same, and writes nothing if no cached table is modified.
   pub record ReadingStep (old new : Qcow2 S F) : Type 0 where
@@ -48,7 +48,7 @@ module _ {S F : Type 0} (view : S → StorageView) where
     pub record MarkedStep : Type 0 where
       pub marks : MarksFailed old new result
       pub once_written : FailsOnceWritten view old new result
-      pub header_cluster : StaysBehindHeader view old new
+      pub header_cluster : PreservesHeaderCluster view old new
       pub faults : CountsImageFaults view backing old new result
 
     -- A call that also leaves the size of the disk the same.
@@ -56,7 +56,7 @@ module _ {S F : Type 0} (view : S → StorageView) where
       pub image : IsSameImage old new
       pub marks : MarksFailed old new result
       pub once_written : FailsOnceWritten view old new result
-      pub header_cluster : StaysBehindHeader view old new
+      pub header_cluster : PreservesHeaderCluster view old new
       pub faults : CountsImageFaults view backing old new result
 
     -- A call that only reads: it also leaves the header in memory the same, and writes nothing if no cached table is modified.
@@ -65,6 +65,6 @@ module _ {S F : Type 0} (view : S → StorageView) where
       pub header : KeepsWholeHeader old new
       pub marks : MarksFailed old new result
       pub once_written : FailsOnceWritten view old new result
-      pub header_cluster : StaysBehindHeader view old new
+      pub header_cluster : PreservesHeaderCluster view old new
       pub faults : CountsImageFaults view backing old new result
       pub quiet : ReadsQuietly view old new

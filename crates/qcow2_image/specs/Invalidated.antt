@@ -14,7 +14,7 @@ use Rattle.qcow2_alloc.specs.MetadataCaches.{l2_at, rb_at}
 use Rattle.qcow2_alloc.specs.declared.error.ImageError.{ImageError}
 use Rattle.qcow2_alloc.specs.declared.error.ImageError.TheVariants as I
 use Rattle.qcow2_image.specs.Backings.{HasPinnedMapping}
-use Rattle.qcow2_image.specs.BehindHeader.{NamesTablesBehind, StaysBehindHeader}
+use Rattle.qcow2_image.specs.BehindHeader.{NamesTablesBehind, PreservesHeaderCluster}
 use Rattle.qcow2_image.specs.Calls.{AnswersCall}
 use Rattle.qcow2_image.specs.Faults.{CountsImageFaults}
 use Rattle.qcow2_image.specs.Image.{HasNothingToFree, IsSameImage, is_failed, is_writable, leaked_in}
@@ -151,7 +151,7 @@ module _ {S F : Type 0} where
           pub image : IsSameImage old new
           pub marks : MarksFailed old new result
           pub once_written : FailsOnceWritten view old new result
-          pub header_cluster : NamesTablesBehind new.file.header.fields → StaysBehindHeader view old new
+          pub header_cluster : NamesTablesBehind new.file.header.fields → PreservesHeaderCluster view old new
           pub faults : CountsImageFaults view backing old new result
           pub rest : KeepsAllButTables old new
           pub silent : WritesNothing old new

@@ -13,7 +13,7 @@ use Rattle.qcow2_alloc.specs.LowestRuns.{IsUsed}
 use Rattle.qcow2_alloc.specs.declared.allocation.Allocator.{Allocator}
 use Rattle.qcow2_alloc.specs.declared.error.ImageError.{ImageError}
 use Rattle.qcow2_alloc.specs.declared.error.ImageError.TheVariants.{Limit}
-use Rattle.qcow2_image.specs.BehindHeader.{StaysBehindHeader}
+use Rattle.qcow2_image.specs.BehindHeader.{PreservesHeaderCluster}
 use Rattle.qcow2_image.specs.Found.{l1_index_of}
 use Rattle.qcow2_image.specs.Image.{IsSameImage}
 use Rattle.qcow2_image.specs.ImageInvariant.{abstract_of}
@@ -45,7 +45,7 @@ module _ {S F : Type 0} where
     -- The call reached this state: it is the same image, and the header's cluster stayed the same.
     pub record GoesTo (old mid : Qcow2 S F) : Type 0 where
       pub image : IsSameImage old mid
-      pub header_cluster : StaysBehindHeader view old mid
+      pub header_cluster : PreservesHeaderCluster view old mid
 
     -- A part of a call passed a limit at a state that satisfies `Keeps`: there was no room for clusters, or an L1 table with an entry for an offset below `end` would be too long.
     pub record IsLimitedIn (Keeps : Qcow2 S F → Type 0) (end : ℕ) (old : Qcow2 S F) : Type 0 where

@@ -1,7 +1,7 @@
 ghost use Rattle.qcow2_image.specs.ImageSteps.{CallStep, ImageFails, ImageStep};
-ghost use Rattle.qcow2_alloc.specs.BehindHeader.{AreBehindHeader};
+ghost use Rattle.qcow2_alloc.specs.BehindHeader.{LeaveHeaderCluster};
 ghost use Rattle.qcow2_image.specs.BehindHeader.{IsL1TableBehind, NamesTablesBehind};
-ghost use Rattle.qcow2_image.specs.BehindHeader.{StaysBehindHeader, TablesBehindHeader};
+ghost use Rattle.qcow2_image.specs.BehindHeader.{PreservesHeaderCluster, TablesBehindHeader};
 ghost use Rattle.qcow2_alloc.specs.SparedHeaders.{StandsBehindHeader};
 ghost use Rattle.std.specs.Prelude.{◌≡◌, ◌<◌};
 ghost use Rattle.qcow2_image.specs.Opened.{needs_missing, needs_another as needs_another_of};
@@ -262,7 +262,7 @@ impl<S: Storage, F: WrappedFormat<S>> Qcow2<S, F> {
         ensures why { (view_in S.view file.old).is_honest
             → MatchResult result (λ allocator. ReftableReads file.old.header.fields (contents_in S.view file.old))
             (IsReasonAgainstReftable file.old.header.fields (contents_in S.view file.old)) }
-        ensures header_cluster { AreBehindHeader file.old.header.fields.cluster_bits file.old.caches
+        ensures header_cluster { LeaveHeaderCluster file.old.header.fields.cluster_bits file.old.caches
             → NamesTablesBehind file.new.header.fields
             → IfOk result (λ allocator. NamesTablesBehind file.old.header.fields
             × StandsBehindHeader file.new.header.fields.cluster_bits allocator.reftable file.new) }
@@ -291,7 +291,7 @@ impl<S: Storage, F: WrappedFormat<S>> Qcow2<S, F> {
             → MatchResult result (λ tables. NeededTablesRead file.old.header.fields
             (contents_in S.view file.old) writable)
             (IsReasonAgainstTables file.old.header.fields (contents_in S.view file.old) writable) }
-        ensures header_cluster { AreBehindHeader file.old.header.fields.cluster_bits file.old.caches
+        ensures header_cluster { LeaveHeaderCluster file.old.header.fields.cluster_bits file.old.caches
             → NamesTablesBehind file.new.header.fields
             → IfOk result (λ tables. TablesBehindHeader file.new.header.fields.cluster_bits
             file.new.header.fields.cluster_bits tables.l1_table file.new.caches tables.allocator) }
@@ -491,7 +491,7 @@ impl<S: Storage, F: WrappedFormat<S>> Qcow2<S, F> {
         ensures fails { ImageFails S.view F.backing self.old self.new result IsOfTables }
         ensures image { IsSameImage self.old self.new }
         ensures notes { KeepsFileNotes S.view self.old.file self.new.file }
-        ensures header_cluster { StaysBehindHeader S.view self.old self.new }
+        ensures header_cluster { PreservesHeaderCluster S.view self.old self.new }
         ensures marks { MarksFailed self.old self.new result }
         ensures emptied { IsTrue (is_writable self.old) → OnOk result (HasNothingToFree self.new) }
         ensures frees { (out : List (Option Prepared)) → ImageInvariant S.view F.backing (pending_in S.view F.backing self.old out) self.old out

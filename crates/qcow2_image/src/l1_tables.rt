@@ -3,7 +3,7 @@ ghost use Rattle.qcow2_image.specs.Limits.{IfLimit, IsLimitedUnseen, entries_rea
 ghost use Rattle.qcow2_image.specs.L1Entries.{EndsBefore, IsPlacedNear};
 ghost use Rattle.qcow2_image.specs.SoundParts.{EntrySoundly};
 ghost use Rattle.qcow2_image.specs.ImageSteps.{ImageFails, ImageStep};
-ghost use Rattle.qcow2_image.specs.BehindHeader.{KeepsL1TableBehind, StaysBehindHeader};
+ghost use Rattle.qcow2_image.specs.BehindHeader.{KeepsL1TableBehind, PreservesHeaderCluster};
 ghost use Rattle.qcow2_alloc.specs.ImageError.{IsFault};
 ghost use Rattle.qcow2_alloc.specs.KeptMarks.{KeepsFileNotes};
 ghost use Rattle.std.specs.Prelude.{ℕ, List, Option, ◌≡◌, ◌<◌, ◌≤◌, ◌++◌, ◌∷◌, [], ◌+◌, max, Some, IfErr, IfOk, IsTrue};
@@ -116,7 +116,7 @@ impl<S: Storage, F: WrappedFormat<S>> Qcow2<S, F> {
         ensures stays { ImageStays self.old self.new }
         ensures notes { KeepsFileNotes S.view self.old.file self.new.file }
         ensures noted { OnOk result (IsTrue self.new.file.caches.is_changed) }
-        ensures header_cluster { table.cluster_bits ≡ self.old.l1_table.cluster_bits → StaysBehindHeader S.view self.old self.new }
+        ensures header_cluster { table.cluster_bits ≡ self.old.l1_table.cluster_bits → PreservesHeaderCluster S.view self.old self.new }
         ensures cause { IsTrue (is_writable self.old) → IfErr result IsMet }
         ensures limit { (p : Pending) (out : List (Option Prepared)) → ImageInvariant S.view F.backing p self.old out
             → IsLongerL1 self.old table → (offset : ℕ) → entry_count table ≡ entries_reaching offset self.old
@@ -146,7 +146,7 @@ impl<S: Storage, F: WrappedFormat<S>> Qcow2<S, F> {
         ensures stays { ImageStays self.old self.new }
         ensures notes { KeepsFileNotes S.view self.old.file self.new.file }
         ensures header_cluster { table.cluster_bits ≡ self.old.l1_table.cluster_bits → 0 < taken.first_cluster
-            → StaysBehindHeader S.view self.old self.new }
+            → PreservesHeaderCluster S.view self.old self.new }
         ensures fault { (p : Pending) (out : List (Option Prepared))
             → ImageInvariant S.view F.backing (with_table p table taken.first_cluster) self.old out
             → IsLongerL1 self.old table → IfErr result IsFault }
@@ -171,7 +171,7 @@ impl<S: Storage, F: WrappedFormat<S>> Qcow2<S, F> {
         ensures stays { ImageStays self.old self.new }
         ensures notes { KeepsFileNotes S.view self.old.file self.new.file }
         ensures header_cluster { table.cluster_bits ≡ self.old.l1_table.cluster_bits → 0 < cluster
-            → StaysBehindHeader S.view self.old self.new }
+            → PreservesHeaderCluster S.view self.old self.new }
         ensures fault { (p : Pending) (out : List (Option Prepared))
             → ImageInvariant S.view F.backing (with_table p table cluster) self.old out → IsLongerL1 self.old table
             → IfErr result IsFault }
@@ -197,7 +197,7 @@ impl<S: Storage, F: WrappedFormat<S>> Qcow2<S, F> {
         ensures fails { ImageFails S.view F.backing self.old self.new result IsMet }
         ensures notes { KeepsFileNotes S.view self.old.file self.new.file }
         ensures header_cluster { table.old.cluster_bits ≡ self.old.l1_table.cluster_bits → 0 < cluster
-            → StaysBehindHeader S.view self.old self.new }
+            → PreservesHeaderCluster S.view self.old self.new }
         ensures fault { (p : Pending) (out : List (Option Prepared))
             → ImageInvariant S.view F.backing (with_table p table.old cluster) self.old out
             → IsHostCluster table.old.cluster_bits cluster → IfErr result IsFault }
@@ -231,7 +231,7 @@ impl<S: Storage, F: WrappedFormat<S>> Qcow2<S, F> {
         ensures fails { ImageFails S.view F.backing self.old self.new result IsMet }
         ensures stays { ImageStays self.old self.new }
         ensures notes { KeepsFileNotes S.view self.old.file self.new.file }
-        ensures header_cluster { KeepsL1TableBehind self.old.l1_table table → StaysBehindHeader S.view self.old self.new }
+        ensures header_cluster { KeepsL1TableBehind self.old.l1_table table → PreservesHeaderCluster S.view self.old self.new }
         ensures fault { IfErr result IsFault }
         ensures allocator { self.new.allocator ≡ self.old.allocator }
         ensures names { (p : Pending) (out : List (Option Prepared))

@@ -3,7 +3,7 @@ ghost use Rattle.qcow2_image.specs.Limits.{IfLimit, IsLimited};
 ghost use Rattle.qcow2_image.specs.SoundParts.{InTableSoundly, PreparesSoundly};
 ghost use Rattle.qcow2_image.specs.ImageSteps.{CallStep, ImageFails, ImageStep, ImageStepWhere};
 ghost use Rattle.qcow2_disk.specs.Alike.{AreDataAt};
-ghost use Rattle.qcow2_image.specs.BehindHeader.{StaysBehindHeader};
+ghost use Rattle.qcow2_image.specs.BehindHeader.{PreservesHeaderCluster};
 ghost use Rattle.qcow2_image.specs.PreparedPlaces.{HasBytesBehind, MarkedIsBehind};
 ghost use Rattle.std.specs.Prelude.{◌↔◌, ℕ, List, Option, ◌≡◌, ◌⊎◌, ◌≢◌, ◌+◌, ◌*◌, ◌-◌, ◌/◌, ◌%◌, true, Some, ◌^◌, ◌<◌};
 ghost use Rattle.std.specs.Prelude.{◌≤◌, [], ◌∷◌, ◌++◌, length, slice_get, IfOk, IfErr, IfSome, OnOk, IsOk, IsNone};
@@ -479,7 +479,7 @@ impl<S: Storage, F: WrappedFormat<S>> Qcow2<S, F> {
         ensures quiet { HasNothingToFree self.old → DropsNothing prepared
             → storage_of self.new.file.storage ≡ storage_of self.old.file.storage }
         ensures once_written { CommitFailsOnceWritten S.view self.old self.new result }
-        ensures header_cluster { StaysBehindHeader S.view self.old self.new }
+        ensures header_cluster { PreservesHeaderCluster S.view self.old self.new }
         ensures faults { NoFewerFaults S.view F.backing self.old self.new
             × IfErr result (λ r. TellsFault S.view F.backing self.old self.new (reason_of r))
             × TellsEachBy S.view F.backing reason_of self.old self.new result }
@@ -582,7 +582,7 @@ impl<S: Storage, F: WrappedFormat<S>> Qcow2<S, F> {
         ensures header { KeepsWholeHeader self.old self.new }
         ensures sees { IfOk result (λ done. Discards S.view F.backing self.old self.new prepared) }
         ensures rest { IfOk result (λ done. ReleasesOneMapping S.view self.old self.new) }
-        ensures header_cluster { StaysBehindHeader S.view self.old self.new }
+        ensures header_cluster { PreservesHeaderCluster S.view self.old self.new }
         ensures faults { SameFaults S.view F.backing self.old self.new }
     {
         if prepared.image != self.number {

@@ -3,7 +3,7 @@ ghost use Rattle.qcow2_image.specs.Limits.{IfLimit, IsLimited};
 ghost use Rattle.qcow2_image.specs.L1Entries.{IsPlacedNear};
 ghost use Rattle.qcow2_image.specs.SoundParts.{GrowsSoundly};
 ghost use Rattle.qcow2_image.specs.ImageSteps.{ImageFails, ImageStep, MarkedStep};
-ghost use Rattle.qcow2_image.specs.BehindHeader.{StaysBehindHeader};
+ghost use Rattle.qcow2_image.specs.BehindHeader.{PreservesHeaderCluster};
 ghost use Rattle.qcow2_image.specs.Noted.{ChangesRose, NotesChanges, NotesPart};
 ghost use Rattle.qcow2_alloc.specs.KeptMarks.{HaveRisen, KeepsFileNotes};
 ghost use Rattle.std.specs.Prelude.{List, Option, ◌≡◌, ◌↔◌, ◌⊎◌, ◌+◌, ◌-◌, ◌<◌, ◌≤◌, max, [], Some, None, Ok, Err};
@@ -139,7 +139,7 @@ impl<S: Storage, F: WrappedFormat<S>> Qcow2<S, F> {
         ensures changed { (out : List (Option Prepared))
             → ImageInvariant S.view F.backing (pending_in S.view F.backing self.old out) self.old out
             → boundary_in self.old size < result.0 → ChangesRose self.old self.new }
-        ensures header_cluster { StaysBehindHeader S.view self.old self.new }
+        ensures header_cluster { PreservesHeaderCluster S.view self.old self.new }
         ensures faults { NoFewerFaults S.view F.backing self.old self.new
             × IfSome result.1 (TellsFault S.view F.backing self.old self.new)
             × TellsEachIn S.view F.backing self.old self.new result.1 }
@@ -180,7 +180,7 @@ impl<S: Storage, F: WrappedFormat<S>> Qcow2<S, F> {
         ensures changed { (out : List (Option Prepared))
             → ImageInvariant S.view F.backing (pending_in S.view F.backing self.old out) self.old out
             → IfOk result (λ next. boundary_in self.old at < next → ChangesRose self.old self.new) }
-        ensures header_cluster { StaysBehindHeader S.view self.old self.new }
+        ensures header_cluster { PreservesHeaderCluster S.view self.old self.new }
         ensures faults { CountsImageFaults S.view F.backing self.old self.new result }
     {
         match self.discard_next(at) {
@@ -213,7 +213,7 @@ impl<S: Storage, F: WrappedFormat<S>> Qcow2<S, F> {
         ensures changed { (out : List (Option Prepared))
             → ImageInvariant S.view F.backing (pending_in S.view F.backing self.old out) self.old out
             → IfOk result (λ next. boundary_in self.old at < next → ChangesRose self.old self.new) }
-        ensures header_cluster { StaysBehindHeader S.view self.old self.new }
+        ensures header_cluster { PreservesHeaderCluster S.view self.old self.new }
         ensures faults { CountsImageFaults S.view F.backing self.old self.new result }
     {
         let end = self.file.header.size();
@@ -413,7 +413,7 @@ impl<S: Storage, F: WrappedFormat<S>> Qcow2<S, F> {
         ensures resizes { (p : Pending) → ImageInvariant S.view F.backing p self.old []
             → Resizes S.view F.backing p self.old self.new size result }
         ensures notes { KeepsFileNotes S.view self.old.file self.new.file }
-        ensures header_cluster { StaysBehindHeader S.view self.old self.new }
+        ensures header_cluster { PreservesHeaderCluster S.view self.old self.new }
     {
         let old = self.file.header.size();
         self.file.header.set_size(size);

@@ -5,7 +5,7 @@ use Rattle.image_access.specs.Moments.{StorageView}
 use Rattle.qcow2_alloc.specs.ImageFile.{known_in}
 use Rattle.qcow2_alloc.specs.declared.error.ImageError.{ImageError}
 use Rattle.qcow2_image.specs.Backings.{HasPinnedMapping}
-use Rattle.qcow2_image.specs.BehindHeader.{StaysBehindHeader}
+use Rattle.qcow2_image.specs.BehindHeader.{PreservesHeaderCluster}
 use Rattle.qcow2_image.specs.Clearing.{IsUnderMapping}
 use Rattle.qcow2_image.specs.Faults.{CountsImageFaults, SameFaults}
 use Rattle.qcow2_image.specs.Image.{IsSameImage, KeepsWholeHeader, is_failed}
@@ -27,7 +27,7 @@ module _ {S F : Type 0} (view : S → StorageView) (backing : F → BackingView)
   pub record CommandStep (reply : Reply) : Type 0 where
     pub image : IsSameImage old new
     pub faults : CommandCounts view backing old new reply
-    pub header_cluster : StaysBehindHeader view old new
+    pub header_cluster : PreservesHeaderCluster view old new
     pub marks : MarksAtOnce view (refusal_in reply) old new
 
   -- An invalidation: it is the same image, the reply reports every fault that was counted, and the image is marked as failed by the rule. It writes nothing if no cached table is modified.
@@ -41,7 +41,7 @@ module _ {S F : Type 0} (view : S → StorageView) (backing : F → BackingView)
   pub record ReleasingStep : Type 0 where
     pub image : IsSameImage old new
     pub faults : SameFaults view backing old new
-    pub header_cluster : StaysBehindHeader view old new
+    pub header_cluster : PreservesHeaderCluster view old new
     pub marks : is_failed new ≡ is_failed old
     pub quiet : ReadsQuietly view old new
 
@@ -57,7 +57,7 @@ module _ {S F : Type 0} (view : S → StorageView) (backing : F → BackingView)
       pub image : IsSameImage old new
       pub faults : CountsImageFaults view backing old new result
       pub header : KeepsWholeHeader old new
-      pub header_cluster : StaysBehindHeader view old new
+      pub header_cluster : PreservesHeaderCluster view old new
       pub marks : MarksInParts view (reason_in result) old new
       pub quiet : ReadsQuietly view old new
 
@@ -65,7 +65,7 @@ module _ {S F : Type 0} (view : S → StorageView) (backing : F → BackingView)
     pub record WritingParts : Type 0 where
       pub image : IsSameImage old new
       pub faults : CountsImageFaults view backing old new result
-      pub header_cluster : StaysBehindHeader view old new
+      pub header_cluster : PreservesHeaderCluster view old new
       pub marks : MarksInParts view (reason_in result) old new
       pub quiet : StaysQuiet view old new
 
@@ -73,7 +73,7 @@ module _ {S F : Type 0} (view : S → StorageView) (backing : F → BackingView)
     pub record SpecialStep : Type 0 where
       pub image : IsSameImage old new
       pub faults : CountsImageFaults view backing old new result
-      pub header_cluster : StaysBehindHeader view old new
+      pub header_cluster : PreservesHeaderCluster view old new
       pub marks : MarksAtOnce view (reason_in result) old new
       pub quiet : ReadsQuietly view old new
 
@@ -86,7 +86,7 @@ module _ {S F : Type 0} (view : S → StorageView) (backing : F → BackingView)
       pub raw_left : IsLeft raw raw'
       pub faults : ConversionCounts view backing old new raw.faults raw'.faults result
       pub quiet : StaysQuiet view old new
-      pub header_cluster : StaysBehindHeader view old new
+      pub header_cluster : PreservesHeaderCluster view old new
 
     -- An export leaves the bytes of the disk the same, and writes nothing to the image if no cached table is modified. An honest raw disk stays honest.
     pub record ExportStep : Type 0 where
@@ -94,5 +94,5 @@ module _ {S F : Type 0} (view : S → StorageView) (backing : F → BackingView)
       pub same : IsUnchanged view backing old new result
       pub honest : raw.is_honest → raw'.is_honest
       pub faults : ConversionCounts view backing old new raw.faults raw'.faults result
-      pub header_cluster : StaysBehindHeader view old new
+      pub header_cluster : PreservesHeaderCluster view old new
       pub quiet : ReadsQuietly view old new

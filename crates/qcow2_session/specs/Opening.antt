@@ -10,7 +10,7 @@ use Rattle.qcow2_disk.specs.Headline.{IsHeadline}
 use Rattle.qcow2_disk.specs.Runs.{HasNoInvalidation, RefinesState, started}
 use Rattle.qcow2_alloc.specs.declared.error.ImageError.{ImageError}
 use Rattle.qcow2_alloc.specs.declared.error.ImageError.TheVariants as I
-use Rattle.qcow2_image.specs.BehindHeader.{LiesBehindHeader, NamesTablesBehind, StaysBehindHeader}
+use Rattle.qcow2_image.specs.BehindHeader.{LiesBehindHeader, NamesTablesBehind, PreservesHeaderCluster}
 use Rattle.qcow2_image.specs.CountedOpening.{OpeningCounts}
 use Rattle.qcow2_image.specs.declared.image.Missing.{Missing}
 use Rattle.qcow2_image.specs.declared.image.Missing.TheVariants as M
@@ -86,7 +86,7 @@ module _ {S F : Type 0} (view : S → StorageView) (backing : F → BackingView)
     pub leaves : LeavesStorage view true before (Ok opened)
     pub run : TellsThrough view backing opened image commands replies
     pub behind : NamesTablesBehind opened.file.header.fields → LiesBehindHeader opened
-    pub header_cluster : HasNoInvalidation (map command_of commands) → StaysBehindHeader view opened image
+    pub header_cluster : HasNoInvalidation (map command_of commands) → PreservesHeaderCluster view opened image
     pub is : before.is_honest → IsConsistent (byte_at before.contents) → IsHonestBacking view backing below → IsOpenedFrom view backing (byte_at before.contents) opened
     pub begins : before.is_honest → IsConsistent (byte_at before.contents) → IsHonestBacking view backing below → let v = abstract_of view backing opened [] in RefinesState v.setting v (started v)
 

@@ -10,7 +10,7 @@ ghost use Rattle.qcow2_alloc.specs.declared.error.ImageError.TheVariants.{Limit,
 ghost use Rattle.qcow2_alloc.specs.declared.error.ImageError.TheVariants.{TablePrepared};
 ghost use Rattle.qcow2_alloc.specs.ImageFile.{known_in};
 ghost use Rattle.qcow2_image.specs.Backings.{HasPinnedMapping};
-ghost use Rattle.qcow2_image.specs.BehindHeader.{StaysBehindHeader};
+ghost use Rattle.qcow2_image.specs.BehindHeader.{PreservesHeaderCluster};
 ghost use Rattle.qcow2_image.specs.Found.{IsFoundWhole, further_by};
 ghost use Rattle.qcow2_disk.specs.Mappings.{given_of};
 ghost use Rattle.qcow2_image.specs.Limits.{IsLimited};
@@ -296,7 +296,7 @@ pub fn write<S: Storage, F: WrappedFormat<S>>(
     ensures faults { NoFewerFaults S.view F.backing image.old image.new
         × IfErr result (λ (e, n). TellsFault S.view F.backing image.old image.new e)
         × TellsEachBy S.view F.backing (λ refused. refused.0) image.old image.new result }
-    ensures header_cluster { StaysBehindHeader S.view image.old image.new }
+    ensures header_cluster { PreservesHeaderCluster S.view image.old image.new }
     ensures marks { MatchResult result (λ done. MarksInParts S.view None image.old image.new)
         (λ (e, n). MarksInParts S.view (Some e) image.old image.new) }
     ensures early { IfSome (refuses_to_prepare image.old offset (length bytes.now)) (λ e. (result ≡ Err (e, 0)) × (image.new ≡ image.old)) }
@@ -398,7 +398,7 @@ fn release<S: Storage, F: WrappedFormat<S>>(image: &mut Qcow2<S, F>, prepared: P
     ensures rest { ReleasesOneMapping S.view image.old image.new }
     ensures faults { SameFaults S.view F.backing image.old image.new }
     ensures header { KeepsWholeHeader image.old image.new }
-    ensures header_cluster { StaysBehindHeader S.view image.old image.new }
+    ensures header_cluster { PreservesHeaderCluster S.view image.old image.new }
     ensures marks { is_failed image.new ≡ is_failed image.old }
     ensures sees { Discards S.view F.backing image.old image.new prepared }
 {
@@ -417,7 +417,7 @@ pub fn run<S: Storage, F: WrappedFormat<S>>(
 ) -> Vec<Reply>
     ensures number { number_of image.new ≡ number_of image.old }
     ensures faults { RunCounts S.view F.backing image.old image.new result.items }
-    ensures header_cluster { HasNoInvalidation (map command_of commands.now) → StaysBehindHeader S.view image.old image.new }
+    ensures header_cluster { HasNoInvalidation (map command_of commands.now) → PreservesHeaderCluster S.view image.old image.new }
     ensures count { (result.items ≡ []) ⊎ (vec_len result ≡ length commands.now) }
     ensures runs { RunsThrough S.view F.backing image.old image.new commands.now result.items }
     ensures means { RunRefinesDisk S.view F.backing image.old image.new commands.now result.items }
@@ -449,7 +449,8 @@ fn step<S: Storage, F: WrappedFormat<S>>(
     requires { slots.old.image ≡ number_of image.old }
     ensures keeps { KeepsItself image.old image.new }
     ensures faults { CommandCounts S.view F.backing image.old image.new result }
-    ensures header_cluster { KeepsUnflushed (command_of command.now) → StaysBehindHeader S.view image.old image.new }
+    ensures header_cluster { KeepsUnflushed (command_of command.now)
+        → PreservesHeaderCluster S.view image.old image.new }
     ensures marks { MarksBy S.view image.old image.new command.now (refusal_in result) }
     ensures slots { slots.new.image ≡ slots.old.image }
     ensures command_step { KeepsUnflushed (command_of command.now)

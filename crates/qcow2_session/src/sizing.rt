@@ -1,6 +1,6 @@
 //! The commands that change the size of the disk.
 ghost use Rattle.std.specs.Prelude.{ℕ, ◌≡◌, IsTrue, false, List, Option};
-ghost use Rattle.qcow2_image.specs.BehindHeader.{StaysBehindHeader};
+ghost use Rattle.qcow2_image.specs.BehindHeader.{PreservesHeaderCluster};
 ghost use Rattle.qcow2_image.specs.declared.mapping.Mapping.{Mapping};
 ghost use Rattle.qcow2_image.specs.Image.{is_failed, is_writable, size_of};
 ghost use Rattle.qcow2_image.specs.declared.prepared.Prepared.{Prepared};
@@ -26,7 +26,7 @@ pub(crate) fn grow<S: Storage, F: WrappedFormat<S>>(
     ensures reading { is_writable image.old ≡ false → image.new ≡ image.old }
     ensures size { IsTrue (is_failed image.old) → size_of image.new ≡ size_of image.old }
     ensures faults { CommandCounts S.view F.backing image.old image.new result }
-    ensures header_cluster { StaysBehindHeader S.view image.old image.new }
+    ensures header_cluster { PreservesHeaderCluster S.view image.old image.new }
     ensures marks { MarksAtOnce S.view (refusal_in result) image.old image.new }
     ensures causes { (before : List (Option Prepared)) (found : ℕ → Option Mapping)
         → IsRightlyRefused S.view F.backing image.old image.new before found (ResizeGrow size mode) result }
@@ -45,7 +45,7 @@ pub(crate) fn shrink<S: Storage, F: WrappedFormat<S>>(image: &mut Qcow2<S, F>, s
     ensures reading { is_writable image.old ≡ false → image.new ≡ image.old }
     ensures size { IsTrue (is_failed image.old) → size_of image.new ≡ size_of image.old }
     ensures faults { CommandCounts S.view F.backing image.old image.new result }
-    ensures header_cluster { StaysBehindHeader S.view image.old image.new }
+    ensures header_cluster { PreservesHeaderCluster S.view image.old image.new }
     ensures marks { MarksAtOnce S.view (refusal_in result) image.old image.new }
     ensures tells { (before : List (Option Prepared)) → TellsOfImage S.view F.backing image.old image.new before before (ResizeShrink size) result }
     ensures causes { (before : List (Option Prepared)) (found : ℕ → Option Mapping)

@@ -19,7 +19,7 @@ use Rattle.qcow2_alloc.specs.declared.image_storage.ImageStorage.{ImageStorage}
 use Rattle.qcow2_alloc.specs.AsyncLruCache.{Cache, oldest_free, is_pinned, slot_of, set_at, with_entries, OthersStay}
 use Rattle.qcow2_alloc.specs.CacheAnswers.{Unit₀, FlushesEntry, FlushesAll, Flushes, HasRoomForEntry, HasNoRoom, GetsNew, InsertsNew, Replaces}
 use Rattle.qcow2_alloc.specs.HeaderClusters.{IsInHeaderCluster, BytesStay, KeepsHeaderCluster}
-use Rattle.qcow2_alloc.specs.SparedHeaders.{AreBehindHeader, CachesSpareHeader, KeepBehindHeader}
+use Rattle.qcow2_alloc.specs.SparedHeaders.{LeaveHeaderCluster, CachesSpareHeader, KeepBehindHeader}
 use Rattle.qcow2_alloc.specs.ImageStorage.{storage_of}
 use Rattle.qcow2_alloc.specs.TableSteps.{answer_done, answer_refused, table_steps, LoadsTable, FailsToLoad, FlushesTable, FailsToFlush}
 use Rattle.qcow2_alloc.specs.TableCaches.{l2_steps, rb_steps, cleared_l2, cleared_rb, IsTableOf, IsBlockOf}
@@ -239,7 +239,7 @@ removed_case false key es none = none
 
 module _ {S : Type 0} where
   -- only the entries of the one cache differ, and none of them is under key 0
-  with_tables : (caches : MetadataCaches S) (l2 : Cache (L2CacheBackend S) ℕ L2TableView) (bits : ℕ) → l2 ≡ with_entries caches.l2 l2.entries → lookup (eqb 0) l2.entries ≡ None → AreBehindHeader bits caches → AreBehindHeader bits (record caches { l2 = l2 })
+  with_tables : (caches : MetadataCaches S) (l2 : Cache (L2CacheBackend S) ℕ L2TableView) (bits : ℕ) → l2 ≡ with_entries caches.l2 l2.entries → lookup (eqb 0) l2.entries ≡ None → LeaveHeaderCluster bits caches → LeaveHeaderCluster bits (record caches { l2 = l2 })
   with_tables caches l2 bits others none are = record {
     l2_bits = ap (λ (x : Cache (L2CacheBackend S) ℕ L2TableView). x.backend.header.fields.cluster_bits) others ∙ are.l2_bits;
     rb_bits = are.rb_bits;
@@ -247,7 +247,7 @@ module _ {S : Type 0} where
     blocks = are.blocks;
   }
 
-  with_blocks : (caches : MetadataCaches S) (rb : Cache (RefBlockCacheBackend S) ℕ RefBlockView) (bits : ℕ) → rb ≡ with_entries caches.rb rb.entries → lookup (eqb 0) rb.entries ≡ None → AreBehindHeader bits caches → AreBehindHeader bits (record caches { rb = rb })
+  with_blocks : (caches : MetadataCaches S) (rb : Cache (RefBlockCacheBackend S) ℕ RefBlockView) (bits : ℕ) → rb ≡ with_entries caches.rb rb.entries → lookup (eqb 0) rb.entries ≡ None → LeaveHeaderCluster bits caches → LeaveHeaderCluster bits (record caches { rb = rb })
   with_blocks caches rb bits others none are = record {
     l2_bits = are.l2_bits;
     rb_bits = ap (λ (x : Cache (RefBlockCacheBackend S) ℕ RefBlockView). x.backend.header.fields.cluster_bits) others ∙ are.rb_bits;
@@ -259,7 +259,7 @@ module _ {S : Type 0} where
   noted_behind a b n keeps bits are = let now = keeps bits are in record { l2_bits = now.l2_bits; rb_bits = now.rb_bits; tables = now.tables; blocks = now.blocks }
 
   -- empty caches
-  pub empty_behind : (bits : ℕ) (caches : MetadataCaches S) → caches.l2.entries ≡ [] → caches.rb.entries ≡ [] → caches.l2.backend.header.fields.cluster_bits ≡ bits → caches.rb.backend.header.fields.cluster_bits ≡ bits → AreBehindHeader bits caches
+  pub empty_behind : (bits : ℕ) (caches : MetadataCaches S) → caches.l2.entries ≡ [] → caches.rb.entries ≡ [] → caches.l2.backend.header.fields.cluster_bits ≡ bits → caches.rb.backend.header.fields.cluster_bits ≡ bits → LeaveHeaderCluster bits caches
   empty_behind bits caches no_tables no_blocks l2_bits rb_bits = record {
     l2_bits = l2_bits;
     rb_bits = rb_bits;
@@ -284,7 +284,7 @@ module _ {S : Type 0} where
   -- a refblock is taken out
   pub removed_behind : (caches : MetadataCaches S) (key : ℕ) (b : Bool) (rb : Cache (RefBlockCacheBackend S) ℕ RefBlockView) → rb ≡ with_entries caches.rb (cond b (remove_entry (eqb key) caches.rb.entries) caches.rb.entries) → KeepBehindHeader caches (record caches { rb = rb })
   removed_behind caches key b rb is bits are =
-      subst (λ (x : Cache (RefBlockCacheBackend S) ℕ RefBlockView). AreBehindHeader bits (record caches { rb = x })) (sym is)
+      subst (λ (x : Cache (RefBlockCacheBackend S) ℕ RefBlockView). LeaveHeaderCluster bits (record caches { rb = x })) (sym is)
       (with_blocks caches (with_entries caches.rb (cond b (remove_entry (eqb key) caches.rb.entries) caches.rb.entries)) bits refl (removed_case b key caches.rb.entries (no_key (lookup (eqb 0) caches.rb.entries) are.blocks)) are)
 
 module _ {S : Type 0} {view : S → StorageView} where

@@ -14,11 +14,11 @@ use Rattle.qcow2_metadata.specs.Header.{without_autoclear}
 use Rattle.qcow2_metadata.specs.declared.header.HeaderFields.{HeaderFields}
 use Rattle.qcow2_metadata.specs.HeaderWrite.{bytes_of_numbers, l1_table_pointer_written, size_written}
 use Rattle.qcow2_metadata.specs.L2Table.{L2TableView}
-use Rattle.qcow2_alloc.specs.BehindHeader.{AreBehindHeader, KeepBehindHeader}
+use Rattle.qcow2_alloc.specs.BehindHeader.{LeaveHeaderCluster, KeepBehindHeader}
 use Rattle.qcow2_alloc.specs.HeaderClusters.{IsInHeaderCluster, IsBesidePointer, BytesStay, SameAt}
 use Rattle.qcow2_alloc.specs.ImageFile.{view_in}
 use Rattle.qcow2_alloc.specs.ImageStorage.{storage_of}
-use Rattle.qcow2_alloc.specs.SparedHeaders.{CachesSpareHeader, SparesBytes, SparesHeader, SparesHeaderButPointer, StandsBehindHeader}
+use Rattle.qcow2_alloc.specs.SparedHeaders.{CachesSpareHeader, SparesBytes, SparesHeader, PreservesHeaderButPointer, StandsBehindHeader}
 use Rattle.qcow2_alloc.specs.declared.allocation.Allocator.{Allocator}
 use Rattle.qcow2_alloc.specs.declared.cache.MetadataCaches.{MetadataCaches}
 use Rattle.qcow2_alloc.specs.declared.image_file.ImageFile.{ImageFile}
@@ -26,7 +26,7 @@ use Rattle.qcow2_alloc.specs.declared.image_storage.ImageStorage.{ImageStorage}
 use Rattle.qcow2_alloc.proofs.HeaderClusters.{below_others, bytes_stay, bytes_then, call_keeps, fewer_stay, quiet_keeps, same_kept}
 use Rattle.qcow2_image.specs.declared.image.Qcow2.{Qcow2}
 use Rattle.qcow2_image.specs.Image.{IsBegun}
-use Rattle.qcow2_image.specs.BehindHeader.{IsBesideNumbers, IsL1TableBehind, KeepsL1TableBehind, KeepsTablesBehind, NamesTablesBehind, StaysBehindHeader, TablesBehindHeader}
+use Rattle.qcow2_image.specs.BehindHeader.{IsBesideNumbers, IsL1TableBehind, KeepsL1TableBehind, KeepsTablesBehind, NamesTablesBehind, PreservesHeaderCluster, TablesBehindHeader}
 
 -- a byte of cluster 0 lies below each offset behind it
 below_first : (bits o at : ℕ) → o / 2 ^ bits ≡ 0 → 2 ^ bits ≤ at → o < at
@@ -222,7 +222,7 @@ module _ {S : Type 0} where
             let own = subst (λ (x : Option Allocator). IfSome x (λ r. (r.reftable.cluster_bits ≡ bits) × (0 < entry_count r.reftable → ¬ (r.reftable.cluster ≡ Some 0)))) is lies.reftable in
             record { header = lies.header; caches = lies.caches; reftable_bits = own.0; elsewhere = own.1 }
 
-    pub behind_allocated : {before after : Allocator} {old new : ImageFile S} {a : Option Allocator} → a ≡ Some before → SparesHeaderButPointer view before.reftable old after.reftable new
+    pub behind_allocated : {before after : Allocator} {old new : ImageFile S} {a : Option Allocator} → a ≡ Some before → PreservesHeaderButPointer view before.reftable old after.reftable new
         → KeepsTablesBehind old.header.fields.cluster_bits l1 (view_in view old) old.caches a new.header.fields.cluster_bits l1 (view_in view new) new.caches (Some after)
     behind_allocated is spares = behind_spared IsBesidePointer beside_pointer is spares
 
@@ -234,7 +234,7 @@ module _ {S : Type 0} where
   pub stands_still : {bits : ℕ} {reftable : EntryTableView} {file file' : ImageFile S} → file'.caches ≡ file.caches → file'.header.fields.cluster_bits ≡ file.header.fields.cluster_bits → StandsBehindHeader bits reftable file
       → StandsBehindHeader file'.header.fields.cluster_bits reftable file'
   stands_still {bits} {reftable} {file} {file'} same as_wide stands =
-      let now : StandsBehindHeader bits reftable file' = record { header = as_wide ∙ stands.header; caches = subst (AreBehindHeader bits) (sym same) stands.caches; reftable_bits = stands.reftable_bits; elsewhere = stands.elsewhere } in
+      let now : StandsBehindHeader bits reftable file' = record { header = as_wide ∙ stands.header; caches = subst (LeaveHeaderCluster bits) (sym same) stands.caches; reftable_bits = stands.reftable_bits; elsewhere = stands.elsewhere } in
       subst (λ n. StandsBehindHeader n reftable file') (sym now.header) now
 
   -- tables that were loaded
@@ -254,15 +254,15 @@ module _ {S F : Type 0} (view : S → StorageView) where
       subst (λ (i : Qcow2 S F). KeepsTablesBehind own l1 v caches a i.file.header.fields.cluster_bits i.l1_table (view_in view i.file) i.file.caches i.allocator) (sym same) keeps
 
   -- the beginning of a call
-  pub behind_begun : {old new : Qcow2 S F} → IsBegun old new → StaysBehindHeader view old new
+  pub behind_begun : {old new : Qcow2 S F} → IsBegun old new → PreservesHeaderCluster view old new
   behind_begun {old} {new} begun =
       let same : view_in view old.file ≡ view_in view new.file = ap view (sym begun.storage) in
       behind_by begun.rest
       (subst (λ (v : StorageView). KeepsTablesBehind old.file.header.fields.cluster_bits old.l1_table (view_in view old.file) old.file.caches old.allocator old.file.header.fields.cluster_bits old.l1_table v new.file.caches old.allocator) same
-      (behind_tables (λ bits are. subst (λ (c : MetadataCaches S). AreBehindHeader bits c) (sym begun.caches) (record { l2_bits = are.l2_bits; rb_bits = are.rb_bits; tables = are.tables; blocks = are.blocks }))))
+      (behind_tables (λ bits are. subst (λ (c : MetadataCaches S). LeaveHeaderCluster bits c) (sym begun.caches) (record { l2_bits = are.l2_bits; rb_bits = are.rb_bits; tables = are.tables; blocks = are.blocks }))))
 
   -- a call, whose end is marked
   pub behind_call : {old begun new is : Qcow2 S F} → IsBegun old begun
       → KeepsTablesBehind begun.file.header.fields.cluster_bits begun.l1_table (view_in view begun.file) begun.file.caches begun.allocator is.file.header.fields.cluster_bits is.l1_table (view_in view is.file) is.file.caches is.allocator
-      → new ≡ is → StaysBehindHeader view old new
+      → new ≡ is → PreservesHeaderCluster view old new
   behind_call begins keeps marked = behind_then (behind_begun begins) (behind_by marked keeps)

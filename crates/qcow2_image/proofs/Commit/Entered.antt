@@ -28,7 +28,7 @@ use Rattle.qcow2_alloc.specs.declared.async_lru_cache.slot.Slot.{Slot}
 use Rattle.qcow2_alloc.specs.MetadataCaches.{MapsCachedEntry, l2_at}
 use Rattle.qcow2_alloc.specs.ImageFile.{contents_in, known_in}
 use Rattle.qcow2_alloc.specs.declared.clusters_to_free.ClustersToFreeEntry.{ClustersToFreeEntry}
-use Rattle.qcow2_image.specs.BehindHeader.{StaysBehindHeader}
+use Rattle.qcow2_image.specs.BehindHeader.{PreservesHeaderCluster}
 use Rattle.qcow2_image.proofs.Call.BehindHeader.{behind_by, behind_none, behind_tables, behind_then}
 use Rattle.qcow2_image.specs.declared.image.Qcow2.{Qcow2}
 use Rattle.qcow2_image.specs.declared.prepared.Prepared.{Prepared}
@@ -249,7 +249,7 @@ module _ {S F : Type 0} (view : S → StorageView) (backing : F → BackingView)
         → CommitsPart view backing old now out k p q × (IsTrue entered → IsTrue now.file.caches.is_changed)
     pub notes : KeepsFileNotes view old.file now.file
     pub quiet : DropsNothing p → DropsNothing q × (now.file.free_list ≡ old.file.free_list)
-    pub behind : StaysBehindHeader view old now
+    pub behind : PreservesHeaderCluster view old now
 
   pub first_none : (old : Qcow2 S F) (p : Prepared) → EntersFirst old old p p 0 false
   first_none old p = record {

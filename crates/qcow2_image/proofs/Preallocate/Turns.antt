@@ -10,7 +10,7 @@ use Rattle.qcow2_image.specs.declared.prepared.Prepared.{Prepared}
 use Rattle.qcow2_image.specs.Image.{ImageStays}
 use Rattle.qcow2_image.specs.ImageInvariant.{ImageInvariant, abstract_of, pending_in}
 use Rattle.qcow2_image.specs.MovedTables.{MovesTables}
-use Rattle.qcow2_image.specs.BehindHeader.{StaysBehindHeader}
+use Rattle.qcow2_image.specs.BehindHeader.{PreservesHeaderCluster}
 use Rattle.qcow2_image.specs.Preallocation.{FillsPart, IsWholeRange, RefusedFill}
 use Rattle.qcow2_image.proofs.Call.Called.{works_none}
 use Rattle.qcow2_image.proofs.Preallocate.Filled.{fills_none, fills_then, refused_after}
@@ -73,7 +73,7 @@ module _ {S F : Type 0} (view : S → StorageView) (backing : F → BackingView)
           );
     }
 
-    pub zeroed_refused : StaysBehindHeader view old now → (e : ImageError)
+    pub zeroed_refused : PreservesHeaderCluster view old now → (e : ImageError)
         → ((out : List (Option Prepared)) → ImageInvariant view backing (pending_in view backing now out) now out → at ≤ to → IsWholeRange now.file.header.fields at to → 3 ≤ now.file.header.fields.version → RefusedFill view backing at to now new out e)
         → (out : List (Option Prepared)) → ImageInvariant view backing (pending_in view backing old out) old out → from ≤ to → IsWholeRange old.file.header.fields from to → 3 ≤ old.file.header.fields.version
         → RefusedFill view backing from to old new out e
@@ -107,7 +107,7 @@ module _ {S F : Type 0} (view : S → StorageView) (backing : F → BackingView)
           fills_then view backing out old now new to from at next low (omega (arith, more)) so (fills out so.sound (still_at old.file.header.fields now.file.header.fields to so.header whole));
     }
 
-    pub filled_refused : StaysBehindHeader view old now → (e : ImageError)
+    pub filled_refused : PreservesHeaderCluster view old now → (e : ImageError)
         → ((out : List (Option Prepared)) → ImageInvariant view backing (pending_in view backing now out) now out → to % cluster_size now.file.header.fields ≡ 0 → RefusedFill view backing at to now new out e)
         → (out : List (Option Prepared)) → ImageInvariant view backing (pending_in view backing old out) old out → to % cluster_size old.file.header.fields ≡ 0 → RefusedFill view backing from to old new out e
     filled_refused behind e refused out sound whole =

@@ -2,7 +2,7 @@ use Rattle.std.proofs.Common.{◌≡◌, ◌-◌, ◌≤◌, [], List}
 use Rattle.std.specs.Prelude.{Option}
 use Rattle.qcow2_disk.specs.Calls.{AnsweredEffect}
 use Rattle.qcow2_disk.specs.AbstractImages.{guest_of}
-use Rattle.qcow2_image.specs.BehindHeader.{StaysBehindHeader}
+use Rattle.qcow2_image.specs.BehindHeader.{PreservesHeaderCluster}
 use Rattle.qcow2_image.specs.Image.{IsSameImage}
 use Rattle.qcow2_image.specs.ImageInvariant.{abstract_of}
 use Rattle.qcow2_image.specs.declared.prepared.Prepared.{Prepared}
@@ -14,7 +14,7 @@ use Rattle.qcow2_session.proofs.convert.export_all.Given as goal
 abbrev pub invariant-loop-at : goal.invariant-loop-at
 invariant-loop-at g l = record {
   faults : IsSoFar g.S.Storage.view g.F.BackingDisk.backing l.fn.image l.image;
-  behind : StaysBehindHeader g.S.Storage.view l.fn.image l.image;
+  behind : PreservesHeaderCluster g.S.Storage.view l.fn.image l.image;
   counted : (g.R.Storage.view l.raw).faults ≡ (g.R.Storage.view l.fn.raw).faults;
   within : l.at ≤ l.size;
   image : IsSameImage l.fn.image l.image;

@@ -4,7 +4,7 @@ use Rattle.qcow2_disk.specs.Calls.{AnsweredEffect, with_disk}
 use Rattle.qcow2_disk.specs.Disk.{with_bytes}
 use Rattle.qcow2_disk.specs.Mappings.{given_of}
 use Rattle.qcow2_disk.specs.AbstractImages.{guest_of}
-use Rattle.qcow2_image.specs.BehindHeader.{StaysBehindHeader}
+use Rattle.qcow2_image.specs.BehindHeader.{PreservesHeaderCluster}
 use Rattle.qcow2_image.specs.Image.{IsSameImage}
 use Rattle.qcow2_image.specs.ImageInvariant.{abstract_of}
 use Rattle.qcow2_image.specs.declared.prepared.Prepared.{Prepared}
@@ -16,7 +16,7 @@ use Rattle.qcow2_session.proofs.convert.import_all.Given as goal
 abbrev pub invariant-loop-at : goal.invariant-loop-at
 invariant-loop-at g l = record {
   faults : IsSoFar g.S.Storage.view g.F.BackingDisk.backing l.fn.image l.image;
-  behind : StaysBehindHeader g.S.Storage.view l.fn.image l.image;
+  behind : PreservesHeaderCluster g.S.Storage.view l.fn.image l.image;
   quiet : StaysQuiet g.S.Storage.view l.fn.image l.image;
   counted : (g.R.Storage.view l.raw).faults ≡ (g.R.Storage.view l.fn.raw).faults;
   within : l.at ≤ l.size;

@@ -1,6 +1,6 @@
 use Rattle.std.proofs.Common.{◌≡◌, ℕ, vec_len}
 use Rattle.std.specs.Prelude.{Some, slice_get}
-use Rattle.qcow2_image.specs.BehindHeader.{StaysBehindHeader}
+use Rattle.qcow2_image.specs.BehindHeader.{PreservesHeaderCluster}
 use Rattle.qcow2_image.specs.Faults.{SameFaults}
 use Rattle.qcow2_image.specs.Image.{IsSameImage, is_failed, number_of}
 use Rattle.qcow2_image.specs.Prepared.{image_of}
@@ -12,7 +12,7 @@ use Rattle.qcow2_session.proofs.session.discard_all.Given as goal
 abbrev pub invariant-loop-slot : goal.invariant-loop-slot
 invariant-loop-slot g l = record {
   faults : SameFaults g.S.Storage.view g.F.BackingDisk.backing l.fn.image l.image;
-  behind : StaysBehindHeader g.S.Storage.view l.fn.image l.image;
+  behind : PreservesHeaderCluster g.S.Storage.view l.fn.image l.image;
   own : (k : ℕ) (p : Prepared) → slice_get l.prepared.items k ≡ Some (Some p) → image_of p ≡ number_of l.image;
   image : IsSameImage l.fn.image l.image;
   works : is_failed l.image ≡ is_failed l.fn.image;

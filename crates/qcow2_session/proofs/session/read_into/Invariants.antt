@@ -2,7 +2,7 @@ use Rattle.std.proofs.Common.{◌≡◌, ◌-◌, ◌≤◌, length, ◌+◌, �
 use Rattle.qcow2_disk.specs.Calls.{AnsweredEffect, Shows}
 use Rattle.qcow2_disk.specs.AbstractImages.{guest_of}
 use Rattle.std.specs.Prelude.{Option}
-use Rattle.qcow2_image.specs.BehindHeader.{StaysBehindHeader}
+use Rattle.qcow2_image.specs.BehindHeader.{PreservesHeaderCluster}
 use Rattle.qcow2_image.specs.Image.{IsSameImage, is_failed}
 use Rattle.qcow2_image.specs.ImageInvariant.{abstract_of}
 use Rattle.qcow2_image.specs.Noted.{CountsImageChanges}
@@ -14,7 +14,7 @@ use Rattle.qcow2_session.proofs.session.read_into.Given as goal
 abbrev pub invariant-loop-done : goal.invariant-loop-done
 invariant-loop-done g l = record {
   faults : SameFaults g.S.Storage.view g.F.BackingDisk.backing l.fn.image l.image;
-  behind : StaysBehindHeader g.S.Storage.view l.fn.image l.image;
+  behind : PreservesHeaderCluster g.S.Storage.view l.fn.image l.image;
   within : l.done ≤ length l.bytes;
   end : l.fn.offset + length l.bytes < 2 ^ 64;
   image : IsSameImage l.fn.image l.image;

@@ -2,7 +2,7 @@ use Rattle.std.proofs.Common.{◌≡◌, vec_len, take, map, []}
 use Rattle.std.specs.Prelude.{None, replicate}
 use Rattle.qcow2_disk.specs.Runs.{State, RefinesState, HasNoInvalidation, begun}
 use Rattle.qcow2_disk.specs.AbstractImages.{Setting}
-use Rattle.qcow2_image.specs.BehindHeader.{StaysBehindHeader}
+use Rattle.qcow2_image.specs.BehindHeader.{PreservesHeaderCluster}
 use Rattle.qcow2_image.specs.Image.{number_of}
 use Rattle.qcow2_image.specs.ImageInvariant.{abstract_of, image_abstraction}
 use Rattle.qcow2_session.specs.CountedFaults.{RunCounts}
@@ -16,7 +16,7 @@ use Rattle.qcow2_session.proofs.session.run.Given as goal
 abbrev pub invariant-loop-command : goal.invariant-loop-command
 invariant-loop-command g l = record {
   faults : RunCounts g.S.Storage.view g.F.BackingDisk.backing l.fn.image l.image l.replies.items;
-  behind : HasNoInvalidation (map command_of (take l.command-index l.commands)) → StaysBehindHeader g.S.Storage.view l.fn.image l.image;
+  behind : HasNoInvalidation (map command_of (take l.command-index l.commands)) → PreservesHeaderCluster g.S.Storage.view l.fn.image l.image;
   own : l.slots.image ≡ number_of l.image;
   keeps : KeepsItself l.fn.image l.image;
   answered : vec_len l.replies ≡ l.command-index;

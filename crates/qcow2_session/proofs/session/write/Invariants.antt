@@ -5,7 +5,7 @@ use Rattle.qcow2_disk.specs.Calls.{AnsweredEffect, with_disk}
 use Rattle.qcow2_disk.specs.Disk.{with_bytes}
 use Rattle.qcow2_disk.specs.Mappings.{given_of}
 use Rattle.qcow2_disk.specs.AbstractImages.{guest_of}
-use Rattle.qcow2_image.specs.BehindHeader.{StaysBehindHeader}
+use Rattle.qcow2_image.specs.BehindHeader.{PreservesHeaderCluster}
 use Rattle.qcow2_image.specs.Image.{IsSameImage, is_failed}
 use Rattle.qcow2_image.specs.ImageInvariant.{abstract_of}
 use Rattle.qcow2_image.specs.ListedClusters.{ListsNoMore}
@@ -19,7 +19,7 @@ use Rattle.qcow2_image.specs.Faults.{SameFaults}
 abbrev pub invariant-loop-done : goal.invariant-loop-done
 invariant-loop-done g l = record {
   faults : SameFaults g.S.Storage.view g.F.BackingDisk.backing l.fn.image l.image;
-  behind : StaysBehindHeader g.S.Storage.view l.fn.image l.image;
+  behind : PreservesHeaderCluster g.S.Storage.view l.fn.image l.image;
   works : is_failed l.image ≡ is_failed l.fn.image;
   counts : CountsImageChanges g.S.Storage.view l.fn.image l.image;
   within : l.done ≤ length l.bytes;

@@ -11,7 +11,7 @@ use Rattle.qcow2_alloc.proofs.ListedAfter.{header_same}
 use Rattle.qcow2_alloc.proofs.Outcomes.{on_no_ok, on_err}
 use Rattle.qcow2_alloc.proofs.KeptNotes.{note_kept}
 use Rattle.qcow2_alloc.proofs.SparedHeaders.{spares_none, spares_pointer, placed_above}
-use Rattle.qcow2_alloc.specs.SparedHeaders.{SparesHeaderButPointer}
+use Rattle.qcow2_alloc.specs.SparedHeaders.{PreservesHeaderButPointer}
 use Rattle.qcow2_metadata.specs.Header.{HeaderView}
 use Rattle.qcow2_alloc.proofs.KeptMarks.{kept_marks_none, told_kept, marks_of_storage}
 use Rattle.qcow2_alloc.proofs.Steps.{fails_by, limit_other, fails_ok, fails_on, fails_since, fails_storage, other_as, same_faults}
@@ -75,7 +75,7 @@ returns-in_err-set_reftable-clause-step g c = record {
   header = header_same c.args.file.now.header c.set_reftable.new.self c.in_err-set_reftable.ensures.same;
   list = refl;
   marks = kept_marks_none;
-  header_cluster = λ is. subst (λ (x : HeaderView). SparesHeaderButPointer g.S.Storage.view c.args.self.now.reftable c.args.file.now c.args.self.now.reftable (record c.args.file.now { header = x })) (sym c.in_err-set_reftable.ensures.same) spares_none;
+  header_cluster = λ is. subst (λ (x : HeaderView). PreservesHeaderButPointer g.S.Storage.view c.args.self.now.reftable c.args.file.now c.args.self.now.reftable (record c.args.file.now { header = x })) (sym c.in_err-set_reftable.ensures.same) spares_none;
 }
 
 pub returns-in_err-set_reftable-clause-kept : goal.returns-in_err-set_reftable-clause-kept

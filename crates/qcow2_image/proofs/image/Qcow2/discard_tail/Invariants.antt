@@ -1,6 +1,6 @@
 use Rattle.std.proofs.Common.{◌-◌, ◌<◌, ◌≡◌, ◌⊎◌, List, Option}
 use Rattle.std.specs.Prelude.{IsTrue}
-use Rattle.qcow2_image.specs.BehindHeader.{StaysBehindHeader}
+use Rattle.qcow2_image.specs.BehindHeader.{PreservesHeaderCluster}
 use Rattle.qcow2_image.specs.declared.prepared.Prepared.{Prepared}
 use Rattle.qcow2_image.specs.Image.{HasNothingToFree, is_writable}
 use Rattle.qcow2_image.specs.ImageInvariant.{ImageInvariant, pending_in}
@@ -19,7 +19,7 @@ invariant-loop-at g l = record {
       → boundary_in l.fn.self l.fn.size < l.end → (l.at ≡ l.fn.size) ⊎ HasNothingToFree l.self;
   since : NotesChanges g.S.Storage.view l.fn.self l.self;
   changed : (out : List (Option Prepared)) → ImageInvariant g.S.Storage.view g.F.BackingDisk.backing (pending_in g.S.Storage.view g.F.BackingDisk.backing l.fn.self out) l.fn.self out → boundary_in l.fn.self l.fn.size < l.at → ChangesRose l.fn.self l.self;
-  behind : StaysBehindHeader g.S.Storage.view l.fn.self l.self;
+  behind : PreservesHeaderCluster g.S.Storage.view l.fn.self l.self;
 }
 
 abbrev pub decreases-loop-at : goal.decreases-loop-at

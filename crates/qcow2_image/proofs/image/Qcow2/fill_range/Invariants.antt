@@ -1,6 +1,6 @@
 use Rattle.qcow2_alloc.specs.KeptMarks.{KeepsFileNotes}
 use Rattle.std.proofs.Common.{◌-◌}
-use Rattle.qcow2_image.specs.BehindHeader.{StaysBehindHeader}
+use Rattle.qcow2_image.specs.BehindHeader.{PreservesHeaderCluster}
 use Rattle.qcow2_image.specs.Faults.{SameFaults}
 use Rattle.qcow2_image.specs.Image.{HasNothingToFree}
 use Rattle.qcow2_image.proofs.Preallocate.Turns.{FilledTo}
@@ -12,7 +12,7 @@ invariant-loop-at g l = record {
   turns : FilledTo g.S.Storage.view g.F.BackingDisk.backing l.from l.to l.at l.fn.self l.self;
   faults : SameFaults g.S.Storage.view g.F.BackingDisk.backing l.fn.self l.self;
   emptied : HasNothingToFree l.fn.self → HasNothingToFree l.self;
-  behind : StaysBehindHeader g.S.Storage.view l.fn.self l.self;
+  behind : PreservesHeaderCluster g.S.Storage.view l.fn.self l.self;
   notes : KeepsFileNotes g.S.Storage.view l.fn.self.file l.self.file;
 }
 

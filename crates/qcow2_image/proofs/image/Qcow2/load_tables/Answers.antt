@@ -13,7 +13,7 @@ use Rattle.qcow2_image.specs.Opened.{LeavesFile}
 use Rattle.qcow2_image.proofs.Open.Reading.{so_before}
 use Rattle.qcow2_image.proofs.Open.Opening.{new_tables_then, kept_read, kept_then}
 use Rattle.qcow2_alloc.specs.declared.image_file.ImageFile.{ImageFile}
-use Rattle.qcow2_alloc.specs.BehindHeader.{AreBehindHeader}
+use Rattle.qcow2_alloc.specs.BehindHeader.{LeaveHeaderCluster}
 use Rattle.qcow2_image.specs.BehindHeader.{TablesBehindHeader, IsL1TableBehind, NamesTablesBehind}
 use Rattle.qcow2_image.proofs.Call.BehindHeader.{behind_loaded}
 use Rattle.qcow2_metadata.specs.declared.header.HeaderFields.{HeaderFields}
@@ -130,7 +130,7 @@ returns-then-not-writable-clause-header_cluster g c = λ are names.
 pub returns-clause-header_cluster : goal.returns-clause-header_cluster
 returns-clause-header_cluster g c = λ are names.
     let same = c.load_l1_table.ensures.rest in
-    let loaded = c.in_ok-allocator.ensures.header_cluster (subst (λ (f : ImageFile _). AreBehindHeader f.header.fields.cluster_bits f.caches) (sym same) are) names in
+    let loaded = c.in_ok-allocator.ensures.header_cluster (subst (λ (f : ImageFile _). LeaveHeaderCluster f.header.fields.cluster_bits f.caches) (sym same) are) names in
     let l1 = c.in_ok-l1_table.ensures.header_cluster (subst (λ (f : ImageFile _). NamesTablesBehind f.header.fields) same loaded.0) in
     let as_wide : c.load_allocator.new.file.header.fields.cluster_bits ≡ c.args.file.now.header.fields.cluster_bits =
     ap (λ (h : HeaderFields). h.cluster_bits) c.in_ok-allocator.ensures.format ∙ ap (λ (f : ImageFile _). f.header.fields.cluster_bits) same in

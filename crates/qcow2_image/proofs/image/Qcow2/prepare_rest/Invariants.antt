@@ -1,6 +1,6 @@
 use Rattle.std.proofs.Common.{◌-◌}
 use Rattle.qcow2_alloc.specs.KeptMarks.{KeepsFileNotes}
-use Rattle.qcow2_image.specs.BehindHeader.{StaysBehindHeader}
+use Rattle.qcow2_image.specs.BehindHeader.{PreservesHeaderCluster}
 use Rattle.qcow2_image.specs.Faults.{SameFaults}
 use Rattle.qcow2_image.proofs.Prepare.Onward.{IsSoFar}
 use Rattle.qcow2_image.proofs.image.Qcow2.prepare_rest.Given as goal
@@ -11,7 +11,7 @@ invariant-loop-prepared g l = record {
   turns : IsSoFar g.S.Storage.view g.F.BackingDisk.backing l.fn.self l.self l.fn.prepared l.prepared l.length l.end l.table l.overwrite;
   faults : SameFaults g.S.Storage.view g.F.BackingDisk.backing l.fn.self l.self;
   notes : KeepsFileNotes g.S.Storage.view l.fn.self.file l.self.file;
-  behind : StaysBehindHeader g.S.Storage.view l.fn.self l.self;
+  behind : PreservesHeaderCluster g.S.Storage.view l.fn.self l.self;
 }
 
 abbrev pub decreases-loop-prepared : goal.decreases-loop-prepared

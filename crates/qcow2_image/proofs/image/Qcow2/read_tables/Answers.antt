@@ -1,6 +1,6 @@
 use Rattle.std.proofs.Common.{◌≡◌, ◌∙◌, Some, refl, sym, ap, subst}
 use Rattle.std.specs.Prelude.{Option, IfSome, is_some}
-use Rattle.qcow2_alloc.specs.BehindHeader.{AreBehindHeader}
+use Rattle.qcow2_alloc.specs.BehindHeader.{LeaveHeaderCluster}
 use Rattle.qcow2_alloc.specs.ImageFile.{contents_in, view_in, AllocatorInvariant, HasReftable}
 use Rattle.qcow2_alloc.specs.KeptAllocators.{IsAllocatorOf}
 use Rattle.qcow2_alloc.specs.LowestRuns.{NoFreeBelowHint}
@@ -117,8 +117,8 @@ returns-clause-step g c =
     (tables_read view old last.storage table (Some a') (notes_through view old.file.storage mid.storage last.storage l1.unnoted anew.unnoted) through (λ honest. anew.step.honest (l1.honest honest)) (sym (ap (λ (x : Option Allocator). is_some x) c.in-Some.is))
     (anew.leaks ∙ sym (ap leaked_by c.in-Some.is))
     (λ names bits lies.
-    let are : AreBehindHeader old.file.header.fields.cluster_bits old.file.caches = subst (λ n. AreBehindHeader n old.file.caches) (sym lies.header) lies.caches in
-    let stands = subst (λ (f : ImageFile _). NamesReftableBehind f.header.fields → AreBehindHeader f.header.fields.cluster_bits f.caches → StandsBehindHeader f.header.fields.cluster_bits a'.reftable last) l1.rest begins.header_cluster names.reftable are in
+    let are : LeaveHeaderCluster old.file.header.fields.cluster_bits old.file.caches = subst (λ n. LeaveHeaderCluster n old.file.caches) (sym lies.header) lies.caches in
+    let stands = subst (λ (f : ImageFile _). NamesReftableBehind f.header.fields → LeaveHeaderCluster f.header.fields.cluster_bits f.caches → StandsBehindHeader f.header.fields.cluster_bits a'.reftable last) l1.rest begins.header_cluster names.reftable are in
     both_behind lies (c.in_ok-table.ensures.header_cluster names) stands)))
 
 pub returns-clause-keeps : goal.returns-clause-keeps
